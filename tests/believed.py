@@ -41,12 +41,10 @@ LAWS = set("""laws fills exact eq_is_model written_is fits_is emitted_is writabl
 # Private items that count as promises: functions whose clauses docs/PROMISES.md cites, a struct whose invariant
 # docs/DECISIONS.md cites, and the trait whose impls define what the invariant names.
 CITED = {"serve", "read_prompt", "FedDump", "Kept"}
-# Endings of the names of modules in specs/: one for modules of lemmas and of what lemmas need, and one for modules with
-# definitions of private functions.
-LEMMAS, STEPS = "Laws", "Steps"
-# Ending of the names of modules with the inverse of a layout's `values`. Only a layout may refer to them. The script
-# does not follow this reference: the law `read_where_it_stands` states what is parsed without the inverse.
-INVERSE = "Inverse"
+# Folders in specs/ with modules that need not be believed: lemmas and what they need; definitions that only the contracts
+# of private functions need; and the inverses of layouts' `values`. Only a layout may refer to an inverse. The script does
+# not follow this reference: the law `read_where_it_stands` states what is parsed without the inverse.
+LEMMAS, PRIVATE, INVERSE = ".specs.laws.", ".specs.private.", ".specs.inverse."
 # Definitions that a law determines, and the function whose contract is the law. Whoever believes the law need not read
 # how they are computed. Their types are followed, their equations are not.
 DETERMINED = {
@@ -199,9 +197,9 @@ class Specs:
 
     def __init__(self):
         self.modules, self.faults = {}, []
-        folders = [ROOT / crate / folder for crate in CRATES + OTHERS for folder in ("specs", "proofs")]
-        for path in (path for folder in folders for path in sorted(folder.glob("*.antt"))):
-            name = f"Rattle.{path.parent.parent.name}.{path.parent.name}.{path.stem}"
+        patterns = [f"{crate}/{pattern}" for crate in CRATES + OTHERS for pattern in ("specs/**/*.antt", "proofs/*.antt")]
+        for path in (path for pattern in patterns for path in sorted(ROOT.glob(pattern))):
+            name = ".".join(("Rattle", *path.relative_to(ROOT).with_suffix("").parts))
             self.modules[name] = Module(path, name)
 
     def find(self, path, names):
@@ -224,7 +222,7 @@ class Specs:
     def is_inverse(self, path, module):
         """Returns whether a name refers to an item of a module with the inverse of a layout's `values`."""
         found = self.find(path, module.names)
-        return bool(found) and found[0].name.endswith(INVERSE)
+        return bool(found) and INVERSE in found[0].name
 
     def reach(self, path, names, where, by):
         """Marks the definition that a path refers to, and all definitions that it depends on, as reached by `by`."""
@@ -320,15 +318,15 @@ class Source:
 
 def odd_things(specs, counted):
     """Yields a message for each item in a wrong module: a definition that no promise reaches, a reached definition in a
-    module of lemmas, steps or inverses, and a lemma outside of modules of lemmas. In extension crates and programs the
+    folder that need not be believed, and a lemma outside of the folder of lemmas. In extension crates and programs the
     definitions of private functions may be in any module."""
     for full_name, module in specs.modules.items():
         if ".specs." not in full_name or full_name in OF_TESTS:
             continue
-        apart = full_name.endswith((LEMMAS, STEPS, INVERSE))
+        apart = any(folder in full_name for folder in (LEMMAS, PRIVATE, INVERSE))
         read = counted if module.crate in CRATES else {"promise", "private"}
         for name, item in module.items.items():
-            if item.is_lemma and not full_name.endswith(LEMMAS):
+            if item.is_lemma and LEMMAS not in full_name:
                 yield f"{module.name}: {name} is a lemma in a module of definitions."
             if item.is_definition and apart and item.reached == "promise":
                 yield f"{module.name}: a promise reaches {name}, in a module that need not be believed."

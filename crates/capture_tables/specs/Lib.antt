@@ -11,4 +11,4 @@ pub mod Times
 pub mod Choice
 pub mod Files
 pub mod Reports
-pub mod ReportSteps
+pub mod private

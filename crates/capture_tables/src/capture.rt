@@ -8,7 +8,7 @@ ghost use Rattle.capture_tables.specs.Capture.{IsFileHeader, IsFileHeaderFault, 
 ghost use Rattle.capture_tables.specs.Capture.{IsMagic, IsOtherFile, IsPacketStop, IsRecord};
 ghost use Rattle.capture_tables.specs.Capture.{IsStop, number_at, packet_header, recorded, unit_of};
 ghost use Rattle.capture_tables.specs.Reports.{capture_error_text};
-ghost use Rattle.capture_tables.specs.ReportSteps.{joined};
+ghost use Rattle.capture_tables.specs.private.Report.{joined};
 ghost use Rattle.capture_tables.specs.declared.capture.CaptureError.TheVariants.{Memory};
 
 use crate::reports::ErrorText;

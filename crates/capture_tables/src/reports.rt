@@ -4,7 +4,7 @@ ghost use Rattle.std.specs.Prelude.{◌≡◌, ◌++◌, ◌∷◌, [], codes, d
 ghost use Rattle.byteorder.specs.Endian.{big_bytes};
 ghost use Rattle.hex.specs.Hex.{encode_lower};
 ghost use Rattle.capture_tables.specs.Reports.{ReportsMore, closing_line, run_error_text};
-ghost use Rattle.capture_tables.specs.ReportSteps.{failure_place, joined};
+ghost use Rattle.capture_tables.specs.private.Report.{failure_place, joined};
 ghost use Rattle.capture_tables.specs.declared.run.RunError.{RunError};
 
 use crate::run::{RunError, send};

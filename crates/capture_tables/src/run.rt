@@ -5,7 +5,7 @@ ghost use Rattle.std.specs.Io.KnownBytes.{Appends, Consumes, IsAtEnd, Keeps};
 ghost use Rattle.capture_tables.specs.Capture.{IsFileHeader, IsHeaderStop, IsPacketStop, IsRecord};
 ghost use Rattle.capture_tables.specs.Capture.{recorded};
 ghost use Rattle.capture_tables.specs.Reports.{run_error_text};
-ghost use Rattle.capture_tables.specs.ReportSteps.{failure_place, joined};
+ghost use Rattle.capture_tables.specs.private.Report.{failure_place, joined};
 ghost use Rattle.capture_tables.specs.Streams.{IsWriteFailure};
 ghost use Rattle.capture_tables.specs.declared.run.RunError.TheVariants.{Memory};
 

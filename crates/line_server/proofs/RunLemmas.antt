@@ -14,7 +14,7 @@ use Rattle.std.proofs.lemmas.List.Folds.{list_all-append, list_all-map}
 use Rattle.std.proofs.Math.Seq.{take-append_seam}
 use Rattle.line_server.specs.Lines.{Splits, with_rest}
 use Rattle.line_server.specs.Run.{Answers, SendsOrFails, answer_lines}
-use Rattle.line_server.specs.RunSteps.{Writes, WritesPart, all_good}
+use Rattle.line_server.specs.private.Run.{Writes, WritesPart, all_good}
 use Rattle.line_server.proofs.LinesLemmas.{Splits-append, Splits-one_way}
 use Rattle.line_server.specs.declared.stream.RunError.{RunError}
 use Rattle.line_server.specs.declared.stream.RunError.TheVariants.{Read, Write, Memory}

@@ -1,3 +1,3 @@
 pub mod Lines
 pub mod Run
-pub mod RunSteps
+pub mod private

@@ -4,7 +4,7 @@ ghost use Rattle.std.specs.Prelude.{IfOk, IfErr, Option, None, vec_capacity};
 ghost use Rattle.std.specs.Io.KnownBytes.{IsAtEnd};
 ghost use Rattle.line_server.specs.Lines.{with_rest};
 ghost use Rattle.line_server.specs.Run.{Answers, SendsOrFails, answer_lines};
-ghost use Rattle.line_server.specs.RunSteps.{AnswersPiece, IsLine, Writes, all_good, fed};
+ghost use Rattle.line_server.specs.private.Run.{AnswersPiece, IsLine, Writes, all_good, fed};
 ghost use Rattle.line_server.specs.declared.stream.RunError.TheVariants.{Memory};
 
 use crate::prompt::{AnswerWrite, PromptRead};

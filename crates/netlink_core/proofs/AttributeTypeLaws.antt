@@ -10,11 +10,11 @@ use Rattle.byteorder.specs.Numbers.{length-bytes_low_first}
 use Rattle.netlink_core.specs.declared.fault.DecodeError.{DecodeError}
 use Rattle.netlink_core.specs.declared.fault.DecodeError.TheVariants.{Memory}
 use Rattle.netlink_core.specs.Bytes.{IsBytes}
-use Rattle.netlink_core.specs.ByteLaws.{IsBytes-number}
+use Rattle.netlink_core.specs.laws.Byte.{IsBytes-number}
 use Rattle.netlink_core.specs.ValueCodec.{ValueCodec}
 use Rattle.netlink_core.specs.Codec.{KeepsLaws, as_codec}
-use Rattle.netlink_core.specs.PrefixLaws.{value_or_reason}
-use Rattle.netlink_core.specs.ShownLaws.{AttributeSpecLaws}
+use Rattle.netlink_core.specs.laws.Prefix.{value_or_reason}
+use Rattle.netlink_core.specs.laws.Shown.{AttributeSpecLaws}
 use Rattle.netlink_core.specs.AttributeSpecs.{exact_value, spec, memory_spec, number_spec}
 use Rattle.netlink_core.specs.Parse.{exact_number}
 use Rattle.netlink_core.proofs.Numbers.{little_endian}

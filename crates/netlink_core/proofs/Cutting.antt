@@ -11,14 +11,14 @@ use Rattle.netlink_core.specs.declared.fault.DecodeError.{DecodeError}
 use Rattle.netlink_core.specs.Bytes.{IsBytes}
 use Rattle.netlink_core.specs.Attribute.{CutOff}
 use Rattle.netlink_core.specs.Attribute.{Attribute, fill, unpadded}
-use Rattle.netlink_core.specs.PrefixLaws.{FitsWords}
+use Rattle.netlink_core.specs.laws.Prefix.{FitsWords}
 use Rattle.netlink_core.specs.Attribute.{written, StartsWith, Cut, IsPrefixFault}
 use Rattle.netlink_core.specs.Attribute.{AttributesMean, AttributeFault}
-use Rattle.netlink_core.specs.ByteLaws.{IsBytes-nil, IsBytes-right}
-use Rattle.netlink_core.specs.PrefixLaws.{IsAttributeInRange, same_parts, one_prefix}
-use Rattle.netlink_core.specs.PrefixLaws.{written_in_range, word_is}
-use Rattle.netlink_core.specs.PrefixLaws.{prefix_or_fault_apart, prefix_or_fault, value_or_reason}
-use Rattle.netlink_core.specs.PrefixLaws.{one_prefix_fault, one_attribute, prefix_in_range}
+use Rattle.netlink_core.specs.laws.Byte.{IsBytes-nil, IsBytes-right}
+use Rattle.netlink_core.specs.laws.Prefix.{IsAttributeInRange, same_parts, one_prefix}
+use Rattle.netlink_core.specs.laws.Prefix.{written_in_range, word_is}
+use Rattle.netlink_core.specs.laws.Prefix.{prefix_or_fault_apart, prefix_or_fault, value_or_reason}
+use Rattle.netlink_core.specs.laws.Prefix.{one_prefix_fault, one_attribute, prefix_in_range}
 use Rattle.netlink_core.proofs.TableLaws.{AreBytes-drop}
 use Rattle.netlink_core.proofs.Padding.{starts_with, by_length, some_or_none}
 use Rattle.netlink_core.proofs.Walking.{prefix_of_start, later_fault, fault_here}

@@ -10,7 +10,7 @@ use Rattle.netlink_core.specs.declared.fault.DecodeError.{DecodeError}
 use Rattle.netlink_core.specs.Attribute.{fill}
 use Rattle.netlink_core.specs.Header.{HasHeader, IsEnvelopeFault}
 use Rattle.netlink_core.specs.Datagram.{StartsWithMessage, CutIntoMessages}
-use Rattle.netlink_core.specs.PrefixLaws.{same_parts}
+use Rattle.netlink_core.specs.laws.Prefix.{same_parts}
 use Rattle.byteorder.specs.Numbers.{little_from-append}
 use Rattle.netlink_core.proofs.Padding.{padding_there}
 use Rattle.netlink_core.proofs.Cutting.{one_rest}

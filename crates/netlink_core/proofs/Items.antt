@@ -7,7 +7,7 @@ use Rattle.std.specs.Prelude.{option_map, Option, Some, None, Ok, Err}
 use Rattle.std.specs.List.{AllZip}
 use Rattle.std.proofs.lemmas.List.{append-nil}
 use Rattle.netlink_core.specs.Bytes.{IsBytes}
-use Rattle.netlink_core.specs.ByteLaws.{IsBytes-left, IsBytes-right}
+use Rattle.netlink_core.specs.laws.Byte.{IsBytes-left, IsBytes-right}
 use Rattle.netlink_core.specs.Attribute.{fill}
 use Rattle.netlink_core.specs.declared.fault.DecodeError.{DecodeError}
 use Rattle.netlink_core.specs.Header.{IsEnvelopeFault}

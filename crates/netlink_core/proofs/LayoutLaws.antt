@@ -5,14 +5,14 @@ use Rattle.std.proofs.Common.{append-nil, le-ltb, lt-ltb}
 use Rattle.std.proofs.lemmas.Bool.{cases_lt}
 use Rattle.netlink_core.specs.Bytes.{IsBytes}
 use Rattle.netlink_core.specs.Table.{values_of, bytes_of}
-use Rattle.netlink_core.specs.SoundLaws.{is_table, IsSound}
+use Rattle.netlink_core.specs.laws.Sound.{is_table, IsSound}
 use Rattle.netlink_core.specs.Layout.{Layout, read, read_fields, StandsIn, bytes, AreIdle}
 use Rattle.netlink_core.specs.Layout.{IsInRange}
 use Rattle.netlink_core.specs.Layout.{IsNormal, plain, table, values}
 use Rattle.netlink_core.specs.Rows.{Row, fields_of, numbers_of}
 use Rattle.netlink_core.specs.Faults.{map_ok}
 use Rattle.netlink_core.specs.Codec.{KeepsLaws, RecordLaws, record_codec}
-use Rattle.netlink_core.specs.PrefixLaws.{value_or_reason}
+use Rattle.netlink_core.specs.laws.Prefix.{value_or_reason}
 use Rattle.netlink_core.proofs.TableLaws.{IsTable, table_from_test, values-bytes_of, values-fit}
 use Rattle.netlink_core.proofs.TableLaws.{values-defined, bytes_of-bytes}
 use Rattle.netlink_core.specs.declared.fault.DecodeError.{DecodeError}

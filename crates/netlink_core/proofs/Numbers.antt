@@ -16,7 +16,7 @@ use Rattle.byteorder.specs.Numbers.{length-bytes_low_first, length-bytes_high_fi
 use Rattle.netlink_core.specs.Table.{Field, number, network}
 use Rattle.netlink_core.specs.Bytes.{IsBytes}
 use Rattle.netlink_core.specs.SignificantBits.{masked}
-use Rattle.netlink_core.specs.ByteLaws.{byte_at-lt, IsBytes-number}
+use Rattle.netlink_core.specs.laws.Byte.{byte_at-lt, IsBytes-number}
 
 -- ---- numbers in either order
 

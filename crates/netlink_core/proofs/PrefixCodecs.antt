@@ -2,9 +2,9 @@
 use Rattle.std.proofs.Common.{◌≡◌, ℕ, ◌≤◌, List, ◌++◌, length, Ok, arith}
 use Rattle.std.proofs.lemmas.List.{length-append}
 use Rattle.netlink_core.specs.Layout.{Layout}
-use Rattle.netlink_core.specs.SoundLaws.{IsSound, IsFixed}
+use Rattle.netlink_core.specs.laws.Sound.{IsSound, IsFixed}
 use Rattle.netlink_core.specs.ValueCodec.{value_codec}
-use Rattle.netlink_core.specs.ShownLaws.{IsPrefixCodec}
+use Rattle.netlink_core.specs.laws.Shown.{IsPrefixCodec}
 use Rattle.netlink_core.proofs.TableLaws.{table_from_test, values-bytes_of}
 use Rattle.netlink_core.proofs.LayoutLaws.{accepts, long_enough}
 

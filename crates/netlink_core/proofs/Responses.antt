@@ -6,19 +6,19 @@ use Rattle.std.specs.List.{AllByRecursion, AllZip, flat_map}
 use Rattle.std.proofs.lemmas.List.{drop_at}
 use Rattle.netlink_core.specs.Bytes.{IsBytes}
 use Rattle.netlink_core.specs.Attribute.{Attribute, HasFittingValue}
-use Rattle.netlink_core.specs.PrefixLaws.{FitsWords}
-use Rattle.netlink_core.specs.PrefixLaws.{IsAttributeInRange}
+use Rattle.netlink_core.specs.laws.Prefix.{FitsWords}
+use Rattle.netlink_core.specs.laws.Prefix.{IsAttributeInRange}
 use Rattle.netlink_core.specs.Attribute.{written, Cut}
 use Rattle.netlink_core.specs.AttributeSet.{AttributeSet, AttributeValue, decodes, encodes}
 use Rattle.netlink_core.specs.AttributeSet.{IsInRangeBy, IsNormalBy}
 use Rattle.netlink_core.specs.AttributeSet.{AreIdleAttributes}
-use Rattle.netlink_core.specs.ShownLaws.{AttributeSetLaws, ResponseLaws}
+use Rattle.netlink_core.specs.laws.Shown.{AttributeSetLaws, ResponseLaws}
 use Rattle.netlink_core.specs.Response.{ResponseSpec, response_codec}
 use Rattle.netlink_core.specs.Codec.{KeepsLaws}
-use Rattle.netlink_core.specs.ByteLaws.{IsBytes-append}
-use Rattle.netlink_core.specs.PrefixLaws.{value_or_reason}
-use Rattle.netlink_core.specs.AttributeSetLaws.{set_faults_named, set_gives_normal, set_same_value}
-use Rattle.netlink_core.specs.AttributeSetLaws.{writes_in_range, reads_back}
+use Rattle.netlink_core.specs.laws.Byte.{IsBytes-append}
+use Rattle.netlink_core.specs.laws.Prefix.{value_or_reason}
+use Rattle.netlink_core.specs.laws.AttributeSet.{set_faults_named, set_gives_normal, set_same_value}
+use Rattle.netlink_core.specs.laws.AttributeSet.{writes_in_range, reads_back}
 use Rattle.netlink_core.proofs.TableLaws.{AreBytes-drop}
 use Rattle.netlink_core.proofs.Cutting.{all_written_in_range, cut_in_range, means_or_fault}
 use Rattle.netlink_core.proofs.Cutting.{means_or_fault_apart, one_fault, one_cut}

@@ -7,7 +7,7 @@ use Rattle.std.proofs.Math.Nat.{mod-eq_of_lt}
 use Rattle.netlink_core.specs.Bytes.{IsBytes}
 use Rattle.netlink_core.specs.SignificantBits.{EqualUnder}
 use Rattle.netlink_core.specs.Table.{values_of}
-use Rattle.netlink_core.specs.SoundLaws.{is_table, IsSound}
+use Rattle.netlink_core.specs.laws.Sound.{is_table, IsSound}
 use Rattle.netlink_core.specs.Layout.{Layout, AreIdle, table}
 use Rattle.netlink_core.proofs.TableLaws.{table_from_test, live_bits, values_and_bits}
 

@@ -2,7 +2,7 @@
 use Rattle.std.proofs.Common.{◌≡◌, ◌<◌, ◌⊎◌, ◌↔◌, ℕ, List, [], ◌∷◌, ◌++◌, length}
 use Rattle.std.proofs.Common.{arith}
 use Rattle.netlink_core.specs.Attribute.{Attribute, Cut, fill, unpadded}
-use Rattle.netlink_core.specs.PrefixLaws.{FitsWords}
+use Rattle.netlink_core.specs.laws.Prefix.{FitsWords}
 use Rattle.netlink_core.proofs.Cutting.{one_cut}
 
 -- a cut into an attribute and others is one with its endings apart, and the other way round

@@ -20,11 +20,11 @@ use Rattle.netlink_core.specs.Table.{Field, byte, number, network, flags, unread
 use Rattle.netlink_core.specs.Table.{values_of, bytes_of}
 use Rattle.netlink_core.proofs.Numbers.{Order, little_endian, big_endian, number_in, bytes_in}
 use Rattle.netlink_core.specs.Table.{Fit, AreDefined}
-use Rattle.netlink_core.specs.SoundLaws.{is_table, offset_of, width_of, is_written}
+use Rattle.netlink_core.specs.laws.Sound.{is_table, offset_of, width_of, is_written}
 use Rattle.netlink_core.specs.Bytes.{IsBytes}
 use Rattle.netlink_core.specs.SignificantBits.{masked}
-use Rattle.netlink_core.specs.PrefixLaws.{same_parts}
-use Rattle.netlink_core.specs.ByteLaws.{IsBytes-append}
+use Rattle.netlink_core.specs.laws.Prefix.{same_parts}
+use Rattle.netlink_core.specs.laws.Byte.{IsBytes-append}
 use Rattle.netlink_core.proofs.Numbers.{number-same, number-take, number-fits, number-reads_back}
 use Rattle.netlink_core.proofs.Numbers.{length-bytes_in, bytes_in-bytes}
 use Rattle.netlink_core.proofs.Numbers.{masked-all, masked-none}

@@ -6,7 +6,7 @@ ghost use Rattle.std.specs.List.{flat_map};
 ghost use Rattle.std.proofs.Common.{rules};
 ghost use Rattle.netlink_core.specs.Attribute.{Attribute, HasFittingValue, AreWritable, written};
 ghost use Rattle.netlink_core.specs.FirstAttribute.{first_attribute_codec};
-ghost use Rattle.netlink_core.specs.FirstAttributeLaws.{first_attribute_keeps_laws};
+ghost use Rattle.netlink_core.specs.laws.FirstAttribute.{first_attribute_keeps_laws};
 
 use crate::attribute::{MAX_VALUE, NLA_HEADER_SIZE, NlaBuffer, padded};
 use crate::canon::CanonError;
@@ -228,7 +228,7 @@ impl Readable for DefaultNla {
 }
 
 impl<'a> Parseable<NlaBuffer<'a>> for DefaultNla {
-    #[tactic(auto, using(crate::specs::FirstAttributeLaws::kept_is_read))]
+    #[tactic(auto, using(crate::specs::laws::FirstAttribute::kept_is_read))]
     fn parse(alloc: Global, buf: NlaBuffer<'a>) -> Result<Self, DecodeError> {
         Ok(DefaultNla::keep(alloc, &buf)?)
     }

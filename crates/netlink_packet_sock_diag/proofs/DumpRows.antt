@@ -12,7 +12,7 @@ use Rattle.netlink_core.specs.Bytes.{IsBytes}
 use Rattle.netlink_core.specs.Codec.{Codec, KeepsLaws}
 use Rattle.netlink_core.specs.Header.{HasHeader}
 use Rattle.netlink_core.specs.declared.fault.DecodeError.TheVariants.{Memory}
-use Rattle.netlink_core.specs.ByteLaws.{IsBytes-nil}
+use Rattle.netlink_core.specs.laws.Byte.{IsBytes-nil}
 use Rattle.netlink_core.specs.Datagram.{CutIntoMessages, StartsWithMessage}
 use Rattle.netlink_core.specs.Items.{Item, ItemIs, ItemsAre}
 use Rattle.netlink_core.proofs.Datagrams.{one_message, starts_in_concatenation}

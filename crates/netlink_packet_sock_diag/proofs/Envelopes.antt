@@ -12,7 +12,7 @@ use Rattle.netlink_core.proofs.Headers.{header_stands}
 use Rattle.netlink_packet_sock_diag.specs.Message.{Message, message_codec}
 use Rattle.sock_diag_records.specs.ResponseKind.{MessageKind, inet_request, inet_response}
 use Rattle.sock_diag_records.specs.ResponseKind.{unix_request, unix_response}
-use Rattle.netlink_packet_sock_diag.specs.MessageLaws.{length-written, other_type_refused}
+use Rattle.netlink_packet_sock_diag.specs.laws.Message.{length-written, other_type_refused}
 
 -- one test of the kinds tells a kind
 pub one_of : (own : MessageKind) (tests : MessageKind → Bool)

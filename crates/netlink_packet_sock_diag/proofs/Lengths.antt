@@ -5,7 +5,7 @@ use Rattle.std.proofs.lemmas.List.{length-append, length-replicate}
 use Rattle.netlink_core.specs.Attribute.{Attribute, fill, unpadded, written}
 use Rattle.netlink_core.specs.AttributeSet.{encodes}
 use Rattle.netlink_core.specs.Response.{ResponseSpec, ValueOf, response_bytes}
-use Rattle.netlink_core.specs.ShownLaws.{ResponseLaws}
+use Rattle.netlink_core.specs.laws.Shown.{ResponseLaws}
 
 -- an attribute with its padding is a multiple of four
 written_multiple : (a : Attribute) → length (written a) % 4 ≡ 0

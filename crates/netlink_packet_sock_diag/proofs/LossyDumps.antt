@@ -13,7 +13,7 @@ use Rattle.netlink_core.specs.Items.{Item, ItemIs}
 use Rattle.netlink_core.proofs.Items.{items_by, one_list_by}
 use Rattle.netlink_packet_sock_diag.specs.Dump.{DatagramsDump, Standing}
 use Rattle.netlink_packet_sock_diag.specs.Lossy.{EntryIs}
-use Rattle.netlink_packet_sock_diag.specs.KeptLaws.{as_entry, is_entry, one_entry, keeps_entries}
+use Rattle.netlink_packet_sock_diag.specs.laws.Kept.{as_entry, is_entry, one_entry, keeps_entries}
 use Rattle.netlink_packet_sock_diag.proofs.DumpRows.{OneList, SomeItems, dump_is, dump_of_one}
 use Rattle.netlink_packet_sock_diag.proofs.DumpRows.{one_item_of, reach}
 

@@ -1,13 +1,11 @@
 pub mod Message
-pub mod MessageLaws
 pub mod MessageModel
 pub mod MessageViewModel
-pub mod EqualMessageLaws
 pub mod Lossy
-pub mod KeptSteps
-pub mod KeptLaws
 pub mod Dump
 pub mod Feed
 pub mod DumpModel
 pub mod PayloadViewModel
 pub mod DumpWalk
+pub mod laws
+pub mod private

@@ -1,9 +1,9 @@
 //! How messages stand in bytes, under the type of their netlink header.
 
 ghost use Rattle.netlink_packet_sock_diag.specs.Message.{message_codec};
-ghost use Rattle.netlink_packet_sock_diag.specs.MessageLaws.{message_laws};
+ghost use Rattle.netlink_packet_sock_diag.specs.laws.Message.{message_laws};
 ghost use Rattle.netlink_packet_sock_diag.specs.MessageModel.{message_model};
-ghost use Rattle.netlink_packet_sock_diag.specs.EqualMessageLaws.{message_equal};
+ghost use Rattle.netlink_packet_sock_diag.specs.laws.EqualMessage.{message_equal};
 ghost use Rattle.netlink_packet_sock_diag.specs.MessageViewModel.{message_view_model};
 
 use crate::message::{SockDiagDestroy, SockDiagMessage, SockDiagView};

@@ -356,7 +356,7 @@ pub fn equal_inet_views(v: &InetResponseView<'_>, w: &InetResponseView<'_>) -> b
 }
 
 /// `==` says whether two payloads in place tell the same.
-#[tactic(auto, using(crate::specs::EqualMessageLaws::view_equal))]
+#[tactic(auto, using(crate::specs::laws::EqualMessage::view_equal))]
 pub fn equal_payload_views(v: &View<'_>, w: &View<'_>) -> bool
     ensures { IsTrue result ↔ (payload_view_model v.now ≡ payload_view_model w.now) }
 {
@@ -364,7 +364,7 @@ pub fn equal_payload_views(v: &View<'_>, w: &View<'_>) -> bool
 }
 
 /// `==` says whether two messages in place tell the same.
-#[tactic(auto, using(crate::specs::EqualMessageLaws::view_equal))]
+#[tactic(auto, using(crate::specs::laws::EqualMessage::view_equal))]
 pub fn equal_message_views(v: &SockDiagView<'_>, w: &SockDiagView<'_>) -> bool
     ensures { IsTrue result ↔ (message_view_model v.now ≡ message_view_model w.now) }
 {

@@ -1,9 +1,9 @@
 -- Borrowed replies of any family are equal if and only if their models are.
 use Rattle.std.proofs.Common.{◌≡◌, ◌↔◌, [], Bool, IsTrue, Option, Some, None, ap, arith}
 use Rattle.netlink_core.proofs.Equality.{apart}
-use Rattle.netlink_packet_sock_diag.specs.EqualMessageLaws.{view_equal}
+use Rattle.netlink_packet_sock_diag.specs.laws.EqualMessage.{view_equal}
 use Rattle.netlink_packet_sock_diag.specs.Message.{Message}
-use Rattle.sock_diag_replies.specs.EqualResponseLaws.{response_test_decides}
+use Rattle.sock_diag_replies.specs.laws.EqualResponse.{response_test_decides}
 use Rattle.sock_diag_replies.specs.ViewModel.{view_model}
 use Rattle.sock_diag_families.specs.contracts.netlink.response.NetlinkResponseHeaderExact.TheImpl.Laws.{exact-law as exact_netlink}
 use Rattle.sock_diag_families.specs.contracts.packet.response.PacketResponseHeaderExact.TheImpl.Laws.{exact-law as exact_packet}

@@ -1,3 +1,3 @@
 pub mod WholeReply
-pub mod WholeReplyLaws
 pub mod AnyMessage
+pub mod laws

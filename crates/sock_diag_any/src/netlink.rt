@@ -6,8 +6,8 @@ ghost use Rattle.netlink_core.specs.Parse.{exact_number};
 ghost use Rattle.sock_diag_values.specs.MemInfo.{mem_info};
 ghost use Rattle.sock_diag_replies.specs.ViewModel.{view_model};
 ghost use Rattle.sock_diag_families.specs.Found.{first_value, within};
-ghost use Rattle.sock_diag_families.specs.RecordLaws.{netlink_header_sound};
-ghost use Rattle.sock_diag_any.specs.WholeReplyLaws.{plain_replies_keep_laws};
+ghost use Rattle.sock_diag_families.specs.laws.Record.{netlink_header_sound};
+ghost use Rattle.sock_diag_any.specs.laws.WholeReply.{plain_replies_keep_laws};
 
 use crate::attributes::value_in;
 use crate::{FamilyHeader, WholeAttributes, WholeView};

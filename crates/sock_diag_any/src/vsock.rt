@@ -1,7 +1,7 @@
 //! Borrowed replies about vsock sockets.
 
-ghost use Rattle.sock_diag_families.specs.RecordLaws.{vsock_header_sound};
-ghost use Rattle.sock_diag_any.specs.WholeReplyLaws.{plain_replies_keep_laws};
+ghost use Rattle.sock_diag_families.specs.laws.Record.{vsock_header_sound};
+ghost use Rattle.sock_diag_any.specs.laws.WholeReply.{plain_replies_keep_laws};
 
 use crate::{FamilyHeader, WholeView};
 use sock_diag_families::vsock::VsockResponseHeader;

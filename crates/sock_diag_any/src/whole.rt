@@ -4,8 +4,8 @@ ghost use Rattle.std.specs.Prelude.{[], refl};
 ghost use Rattle.netlink_core.proofs.LayoutLaws.{accepted};
 ghost use Rattle.netlink_core.specs.Codec.{KeepsLaws};
 ghost use Rattle.netlink_core.specs.Response.{response_codec};
-ghost use Rattle.sock_diag_replies.specs.EqualResponseLaws.{response_test};
-ghost use Rattle.sock_diag_replies.specs.EqualResponseLaws.{response_test_decides};
+ghost use Rattle.sock_diag_replies.specs.laws.EqualResponse.{response_test};
+ghost use Rattle.sock_diag_replies.specs.laws.EqualResponse.{response_test_decides};
 ghost use Rattle.sock_diag_any.specs.WholeReply.{whole_reply};
 
 use attribute_lists::{check_nlas, emit_views, views_len};

@@ -7,8 +7,8 @@ ghost use Rattle.sock_diag_values.specs.MemInfo.{mem_info};
 ghost use Rattle.sock_diag_replies.specs.ViewModel.{view_model};
 ghost use Rattle.sock_diag_families.specs.Found.{first_value, within};
 ghost use Rattle.sock_diag_families.specs.XdpAttributes.{xdp_info, xdp_umem, xdp_statistics};
-ghost use Rattle.sock_diag_families.specs.RecordLaws.{xdp_header_sound};
-ghost use Rattle.sock_diag_any.specs.WholeReplyLaws.{plain_replies_keep_laws};
+ghost use Rattle.sock_diag_families.specs.laws.Record.{xdp_header_sound};
+ghost use Rattle.sock_diag_any.specs.laws.WholeReply.{plain_replies_keep_laws};
 
 use crate::{FamilyHeader, WholeAttributes, WholeView};
 use netlink_core::DecodeError;

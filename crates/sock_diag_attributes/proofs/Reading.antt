@@ -11,9 +11,9 @@ use Rattle.netlink_core.specs.Canonical.{GivesUp}
 use Rattle.netlink_core.specs.Attribute.{Attribute, HasPrefix}
 use Rattle.netlink_core.specs.AttributeSet.{AttributeSet, AttributeValue, decodes}
 use Rattle.netlink_core.specs.AttributeSet.{IsSpareBy}
-use Rattle.netlink_core.specs.AttributeSetLaws.{set_faults_named}
+use Rattle.netlink_core.specs.laws.AttributeSet.{set_faults_named}
 use Rattle.netlink_core.specs.FirstAttribute.{first_attribute_codec}
-use Rattle.netlink_core.specs.ShownLaws.{AttributeSetLaws}
+use Rattle.netlink_core.specs.laws.Shown.{AttributeSetLaws}
 
 -- memory is answered where it is wanted
 abbrev Wanted : (F : AttributeSet) → List ℕ → {T : Type 0} → Result T DecodeError → Type 0

@@ -31,7 +31,7 @@ pub fn readers_take_memory() -> (bool, bool, bool)
 
 /// Proof only: the contract states the property. Each decoded value of an attribute of a reply
 /// about a UNIX socket is the model of its variant.
-#[tactic(auto, using(crate::specs::VariantLaws::same_unix_variant))]
+#[tactic(auto, using(crate::specs::laws::Variant::same_unix_variant))]
 pub fn unix_values_are_variants()
     ensures { (v : AttributeValue unix)
         → unix_model (λ name. name) (λ list. list) (λ other. other) (unix_variant v) ≡ v }
@@ -39,7 +39,7 @@ pub fn unix_values_are_variants()
 
 /// Proof only: the contract states the property. Each decoded value of an attribute of a reply
 /// about an IPv4 or IPv6 socket is the model of its variant.
-#[tactic(auto, using(crate::specs::VariantLaws::same_inet_variant))]
+#[tactic(auto, using(crate::specs::laws::Variant::same_inet_variant))]
 pub fn inet_values_are_variants()
     ensures { (v : AttributeValue inet)
         → inet_model (λ text. text) (λ other. other) (inet_variant v) ≡ v }
@@ -53,7 +53,7 @@ pub fn equal_name_views(v: &NameView<'_>, w: &NameView<'_>) -> bool
 }
 
 /// `==` says whether the same numbers stand in both places.
-#[tactic(auto, using(crate::specs::EqualUnixLaws::number_views_equal))]
+#[tactic(auto, using(crate::specs::laws::EqualUnix::number_views_equal))]
 pub fn equal_numbers_views(v: &NumbersView<'_>, w: &NumbersView<'_>) -> bool
     ensures { IsTrue result ↔ (numbers_view_model v.now ≡ numbers_view_model w.now) }
 {

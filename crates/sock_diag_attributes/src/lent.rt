@@ -10,7 +10,7 @@ ghost use Rattle.netlink_core.specs.Walk.{attribute_of};
 ghost use Rattle.sock_diag_attributes.specs.declared.unix.name.SocketName.{SocketName};
 ghost use Rattle.sock_diag_attributes.specs.NameModel.{name_of};
 ghost use Rattle.sock_diag_attributes.specs.NumbersModel.{numbers_view_model};
-ghost use Rattle.sock_diag_attributes.specs.ValueSteps.{value_bytes, IsValueInRange};
+ghost use Rattle.sock_diag_attributes.specs.private.Value.{value_bytes, IsValueInRange};
 
 use crate::numbers::NumbersView;
 use crate::unix::nlas::{NameView, UnixDiagName};
@@ -138,7 +138,7 @@ impl LendsNumbers for NumbersView<'_> {
     ghost numbers = { numbers_view_model };
 
     #[inline(always)]
-    #[tactic(auto, using(crate::specs::NumberLaws::whole))]
+    #[tactic(auto, using(crate::specs::laws::Number::whole))]
     fn lent_value(&self) -> Value<'_> {
         Value::Bytes(self.bytes())
     }

@@ -80,7 +80,7 @@ impl<'a> NumbersView<'a> {
     }
 
     /// How many numbers there are.
-    #[tactic(auto, using(crate::specs::NumberLaws::how_many))]
+    #[tactic(auto, using(crate::specs::laws::Number::how_many))]
     pub fn len(&self) -> usize
         ensures { result ≡ length (numbers_view_model self.now) }
     {
@@ -88,7 +88,7 @@ impl<'a> NumbersView<'a> {
     }
 
     /// The number at this place, the first one at 0.
-    #[tactic(auto, using(crate::specs::NumberLaws::how_many, crate::specs::NumberLaws::number_at, std::proofs::lemmas::List::take_rest, std::proofs::lemmas::Option::slice_get_past))]
+    #[tactic(auto, using(crate::specs::laws::Number::how_many, crate::specs::laws::Number::number_at, std::proofs::lemmas::List::take_rest, std::proofs::lemmas::Option::slice_get_past))]
     pub fn get(&self, index: usize) -> Option<u32>
         ensures { result ≡ slice_get (numbers_view_model self.now) index }
     {
@@ -99,7 +99,7 @@ impl<'a> NumbersView<'a> {
     }
 
     /// Whether there are none.
-    #[tactic(auto, using(crate::specs::NumberLaws::how_many))]
+    #[tactic(auto, using(crate::specs::laws::Number::how_many))]
     pub fn is_empty(&self) -> bool
         ensures { IsTrue result ↔ (numbers_view_model self.now ≡ []) }
     {
@@ -114,7 +114,7 @@ impl<'a> NumbersView<'a> {
     }
 
     // The bytes in which they stand, as which they are written.
-    #[tactic(auto, using(crate::specs::NumberLaws::whole))]
+    #[tactic(auto, using(crate::specs::laws::Number::whole))]
     pub(crate) fn bytes(&self) -> &'a [u8]
         ensures { result.now ≡ flat_map (little_bytes 4) (numbers_view_model self.now) }
     {
@@ -151,7 +151,7 @@ impl<'a> Iterator for NumbersIterator<'a> {
 
     ghost remaining = { λ walk. item_count numbers_left walk };
 
-    #[tactic(auto, using(crate::specs::NumberLaws::numbers_in_none, crate::specs::NumberLaws::numbers_in_first))]
+    #[tactic(auto, using(crate::specs::laws::Number::numbers_in_none, crate::specs::laws::Number::numbers_in_first))]
     fn next(&mut self) -> Option<u32> {
         let bytes = self.rest.bytes;
         if bytes.len() < 4 {
@@ -162,7 +162,7 @@ impl<'a> Iterator for NumbersIterator<'a> {
     }
 
     /// How many numbers are left, exactly.
-    #[tactic(auto, using(crate::specs::NumberLaws::how_many))]
+    #[tactic(auto, using(crate::specs::laws::Number::how_many))]
     fn size_hint(&self) -> (usize, Option<usize>)
         ensures lower { IsWithinCount result.0 (item_count numbers_left self.now) }
         ensures upper { IfSome result.1 (UpTo (item_count numbers_left self.now)) }
@@ -185,7 +185,7 @@ pub(crate) fn emit_u32_pair(first: u32, second: u32, buffer: &mut [u8])
 }
 
 /// Writes the numbers one after the other at the front, and leaves the rest.
-#[tactic(auto, using(crate::specs::NumberLaws::length_numbers, crate::specs::NumberLaws::front_of))]
+#[tactic(auto, using(crate::specs::laws::Number::length_numbers, crate::specs::laws::Number::front_of))]
 pub(crate) fn emit_numbers(numbers: &[u32], buffer: &mut [u8])
     requires { length (flat_map (little_bytes 4) numbers.now) ≤ length buffer.old }
     ensures { buffer.new ≡ flat_map (little_bytes 4) numbers.now
@@ -200,7 +200,7 @@ pub(crate) fn byte_in_range(_byte: u8)
 {}
 
 /// Tells the prover that each word is a number of four bytes. It does nothing.
-#[tactic(auto, using(crate::specs::NumberLaws::each_below))]
+#[tactic(auto, using(crate::specs::laws::Number::each_below))]
 pub(crate) fn words_in_range(_words: &[u32])
     ensures { AllByRecursion (λ n. n < 2 ^ 32) _words.now }
 {}

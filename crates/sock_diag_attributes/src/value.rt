@@ -1,7 +1,7 @@
 //! What the value of an attribute is made of, whatever type it is of.
 
 ghost use Rattle.std.specs.Prelude.{◌≡◌, ◌≤◌, ◌++◌, length, drop};
-ghost use Rattle.sock_diag_attributes.specs.ValueSteps.{value_bytes, IsValueInRange};
+ghost use Rattle.sock_diag_attributes.specs.private.Value.{value_bytes, IsValueInRange};
 
 use crate::numbers::{byte_in_range, emit_numbers, emit_u32_pair, words_in_range};
 use crate::text::{emit_text, text_in_range};
@@ -30,7 +30,7 @@ pub(crate) enum Value<'a> {
 impl Value<'_> {
     /// How many bytes it is written as.
     #[inline(always)]
-    #[tactic(auto, using(crate::specs::NumberLaws::length_numbers))]
+    #[tactic(auto, using(crate::specs::laws::Number::length_numbers))]
     pub(crate) fn len(&self) -> usize
         ensures { result ≡ length (value_bytes self.now) }
     {

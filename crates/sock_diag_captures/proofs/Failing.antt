@@ -25,7 +25,7 @@ use Rattle.sock_diag_captures.specs.Listing.{asked_after}
 use Rattle.sock_diag_captures.specs.declared.requests.Asked.{Asked}
 use Rattle.sock_diag_captures.specs.Run.{Breaks, Fails, Finishes, IsListed, IsTable, Stands}
 use Rattle.sock_diag_captures.specs.Run.{ListedPacket}
-use Rattle.sock_diag_captures.specs.RunSteps.{closing_text}
+use Rattle.sock_diag_captures.specs.private.Run.{closing_text}
 use Rattle.sock_diag_captures.specs.Run.{lines_of_packet}
 use Rattle.sock_diag_captures.proofs.Progress.{Progress, goes_on_part, goes_on_whole, lines_push}
 use Rattle.sock_diag_captures.proofs.Progress.{progress_begins}

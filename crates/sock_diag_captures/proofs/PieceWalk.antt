@@ -7,7 +7,7 @@ use Rattle.std.proofs.lemmas.Bool.{lt-ltb, le-ltb}
 use Rattle.byteorder.specs.Endian.{little_number}
 use Rattle.netlink_core.specs.Attribute.{Attribute, IsFramingFault, StartsWith, fill}
 use Rattle.netlink_core.specs.Attribute.{unpadded}
-use Rattle.netlink_core.specs.PrefixLaws.{word_is}
+use Rattle.netlink_core.specs.laws.Prefix.{word_is}
 use Rattle.netlink_core.specs.declared.fault.DecodeError.{DecodeError}
 use Rattle.netlink_core.specs.declared.fault.DecodeError.TheVariants.{AttributeHeaderCut}
 use Rattle.netlink_core.specs.declared.fault.DecodeError.TheVariants.{AttributeLengthUnder4}

@@ -7,4 +7,4 @@ pub mod Others
 pub mod Listing
 pub mod Diagnostics
 pub mod Run
-pub mod RunSteps
+pub mod private

@@ -8,7 +8,7 @@ ghost use Rattle.std.specs.Io.KnownBytes.{IsAtEnd};
 ghost use Rattle.capture_tables.specs.Reports.{Reports, ReportsMore, WritesPrefix, closing_line};
 ghost use Rattle.capture_tables.specs.declared.run.RunError.{RunError};
 ghost use Rattle.sock_diag_captures.specs.Run.{Fails, Finishes};
-ghost use Rattle.sock_diag_captures.specs.RunSteps.{closing_text};
+ghost use Rattle.sock_diag_captures.specs.private.Run.{closing_text};
 
 mod details;
 mod fault_text;

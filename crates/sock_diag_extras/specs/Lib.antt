@@ -10,4 +10,4 @@ pub mod UlpInfo
 pub mod Records
 pub mod Md5Signature
 pub mod StoredAddress
-pub mod EqualTcpFieldLaws
+pub mod laws

@@ -1,7 +1,7 @@
 //! `==` and `clone` of records and of names of fields compare and copy the whole value.
 
 ghost use Rattle.std.proofs.Common.{rules};
-ghost use Rattle.sock_diag_extras.specs.EqualTcpFieldLaws.{tcp_field_equal};
+ghost use Rattle.sock_diag_extras.specs.laws.EqualTcpField.{tcp_field_equal};
 
 use crate::congestion::{BbrInfo, DctcpInfo, VegasInfo};
 use crate::md5_signature::Md5Signature;

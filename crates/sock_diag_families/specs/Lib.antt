@@ -7,4 +7,4 @@ pub mod PacketResponseHeader
 pub mod PacketAttributes
 pub mod XdpResponseHeader
 pub mod XdpAttributes
-pub mod RecordLaws
+pub mod laws

@@ -2,7 +2,7 @@
 
 ghost use Rattle.std.proofs.Common.{rules};
 ghost use Rattle.netlink_core.proofs.LayoutLaws.{record_laws};
-ghost use Rattle.sock_diag_families.specs.RecordLaws.{show_request_sound};
+ghost use Rattle.sock_diag_families.specs.laws.Record.{show_request_sound};
 ghost use Rattle.sock_diag_families.specs.ShowRequest.{show_request};
 
 use byteorder::{ByteOrder, LittleEndian};

@@ -8,16 +8,16 @@ use Rattle.std.proofs.lemmas.List.{drop_at, length-append}
 use Rattle.netlink_core.specs.declared.fault.DecodeError.{DecodeError}
 use Rattle.netlink_core.specs.declared.header.NetlinkHeader.{NetlinkHeader}
 use Rattle.netlink_core.specs.Header.{HasHeader, header_bytes}
-use Rattle.netlink_core.specs.ShownLaws.{IsPrefixCodec}
+use Rattle.netlink_core.specs.laws.Shown.{IsPrefixCodec}
 use Rattle.netlink_core.proofs.Headers.{header_stands, one_header}
 use Rattle.netlink_core.proofs.LayoutLaws.{accepted}
 use Rattle.netlink_core.proofs.PrefixCodecs.{is_prefix_codec}
 use Rattle.sock_diag_records.specs.InetRequest.{inet_request}
 use Rattle.sock_diag_records.specs.IpVersions.{IpVersions, versions_of_family}
 use Rattle.sock_diag_records.specs.UnixRequest.{unix_request}
-use Rattle.sock_diag_records.specs.UnixRequestLaws.{unix_request_sound}
+use Rattle.sock_diag_records.specs.laws.UnixRequest.{unix_request_sound}
 use Rattle.sock_diag_records.specs.declared.inet.request.InetRequest.{InetRequest}
-use Rattle.sock_diag_families.specs.RecordLaws.{show_request_sound, vsock_request_sound}
+use Rattle.sock_diag_families.specs.laws.Record.{show_request_sound, vsock_request_sound}
 use Rattle.sock_diag_families.specs.ShowRequest.{show_request}
 use Rattle.sock_diag_families.specs.VsockRequest.{vsock_request}
 use Rattle.sock_diag_filters.specs.declared.request.RequestAttribute.{RequestAttribute}

@@ -7,7 +7,7 @@ use Rattle.sock_diag_filters.specs.declared.request.RequestAttribute.{RequestAtt
 use Rattle.sock_diag_filters.specs.declared.view.Found.{Found}
 use Rattle.sock_diag_filters.specs.Asked.{Keeps, AskedAttribute, nothing_asked, program_in}
 use Rattle.sock_diag_filters.specs.Asked.{protocol_in}
-use Rattle.sock_diag_filters.specs.AskedSteps.{found_with, asked_or_nothing}
+use Rattle.sock_diag_filters.specs.private.Asked.{found_with, asked_or_nothing}
 
 last_or-append : {A : Type 0} (o : Option A) (xs ys : List A)
     → last_or o (xs ++ ys) ≡ last_or (last_or o xs) ys

@@ -10,7 +10,7 @@ use Rattle.sock_diag_filters.specs.Conditions.{arguments, code_of}
 use Rattle.sock_diag_filters.specs.Filters.{size}
 use Rattle.sock_diag_filters.specs.Audit.{IsAudited, IsReachable, Passes, at_end, on}
 use Rattle.sock_diag_filters.specs.Audit.{Steps, there, least_of, no_at}
-use Rattle.sock_diag_filters.specs.AssemblySteps.{jump, operation, program_of}
+use Rattle.sock_diag_filters.specs.private.Assembly.{jump, operation, program_of}
 use Rattle.sock_diag_filters.proofs.Operations.{arguments_in_fours, behind_operation}
 use Rattle.sock_diag_filters.proofs.Operations.{condition_bits}
 use Rattle.sock_diag_filters.proofs.Operations.{condition_known, no_of_operation, operation_length}

@@ -15,7 +15,7 @@ use Rattle.sock_diag_filters.specs.Prefixes.{bits_of, family_of, octets_of}
 use Rattle.sock_diag_filters.specs.Conditions.{arguments, code_of, front_of, octets_behind}
 use Rattle.sock_diag_filters.specs.Filters.{size}
 use Rattle.sock_diag_filters.specs.Audit.{address_length, least_of, no_at, yes_at}
-use Rattle.sock_diag_filters.specs.AssemblySteps.{operation, program_of}
+use Rattle.sock_diag_filters.specs.private.Assembly.{operation, program_of}
 
 -- ---- one operation before a rest
 

@@ -7,7 +7,7 @@ use Rattle.std.proofs.lemmas.Bool.{cases_lt}
 use Rattle.std.specs.List.{AllByRecursion, AllZip, filter_map, flat_map, last_or}
 use Rattle.std.proofs.lemmas.List.{append-nil, drop_at, length-append}
 use Rattle.netlink_core.specs.Attribute.{Attribute, AttributeFault, Cut}
-use Rattle.netlink_core.specs.PrefixLaws.{FitsWords}
+use Rattle.netlink_core.specs.laws.Prefix.{FitsWords}
 use Rattle.netlink_core.specs.Attribute.{fill, written}
 use Rattle.netlink_core.specs.Datagram.{CutIntoMessages}
 use Rattle.netlink_core.specs.declared.fault.DecodeError.{DecodeError}
@@ -22,8 +22,8 @@ use Rattle.netlink_core.proofs.Headers.{header_length, header_stands, one_header
 use Rattle.netlink_core.proofs.Numbers.{number-reads_back}
 use Rattle.netlink_core.proofs.PrefixCodecs.{is_prefix_codec}
 use Rattle.sock_diag_records.specs.InetRequest.{inet_request}
-use Rattle.sock_diag_records.specs.InetRequestLaws.{inet_request_size, inet_request_sound}
-use Rattle.sock_diag_records.specs.InetRequestLaws.{request_length}
+use Rattle.sock_diag_records.specs.laws.InetRequest.{inet_request_size, inet_request_sound}
+use Rattle.sock_diag_records.specs.laws.InetRequest.{request_length}
 use Rattle.sock_diag_records.specs.IpVersions.{IpVersions, versions_of_family}
 use Rattle.sock_diag_records.specs.declared.inet.request.InetRequest.{InetRequest}
 use Rattle.sock_diag_filters.specs.declared.request.RequestAttribute.{RequestAttribute}

@@ -9,7 +9,7 @@ use Rattle.netlink_core.specs.Layout.{bytes, read}
 use Rattle.netlink_core.specs.Header.{header_bytes}
 use Rattle.netlink_core.proofs.LayoutLaws.{accepted}
 use Rattle.sock_diag_records.specs.InetRequest.{inet_request}
-use Rattle.sock_diag_records.specs.InetRequestLaws.{request_length}
+use Rattle.sock_diag_records.specs.laws.InetRequest.{request_length}
 use Rattle.sock_diag_records.specs.declared.inet.request.InetRequest.{InetRequest}
 use Rattle.sock_diag_filters.specs.Requests.{header_under, request_bytes}
 

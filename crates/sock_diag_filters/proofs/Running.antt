@@ -12,7 +12,7 @@ use Rattle.sock_diag_filters.specs.Conditions.{arguments, code_of}
 use Rattle.sock_diag_filters.specs.Filters.{meaning, size}
 use Rattle.sock_diag_filters.specs.Audit.{no_at, yes_at}
 use Rattle.sock_diag_filters.specs.Run.{Runs, arguments_at, ends, goes_on, goes_past, is_met, step}
-use Rattle.sock_diag_filters.specs.AssemblySteps.{jump, operation, program_of}
+use Rattle.sock_diag_filters.specs.private.Assembly.{jump, operation, program_of}
 use Rattle.sock_diag_filters.proofs.Operations.{behind_operation, no_of_operation, operation_length}
 use Rattle.sock_diag_filters.proofs.Operations.{program_length}
 

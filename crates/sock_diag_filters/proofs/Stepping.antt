@@ -8,7 +8,7 @@ use Rattle.sock_diag_filters.specs.declared.filter.Filter.TheVariants as parts
 use Rattle.sock_diag_filters.specs.Conditions.{arguments, code_of}
 use Rattle.sock_diag_filters.specs.Filters.{size}
 use Rattle.sock_diag_filters.specs.Audit.{Steps, there, over, yes_at}
-use Rattle.sock_diag_filters.specs.AssemblySteps.{jump, operation, program_of}
+use Rattle.sock_diag_filters.specs.private.Assembly.{jump, operation, program_of}
 use Rattle.sock_diag_filters.proofs.Operations.{arguments_in_fours, behind_operation}
 use Rattle.sock_diag_filters.proofs.Operations.{operation_length}
 

@@ -3,15 +3,14 @@ pub mod Conditions
 pub mod Filters
 pub mod Audit
 pub mod Run
-pub mod AssemblySteps
 pub mod Assembled
 pub mod Requests
 pub mod Asked
-pub mod AskedSteps
 pub mod AnyRequest
 pub mod Uses
 pub mod ReadBack
 pub mod AnyReadBack
 pub mod Sockets
 pub mod ViewModels
-pub mod EqualConditionLaws
+pub mod laws
+pub mod private

@@ -2,7 +2,7 @@
 
 ghost use Rattle.std.specs.Prelude.{◌≡◌, ◌+◌, ◌<◌, ◌≤◌, ℕ, List, Bool, length, IfOk, IfErr};
 ghost use Rattle.sock_diag_filters.specs.Audit.{IsAudited};
-ghost use Rattle.sock_diag_filters.specs.AssemblySteps.{front_bytes, operation, program_of};
+ghost use Rattle.sock_diag_filters.specs.private.Assembly.{front_bytes, operation, program_of};
 ghost use Rattle.sock_diag_filters.specs.Filters.{meaning, size};
 ghost use Rattle.sock_diag_filters.specs.Conditions.{arguments, code_of};
 ghost use Rattle.sock_diag_filters.specs.Run.{Runs};

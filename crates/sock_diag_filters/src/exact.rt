@@ -1,8 +1,8 @@
 //! `==` and `clone` of conditions compare and copy all of their parts.
 
 ghost use Rattle.std.proofs.Common.{rules};
-ghost use Rattle.sock_diag_filters.specs.EqualConditionLaws.{condition_equal, host_equal};
-ghost use Rattle.sock_diag_filters.specs.EqualConditionLaws.{prefix_equal};
+ghost use Rattle.sock_diag_filters.specs.laws.EqualCondition.{condition_equal, host_equal};
+ghost use Rattle.sock_diag_filters.specs.laws.EqualCondition.{prefix_equal};
 
 use crate::condition::{Comparison, Condition, Host, Prefix};
 use netlink_core::Exact;

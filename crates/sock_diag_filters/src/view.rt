@@ -12,7 +12,7 @@ ghost use Rattle.sock_diag_filters.specs.Asked.{
   decodes_asked,
 };
 ghost use Rattle.sock_diag_filters.specs.Asked.{RefusesRequest};
-ghost use Rattle.sock_diag_filters.specs.AskedSteps.{found_with, asked_or_nothing};
+ghost use Rattle.sock_diag_filters.specs.private.Asked.{found_with, asked_or_nothing};
 
 use crate::request::{
     INET_DIAG_REQ_BYTECODE, INET_DIAG_REQ_PROTOCOL, REQUEST_FRONT, RequestAttribute,

@@ -10,12 +10,12 @@ use Rattle.std.proofs.lemmas.List.Splits.{join_with_byte-slice_split, length-sli
 use Rattle.std.proofs.lemmas.List.Splits.{slice_split_first, slice_split_none}
 use Rattle.netlink_core.specs.Bytes.{IsBytes}
 use Rattle.sock_diag_lines.specs.Answer.{IsAnswerOf, IsRequest, entry_of}
-use Rattle.sock_diag_lines.specs.AskedSteps.{IsAnswerTo, IsNoRequest, IsReadAs}
+use Rattle.sock_diag_lines.specs.private.Asked.{IsAnswerTo, IsNoRequest, IsReadAs}
 use Rattle.sock_diag_lines.specs.DumpLine.{IsDumpRequest, IsDumpAnswer, dump_text}
 use Rattle.sock_diag_lines.specs.HexField.{IsHexField}
-use Rattle.sock_diag_lines.specs.ReadDumpSteps.{AreHexFields, IsWritable}
+use Rattle.sock_diag_lines.specs.private.ReadDump.{AreHexFields, IsWritable}
 use Rattle.sock_diag_lines.specs.AnswerText.{IsAnswerAs}
-use Rattle.sock_diag_lines.specs.TextSteps.{is_space}
+use Rattle.sock_diag_lines.specs.private.Text.{is_space}
 use Rattle.sock_diag_lines.specs.declared.answers.Asked.{Asked}
 use Rattle.sock_diag_lines.specs.declared.answers.Asked.TheVariants.{Field, Dump, Nothing}
 use Rattle.sock_diag_lines.specs.declared.answers.Name.{Name}

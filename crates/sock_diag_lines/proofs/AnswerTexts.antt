@@ -4,7 +4,7 @@ use Rattle.std.proofs.lemmas.List.{append_cancel_left}
 use Rattle.netlink_core.specs.Bytes.{IsBytes}
 use Rattle.netlink_core.specs.declared.fault.DecodeError.{DecodeError}
 use Rattle.sock_diag_lines.specs.AnswerText.{IsAnswerAs, IsAnswerText, Subject}
-use Rattle.sock_diag_lines.specs.TextSteps.{accepted, refused, unwritable}
+use Rattle.sock_diag_lines.specs.private.Text.{accepted, refused, unwritable}
 use Rattle.sock_diag_lines.proofs.SubjectLaws.{AreIdleAs, HasFullText, IsAccepted, LawsOf}
 
 -- what answers values and faults answers what has these too

@@ -11,13 +11,13 @@ use Rattle.netlink_core.specs.Items.{ItemIs, ItemsAre}
 use Rattle.netlink_core.proofs.Items.{items_of, one_list, zip_append}
 use Rattle.netlink_packet_sock_diag.specs.Dump.{AreSplit, Dump, Standing}
 use Rattle.netlink_packet_sock_diag.specs.Message.{Message, message_codec}
-use Rattle.netlink_packet_sock_diag.specs.MessageLaws.{message_laws}
+use Rattle.netlink_packet_sock_diag.specs.laws.Message.{message_laws}
 use Rattle.netlink_packet_sock_diag.proofs.DumpRows.{dump_of_split, has_dump, items_of_each, joined}
 use Rattle.netlink_packet_sock_diag.proofs.DumpRows.{concatenation, one_dumps, same_dump}
 use Rattle.netlink_packet_sock_diag.proofs.DumpRows.{split_of_dump, unended}
 use Rattle.sock_diag_lines.specs.DumpLine.{IsDumpAnswer, dump_text}
 use Rattle.sock_diag_lines.specs.HexField.{IsHexField}
-use Rattle.sock_diag_lines.specs.ReadDumpSteps.{DumpOutcome, IsDumpOf, IsWritable, ended_with}
+use Rattle.sock_diag_lines.specs.private.ReadDump.{DumpOutcome, IsDumpOf, IsWritable, ended_with}
 use Rattle.sock_diag_lines.proofs.Deciding.{each_or_not, message_fits_or_not}
 use Rattle.sock_diag_lines.proofs.EnvelopeLaws.{envelope_laws}
 use Rattle.sock_diag_lines.proofs.FieldLaws.{IsBytes-field}

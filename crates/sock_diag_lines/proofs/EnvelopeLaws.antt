@@ -9,10 +9,10 @@ use Rattle.netlink_core.proofs.Framing.{envelope_or_fault, envelope_or_fault_apa
 use Rattle.netlink_core.proofs.Framing.{one_envelope_fault, payload_in_range}
 use Rattle.netlink_core.proofs.Idle.{equal_where_idle, payloads_alike}
 use Rattle.netlink_packet_sock_diag.specs.Message.{message_codec, Message}
-use Rattle.netlink_packet_sock_diag.specs.MessageLaws.{message_laws}
+use Rattle.netlink_packet_sock_diag.specs.laws.Message.{message_laws}
 use Rattle.sock_diag_lines.proofs.CanonicalLaws.{same_written}
 use Rattle.sock_diag_lines.proofs.Deciding.{envelope_fits_or_not}
-use Rattle.sock_diag_lines.specs.TextSteps.{word}
+use Rattle.sock_diag_lines.specs.private.Text.{word}
 use Rattle.sock_diag_lines.proofs.FieldLaws.{decimal_digits, field_of-same, word_and_rest}
 use Rattle.sock_diag_lines.specs.Answer.{entry_of}
 use Rattle.sock_diag_lines.specs.declared.answers.Name.TheVariants.{NetlinkMessage}

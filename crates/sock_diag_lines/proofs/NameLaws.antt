@@ -2,17 +2,17 @@
 use Rattle.std.proofs.Common.{◌≢◌, ◌⊎◌, inl, refl}
 use Rattle.std.specs.Prelude.{⊤}
 use Rattle.sock_diag_records.specs.UnixRequest.{unix_request}
-use Rattle.sock_diag_records.specs.UnixRequestLaws.{unix_request_sound}
+use Rattle.sock_diag_records.specs.laws.UnixRequest.{unix_request_sound}
 use Rattle.sock_diag_records.specs.InetRequest.{inet_request}
-use Rattle.sock_diag_records.specs.InetRequestLaws.{inet_request_sound}
+use Rattle.sock_diag_records.specs.laws.InetRequest.{inet_request_sound}
 use Rattle.sock_diag_records.specs.SocketId.{socket_id}
-use Rattle.sock_diag_records.specs.SocketIdLaws.{socket_id_sound}
+use Rattle.sock_diag_records.specs.laws.SocketId.{socket_id_sound}
 use Rattle.sock_diag_replies.specs.UnixResponseSpec.{unix_response_spec}
-use Rattle.sock_diag_replies.specs.UnixResponseSpecLaws.{unix_response_laws}
+use Rattle.sock_diag_replies.specs.laws.UnixResponseSpec.{unix_response_laws}
 use Rattle.sock_diag_replies.specs.InetResponseSpec.{inet_response_spec}
-use Rattle.sock_diag_replies.specs.InetResponseSpecLaws.{inet_response_laws}
+use Rattle.sock_diag_replies.specs.laws.InetResponseSpec.{inet_response_laws}
 use Rattle.netlink_packet_sock_diag.specs.Message.{message_codec}
-use Rattle.netlink_packet_sock_diag.specs.MessageLaws.{message_laws}
+use Rattle.netlink_packet_sock_diag.specs.laws.Message.{message_laws}
 use Rattle.netlink_core.specs.Codec.{Codec, KeepsLaws, record_codec}
 use Rattle.netlink_core.specs.Response.{response_codec}
 use Rattle.netlink_core.proofs.LayoutLaws.{keeps_laws}

@@ -1,11 +1,7 @@
 pub mod HexField
 pub mod AnswerText
-pub mod TextSteps
 pub mod EnvelopeLine
 pub mod ViewLine
-pub mod ViewSteps
 pub mod DumpLine
 pub mod Answer
-pub mod ReadDumpSteps
-pub mod AskedSteps
-pub mod RunSteps
+pub mod private

@@ -14,12 +14,12 @@ ghost use Rattle.netlink_packet_sock_diag.specs.Message.{Message, message_codec}
 ghost use Rattle.netlink_packet_sock_diag.specs.MessageViewModel.{message_view_model};
 ghost use Rattle.netlink_packet_sock_diag.specs.PayloadViewModel.{envelope_view_model};
 ghost use Rattle.sock_diag_lines.specs.Answer.{IsAnswerOf, IsRequest, entry_of};
-ghost use Rattle.sock_diag_lines.specs.AskedSteps.{IsAnswerTo, IsReadAs};
+ghost use Rattle.sock_diag_lines.specs.private.Asked.{IsAnswerTo, IsReadAs};
 ghost use Rattle.sock_diag_lines.specs.DumpLine.{IsDumpRequest};
 ghost use Rattle.sock_diag_lines.specs.EnvelopeLine.{envelope_text};
 ghost use Rattle.sock_diag_lines.specs.HexField.{field_of};
 ghost use Rattle.sock_diag_lines.specs.AnswerText.{IsAnswerAs, IsAnswerText};
-ghost use Rattle.sock_diag_lines.specs.TextSteps.{Adds, accepted, word};
+ghost use Rattle.sock_diag_lines.specs.private.Text.{Adds, accepted, word};
 
 use crate::dump_line::{ReadDump, push_dump, read_dump};
 use crate::fields::{find_space, read_field};

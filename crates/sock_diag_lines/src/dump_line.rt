@@ -7,11 +7,11 @@ ghost use Rattle.netlink_packet_sock_diag.specs.Message.{message_codec};
 ghost use Rattle.netlink_packet_sock_diag.specs.MessageModel.{message_model};
 ghost use Rattle.sock_diag_lines.specs.DumpLine.{end_word, dump_text};
 ghost use Rattle.sock_diag_lines.specs.HexField.{IsHexField};
-ghost use Rattle.sock_diag_lines.specs.ReadDumpSteps.{AreHexFields, IsReadDump, IsWritable};
-ghost use Rattle.sock_diag_lines.specs.ReadDumpSteps.{TakesDatagram};
-ghost use Rattle.sock_diag_lines.specs.ReadDumpSteps.{end_of, message_text, dump_outcome};
+ghost use Rattle.sock_diag_lines.specs.private.ReadDump.{AreHexFields, IsReadDump, IsWritable};
+ghost use Rattle.sock_diag_lines.specs.private.ReadDump.{TakesDatagram};
+ghost use Rattle.sock_diag_lines.specs.private.ReadDump.{end_of, message_text, dump_outcome};
 ghost use Rattle.sock_diag_lines.specs.AnswerText.{IsAnswerText};
-ghost use Rattle.sock_diag_lines.specs.TextSteps.{Adds};
+ghost use Rattle.sock_diag_lines.specs.private.Text.{Adds};
 
 use crate::fields::{find_space, read_field};
 use crate::words::{OK, UNWRITABLE, push_field, push_number};

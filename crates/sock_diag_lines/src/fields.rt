@@ -3,7 +3,7 @@
 ghost use Rattle.std.specs.Prelude.{◌≡◌, ◌∷◌, [], ℕ, List, IfOk, MatchBool, MatchOption};
 ghost use Rattle.std.specs.List.{slice_split};
 ghost use Rattle.sock_diag_lines.specs.HexField.{IsHexField};
-ghost use Rattle.sock_diag_lines.specs.TextSteps.{IsFirstSpace, is_space};
+ghost use Rattle.sock_diag_lines.specs.private.Text.{IsFirstSpace, is_space};
 
 use memchr::memchr;
 use std::alloc::AllocError;

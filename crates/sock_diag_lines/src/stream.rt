@@ -6,8 +6,8 @@ ghost use Rattle.line_server.specs.Lines.{Splits, with_rest};
 ghost use Rattle.line_server.specs.Run.{Answers, SendsOrFails, answer_lines};
 ghost use Rattle.line_server.specs.declared.stream.RunError.{RunError};
 ghost use Rattle.sock_diag_lines.specs.Answer.{IsAnswerOf, is_good};
-ghost use Rattle.sock_diag_lines.specs.AskedSteps.{IsReadAs};
-ghost use Rattle.sock_diag_lines.specs.RunSteps.{failure_line};
+ghost use Rattle.sock_diag_lines.specs.private.Asked.{IsReadAs};
+ghost use Rattle.sock_diag_lines.specs.private.Run.{failure_line};
 
 use crate::answers::{Asked, push_answer_text, read_request};
 use crate::words::OK;

@@ -5,9 +5,9 @@ ghost use Rattle.sock_diag_replies.specs.ViewModel.{view_model};
 ghost use Rattle.sock_diag_lines.specs.Answer.{entry_of};
 ghost use Rattle.sock_diag_lines.specs.AnswerText.{IsAnswerAs};
 ghost use Rattle.sock_diag_lines.specs.declared.answers.Name.TheVariants.{UnixView};
-ghost use Rattle.sock_diag_lines.specs.TextSteps.{Adds, accepted};
+ghost use Rattle.sock_diag_lines.specs.private.Text.{Adds, accepted};
 ghost use Rattle.sock_diag_lines.specs.ViewLine.{reply_text};
-ghost use Rattle.sock_diag_lines.specs.ViewSteps.{with_details, with_memory, with_queues};
+ghost use Rattle.sock_diag_lines.specs.private.View.{with_details, with_memory, with_queues};
 
 use crate::words::{
     OK, push_name_word, push_number, push_number_word, push_numbers_word, push_refused,

@@ -6,7 +6,7 @@ ghost use Rattle.netlink_core.specs.declared.fault.DecodeError.TheVariants.{Memo
 ghost use Rattle.sock_diag_attributes.specs.NameModel.{name_of};
 ghost use Rattle.sock_diag_attributes.specs.NumbersModel.{numbers_view_model};
 ghost use Rattle.sock_diag_lines.specs.HexField.{field_of};
-ghost use Rattle.sock_diag_lines.specs.TextSteps.{accepted, refused};
+ghost use Rattle.sock_diag_lines.specs.private.Text.{accepted, refused};
 ghost use Rattle.sock_diag_lines.specs.ViewLine.{comma_list, name_word, or_none};
 
 use netlink_core::DecodeError;

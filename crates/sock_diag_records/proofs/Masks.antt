@@ -11,7 +11,7 @@ use Rattle.sock_diag_records.specs.IpVersions.{ipv4, ipv6, IpVersions, versions_
 use Rattle.sock_diag_records.specs.SocketId.{socket_id}
 use Rattle.sock_diag_records.specs.InetRequest.{inet_request}
 use Rattle.sock_diag_records.specs.InetResponse.{inet_response_header}
-use Rattle.sock_diag_records.specs.InetResponseLaws.{each, class_lt, with_class}
+use Rattle.sock_diag_records.specs.laws.InetResponse.{each, class_lt, with_class}
 use Rattle.sock_diag_records.specs.Timer.{class_of_byte}
 
 -- ---- families

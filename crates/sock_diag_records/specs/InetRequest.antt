@@ -6,7 +6,7 @@ use Rattle.netlink_core.specs.declared.fault.RecordName.TheVariants as name
 use Rattle.sock_diag_records.specs.declared.inet.request.InetRequest.{InetRequest}
 use Rattle.sock_diag_records.specs.SocketId.{IsShaped, socket_id_rows}
 use Rattle.sock_diag_records.specs.IpVersions.{IpVersions, versions_of, versions_of_family}
-use Rattle.sock_diag_records.specs.InetRequestInverse.{inet_request_of}
+use Rattle.sock_diag_records.specs.inverse.InetRequest.{inet_request_of}
 
 -- `struct inet_diag_req_v2` (linux/inet_diag.h). The family has to be AF_INET or AF_INET6, and in
 -- normal form both addresses are of its version.

@@ -9,7 +9,7 @@ use Rattle.sock_diag_records.specs.IpVersions.{IpVersions, versions_of, versions
 use Rattle.sock_diag_records.specs.SocketId.{IsShaped, socket_id_rows}
 use Rattle.sock_diag_records.specs.Timer.{class_of_byte, timer_data, milliseconds}
 use Rattle.sock_diag_records.specs.Timer.{IsWholeMilliseconds}
-use Rattle.sock_diag_records.specs.InetResponseInverse.{header_of}
+use Rattle.sock_diag_records.specs.inverse.InetResponse.{header_of}
 use Rattle.netlink_core.specs.Rows.{u8, u32, skip, embed}
 
 -- `struct inet_diag_msg` (linux/inet_diag.h). The class of the timer is at 2 (`idiag_timer`). The

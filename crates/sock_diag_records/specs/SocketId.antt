@@ -9,7 +9,7 @@ use Rattle.sock_diag_records.specs.declared.inet.socket_id.SocketId.{SocketId}
 use Rattle.netlink_core.specs.declared.fault.RecordName.TheVariants as name
 use Rattle.sock_diag_records.specs.IpVersions.{IpVersion, ipv4, ipv6, IpVersions}
 use Rattle.sock_diag_records.specs.IpVersions.{versions_of_family, versions_of, address_data}
-use Rattle.sock_diag_records.specs.SocketIdInverse.{socket_id_of}
+use Rattle.sock_diag_records.specs.inverse.SocketId.{socket_id_of}
 use Rattle.netlink_core.specs.Table.{network, array}
 use Rattle.netlink_core.specs.Rows.{Row, be16, u32, u8s}
 

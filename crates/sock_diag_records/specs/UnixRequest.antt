@@ -4,7 +4,7 @@ use Rattle.netlink_core.specs.Rows.{skip, u32, flags32, u8s}
 use Rattle.netlink_core.specs.Layout.{Layout, plain}
 use Rattle.netlink_core.specs.declared.fault.RecordName.TheVariants as name
 use Rattle.sock_diag_records.specs.declared.unix.request.UnixRequest.{UnixRequest}
-use Rattle.sock_diag_records.specs.UnixRequestInverse.{unix_request_of}
+use Rattle.sock_diag_records.specs.inverse.UnixRequest.{unix_request_of}
 
 -- `struct unix_diag_req` (linux/unix_diag.h): family, protocol and padding are ignored
 abbrev pub unix_request : Layout (Unit {0}) (Unit {0}) UnixRequest

@@ -4,7 +4,7 @@ use Rattle.netlink_core.specs.Rows.{skip, u8, u32, u8s}
 use Rattle.netlink_core.specs.Layout.{Layout, plain}
 use Rattle.netlink_core.specs.declared.fault.RecordName.TheVariants as name
 use Rattle.sock_diag_records.specs.declared.unix.response.UnixResponseHeader.{UnixResponseHeader}
-use Rattle.sock_diag_records.specs.UnixResponseHeaderInverse.{unix_response_header_of}
+use Rattle.sock_diag_records.specs.inverse.UnixResponseHeader.{unix_response_header_of}
 
 -- `struct unix_diag_msg` (linux/unix_diag.h): family and padding are ignored
 abbrev pub unix_response_header : Layout (Unit {0}) (Unit {0}) UnixResponseHeader

@@ -1,10 +1,6 @@
 pub mod UnixResponseSpec
-pub mod UnixResponseSpecLaws
 pub mod UnixGetters
 pub mod InetResponseSpec
-pub mod InetResponseSpecLaws
 pub mod ResponseModel
 pub mod ViewModel
-pub mod EqualResponseLaws
-pub mod HeaderLaws
-pub mod OneValueLaws
+pub mod laws

@@ -6,7 +6,7 @@ ghost use lib.Pointwise.{pointwise};
 ghost use Rattle.attribute_lists.specs.AttributesIn.{HasNoFault, values_in};
 ghost use Rattle.netlink_core.specs.declared.fault.DecodeError.TheVariants.{Memory};
 ghost use Rattle.netlink_core.specs.AttributeSet.{AttributeValue, decodes, encodes};
-ghost use Rattle.netlink_core.specs.ResponseSteps.{framed, FramedFits};
+ghost use Rattle.netlink_core.specs.private.Response.{framed, FramedFits};
 
 use attribute_lists::{
     emit_values, emit_views, next_view, values_len, values_len_within, views_len,

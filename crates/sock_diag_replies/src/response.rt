@@ -213,7 +213,7 @@ impl<H: ReplyOwned> Emitable for Reply<H, H::Nla> {
 }
 
 impl<H: ReplyOwned> Coded for Reply<H, H::Nla> {
-    ghost use Rattle.sock_diag_replies.specs.EqualResponseLaws.{responses_equal};
+    ghost use Rattle.sock_diag_replies.specs.laws.EqualResponse.{responses_equal};
     ghost use Rattle.sock_diag_replies.specs.ResponseModel.{response_model};
 
     type Param = ();

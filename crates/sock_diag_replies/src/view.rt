@@ -15,7 +15,7 @@ ghost use Rattle.netlink_core.specs.Response.{response_codec};
 ghost use Rattle.netlink_core.specs.Walk.{bytes_left};
 ghost use Rattle.netlink_core.proofs.Equality.{equivalence};
 ghost use Rattle.attribute_lists.specs.AttributesIn.{HasNoFault, response_behind, values_in};
-ghost use Rattle.sock_diag_replies.specs.OneValueLaws.{one_value_in};
+ghost use Rattle.sock_diag_replies.specs.laws.OneValue.{one_value_in};
 
 use attribute_lists::{CheckedNlas, next_view};
 use netlink_core::{DecodeError, Emitable, FamilyView, NlasIterator};

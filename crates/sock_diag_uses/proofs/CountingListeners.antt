@@ -18,7 +18,7 @@ use Rattle.netlink_packet_sock_diag.specs.PayloadViewModel.{PayloadView}
 use Rattle.netlink_packet_sock_diag.specs.Dump.{end_of}
 use Rattle.netlink_packet_sock_diag.specs.DumpWalk.{GivesView}
 use Rattle.netlink_packet_sock_diag.specs.Message.{Message, message_codec}
-use Rattle.netlink_packet_sock_diag.specs.MessageLaws.{message_laws}
+use Rattle.netlink_packet_sock_diag.specs.laws.Message.{message_laws}
 use Rattle.netlink_core.specs.Faults.{map_ok}
 use Rattle.netlink_packet_sock_diag.specs.PayloadViewModel.{payload_view_model}
 use Rattle.sock_diag_uses.specs.Readme.{EndsWith, IsCounted, listens}

@@ -4,7 +4,7 @@ use Rattle.std.specs.Prelude.{⊤, [], ◌∷◌}
 use Rattle.netlink_core.specs.Layout.{Layout, plain}
 use Rattle.netlink_core.specs.declared.fault.RecordName.TheVariants as name
 use Rattle.sock_diag_values.specs.declared.inet.legacy_mem_info.LegacyMemInfo.{LegacyMemInfo}
-use Rattle.sock_diag_values.specs.LegacyMemInfoInverse.{legacy_mem_info_of}
+use Rattle.sock_diag_values.specs.inverse.LegacyMemInfo.{legacy_mem_info_of}
 use Rattle.netlink_core.specs.Rows.{u32}
 
 -- `struct inet_diag_meminfo` (linux/inet_diag.h)

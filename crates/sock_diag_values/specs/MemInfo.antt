@@ -4,7 +4,7 @@ use Rattle.std.specs.Prelude.{if◌then◌else◌, length, unwrap_or, IfSome, Is
 use Rattle.netlink_core.specs.Layout.{Layout}
 use Rattle.netlink_core.specs.declared.fault.RecordName.TheVariants as name
 use Rattle.sock_diag_values.specs.declared.inet.mem_info.MemInfo.{MemInfo}
-use Rattle.sock_diag_values.specs.MemInfoInverse.{mem_info_of}
+use Rattle.sock_diag_values.specs.inverse.MemInfo.{mem_info_of}
 use Rattle.sock_diag_values.specs.declared.inet.mem_info.MemInfoBytes.{MemInfoBytes}
 use Rattle.sock_diag_values.specs.declared.inet.mem_info.MemInfoBytes.TheVariants.{Seven, Eight}
 use Rattle.sock_diag_values.specs.declared.inet.mem_info.MemInfoBytes.TheVariants.{Nine}

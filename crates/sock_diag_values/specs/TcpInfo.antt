@@ -3,7 +3,7 @@ use Rattle.std.specs.Prelude.{⊤, List, [], ◌∷◌}
 use Rattle.netlink_core.specs.Rows.{Row, u8, u32, u64}
 use Rattle.netlink_core.specs.Layout.{Layout, plain}
 use Rattle.sock_diag_values.specs.declared.inet.tcp_info.TcpInfo.{TcpInfo}
-use Rattle.sock_diag_values.specs.TcpInfoInverse.{tcp_info_of}
+use Rattle.sock_diag_values.specs.inverse.TcpInfo.{tcp_info_of}
 use Rattle.netlink_core.specs.declared.fault.RecordName.TheVariants as name
 
 -- `struct tcp_info` (linux/tcp.h); newer kernels append members

@@ -3,7 +3,7 @@ use Rattle.std.specs.Prelude.{⊤, [], ◌∷◌, replicate}
 use Rattle.netlink_core.specs.Layout.{Layout, plain}
 use Rattle.netlink_core.specs.declared.fault.RecordName.TheVariants as name
 use Rattle.sock_diag_values.specs.declared.unix.mem_info.MemInfo.{MemInfo}
-use Rattle.sock_diag_values.specs.UnixMemInfoInverse.{unix_mem_info_of}
+use Rattle.sock_diag_values.specs.inverse.UnixMemInfo.{unix_mem_info_of}
 use Rattle.netlink_core.specs.Rows.{skip, u32}
 
 -- an array of `u32`, indexed by `SK_MEMINFO_*` (linux/sock_diag.h); six of them are ignored

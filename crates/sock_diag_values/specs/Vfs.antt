@@ -3,7 +3,7 @@ use Rattle.std.specs.Prelude.{⊤, [], ◌∷◌}
 use Rattle.netlink_core.specs.Layout.{Layout, plain}
 use Rattle.netlink_core.specs.declared.fault.RecordName.TheVariants as name
 use Rattle.sock_diag_values.specs.declared.unix.vfs.Vfs.{Vfs}
-use Rattle.sock_diag_values.specs.VfsInverse.{vfs_of}
+use Rattle.sock_diag_values.specs.inverse.Vfs.{vfs_of}
 use Rattle.netlink_core.specs.Rows.{u32}
 
 -- `struct unix_diag_vfs` (linux/unix_diag.h)

@@ -11,7 +11,7 @@ use Rattle.netlink_core.proofs.Datagrams.{one_cut_into_messages}
 use Rattle.netlink_core.proofs.Framing.{one_framing_fault}
 use Rattle.netlink_core.proofs.Items.{items_of, rest_in_range}
 use Rattle.netlink_packet_sock_diag.specs.Message.{message_codec}
-use Rattle.netlink_packet_sock_diag.specs.MessageLaws.{message_laws}
+use Rattle.netlink_packet_sock_diag.specs.laws.Message.{message_laws}
 use Rattle.sockdiag_c.specs.declared.walks.Cursor.{Cursor}
 use Rattle.sockdiag_c.specs.declared.walks.MessagePart.{MessagePart}
 use Rattle.sockdiag_c.specs.Walks.{IsMessageAt, NextMessage, left_of}

@@ -15,10 +15,10 @@ use Rattle.sockdiag_c.specs.declared.inet_details.InetDetails.{InetDetails}
 use Rattle.sockdiag_c.specs.declared.unix_details.UnixDetails.{UnixDetails}
 use Rattle.sockdiag_c.specs.Details.{number_of, text_of, first_number}
 use Rattle.sockdiag_c.specs.InetDetails.{HasInetDetails, controlled, inet_details_of}
-use Rattle.sockdiag_c.specs.InetDetailsSteps.{inet_with}
-use Rattle.sockdiag_c.specs.FirstNumberSteps.{first_of_two, next_number}
+use Rattle.sockdiag_c.specs.private.InetDetails.{inet_with}
+use Rattle.sockdiag_c.specs.private.FirstNumber.{first_of_two, next_number}
 use Rattle.sockdiag_c.specs.UnixDetails.{HasUnixDetails, named, unix_details_of}
-use Rattle.sockdiag_c.specs.UnixDetailsSteps.{unix_with}
+use Rattle.sockdiag_c.specs.private.UnixDetails.{unix_with}
 
 alone : {B : Type 0} (o : Option B) → slice_get (cons_option o []) 0 ≡ o
 alone o =

@@ -8,7 +8,7 @@ use Rattle.netlink_core.specs.declared.header.NetlinkHeader.{NetlinkHeader}
 use Rattle.netlink_core.specs.declared.message.NetlinkPayload.TheVariants.{Done, Error, Noop}
 use Rattle.netlink_core.specs.declared.message.NetlinkPayload.TheVariants.{Overrun}
 use Rattle.netlink_core.specs.Header.{HasHeader}
-use Rattle.netlink_core.specs.PrefixLaws.{prefix_or_fault_apart}
+use Rattle.netlink_core.specs.laws.Prefix.{prefix_or_fault_apart}
 use Rattle.netlink_core.proofs.Cutting.{one_start}
 use Rattle.netlink_core.proofs.Datagrams.{starts_with_message}
 use Rattle.netlink_core.proofs.Padding.{starts_with}

@@ -5,7 +5,7 @@ use Rattle.std.specs.Prelude.{IsOkAnd}
 use Rattle.std.specs.Result.{result_err}
 use Rattle.netlink_core.specs.declared.fault.DecodeError.{DecodeError}
 use Rattle.sock_diag_replies.specs.UnixGetters.{first_of}
-use Rattle.sockdiag_c.specs.FirstNumberSteps.{first_of_two}
+use Rattle.sockdiag_c.specs.private.FirstNumber.{first_of_two}
 
 -- what holds of a value that was read
 pub of_read : {A : Type 0} (P : A → Type 0) (r s : Result A DecodeError) (x : A) → s ≡ r → s ≡ Ok x

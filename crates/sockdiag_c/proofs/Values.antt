@@ -8,7 +8,7 @@ use Rattle.std.proofs.lemmas.List.{take_all}
 use Rattle.netlink_core.specs.Attribute.{Attribute, IsFramingFault, StartsWith}
 use Rattle.netlink_core.specs.Attribute.{attribute_type}
 use Rattle.netlink_core.specs.declared.fault.DecodeError.{DecodeError}
-use Rattle.netlink_core.specs.PrefixLaws.{prefix_or_fault_apart}
+use Rattle.netlink_core.specs.laws.Prefix.{prefix_or_fault_apart}
 use Rattle.netlink_core.proofs.Cutting.{one_start}
 use Rattle.netlink_core.proofs.Walking.{StartsWith-some, prefix_of_start}
 use Rattle.sock_diag_replies.specs.UnixGetters.{first_of}

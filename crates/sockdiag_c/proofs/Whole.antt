@@ -7,7 +7,7 @@ use Rattle.netlink_core.specs.Layout.{bytes}
 use Rattle.netlink_core.specs.Header.{header_bytes}
 use Rattle.sock_diag_records.specs.declared.inet.request.InetRequest as inet
 use Rattle.sock_diag_records.specs.InetRequest.{inet_request}
-use Rattle.sock_diag_records.specs.InetRequestLaws.{request_length}
+use Rattle.sock_diag_records.specs.laws.InetRequest.{request_length}
 use Rattle.sockdiag_c.specs.declared.requests.InetRequest.{InetRequest}
 use Rattle.sockdiag_c.specs.Requests.{WritesWhole, header_of, inet_message, inet_request_of}
 use Rattle.sockdiag_c.specs.Requests.{protocol_attribute}

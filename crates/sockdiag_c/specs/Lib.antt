@@ -4,14 +4,12 @@ pub mod Walks
 pub mod Requests
 pub mod Rewriting
 pub mod Details
-pub mod FirstNumberSteps
 pub mod UnixDetails
-pub mod UnixDetailsSteps
 pub mod InetDetails
-pub mod InetDetailsSteps
 pub mod TcpInfo
 pub mod FamilyValues
 pub mod NetlinkDetails
 pub mod PacketDetails
 pub mod XdpDetails
 pub mod FamilyRequests
+pub mod private

@@ -12,7 +12,7 @@ ghost use Rattle.sockdiag_c.specs.Answers.{AnswersBy};
 ghost use Rattle.sockdiag_c.specs.Details.{text_of};
 ghost use Rattle.sockdiag_c.specs.InetDetails.{IsInetDetailsOf};
 ghost use Rattle.sockdiag_c.specs.UnixDetails.{IsUnixDetailsOf};
-ghost use Rattle.sockdiag_c.specs.FirstNumberSteps.{next_number, first_of_two};
+ghost use Rattle.sockdiag_c.specs.private.FirstNumber.{next_number, first_of_two};
 
 use crate::check::OK;
 use crate::inet_details::InetDetails;

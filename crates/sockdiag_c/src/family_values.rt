@@ -5,7 +5,7 @@ ghost use Rattle.std.specs.Result.{result_err};
 ghost use Rattle.sockdiag_c.specs.Answers.{AnswersItem};
 ghost use Rattle.sockdiag_c.specs.Details.{number_of, text_of};
 ghost use Rattle.sockdiag_c.specs.FamilyValues.{memory_of};
-ghost use Rattle.sockdiag_c.specs.FirstNumberSteps.{first_of_two};
+ghost use Rattle.sockdiag_c.specs.private.FirstNumber.{first_of_two};
 
 use crate::details::{BYTES, NO_NUMBER, Number, Text};
 use crate::walks::{END, ITEM};

@@ -7,8 +7,8 @@ ghost use Rattle.sock_diag_replies.specs.InetResponseSpec.{inet_response_spec};
 ghost use Rattle.sockdiag_c.specs.Details.{text_of};
 ghost use Rattle.sockdiag_c.specs.Headers.{inet_header_of};
 ghost use Rattle.sockdiag_c.specs.InetDetails.{HasInetDetails, controlled};
-ghost use Rattle.sockdiag_c.specs.InetDetailsSteps.{inet_with};
-ghost use Rattle.sockdiag_c.specs.FirstNumberSteps.{first_of_two};
+ghost use Rattle.sockdiag_c.specs.private.InetDetails.{inet_with};
+ghost use Rattle.sockdiag_c.specs.private.FirstNumber.{first_of_two};
 
 use crate::details::{KeepsDetails, NO_NUMBER, Number, TEXT, Text};
 use crate::headers::InetHeader;

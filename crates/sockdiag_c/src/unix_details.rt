@@ -5,9 +5,9 @@ ghost use Rattle.sock_diag_attributes.specs.UnixModel.{nla_view_model};
 ghost use Rattle.sock_diag_replies.specs.UnixResponseSpec.{unix_response_spec};
 ghost use Rattle.sockdiag_c.specs.Details.{text_of};
 ghost use Rattle.sockdiag_c.specs.Headers.{unix_header_of};
-ghost use Rattle.sockdiag_c.specs.FirstNumberSteps.{first_of_two};
+ghost use Rattle.sockdiag_c.specs.private.FirstNumber.{first_of_two};
 ghost use Rattle.sockdiag_c.specs.UnixDetails.{HasUnixDetails, named};
-ghost use Rattle.sockdiag_c.specs.UnixDetailsSteps.{unix_with};
+ghost use Rattle.sockdiag_c.specs.private.UnixDetails.{unix_with};
 
 use crate::details::{ABSTRACT, KeepsDetails, NO_NUMBER, Number, TEXT, Text};
 use crate::headers::UnixHeader;

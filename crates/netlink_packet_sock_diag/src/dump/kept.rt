@@ -6,11 +6,11 @@ ghost use Rattle.netlink_core.specs.Faults.{map_ok};
 ghost use Rattle.netlink_core.specs.Items.{Item, ItemIs};
 ghost use Rattle.netlink_core.specs.declared.fault.DecodeError.{DecodeError as Fault};
 ghost use Rattle.netlink_core.specs.declared.fault.DecodeError.TheVariants.{Memory};
-ghost use Rattle.netlink_packet_sock_diag.specs.KeptSteps.{KeepsItems};
-ghost use Rattle.netlink_packet_sock_diag.specs.KeptLaws.{keeps_entries, keeps_messages};
+ghost use Rattle.netlink_packet_sock_diag.specs.private.Kept.{KeepsItems};
+ghost use Rattle.netlink_packet_sock_diag.specs.laws.Kept.{keeps_entries, keeps_messages};
 ghost use Rattle.netlink_packet_sock_diag.specs.Lossy.{EntryIs};
 ghost use Rattle.netlink_packet_sock_diag.specs.Message.{Message, message_codec};
-ghost use Rattle.netlink_packet_sock_diag.specs.MessageLaws.{message_laws};
+ghost use Rattle.netlink_packet_sock_diag.specs.laws.Message.{message_laws};
 ghost use Rattle.netlink_packet_sock_diag.specs.MessageModel.{message_model};
 
 use crate::message::SockDiagMessage;

@@ -3,12 +3,12 @@
 ghost use Rattle.std.specs.Prelude.{refl, string_bytes};
 ghost use Rattle.netlink_core.specs.DefaultNla.{kept_attribute};
 ghost use Rattle.netlink_core.specs.FirstAttribute.{first_attribute_codec};
-ghost use Rattle.netlink_core.specs.FirstAttributeLaws.{first_attribute_keeps_laws};
+ghost use Rattle.netlink_core.specs.laws.FirstAttribute.{first_attribute_keeps_laws};
 ghost use Rattle.sock_diag_attributes.specs.InetAttributes.{inet};
-ghost use Rattle.sock_diag_attributes.specs.InetAttributeLaws.{inet_laws};
+ghost use Rattle.sock_diag_attributes.specs.laws.InetAttribute.{inet_laws};
 ghost use Rattle.sock_diag_attributes.specs.InetModel.{nla_model};
-ghost use Rattle.sock_diag_attributes.specs.EqualInetLaws.{equal};
-ghost use Rattle.sock_diag_attributes.specs.LentLaws.{kept_row, text_row};
+ghost use Rattle.sock_diag_attributes.specs.laws.EqualInet.{equal};
+ghost use Rattle.sock_diag_attributes.specs.laws.Lent.{kept_row, text_row};
 
 use super::nlas::{Nla, NlaView};
 use netlink_core::{CanonError, Coded, DecodeError, NlaBuffer, Wire, WireNla, write_new};

@@ -5,7 +5,7 @@ ghost use Rattle.netlink_core.specs.Attribute.{HasFittingValue, written};
 ghost use Rattle.netlink_core.specs.AttributeSet.{decodes, encodes, IsSpareBy};
 ghost use Rattle.netlink_core.specs.AttributeSet.{IsInRangeBy};
 ghost use Rattle.netlink_core.specs.Walk.{attribute_of};
-ghost use Rattle.sock_diag_attributes.specs.ValueSteps.{value_bytes, IsValueInRange};
+ghost use Rattle.sock_diag_attributes.specs.private.Value.{value_bytes, IsValueInRange};
 
 use crate::lent::OtherNla;
 use crate::numbers::{exact_flag, exact_u8, exact_u32};

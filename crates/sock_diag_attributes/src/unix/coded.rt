@@ -3,14 +3,14 @@
 ghost use Rattle.std.specs.Prelude.{refl, vec_items};
 ghost use Rattle.netlink_core.specs.DefaultNla.{kept_attribute};
 ghost use Rattle.netlink_core.specs.FirstAttribute.{first_attribute_codec};
-ghost use Rattle.netlink_core.specs.FirstAttributeLaws.{first_attribute_keeps_laws};
+ghost use Rattle.netlink_core.specs.laws.FirstAttribute.{first_attribute_keeps_laws};
 ghost use Rattle.sock_diag_attributes.specs.UnixAttributes.{unix};
-ghost use Rattle.sock_diag_attributes.specs.UnixAttributeLaws.{unix_laws};
+ghost use Rattle.sock_diag_attributes.specs.laws.UnixAttribute.{unix_laws};
 ghost use Rattle.sock_diag_attributes.specs.UnixModel.{nla_model};
 ghost use Rattle.sock_diag_attributes.specs.NameModel.{name_of};
-ghost use Rattle.sock_diag_attributes.specs.EqualUnixLaws.{equal};
-ghost use Rattle.sock_diag_attributes.specs.EqualNameLaws.{same_names};
-ghost use Rattle.sock_diag_attributes.specs.LentLaws.{byte_list_row, kept_row, list_row, name_row};
+ghost use Rattle.sock_diag_attributes.specs.laws.EqualUnix.{equal};
+ghost use Rattle.sock_diag_attributes.specs.laws.EqualName.{same_names};
+ghost use Rattle.sock_diag_attributes.specs.laws.Lent.{byte_list_row, kept_row, list_row, name_row};
 
 use super::nlas::{Nla, NlaView};
 use netlink_core::{CanonError, Coded, DecodeError, NlaBuffer, Wire, WireNla, write_new};

@@ -5,7 +5,7 @@ ghost use Rattle.std.specs.Prelude.{IsOk, MatchOption, MatchResult, Ok, Err, tru
 ghost use Rattle.std.specs.Prelude.{⊤};
 ghost use Rattle.netlink_core.specs.Bytes.{IsBytes};
 ghost use Rattle.sock_diag_attributes.specs.Name.{read_name, name_bytes, name_codec};
-ghost use Rattle.sock_diag_attributes.specs.NameLaws.{HasNoZero, name_keeps_laws};
+ghost use Rattle.sock_diag_attributes.specs.laws.Name.{HasNoZero, name_keeps_laws};
 
 use netlink_core::{
     CanonError, Coded, DecodeError, Emitable, Parseable, Readable, Wire, bytes_in_range, copy_list,
@@ -72,7 +72,7 @@ impl<'a> NameView<'a> {
     /// The whole of the bytes as a name. No bytes are `NameEmpty`. Of a path, a first zero before
     /// the last byte is `NameInnerZero`, and no zero is `NameWithoutEnd`.
     #[inline(always)]
-    #[tactic(auto, using(crate::specs::NameLaws::reads_inner_zero, crate::specs::NameLaws::reads_path, crate::specs::NameLaws::reads_no_end))]
+    #[tactic(auto, using(crate::specs::laws::Name::reads_inner_zero, crate::specs::laws::Name::reads_path, crate::specs::laws::Name::reads_no_end))]
     pub fn parse(bytes: &'a [u8]) -> Result<NameView<'a>, DecodeError>
         ensures { MatchResult result
             (λ name. read_name bytes.entry.now ≡ Ok (name_of (λ b. b.now) name))
@@ -94,7 +94,7 @@ impl<'a> NameView<'a> {
     /// The whole of the bytes as a name, where [`NameView::parse`] accepts them. They are not
     /// searched again.
     #[inline(always)]
-    #[tactic(auto, using(crate::specs::NameLaws::known_path))]
+    #[tactic(auto, using(crate::specs::laws::Name::known_path))]
     pub fn new(bytes: &'a [u8]) -> NameView<'a>
         requires { IsOk (read_name bytes.now) }
         ensures { read_name bytes.entry.now ≡ Ok (name_of (λ b. b.now) result) }
@@ -137,7 +137,7 @@ impl<'a> NameView<'a> {
     }
 
     // Tells the prover that its bytes are bytes. It does nothing.
-    #[tactic(auto, using(crate::specs::NameLaws::path_bytes_in_range, crate::specs::NameLaws::address_bytes_in_range))]
+    #[tactic(auto, using(crate::specs::laws::Name::path_bytes_in_range, crate::specs::laws::Name::address_bytes_in_range))]
     pub(crate) fn in_range(&self)
         ensures { IsBytes (name_bytes (name_of (λ b. b.now) self.now)) }
     {
@@ -217,8 +217,8 @@ impl Emitable for NameView<'_> {
 
 impl Coded for UnixDiagName {
     ghost use Rattle.sock_diag_attributes.specs.NameModel.{name_of};
-    ghost use Rattle.sock_diag_attributes.specs.EqualNameLaws.{names_equal};
-    ghost use Rattle.sock_diag_attributes.specs.LentLaws.{byte_list_row};
+    ghost use Rattle.sock_diag_attributes.specs.laws.EqualName.{names_equal};
+    ghost use Rattle.sock_diag_attributes.specs.laws.Lent.{byte_list_row};
 
     type Param = ();
 

@@ -5,7 +5,7 @@ ghost use Rattle.netlink_core.specs.Attribute.{HasFittingValue, written};
 ghost use Rattle.netlink_core.specs.AttributeSet.{decodes, encodes, IsSpareBy};
 ghost use Rattle.netlink_core.specs.AttributeSet.{IsInRangeBy};
 ghost use Rattle.netlink_core.specs.Walk.{attribute_of};
-ghost use Rattle.sock_diag_attributes.specs.ValueSteps.{value_bytes, IsValueInRange};
+ghost use Rattle.sock_diag_attributes.specs.private.Value.{value_bytes, IsValueInRange};
 
 use crate::lent::{LendsName, LendsNumbers, OtherNla};
 pub use crate::numbers::{NumbersIterator, NumbersView};
@@ -113,7 +113,7 @@ impl<N: LendsName, L: LendsNumbers, O: OtherNla> UnixNla<N, L, O> {
 
     // The attribute with a name, numbers and bytes of its own.
     #[inline(always)]
-    #[tactic(auto, using(crate::specs::NumberLaws::no_numbers))]
+    #[tactic(auto, using(crate::specs::laws::Number::no_numbers))]
     fn owned(&self, alloc: Global) -> Result<Nla, AllocError>
         ensures equal { IfOk result (λ nla.
             nla_model nla ≡ model N.name L.numbers O.attribute self.now) }

@@ -3,7 +3,7 @@ use Rattle.capture_tables.proofs.Reporting.{reports_from_start, reports_then}
 use Rattle.capture_tables.specs.Reports.{Reports, ReportsMore}
 use Rattle.capture_tables.specs.declared.run.RunError.{RunError}
 use Rattle.sock_diag_captures.proofs.Failing.{outcome_of}
-use Rattle.sock_diag_captures.specs.RunSteps.{closing_text}
+use Rattle.sock_diag_captures.specs.private.Run.{closing_text}
 use Rattle.sock_diag_captures.proofs.list_to_status.Goals as goal
 
 pub returns-clause-outcome : goal.returns-clause-outcome

@@ -3,7 +3,7 @@
 ghost use Rattle.std.proofs.Common.{rules};
 ghost use Rattle.netlink_core.proofs.LayoutLaws.{record_laws};
 ghost use Rattle.sock_diag_families.specs.PacketResponseHeader.{packet_header};
-ghost use Rattle.sock_diag_families.specs.RecordLaws.{packet_header_sound};
+ghost use Rattle.sock_diag_families.specs.laws.Record.{packet_header_sound};
 
 use byteorder::{ByteOrder, LittleEndian};
 use netlink_core::fields::{long_words_at, words_at};

@@ -2,7 +2,7 @@
 
 ghost use Rattle.std.proofs.Common.{rules};
 ghost use Rattle.netlink_core.proofs.LayoutLaws.{record_laws};
-ghost use Rattle.sock_diag_families.specs.RecordLaws.{vsock_request_sound};
+ghost use Rattle.sock_diag_families.specs.laws.Record.{vsock_request_sound};
 ghost use Rattle.sock_diag_families.specs.VsockRequest.{vsock_request};
 
 use super::AF_VSOCK;

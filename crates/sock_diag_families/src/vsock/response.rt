@@ -3,7 +3,7 @@
 ghost use Rattle.std.proofs.Common.{rules};
 ghost use Rattle.netlink_core.proofs.LayoutLaws.{record_laws};
 ghost use Rattle.sock_diag_families.specs.VsockResponseHeader.{vsock_header};
-ghost use Rattle.sock_diag_families.specs.RecordLaws.{vsock_header_sound};
+ghost use Rattle.sock_diag_families.specs.laws.Record.{vsock_header_sound};
 
 use super::AF_VSOCK;
 use byteorder::{ByteOrder, LittleEndian};

@@ -3,7 +3,7 @@
 ghost use Rattle.std.proofs.Common.{rules};
 ghost use Rattle.netlink_core.proofs.LayoutLaws.{record_laws};
 ghost use Rattle.sock_diag_families.specs.XdpResponseHeader.{xdp_header};
-ghost use Rattle.sock_diag_families.specs.RecordLaws.{xdp_header_sound};
+ghost use Rattle.sock_diag_families.specs.laws.Record.{xdp_header_sound};
 
 use super::AF_XDP;
 use byteorder::{ByteOrder, LittleEndian};

@@ -3,7 +3,7 @@ use Rattle.std.proofs.Common.{Ok, Err, sym}
 use Rattle.std.specs.Prelude.{IfErr, codes}
 use Rattle.std.specs.Io.KnownBytes.{Appends}
 use Rattle.line_server.specs.Run.{SendsOrFails}
-use Rattle.sock_diag_lines.specs.RunSteps.{failure_line}
+use Rattle.sock_diag_lines.specs.private.Run.{failure_line}
 use Rattle.line_server.specs.declared.stream.RunError.{RunError}
 use Rattle.line_server.specs.declared.stream.RunError.TheVariants.{Read, Write, Memory}
 use Rattle.sock_diag_lines.proofs.run_to_status.Goals as goal

@@ -1,7 +1,7 @@
 //! Records that hold records are compared and copied by each of their fields.
 
 ghost use Rattle.std.proofs.Common.{rules};
-ghost use Rattle.sock_diag_records.specs.EqualRecordLaws.{request_equal, header_equal};
+ghost use Rattle.sock_diag_records.specs.laws.EqualRecord.{request_equal, header_equal};
 ghost use Rattle.sock_diag_records.specs.contracts.inet.socket_id.SocketIdExact.TheImpl.Laws.{exact-law as exact_socket};
 ghost use Rattle.sock_diag_records.specs.contracts.inet.response.TimerExact.TheImpl.Laws.{exact-law as exact_timer};
 

@@ -3,7 +3,7 @@
 ghost use Rattle.netlink_core.proofs.LayoutLaws.{record_laws};
 ghost use Rattle.sock_diag_records.specs.InetRequest.{inet_request};
 ghost use Rattle.sock_diag_records.specs.IpVersions.{IpVersions};
-ghost use Rattle.sock_diag_records.specs.InetRequestLaws.{inet_request_sound, inet_request_size};
+ghost use Rattle.sock_diag_records.specs.laws.InetRequest.{inet_request_sound, inet_request_size};
 
 use super::{ExtensionFlags, SocketId, StateFlags};
 use bitflags::Flags;
@@ -73,7 +73,7 @@ impl Record for InetRequest {
         self.socket_id.write_fields(socket_id);
     }
 
-    #[tactic(auto, unfolding(crate::specs::InetRequest::inet_request, crate::specs::SocketId::socket_id), using(crate::specs::SocketIdLaws::fit_inside))]
+    #[tactic(auto, unfolding(crate::specs::InetRequest::inet_request, crate::specs::SocketId::socket_id), using(crate::specs::laws::SocketId::fit_inside))]
     fn fields_in_range(&self) {
         let _family = self.family;
         let _protocol = self.protocol;

@@ -7,9 +7,9 @@ ghost use Rattle.netlink_core.specs.Layout.{read};
 ghost use Rattle.netlink_core.proofs.LayoutLaws.{record_laws};
 ghost use Rattle.sock_diag_records.specs.IpVersions.{IpVersions};
 ghost use Rattle.sock_diag_records.specs.InetResponse.{inet_response_header};
-ghost use Rattle.sock_diag_records.specs.InetResponseInverse.{timer_of};
+ghost use Rattle.sock_diag_records.specs.inverse.InetResponse.{timer_of};
 ghost use Rattle.sock_diag_records.specs.Timer.{class_of_byte, timer_data, milliseconds};
-ghost use Rattle.sock_diag_records.specs.InetResponseLaws.{header_sound, header_size};
+ghost use Rattle.sock_diag_records.specs.laws.InetResponse.{header_sound, header_size};
 
 use super::SocketId;
 use byteorder::{ByteOrder, LittleEndian};

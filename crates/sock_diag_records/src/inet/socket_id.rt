@@ -12,9 +12,9 @@ ghost use Rattle.std.specs.Prelude.{ℕ, slice_index, ◌<◌};
 ghost use Rattle.netlink_core.specs.Table.{Fit};
 ghost use Rattle.sock_diag_records.specs.SocketId.{IsAddress, address_fields, address_values};
 ghost use Rattle.sock_diag_records.specs.SocketId.{socket_id};
-ghost use Rattle.sock_diag_records.specs.SocketIdSteps.{address_bytes};
+ghost use Rattle.sock_diag_records.specs.private.SocketId.{address_bytes};
 ghost use Rattle.sock_diag_records.specs.IpVersions.{address_data, IpVersions};
-ghost use Rattle.sock_diag_records.specs.SocketIdLaws.{socket_id_sound, socket_id_size};
+ghost use Rattle.sock_diag_records.specs.laws.SocketId.{socket_id_sound, socket_id_size};
 ghost use Rattle.netlink_core.specs.Table.{network, array};
 
 use crate::constants::{AF_INET, AF_INET6};

@@ -4,7 +4,7 @@ ghost use Rattle.std.proofs.Common.{rules};
 ghost use Rattle.std.specs.Prelude.{refl};
 ghost use Rattle.netlink_core.proofs.LayoutLaws.{record_laws};
 ghost use Rattle.sock_diag_records.specs.UnixRequest.{unix_request};
-ghost use Rattle.sock_diag_records.specs.UnixRequestLaws.{unix_request_sound};
+ghost use Rattle.sock_diag_records.specs.laws.UnixRequest.{unix_request_sound};
 
 use super::{ShowFlags, StateFlags};
 use crate::constants::AF_UNIX;

@@ -5,7 +5,7 @@ ghost use Rattle.std.specs.Prelude.{◌≡◌, refl};
 ghost use Rattle.netlink_core.specs.Layout.{read};
 ghost use Rattle.netlink_core.proofs.LayoutLaws.{record_laws};
 ghost use Rattle.sock_diag_records.specs.UnixResponseHeader.{unix_response_header};
-ghost use Rattle.sock_diag_records.specs.UnixResponseHeaderLaws.{unix_response_header_sound};
+ghost use Rattle.sock_diag_records.specs.laws.UnixResponseHeader.{unix_response_header_sound};
 
 use crate::constants::AF_UNIX;
 use byteorder::{ByteOrder, LittleEndian};

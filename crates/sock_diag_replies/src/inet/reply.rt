@@ -3,9 +3,9 @@
 ghost use Rattle.std.specs.Prelude.{refl};
 ghost use Rattle.netlink_core.proofs.Responses.{responses_keep_laws};
 ghost use Rattle.sock_diag_replies.specs.InetResponseSpec.{inet_response_spec};
-ghost use Rattle.sock_diag_replies.specs.InetResponseSpecLaws.{header_enough};
-ghost use Rattle.sock_diag_replies.specs.InetResponseSpecLaws.{inet_response_laws};
-ghost use Rattle.sock_diag_replies.specs.InetResponseSpecLaws.{inet_test, inet_test_decides};
+ghost use Rattle.sock_diag_replies.specs.laws.InetResponseSpec.{header_enough};
+ghost use Rattle.sock_diag_replies.specs.laws.InetResponseSpec.{inet_response_laws};
+ghost use Rattle.sock_diag_replies.specs.laws.InetResponseSpec.{inet_test, inet_test_decides};
 ghost use Rattle.sock_diag_records.specs.contracts.inet.exact.InetResponseHeaderExact.TheImpl.Laws.{exact-law as exact_header};
 
 use crate::inet::InetResponseHeader;

@@ -3,9 +3,9 @@
 ghost use Rattle.std.specs.Prelude.{refl};
 ghost use Rattle.netlink_core.proofs.Responses.{responses_keep_laws};
 ghost use Rattle.sock_diag_replies.specs.UnixResponseSpec.{unix_response_spec};
-ghost use Rattle.sock_diag_replies.specs.UnixResponseSpecLaws.{header_enough};
-ghost use Rattle.sock_diag_replies.specs.UnixResponseSpecLaws.{unix_response_laws};
-ghost use Rattle.sock_diag_replies.specs.UnixResponseSpecLaws.{unix_test, unix_test_decides};
+ghost use Rattle.sock_diag_replies.specs.laws.UnixResponseSpec.{header_enough};
+ghost use Rattle.sock_diag_replies.specs.laws.UnixResponseSpec.{unix_response_laws};
+ghost use Rattle.sock_diag_replies.specs.laws.UnixResponseSpec.{unix_test, unix_test_decides};
 ghost use Rattle.sock_diag_records.specs.contracts.unix.response.UnixResponseHeaderExact.TheImpl.Laws.{exact-law as exact_header};
 
 use crate::reply::{emit_reply_view, reply_view_len, same_views};

@@ -7,9 +7,9 @@ ghost use Rattle.netlink_core.specs.Layout.{read, bytes, values};
 ghost use Rattle.netlink_core.proofs.LayoutLaws.{record_laws};
 ghost use Rattle.netlink_core.specs.Table.{Fit};
 ghost use Rattle.sock_diag_values.specs.MemInfo.{words_in, mem_info, held_bytes};
-ghost use Rattle.sock_diag_values.specs.MemInfoLaws.{mem_info_sound};
-ghost use Rattle.sock_diag_values.specs.MemInfoEqualLaws.{buffer_equal, bytes_equal};
-ghost use Rattle.sock_diag_values.specs.MemInfoEqualLaws.{mem_info_equal};
+ghost use Rattle.sock_diag_values.specs.laws.MemInfo.{mem_info_sound};
+ghost use Rattle.sock_diag_values.specs.laws.MemInfoEqual.{buffer_equal, bytes_equal};
+ghost use Rattle.sock_diag_values.specs.laws.MemInfoEqual.{mem_info_equal};
 ghost use Rattle.byteorder.specs.Endian.{little_number};
 ghost use Rattle.netlink_core.specs.Table.{number, array};
 

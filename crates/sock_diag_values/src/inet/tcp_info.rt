@@ -5,11 +5,11 @@ ghost use Rattle.std.proofs.Common.{rules};
 ghost use Rattle.netlink_core.specs.Layout.{read};
 ghost use Rattle.netlink_core.proofs.LayoutLaws.{record_laws};
 ghost use Rattle.sock_diag_values.specs.TcpInfo.{tcp_info};
-ghost use Rattle.sock_diag_values.specs.TcpInfoSteps.{states, counts, ages, metrics, receiver};
-ghost use Rattle.sock_diag_values.specs.TcpInfoSteps.{rates, segments, limits, deliveries, totals};
-ghost use Rattle.sock_diag_values.specs.TcpInfoSteps.{reorderings, front, middle, back};
-ghost use Rattle.sock_diag_values.specs.TcpInfoEqualLaws.{tcp_info_equal};
-ghost use Rattle.sock_diag_values.specs.TcpInfoLaws.{tcp_info_sound};
+ghost use Rattle.sock_diag_values.specs.private.TcpInfo.{states, counts, ages, metrics, receiver};
+ghost use Rattle.sock_diag_values.specs.private.TcpInfo.{rates, segments, limits, deliveries, totals};
+ghost use Rattle.sock_diag_values.specs.private.TcpInfo.{reorderings, front, middle, back};
+ghost use Rattle.sock_diag_values.specs.laws.TcpInfoEqual.{tcp_info_equal};
+ghost use Rattle.sock_diag_values.specs.laws.TcpInfo.{tcp_info_sound};
 
 use byteorder::{ByteOrder, LittleEndian};
 use netlink_core::fields::{
@@ -275,7 +275,7 @@ impl Record for TcpInfo {
 }
 
 impl Fills<232> for TcpInfo {
-    ghost use Rattle.sock_diag_values.specs.TcpInfoLaws.{tcp_info_long};
+    ghost use Rattle.sock_diag_values.specs.laws.TcpInfo.{tcp_info_long};
 
     ghost fills = { tcp_info_long };
 }

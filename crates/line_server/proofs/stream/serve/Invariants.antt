@@ -1,6 +1,6 @@
 use Rattle.std.proofs.Common.{◌≡◌, List, ℕ, []}
 use Rattle.line_server.specs.Run.{answer_lines}
-use Rattle.line_server.specs.RunSteps.{IsLine, all_good}
+use Rattle.line_server.specs.private.Run.{IsLine, all_good}
 use Rattle.line_server.proofs.RunLemmas.{Exchange}
 use Rattle.line_server.proofs.stream.serve.Given as goal
 

@@ -2,7 +2,7 @@ use Rattle.std.proofs.Common.{◌≡◌, ◌≤◌, List, ℕ, ◌++◌, length}
 use Rattle.std.specs.List.{slice_split}
 use Rattle.memchr.specs.Find.{is_byte}
 use Rattle.line_server.specs.Run.{answer_lines}
-use Rattle.line_server.specs.RunSteps.{IsLine, all_good}
+use Rattle.line_server.specs.private.Run.{IsLine, all_good}
 use Rattle.line_server.proofs.stream.take_piece.Given as goal
 
 -- the lines that were taken so far, before the rest

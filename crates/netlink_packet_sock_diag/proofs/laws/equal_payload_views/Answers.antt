@@ -4,7 +4,7 @@ use mir.Syntax.{named}
 use denote.Slice.{ShrSlice}
 use lib.Pointwise.{bytes_decides}
 use Rattle.netlink_packet_sock_diag.specs.contracts.message.SockDiagView as view
-use Rattle.netlink_packet_sock_diag.specs.EqualMessageLaws.{view_equal}
+use Rattle.netlink_packet_sock_diag.specs.laws.EqualMessage.{view_equal}
 use Rattle.netlink_packet_sock_diag.specs.MessageViewModel.{message_view_model}
 use Rattle.netlink_packet_sock_diag.proofs.EqualPayloads.{payload_equal}
 use Rattle.netlink_packet_sock_diag.proofs.laws.equal_payload_views.Goals as goal

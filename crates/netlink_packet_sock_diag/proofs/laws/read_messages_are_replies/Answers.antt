@@ -1,4 +1,4 @@
-use Rattle.netlink_packet_sock_diag.specs.MessageLaws.{read_reply}
+use Rattle.netlink_packet_sock_diag.specs.laws.Message.{read_reply}
 use Rattle.netlink_packet_sock_diag.proofs.laws.read_messages_are_replies.Goals as goal
 
 pub returns : goal.returns

@@ -1,6 +1,6 @@
 use Rattle.netlink_core.specs.Items.{ItemIs}
 use Rattle.netlink_packet_sock_diag.specs.Message.{message_codec}
-use Rattle.netlink_packet_sock_diag.specs.MessageLaws.{message_laws}
+use Rattle.netlink_packet_sock_diag.specs.laws.Message.{message_laws}
 use Rattle.netlink_packet_sock_diag.proofs.DumpRows.{one_list_of, same_items_feeds, some_items}
 use Rattle.netlink_packet_sock_diag.proofs.laws.same_items_change_no_feed.Goals as goal
 

@@ -1,6 +1,6 @@
 use Rattle.netlink_packet_sock_diag.specs.Lossy.{EntryIs}
 use Rattle.netlink_packet_sock_diag.specs.Message.{message_codec}
-use Rattle.netlink_packet_sock_diag.specs.MessageLaws.{message_laws}
+use Rattle.netlink_packet_sock_diag.specs.laws.Message.{message_laws}
 use Rattle.netlink_packet_sock_diag.proofs.DumpRows.{same_items_feeds}
 use Rattle.netlink_packet_sock_diag.proofs.LossyDumps.{one_list_of_entries, some_entries}
 use Rattle.netlink_packet_sock_diag.proofs.laws.same_items_change_no_lossy_feed.Goals as goal

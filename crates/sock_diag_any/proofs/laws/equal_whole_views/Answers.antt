@@ -1,5 +1,5 @@
 use Rattle.std.proofs.Common.{[]}
-use Rattle.sock_diag_replies.specs.EqualResponseLaws.{response_test_decides}
+use Rattle.sock_diag_replies.specs.laws.EqualResponse.{response_test_decides}
 use Rattle.sock_diag_replies.specs.ViewModel.{view_model}
 use Rattle.sock_diag_any.proofs.laws.equal_whole_views.Goals as goal
 

@@ -1,9 +1,9 @@
 use Rattle.std.proofs.Common.{ℕ, List, Bor, refl}
 use Rattle.netlink_core.specs.Walk.{attribute_of}
-use Rattle.sock_diag_attributes.specs.EqualUnixLaws.{equal, list_views_model}
-use Rattle.sock_diag_attributes.specs.EqualNameLaws.{same_names}
-use Rattle.sock_diag_attributes.specs.LentLaws.{buffer_row, name_view_row, numbers_row}
-use Rattle.sock_diag_attributes.specs.LentLaws.{text_view_row}
+use Rattle.sock_diag_attributes.specs.laws.EqualUnix.{equal, list_views_model}
+use Rattle.sock_diag_attributes.specs.laws.EqualName.{same_names}
+use Rattle.sock_diag_attributes.specs.laws.Lent.{buffer_row, name_view_row, numbers_row}
+use Rattle.sock_diag_attributes.specs.laws.Lent.{text_view_row}
 use Rattle.sock_diag_attributes.specs.NameModel.{name_of}
 use Rattle.sock_diag_attributes.specs.NumbersModel.{numbers_view_model}
 use Rattle.sock_diag_attributes.proofs.laws.equal_unix_views.Goals as goal

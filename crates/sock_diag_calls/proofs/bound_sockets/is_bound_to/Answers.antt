@@ -1,8 +1,8 @@
 use Rattle.std.proofs.Common.{◌≡◌, ◌↔◌, ℕ, Bool, Bor, IsTrue, List, Option, None, Some, ap}
 use Rattle.std.proofs.Common.{refl, sym}
 use Rattle.std.specs.Option.{option_eq, option_map}
-use Rattle.sock_diag_attributes.specs.EqualNameLaws.{names_equal}
-use Rattle.sock_diag_attributes.specs.LentLaws.{text_view_row}
+use Rattle.sock_diag_attributes.specs.laws.EqualName.{names_equal}
+use Rattle.sock_diag_attributes.specs.laws.Lent.{text_view_row}
 use Rattle.sock_diag_attributes.specs.NameModel.{name_of}
 use Rattle.sock_diag_attributes.specs.declared.unix.name.SocketName.{SocketName}
 use Rattle.sock_diag_attributes.specs.declared.unix.name.SocketName.TheVariants.{Pathname}

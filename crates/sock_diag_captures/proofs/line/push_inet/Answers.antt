@@ -2,7 +2,7 @@ use Rattle.std.proofs.Common.{arith, sym}
 use Rattle.std.proofs.lemmas.List.{take_rest}
 use Rattle.netlink_core.proofs.LayoutLaws.{accepted}
 use Rattle.sock_diag_records.specs.InetResponse.{inet_response_header}
-use Rattle.sock_diag_records.specs.InetResponseLaws.{header_size}
+use Rattle.sock_diag_records.specs.laws.InetResponse.{header_size}
 use Rattle.sock_diag_captures.proofs.line.push_inet.Goals as goal
 
 pub slice_bounds-attributes-count : goal.slice_bounds-attributes-count

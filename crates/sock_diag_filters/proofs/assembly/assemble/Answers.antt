@@ -4,7 +4,7 @@ use Rattle.std.proofs.Common.{rules}
 use Rattle.std.proofs.Math.Seq.{take-append_seam}
 use Rattle.sock_diag_filters.specs.declared.condition.Condition.{Condition}
 use Rattle.sock_diag_filters.specs.Conditions.{arguments, code_of}
-use Rattle.sock_diag_filters.specs.AssemblySteps.{program_of}
+use Rattle.sock_diag_filters.specs.private.Assembly.{program_of}
 use Rattle.sock_diag_filters.specs.Filters.{meaning, size}
 use Rattle.sock_diag_filters.specs.Run.{Runs}
 use Rattle.sock_diag_filters.specs.Sockets.{found_by}

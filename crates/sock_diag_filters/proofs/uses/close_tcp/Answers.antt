@@ -1,7 +1,7 @@
 use Rattle.std.proofs.Common.{◌≡◌, ◌∙◌, ℕ, List, [], ◌++◌, ap, arith, drop, rules, append-nil}
 use Rattle.std.specs.Prelude.{replicate}
 use Rattle.netlink_core.specs.declared.header.NetlinkHeader.{NetlinkHeader}
-use Rattle.sock_diag_records.specs.InetRequestLaws.{request_pieces}
+use Rattle.sock_diag_records.specs.laws.InetRequest.{request_pieces}
 use Rattle.sock_diag_records.specs.declared.inet.request.InetRequest.{InetRequest}
 use Rattle.sock_diag_filters.specs.Requests.{request_bytes}
 use Rattle.sock_diag_filters.specs.Uses.{asked_header, asked_tcp}

@@ -3,7 +3,7 @@ use Rattle.std.proofs.lemmas.Result.{err_from_is_err_and}
 use Rattle.netlink_core.proofs.Walking.{walk_begins, walk_ends, walk_goes_on, walk_is_cut_off}
 use Rattle.netlink_core.proofs.Walking.{walk_is_refused}
 use Rattle.sock_diag_filters.specs.Asked.{decodes_asked}
-use Rattle.sock_diag_filters.specs.AskedSteps.{asked_or_nothing}
+use Rattle.sock_diag_filters.specs.private.Asked.{asked_or_nothing}
 use Rattle.sock_diag_filters.proofs.Asking.{keeps_more}
 use Rattle.sock_diag_filters.proofs.view.find_attributes.Goals as goal
 

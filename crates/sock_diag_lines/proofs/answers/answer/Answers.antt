@@ -1,6 +1,6 @@
 use Rattle.std.proofs.Common.{◌≡◌, [], List, ℕ}
 use Rattle.sock_diag_lines.specs.Answer.{IsAnswerOf}
-use Rattle.sock_diag_lines.specs.TextSteps.{Adds}
+use Rattle.sock_diag_lines.specs.private.Text.{Adds}
 use Rattle.sock_diag_lines.proofs.AnswerLemmas.{answers_as_idle, datagrams_in_range}
 use Rattle.sock_diag_lines.proofs.DumpLaws.{answers_same_items, answers_split, one_dump_text}
 use Rattle.sock_diag_lines.proofs.answers.answer.Goals as goal

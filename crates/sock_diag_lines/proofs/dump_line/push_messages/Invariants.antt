@@ -2,7 +2,7 @@ use Rattle.std.proofs.Common.{◌≡◌, ◌++◌, drop, map}
 use Rattle.std.specs.List.{AllByRecursion, flat_map}
 use Rattle.netlink_packet_sock_diag.specs.Message.{message_codec}
 use Rattle.netlink_packet_sock_diag.specs.MessageModel.{message_model}
-use Rattle.sock_diag_lines.specs.ReadDumpSteps.{message_text}
+use Rattle.sock_diag_lines.specs.private.ReadDump.{message_text}
 use Rattle.sock_diag_lines.proofs.dump_line.push_messages.Given as goal
 
 -- what was added and what is left to be added make the whole

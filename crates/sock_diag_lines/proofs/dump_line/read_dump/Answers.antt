@@ -3,7 +3,7 @@ use Rattle.std.proofs.lemmas.List.{length-drop, take_rest}
 use Rattle.std.specs.List.{slice_split}
 use Rattle.netlink_packet_sock_diag.specs.Feed.{DumpProgress, end_so_far}
 use Rattle.netlink_packet_sock_diag.specs.Message.{Message}
-use Rattle.sock_diag_lines.specs.TextSteps.{is_space}
+use Rattle.sock_diag_lines.specs.private.Text.{is_space}
 use Rattle.sock_diag_lines.proofs.FieldLists.{each_has_bytes}
 use Rattle.sock_diag_lines.proofs.dump_line.read_dump.Goals as goal
 

@@ -5,7 +5,7 @@ use Rattle.std.proofs.lemmas.List.Elements.{All-nil}
 use Rattle.std.proofs.lemmas.List.Splits.{slice_split_none}
 use Rattle.memchr.specs.Find.{IsFirstByte, is_byte}
 use Rattle.line_server.proofs.LinesLemmas.{cut_at_first, split_at_first, without_first}
-use Rattle.sock_diag_lines.specs.TextSteps.{IsFirstSpace, is_space}
+use Rattle.sock_diag_lines.specs.private.Text.{IsFirstSpace, is_space}
 use Rattle.sock_diag_lines.proofs.fields.find_space.Goals as goal
 
 by_place : (line : List ℕ) (found : Option ℕ) → IsFirstByte (is_byte 32) line found

@@ -1,7 +1,7 @@
 use Rattle.std.proofs.Common.{◌∙◌, slice_index, sym, ap, refl, arith}
 use Rattle.netlink_core.proofs.SignificantBits.{equivalent_by_condition, equal_first_bytes}
 use Rattle.sock_diag_records.specs.InetRequest.{inet_request}
-use Rattle.sock_diag_records.specs.InetRequestLaws.{inet_request_sound}
+use Rattle.sock_diag_records.specs.laws.InetRequest.{inet_request_sound}
 use Rattle.sock_diag_records.specs.IpVersions.{versions_of_family}
 use Rattle.sock_diag_records.specs.SignificantBits.{IsInetFamily, inet_request_masks}
 use Rattle.sock_diag_records.proofs.Masks.{is_inet_family, has_versions, masks_of_request}

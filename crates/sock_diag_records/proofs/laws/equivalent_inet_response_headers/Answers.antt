@@ -1,7 +1,7 @@
 use Rattle.std.proofs.Common.{◌∙◌, ℕ, slice_index, sym, ap, refl, arith}
 use Rattle.netlink_core.proofs.SignificantBits.{equivalent_by_condition, equal_first_bytes}
 use Rattle.sock_diag_records.specs.InetResponse.{inet_response_header}
-use Rattle.sock_diag_records.specs.InetResponseLaws.{header_sound}
+use Rattle.sock_diag_records.specs.laws.InetResponse.{header_sound}
 use Rattle.sock_diag_records.specs.IpVersions.{IpVersions, versions_of_family}
 use Rattle.sock_diag_records.specs.SignificantBits.{IsInetFamily, SameTimerClass}
 use Rattle.sock_diag_records.specs.SignificantBits.{inet_response_header_masks}

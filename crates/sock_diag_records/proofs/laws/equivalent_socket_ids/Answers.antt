@@ -1,7 +1,7 @@
 use Rattle.netlink_core.proofs.SignificantBits.{equivalent_by_condition}
 use Rattle.sock_diag_records.specs.SignificantBits.{IsInetFamily, socket_id_masks}
 use Rattle.sock_diag_records.specs.SocketId.{socket_id}
-use Rattle.sock_diag_records.specs.SocketIdLaws.{socket_id_sound}
+use Rattle.sock_diag_records.specs.laws.SocketId.{socket_id_sound}
 use Rattle.sock_diag_records.proofs.Masks.{is_inet_family, has_versions, masks_of_socket_id}
 use Rattle.sock_diag_records.proofs.laws.equivalent_socket_ids.Goals as goal
 

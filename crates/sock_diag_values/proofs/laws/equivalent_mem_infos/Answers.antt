@@ -4,7 +4,7 @@ use Rattle.netlink_core.specs.Layout.{table}
 use Rattle.netlink_core.proofs.TableLaws.{live_bits}
 use Rattle.netlink_core.proofs.SignificantBits.{equivalent_by_condition}
 use Rattle.sock_diag_values.specs.MemInfo.{mem_info, words_in}
-use Rattle.sock_diag_values.specs.MemInfoLaws.{mem_info_sound}
+use Rattle.sock_diag_values.specs.laws.MemInfo.{mem_info_sound}
 use Rattle.sock_diag_values.specs.SignificantBits.{mem_info_masks, word_count}
 use Rattle.sock_diag_values.proofs.laws.equivalent_mem_infos.Goals as goal
 

@@ -1,7 +1,7 @@
 use Rattle.std.proofs.Common.{◌≡◌, ◌∙◌, [], ◌++◌, length, arith, ap}
 use Rattle.byteorder.specs.Endian.{little_bytes}
 use Rattle.std.proofs.lemmas.List.{append-nil}
-use Rattle.sock_diag_records.specs.InetRequestLaws.{request_length}
+use Rattle.sock_diag_records.specs.laws.InetRequest.{request_length}
 use Rattle.sockdiag_c.proofs.Whole.{an_attribute, message_written, no_attribute}
 use Rattle.sockdiag_c.proofs.requests.write_inet.Goals as goal
 

@@ -1,5 +1,5 @@
 use Rattle.std.proofs.Common.{arith}
-use Rattle.netlink_core.specs.PrefixLaws.{has_prefix}
+use Rattle.netlink_core.specs.laws.Prefix.{has_prefix}
 use Rattle.netlink_core.proofs.attribute.NlaBuffer.new_checked.Goals as goal
 
 pub returns : goal.returns

@@ -1,7 +1,7 @@
 use Rattle.std.proofs.Common.{arith}
 use Rattle.std.proofs.Common.{refl}
 use Rattle.std.proofs.lemmas.Result.{err_from_is_err_and}
-use Rattle.netlink_core.specs.FirstAttributeLaws.{kept_is_read}
+use Rattle.netlink_core.specs.laws.FirstAttribute.{kept_is_read}
 use Rattle.netlink_core.specs.Walk.{attribute_of}
 use Rattle.netlink_core.proofs.nla.DefaultNlaParseableNlaBuffer.parse.Goals as goal
 

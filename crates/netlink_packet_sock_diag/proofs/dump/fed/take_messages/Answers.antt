@@ -7,7 +7,7 @@ use Rattle.netlink_core.specs.declared.message.NetlinkPayload.TheVariants.{Overr
 use Rattle.netlink_core.proofs.Items.{no_items}
 use Rattle.netlink_packet_sock_diag.proofs.Dumping.{closes, cut_off, ends_at, here}
 use Rattle.netlink_packet_sock_diag.proofs.Dumping.{passes, stops_at}
-use Rattle.netlink_packet_sock_diag.specs.KeptLaws.{no_fault_in_message}
+use Rattle.netlink_packet_sock_diag.specs.laws.Kept.{no_fault_in_message}
 use Rattle.netlink_packet_sock_diag.proofs.dump.fed.take_messages.Goals as goal
 
 pub loop-item-init : goal.loop-item-init

@@ -1,6 +1,6 @@
 use Rattle.std.proofs.Common.{arith}
 use Rattle.std.proofs.lemmas.Result.{err_from_is_err_and}
-use Rattle.netlink_packet_sock_diag.specs.MessageLaws.{kind_by_first_byte}
+use Rattle.netlink_packet_sock_diag.specs.laws.Message.{kind_by_first_byte}
 use Rattle.netlink_packet_sock_diag.proofs.message.SockDiagView.parse.Goals as goal
 
 pub returns-in_err-parse-in-1-clause-fault : goal.returns-in_err-parse-in-1-clause-fault

@@ -1,6 +1,6 @@
 use Rattle.std.proofs.Common.{◌≡◌, length, sym, ◌∙◌, arith}
 use Rattle.std.proofs.lemmas.List.{take_at}
-use Rattle.sock_diag_attributes.specs.NumberLaws.{places}
+use Rattle.sock_diag_attributes.specs.laws.Number.{places}
 use Rattle.sock_diag_attributes.proofs.numbers.NumbersView.to_owned.Goals as goal
 
 pub returns-clause-equal : goal.returns-clause-equal

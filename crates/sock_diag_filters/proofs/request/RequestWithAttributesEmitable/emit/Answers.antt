@@ -1,7 +1,7 @@
 use Rattle.std.proofs.lemmas.Grind.{common_steps}
 use Rattle.std.proofs.Common.{arith}
 use Rattle.std.specs.Prelude.{map}
-use Rattle.sock_diag_records.specs.InetRequestLaws.{request_length}
+use Rattle.sock_diag_records.specs.laws.InetRequest.{request_length}
 use Rattle.sock_diag_filters.specs.Requests.{attribute_of}
 use Rattle.sock_diag_filters.proofs.Requesting.{all_written, message_length}
 use Rattle.sock_diag_filters.proofs.request.RequestWithAttributesEmitable.emit.Goals as goal

@@ -1,6 +1,6 @@
 use Rattle.netlink_core.specs.Walk.{attribute_of}
 use Rattle.sock_diag_attributes.specs.InetAttributes.{inet}
-use Rattle.sock_diag_attributes.specs.InetAttributeLaws.{inet_laws}
+use Rattle.sock_diag_attributes.specs.laws.InetAttribute.{inet_laws}
 use Rattle.sock_diag_attributes.proofs.Reading.{refused_wants_none, unkept_wants}
 use Rattle.sock_diag_attributes.proofs.inet.coded.NlaWire.read.Goals as goal
 

@@ -3,7 +3,7 @@ use Rattle.netlink_core.specs.FirstAttribute.{first_attribute_codec}
 use Rattle.netlink_core.specs.Walk.{attribute_of}
 use Rattle.netlink_core.proofs.Rewriting.{gives_up}
 use Rattle.sock_diag_attributes.specs.InetAttributes.{inet}
-use Rattle.sock_diag_attributes.specs.InetAttributeLaws.{inet_laws}
+use Rattle.sock_diag_attributes.specs.laws.InetAttribute.{inet_laws}
 use Rattle.sock_diag_attributes.specs.InetModel.{nla_view_model}
 use Rattle.sock_diag_attributes.proofs.Reading.{refused_has_no_form}
 use Rattle.sock_diag_attributes.proofs.inet.coded.NlaWire.rewrite.Goals as goal

@@ -1,7 +1,7 @@
-use Rattle.netlink_core.specs.FirstAttributeLaws.{value_is_read}
+use Rattle.netlink_core.specs.laws.FirstAttribute.{value_is_read}
 use Rattle.netlink_core.specs.Walk.{attribute_of}
 use Rattle.sock_diag_attributes.specs.InetAttributes.{inet}
-use Rattle.sock_diag_attributes.specs.InetAttributeLaws.{inet_laws}
+use Rattle.sock_diag_attributes.specs.laws.InetAttribute.{inet_laws}
 use Rattle.sock_diag_attributes.proofs.Reading.{refused_wants_none, unkept_wants}
 use Rattle.sock_diag_attributes.proofs.inet.nlas.NlaParseableNlaBuffer.parse.Goals as goal
 

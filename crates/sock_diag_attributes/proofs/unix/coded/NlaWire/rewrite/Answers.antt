@@ -3,7 +3,7 @@ use Rattle.netlink_core.specs.FirstAttribute.{first_attribute_codec}
 use Rattle.netlink_core.specs.Walk.{attribute_of}
 use Rattle.netlink_core.proofs.Rewriting.{gives_up}
 use Rattle.sock_diag_attributes.specs.UnixAttributes.{unix}
-use Rattle.sock_diag_attributes.specs.UnixAttributeLaws.{unix_laws}
+use Rattle.sock_diag_attributes.specs.laws.UnixAttribute.{unix_laws}
 use Rattle.sock_diag_attributes.specs.UnixModel.{nla_view_model}
 use Rattle.sock_diag_attributes.proofs.Reading.{refused_has_no_form}
 use Rattle.sock_diag_attributes.proofs.unix.coded.NlaWire.rewrite.Goals as goal

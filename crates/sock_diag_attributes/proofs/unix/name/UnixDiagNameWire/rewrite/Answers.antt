@@ -7,7 +7,7 @@ use Rattle.netlink_core.specs.declared.canon.CanonError.TheVariants as canon
 use Rattle.netlink_core.specs.Canonical.{GivesUp}
 use Rattle.netlink_core.proofs.Rewriting.{gives_up}
 use Rattle.sock_diag_attributes.specs.Name.{name_codec, read_name}
-use Rattle.sock_diag_attributes.specs.NameLaws.{name_keeps_laws}
+use Rattle.sock_diag_attributes.specs.laws.Name.{name_keeps_laws}
 use Rattle.sock_diag_attributes.specs.NameModel.{name_of}
 use Rattle.sock_diag_attributes.proofs.unix.name.UnixDiagNameWire.rewrite.Goals as goal
 

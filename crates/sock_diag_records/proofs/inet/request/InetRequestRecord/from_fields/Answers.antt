@@ -8,8 +8,8 @@ use Rattle.netlink_core.proofs.LayoutLaws.{accepts, accepted_fields}
 use Rattle.netlink_core.proofs.Congruence.{◌⊛◌}
 use Rattle.netlink_core.specs.declared.fault.DecodeError.{DecodeError}
 use Rattle.sock_diag_records.specs.SocketId.{socket_id}
-use Rattle.sock_diag_records.specs.SocketIdLaws.{values-at_end}
-use Rattle.sock_diag_records.specs.SocketIdInverse.{socket_id_of}
+use Rattle.sock_diag_records.specs.laws.SocketId.{values-at_end}
+use Rattle.sock_diag_records.specs.inverse.SocketId.{socket_id_of}
 use Rattle.sock_diag_records.specs.InetRequest.{inet_request}
 use Rattle.sock_diag_records.specs.declared.inet.request.InetRequest.{InetRequest}
 use Rattle.sock_diag_records.specs.declared.inet.socket_id.SocketId.{SocketId}

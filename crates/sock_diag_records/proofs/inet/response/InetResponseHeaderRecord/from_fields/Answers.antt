@@ -2,11 +2,11 @@ use Rattle.std.proofs.Common.{drop, slice_index, sym, ap, ◌∙◌}
 use Rattle.std.proofs.lemmas.List.{take_rest}
 use Rattle.netlink_core.proofs.LayoutLaws.{accepts, accepted_fields}
 use Rattle.sock_diag_records.specs.SocketId.{socket_id}
-use Rattle.sock_diag_records.specs.SocketIdInverse.{socket_id_of}
-use Rattle.sock_diag_records.specs.InetResponseLaws.{header_is, with_class, class_lt}
+use Rattle.sock_diag_records.specs.inverse.SocketId.{socket_id_of}
+use Rattle.sock_diag_records.specs.laws.InetResponse.{header_is, with_class, class_lt}
 use Rattle.sock_diag_records.specs.InetResponse.{inet_response_header}
 use Rattle.sock_diag_records.specs.Timer.{class_of_byte}
-use Rattle.sock_diag_records.specs.SocketIdLaws.{values-inside}
+use Rattle.sock_diag_records.specs.laws.SocketId.{values-inside}
 use Rattle.sock_diag_records.proofs.inet.response.InetResponseHeaderRecord.from_fields.Goals as goal
 
 pub returns : goal.returns

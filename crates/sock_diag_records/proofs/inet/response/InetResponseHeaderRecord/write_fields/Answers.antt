@@ -1,5 +1,5 @@
 use Rattle.std.proofs.Common.{arith}
-use Rattle.sock_diag_records.specs.InetResponseLaws.{header_long}
+use Rattle.sock_diag_records.specs.laws.InetResponse.{header_long}
 use Rattle.sock_diag_records.proofs.inet.response.InetResponseHeaderRecord.write_fields.Goals as goal
 
 pub write_u32_into-requires : goal.write_u32_into-requires

@@ -1,8 +1,8 @@
 use Rattle.std.proofs.Common.{arith}
 use Rattle.netlink_core.proofs.ValueTests.{value_test}
-use Rattle.sock_diag_attributes.specs.EqualInetLaws.{inet_tests, tests}
-use Rattle.sock_diag_attributes.specs.LentLaws.{buffer_row, text_view_row}
-use Rattle.sock_diag_replies.specs.EqualResponseLaws.{then_rest}
+use Rattle.sock_diag_attributes.specs.laws.EqualInet.{inet_tests, tests}
+use Rattle.sock_diag_attributes.specs.laws.Lent.{buffer_row, text_view_row}
+use Rattle.sock_diag_replies.specs.laws.EqualResponse.{then_rest}
 use Rattle.sock_diag_replies.proofs.inet.reply.InetResponseHeaderReplyHeader.is_same.Goals as goal
 
 pub returns-then-eq : goal.returns-then-eq

@@ -1,14 +1,14 @@
 use Rattle.std.proofs.Common.{ℕ, List, Bor, refl, arith}
 use Rattle.netlink_core.proofs.ValueTests.{value_test}
 use Rattle.netlink_core.specs.Walk.{attribute_of}
-use Rattle.sock_diag_attributes.specs.EqualNameLaws.{same_names}
-use Rattle.sock_diag_attributes.specs.EqualUnixLaws.{unix_tests, tests, list_views_model}
-use Rattle.sock_diag_attributes.specs.LentLaws.{buffer_row, name_view_row, numbers_row}
-use Rattle.sock_diag_attributes.specs.LentLaws.{text_view_row}
+use Rattle.sock_diag_attributes.specs.laws.EqualName.{same_names}
+use Rattle.sock_diag_attributes.specs.laws.EqualUnix.{unix_tests, tests, list_views_model}
+use Rattle.sock_diag_attributes.specs.laws.Lent.{buffer_row, name_view_row, numbers_row}
+use Rattle.sock_diag_attributes.specs.laws.Lent.{text_view_row}
 use Rattle.sock_diag_attributes.specs.NameModel.{name_of}
 use Rattle.sock_diag_attributes.specs.NumbersModel.{numbers_view_model}
 use Rattle.sock_diag_attributes.specs.UnixAttributes.{unix}
-use Rattle.sock_diag_replies.specs.EqualResponseLaws.{then_rest}
+use Rattle.sock_diag_replies.specs.laws.EqualResponse.{then_rest}
 use Rattle.sock_diag_replies.proofs.unix.reply.UnixResponseHeaderReplyHeader.is_same.Goals as goal
 
 pub returns-then-eq : goal.returns-then-eq

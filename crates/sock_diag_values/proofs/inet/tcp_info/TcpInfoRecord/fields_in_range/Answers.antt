@@ -1,5 +1,5 @@
 use Rattle.sock_diag_values.specs.TcpInfo.{tcp_info}
-use Rattle.sock_diag_values.specs.TcpInfoSteps.{states}
+use Rattle.sock_diag_values.specs.private.TcpInfo.{states}
 use Rattle.netlink_core.proofs.FieldReads.{fit-bytes}
 use Rattle.sock_diag_values.proofs.inet.tcp_info.TcpInfoRecord.fields_in_range.Goals as goal
 

@@ -3,7 +3,7 @@ use Rattle.netlink_core.proofs.Congruence.{◌⊛◌}
 use Rattle.netlink_core.specs.declared.fault.DecodeError.{DecodeError}
 use Rattle.sock_diag_values.specs.declared.inet.tcp_info.TcpInfo.{TcpInfo}
 use Rattle.sock_diag_values.specs.TcpInfo.{tcp_info}
-use Rattle.sock_diag_values.specs.TcpInfoInverse.{with_fields}
+use Rattle.sock_diag_values.specs.inverse.TcpInfo.{with_fields}
 use Rattle.sock_diag_values.proofs.inet.tcp_info.TcpInfoRecord.from_fields.Goals as goal
 
 abbrev found : TcpInfo → Result TcpInfo DecodeError

@@ -1,0 +1,7 @@
+-- Lemmas about the definitions, and what the lemmas need.
+pub mod Byte
+pub mod Sound
+pub mod Shown
+pub mod Prefix
+pub mod AttributeSet
+pub mod FirstAttribute

@@ -1,0 +1,128 @@
+-- The attribute at the start of a string, or the fault there.
+use Rattle.std.proofs.Common.{Result, Ok, Err, ◌≡◌, ◌∙◌, ◌⊎◌, inl, inr, ℕ, ◌+◌}
+use Rattle.std.proofs.Common.{◌-◌, ◌*◌, ◌/◌, ◌%◌, ◌^◌, ◌≤◌, List, [], ◌∷◌, ◌++◌}
+use Rattle.std.proofs.Common.{suc, length, take, drop, refl, sym, ap, arith, ◌<◌}
+use Rattle.std.proofs.lemmas.List.{take-append-drop, length-take, length-append, take_all}
+use Rattle.byteorder.specs.Endian.{little_number}
+use Rattle.netlink_core.specs.declared.fault.DecodeError.{DecodeError}
+use Rattle.netlink_core.specs.declared.fault.DecodeError.TheVariants.{AttributeHeaderCut}
+use Rattle.netlink_core.specs.declared.fault.DecodeError.TheVariants.{AttributeLengthUnder4}
+use Rattle.netlink_core.specs.declared.fault.DecodeError.TheVariants.{AttributeLengthPast}
+use Rattle.netlink_core.specs.Bytes.{IsBytes}
+use Rattle.netlink_core.specs.Attribute.{Attribute, unpadded}
+use Rattle.netlink_core.specs.Attribute.{written, HasPrefix, IsFramingFault, IsPrefixFault}
+use Rattle.netlink_core.specs.laws.Byte.{IsBytes-append, IsBytes-left, IsBytes-number}
+use Rattle.netlink_core.specs.laws.Byte.{IsBytes-zeros}
+
+-- a type word of 16 bits, and a value whose length word is one of 16 bits
+abbrev pub FitsWords : Attribute → Type 0
+FitsWords a = (a.type_word < 2 ^ 16) × (length a.value ≤ 65531)
+
+-- a type word of 16 bits, and a value of bytes
+abbrev pub IsAttributeInRange : Attribute → Type 0
+IsAttributeInRange a = (a.type_word < 2 ^ 16) × IsBytes a.value
+
+-- ---- the attribute at the start
+
+-- what stands between the header and the length word's end is the value
+pub has_prefix : (bytes : List ℕ) (word type_word : ℕ) → IsBytes bytes
+    → word ≡ little_number 2 bytes
+    → type_word ≡ little_number 2 (take (length bytes - 2) (drop 2 bytes))
+    → 4 ≤ word → word ≤ length bytes
+    → HasPrefix bytes (record { type_word = type_word; value = take (word - 4) (drop 4 bytes) })
+has_prefix (a ∷ b ∷ c ∷ d ∷ tail) word type_word fits word-is type-given low high =
+    let number : type_word ≡ c + 256 * (d + 256 * 0) =
+    type-given ∙ ap (little_number 2) (take_all _ (c ∷ d ∷ tail) (omega arith)) in
+    let len : length (take (word - 4) tail) ≡ word - 4 =
+    omega (arith, length-take (word - 4) tail) in
+    let words : (a ≡ (4 + length (take (word - 4) tail)) % 256)
+    × (b ≡ (4 + length (take (word - 4) tail)) / 256 % 256) × (c ≡ type_word % 256)
+    × (d ≡ type_word / 256 % 256) = omega (arith, fits 0, fits 1, fits 2, fits 3) in (
+      drop (word - 4) tail,
+      cc (take-append-drop (word - 4) tail),
+      omega (arith, fits 2, fits 3),
+    )
+has_prefix bytes word type_word fits word-is type-is low high = absurd (omega arith)
+
+-- two lists with fronts of one length are equal in both parts
+pub same_parts : (xs ys s t : List ℕ) → length xs ≡ length ys → xs ++ s ≡ ys ++ t → (xs ≡ ys)
+    × (s ≡ t)
+same_parts [] [] s t len e = (refl, e)
+same_parts (x ∷ xs) (y ∷ ys) s t len e =
+    grind (arith, same_parts xs ys s t)
+same_parts xs ys s t len e = absurd (omega arith)
+
+-- the attribute is fixed by the bytes, and so is what follows
+pub one_prefix : (a b : Attribute) (s t : List ℕ) → FitsWords a → FitsWords b
+    → unpadded a ++ s ≡ unpadded b ++ t → (a ≡ b) × (s ≡ t)
+one_prefix a b s t a-fits b-fits e =
+    grind (arith, same_parts a.value b.value s t)
+
+-- the attribute at the start of bytes is in range
+pub prefix_in_range : (b : List ℕ) (a : Attribute) → IsBytes b → HasPrefix b a
+    → IsAttributeInRange a
+prefix_in_range b a in_range h = (
+  h.2.0,
+  IsBytes-left a.value h.0 (λ i. (rw h.1 at in_range) (suc (suc (suc (suc i))))),
+)
+
+-- one attribute stands at the start
+pub one_attribute : (b : List ℕ) (x y : Attribute) → HasPrefix b x → HasPrefix b y → x ≡ y
+one_attribute b x y h k = (one_prefix x y h.0 k.0 h.2 k.2 (sym h.1 ∙ k.1)).0
+
+-- a written attribute is bytes
+pub written_in_range : (a : Attribute) → IsAttributeInRange a → IsBytes (written a)
+written_in_range a in_range = search (IsBytes-append, IsBytes-number, IsBytes-zeros) depth 7
+
+-- ---- an attribute or a fault
+
+-- the length word of an attribute at the start
+pub word_is : (bytes : List ℕ) (a : Attribute) → HasPrefix bytes a
+    → (little_number 2 bytes ≡ 4 + length a.value) × (4 + length a.value ≤ length bytes)
+word_is bytes a head =
+    grind (arith, length-append)
+
+-- not both an attribute and a fault
+pub prefix_or_fault_apart : (bytes : List ℕ) (a : Attribute) (e : DecodeError) → HasPrefix bytes a
+    → IsFramingFault bytes e → ⊥
+prefix_or_fault_apart bytes a e head f =
+    grind (arith, word_is bytes a head)
+
+-- too few bytes for a header, a length word that counts less than it, one that counts more than
+-- there is, or none of these
+pub framed_or_not : (least len word : ℕ) → (len < least) ⊎ (((least ≤ len) × (word < least))
+    ⊎ (((least ≤ len) × (least ≤ word) × (len < word)) ⊎ ((least ≤ word) × (word ≤ len))))
+framed_or_not least len word = grind arith
+
+-- an attribute or a fault stands there
+pub prefix_or_fault : (bytes : List ℕ) → IsBytes bytes → ((a : Attribute) × HasPrefix bytes a)
+    ⊎ ((e : DecodeError) × IsFramingFault bytes e)
+prefix_or_fault bytes fits = elim (framed_or_not 4 (length bytes) (little_number 2 bytes)) [
+  | inl short ↦ inr (AttributeHeaderCut (length bytes), (refl, short))
+  | inr (inl under) ↦ inr (AttributeLengthUnder4 (little_number 2 bytes), (refl, under.0, under.1))
+  | inr (inr (inl past)) ↦ inr (
+    AttributeLengthPast (little_number 2 bytes) (length bytes),
+    (refl, refl, past.0, past.1, past.2),
+  )
+  | inr (inr (inr there)) ↦ inl (_, has_prefix bytes _ _ fits refl refl there.0 there.1)
+]
+
+-- an answer is a value or a fault
+pub value_or_reason : {A : Type 0} (read : Result A DecodeError) → ((value : A) × (read ≡ Ok value))
+    ⊎ ((e : DecodeError) × (read ≡ Err e))
+value_or_reason (Ok value) = inl (value, refl)
+value_or_reason (Err e) = inr (e, refl)
+
+-- one fault at most, of the framing and of all
+pub one_framing_fault : (bytes : List ℕ) (e f : DecodeError) → IsFramingFault bytes e
+    → IsFramingFault bytes f → e ≡ f
+one_framing_fault bytes e f h k = grind arith
+
+module _ {A : Type 0} (reads : Attribute → Result A DecodeError) where
+  pub one_prefix_fault : (bytes : List ℕ) (e f : DecodeError) → IsPrefixFault reads bytes e
+      → IsPrefixFault reads bytes f → e ≡ f
+  one_prefix_fault bytes e f (inl framing) (inl also) = one_framing_fault bytes e f framing also
+  one_prefix_fault bytes e f (inl framing) (inr (a, head, refused)) =
+      grind (arith, prefix_or_fault_apart bytes a e head framing)
+  one_prefix_fault bytes e f (inr (a, head, refused)) k =
+      grind (arith, prefix_or_fault_apart bytes a f head, one_attribute bytes a)

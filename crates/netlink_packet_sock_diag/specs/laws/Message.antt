@@ -1,0 +1,190 @@
+-- The laws of messages.
+use Rattle.std.proofs.Common.{◌≡◌, ◌≢◌, ◌↔◌, ◌∙◌, ℕ, ◌≤◌, ◌⊎◌, inl, inr}
+use Rattle.std.proofs.Common.{List, [], ◌∷◌, length, slice_index, Result, Ok, Err}
+use Rattle.std.proofs.Common.{refl, sym, ap, arith, le-ltb}
+use Rattle.std.specs.Prelude.{MatchResult}
+use Rattle.std.proofs.lemmas.Bool.{eqb-true, ne_eqb}
+use Rattle.std.proofs.lemmas.Bool.Decides.{nat_tests}
+use Rattle.netlink_core.specs.Bytes.{IsBytes}
+use Rattle.netlink_core.specs.Codec.{KeepsLaws}
+use Rattle.netlink_core.specs.Response.{response_bytes}
+use Rattle.netlink_core.specs.declared.fault.DecodeError.{DecodeError}
+use Rattle.netlink_core.specs.declared.fault.DecodeError.TheVariants.{Memory}
+use Rattle.netlink_core.specs.declared.fault.DecodeError.TheVariants.{UnknownMessageType}
+use Rattle.netlink_core.proofs.LayoutLaws.{keeps_laws}
+use Rattle.netlink_core.proofs.Responses.{responses_keep_laws}
+use Rattle.sock_diag_records.specs.IpVersions.{IpVersions, versions_of_family}
+use Rattle.sock_diag_records.specs.InetRequest.{inet_request as inet_request_layout}
+use Rattle.sock_diag_records.specs.InetResponse.{inet_response_header}
+use Rattle.sock_diag_records.specs.laws.InetRequest.{inet_request_sound}
+use Rattle.sock_diag_records.specs.UnixRequest.{unix_request as unix_request_layout}
+use Rattle.sock_diag_records.specs.laws.UnixRequest.{unix_request_sound}
+use Rattle.sock_diag_replies.specs.InetResponseSpec.{inet_response_spec}
+use Rattle.sock_diag_replies.specs.UnixResponseSpec.{unix_response_spec}
+use Rattle.sock_diag_replies.specs.laws.InetResponseSpec.{inet_response_laws}
+use Rattle.sock_diag_replies.specs.laws.UnixResponseSpec.{unix_response_laws}
+use Rattle.netlink_packet_sock_diag.specs.Message.{codec_of, Message, message_of, by_kind}
+use Rattle.netlink_packet_sock_diag.specs.Message.{message_codec}
+use Rattle.sock_diag_records.specs.ResponseKind.{MessageKind, inet_request, inet_response}
+use Rattle.sock_diag_records.specs.ResponseKind.{unix_request, unix_response, response_kind}
+
+-- each kind's codec keeps the laws
+laws_of : (kind : MessageKind) → KeepsLaws (codec_of kind)
+laws_of kind =
+    grind (
+      arith,
+      keeps_laws inet_request_layout inet_request_sound,
+      inet_request_sound,
+      responses_keep_laws inet_response_spec inet_response_laws,
+      inet_response_laws,
+      keeps_laws unix_request_layout unix_request_sound,
+      unix_request_sound,
+      responses_keep_laws unix_response_spec unix_response_laws,
+      unix_response_laws,
+    )
+
+-- ---- which kind is found
+
+-- under the type 20 the first byte tells it, as that of two bytes does
+pub kind_by_first_byte : (b : List ℕ) (t first : ℕ) → 2 ≤ length b → t ≡ 20
+    → slice_index b 0 ≡ first
+    → response_kind b t ≡ response_kind (first ∷ 0 ∷ []) 20
+kind_by_first_byte b t first long is e = rw (le-ltb (length b) 2 long, is, e) refl
+
+pub other_type_refused : (b : List ℕ) (t : ℕ) → 2 ≤ length b
+    → t ≢ 20 → response_kind b t ≡ Err (UnknownMessageType t)
+other_type_refused b t long other = rw (le-ltb (length b) 2 long, ne_eqb t 20 other) refl
+
+-- what each answer tells
+abbrev IsResponseKind : ℕ → Result MessageKind DecodeError → Type 0
+IsResponseKind t found =
+    MatchResult found (λ kind. (t ≡ 20) × ((kind ≡ inet_response) ⊎ (kind ≡ unix_response)))
+    (λ e. e ≢ Memory)
+
+response_kinds : (b : List ℕ) (t : ℕ) (found : Result MessageKind DecodeError)
+    → response_kind b t ≡ found → IsResponseKind t found
+response_kinds b t found h = rw (← h) (grind (arith, nat_tests, eqb-true))
+
+-- what is read is a reply, under the type 20
+pub read_reply : (b : List ℕ) (t : ℕ) (m : Message) → message_codec.reads b t m
+    → (t ≡ 20) × ((by_kind (λ kind v. kind) m ≡ inet_response)
+    ⊎ (by_kind (λ kind v. kind) m ≡ unix_response))
+read_reply b t (message_of kind v) r = response_kinds b t (Ok kind) r.0
+
+-- ---- one message or one fault
+
+-- the message or the fault by the kind that is found, or its fault
+answered_as : (b : List ℕ) (t : ℕ) (found : Result MessageKind DecodeError) → IsBytes b
+    → response_kind b t ≡ found
+    → ((m : Message) × message_codec.reads b t m)
+    ⊎ ((e : DecodeError) × message_codec.refuses b t e)
+answered_as b t (Err e) tb h = inr (e, inl h)
+answered_as b t (Ok kind) tb h = elim ((laws_of kind).answered b tt tb) [
+  | inl answer ↦ inl (message_of kind answer.0, (h, answer.1))
+  | inr fault ↦ inr (fault.0, inr (kind, h, fault.1))
+]
+
+one_answer : (b : List ℕ) (t : ℕ) (m : Message) (e : DecodeError) → message_codec.reads b t m
+    → message_codec.refuses b t e → ⊥
+one_answer b t (message_of kind v) e (found, r) (inl none) = cc
+one_answer b t (message_of kind v) e (found, r) (inr (other, as_other, refused)) =
+    grind (arith, laws_of kind)
+
+one_fault : (b : List ℕ) (t : ℕ) (e f : DecodeError) → message_codec.refuses b t e
+    → message_codec.refuses b t f → e ≡ f
+one_fault b t e f (inl h) (inl k) = cc
+one_fault b t e f (inl h) (inr (kind, found, refused)) = cc
+one_fault b t e f (inr (kind, found, refused)) (inl k) = cc
+one_fault b t e f (inr (kind, found, refused)) (inr (other, as_other, also)) =
+    grind (arith, laws_of kind)
+
+named_fault : (b : List ℕ) (t : ℕ) → message_codec.refuses b t Memory → ⊥
+named_fault b t (inl none) = response_kinds b t (Err Memory) none refl
+named_fault b t (inr (kind, found, refused)) = (laws_of kind).named_fault b tt refused
+
+-- ---- equal messages
+
+-- strings that one message belongs to are idle
+idle_of : (b c : List ℕ) (t : ℕ) (m : Message) → IsBytes b → IsBytes c
+    → message_codec.reads b t m → message_codec.reads c t m → message_codec.idle t b c
+idle_of b c t (message_of kind v) tb tc r s =
+    let law = (laws_of kind).same_value b c tt v v tb tc r.1 s.1 in
+    (kind, r.0, s.0, law.0 refl)
+
+-- what belongs to a string of a kind is of that kind
+of_kind : (b : List ℕ) (t : ℕ) (kind : MessageKind) (m : Message) → response_kind b t ≡ Ok kind
+    → message_codec.reads b t m
+    → (v : (codec_of kind).Value) × (m ≡ message_of kind v) × (codec_of kind).reads b tt v
+of_kind b t kind (message_of other v) found r =
+    let same : other ≡ kind = cc (r.0) in rw (← same) (v, refl, r.1)
+
+same_value : (b c : List ℕ) (t : ℕ) (m n : Message) → IsBytes b → IsBytes c
+    → message_codec.reads b t m → message_codec.reads c t n → ((m ≡ n) ↔ message_codec.idle t b c)
+same_value b c t m n tb tc r s = (
+  λ e. idle_of b c t n tb tc (rw e at r) s,
+  λ (kind, left, right, idle).
+      let x = of_kind b t kind m left r in
+      let y = of_kind c t kind n right s in
+      let law = (laws_of kind).same_value b c tt x.0 y.0 tb tc x.2 y.2 in
+      x.1 ∙ ap (message_of kind) (law.1 idle) ∙ sym y.1,
+)
+
+-- ---- what is read and written
+
+reads_normal : (b : List ℕ) (t : ℕ) (m : Message) → IsBytes b → message_codec.reads b t m
+    → message_codec.is_in_range m × message_codec.is_normal t m
+reads_normal b t (message_of kind v) tb (found, r) =
+    let reply = response_kinds b t (Ok kind) found in
+    let parts = (laws_of kind).reads_normal b tt v tb r in
+    (parts.0, (reply.0, reply.1, parts.1))
+
+written_bytes : (m : Message) → message_codec.is_in_range m → IsBytes (message_codec.written m)
+written_bytes (message_of kind v) in_range = (laws_of kind).written_bytes v in_range
+
+-- the family of an internet reply in normal form tells its kind
+kind_of_versions : (family : ℕ) (versions : IpVersions) → versions_of_family family ≡ Ok versions
+    → response_kind (family ∷ 0 ∷ []) 20 ≡ Ok inet_response
+kind_of_versions family versions h =
+    grind (arith, nat_tests)
+
+-- a message in normal form is written as a reply of its kind
+kind_written : (t : ℕ) (m : Message) → message_codec.is_normal t m
+    → response_kind (message_codec.written m) t ≡ Ok (by_kind (λ kind v. kind) m)
+unfolding inet_response_header
+kind_written t (message_of inet_response v) (is, reply, normal) =
+    grind (
+      arith,
+      kind_by_first_byte (response_bytes inet_response_spec v) t v.header.family,
+      kind_of_versions v.header.family,
+    )
+kind_written t (message_of unix_response v) (is, reply, normal) =
+    grind (arith, kind_by_first_byte (response_bytes unix_response_spec v) t 1)
+kind_written t m h = grind arith
+
+reads_back : (t : ℕ) (m : Message) → message_codec.is_in_range m → message_codec.is_normal t m
+    → message_codec.fits m
+    → message_codec.reads (message_codec.written m) t m
+reads_back t (message_of kind v) in_range normal fits = (
+  kind_written t (message_of kind v) normal,
+  (laws_of kind).reads_back tt v in_range normal.2 fits,
+)
+
+pub message_laws : KeepsLaws message_codec
+message_laws = record {
+  answered = λ b t tb. answered_as b t (response_kind b t) tb refl;
+  one_answer = one_answer;
+  one_fault = one_fault;
+  named_fault = named_fault;
+  same_value = same_value;
+  reads_normal = reads_normal;
+  written_bytes = written_bytes;
+  reads_back = reads_back;
+}
+
+-- a message is written as two bytes and more
+pub length-written : (m : Message) → 2 ≤ length (message_codec.written m)
+unfolding inet_request_layout inet_response_header
+length-written (message_of inet_request v) = omega arith
+length-written (message_of inet_response v) = omega arith
+length-written (message_of unix_request v) = omega arith
+length-written (message_of unix_response v) = omega arith

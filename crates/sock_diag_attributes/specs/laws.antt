@@ -1,0 +1,12 @@
+-- Lemmas about the definitions, and what the lemmas need.
+pub mod Name
+pub mod Number
+pub mod UnixAttribute
+pub mod Text
+pub mod Flag
+pub mod InetAttribute
+pub mod Variant
+pub mod Lent
+pub mod EqualName
+pub mod EqualUnix
+pub mod EqualInet

@@ -1,0 +1,28 @@
+-- The laws of a byte that says yes or no.
+use Rattle.std.proofs.Common.{◌≡◌, ◌↔◌, ℕ, []}
+use Rattle.std.proofs.Common.{slice_index, arith}
+use Rattle.std.specs.Prelude.{not, ◌==◌}
+use Rattle.netlink_core.specs.laws.Byte.{IsBytes-cons, IsBytes-nil}
+use Rattle.netlink_core.specs.Codec.{KeepsLaws, as_codec}
+use Rattle.netlink_core.specs.laws.Prefix.{value_or_reason}
+use Rattle.sock_diag_attributes.specs.Flag.{flag_value}
+
+-- two numbers say the same exactly where both are zero or both are not
+truth_decides : (m n : ℕ) → (not (m == 0) ≡ not (n == 0)) ↔ ((m ≡ 0) ↔ (n ≡ 0))
+truth_decides m n = (λ e. (λ z. grind arith, λ z. grind arith), λ h. grind arith)
+
+-- a flag keeps the laws
+pub flag_laws : (k : ℕ) → KeepsLaws (as_codec (flag_value k))
+flag_laws k = record {
+  answered = λ b p in_range. value_or_reason ((flag_value k).reads tt b);
+  one_answer = λ b p v e h g. cc;
+  one_fault = λ b p e f h g. cc;
+  named_fault = λ b p h. grind arith;
+  same_value = λ b c p v w b-in_range c-in_range h g.
+      let left : not (slice_index b 0 == 0) ≡ v = grind (arith, h) in
+      let right : not (slice_index c 0 == 0) ≡ w = grind (arith, g) in
+      rw (← left, ← right) (truth_decides (slice_index b 0) (slice_index c 0));
+  reads_normal = λ b p v in_range h. (tt, tt);
+  written_bytes = λ v in_range. IsBytes-cons _ [] (grind arith) IsBytes-nil;
+  reads_back = λ p v in_range normal room. grind arith;
+}

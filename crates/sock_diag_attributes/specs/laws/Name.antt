@@ -1,0 +1,144 @@
+-- The laws of the name of a UNIX socket.
+use Rattle.std.proofs.lemmas.Grind.{common_steps}
+use Rattle.netlink_core.specs.Codec.{KeepsLaws, as_codec}
+use Rattle.netlink_core.proofs.AttributeTypeLaws.{exact_laws}
+use Rattle.sock_diag_attributes.specs.Name.{name_value}
+use Rattle.std.proofs.Common.{Ok, Err, IsOk, ◌≡◌, ◌≢◌, ◌∙◌, ℕ, suc, ◌+◌, ◌<◌}
+use Rattle.std.proofs.Common.{◌==◌, List, [], ◌∷◌}
+use Rattle.std.proofs.Common.{◌++◌, length, take, drop, get_or, append_assoc, refl, ap, sym, subst}
+use Rattle.std.proofs.Common.{arith}
+use Rattle.std.specs.Prelude.{All, if◌then◌else◌, Result}
+use Rattle.std.proofs.lemmas.Bool.{eqb-true, eqb-false, ne_eqb}
+use Rattle.std.proofs.lemmas.List.{append-nil, drop_all, get_or-take, length-append, length-take}
+use Rattle.std.proofs.lemmas.List.{drop_more, get_or-append-add, take-append-drop}
+use Rattle.std.proofs.lemmas.List.{length-take-le}
+use Rattle.std.specs.List.{position_or_len}
+use Rattle.std.proofs.lemmas.List.Sums.{position_or_len_is, split_at_first, passes_at_first}
+use Rattle.std.proofs.lemmas.List.Sums.{fails_before_first}
+use Rattle.std.proofs.Math.ListN.{get_or-append}
+use Rattle.std.proofs.Math.Seq.{take-append_seam}
+use Rattle.std.proofs.lemmas.List.Elements.{All-push}
+use Rattle.netlink_core.specs.Bytes.{IsBytes}
+use Rattle.netlink_core.specs.declared.fault.DecodeError.{DecodeError}
+use Rattle.netlink_core.specs.declared.fault.DecodeError.TheVariants.{Memory, NameInnerZero}
+use Rattle.netlink_core.specs.declared.fault.DecodeError.TheVariants.{NameWithoutEnd}
+use Rattle.netlink_core.specs.laws.Byte.{IsBytes-append, IsBytes-cons, IsBytes-nil}
+use Rattle.sock_diag_attributes.specs.declared.unix.name.SocketName.{SocketName}
+use Rattle.sock_diag_attributes.specs.declared.unix.name.SocketName.TheVariants.{Pathname}
+use Rattle.sock_diag_attributes.specs.Name.{name_bytes}
+use Rattle.sock_diag_attributes.specs.Name.{IsNormalName, read_name}
+use Rattle.sock_diag_attributes.specs.Name.{name_codec}
+
+-- no byte is a zero
+abbrev pub HasNoZero : List ℕ → Type 0
+HasNoZero bytes = All (λ byte. byte ≢ 0) bytes
+
+-- no fault of a name is want of memory
+name_named : (x : List ℕ) → read_name x ≡ Err Memory → ⊥
+name_named x h =
+    grind arith
+
+-- a name that was read is written as its string, and is in normal form
+name_exact : (x : List ℕ) (u : SocketName (List ℕ)) → read_name x ≡ Ok u → (x ≡ name_bytes u)
+    × IsNormalName u
+name_exact (suc n ∷ xs) u h =
+    let x : List ℕ = suc n ∷ xs in
+    let i : ℕ = position_or_len (λ b. b == 0) x in
+    let end : i + 1 ≡ length x = grind arith in
+    let same : Pathname (take i x) ≡ u = grind arith in
+    let within : i < length x = omega arith in
+    let here : get_or x i 0 ≡ 0 = eqb-true _ _ (passes_at_first (λ b. b == 0) x 0 within) in
+    let whole : x ≡ take i x ++ 0 ∷ [] =
+    cc (split_at_first (λ b. b == 0) x 0 within, drop_all (i + 1) x (omega arith)) in
+    rw (← same) (
+      whole,
+      (
+        λ k d l.
+            let fails = fails_before_first (λ b. b == 0) x k d in
+            grind (arith, get_or-take, length-take, fails, eqb-false),
+        λ e. grind (arith, whole, e),
+      ),
+    )
+name_exact x u h = grind arith
+
+-- the path in bytes, by the place of their first zero
+abbrev path_at : List ℕ → ℕ → Result (SocketName (List ℕ)) DecodeError
+path_at bytes i =
+    if i + 1 == length bytes then Ok (Pathname (take i bytes))
+    else Err (if i == length bytes then NameWithoutEnd else NameInnerZero i)
+
+-- a name that does not begin with a zero, by what stands in front of its first one, which is all of
+-- it where there is none
+first_zero : (bytes front rest : List ℕ) → bytes ≡ front ++ rest → get_or bytes 0 0 ≢ 0
+    → HasNoZero front → get_or rest 0 0 ≡ 0 → read_name bytes
+    ≡ path_at bytes (length front)
+first_zero (suc n ∷ xs) front rest parts first none here =
+    rw (position_or_len_is (λ b. b == 0) (suc n ∷ xs) (length front) 0
+    (omega (arith, ap length parts, length-append front rest))
+    (λ k l. rw parts (ne_eqb _ _ (rw get_or-append (none k 0 l))))
+    (λ l. grind (arith, parts, get_or-append-add front rest 0 0, here))) refl
+first_zero _ front rest parts first none here = absurd (first refl)
+
+-- The three answers to such a name, by its last byte and what stands in front of it: a zero there,
+-- none and a zero in the last place, and none at all.
+pub reads_inner_zero : (bytes path : List ℕ) (last i : ℕ) → bytes ≡ path ++ last ∷ []
+    → get_or bytes 0 0 ≢ 0 → i < length path → get_or path i 0 ≡ 0 → HasNoZero (take i path)
+    → read_name bytes ≡ Err (NameInnerZero i)
+reads_inner_zero bytes path last i parts first lt here none =
+    first_zero bytes (take i path) (drop i path ++ last ∷ [])
+    (rw (← append_assoc, take-append-drop) parts) first none
+    (rw (drop_more path i 0 lt) here)
+    ∙ grind (arith, ap length parts, length-append, length-take-le)
+
+pub reads_path : (bytes path : List ℕ) → bytes ≡ path ++ 0 ∷ [] → get_or bytes 0 0 ≢ 0
+    → HasNoZero path → read_name bytes ≡ Ok (Pathname path)
+reads_path bytes path parts first none =
+    grind (arith, first_zero bytes path (0 ∷ []) parts first none, length-append, take-append_seam)
+
+pub reads_no_end : (bytes path : List ℕ) (last : ℕ) → bytes ≡ path ++ last ∷ []
+    → get_or bytes 0 0 ≢ 0 → last ≢ 0 → HasNoZero path → read_name bytes ≡ Err NameWithoutEnd
+reads_no_end bytes path last parts first some none =
+    first_zero bytes bytes [] (sym (append-nil bytes)) first
+    (rw parts (All-push (λ b. b ≢ 0) path last none some)) refl ∙ grind arith
+
+-- a name in normal form reads back
+name_reads_back : (u : SocketName (List ℕ)) → IsNormalName u → read_name (name_bytes u) ≡ Ok u
+name_reads_back u good =
+    grind (arith, common_steps, reads_path)
+
+-- an accepted name that is not empty, of which the first byte is no zero: nothing else needs a look
+pub known_path : (bytes path : List ℕ) (last : ℕ) → bytes ≡ path ++ last ∷ [] → get_or bytes 0 0 ≢ 0
+    → IsOk (read_name bytes) → read_name bytes ≡ Ok (Pathname path)
+known_path bytes path last parts first ok =
+    grind (arith, length-append path (last ∷ []), take-append_seam path (last ∷ []))
+
+-- bytes and an end zero are bytes
+pub path_bytes_in_range : (path : List ℕ) → IsBytes path → IsBytes (path ++ 0 ∷ [])
+path_bytes_in_range path in_range =
+    IsBytes-append path (0 ∷ []) in_range (IsBytes-cons 0 [] (omega arith) IsBytes-nil)
+
+-- and a zero in front of bytes
+pub address_bytes_in_range : (address : List ℕ) → IsBytes address → IsBytes (0 ∷ address)
+address_bytes_in_range address in_range = IsBytes-cons 0 address (omega arith) in_range
+
+-- a name as the value of an attribute: its reader, its bytes, equal strings alone being idle, and
+-- its normal form
+pub name_laws : KeepsLaws (as_codec name_value)
+name_laws = exact_laws read_name name_bytes (λ u. IsBytes (name_bytes u)) IsNormalName name_named
+    (λ x u in_range h. let exact = name_exact x u h in
+    (exact.0, subst IsBytes exact.0 in_range, exact.1))
+    (λ u in_range. in_range)
+    (λ u in_range normal. name_reads_back u normal)
+
+-- and by itself
+pub name_keeps_laws : KeepsLaws name_codec
+name_keeps_laws = record {
+  answered = name_laws.answered;
+  one_answer = name_laws.one_answer;
+  one_fault = name_laws.one_fault;
+  named_fault = name_laws.named_fault;
+  same_value = name_laws.same_value;
+  reads_normal = name_laws.reads_normal;
+  written_bytes = name_laws.written_bytes;
+  reads_back = λ p v in_range normal room. name_laws.reads_back p v in_range normal tt;
+}

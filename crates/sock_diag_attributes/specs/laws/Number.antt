@@ -1,0 +1,149 @@
+-- The laws of numbers that fill the value of an attribute.
+use Rattle.std.proofs.lemmas.Grind.{common_steps}
+use Rattle.std.proofs.Common.{Some, Ok, ◌≡◌, ◌∙◌, ℕ, suc, ◌+◌, ◌*◌, ◌/◌, ◌%◌}
+use Rattle.std.proofs.Common.{◌≤◌, ◌<◌, ◌^◌, List, [], ◌∷◌, ◌++◌, length, take, drop, refl, sym}
+use Rattle.std.proofs.Common.{arith}
+use Rattle.std.specs.List.{AllByRecursion}
+use Rattle.std.specs.List.{slice_get}
+use Rattle.std.proofs.lemmas.Grind.{same_number_lists}
+use Rattle.std.proofs.lemmas.Option.{get_or_from_slice_get}
+use Rattle.std.proofs.lemmas.List.{append-nil, length-drop, length-take-le}
+use Rattle.byteorder.specs.Endian.{little_number, little_bytes, IsRead}
+use Rattle.byteorder.specs.Numbers.{little_from-lt, little_number-reads_back}
+use Rattle.byteorder.specs.Numbers.{length-bytes_low_first}
+use Rattle.netlink_core.specs.Bytes.{IsBytes}
+use Rattle.netlink_core.specs.laws.Byte.{IsBytes-left, IsBytes-nil, IsBytes-number}
+use Rattle.netlink_core.specs.laws.Byte.{IsBytes-right}
+use Rattle.netlink_core.proofs.AttributeTypeLaws.{same_bytes, exact_laws}
+use Rattle.netlink_core.specs.Codec.{KeepsLaws, as_codec}
+use Rattle.std.specs.Prelude.{⊤, slice_index, flat_map}
+use Rattle.sock_diag_attributes.specs.Numbers.{numbers_in, two_value, numbers_value}
+
+-- the bytes of the number in a string of that width
+number_exact : (width : ℕ) (x : List ℕ) → IsBytes x → length x ≡ width
+    → x ≡ little_bytes width (little_number width x)
+number_exact width x in_range long =
+    let n : ℕ = little_number width x in
+    same_bytes width x (little_bytes width n) in_range (IsBytes-number 0 width n) long
+    (length-bytes_low_first 0 width n)
+    (sym (rw append-nil at (little_number-reads_back width n []
+    (little_from-lt 0 width x in_range))))
+
+-- the first of the numbers in bytes, and those behind it
+pub numbers_in_none : (x : List ℕ) → length x < 4 → numbers_in x ≡ []
+numbers_in_none x short =
+    grind arith
+
+pub numbers_in_first : (x : List ℕ) → 4 ≤ length x → numbers_in x ≡ little_number 4 x
+    ∷ numbers_in (drop 4 x)
+numbers_in_first x long =
+    grind arith
+
+-- bytes whose number is a multiple of four are numbers
+pub whole : (x : List ℕ) → IsBytes x → length x % 4 ≡ 0
+    → (x ≡ flat_map (little_bytes 4) (numbers_in x))
+    × AllByRecursion (λ n. n < 2 ^ 32) (numbers_in x)
+whole [] in_range four = (refl, tt)
+whole (a ∷ b ∷ c ∷ d ∷ rest) in_range four =
+    let word : List ℕ = a ∷ b ∷ c ∷ d ∷ [] in
+    let front : IsBytes word = IsBytes-left word rest in_range in
+    let later = whole rest (IsBytes-right word rest in_range) (omega (arith, four)) in (
+      λ i. number_exact 4 word front refl i ++ later.0 i,
+      (little_from-lt 0 4 word front, later.1),
+    )
+whole _ in_range four = absurd (omega (arith, four))
+
+-- numbers that are below a bound place by place
+pub each_below : (bound : ℕ) (u : List ℕ) → ((i : ℕ) → slice_index u i < bound)
+    → AllByRecursion (λ n. n < bound) u
+each_below bound [] below = tt
+each_below bound (n ∷ u) below = (below 0, each_below bound u (λ i. below (suc i)))
+
+-- four bytes each
+pub length_numbers : (u : List ℕ) → length (flat_map (little_bytes 4) u) ≡ 4 * length u
+length_numbers [] = refl
+length_numbers (n ∷ u) = omega (arith, length_numbers u)
+
+-- bytes in front that have room for all
+pub front_of : (u bytes : List ℕ) → length (flat_map (little_bytes 4) u) ≤ length bytes
+    → length (take (4 * length u) bytes) ≡ 4 * length u
+front_of u bytes room = length-take-le _ bytes (omega (arith, length_numbers u))
+
+-- no bytes are those of no numbers
+pub no_numbers : (u : List ℕ) → flat_map (little_bytes 4) u ≡ [] → u ≡ []
+no_numbers [] none = refl
+no_numbers (n ∷ u) none = absurd cc
+
+-- the numbers in the bytes of numbers
+back : (u : List ℕ) → AllByRecursion (λ n. n < 2 ^ 32) u
+    → numbers_in (flat_map (little_bytes 4) u) ≡ u
+back [] fit = refl
+back (n ∷ u) fit =
+    grind (
+      arith,
+      little_number-reads_back 4 n (flat_map (little_bytes 4) u) fit.0,
+      flat_map (little_bytes 4) u,
+      back u fit.1,
+    )
+
+-- their bytes are bytes
+pub numbers_in_range : (u : List ℕ) → IsBytes (flat_map (little_bytes 4) u)
+numbers_in_range [] = IsBytes-nil
+numbers_in_range (n ∷ u) =
+    grind (arith, flat_map (little_bytes 4) u, numbers_in_range u)
+
+-- both keep the laws of the value of an attribute
+pub numbers_laws : KeepsLaws (as_codec numbers_value)
+numbers_laws =
+    grind (
+      arith,
+      common_steps,
+      exact_laws,
+      numbers_in,
+      whole,
+      numbers_in_range,
+      length_numbers,
+      back,
+    )
+
+pub two_laws : (k : ℕ) → KeepsLaws (as_codec (two_value k))
+two_laws k = exact_laws ((two_value k).reads tt) (two_value k).bytes
+    (λ ns. (ns.0 < 2 ^ 32) × (ns.1 < 2 ^ 32)) (λ ns. ⊤) (λ x h. grind arith)
+    (λ x u in_range h.
+    let same : (little_number 4 x, little_number 4 (drop 4 x)) ≡ u = grind arith in
+    let numbers : numbers_in x ≡ little_number 4 x ∷ little_number 4 (drop 4 x) ∷ [] =
+    grind (arith, numbers_in_first, numbers_in_none, length-drop) in
+    let exact = rw numbers at (whole x in_range (grind arith)) in
+    rw (← same) (exact.0, (exact.1.0, exact.1.1.0), tt))
+    (λ u fits. numbers_in_range (u.0 ∷ u.1 ∷ []))
+    (λ u fits normal i. Ok (
+      little_number-reads_back 4 u.0 (little_bytes 4 u.1) fits.0 i,
+      little_number-reads_back 4 u.1 [] fits.1 i,
+    ))
+
+-- ---- numbers in place
+
+-- how many there are
+pub how_many : (x : List ℕ) → length (numbers_in x) ≡ length x / 4
+how_many (a ∷ b ∷ c ∷ d ∷ rest) = omega (arith, how_many rest)
+how_many _ = refl
+
+-- the one at a place, and none past the last
+pub number_at : (x : List ℕ) (i : ℕ) → 4 * i + 4 ≤ length x
+    → slice_get (numbers_in x) i ≡ Some (little_number 4 (drop (4 * i) x))
+number_at (a ∷ b ∷ c ∷ d ∷ rest) (suc i) long =
+    let next : 4 * suc i ≡ suc (suc (suc (suc (4 * i)))) = omega arith in
+    rw next (number_at rest i (omega arith))
+number_at x i long = grind arith
+
+-- numbers that were read place by place
+pub places : (x u : List ℕ) → length x ≡ 4 * length u → IsRead little_number 4 x u
+    → numbers_in x ≡ u
+places x u long each = same_number_lists (numbers_in x) u (omega (arith, how_many x))
+    (λ k l. get_or_from_slice_get _ k _ 0 (number_at x k (omega (arith, how_many x, l)))
+    ∙ sym (each k (omega (arith, how_many x, l))))
+
+-- equal numbers stand in equal bytes
+pub numbers_in_same : (x y : List ℕ) → IsBytes x → IsBytes y → length x % 4 ≡ 0 → length y % 4 ≡ 0
+    → numbers_in x ≡ numbers_in y → x ≡ y
+numbers_in_same x y tx ty wx wy e = cc ((whole x tx wx).0, (whole y ty wy).0)

@@ -1,0 +1,35 @@
+-- The layouts of the requests and headers are sound.
+use Rattle.std.proofs.Common.{◌<◌, ℕ, ◌%◌, IsTrue, lt-ltb, refl, arith}
+use Rattle.netlink_core.specs.Layout.{table}
+use Rattle.netlink_core.specs.laws.Sound.{IsSound, is_table}
+use Rattle.netlink_core.proofs.LayoutLaws.{plain_sound}
+use Rattle.sock_diag_families.specs.NetlinkResponseHeader.{netlink_header}
+use Rattle.sock_diag_families.specs.PacketResponseHeader.{packet_header}
+use Rattle.sock_diag_families.specs.ShowRequest.{show_request}
+use Rattle.sock_diag_families.specs.VsockRequest.{vsock_request}
+use Rattle.sock_diag_families.specs.VsockResponseHeader.{vsock_header}
+use Rattle.sock_diag_families.specs.XdpResponseHeader.{xdp_header}
+
+rows_stand : (family : ℕ) → IsTrue (is_table 0 (table (show_request family) tt) 20)
+rows_stand family =
+    let byte : family % 256 < 256 = omega arith in
+    rw (lt-ltb (family % 256) 256 byte) refl
+
+pub show_request_sound : (family : ℕ) → IsSound (show_request family)
+show_request_sound family =
+    plain_sound (rows_stand family) (λ _. refl) (λ _. refl) (λ _. tt) (λ _ _. refl)
+
+pub vsock_request_sound : IsSound vsock_request
+vsock_request_sound = plain_sound refl (λ _. refl) (λ _. refl) (λ _. tt) (λ _ _. refl)
+
+pub netlink_header_sound : IsSound netlink_header
+netlink_header_sound = plain_sound refl (λ _. refl) (λ _. refl) (λ _. tt) (λ _ _. refl)
+
+pub packet_header_sound : IsSound packet_header
+packet_header_sound = plain_sound refl (λ _. refl) (λ _. refl) (λ _. tt) (λ _ _. refl)
+
+pub vsock_header_sound : IsSound vsock_header
+vsock_header_sound = plain_sound refl (λ _. refl) (λ _. refl) (λ _. tt) (λ _ _. refl)
+
+pub xdp_header_sound : IsSound xdp_header
+xdp_header_sound = plain_sound refl (λ _. refl) (λ _. refl) (λ _. tt) (λ _ _. refl)

@@ -1,0 +1,2 @@
+-- Lemmas about the definitions, and what the lemmas need.
+pub mod EqualCondition

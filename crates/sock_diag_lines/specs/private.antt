@@ -1,0 +1,6 @@
+-- Definitions that only the contracts of private functions need.
+pub mod Text
+pub mod View
+pub mod ReadDump
+pub mod Asked
+pub mod Run

@@ -1,0 +1,6 @@
+-- From the numbers of a layout's fields to the value. Only layouts refer to these definitions.
+pub mod UnixRequest
+pub mod SocketId
+pub mod UnixResponseHeader
+pub mod InetRequest
+pub mod InetResponse

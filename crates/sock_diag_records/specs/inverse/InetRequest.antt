@@ -1,0 +1,15 @@
+-- The request for IPv4 or IPv6 sockets with the numbers of its fields.
+use Rattle.std.specs.Prelude.{ℕ, List, drop, slice_index}
+use Rattle.sock_diag_records.specs.declared.inet.request.InetRequest.{InetRequest}
+use Rattle.sock_diag_records.specs.IpVersions.{IpVersions}
+use Rattle.sock_diag_records.specs.inverse.SocketId.{socket_id_of}
+
+-- the request with these values, the identity's addresses of these versions
+abbrev pub inet_request_of : IpVersions → List ℕ → InetRequest
+inet_request_of versions values = record {
+  family = slice_index values 0;
+  protocol = slice_index values 1;
+  extensions = record { 0 = slice_index values 2 };
+  states = record { 0 = slice_index values 3 };
+  socket_id = socket_id_of versions (drop 4 values);
+}

@@ -1,0 +1,54 @@
+-- The header of a reply about an IPv4 or IPv6 socket with the numbers of its fields.
+use Rattle.std.specs.Prelude.{ℕ, ◌+◌, ◌*◌, ◌/◌, ◌%◌, ◌==◌, ◌||◌, if◌then◌else◌, List, drop}
+use Rattle.std.specs.Prelude.{slice_index, Option, Some, None}
+use Rattle.std.specs.declared.time.Duration.{Duration}
+use Rattle.sock_diag_records.specs.declared.inet.response.Timer.{Timer}
+use Rattle.sock_diag_records.specs.declared.inet.response.Timer.TheVariants.{Retransmit, KeepAlive}
+use Rattle.sock_diag_records.specs.declared.inet.response.Timer.TheVariants.{TimeWait, Probe}
+use Rattle.sock_diag_records.specs.declared.inet.response.InetResponseHeader.{InetResponseHeader}
+use Rattle.sock_diag_records.specs.IpVersions.{IpVersions}
+use Rattle.sock_diag_records.specs.inverse.SocketId.{count_of, socket_id_of}
+
+-- so many milliseconds
+abbrev pub duration : ℕ → Duration
+duration milliseconds = record {
+  secs = milliseconds / 1_000;
+  nanos = milliseconds % 1_000 * 1_000_000;
+}
+
+-- how many values the byte at 3 has
+abbrev pub retransmits_count : ℕ → ℕ
+retransmits_count class = if class == 1 then 1 else 0
+
+-- how many values the word at 52 has
+abbrev pub expires_count : ℕ → ℕ
+expires_count class = if class == 0 || class == 3 then 0 else 1
+
+-- the timer of a class, with the byte at 3 and the word at 52
+abbrev pub timer_of : ℕ → ℕ → ℕ → Option Timer
+timer_of class count expires =
+    if class == 1 then Some (Retransmit (duration expires) count)
+    else if class == 2 then Some (KeepAlive (duration expires))
+    else if class == 3 then Some TimeWait
+    else if class == 4 then Some (Probe (duration expires)) else None
+
+-- how many values a socket's identity has
+abbrev pub socket_id_count : IpVersions → ℕ
+socket_id_count versions = 2 + count_of versions.0 + count_of versions.1 + 9
+
+-- the header with these values
+abbrev pub header_of : IpVersions × ℕ → List ℕ → InetResponseHeader
+header_of tag values =
+    let socket = drop (retransmits_count tag.1) (drop 2 values) in
+    let behind = drop (socket_id_count tag.0) socket in
+    let last = drop (expires_count tag.1) behind in
+    record {
+      family = slice_index values 0;
+      state = slice_index values 1;
+      timer = timer_of tag.1 (slice_index values 2) (slice_index behind 0);
+      socket_id = socket_id_of tag.0 socket;
+      recv_queue = slice_index last 0;
+      send_queue = slice_index last 1;
+      uid = slice_index last 2;
+      inode = slice_index last 3;
+    }

@@ -1,0 +1,43 @@
+-- The request for IPv4 or IPv6 sockets keeps the laws.
+use Rattle.std.proofs.Common.{◌≡◌, [], ◌∷◌, ◌++◌, length}
+use Rattle.std.proofs.Common.{refl, arith}
+use Rattle.netlink_core.specs.laws.Sound.{IsSound, IsFixed}
+use Rattle.netlink_core.specs.Layout.{bytes}
+use Rattle.byteorder.specs.Endian.{little_bytes}
+use Rattle.sock_diag_records.specs.declared.inet.request.InetRequest.{InetRequest}
+use Rattle.sock_diag_records.specs.SocketId.{socket_id}
+use Rattle.sock_diag_records.specs.InetRequest.{inet_request}
+use Rattle.sock_diag_records.specs.laws.SocketId.{socket_id_back}
+
+-- the bytes of the request in pieces
+pub request_pieces : (value : InetRequest)
+    → bytes inet_request value ≡ (value.family ∷ value.protocol ∷ value.extensions.0 ∷ 0 ∷ [])
+    ++ (little_bytes 4 value.states.0 ++ bytes socket_id value.socket_id)
+unfolding inet_request socket_id
+request_pieces value = grind arith
+
+pub request_length : (value : InetRequest) → length (bytes inet_request value) ≡ 56
+unfolding inet_request
+request_length value = grind arith
+
+pub inet_request_sound : IsSound inet_request
+unfolding inet_request
+inet_request_sound = record {
+  size = λ versions. 56;
+  tables = λ param versions left e. grind arith;
+  own_table = λ value. grind arith;
+  enough = λ value. omega arith;
+  room = λ param versions left enough e. enough;
+  long = request_length;
+  named = λ param left e. grind arith;
+  kept = λ param versions left _ _. grind arith;
+  tagged = λ param versions left e. grind arith;
+  shaped = λ param versions left h e. grind arith;
+  owned = λ param versions left h e. grind arith;
+  back = λ param value t n. rw (socket_id_back value.socket_id [] t.0);
+  tag_written = λ param value t n. n.1;
+}
+
+pub inet_request_size : IsFixed inet_request 56
+unfolding inet_request
+inet_request_size = (refl, request_length)

@@ -1,0 +1,123 @@
+-- The layout of a socket's identity is sound.
+use Rattle.std.proofs.Common.{◌≡◌, ℕ, List, [], ◌∷◌, ◌++◌, drop, length}
+use Rattle.std.proofs.Common.{refl, sym, ap, ◌∙◌}
+use Rattle.std.proofs.Common.{arith}
+use Rattle.std.proofs.lemmas.List.{append_assoc}
+use Rattle.std.specs.List.{flat_map}
+use Rattle.std.proofs.Common.{append-nil}
+use Rattle.byteorder.specs.Endian.{big_bytes, little_bytes}
+use Rattle.netlink_core.proofs.FieldReads.{first_all}
+use Rattle.std.specs.declared.net.ip_addr.IpAddr.{IpAddr}
+use Rattle.netlink_core.specs.Table.{values_of}
+use Rattle.netlink_core.specs.Table.{first, Fit}
+use Rattle.netlink_core.specs.laws.Sound.{IsSound, IsFixed}
+use Rattle.netlink_core.specs.Layout.{IsInRange, bytes}
+use Rattle.sock_diag_records.specs.declared.inet.socket_id.SocketId.{SocketId}
+use Rattle.sock_diag_records.specs.SocketId.{address_values}
+use Rattle.sock_diag_records.specs.private.SocketId.{address_bytes}
+use Rattle.sock_diag_records.specs.SocketId.{socket_id_rows, socket_id}
+use Rattle.netlink_core.specs.Table.{Field}
+use Rattle.netlink_core.specs.Rows.{fields_of}
+use Rattle.sock_diag_records.specs.SocketId.{IsAddress}
+use Rattle.sock_diag_records.specs.SocketId.{IsShaped}
+use Rattle.sock_diag_records.specs.inverse.SocketId.{count_of, address_of}
+use Rattle.sock_diag_records.specs.inverse.SocketId.{socket_id_of}
+use Rattle.sock_diag_records.specs.IpVersions.{ipv4, ipv6, IpVersions}
+use Rattle.sock_diag_records.specs.IpVersions.{address_data}
+use Rattle.sock_diag_records.specs.IpVersions.{versions_of}
+use Rattle.std.proofs.lemmas.List.{get_or-drop, drop-drop}
+use Rattle.std.proofs.Math.Nat.{add_assoc}
+
+-- the fields, where the record begins at that offset, and the values in the fields
+abbrev pub socket_id_fields : ℕ → IpVersions → List Field
+socket_id_fields offset versions = fields_of (socket_id_rows offset versions)
+
+abbrev pub socket_id_values : SocketId → List ℕ
+socket_id_values v = v.source_port ∷ v.destination_port ∷ (address_values v.source_address
+    ++ (address_values v.destination_address ++ v.interface_id ∷ first 8 v.cookie))
+
+-- what holds of each pair of versions
+pub by_versions : (P : IpVersions → Type 0) → P (ipv4, ipv4) → P (ipv4, ipv6) → P (ipv6, ipv4)
+    → P (ipv6, ipv6) → (versions : IpVersions) → P versions
+by_versions P a b c d versions = grind arith
+
+-- an address is that of its values, and the values behind it are left
+address_back : (address : IpAddr) (rest : List ℕ) → IsAddress address
+    → address_of (address_data address).0 (address_values address ++ rest) ≡ address
+address_back address rest h =
+    grind (arith, first_all 4, first_all 8)
+
+behind_address : (address : IpAddr) (rest : List ℕ)
+    → drop (count_of (address_data address).0) (address_values address ++ rest) ≡ rest
+behind_address address rest = grind arith
+
+-- an identity is that of its values, whatever follows them
+pub socket_id_back : (value : SocketId) (rest : List ℕ) → IsShaped value
+    → socket_id_of (versions_of value) (socket_id_values value ++ rest) ≡ value
+socket_id_back value rest shaped =
+    grind (
+      arith,
+      append_assoc,
+      behind_address,
+      address_back,
+      first_all 8 value.cookie shaped.2,
+    )
+
+-- the bytes of the record by itself
+pub bytes_alone : (value : SocketId) → bytes socket_id value
+    ≡ flat_map (big_bytes 2) (value.source_port ∷ value.destination_port ∷ [])
+    ++ (address_bytes value.source_address ++ (address_bytes value.destination_address
+    ++ (little_bytes 4 value.interface_id ++ first 8 value.cookie)))
+unfolding socket_id
+bytes_alone value = grind arith
+
+-- an identity has 48 bytes
+pub socket_id_long : (value : SocketId) → length (bytes socket_id value) ≡ 48
+unfolding socket_id
+socket_id_long value = grind arith
+
+pub socket_id_sound : IsSound socket_id
+unfolding socket_id
+socket_id_sound = record {
+  size = λ versions. 48;
+  tables = λ family versions left e. grind arith;
+  own_table = λ value. grind arith;
+  enough = λ value. omega arith;
+  room = λ family versions left enough e. enough;
+  long = socket_id_long;
+  named = λ family left e. grind arith;
+  kept = λ family versions left _ _. grind arith;
+  tagged = λ family versions left e. grind arith;
+  shaped = λ family versions left h e. grind arith;
+  owned = λ family versions left h e. grind arith;
+  back = λ family value t n. simp append-nil at (socket_id_back value [] t.0);
+  tag_written = λ family value t n. n.1;
+}
+
+pub socket_id_size : IsFixed socket_id 48
+unfolding socket_id
+socket_id_size = (refl, socket_id_long)
+
+-- ---- the record inside another
+
+-- what is read so many bytes on
+pub values-inside : (by : ℕ) (left : List ℕ) (versions : IpVersions)
+    → values_of (socket_id_fields 0 versions) (drop by left)
+    ≡ values_of (socket_id_fields by versions) left
+values-inside by left = by_versions _ (simp (get_or-drop, drop-drop, add_assoc))
+    (simp (get_or-drop, drop-drop, add_assoc)) (simp (get_or-drop, drop-drop, add_assoc))
+    (simp (get_or-drop, drop-drop, add_assoc))
+
+-- and at the end of a table
+pub values-at_end : (by : ℕ) (left : List ℕ) (versions : IpVersions)
+    → values_of (socket_id_fields 0 versions) (drop by left)
+    ≡ values_of (socket_id_fields by versions ++ []) left
+values-at_end by left versions = values-inside by left versions
+    ∙ ap (λ (fields : List Field). values_of fields left)
+    (sym (append-nil (socket_id_fields by versions)))
+
+-- an identity in hand is in range there too
+pub fit_inside : (by : ℕ) (value : SocketId) → IsInRange socket_id value
+    → Fit (socket_id_fields by (versions_of value)) (socket_id_values value)
+unfolding socket_id
+fit_inside by value in_range = grind arith

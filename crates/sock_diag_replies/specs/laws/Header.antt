@@ -1,0 +1,28 @@
+-- The laws of replies whose header is a record of one size.
+use Rattle.std.proofs.Common.{◌≡◌, ℕ, ◌≤◌, List, ◌++◌, length, Ok, arith}
+use Rattle.netlink_core.specs.Layout.{Layout, read}
+use Rattle.netlink_core.specs.AttributeSet.{AttributeSet}
+use Rattle.netlink_core.specs.ValueCodec.{value_codec}
+use Rattle.netlink_core.specs.laws.Shown.{AttributeSetLaws, ResponseLaws}
+use Rattle.netlink_core.specs.laws.Sound.{IsSound, IsFixed}
+use Rattle.netlink_core.proofs.LayoutLaws.{accepted, keeps_laws}
+use Rattle.netlink_core.proofs.PrefixCodecs.{is_prefix_codec}
+
+module _ {Tag Value : Type 0} (layout : Layout (Unit {0}) Tag Value) {size : ℕ}
+    (fixed : IsFixed layout size) where
+  -- a string with a header has all its bytes
+  pub enough : (b : List ℕ) (h : Value) → read layout tt b ≡ Ok h → size ≤ length b
+  enough b h e = let long = (accepted layout tt b h e).long in omega (arith, long, fixed.0)
+
+  -- of the header, which bytes behind it don't change, and of the attributes
+  pub response_laws : {F : AttributeSet} → IsSound layout
+      → ((tag : Tag) (left rest : List ℕ) → layout.least ≤ length left
+      → layout.tag_at tt left ≡ Ok tag → layout.tag_at tt (left ++ rest) ≡ Ok tag)
+      → AttributeSetLaws F → ResponseLaws (record {
+        header = value_codec layout;
+        size =
+            size;
+        attribute_set = F;
+      })
+  response_laws sound goes_on attribute_set =
+      grind (arith, keeps_laws, is_prefix_codec)

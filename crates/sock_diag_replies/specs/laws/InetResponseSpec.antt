@@ -1,0 +1,50 @@
+-- The laws of replies about IPv4 and IPv6 sockets.
+use Rattle.std.proofs.Common.{◌≡◌, ◌↔◌, ℕ, ◌≤◌, List, Bool, IsTrue, ◌++◌, length, slice_index}
+use Rattle.std.proofs.Common.{Ok, arith}
+use Rattle.std.proofs.lemmas.List.{get_or_append_left}
+use Rattle.netlink_core.specs.Layout.{read}
+use Rattle.netlink_core.specs.Response.{ValueOf}
+use Rattle.netlink_core.specs.laws.Shown.{ResponseLaws}
+use Rattle.sock_diag_records.specs.contracts.inet.exact.InetResponseHeaderExact.TheImpl.Laws.{exact-law as exact_header}
+use Rattle.sock_diag_records.specs.contracts.inet.response.InetResponseHeaderPartialEq.TheImpl.{ghosts as headers}
+use Rattle.sock_diag_records.specs.declared.inet.response.InetResponseHeader.{InetResponseHeader}
+use Rattle.sock_diag_records.specs.IpVersions.{IpVersions}
+use Rattle.sock_diag_records.specs.InetResponse.{inet_response_header}
+use Rattle.sock_diag_records.specs.Timer.{class_of_byte}
+use Rattle.sock_diag_records.specs.laws.InetResponse.{header_sound, header_size, with_class}
+use Rattle.sock_diag_attributes.specs.laws.EqualInet.{inet_tests}
+use Rattle.sock_diag_attributes.specs.InetAttributes.{inet}
+use Rattle.sock_diag_attributes.specs.laws.InetAttribute.{inet_laws}
+use Rattle.sock_diag_replies.specs.laws.EqualResponse.{response_test, response_test_decides}
+use Rattle.sock_diag_replies.specs.laws.Header.{enough, response_laws}
+use Rattle.sock_diag_replies.specs.InetResponseSpec.{inet_response_spec}
+
+-- bytes behind a header change nothing of what it tells
+goes_on : (tag : IpVersions × ℕ) (left rest : List ℕ) → inet_response_header.least ≤ length left
+    → inet_response_header.tag_at tt left ≡ Ok tag → inet_response_header.tag_at tt (left ++ rest)
+    ≡ Ok tag
+unfolding inet_response_header
+goes_on tag left rest long e =
+    grind (
+      arith,
+      get_or_append_left left rest 0 0,
+      get_or_append_left left rest 0 2,
+      with_class (class_of_byte (slice_index (left ++ rest) 2)),
+      with_class,
+    )
+
+-- a string with a header has all its bytes
+pub header_enough : (b : List ℕ) (h : InetResponseHeader) → read inet_response_header tt b ≡ Ok h
+    → 72 ≤ length b
+header_enough = enough inet_response_header header_size
+
+-- the laws of header and attributes
+pub inet_response_laws : ResponseLaws inet_response_spec
+inet_response_laws = response_laws inet_response_header header_size header_sound goes_on inet_laws
+
+-- the test of two replies
+abbrev pub inet_test : ValueOf inet_response_spec → ValueOf inet_response_spec → Bool
+inet_test = response_test headers.eq inet inet_tests
+
+pub inet_test_decides : (v w : ValueOf inet_response_spec) → IsTrue (inet_test v w) ↔ (v ≡ w)
+inet_test_decides = response_test_decides headers.eq inet inet_tests exact_header.0

@@ -1,0 +1,37 @@
+-- The laws of replies about UNIX sockets.
+use Rattle.std.proofs.Common.{◌≡◌, ◌≤◌, ◌↔◌, ℕ, List, Bool, IsTrue, length, Ok, refl}
+use Rattle.netlink_core.specs.Layout.{read}
+use Rattle.netlink_core.specs.Response.{ValueOf}
+use Rattle.netlink_core.specs.laws.Shown.{ResponseLaws}
+use Rattle.sock_diag_records.specs.contracts.unix.response.UnixResponseHeaderExact.TheImpl.Laws.{exact-law as exact_header}
+use Rattle.sock_diag_records.specs.contracts.unix.response.UnixResponseHeaderPartialEq.TheImpl.{ghosts as headers}
+use Rattle.sock_diag_records.specs.declared.unix.response.UnixResponseHeader.{UnixResponseHeader}
+use Rattle.sock_diag_records.specs.UnixResponseHeader.{unix_response_header}
+use Rattle.sock_diag_records.specs.laws.UnixResponseHeader.{unix_response_header_sound}
+use Rattle.sock_diag_attributes.specs.laws.EqualUnix.{unix_tests}
+use Rattle.sock_diag_attributes.specs.UnixAttributes.{unix}
+use Rattle.sock_diag_attributes.specs.laws.UnixAttribute.{unix_laws}
+use Rattle.sock_diag_replies.specs.laws.EqualResponse.{response_test, response_test_decides}
+use Rattle.sock_diag_replies.specs.laws.Header.{enough, response_laws}
+use Rattle.sock_diag_replies.specs.UnixResponseSpec.{unix_response_spec}
+
+-- a string with a header has all its bytes
+pub header_enough : (b : List ℕ) (h : UnixResponseHeader) → read unix_response_header tt b ≡ Ok h
+    → 16 ≤ length b
+header_enough = enough unix_response_header (refl, λ tag. refl)
+
+-- the laws of header and attributes
+pub unix_response_laws : ResponseLaws unix_response_spec
+unix_response_laws = response_laws unix_response_header (
+  refl,
+  λ tag.
+      refl,
+) unix_response_header_sound
+    (λ tag left rest long e. e) unix_laws
+
+-- the test of two replies
+abbrev pub unix_test : ValueOf unix_response_spec → ValueOf unix_response_spec → Bool
+unix_test = response_test headers.eq unix unix_tests
+
+pub unix_test_decides : (v w : ValueOf unix_response_spec) → IsTrue (unix_test v w) ↔ (v ≡ w)
+unix_test_decides = response_test_decides headers.eq unix unix_tests exact_header.0

@@ -1,0 +1,5 @@
+-- Lemmas about the definitions, and what the lemmas need.
+pub mod MemInfo
+pub mod MemInfoEqual
+pub mod TcpInfo
+pub mod TcpInfoEqual
