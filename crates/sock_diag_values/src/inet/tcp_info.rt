@@ -6,8 +6,8 @@ ghost use Rattle.netlink_core.specs.Layout.{read};
 ghost use Rattle.netlink_core.proofs.LayoutLaws.{record_laws};
 ghost use Rattle.sock_diag_values.specs.TcpInfo.{tcp_info};
 ghost use Rattle.sock_diag_values.specs.private.TcpInfo.{states, counts, ages, metrics, receiver};
-ghost use Rattle.sock_diag_values.specs.private.TcpInfo.{rates, segments, limits, deliveries, totals};
-ghost use Rattle.sock_diag_values.specs.private.TcpInfo.{reorderings, front, middle, back};
+ghost use Rattle.sock_diag_values.specs.private.TcpInfo.{rates, segments, limits, deliveries};
+ghost use Rattle.sock_diag_values.specs.private.TcpInfo.{totals, reorderings, front, middle, back};
 ghost use Rattle.sock_diag_values.specs.laws.TcpInfoEqual.{tcp_info_equal};
 ghost use Rattle.sock_diag_values.specs.laws.TcpInfo.{tcp_info_sound};
 
