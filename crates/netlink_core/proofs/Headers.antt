@@ -4,6 +4,8 @@ use Rattle.std.proofs.Common.{◌≡◌, ◌↔◌, ℕ, ◌+◌, ◌-◌, ◌�
 use Rattle.std.proofs.Common.{length, take, drop, slice_index, refl, sym, ap, ◌∙◌, arith}
 use Rattle.netlink_core.specs.laws.Prefix.{framed_or_not}
 use Rattle.std.proofs.lemmas.List.{take-append-drop, take_at, length-append}
+use Rattle.std.proofs.lemmas.List.{length-take, length-drop, drop-append-le, take_all}
+use Rattle.byteorder.specs.Numbers.{little_from-append}
 use Rattle.byteorder.specs.Endian.{little_number}
 use Rattle.netlink_core.specs.declared.header.NetlinkHeader.{NetlinkHeader}
 use Rattle.netlink_core.specs.declared.fault.DecodeError.{DecodeError}
@@ -83,6 +85,36 @@ same_leading_header b c h k tb tc head other =
       λ e. let bits = same.0 cc in cc,
       λ e. let values = same.1 cc in same_header h k cc,
     )
+
+-- a number among the first bytes does not depend on the bytes after them
+leading_number : (width from : ℕ) (xs ys : List ℕ) → from + width ≤ length xs
+    → little_number width (drop from (xs ++ ys)) ≡ little_number width (drop from xs)
+leading_number width from xs ys within = rw (drop-append-le from xs ys (omega arith))
+    (little_from-append width (drop from xs) ys (omega (arith, length-drop from xs)))
+
+-- the first message of the bytes has the header of the bytes
+pub message_has_header : (bytes message : List ℕ) (h : NetlinkHeader) → HasHeader bytes h
+    → message ≡ take h.length bytes → HasHeader message h × (h.length ≡ length message)
+message_has_header bytes message h head is =
+    let tail : List ℕ = drop h.length bytes in
+    let size : length message ≡ h.length = rw is (omega (arith, length-take h.length bytes)) in
+    let parts : bytes ≡ message ++ tail = cc (take-append-drop h.length bytes) in
+    let long : 16 ≤ length message = omega arith in
+    let whole : values_of header_fields (message ++ tail) ≡ header_values h = rw parts at head.0 in
+    let same : values_of header_fields message ≡ header_values h = cc (
+      leading_number 4 0 message tail (omega arith),
+      leading_number 2 4 message tail (omega arith),
+      leading_number 2 6 message tail (omega arith),
+      leading_number 4 8 message tail (omega arith),
+      leading_number 4 12 message tail (omega arith),
+    ) in
+    ((same, head.1, head.2, omega arith), sym size)
+
+-- the payload of a message is the bytes after its header
+pub whole_payload : (message : List ℕ) (h : NetlinkHeader) → h.length ≡ length message
+    → take (h.length - 16) (drop 16 message) ≡ drop 16 message
+whole_payload message h size =
+    take_all (h.length - 16) (drop 16 message) (omega (arith, length-drop 16 message))
 
 -- written, the fields are read again, whatever follows
 values_back : (h : NetlinkHeader) (rest : List ℕ) → Fit header_fields (header_values h)

@@ -1,4 +1,4 @@
-//! The messages of a datagram, read in place.
+//! Iterators over the messages of a datagram.
 
 ghost use Rattle.std.specs.Prelude.{◌≡◌};
 
@@ -6,29 +6,97 @@ use crate::attribute::padded;
 use crate::fault::DecodeError;
 use crate::header::NetlinkHeader;
 
-/// The walk over messages that stand one after the other in a datagram, each at a multiple of 4. An
-/// item is the bytes of one message, as many as its own length word says.
+/// An iterator over consecutive netlink messages, each at a multiple of 4 bytes. An item is a message's
+/// header and the bytes of the message, header included: as many as the header's length field counts.
 ///
-/// It ends where no bytes are left. Behind the last message the padding may be missing, in whole or
-/// in part. After a fault it gives nothing more. No memory is taken.
+/// It ends when no bytes are left. The padding of the last message may be missing or truncated. After
+/// an error it yields nothing more. It does not allocate.
+#[derive(Clone, Drop)]
+pub struct FramedMessages<'a> {
+    bytes: &'a [u8],
+    // Offset of the next message. At or past the end of the bytes, no message is left.
+    at: usize,
+}
+
+impl<'a> FramedMessages<'a> {
+    ghost use Rattle.netlink_core.specs.DatagramWalk.{framed_left};
+
+    /// Returns an iterator over the messages of this datagram.
+    pub fn new(datagram: &'a [u8]) -> FramedMessages<'a>
+        ensures { framed_left result ≡ datagram.entry.now }
+    {
+        FramedMessages {
+            bytes: datagram,
+            at: 0,
+        }
+    }
+}
+
+impl<'a> Iterator for FramedMessages<'a> {
+    ghost use Rattle.std.specs.Prelude.{◌+◌, ◌/◌, length, IfSome, None};
+    ghost use Rattle.std.specs.Iterator.{at_most, UpTo};
+    ghost use Rattle.std.specs.Iterator.SizeHint.{IsWithinCount};
+    ghost use Rattle.netlink_core.specs.DatagramWalk.{GivesFramed, framed_left};
+
+    type Item = Result<(NetlinkHeader, &'a [u8]), DecodeError>;
+
+    ghost next_gives = { GivesFramed };
+
+    // At most one item for each sixteen bytes, rounded up.
+    ghost remaining = { λ messages. at_most ((length (framed_left messages) + 15) / 16) };
+
+    /// Returns the next message. If the bytes that are left do not start with one, the errors are
+    /// those of [`NetlinkHeader::from_prefix`].
+    #[inline(always)]
+    fn next(&mut self) -> Option<Result<(NetlinkHeader, &'a [u8]), DecodeError>> {
+        if self.at >= self.bytes.len() {
+            return None;
+        }
+        let left = &self.bytes[self.at..];
+        match NetlinkHeader::from_prefix(left) {
+            Ok(header) => {
+                let end = header.length as usize;
+                self.at += padded(end);
+                Some(Ok((header, &left[..end])))
+            }
+            Err(fault) => {
+                self.at = self.bytes.len();
+                Some(Err(fault))
+            }
+        }
+    }
+
+    /// Returns no bounds: only iterating shows how many messages are left.
+    fn size_hint(&self) -> (usize, Option<usize>)
+        ensures lower { IsWithinCount result.0
+            (at_most ((length (framed_left self.now) + 15) / 16)) }
+        ensures upper { IfSome result.1
+            (UpTo (at_most ((length (framed_left self.now) + 15) / 16))) }
+        ensures unknown { result ≡ (0, None) }
+    {
+        (0, None)
+    }
+}
+
+/// An iterator over consecutive netlink messages, each at a multiple of 4 bytes. An item is the bytes
+/// of one message, header included: as many as its length field counts.
+///
+/// It ends when no bytes are left. The padding of the last message may be missing or truncated. After
+/// an error it yields nothing more. It does not allocate.
 #[derive(Clone, Drop)]
 pub struct MessageStrings<'a> {
-    bytes: &'a [u8],
-    // Where the next message stands. A place at the end of the bytes or behind it says that none is
-    // left.
-    at: usize,
+    messages: FramedMessages<'a>,
 }
 
 impl<'a> MessageStrings<'a> {
     ghost use Rattle.netlink_core.specs.DatagramWalk.{datagram_left};
 
-    /// The walk over these bytes.
+    /// Returns an iterator over the messages of this datagram.
     pub fn new(datagram: &'a [u8]) -> MessageStrings<'a>
         ensures { datagram_left result ≡ datagram.entry.now }
     {
         MessageStrings {
-            bytes: datagram,
-            at: 0,
+            messages: FramedMessages::new(datagram),
         }
     }
 }
@@ -44,30 +112,19 @@ impl<'a> Iterator for MessageStrings<'a> {
     ghost next_gives = { GivesMessage };
 
     // At most one item for each sixteen bytes, rounded up.
-    ghost remaining = { λ walk. at_most ((length (datagram_left walk) + 15) / 16) };
+    ghost remaining = { λ messages. at_most ((length (datagram_left messages) + 15) / 16) };
 
-    /// The bytes of the next message. At each the faults are those of
-    /// [`NetlinkHeader::from_prefix`], over the bytes that are left.
+    /// Returns the bytes of the next message. If the bytes that are left do not start with one, the
+    /// errors are those of [`NetlinkHeader::from_prefix`].
     #[inline(always)]
     fn next(&mut self) -> Option<Result<&'a [u8], DecodeError>> {
-        if self.at >= self.bytes.len() {
-            return None;
-        }
-        let left = &self.bytes[self.at..];
-        match NetlinkHeader::from_prefix(left) {
-            Ok(header) => {
-                let end = header.length as usize;
-                self.at += padded(end);
-                Some(Ok(&left[..end]))
-            }
-            Err(fault) => {
-                self.at = self.bytes.len();
-                Some(Err(fault))
-            }
+        match self.messages.next()? {
+            Ok((_header, message)) => Some(Ok(message)),
+            Err(fault) => Some(Err(fault)),
         }
     }
 
-    /// How many are left is told by the walk alone.
+    /// Returns no bounds: only iterating shows how many messages are left.
     fn size_hint(&self) -> (usize, Option<usize>)
         ensures lower { IsWithinCount result.0
             (at_most ((length (datagram_left self.now) + 15) / 16)) }

@@ -21,7 +21,7 @@ mod wire;
 pub use crate::attribute::{NLA_HEADER_SIZE, NlaBuffer, NlasIterator, padded};
 pub use crate::canon::{CanonError, canonical};
 pub use crate::codec::{Emitable, Input, Parseable, ParseableParametrized, ReadParam, Readable};
-pub use crate::datagram::MessageStrings;
+pub use crate::datagram::{FramedMessages, MessageStrings};
 pub use crate::exact::Exact;
 pub use crate::family::{FamilyNla, FamilyView};
 pub use crate::fault::{DecodeError, RecordName};

@@ -2,7 +2,7 @@
 use Rattle.std.specs.Prelude.{◌≡◌, ◌≢◌, ◌⊎◌, ℕ, List, [], Option, Result, Err, MatchOption}
 use Rattle.netlink_core.specs.declared.fault.DecodeError.{DecodeError}
 use Rattle.netlink_core.specs.Datagram.{StartsWithMessage}
-use Rattle.netlink_core.specs.DatagramWalk.{datagram_left}
+use Rattle.netlink_core.specs.DatagramWalk.{framed_left}
 use Rattle.netlink_core.specs.Header.{IsEnvelopeFault}
 use Rattle.netlink_core.specs.Items.{ItemIs}
 use Rattle.netlink_packet_sock_diag.specs.declared.dump.views.DumpViews.{DumpViews}
@@ -13,7 +13,7 @@ use Rattle.netlink_packet_sock_diag.specs.PayloadViewModel.{payload_view_model}
 
 -- the bytes that the iterator has not read yet
 abbrev pub views_left : DumpViews → List ℕ
-views_left views = datagram_left views.messages
+views_left views = framed_left views.messages
 
 -- A step yields the payload of the first message, or its error, and the bytes after the padding of
 -- the message are left. If the bytes do not start with a message, it yields the error, and no bytes

@@ -14,7 +14,7 @@ ghost use Rattle.netlink_packet_sock_diag.specs.declared.dump.DumpState.TheVaria
 use super::kept::Kept;
 use super::{DumpError, DumpState};
 use netlink_core::{
-    DecodeError, MessageStrings, NETLINK_HEADER_LEN, NLMSG_DONE, NLMSG_ERROR, NLMSG_NOOP,
+    DecodeError, FramedMessages, NETLINK_HEADER_LEN, NLMSG_DONE, NLMSG_ERROR, NLMSG_NOOP,
     NLMSG_OVERRUN, NetlinkHeader, error_number,
 };
 use std::alloc::Global;
@@ -52,11 +52,10 @@ fn take_messages<I: Kept>(
         (dump_with (map I.model messages.new.items) (Failed, None) interrupted.new)
         × (I.needs_memory entry ⊎ (vec_capacity messages.new ≤ vec_len messages.new)))) }
 {
-    for item in MessageStrings::new(datagram) {
-        let message = item?;
-        let header = NetlinkHeader::from_prefix(message)?;
+    for item in FramedMessages::new(datagram) {
+        let (header, message) = item?;
         *interrupted = interrupted_by(*interrupted, &header);
-        let payload = &message[NETLINK_HEADER_LEN..header.length as usize];
+        let payload = &message[NETLINK_HEADER_LEN..];
         match header.message_type {
             NLMSG_NOOP => {}
             NLMSG_ERROR => return Ok((DumpState::Error, error_number(payload))),

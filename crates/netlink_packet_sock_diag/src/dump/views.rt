@@ -4,13 +4,14 @@ ghost use Rattle.std.specs.Prelude.{◌≡◌, ◌↔◌, length, IfOk, IfErr, I
 ghost use Rattle.netlink_core.specs.Envelope.{IsInnerType, OfInner, PayloadIs, envelope_codec};
 ghost use Rattle.netlink_core.specs.Envelope.{payload_bytes};
 ghost use Rattle.netlink_core.specs.Faults.{map_ok};
+ghost use Rattle.netlink_core.specs.Header.{HasHeader};
 ghost use Rattle.netlink_core.specs.Items.{ItemIs};
 ghost use Rattle.netlink_packet_sock_diag.specs.Message.{message_codec};
 ghost use Rattle.netlink_packet_sock_diag.specs.PayloadViewModel.{payload_view_model};
 
 use crate::message::SockDiagView;
 use netlink_core::{
-    DecodeError, Emitable, MessageStrings, NETLINK_HEADER_LEN, NLMSG_DONE, NLMSG_ERROR, NLMSG_NOOP,
+    DecodeError, Emitable, FramedMessages, NETLINK_HEADER_LEN, NLMSG_DONE, NLMSG_ERROR, NLMSG_NOOP,
     NLMSG_OVERRUN, NetlinkHeader, NetlinkPayload,
 };
 
@@ -91,15 +92,14 @@ impl<'a> MessageView<'a> {
     }
 }
 
-// What the message in these bytes carries, or the first fault.
+// Returns the payload of the message with this header, or its first error.
 #[inline(always)]
-fn carried<'a>(message: &'a [u8]) -> Result<PayloadView<'a>, DecodeError>
+fn payload_of<'a>(header: &NetlinkHeader, message: &'a [u8]) -> Result<PayloadView<'a>, DecodeError>
+    requires header { HasHeader message.now header.now }
+    requires whole { header.now.length ≡ length message.now }
     ensures { ItemIs message_codec message.entry.now (map_ok payload_view_model result) }
 {
-    match MessageView::parse(message) {
-        Ok(view) => Ok(view.payload),
-        Err(fault) => Err(fault),
-    }
+    read_payload(header, &message[NETLINK_HEADER_LEN..])
 }
 
 /// The walk over the messages of a datagram, each as what it carries. The end of a dump does not
@@ -108,7 +108,7 @@ fn carried<'a>(message: &'a [u8]) -> Result<PayloadView<'a>, DecodeError>
 /// It ends where no bytes are left, and behind what is no message. No memory is taken.
 #[derive(Clone, Drop)]
 pub struct DumpViews<'a> {
-    messages: MessageStrings<'a>,
+    messages: FramedMessages<'a>,
 }
 
 impl<'a> DumpViews<'a> {
@@ -119,7 +119,7 @@ impl<'a> DumpViews<'a> {
         ensures { views_left result ≡ datagram.entry.now }
     {
         DumpViews {
-            messages: MessageStrings::new(datagram),
+            messages: FramedMessages::new(datagram),
         }
     }
 }
@@ -142,7 +142,7 @@ impl<'a> Iterator for DumpViews<'a> {
     #[inline(always)]
     fn next(&mut self) -> Option<Result<PayloadView<'a>, DecodeError>> {
         match self.messages.next()? {
-            Ok(message) => Some(carried(message)),
+            Ok((header, message)) => Some(payload_of(&header, message)),
             Err(fault) => Some(Err(fault)),
         }
     }
