@@ -1,4 +1,4 @@
-//! The messages of a datagram, read in place.
+//! The messages of a datagram, borrowed.
 
 ghost use Rattle.std.specs.Prelude.{◌≡◌};
 
@@ -6,23 +6,22 @@ use crate::attribute::padded;
 use crate::fault::DecodeError;
 use crate::header::NetlinkHeader;
 
-/// The walk over messages that stand one after the other in a datagram, each at a multiple of 4. An
-/// item is the bytes of one message, as many as its own length word says.
+/// An iterator over the messages of a datagram, each of which starts at a multiple of 4. An item is
+/// the bytes of one message, from its header to its length (`nlmsg_len`).
 ///
-/// It ends where no bytes are left. Behind the last message the padding may be missing, in whole or
-/// in part. After a fault it gives nothing more. No memory is taken.
+/// The iterator ends when no bytes are left. The padding after the last message may be missing,
+/// wholly or in part. An error is the last item. Nothing is allocated.
 #[derive(Clone, Drop)]
 pub struct MessageStrings<'a> {
     bytes: &'a [u8],
-    // Where the next message stands. A place at the end of the bytes or behind it says that none is
-    // left.
+    // The offset of the next message. If it is not below the number of bytes, no message is left.
     at: usize,
 }
 
 impl<'a> MessageStrings<'a> {
     ghost use Rattle.netlink_core.specs.DatagramWalk.{datagram_left};
 
-    /// The walk over these bytes.
+    /// Returns an iterator over the messages of the datagram.
     pub fn new(datagram: &'a [u8]) -> MessageStrings<'a>
         ensures { datagram_left result ≡ datagram.entry.now }
     {
@@ -46,8 +45,8 @@ impl<'a> Iterator for MessageStrings<'a> {
     // At most one item for each sixteen bytes, rounded up.
     ghost remaining = { λ walk. at_most ((length (datagram_left walk) + 15) / 16) };
 
-    /// The bytes of the next message. At each the faults are those of
-    /// [`NetlinkHeader::from_prefix`], over the bytes that are left.
+    /// Returns the bytes of the next message, or the error that [`NetlinkHeader::from_prefix`]
+    /// returns for the remaining bytes.
     #[inline(always)]
     fn next(&mut self) -> Option<Result<&'a [u8], DecodeError>> {
         if self.at >= self.bytes.len() {
@@ -67,7 +66,7 @@ impl<'a> Iterator for MessageStrings<'a> {
         }
     }
 
-    /// How many are left is told by the walk alone.
+    /// Returns `(0, None)`: the number of items is known only after iterating.
     fn size_hint(&self) -> (usize, Option<usize>)
         ensures lower { IsWithinCount result.0
             (at_most ((length (datagram_left self.now) + 15) / 16)) }
