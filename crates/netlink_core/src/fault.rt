@@ -116,7 +116,7 @@ pub enum DecodeError {
     /// A socket's name has no bytes.
     #[error("name is empty")]
     NameEmpty,
-    /// A pathname contains a NUL before its last byte. The index is that of its first NUL.
+    /// A pathname contains a NUL before its last byte. `index` is the index of the first NUL.
     #[error("pathname holds a zero at {index}")]
     NameInnerZero {
         index: usize,
