@@ -49,7 +49,7 @@ HasPrefix bytes a = (tail : List ℕ) × (bytes ≡ unpadded a ++ tail)
     × ((a.type_word < 2 ^ 16) × HasFittingValue a)
 
 -- The bytes are the attribute, its padding, and `rest`. The padding may have any content. It is
--- complete, or, if nothing follows, shorter.
+-- complete, up to a multiple of four; if nothing follows, it may be shorter.
 pub record StartsWith (bytes : List ℕ) (a : Attribute) (rest : List ℕ) : Type 0 where
   pub padding : List ℕ
   pub parts : bytes ≡ unpadded a ++ (padding ++ rest)
@@ -88,7 +88,8 @@ module _ {A : Type 0} (reads : Attribute → Result A DecodeError) where
   AttributesMean bytes values = (attributes : List Attribute) × Cut bytes attributes []
       × AllZip (λ a value. reads a ≡ Ok value) attributes values
 
-  -- the first error of the first attribute: an error of its framing, or else of its value
+  -- the first error at the start of the bytes: an error of the framing, or else of the first
+  -- attribute's value
   abbrev pub IsPrefixFault : List ℕ → DecodeError → Type 0
   IsPrefixFault b e = IsFramingFault b e ⊎ ((a : Attribute) × HasPrefix b a × (reads a ≡ Err e))
 

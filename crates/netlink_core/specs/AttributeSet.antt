@@ -55,8 +55,8 @@ AreIdleAttributes (spec ∷ others) a b = cond (attribute_type a == spec.number)
     ((attribute_type b ≡ spec.number) × spec.value.idle tt a.value b.value)
     ((attribute_type b ≢ spec.number) × AreIdleAttributes others a b)
 
--- a decoded value is in range: for a raw attribute, the type field has 16 bits and the value is
--- bytes
+-- a decoded value is in range: a value of a type is, by its codec; a raw attribute has a type field
+-- of 16 bits, and its value is bytes
 abbrev pub IsInRangeBy : (F : AttributeSet) → AttributeValue F → Type 0
 IsInRangeBy [] a = (a.type_word < 2 ^ 16) × IsBytes a.value
 IsInRangeBy (spec ∷ others) (inl x) = spec.value.is_in_range x

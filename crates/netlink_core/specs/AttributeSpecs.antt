@@ -10,7 +10,7 @@ use Rattle.netlink_core.specs.AttributeSet.{AttributeSpec}
 abbrev pub spec : ℕ → ValueCodec (Unit {0}) → AttributeSpec
 spec k value = record { number = k; value = value; is_spare = ⊤ }
 
--- the attribute type of kind `k` with this codec of its values, which need memory
+-- the attribute type of kind `k` with this codec of its values, which count as needing memory
 abbrev pub memory_spec : ℕ → ValueCodec (Unit {0}) → AttributeSpec
 memory_spec k value = record { number = k; value = value; is_spare = ⊥ }
 

@@ -8,8 +8,8 @@ use Rattle.netlink_core.specs.Attribute.{fill}
 use Rattle.netlink_core.specs.Header.{IsEnvelopeFault}
 
 -- The bytes are the message, its padding, and `rest`. The message is as long as its length field
--- (`nlmsg_len`), which includes the 16 bytes of its header. The padding up to a multiple of four
--- may have any content. It is complete, or, if nothing follows, shorter.
+-- (`nlmsg_len`), which includes the 16 bytes of its header. The padding may have any content. It is
+-- complete, up to a multiple of four; if nothing follows, it may be shorter.
 pub record StartsWithMessage (bytes message rest : List ℕ) : Type 0 where
   pub padding : List ℕ
   pub parts : bytes ≡ message ++ (padding ++ rest)

@@ -12,8 +12,8 @@ use Rattle.netlink_core.specs.Envelope.{Payload, envelope_codec}
 abbrev pub Item : Type 0 → Type 0
 Item A = Result (Payload A) DecodeError
 
--- the bytes of one message, `m`, parse as this payload, or are rejected with this error, given the
--- codec of inner messages
+-- the bytes of one message, `m`, parse as this payload with some header, or are rejected with this
+-- error; `C` is the codec of inner messages, whose parameter is the message type
 abbrev pub ItemIs : (C : Codec ℕ) → List ℕ → Item C.Value → Type 0
 ItemIs C m item = MatchResult item (λ p. (h : NetlinkHeader) × (envelope_codec C).reads m tt
     (record { header = h; payload = p })) ((envelope_codec C).refuses m tt)
