@@ -108,8 +108,8 @@ impl Start for Brand {
     ghost answer = { λ line. line };
 }
 
-/// The buffers that a run reuses from line to line. A line needs an allocation only if it is longer
-/// than the lines before, or if a buffer was freed after a line that needed more than `KEPT` bytes.
+/// The buffers that a run reuses from line to line. They allocate only to grow, or after a buffer
+/// was freed because its capacity was above `KEPT`.
 #[derive(Drop)]
 struct Kept {
     /// The bytes since the last line feed.

@@ -43,10 +43,10 @@ use crate::{
 };
 use std::alloc::AllocError;
 
-/// Defines by equations when bytes are split into attributes (`Cut`). Empty bytes have no
-/// attributes. Other bytes start with the first attribute. Then either its padding is complete and
-/// the remaining bytes are split into the later attributes, or its padding is short, nothing
-/// follows, and it is the last one.
+/// Bytes are split into attributes (`Cut`) exactly as follows. Empty bytes have no attributes.
+/// Other bytes begin with the first attribute. Either its padding is complete, and the remaining
+/// bytes are split into the later attributes; or its padding is short, nothing follows, and it is
+/// the last one.
 pub fn cut_is_as_stated()
     ensures none { (bytes : List ℕ) → Cut bytes [] [] ↔ (bytes ≡ []) }
     ensures some { (bytes : List ℕ) (a : Attribute) (later : List Attribute)
@@ -63,8 +63,8 @@ pub fn one_list_of_attributes()
         → xs ≡ ys }
 {}
 
-/// The bytes that attributes serialize to are split into these attributes, whatever follows. The
-/// type field and the value of each have to fit.
+/// The bytes that attributes serialize to are split into these attributes, whatever follows, if
+/// each type field has 16 bits and each value fits its length field.
 pub fn written_attributes_are_cut()
     ensures { (xs : List Attribute) → AllByRecursion
         (λ (a : Attribute). (a.type_word < 2 ^ 16) × HasFittingValue a) xs
@@ -79,14 +79,14 @@ pub fn read_where_it_stands<T: Record>()
         → (read T.layout param bytes ≡ Ok value) ↔ StandsIn T.layout bytes param value }
 {}
 
-/// Returns whether parsing a record can allocate: it cannot.
+/// Returns whether parsing a record can fail with `Memory`: it cannot.
 pub fn records_take_memory<T: Record>() -> bool
     ensures { result ≡ false }
 {
     T::TAKES_MEMORY
 }
 
-/// Returns whether parsing an attribute of any kind can allocate: it can.
+/// Returns whether parsing an attribute of any kind can fail with `Memory`: it can.
 pub fn attributes_take_memory() -> bool
     ensures { result ≡ true }
 {
@@ -104,8 +104,9 @@ pub fn content_is_of_its_type<T: FamilyNla>()
         → ¬ Contains (numbers T.attribute_set) k → content T.attribute_set k v ≡ None }
 {}
 
-/// The iterator yields the attributes that the bytes are split into, and then ends. If it yields an
-/// error, it yields the attributes before the error first, and no bytes are left.
+/// If the iterator ends without an error, it has yielded the attributes that the bytes are split
+/// into. If it yields an error, it has yielded the attributes before this error, and no bytes are
+/// left.
 pub fn whole_walk_is_the_cut()
     ensures ended { (walk : NlasIterator) (given : List NlaBuffer)
         → Drains GivesAttribute walk (map (λ (b : NlaBuffer). Ok b) given)
@@ -264,8 +265,9 @@ pub fn finalized_message_reads_back<I: Coded<Param = u16>>()
         ↔ (envelope_codec I.codec).is_normal tt v) }
 {}
 
-/// The iterator yields the messages that the datagram is split into, and then ends. If it yields an
-/// error, it yields the messages before the error first, and no bytes are left.
+/// If the iterator ends without an error, it has yielded the messages that the datagram is split
+/// into. If it yields an error, it has yielded the messages before this error, and no bytes are
+/// left.
 pub fn whole_walk_is_the_datagram()
     ensures ended { (walk : MessageStrings) (given : List (Bor (List ℕ)))
         → Drains GivesMessage walk (map (λ (m : Bor (List ℕ)). Ok m) given)
@@ -282,7 +284,7 @@ pub fn one_list_of_messages()
         → CutIntoMessages bytes xs e → CutIntoMessages bytes ys f → (xs ≡ ys) × (e ≡ f) }
 {}
 
-/// Each datagram has items.
+/// Each datagram has a list of items.
 pub fn datagram_has_items<I: Coded<Param = u16>>()
     ensures { (bytes : List ℕ) → IsBytes bytes
         → (items : List (Result (Payload I.codec.Value) DecodeError))
