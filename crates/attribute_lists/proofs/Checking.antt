@@ -1,5 +1,5 @@
--- A whole walk that checks each attribute as it is given gives what the bytes mean, or ends with
--- their first fault.
+-- Iterating over all bytes and checking each attribute yields the values of the bytes, or ends with
+-- their first error.
 use Rattle.std.proofs.Common.{Option, Result, Ok, Err, Some, ◌≡◌, List, [], ◌∷◌}
 use Rattle.std.specs.Prelude.{map}
 use Rattle.std.specs.Iterator.{Drains, YieldsThen}
@@ -12,7 +12,7 @@ use Rattle.netlink_core.specs.Walk.{bytes_left}
 use Rattle.netlink_core.proofs.Walking.{later_fault, fault_here}
 use Rattle.attribute_lists.specs.declared.checked.CheckedNlas.{CheckedNlas}
 
--- what a step of the walk gives
+-- a step of the iterator yields a value, the first error, or `None`
 abbrev GivesValue : {V : Type 0} → (F : AttributeSet) → (V → AttributeValue F) → CheckedNlas V
     → Option (Result V DecodeError) → CheckedNlas V → Type 0
 GivesValue F model old given new =
@@ -20,7 +20,7 @@ GivesValue F model old given new =
     × (decodes F a ≡ Ok (model view))) (IsPrefixFault (decodes F)) (bytes_left old.walk) given
     (bytes_left new.walk)
 
--- items that are attributes
+-- items without errors
 abbrev found : {V : Type 0} → List V → List (Result V DecodeError)
 found {V} given = map (λ (v : V). Ok v) given
 

@@ -1,4 +1,4 @@
--- Attributes that are encoded as what they decode to.
+-- Serializing a list of attributes is serializing their decoded values.
 use Rattle.std.proofs.Common.{arith}
 use Rattle.std.proofs.Common.{◌≡◌, List, [], ◌∷◌, map, refl}
 use Rattle.netlink_core.specs.Attribute.{Attribute}

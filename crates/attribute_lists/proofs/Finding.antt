@@ -1,4 +1,5 @@
--- The attributes that are found in bytes are those that the bytes are cut into.
+-- The values that are found in bytes (`values_in`) are the values of the attributes that the bytes
+-- are split into.
 use Rattle.std.proofs.Common.{Result, Ok, Err, IsOk, ◌≡◌, ◌≢◌, ℕ, List, [], ◌∷◌, drop, inl, inr}
 use Rattle.std.proofs.Common.{◌↔◌, subst, refl, arith}
 use Rattle.std.proofs.lemmas.List.{append-nil}
@@ -14,19 +15,19 @@ use Rattle.netlink_core.proofs.Cutting.{means_or_fault, means_or_fault_apart}
 use Rattle.attribute_lists.specs.AttributesIn.{HasNoFault, response_behind, values_in}
 use Rattle.attribute_lists.proofs.Standing.{found_first, found_none}
 
--- the value in an answer that is no fault
+-- the value of a result that is not an error
 value_in : {A : Type 0} (answer : Result A DecodeError) → ((e : DecodeError)
     → answer ≡ Err e → ⊥) → (value : A) × (answer ≡ Ok value)
 value_in (Ok value) good = (value, refl)
 value_in (Err e) good = absurd (good e refl)
 
 module _ {A : Type 0} (reads : Attribute → Result A DecodeError) where
-  -- what the first one says comes first
+  -- the value of the first attribute is the first value that is found
   pub value_first : (bytes rest : List ℕ) (a : Attribute) (v : A) → StartsWith bytes a rest
       → reads a ≡ Ok v → values_in reads bytes ≡ v ∷ values_in reads rest
   value_first bytes rest a v s reads_v = rw (found_first bytes rest a s, reads_v) refl
 
-  -- what bytes mean is what is found in them
+  -- if bytes parse as values, then these are found
   pub values_are : (bytes : List ℕ) (values : List A) → AttributesMean reads bytes values
       → values_in reads bytes ≡ values
   values_are bytes (v ∷ values) (a ∷ later, (rest, start, cut), (first, said)) =
@@ -42,7 +43,7 @@ module _ {A : Type 0} (reads : Attribute → Result A DecodeError) where
   values_are bytes [] ([], cut, said) = rw (cut, found_none) refl
   values_are bytes values (attributes, cut, said) = absurd said
 
-  -- bytes with no fault mean what is found in them
+  -- bytes without an error parse as the values that are found
   pub values_mean : (bytes : List ℕ) → IsBytes bytes → HasNoFault reads bytes
       → AttributesMean reads bytes (values_in reads bytes)
   values_mean bytes in_range clean =
@@ -51,7 +52,7 @@ module _ {A : Type 0} (reads : Attribute → Result A DecodeError) where
         | inr f ↦ absurd (clean.none f.0 f.1)
       ]
 
-  -- and no other values
+  -- bytes without an error parse as no other values
   pub values_fixed : (bytes : List ℕ) (vs : List A) → IsBytes bytes → HasNoFault reads bytes
       → (values_in reads bytes ≡ vs) ↔ AttributesMean reads bytes vs
   values_fixed bytes vs in_range clean = (
@@ -59,19 +60,18 @@ module _ {A : Type 0} (reads : Attribute → Result A DecodeError) where
     values_are bytes vs,
   )
 
-  -- behind an attribute that says something there is no fault either
+  -- the bytes after an attribute that parses have no error either
   pub rest_has_no_fault : (bytes rest : List ℕ) (a : Attribute) (v : A) → StartsWith bytes a rest
       → reads a ≡ Ok v → HasNoFault reads bytes → HasNoFault reads rest
   rest_has_no_fault bytes rest a v s reads_v clean =
       record { none = λ e f. clean.none e (later_fault reads bytes rest a v e s reads_v f) }
 
-  -- nor is there one in no bytes
   pub nothing_has_no_fault : HasNoFault reads []
   nothing_has_no_fault = record {
     none = λ e. means_or_fault_apart reads [] [] e ([], refl, tt);
   }
 
-  -- no framing fault, and the first attribute decodes to something
+  -- bytes without an error have no framing error, and their first attribute parses
   pub no_framing_fault : (bytes : List ℕ) (e : DecodeError) → HasNoFault reads bytes → bytes ≢ []
       → IsFramingFault bytes e → ⊥
   no_framing_fault bytes e clean some f = clean.none e (fault_here reads bytes e some (inl f))
@@ -88,13 +88,14 @@ module _ {A : Type 0} (reads : Attribute → Result A DecodeError) where
       → StartsWith bytes a rest → IsOk (reads a)
   first_is_accepted bytes rest a clean s = rw (first_found bytes rest a clean s).1 refl
 
--- a fault behind a header that can be read is that of the reply
+-- an error after an accepted header is an error of the reply
 pub behind_refused : (R : ResponseSpec) (bytes part : List ℕ) → part ≡ drop R.size bytes
     → (h : R.header.Value) (e : DecodeError) → R.header.reads tt bytes ≡ Ok h
     → AttributeFault (decodes R.attribute_set) part e → (response_codec R).refuses bytes tt e
 behind_refused R bytes part same h e good f = inr (h, good, rw same at f)
 
--- bytes whose header can be read, and behind it no fault, mean the header and what is found there
+-- bytes with an accepted header, and without an error after it, parse as the reply of the header
+-- and the values that are found
 pub accepted_means : (R : ResponseSpec) (bytes : List ℕ) (h : R.header.Value)
     → R.header.reads tt bytes ≡ Ok h
     → HasNoFault (decodes R.attribute_set) (drop R.size bytes) → IsBytes bytes
@@ -105,7 +106,7 @@ accepted_means R bytes h good clean in_range = (
       clean,
 )
 
--- what a walk over bytes with no fault finds
+-- the lemmas for a loop over the attributes of bytes without an error
 pub ruleset finding = (
   value_first,
   found_none,

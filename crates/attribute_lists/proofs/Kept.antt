@@ -1,4 +1,4 @@
--- Replies whose attributes are kept as those of a set that decodes the same.
+-- Replies with a second set of attribute types, in which attributes decode and serialize alike.
 use Rattle.std.proofs.Common.{◌≡◌, ◌↔◌, List, ℕ, Ok, drop, map, inl, inr, refl}
 use Rattle.netlink_core.specs.declared.fault.DecodeError.{DecodeError}
 use Rattle.netlink_core.specs.Attribute.{AttributeFault}
@@ -9,11 +9,11 @@ use Rattle.attribute_lists.specs.AttributesIn.{HasNoFault, response_behind, valu
 use Rattle.attribute_lists.proofs.Finding.{accepted_means}
 
 module _ (R : ResponseSpec) (F : AttributeSet) where
-  -- such a reply with attributes of that set
+  -- the same reply, with the second set of attribute types
   abbrev Kept : ResponseSpec
   Kept = record R { attribute_set = F }
 
-  -- what refuses a reply refuses it there too
+  -- an error of a reply is also its error with the second set
   pub kept_refused : ((b : List ℕ) (e : DecodeError) → AttributeFault (decodes R.attribute_set) b e
       → AttributeFault (decodes F) b e)
       → (b : List ℕ) (e : DecodeError) → (response_codec R).refuses b tt e
@@ -23,7 +23,7 @@ module _ (R : ResponseSpec) (F : AttributeSet) where
     | inr behind ↦ inr (behind.0, behind.1, faults _ e behind.2)
   ]
 
-  -- accepted bytes mean the same header, and what the attributes decode to in that set
+  -- accepted bytes parse as the same header, and as what the attributes decode to in the second set
   pub kept_reads : ((b : List ℕ) → HasNoFault (decodes R.attribute_set) b
       → HasNoFault (decodes F) b)
       → (b c : List ℕ) (head : (h : R.header.Value) × (R.header.reads tt b ≡ Ok h))
@@ -35,12 +35,12 @@ module _ (R : ResponseSpec) (F : AttributeSet) where
   module _ (same : (b : List ℕ) → map (encodes R.attribute_set)
       (values_in (decodes R.attribute_set) b)
       ≡ map (encodes F) (values_in (decodes F) b)) (h : R.header.Value) (b : List ℕ) where
-    -- they are written alike
+    -- both serialize to the same bytes
     pub kept_bytes : response_bytes R (response_behind R h b) ≡ response_bytes Kept
         (response_behind Kept h b)
     kept_bytes = rw (same b) refl
 
-    -- and have room alike
+    -- both are writable, or neither is
     pub kept_fits : (response_codec R).fits (response_behind R h b)
         ↔ (response_codec Kept).fits
         (response_behind Kept h b)

@@ -1,4 +1,4 @@
--- What finds the attributes in bytes, the first one and none.
+-- The first attribute that is found in bytes.
 use Rattle.std.proofs.Common.{◌≡◌, ℕ, zero, suc, ◌+◌, ◌-◌, List, [], ◌∷◌, ◌++◌, take, drop, length}
 use Rattle.std.proofs.Common.{inl, inr, refl, ap, append_assoc, arith}
 use Rattle.std.proofs.lemmas.List.{take_at, drop_at, drop_all, length-append}
@@ -6,7 +6,7 @@ use Rattle.netlink_core.specs.Attribute.{Attribute, StartsWith, fill, unpadded}
 use Rattle.attribute_lists.specs.AttributesIn.{attributes_behind}
 use Rattle.byteorder.specs.Endian.{little_number}
 
--- those behind so many bytes are those at the start of what follows them
+-- the attributes after the first `n` bytes are the attributes at the start of the remaining bytes
 behind_is : (n : ℕ) (bytes rest : List ℕ) → drop n bytes ≡ rest
     → attributes_behind n bytes ≡ attributes_behind 0 rest
 unfolding attributes_behind
@@ -14,7 +14,7 @@ behind_is zero bytes rest e = ap (attributes_behind 0) e
 behind_is (suc n) [] rest e = ap (attributes_behind 0) e
 behind_is (suc n) (b ∷ bs) rest e = behind_is n bs rest e
 
--- the attribute that bytes begin with is found first, by its two words
+-- the attribute that bytes begin with is found first, by its length field
 pub found_first : (bytes rest : List ℕ) (a : Attribute) → StartsWith bytes a rest
     → attributes_behind 0 bytes ≡ a ∷ attributes_behind 0 rest
 unfolding attributes_behind
@@ -34,7 +34,6 @@ found_first bytes rest a s =
     rw s.parts (λ i. record { type_word = types i; value = value i }
     ∷ behind_is reach (drop 1 all) rest behind i)
 
--- in no bytes none is found
 pub found_none : attributes_behind 0 [] ≡ []
 unfolding attributes_behind
 found_none = refl

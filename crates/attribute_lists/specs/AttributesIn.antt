@@ -1,6 +1,5 @@
--- The attributes that stand in bytes one after the other, found by their length words, and what
--- they decode to: in bytes with no fault, for of others the list means nothing. An attribute is
--- `struct nlattr` of linux/netlink.h and what follows it.
+-- The attributes in bytes (`struct nlattr` of linux/netlink.h), found by their length fields, and
+-- what they decode to. For bytes that have an error the lists mean nothing.
 use Rattle.std.specs.Prelude.{ℕ, zero, suc, ◌+◌, ◌-◌, List, [], ◌∷◌, take, drop, Result}
 use Rattle.std.specs.List.{filter_map}
 use Rattle.std.specs.Result.{result_ok}
@@ -10,8 +9,9 @@ use Rattle.netlink_core.specs.Attribute.{Attribute, AttributeFault, fill}
 use Rattle.netlink_core.specs.AttributeSet.{decodes}
 use Rattle.netlink_core.specs.Response.{ResponseSpec, ValueOf}
 
--- The attributes that begin n bytes on. Where n is 0, two bytes are the length word of one, two
--- its type word, and its value follows; the next one begins at a multiple of four.
+-- The attributes in the bytes after the first `n` bytes. An attribute is `nla_len` and `nla_type`,
+-- both little-endian with 16 bits, and a value of `nla_len - 4` bytes. The next attribute begins
+-- `nla_len` bytes later, rounded up to a multiple of four.
 unfoldable pub attributes_behind : ℕ → List ℕ → List Attribute
 attributes_behind n [] = []
 attributes_behind (suc n) (byte ∷ bytes) = attributes_behind n bytes
@@ -19,15 +19,15 @@ attributes_behind zero (byte ∷ bytes) = let word = little_number 2 (byte ∷ b
     record { type_word = little_number 2 (drop 1 bytes); value = take (word - 4) (drop 3 bytes) }
     ∷ attributes_behind (word + fill word - 1) bytes
 
--- no fault is in the bytes
+-- the bytes have no error: neither in their framing nor in a value
 pub record HasNoFault {A : Type 0} (reads : Attribute → Result A DecodeError) (bytes : List ℕ)
     : Type 0 where
   pub none : (e : DecodeError) → AttributeFault reads bytes e → ⊥
 
--- what the attributes that stand in bytes decode to, in order, but for refused ones
+-- what the attributes in the bytes decode to, in order; attributes that are rejected are skipped
 abbrev pub values_in : {A : Type 0} → (Attribute → Result A DecodeError) → List ℕ → List A
 values_in reads bytes = filter_map (λ a. result_ok (reads a)) (attributes_behind 0 bytes)
 
--- the reply of a header's value, and what each attribute in the bytes behind it decodes to
+-- the reply with the header `h` and the values of the attributes in the bytes after the header
 abbrev pub response_behind : (R : ResponseSpec) → R.header.Value → List ℕ → ValueOf R
 response_behind R h bytes = record { header = h; nlas = values_in (decodes R.attribute_set) bytes }

@@ -1,4 +1,4 @@
-//! The attributes of a reply, each checked as it is given.
+//! An iterator that checks the attributes of a reply as it yields them.
 
 ghost use Rattle.std.specs.Prelude.{◌≡◌, ◌+◌, ◌/◌, length, None, IfSome, Ok};
 ghost use Rattle.std.specs.Iterator.{UpTo, at_most};
@@ -11,11 +11,11 @@ ghost use Rattle.attribute_lists.specs.CheckedModel.{checked_left};
 use netlink_core::{DecodeError, FamilyView, NlasIterator};
 use std::marker::PhantomData;
 
-/// The attributes in bytes, in the order that they came, each read and checked as it is given. It
-/// takes no memory, and looks at each attribute once.
+/// An iterator over the attributes in bytes, in order, each of which is parsed and checked when it
+/// is yielded. It does not allocate, and reads each attribute once.
 ///
-/// The first fault of the framing or of a value is given in its place, and then nothing. So the
-/// bytes are good where the walk ends without a fault.
+/// The first error of the framing or of a value is the last item. So the bytes are valid if the
+/// iterator ends without an error.
 #[derive(Drop)]
 pub struct CheckedNlas<'a, V> {
     walk: NlasIterator<'a>,
@@ -23,7 +23,7 @@ pub struct CheckedNlas<'a, V> {
 }
 
 impl<'a, V> CheckedNlas<'a, V> {
-    /// The walk over these bytes.
+    /// Returns an iterator over the attributes in the bytes.
     pub fn new(bytes: &'a [u8]) -> CheckedNlas<'a, V>
         ensures { checked_left result ≡ bytes.entry.now }
     {
@@ -37,8 +37,8 @@ impl<'a, V> CheckedNlas<'a, V> {
 impl<'a, V: FamilyView<'a>> Iterator for CheckedNlas<'a, V> {
     type Item = Result<V, DecodeError>;
 
-    // A step gives what the first attribute of what was left decodes to, and what follows its
-    // padding is left then. Or it gives the first fault there.
+    // A step yields the value of the first attribute, and the bytes after its padding are left
+    // then; or it yields the first error of these bytes, and no bytes are left.
     ghost next_gives = { λ old given new. Gives
         (λ left view later. (a : Attribute) × StartsWith left a later
         × (decodes V.attribute_set a ≡ Ok (V.model view)))
@@ -61,7 +61,7 @@ impl<'a, V: FamilyView<'a>> Iterator for CheckedNlas<'a, V> {
         Some(read)
     }
 
-    /// How many are left is told by the walk alone.
+    /// Returns `(0, None)`: the number of items is known only after iterating.
     fn size_hint(&self) -> (usize, Option<usize>)
         ensures lower { IsWithinCount result.0
             (at_most ((length (checked_left self.now) + 3) / 4)) }

@@ -8,9 +8,9 @@ ghost use Rattle.attribute_lists.specs.AttributesIn.{HasNoFault, values_in};
 
 use netlink_core::FamilyNla;
 
-/// Proof only: the contract states the property. In bytes without an error, the values that are
-/// found are exactly the values that the attributes of the bytes decode to, in order; and the
-/// attributes that are found undecoded are exactly the attributes of the bytes.
+/// In bytes without an error, the values that are found (`values_in`) are exactly the values that
+/// the attributes of the bytes decode to, in order. The attributes that are found undecoded, in the
+/// empty set of types, are exactly the attributes of the bytes.
 pub fn found_values_are_the_attributes<T: FamilyNla>()
     ensures decoded { (bytes : List ℕ) (values : List (AttributeValue T.attribute_set))
         → IsBytes bytes → HasNoFault (decodes T.attribute_set) bytes

@@ -1,5 +1,5 @@
-//! The attributes of a reply of any family, as a list: checked, given one after the other, measured
-//! and written in place, or with memory of their own.
+//! Lists of the attributes of a reply, for any family: checks, iterates over, measures and
+//! serializes borrowed attributes, and copies them to owned ones.
 #![tactic(auto)]
 
 mod checked;

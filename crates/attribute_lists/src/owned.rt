@@ -1,4 +1,4 @@
-//! The attributes of a reply, with memory of their own. A list of up to eight needs none itself.
+//! The owned attributes of a reply. A list of up to eight attributes needs no allocation by itself.
 #![tactic(auto, using(crate::proofs::EncodedAttributes::attributes_of_values))]
 
 ghost use Rattle.std.specs.Prelude.{◌≡◌, ◌≤◌, ◌++◌, ◌∷◌, [], length, drop, map, Ok, IfOk, IsOk};
@@ -16,7 +16,8 @@ use smallvec::SmallVec;
 use std::alloc::{AllocError, Global};
 use std::default::MadeWith;
 
-/// Equal attributes, in the same order.
+/// Returns equal attributes, in the same order. Fails only if an allocation fails, and never for up
+/// to eight attributes that need no memory.
 #[tactic(auto, using(std::proofs::lemmas::List::map_push))]
 pub fn copy_nlas<T: FamilyNla>(alloc: Global, nlas: &[T]) -> Result<SmallVec<T, 8>, AllocError>
     ensures equal { IfOk result (λ copy. map T.model copy.items ≡ map T.model nlas.now) }
@@ -31,10 +32,11 @@ pub fn copy_nlas<T: FamilyNla>(alloc: Global, nlas: &[T]) -> Result<SmallVec<T, 
     Ok(copy)
 }
 
-/// Puts the owned attributes, in the same order, into the empty list. It does not fail if the list
-/// has capacity for `count` attributes and no attribute needs memory.
-// It is never inlined: a list that is borrowed by a call costs its owner less than one that is
-// filled on the spot.
+/// Appends the attributes in the bytes, which have no error, to the empty list, in order and owned.
+/// Fails only if an allocation fails, and never if the list has capacity for `count` attributes and
+/// none of them needs memory.
+// Never inlined: for the caller, a list that is passed by reference costs less than a list that is
+// filled inline.
 #[tactic(auto, using(crate::proofs::Finding::finding))]
 #[inline(never)]
 pub fn own_nlas<T: FamilyNla>(
@@ -65,8 +67,8 @@ pub fn own_nlas<T: FamilyNla>(
     Ok(())
 }
 
-// Appends the attribute in accepted bytes to the list, which has room for it. The large kind has a
-// branch of its own, so that the other kinds reserve no stack for its value.
+// Appends an attribute that is known to be accepted to a list that has capacity for it. The large
+// kind has its own branch, so that the other kinds reserve no stack for its value.
 #[inline(always)]
 fn push_accepted<T: FamilyNla>(
     alloc: Global,
@@ -90,8 +92,7 @@ fn push_accepted<T: FamilyNla>(
     Ok(())
 }
 
-// Makes room in an empty list. It stands apart, so that what moves a list takes no time where there
-// is room.
+// Reserves capacity in an empty list. Out of line, to keep moving the list off the hot path.
 #[cold]
 #[inline(never)]
 fn make_room<T: MadeWith<Global> + Drop>(
@@ -105,7 +106,7 @@ fn make_room<T: MadeWith<Global> + Drop>(
     nlas.reserve_exact(count)
 }
 
-/// Tells the prover that each attribute's numbers are within their types. It does nothing.
+/// Proof only: puts the range of each number in scope. No run-time effect.
 pub fn nlas_in_range<T: FamilyNla>(nlas: &[T])
     ensures { AllByRecursion (IsInRangeBy T.attribute_set) (map T.model nlas.now) }
 {
@@ -114,8 +115,8 @@ pub fn nlas_in_range<T: FamilyNla>(nlas: &[T])
     }
 }
 
-/// How many bytes the attributes have as they are written, where each value fits and they have so
-/// many at most.
+/// Returns the number of bytes that the attributes serialize to, or `None` if a value does not fit
+/// its length field or the attributes have more than `limit` bytes.
 pub fn values_len_within<T: FamilyNla>(nlas: &[T], limit: usize) -> Option<usize>
     ensures { let attributes = map (encodes T.attribute_set) (map T.model nlas.now) in
         SomeIff result (AreWritable attributes limit) (length (flat_map written attributes)) }
@@ -123,7 +124,7 @@ pub fn values_len_within<T: FamilyNla>(nlas: &[T], limit: usize) -> Option<usize
     nlas_len_within(nlas, limit)
 }
 
-/// How many bytes the attributes have as they are written.
+/// Returns the number of bytes that the attributes serialize to.
 pub fn values_len<T: FamilyNla>(nlas: &[T]) -> usize
     requires { AreWritable (map (encodes T.attribute_set) (map T.model nlas.now)) 4294967295 }
     ensures { result ≡ length
@@ -132,7 +133,8 @@ pub fn values_len<T: FamilyNla>(nlas: &[T]) -> usize
     nlas_len(nlas)
 }
 
-/// Writes the attributes one after the other at the start of the buffer, and leaves the rest.
+/// Serializes the attributes, in order, to the start of the buffer. The bytes after them are
+/// unchanged.
 pub fn emit_values<T: FamilyNla>(nlas: &[T], buffer: &mut [u8])
     requires fits { AreWritable (map (encodes T.attribute_set) (map T.model nlas.now)) 4294967295 }
     requires room { length (flat_map written (map (encodes T.attribute_set) (map T.model nlas.now)))

@@ -1,4 +1,4 @@
-//! The attributes of a reply, read in place.
+//! The borrowed attributes of a reply.
 
 ghost use Rattle.std.specs.Prelude.{◌≡◌, ◌≤◌, ◌↔◌, ◌+◌, ◌++◌, length, drop, map, Err, OnOk};
 ghost use Rattle.std.specs.Prelude.{IfOk, IfErr, IsSome, IfSome};
@@ -12,7 +12,8 @@ ghost use Rattle.attribute_lists.specs.AttributesIn.{HasNoFault, values_in};
 
 use netlink_core::{DecodeError, FamilyView, NlasIterator, emit_nla, nla_len};
 
-/// Reads each attribute and counts them, or returns the first fault. It takes no memory.
+/// Checks each attribute and returns how many there are, or returns the first error. Does not
+/// allocate.
 #[tactic(auto, using(crate::proofs::Finding::finding))]
 #[inline(always)]
 pub fn check_nlas<'a, V: FamilyView<'a> + Drop>(bytes: &'a [u8]) -> Result<usize, DecodeError>
@@ -29,7 +30,7 @@ pub fn check_nlas<'a, V: FamilyView<'a> + Drop>(bytes: &'a [u8]) -> Result<usize
     Ok(count)
 }
 
-/// The next attribute of bytes that have no fault.
+/// Returns the next attribute of bytes that have no error, or `None` at their end.
 #[tactic(auto, using(crate::proofs::Finding::finding))]
 #[inline(always)]
 pub fn next_view<'a, V: FamilyView<'a>>(walk: &mut NlasIterator<'a>) -> Option<V>
@@ -46,8 +47,9 @@ pub fn next_view<'a, V: FamilyView<'a>>(walk: &mut NlasIterator<'a>) -> Option<V
     }
 }
 
-/// How many bytes a header of so many and the attributes behind it are written as, where each value
-/// fits and all of it has at most 4,294,967,295 bytes.
+/// Returns the number of bytes that a header of `header` bytes and the attributes in the bytes
+/// serialize to. Returns `None` if a value does not fit its length field or the whole has more than
+/// 4,294,967,295 bytes.
 pub fn views_len<'a, V: FamilyView<'a> + Drop>(header: usize, bytes: &'a [u8]) -> Option<usize>
     requires clean { HasNoFault (decodes V.attribute_set) bytes.now }
     requires small { header ≤ 4294967295 }
@@ -73,7 +75,8 @@ pub fn views_len<'a, V: FamilyView<'a> + Drop>(header: usize, bytes: &'a [u8]) -
     Some(len)
 }
 
-/// Writes the attributes one after the other at the start of the buffer, and leaves the rest.
+/// Serializes the attributes in the bytes, in order, to the start of the buffer. The bytes after
+/// them are unchanged.
 pub fn emit_views<'a, V: FamilyView<'a> + Drop>(bytes: &'a [u8], buffer: &mut [u8])
     requires clean { HasNoFault (decodes V.attribute_set) bytes.now }
     requires fits { AreWritable

@@ -12,7 +12,7 @@ use Rattle.std.proofs.Math.Seq.{drop-cons}
 use Rattle.memchr.specs.Find.{IsFirstByte, Nowhere, Passes, is_byte}
 use Rattle.line_server.specs.Lines.{Splits}
 
--- ---- at the first place of a byte, behind bytes without it
+-- ---- splitting at the first position of a byte
 
 module _ (c : ℕ) (front xs : List ℕ) (none : All (λ b. is_byte c b ≡ false) front) where
   without : (n : ℕ) → n ≤ length xs → Nowhere (Passes (is_byte c) xs) 0 n
@@ -39,7 +39,7 @@ module _ (c : ℕ) (front xs : List ℕ) (none : All (λ b. is_byte c b ≡ fals
 
 -- ---- lines
 
--- how a text splits, with more bytes behind it too
+-- how a text splits, and how it splits with more bytes after it
 pub record Split (text : List ℕ) : Type 0 where
   pub whole : List (List ℕ)
   pub rest : List ℕ
@@ -47,7 +47,7 @@ pub record Split (text : List ℕ) : Type 0 where
   more : (m : List ℕ) → slice_split (is_byte 10) (text ++ m)
       ≡ whole ++ slice_split (is_byte 10) (rest ++ m)
 
--- the split with a byte in front that is no line feed
+-- the split of a text with one more byte before it, which is not a line feed
 split_byte : (b : ℕ) (bs : List ℕ) → is_byte 10 b ≡ false → (whole : List (List ℕ))
     (rest : List ℕ) → Splits bs whole rest
     → ((m : List ℕ) → slice_split (is_byte 10) (bs ++ m)
@@ -61,7 +61,7 @@ split_byte b bs h (line ∷ whole) rest p more = record {
   more = λ m. rw (h, more m);
 }
 
--- each text splits
+-- every text splits into lines
 pub split_of : (text : List ℕ) → Split text
 split_of [] = record { whole = []; rest = []; splits = refl; more = λ m. refl }
 split_of (b ∷ bs) = let s = split_of bs in elim (cases_Bool (is_byte 10 b)) [
@@ -74,13 +74,14 @@ split_of (b ∷ bs) = let s = split_of bs in elim (cases_Bool (is_byte 10 b)) [
   | inr other ↦ split_byte b bs other s.whole s.rest s.splits s.more
 ]
 
--- a text splits in one way
+-- a text splits in only one way
 pub Splits-one_way : (text : List ℕ) (whole whole' : List (List ℕ)) (rest rest' : List ℕ)
     → Splits text whole rest → Splits text whole' rest'
     → (whole ≡ whole') × (rest ≡ rest')
 Splits-one_way text whole whole' rest rest' p q = same_from_push whole whole' rest rest' (sym p ∙ q)
 
--- what follows the rest of a text splits together with that rest
+-- a longer text has the lines of its first part, and then the lines of the rest of that part with
+-- the bytes after it
 pub Splits-append : (text more : List ℕ) (whole next : List (List ℕ)) (rest last : List ℕ)
     → Splits text whole rest → Splits (rest ++ more) next last
     → Splits (text ++ more) (whole ++ next) last

@@ -1,4 +1,4 @@
--- What a run has written, from what its parts wrote.
+-- What a run has written follows from what its steps wrote.
 use Rattle.std.proofs.lemmas.Grind.{common_steps}
 use Rattle.std.proofs.Common.{arith}
 use Rattle.std.proofs.Common.{◌≡◌, ℕ, List, [], ◌++◌, length, take, Option, None, Some, Result}
@@ -19,7 +19,7 @@ use Rattle.line_server.proofs.LinesLemmas.{Splits-append, Splits-one_way}
 use Rattle.line_server.specs.declared.stream.RunError.{RunError}
 use Rattle.line_server.specs.declared.stream.RunError.TheVariants.{Read, Write, Memory}
 
--- bytes are written, unless a write failed
+-- what was sent is the whole text, unless a write failed
 pub sent_or_failed : (held held' : Option (List ℕ)) (failed : Type 0) (text : List ℕ)
     (result : Result (Unit {0}) RunError) → Writes held held' text result
     → IfErr result (λ e. (e ≡ Write) × failed) → SendsOrFails held held' failed text
@@ -30,13 +30,13 @@ sent_or_failed held held' failed text (Err Memory) wrote cause = absurd (let is 
 sent_or_failed held held' failed text (Err Write) (front, more, split, sent) cause =
     (front, more, split, sent, inr cause.1)
 
--- the last line stands behind the whole ones
+-- the last line follows the complete lines
 with_rest-append : (whole : List (List ℕ)) (rest : List ℕ) → with_rest whole rest
     ≡ whole ++ with_rest [] rest
 with_rest-append whole rest =
     grind (arith, append-nil whole)
 
--- the answers to whole lines are the first
+-- the answers to the complete lines come before the answer to the last line
 pub answers_begin : (f : List ℕ → List ℕ) (whole : List (List ℕ)) (rest : List ℕ)
     → answer_lines f (with_rest whole rest)
     ≡ answer_lines f whole ++ answer_lines f (with_rest [] rest)
@@ -48,7 +48,7 @@ pub goods_begin : (f : List ℕ → List ℕ) (good : List ℕ → Bool) (whole 
 goods_begin f good whole rest =
     grind (arith, list_all-map, with_rest-append whole, list_all-append)
 
--- a text of these whole lines and this rest was read, and this was written
+-- so far, a text with these complete lines and this rest was read, and these bytes were written
 pub record Exchange (left left' held held' : Option (List ℕ)) (whole : List (List ℕ))
     (rest written : List ℕ) : Type 0 where
   pub text : List ℕ
@@ -56,16 +56,16 @@ pub record Exchange (left left' held held' : Option (List ℕ)) (whole : List (L
   pub splits : Splits text whole rest
   pub appended : Appends held held' written
 
--- of what was read and written
+-- If so far these lines were read and these bytes were written, then:
 module _ {r r' c c' : Option (List ℕ)} {whole : List (List ℕ)} {rest written : List ℕ}
     (up : Exchange r r' c c' whole rest written) where
-  -- no more was read
+  -- a read may return no bytes
   pub waited : (r'' : Option (List ℕ)) → Consumes r' r'' []
       → Exchange r r'' c c' whole rest written
   waited r'' none =
       grind (arith, append-nil)
 
-  -- more was read
+  -- a read may return more bytes
   pub read_on : (r'' : Option (List ℕ)) (piece last : List ℕ) (next : List (List ℕ))
       → Consumes r' r'' piece → Splits (rest ++ piece) next last
       → Exchange r r'' c c' (whole ++ next) last written
@@ -76,13 +76,13 @@ module _ {r r' c c' : Option (List ℕ)} {whole : List (List ℕ)} {rest written
     appended = up.appended;
   }
 
-  -- more was written
+  -- more bytes may be written
   pub write_on : (c'' : Option (List ℕ)) (more all : List ℕ) → Appends c' c'' more
       → written ++ more ≡ all → Exchange r r' c c'' whole rest all
   write_on c'' more all wrote e =
       grind (arith, common_steps)
 
-  -- not all of a text with which the answers go on was written
+  -- a run that fails while it writes the next answers has written what `Answers` requires
   pub run_failed : (f : List ℕ → List ℕ) (good : List ℕ → Bool) (n : ℕ) (c'' : Option (List ℕ))
       (text more : List ℕ) (e : RunError) → written ≡ answer_lines f (take n whole)
       → answer_lines f (with_rest whole rest) ≡ (written ++ text) ++ more
@@ -98,8 +98,8 @@ module _ {r r' c c' : Option (List ℕ)} {whole : List (List ℕ)} {rest written
       (rw (begins, is, ← append_assoc, append_assoc, take-append_seam)) in
       (whole, rest, _, sent.read, sent.splits, (length (written ++ front), sent.appended), tt)
 
--- a run that ended well answered all that its reader told, by each function that gives each line
--- its answer
+-- If each line has only one answer, then a run that succeeded has answered all lines of the whole
+-- input, if this is known.
 pub run_complete : (answers : List ℕ → List ℕ → Type 0) (good : List ℕ → Bool)
     (a : List ℕ → List ℕ)
     → ((f : List ℕ → List ℕ) → ((line : List ℕ) → answers line (f line)) → a ≡ f)

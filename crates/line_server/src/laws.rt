@@ -1,4 +1,4 @@
-//! Laws of errors.
+//! Properties of errors: `==` and `clone`.
 
 ghost use Rattle.std.specs.Prelude.{◌≡◌, ◌↔◌, IsTrue, IsOk, IfOk};
 

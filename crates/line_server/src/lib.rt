@@ -1,5 +1,5 @@
-//! Answers the lines of a reader on a writer, each by one line, and all whole lines that were read
-//! before each further read.
+//! A line server: reads lines from a reader, and writes one answer line for each to a writer.
+//! Before each read, it writes the answers to all complete lines that were read.
 #![tactic(auto)]
 
 pub mod laws;

@@ -1,4 +1,4 @@
-//! The one way in which a run reads, and the one in which it writes.
+//! The traits by which a run reads and writes.
 
 ghost use Rattle.std.specs.Prelude.{◌≡◌, ◌==◌, ◌<◌, ◌≤◌, ◌+◌, if◌then◌else◌, ℕ, List, Option};
 ghost use Rattle.std.specs.Prelude.{length, IfOk, IfErr, MatchResult, OnOk, ⊤};
@@ -11,27 +11,28 @@ use crate::stream::{RunError, Start};
 use std::io;
 use std::io::{Read, Write};
 
-/// What can be read only where the answers to all whole lines that were read stand on the output.
-/// Who has no other bound than this one on a reader can read in no other way, and can't say that a
-/// read failed where none did.
+/// A reader that can be read only if the answers to all complete lines so far have been written.
+/// Generic code that has no other bound on a reader can read in no other way, and cannot claim that
+/// a read failed if none did.
 pub trait PromptRead {
-    // The bytes that are left, where they are known.
+    // The bytes that are left to read, if they are known.
     ghost left: { Self → Option (List ℕ) };
 
-    // So many reads were made.
+    // This number of reads was made.
     ghost reads: { Self → ℕ → Type 0 };
 
     // A read failed.
     ghost failed: { Self → Type 0 };
 
-    /// Reads once.
+    /// Reads once into `piece`, and returns the number of bytes that were read.
     fn read_prompt<S: Start, W: AnswerWrite>(
         &mut self,
         output: &W,
         line: &[u8],
         piece: &mut [u8],
     ) -> Result<usize, RunError>
-        // The answers to all whole lines that were read are written, and `line` follows these.
+        // The answers to all complete lines so far have been written, and `line` is what was read
+        // after these lines.
         requires { (whole : List (List ℕ)) × (text : List ℕ)
             × Consumes S.remaining (left self.old) text × Splits text whole line.now
             × Appends S.contents (W.held output.now) (answer_lines S.answer whole) }
@@ -58,7 +59,7 @@ impl<R: Read> PromptRead for R {
     }
 }
 
-/// Returns what a read returned: `Read` if the call failed.
+/// Returns the count of a read, or `Read` if the call failed.
 fn read_outcome(outcome: io::Result<usize>) -> Result<usize, RunError>
     ensures { MatchResult outcome (λ n. result ≡ Ok n) (λ _. result ≡ Err RunError.Read) }
 {
@@ -71,7 +72,7 @@ fn read_outcome(outcome: io::Result<usize>) -> Result<usize, RunError>
 /// A writer of answers. Generic code that has no other bound on a writer can claim neither that a
 /// write failed if none did, nor that the last call flushed it if none did.
 pub trait AnswerWrite {
-    // The bytes that it holds, where they are known.
+    // The bytes that have been written to it, if they are known.
     ghost held: { Self → Option (List ℕ) };
 
     // A write failed or took no bytes, or a flush failed.
@@ -80,7 +81,8 @@ pub trait AnswerWrite {
     // The last call flushed it.
     ghost flushed: { Self → Type 0 };
 
-    /// Writes once. To take no bytes is to fail.
+    /// Writes once, and returns the number of bytes that were written. Fails with `Write` if the
+    /// call fails or takes no bytes.
     fn write_some(&mut self, bytes: &[u8]) -> Result<usize, RunError>
         ensures some { IfOk result (λ n. (0 < n) × (n ≤ length bytes.now)) }
         ensures bytes { WriteAppends (held self.old) (held self.new) result bytes.now }
@@ -109,7 +111,7 @@ impl<W: Write> AnswerWrite for W {
     }
 }
 
-/// Returns what a write returned: `Write` if the call failed or took no bytes.
+/// Returns the count of a write, or `Write` if the call failed or took no bytes.
 fn write_outcome(outcome: io::Result<usize>) -> Result<usize, RunError>
     ensures { MatchResult outcome (λ n. result ≡ (if n == 0 then Err RunError.Write else Ok n))
         (λ _. result ≡ Err RunError.Write) }
@@ -120,7 +122,7 @@ fn write_outcome(outcome: io::Result<usize>) -> Result<usize, RunError>
     }
 }
 
-/// Returns what a flush returned: `Write` if the call failed.
+/// Returns `Ok` if a flush succeeded, and `Write` if the call failed.
 fn flush_outcome(outcome: io::Result<()>) -> Result<(), RunError>
     ensures { MatchResult outcome (λ _. result ≡ Ok tt) (λ _. result ≡ Err RunError.Write) }
 {

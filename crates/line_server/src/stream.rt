@@ -1,4 +1,4 @@
-//! Answers the lines of a reader on a writer.
+//! Reads lines from a reader, and writes their answers to a writer.
 ghost use Rattle.std.specs.Prelude.{◌≡◌, ◌⊎◌, ◌-◌, ◌^◌, ◌≤◌, ℕ, Bool, true, List, [], ◌++◌, OnOk};
 ghost use Rattle.std.specs.Prelude.{IfOk, IfErr, Option, None, vec_capacity};
 ghost use Rattle.std.specs.Io.KnownBytes.{IsAtEnd};
@@ -43,41 +43,43 @@ impl<T: Drop> From<AllocFailed<T>> for RunError {
     }
 }
 
-/// How many bytes a read asks for. An answer line is at most nine times as long as its line and the
-/// line feed, so what is gathered before a write is at most 72 KiB and the answer to one line that
-/// began earlier.
+/// The number of bytes that a read requests. An answer line is at most nine times as long as its
+/// line with the line feed. So the answers that are buffered before a write have at most 72 KiB, in
+/// addition to the answer to a line that began in an earlier read.
 const CHUNK: usize = 8192;
 
-/// How many bytes of memory a room keeps from line to line.
+/// The largest capacity, in bytes, that a buffer retains from line to line.
 const KEPT: usize = 131072;
 
-/// What a reader and a writer told when a run began, and the answer to each line.
+/// The state of a reader and a writer when a run starts, and the answer to each line. It exists in
+/// contracts only.
 pub trait Start {
-    // What was left to read, where it is known.
+    // The bytes that were left to read, if they are known.
     ghost remaining: { Option (List ℕ) };
 
-    // What was held as written, where it is known.
+    // The bytes that had been written, if they are known.
     ghost contents: { Option (List ℕ) };
 
     // The answer to each line.
     ghost answer: { List ℕ → List ℕ };
 }
 
-/// What answers lines.
+/// The service that answers lines: it parses a line as a request, and appends the answer.
 pub trait LineAnswers {
-    /// What a line asks for, beside bytes.
+    /// The request in a line, without the bytes that it is about.
     type Asked: Drop;
 
-    // The text answers the line.
+    // The text is an answer to the line.
     ghost answers: { List ℕ → List ℕ → Type 0 };
 
-    // The line asks for this, about these bytes.
+    // The line contains this request, about these bytes.
     ghost asks: { List ℕ → Self.Asked → List ℕ → Type 0 };
 
     // Whether an answer is a good one.
     ghost good: { List ℕ → Bool };
 
-    /// What a line asks for. The bytes that it is about are put in place of what `bytes` held.
+    /// Parses the request in a line, and replaces the content of `bytes` by the bytes that it is
+    /// about.
     fn read_request(
         alloc: Global,
         bytes: &mut Vec<u8>,
@@ -85,8 +87,8 @@ pub trait LineAnswers {
     ) -> Result<Self::Asked, AllocError>
         ensures { IfOk result (λ asked. asks line.now asked bytes.new.items) };
 
-    /// Adds the answer to the text, and returns whether it is a good one. Where memory runs out the
-    /// text may have a part of it.
+    /// Appends the answer to the text, and returns whether it is a good one. If memory runs out, a
+    /// part of the answer may have been appended.
     fn push_answer(
         alloc: Global,
         text: &mut Vec<u8>,
@@ -106,21 +108,21 @@ impl Start for Brand {
     ghost answer = { λ line. line };
 }
 
-/// What a run keeps from line to line, so that it takes memory only where a line is longer than
-/// those before.
+/// The buffers that a run reuses from line to line. They allocate only to grow, or after a buffer
+/// was freed because its capacity was above `KEPT`.
 #[derive(Drop)]
 struct Kept {
     /// The bytes since the last line feed.
     line: Vec<u8>,
-    /// Room for the bytes of a field.
+    /// The bytes that the request in a line is about.
     bytes: Vec<u8>,
     /// The answer lines that are not written yet.
     answers: Vec<u8>,
 }
 
 /// Writes the answer line of each line of `input`, flushes, and returns whether each answer is a
-/// good one. Before each read, the answers to all whole lines that were read stand on `output`. No
-/// call that failed is made again.
+/// good one. Before each read, the answers to all complete lines that were read have been written
+/// to `output`. A call that failed is not repeated.
 pub fn serve<S: Start, A: LineAnswers, R: PromptRead, W: AnswerWrite>(
     alloc: Global,
     input: &mut R,
@@ -158,8 +160,8 @@ pub fn serve<S: Start, A: LineAnswers, R: PromptRead, W: AnswerWrite>(
     Err(RunError::Read)
 }
 
-/// Answers the last line, where it has bytes and no line feed, and flushes. Returns whether its
-/// answer is a good one, or there is none.
+/// Answers the last line, if it has bytes but no line feed, and flushes. Returns whether its answer
+/// is a good one, or `true` if there is no such line.
 fn finish<S: Start, A: LineAnswers, W: AnswerWrite>(
     alloc: Global,
     kept: &mut Kept,
@@ -179,8 +181,8 @@ fn finish<S: Start, A: LineAnswers, W: AnswerWrite>(
     Ok(is_good)
 }
 
-/// Adds the answer to the last line, where it has bytes and no line feed. Returns whether it is a
-/// good one, or there is none.
+/// Appends the answer to the last line, if it has bytes but no line feed. Returns whether it is a
+/// good one, or `true` if there is no such line.
 fn end_last_line<S: Start, A: LineAnswers>(
     alloc: Global,
     kept: &mut Kept,
@@ -197,8 +199,8 @@ fn end_last_line<S: Start, A: LineAnswers>(
     end_line::<S, A>(alloc, kept, &[])
 }
 
-/// Adds the answers to the lines that a piece of the input ends, and returns whether each is a good
-/// one. What follows the last of these lines goes on the line that is kept.
+/// Appends the answers to the lines that end in a piece of the input, and returns whether each is a
+/// good one. Appends the bytes after the last of these lines to `kept.line`.
 fn take_piece<S: Start, A: LineAnswers>(
     alloc: Global,
     kept: &mut Kept,
@@ -219,8 +221,8 @@ fn take_piece<S: Start, A: LineAnswers>(
     Ok(is_good)
 }
 
-/// Adds the answer to a line whose last bytes are `end`, returns whether it is a good one, and
-/// begins the next line. A long line's memory is let go before its answer takes any.
+/// Appends the answer to the line whose last bytes are `end`, returns whether it is a good one, and
+/// starts the next line. The memory of a long line is freed before its answer is allocated.
 fn end_line<S: Start, A: LineAnswers>(
     alloc: Global,
     kept: &mut Kept,
@@ -242,8 +244,8 @@ fn end_line<S: Start, A: LineAnswers>(
     Ok(is_good)
 }
 
-/// Reads a line whose last bytes are `end`. One that began in no earlier piece is read where it
-/// lies.
+/// Parses the request in the line whose last bytes are `end`. A line that began in this piece is
+/// parsed without a copy.
 fn read_line<A: LineAnswers>(
     alloc: Global,
     kept: &mut Kept,
@@ -260,7 +262,7 @@ fn read_line<A: LineAnswers>(
     A::read_request(alloc, &mut kept.bytes, kept.line.as_slice())
 }
 
-/// Adds the answer line of what a line was read as, and returns whether the answer is a good one.
+/// Appends the answer line to a request, and returns whether the answer is a good one.
 fn add_answer_line<S: Start, A: LineAnswers>(
     alloc: Global,
     answers: &mut Vec<u8>,
@@ -277,7 +279,7 @@ fn add_answer_line<S: Start, A: LineAnswers>(
     Ok(is_good)
 }
 
-/// Makes room empty, and keeps its memory unless a long line needed it.
+/// Empties the buffer. Frees its memory only if its capacity is above `KEPT`.
 fn empty(alloc: Global, room: &mut Vec<u8>)
     ensures emptied { room.new.items ≡ [] }
     ensures bound { vec_capacity room.new ≤ 131072 }
@@ -290,7 +292,7 @@ fn empty(alloc: Global, room: &mut Vec<u8>)
     }
 }
 
-/// Writes all the bytes.
+/// Writes all bytes.
 fn send<W: AnswerWrite>(output: &mut W, bytes: &[u8]) -> Result<(), RunError>
     ensures written { Writes (W.held output.old) (W.held output.new) bytes.now result }
     ensures cause { IfErr result (λ e. (e ≡ RunError.Write) × W.failed output.new) }

@@ -1,4 +1,4 @@
--- The value of an attribute type is found under the number of its type, and under no other.
+-- A decoded value is found under the kind of its type, and under no other kind.
 use Rattle.std.proofs.Common.{◌≡◌, ◌==◌, ℕ, suc, List, ◌∷◌, Bool, true, false, Option, Some, None}
 use Rattle.std.proofs.Common.{◌⊎◌, inl, inr, [], refl, arith}
 use Rattle.std.specs.Prelude.{◌≢◌, cond, Contains}
@@ -7,15 +7,15 @@ use Rattle.std.proofs.lemmas.Map.Made.{Contains-tail}
 use Rattle.netlink_core.specs.AttributeSet.{AttributeSet, AttributeValue, ValueAt}
 use Rattle.netlink_core.specs.AttributeSet.{put, got, of_type, content, numbers}
 
--- A is the type of the values on the first side
+-- `A` is the type of the values on the left of a sum.
 module _ (A : Type 0) where
-  -- the value that was injected on a side is found there
+  -- projecting from the side to which a value was injected yields the value
   found_there : {B C : Type 0} (t : Bool) (make : B → C) (find : C → Option B) (x : cond t A B)
       → (t ≡ false → (y : B) → find (make y) ≡ Some y) → got t find (put t make x) ≡ Some x
   found_there true make find x later = refl
   found_there false make find x later = later refl x
 
-  -- and not on the other side
+  -- projecting from another side yields `None`
   not_elsewhere : {B C D : Type 0} (s t : Bool) (make : B → C) (find : C → Option D)
       → (x : cond t A B) → (s ≡ true → t ≡ true → ⊥) → ((y : B) → find (make y) ≡ None)
       → got s find (put t make x) ≡ None
@@ -30,11 +30,11 @@ not_found true find v e later = cc
 not_found false find (inl x) e later = refl
 not_found false find (inr w) e later = later w
 
--- a number that is in a list is in a longer one
+-- a number that is in a list is in a longer list
 contains_later : (n : ℕ) (ns : List ℕ) (k : ℕ) → Contains ns k → Contains (n ∷ ns) k
 contains_later n ns k (i, below, same) = (suc i, omega arith, same)
 
--- a number that is not in a list is not the first one
+-- a number that is not in a list is not its first element
 first_differs : (n : ℕ) (ns : List ℕ) (k : ℕ) → (Contains (n ∷ ns) k → ⊥) → (n == k) ≡ false
 first_differs n ns k has_not =
     let differ : n ≢ k = λ e. has_not (0, omega arith, e) in

@@ -1,4 +1,4 @@
--- The laws of the usual types of attributes.
+-- The laws of the usual attribute types.
 use Rattle.std.proofs.Common.{Some, Result, Ok, Err, ◌≡◌, ◌∙◌, ℕ, ◌^◌, ◌<◌, List, []}
 use Rattle.std.proofs.Common.{length, sym, arith}
 use Rattle.std.specs.Prelude.{⊤, bit_and}
@@ -20,13 +20,14 @@ use Rattle.netlink_core.specs.Parse.{exact_number}
 use Rattle.netlink_core.proofs.Numbers.{little_endian}
 use Rattle.netlink_core.proofs.Numbers.{number-same}
 
--- equal numbers of all bytes have equal bytes
+-- bytes are equal if the numbers of all of these bytes are equal
 pub same_bytes : (n : ℕ) (x y : List ℕ) → IsBytes x → IsBytes y → length x ≡ n → length y ≡ n
     → little_number n x ≡ little_number n y → x ≡ y
 same_bytes n x y x-in_range y-in_range s t e =
     grind (arith, take_all n x, number-same little_endian n x y x-in_range y-in_range, take_all n y)
 
--- what is read of all bytes, each of which is live, keeps the laws
+-- the codec of a value that takes all bytes keeps the codec laws, if each accepted byte string is
+-- the one that its value serializes to
 pub exact_laws : {A : Type 0} (reads : List ℕ → Result A DecodeError) (bytes : A → List ℕ)
     (is_in_range is_normal : A → Type 0)
     → ((x : List ℕ) → reads x ≡ Err Memory → ⊥)
@@ -50,7 +51,7 @@ exact_laws reads bytes is_in_range is_normal named exact bytes_in_range back = r
 number_back : (width n : ℕ) → n < 256 ^ width → little_number width (little_bytes width n) ≡ n
 number_back width n fits = rw append-nil at (little_number-reads_back width n [] fits)
 
--- a type of numbers keeps the laws
+-- an attribute type of numbers keeps its laws
 pub number_laws : (k width : ℕ) → bit_and k 0x3fff ≡ k → AttributeSpecLaws (number_spec k width)
 number_laws k width plain = record {
   plain = plain;
@@ -68,7 +69,7 @@ number_laws k width plain = record {
       grind (arith, nat_tests, length-bytes_low_first 0 width n, number_back width n fits));
 }
 
--- a type whose values keep the laws
+-- an attribute type keeps its laws if the codec of its values keeps the codec laws
 pub spec_laws : (k : ℕ) {P : ValueCodec (Unit {0})} → bit_and k 0x3fff ≡ k → KeepsLaws (as_codec P)
     → AttributeSpecLaws (spec k P)
 spec_laws k plain value = record { plain = plain; value = value }
@@ -77,7 +78,7 @@ pub memory_spec_laws : (k : ℕ) {P : ValueCodec (Unit {0})} → bit_and k 0x3ff
     → KeepsLaws (as_codec P) → AttributeSpecLaws (memory_spec k P)
 memory_spec_laws k plain value = record { plain = plain; value = value }
 
--- the laws of a set: those of its first type and those of the others
+-- the laws of a set of attribute types: the laws of its first type, and the laws of the other types
 infixr 4 ◌⊕◌
 abbrev pub ◌⊕◌ : {A B : Type 0} → A → B → A × B
 first ⊕ others = (first, others)

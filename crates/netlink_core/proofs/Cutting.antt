@@ -1,4 +1,5 @@
--- Bytes are cut in one way at most, and either mean something or have a fault.
+-- Bytes are split into attributes in at most one way, and either these parse as values or the bytes
+-- have an error.
 use Rattle.std.proofs.lemmas.Grind.{common_steps}
 use Rattle.std.proofs.Common.{◌<◌, Option, Some, None}
 use Rattle.std.proofs.Common.{Result, Ok, ◌≡◌, ◌≢◌, ℕ, ◌+◌, ◌⊎◌, inl, inr}
@@ -23,16 +24,16 @@ use Rattle.netlink_core.proofs.TableLaws.{AreBytes-drop}
 use Rattle.netlink_core.proofs.Padding.{starts_with, by_length, some_or_none}
 use Rattle.netlink_core.proofs.Walking.{prefix_of_start, later_fault, fault_here}
 
--- ---- one cut
+-- ---- bytes are split in at most one way
 
--- what follows its padding is fixed, where there is as much padding as fills up, or nothing follows
+-- the bytes after a padding are determined, if the padding is complete, or if nothing follows it
 pub one_rest : (n : ℕ) (p q rest after : List ℕ)
     → (length p ≡ n) ⊎ ((length p < n) × (rest ≡ []))
     → (length q ≡ n) ⊎ ((length q < n) × (after ≡ [])) → p ++ rest ≡ q ++ after → rest ≡ after
 one_rest n p q rest after h k e =
     grind (arith, same_parts p q rest after, length-append p rest, length-append q after)
 
--- the first attribute and the rest behind it are fixed by the bytes
+-- the first attribute and the bytes after its padding are determined by the bytes
 pub one_start : (bytes rest after : List ℕ) (a b : Attribute) → StartsWith bytes a rest
     → StartsWith bytes b after → (a ≡ b) × (rest ≡ after)
 one_start bytes rest after a b s t =
@@ -40,7 +41,7 @@ one_start bytes rest after a b s t =
     ∙ t.parts) in
     (heads.0, one_rest _ s.padding t.padding rest after s.filled (rw heads.0 t.filled) heads.1)
 
--- bytes are cut into one list at most
+-- bytes are split into at most one list of attributes
 pub one_cut : (bytes : List ℕ) (xs ys : List Attribute) → Cut bytes xs [] → Cut bytes ys []
     → xs ≡ ys
 one_cut bytes [] [] h k = refl
@@ -48,9 +49,9 @@ one_cut bytes (x ∷ xs) (y ∷ ys) h k =
     grind (arith, one_start bytes h.0 k.0 x y h.1 k.1, one_cut h.0 xs ys h.2)
 one_cut bytes xs ys h k = grind arith
 
--- ---- what was written is cut
+-- ---- serialized attributes are split
 
--- written attributes are cut into themselves, whatever follows
+-- the bytes that attributes serialize to are split into these attributes, whatever follows
 pub written_is_cut : (xs : List Attribute) → AllByRecursion FitsWords xs → (rest : List ℕ)
     → Cut (flat_map written xs ++ rest) xs rest
 written_is_cut [] fits rest = refl
@@ -65,7 +66,7 @@ written_is_cut (x ∷ xs) fits rest = (
   written_is_cut xs fits.1 rest,
 )
 
--- also where nothing follows
+-- also if nothing follows
 pub all_written_is_cut : (xs : List Attribute) → AllByRecursion FitsWords xs
     → Cut (flat_map written xs) xs []
 all_written_is_cut xs fits =
@@ -74,14 +75,14 @@ all_written_is_cut xs fits =
 
 -- ---- attributes in bytes are in range
 
--- the bytes of written attributes
+-- attributes in range serialize to bytes
 pub all_written_in_range : (xs : List Attribute) → AllByRecursion IsAttributeInRange xs
     → IsBytes (flat_map written xs)
 all_written_in_range [] in_range = IsBytes-nil
 all_written_in_range (x ∷ xs) in_range =
     grind (arith, common_steps, written_in_range, all_written_in_range xs in_range.1)
 
--- the attributes that bytes are cut into
+-- the attributes that bytes are split into are in range
 pub cut_in_range : (bytes : List ℕ) (xs : List Attribute) → IsBytes bytes → Cut bytes xs []
     → AllByRecursion IsAttributeInRange xs
 cut_in_range bytes [] in_range h = tt
@@ -91,10 +92,11 @@ cut_in_range bytes (x ∷ xs) in_range h = (
       (IsBytes-right (unpadded x) _ (rw h.1.parts at in_range))) h.2,
 )
 
--- ---- one answer
+-- ---- at most one result
 
 module _ {A : Type 0} (reads : Attribute → Result A DecodeError) where
-  -- attributes that can be read, one after the other, and behind them nothing or a fault
+  -- the bytes are attributes that parse, consecutive, and then no bytes are left, or bytes with
+  -- this error
   abbrev Passes : List ℕ → List Attribute → Option DecodeError → Type 0
   Passes bytes [] None = bytes ≡ []
   Passes bytes [] (Some e) = (bytes ≢ []) × IsPrefixFault reads bytes e
@@ -114,7 +116,7 @@ module _ {A : Type 0} (reads : Attribute → Result A DecodeError) where
   fault_passes bytes (a ∷ xs) e (rest, (later, start, cut), left, fault) good =
       (later, start, good.0, fault_passes later xs e (rest, cut, left, fault) good.1)
 
-  -- no end is where an attribute can be read
+  -- bytes that begin with an attribute that parses are neither empty nor have an error
   not_ended : (bytes rest : List ℕ) (a : Attribute) (end : Option DecodeError)
       → StartsWith bytes a rest → IsOk (reads a) → Passes bytes [] end → ⊥
   not_ended bytes rest a end s good h =
@@ -135,7 +137,7 @@ module _ {A : Type 0} (reads : Attribute → Result A DecodeError) where
   one_end bytes (x ∷ xs) (y ∷ ys) e f h k =
       grind (arith, one_end h.0 xs ys e f h.3, one_start bytes h.0 k.0 x y h.1 k.1)
 
-  -- bytes that mean something have no fault
+  -- bytes do not have both values and an error
   pub means_or_fault_apart : (bytes : List ℕ) (values : List A) (e : DecodeError)
       → AttributesMean reads bytes values → AttributeFault reads bytes e → ⊥
   means_or_fault_apart bytes values e m f =
@@ -143,7 +145,7 @@ module _ {A : Type 0} (reads : Attribute → Result A DecodeError) where
       (fault_passes bytes f.0 e f.1 f.2) in
       cc
 
-  -- bytes have one fault at most
+  -- bytes have at most one error
   pub one_fault : (bytes : List ℕ) (e f : DecodeError) → AttributeFault reads bytes e
       → AttributeFault reads bytes f → e ≡ f
   one_fault bytes e f h k =
@@ -155,9 +157,9 @@ module _ {A : Type 0} (reads : Attribute → Result A DecodeError) where
         fault_passes bytes k.0 f k.1 k.2,
       )
 
-  -- ---- bytes are cut, or have a fault
+  -- ---- at least one result
 
-  -- bytes mean something, or they have a fault
+  -- bytes have values or an error
   pub means_or_fault : (bytes : List ℕ) → IsBytes bytes
       → ((meanings : List A) × AttributesMean reads bytes meanings)
       ⊎ ((e : DecodeError) × AttributeFault reads bytes e)
@@ -180,9 +182,9 @@ module _ {A : Type 0} (reads : Attribute → Result A DecodeError) where
     ]
   ])
 
-  -- ---- what was written means what is read from it
+  -- ---- serialized attributes parse as their values
 
-  -- what is read from each attribute is what their written bytes mean
+  -- the bytes that attributes serialize to parse as the values that these attributes parse as
   pub written_values_are_read : (xs : List Attribute) (values : List A)
       → AllByRecursion FitsWords xs → AllZip (λ a value. reads a ≡ Ok value) xs values
       → AttributesMean reads (flat_map written xs) values

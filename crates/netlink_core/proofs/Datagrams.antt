@@ -1,4 +1,4 @@
--- A message at the start of bytes, and messages one after the other.
+-- The message at the start of bytes, and consecutive messages.
 use Rattle.std.proofs.Common.{◌≡◌, ℕ, ◌+◌, ◌%◌, ◌<◌, ◌≤◌, List, [], ◌∷◌, ◌++◌}
 use Rattle.std.proofs.Common.{length, take, drop, sym, ap, ◌∙◌, append_assoc, arith}
 use Rattle.std.specs.Prelude.{Option, None}
@@ -19,12 +19,12 @@ use Rattle.netlink_core.proofs.Headers.{header_length}
 
 -- ---- one message
 
--- a message is as long as its own length word says
+-- the message is as long as its length field, and has at least the 16 bytes of a header
 abbrev pub IsOfOwnLength : List ℕ → Type 0
 IsOfOwnLength message = (16 ≤ length message) × (little_number 4 message ≡ length message)
 
--- the message is as long as the header says, and behind it come the padding and the rest, as much
--- of either as there is
+-- bytes that begin with a header begin with a message of the length in this header, followed by the
+-- padding and `rest`, as far as there are bytes
 pub starts_with_message : (bytes message rest : List ℕ) (h : NetlinkHeader) (end : ℕ)
     → HasHeader bytes h → message ≡ take h.length bytes
     → end ≡ h.length + fill h.length → rest ≡ drop end bytes → StartsWithMessage bytes message rest
@@ -44,26 +44,26 @@ starts_with_message bytes message rest h end head message-is end-is rest-is =
       filled = behind.1;
     }
 
--- the length word of the bytes is the message's
+-- the length field of bytes that begin with a message is the message's length
 message_word : (bytes message rest : List ℕ) → StartsWithMessage bytes message rest
     → (little_number 4 bytes ≡ length message) × (16 ≤ length message)
     × (length message ≤ length bytes)
 message_word bytes message rest s =
     grind (arith, little_from-append 4 message (s.padding ++ rest), length-append)
 
--- what stands behind a message is shorter
+-- the bytes after a message and its padding are fewer
 pub shorter-rest : (bytes message rest : List ℕ) → StartsWithMessage bytes message rest
     → length rest < length bytes
 shorter-rest bytes message rest s =
     grind (arith, length-append)
 
--- where a message stands there is no fault
+-- bytes that begin with a message have no framing error
 pub no_fault_at_message : (bytes message rest : List ℕ) (e : DecodeError)
     → StartsWithMessage bytes message rest → IsEnvelopeFault bytes e → ⊥
 no_fault_at_message bytes message rest e s f =
     grind (arith, message_word bytes message rest s)
 
--- bytes begin with one message, and one rest
+-- bytes begin with at most one message, and the bytes after its padding are determined
 pub one_message : (bytes m n rest after : List ℕ) → StartsWithMessage bytes m rest
     → StartsWithMessage bytes n after → (m ≡ n) × (rest ≡ after)
 one_message bytes m n rest after s t =
@@ -72,16 +72,17 @@ one_message bytes m n rest after s t =
     ∙ t.parts) in
     (parts.0, one_rest _ s.padding t.padding rest after s.filled (rw lens t.filled) parts.1)
 
--- ---- messages in a row
+-- ---- consecutive messages
 
--- a message in front of whole ones stands in front of more bytes too
+-- the first of several padded messages is also the first message if more bytes follow
 pub starts_in_concatenation : (front back message rest : List ℕ)
     → StartsWithMessage front message rest → length front % 4 ≡ 0
     → StartsWithMessage (front ++ back) message (rest ++ back) × (length rest % 4 ≡ 0)
 starts_in_concatenation front back message rest s even =
     grind (arith, length-append, append_assoc)
 
--- what whole messages and then more bytes are cut into
+-- padded messages and then more bytes are split into these messages and what the other bytes are
+-- split into
 pub messages_of_concatenation : (front back : List ℕ) (xs ys : List (List ℕ))
     (end : Option DecodeError)
     → CutIntoMessages front xs None × (length front % 4 ≡ 0) → CutIntoMessages back ys end
@@ -92,13 +93,13 @@ messages_of_concatenation front back (x ∷ xs) ys end h k =
     let more = starts_in_concatenation front back x rest h.0.1 h.1 in
     (rest ++ back, more.0, messages_of_concatenation rest back xs ys end (h.0.2, more.1) k)
 
--- no end is where a message stands
+-- bytes that begin with a message are neither empty nor have a framing error
 not_ended : (bytes message rest : List ℕ) (end : Option DecodeError)
     → StartsWithMessage bytes message rest → CutIntoMessages bytes [] end → ⊥
 not_ended bytes message rest end s h =
     grind (arith, message_word bytes message rest s)
 
--- bytes are cut into one list of messages, and have one end
+-- bytes are split into at most one list of messages, with at most one end
 pub one_cut_into_messages : (bytes : List ℕ) (xs ys : List (List ℕ)) (e f : Option DecodeError)
     → CutIntoMessages bytes xs e → CutIntoMessages bytes ys f → (xs ≡ ys) × (e ≡ f)
 one_cut_into_messages bytes [] [] e f h k =

@@ -1,4 +1,4 @@
--- What `==` of faults and of errors of `canonical` says.
+-- `==` of decode errors and of errors of `canonical` decides whether they are equal.
 use Rattle.std.proofs.Common.{◌≡◌, ◌↔◌, IsTrue, rules, arith}
 use Rattle.netlink_core.proofs.Equality.{apart}
 use Rattle.netlink_core.specs.declared.canon.CanonError.{CanonError}
@@ -8,7 +8,6 @@ use Rattle.netlink_core.specs.declared.fault.DecodeError.TheVariants as fault
 use Rattle.netlink_core.specs.contracts.canon.CanonErrorPartialEq.TheImpl.{ghosts as of_canon}
 use Rattle.netlink_core.specs.contracts.fault.DecodeErrorPartialEq.TheImpl.{ghosts}
 
--- two faults, by a line for each
 pub fault_equal : (e f : DecodeError) → IsTrue (ghosts.eq e f) ↔ (e ≡ f)
 fault_equal fault.Memory fault.Memory = search rules
 fault_equal (fault.BufferTooSmall a b c) (fault.BufferTooSmall x y z) = search rules
@@ -30,7 +29,6 @@ fault_equal (fault.EnvelopeLengthUnder16 a) (fault.EnvelopeLengthUnder16 x) = se
 fault_equal (fault.EnvelopeLengthPast a b) (fault.EnvelopeLengthPast x y) = search rules
 fault_equal e f = apart (λ p. cc)
 
--- two errors of `canonical`
 pub error_equal : (v w : CanonError) → IsTrue (of_canon.eq v w) ↔ (v ≡ w)
 error_equal (canon.Refused a) (canon.Refused b) =
     grind (arith, fault_equal a b)

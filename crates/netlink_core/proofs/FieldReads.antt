@@ -1,5 +1,5 @@
--- Numbers that were read one after the other are fields of the table, and fields that were written
--- one after the other are the bytes of the table.
+-- Numbers and bytes that were read from consecutive positions are the numbers of the table's
+-- fields, and numbers within their width fit these fields.
 use Rattle.std.proofs.Common.{◌≡◌, ℕ, zero, suc, ◌+◌, ◌-◌, ◌*◌, ◌^◌, ◌<◌, ◌≤◌, List, [], ◌∷◌}
 use Rattle.std.proofs.Common.{◌++◌, length, take, drop, slice_index, refl, sym, ap, ◌∙◌}
 use Rattle.std.proofs.Common.{arith, mul-le-mul_left, mul-suc}
@@ -26,7 +26,7 @@ field-at order width offset (suc count) bytes (suc k) h =
     grind (arith, field-at order width (offset + width) count bytes k, mul-suc width k)
 field-at order width offset count bytes k h = grind arith
 
--- a number inside a piece is that of the whole
+-- a number inside of a part of the bytes is the number at this position of all bytes
 inside : (order : Order) (width offset size from : ℕ) (bytes : List ℕ) → from + width ≤ size
     → number_in order width (drop from (take size (drop offset bytes))) ≡ number_in order width
     (drop (offset + from) bytes)
@@ -35,7 +35,7 @@ inside order width offset size from bytes h =
     let room : width ≤ size - from = omega arith in
     rw (parts, drop-take, number-take order width (size - from), drop-drop) refl
 
--- numbers that were read in a row are those of the table
+-- numbers that were read from consecutive positions are the numbers of an array of fields
 pub fields_read : (order : Order) (width offset count : ℕ) (bytes source field : List ℕ)
     → length field ≡ count → source ≡ take (width * count) (drop offset bytes)
     → IsRead (number_in order) width source field
@@ -52,18 +52,17 @@ fields_read order width offset count bytes source field l s r =
     ∙ inside order width offset (width * count) (width * k) bytes room
     ∙ sym (field-at order width offset count bytes k below))
 
--- ---- fields that are written
+-- ---- arrays of bytes
 
--- bytes that were taken are those of the table
+-- bytes that were copied are the numbers of an array of byte fields
 pub bytes_read : (offset count : ℕ) (bytes : List ℕ) → offset + count ≤ length bytes
     → take count (drop offset bytes) ≡ values_of (bytes_at offset count) bytes
 bytes_read offset zero bytes h = refl
 bytes_read offset (suc count) bytes h =
     grind (arith, drop_more bytes offset 0, bytes_read (offset + 1) count bytes)
 
--- ---- values within their fields
+-- ---- numbers fit their fields
 
--- fields, and others behind them
 pub fit-append : (fields more : List Field) (values others : List ℕ) → Fit fields values
     → Fit more others
     → Fit (fields ++ more) (values ++ others)
@@ -74,14 +73,14 @@ fit-append (field ∷ fields) more (value ∷ values) others f g =
     grind (arith, fit-append fields more values others)
 fit-append fields more values others f g = grind arith
 
--- so many bytes of an array
+-- the first `count` bytes fit an array of byte fields
 pub fit-bytes : (offset count : ℕ) (bytes : List ℕ) → IsBytes bytes
     → Fit (bytes_at offset count) (first count bytes)
 fit-bytes offset zero bytes in_range = tt
 fit-bytes offset (suc count) bytes in_range =
     grind (arith, fit-bytes (offset + 1) count (drop 1 bytes) (AreBytes-drop 1 bytes in_range))
 
--- all numbers of a list
+-- numbers below 256^width fit an array of fields of this width
 pub fit_numbers : (offset width : ℕ) (xs : List ℕ)
     → ((i : ℕ) → slice_index xs i < 256 ^ width) → Fit (array number offset width (length xs)) xs
 fit_numbers offset width [] below = tt
@@ -90,7 +89,7 @@ fit_numbers offset width (x ∷ xs) below =
 
 -- ---- arrays
 
--- an array is its first elements
+-- the first `n` elements of a list of length `n` are the list
 pub first_all : (n : ℕ) (xs : List ℕ) → length xs ≡ n → first n xs ≡ xs
 first_all zero [] l = refl
 first_all (suc n) (x ∷ xs) l =

@@ -1,4 +1,5 @@
--- Bytes have one header, and its bytes fix it.
+-- Bytes begin with at most one header, and a header is determined by the bytes that it serializes
+-- to.
 use Rattle.std.proofs.lemmas.Grind.{common_steps}
 use Rattle.std.proofs.Common.{◌≡◌, ◌↔◌, ℕ, ◌+◌, ◌-◌, ◌≤◌, ◌⊎◌, inl, inr, List, [], ◌++◌}
 use Rattle.std.proofs.Common.{length, take, drop, slice_index, refl, sym, ap, ◌∙◌, arith}
@@ -20,16 +21,15 @@ use Rattle.netlink_core.proofs.Numbers.{masked-all}
 use Rattle.netlink_core.proofs.TableLaws.{IsTable, table_from_test, values-bytes_of, values-fit}
 use Rattle.netlink_core.proofs.TableLaws.{values_and_bits}
 
--- the first bytes of bytes are bytes
 pub AreBytes-take : (n : ℕ) (bytes : List ℕ) → IsBytes bytes → IsBytes (take n bytes)
 AreBytes-take n bytes fits =
     grind (arith, common_steps, take-append-drop)
 
--- the five fields are sixteen bytes
+-- the five fields are consecutive, and have 16 bytes
 header_table : IsTable 0 header_fields 16
 header_table = table_from_test 0 header_fields 16 refl
 
--- a header is known by its values
+-- the header with these numbers in its fields
 abbrev made : List ℕ → NetlinkHeader
 made vs = record {
   length = slice_index vs 0;
@@ -42,7 +42,7 @@ made vs = record {
 same_header : (h k : NetlinkHeader) → header_values h ≡ header_values k → h ≡ k
 same_header h k e = ap made e
 
--- a header stands at the start, or a fault tells why not
+-- bytes begin with a header or have a framing error
 pub header_or_fault : (bytes : List ℕ) → IsBytes bytes → ((h : NetlinkHeader) × HasHeader bytes h)
     ⊎ ((e : DecodeError) × IsEnvelopeFault bytes e)
 header_or_fault bytes fits = elim (framed_or_not 16 (length bytes) (little_number 4 bytes)) [
@@ -58,7 +58,7 @@ header_or_fault bytes fits = elim (framed_or_not 16 (length bytes) (little_numbe
   )
 ]
 
--- the length word and the type that stand there
+-- the length field and the type field of bytes that begin with a header
 pub header_length : (bytes : List ℕ) (h : NetlinkHeader) → HasHeader bytes h
     → little_number 4 bytes ≡ h.length
 header_length bytes h head = ap (λ (vs : List ℕ). slice_index vs 0) head.0
@@ -67,12 +67,12 @@ pub header_type : (bytes : List ℕ) (h : NetlinkHeader) → HasHeader bytes h
     → little_number 2 (drop 4 bytes) ≡ h.message_type
 header_type bytes h head = ap (λ (vs : List ℕ). slice_index vs 1) head.0
 
--- bytes have one
+-- bytes begin with at most one header
 pub one_header : (bytes : List ℕ) (h k : NetlinkHeader) → HasHeader bytes h → HasHeader bytes k
     → h ≡ k
 one_header bytes h k head other = same_header h k (sym head.0 ∙ other.0)
 
--- headers are equal exactly where the first sixteen bytes are
+-- headers are equal if and only if the first sixteen bytes are
 pub same_leading_header : (b c : List ℕ) (h k : NetlinkHeader) → IsBytes b → IsBytes c
     → HasHeader b h
     → HasHeader c k → ((h ≡ k) ↔ (take 16 b ≡ take 16 c))
@@ -116,18 +116,18 @@ pub whole_payload : (message : List ℕ) (h : NetlinkHeader) → h.length ≡ le
 whole_payload message h size =
     take_all (h.length - 16) (drop 16 message) (omega (arith, length-drop 16 message))
 
--- written, the fields are read again, whatever follows
+-- the bytes that a header serializes to have its numbers in their fields, whatever follows
 values_back : (h : NetlinkHeader) (rest : List ℕ) → Fit header_fields (header_values h)
     → values_of header_fields (header_bytes h ++ rest) ≡ header_values h
 values_back h rest in_range =
     grind (arith, values-bytes_of, header_table)
 
--- so headers in range are known by their bytes
+-- headers in range are equal if they serialize to the same bytes
 pub known_by_bytes : (h k : NetlinkHeader) → Fit header_fields (header_values h)
     → Fit header_fields (header_values k) → header_bytes h ≡ header_bytes k → h ≡ k
 known_by_bytes h k th tk e = same_header h k (cc (values_back h [] th, values_back k [] tk))
 
--- in front of its payload and more bytes a header stands, and behind it its payload
+-- bytes of a header, its payload and more begin with this header, and have this payload
 pub header_stands : (h : NetlinkHeader) (payload rest : List ℕ)
     → Fit header_fields (header_values h) → h.length ≡ 16 + length payload
     → HasHeader (header_bytes h ++ (payload ++ rest)) h

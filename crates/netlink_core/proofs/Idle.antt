@@ -1,5 +1,5 @@
--- Messages are equal exactly where their bytes are idle, and read back as themselves exactly where
--- they are in normal form.
+-- Messages are equal if and only if their bytes are equivalent (`idle`), and round-trip if and only
+-- if they are in normal form.
 use Rattle.std.proofs.lemmas.Grind.{common_steps}
 use Rattle.std.proofs.Common.{◌≡◌, ◌↔◌, ◌⊎◌, ◌≤◌, ℕ, List, take}
 use Rattle.std.proofs.Common.{ap, arith}
@@ -17,7 +17,7 @@ use Rattle.netlink_core.proofs.Headers.{same_leading_header}
 use Rattle.netlink_core.proofs.Framing.{payload_in_range}
 
 module _ {A : Type 0} (reads : List ℕ → ℕ → A → Type 0) where
-  -- payloads of one type are equal exactly where they are idle
+  -- payloads of the same type are equal if and only if their bytes are equivalent
   payloads_idle : (idle : ℕ → List ℕ → List ℕ → Type 0) (t : ℕ) (x y : List ℕ)
       → ((v w : A) → reads x t v → reads y t w → ((v ≡ w) ↔ idle t x y))
       → (p q : Payload A) → PayloadIs reads x t p → PayloadIs reads y t q
@@ -25,7 +25,7 @@ module _ {A : Type 0} (reads : List ℕ → ℕ → A → Type 0) where
   payloads_idle idle t x y law p q h k =
       grind (arith, law)
 
-  -- payloads of one type that are written alike are equal
+  -- payloads of the same type are equal if they serialize to the same bytes
   pub payloads_alike : (written : A → List ℕ) (fits : A → Type 0) (t : ℕ) (x y : List ℕ)
       → ((v w : A) → reads x t v → reads y t w → fits v → fits w → written v ≡ written w → v ≡ w)
       → (p q : Payload A) → PayloadIs reads x t p → PayloadIs reads y t q → OfInner fits p
@@ -34,7 +34,7 @@ module _ {A : Type 0} (reads : List ℕ → ℕ → A → Type 0) where
       grind (arith, law)
 
 module _ (C : Codec ℕ) where
-  -- messages that are written alike are equal
+  -- messages are equal if they serialize to the same bytes
   pub equal_where_alike : ((x y : List ℕ) (t : ℕ) (v w : C.Value) → IsBytes x → IsBytes y
       → C.reads x t v → C.reads y t w → C.fits v → C.fits w → C.written v ≡ C.written w → v ≡ w)
       → (b c : List ℕ) (v w : Envelope C.Value) → IsBytes b → IsBytes c
@@ -50,7 +50,7 @@ module _ (C : Codec ℕ) where
         payload_in_range w.header.length c tc,
       )
 
-  -- messages are equal exactly where their strings are idle
+  -- messages are equal if and only if their bytes are equivalent
   pub equal_where_idle : ((x y : List ℕ) (t : ℕ) (v w : C.Value) → IsBytes x → IsBytes y
       → C.reads x t v → C.reads y t w → ((v ≡ w) ↔ C.idle t x y))
       → (b c : List ℕ) (v w : Envelope C.Value) → IsBytes b → IsBytes c
@@ -68,14 +68,14 @@ module _ (C : Codec ℕ) where
         header_length c w.header s.0,
       )
 
-  -- the bytes of a payload read back as it exactly where it is in normal form
+  -- a payload round-trips if and only if it is in normal form
   payload_itself : (type_of : C.Value → ℕ) (t : ℕ) (p : Payload C.Value)
       → t ≡ payload_type type_of p → OfInner (λ m. C.reads (C.written m) t m ↔ C.is_normal t m) p
       → (PayloadIs C.reads (payload_bytes C.written p) t p
       ↔ OfInner (λ m. IsInnerType t × C.is_normal t m) p)
   payload_itself type_of t p e law = grind arith
 
-  -- the bytes of a finalized message read back as it exactly where it is in normal form
+  -- a finalized message round-trips if and only if it is in normal form
   pub reads_back_exactly : (type_of : C.Value → ℕ) (v : Envelope C.Value)
       → Fit header_fields (header_values v.header)
       → v.header ≡ finalized C.written type_of v
@@ -86,7 +86,8 @@ module _ (C : Codec ℕ) where
   reads_back_exactly type_of v in_range done law =
       grind (arith, common_steps, append-nil, header_stands, payload_itself)
 
--- what holds of inner messages in range that fit holds of the payload's
+-- what holds of all writable inner messages in range holds of the inner message of a payload, if
+-- any
 pub inner_law : {A : Type 0} (in_range fits law : A → Type 0)
     → ((m : A) → in_range m → fits m → law m)
     → (p : Payload A) → OfInner in_range p → OfInner fits p → OfInner law p

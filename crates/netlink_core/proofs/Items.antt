@@ -1,4 +1,4 @@
--- The items of a datagram, one after the other.
+-- The items of a datagram, in order.
 use Rattle.std.proofs.Common.{arith}
 use Rattle.std.proofs.Common.{◌≡◌, ◌≢◌, ℕ, ◌+◌, ◌%◌, ◌⊎◌, inl, inr, List, [], ◌∷◌, ◌++◌}
 use Rattle.std.proofs.Common.{refl, ap, append_assoc, length}
@@ -22,7 +22,7 @@ use Rattle.netlink_core.proofs.Datagrams.{starts_with_message, shorter-rest}
 use Rattle.netlink_core.proofs.Datagrams.{messages_of_concatenation}
 use Rattle.netlink_core.proofs.Datagrams.{IsOfOwnLength, one_cut_into_messages}
 
--- what stands behind a message in bytes is bytes
+-- the bytes after a message and its padding are bytes
 pub rest_in_range : (bytes message rest : List ℕ) → StartsWithMessage bytes message rest
     → IsBytes bytes → IsBytes rest
 rest_in_range bytes message rest s in_range =
@@ -33,14 +33,15 @@ message_in_range : (bytes message rest : List ℕ) → StartsWithMessage bytes m
     → IsBytes bytes → IsBytes message
 message_in_range bytes message rest s in_range = IsBytes-left message _ (rw s.parts at in_range)
 
--- lists that are related item by item are so in a row
+-- concatenations of lists that are related element by element are so too
 pub zip_append : {A B : Type 0} (R : A → B → Type 0) (xs ys : List A) (vs ws : List B)
     → AllZip R xs vs → AllZip R ys ws → AllZip R (xs ++ ys) (vs ++ ws)
 zip_append R (x ∷ xs) ys (v ∷ vs) ws h k = (h.0, zip_append R xs ys vs ws h.1 k)
 zip_append R xs ys vs ws h k = grind arith
 
 module _ {A : Type 0} (is : List ℕ → Item A → Type 0) where
-  -- the item of a message in front of others
+  -- the items of a datagram are the item of its first message, and then the items of the remaining
+  -- bytes
   pub leading_item : (bytes message rest : List ℕ) (item : Item A)
       (later : List (Item A)) → StartsWithMessage bytes message rest → is message item
       → ItemsAre is rest later → ItemsAre is bytes (item ∷ later)
@@ -53,23 +54,23 @@ module _ {A : Type 0} (is : List ℕ → Item A → Type 0) where
     cc,
   )
 
-  -- no bytes have no items
   pub no_items : ItemsAre is [] []
   no_items = ([], None, [], refl, tt, refl)
 
-  -- bytes with no message in front have the fault alone
+  -- the only item of bytes that do not begin with a message is their error
   pub fault_alone : (bytes : List ℕ) (e : DecodeError) → bytes ≢ [] → IsEnvelopeFault bytes e
       → ItemsAre is bytes (Err e ∷ [])
   fault_alone bytes e some f = ([], Some e, [], (some, f), tt, refl)
 
-  -- whole messages have the items of the messages alone
+  -- the items of padded messages are the items of these messages only
   pub whole_items : (bytes : List ℕ) (messages : List (List ℕ))
       (items : List (Item A)) → CutIntoMessages bytes messages None × (length bytes % 4 ≡ 0)
       → ItemsAre is bytes items → AllZip is messages items
   whole_items bytes messages items whole a =
       grind (arith, one_cut_into_messages bytes a.0 messages a.1, append-nil a.2)
 
-  -- whole messages and then more bytes have the items of the one and then of the other
+  -- the items of padded messages and more bytes are the items of these messages, and then the items
+  -- of the other bytes
   pub items_of_concatenation : (front back : List ℕ) (messages : List (List ℕ))
       (xs ys : List (Item A)) → CutIntoMessages front messages None × (length front % 4 ≡ 0)
       → ItemsAre is front xs → ItemsAre is back ys → ItemsAre is (front ++ back) (xs ++ ys)
@@ -82,20 +83,20 @@ module _ {A : Type 0} (is : List ℕ → Item A → Type 0) where
         append_assoc xs b.2 (option_to_list (option_map Err b.1)),
       )
 
-  -- ---- the walk
+  -- ---- iterating over a datagram
 
-  -- What was found goes on with whatever items the rest has.
+  -- The items of `bytes` are the items `so_far` and then the items of the remaining bytes, `rest`.
   pub record Following (bytes : List ℕ) (so_far : List (Item A))
       (rest : List ℕ) : Type 0 where
     pub items : (later : List (Item A)) → ItemsAre is rest later
         → ItemsAre is bytes (so_far ++ later)
     pub in_range : IsBytes bytes → IsBytes rest
 
-  -- the walk begins with all the bytes
+  -- at the start all bytes remain
   pub items_begin : (bytes : List ℕ) → Following bytes [] bytes
   items_begin bytes = record { items = λ later h. h; in_range = λ h. h }
 
-  -- it goes on behind a message
+  -- the next message adds its item
   pub items_go_on : (bytes rest after message : List ℕ) (so_far : List (Item A))
       (item : Item A) → Following bytes so_far rest → StartsWithMessage rest message after
       → is message item → Following bytes (so_far ++ item ∷ []) after
@@ -105,7 +106,7 @@ module _ {A : Type 0} (is : List ℕ → Item A → Type 0) where
     in_range = λ h. rest_in_range rest message after s (walk.in_range h);
   }
 
--- where each message has an item
+-- If each message has an item, then:
 module _ {A : Type 0} (is : List ℕ → Item A → Type 0) (some_item : (message : List ℕ)
     → IsBytes message → IsOfOwnLength message → (item : Item A) × is message item) where
   -- each datagram has items
@@ -123,10 +124,10 @@ module _ {A : Type 0} (is : List ℕ → Item A → Type 0) (some_item : (messag
     ]
   ])
 
--- where payloads of inner messages have one of them or one fault
+-- If each payload under a type has an inner message or an error, then:
 module _ (C : Codec ℕ) (law : (b : List ℕ) (t : ℕ) → IsBytes b → ((m : C.Value) × C.reads b t m)
     ⊎ ((e : DecodeError) × C.refuses b t e)) where
-  -- a message has an item
+  -- each message has an item
   pub item_of : (message : List ℕ) → IsBytes message → (item : Item C.Value)
       × ItemIs C message item
   item_of message in_range = elim (envelope_or_fault C message in_range law) [
@@ -139,7 +140,7 @@ module _ (C : Codec ℕ) (law : (b : List ℕ) (t : ℕ) → IsBytes b → ((m :
       × ItemsAre (ItemIs C) bytes items
   items_of = items_by (ItemIs C) (λ message in_range whole. item_of message in_range)
 
-  -- all items, where one that was found is followed by others
+  -- the items of a datagram, after some items and one more have been found
   pub items_with : (bytes rest after message : List ℕ) (so_far : List (Item C.Value))
       (item : Item C.Value) → IsBytes bytes → Following (ItemIs C) bytes so_far rest
       → StartsWithMessage rest message after → ItemIs C message item
@@ -151,10 +152,10 @@ module _ (C : Codec ℕ) (law : (b : List ℕ) (t : ℕ) → IsBytes b → ((m :
             (leading_item (ItemIs C) rest message after item later.0 s is later.1),
       )
 
--- where each message has one item alone
+-- If each message has at most one item, then:
 module _ {A : Type 0} (is : List ℕ → Item A → Type 0) (one_item : (message : List ℕ)
     → IsBytes message → (i j : Item A) → is message i → is message j → i ≡ j) where
-  -- the items of messages
+  -- messages have at most one list of items
   one_carried : (b : List ℕ) → IsBytes b → (messages : List (List ℕ)) (end : Option DecodeError)
       → CutIntoMessages b messages end → (vs ws : List (Item A))
       → AllZip is messages vs → AllZip is messages ws → vs ≡ ws
@@ -168,7 +169,7 @@ module _ {A : Type 0} (is : List ℕ → Item A → Type 0) (one_item : (message
       )
   one_carried b in_range messages end cut vs ws h k = grind arith
 
-  -- one list of items
+  -- a datagram has at most one list of items
   pub one_list_by : (b : List ℕ) → IsBytes b → (xs ys : List (Item A))
       → ItemsAre is b xs → ItemsAre is b ys → xs ≡ ys
   one_list_by b in_range xs ys h k =
@@ -178,8 +179,7 @@ module _ {A : Type 0} (is : List ℕ → Item A → Type 0) (one_item : (message
         one_carried b in_range k.0 k.1 k.3 h.2 k.2,
       )
 
--- Each message has one item and each datagram one list of them, where bytes have one message or one
--- fault.
+-- If bytes have at most one message or one error, not both, then:
 module _ (C : Codec ℕ)
     (one_value : (b : List ℕ) (v w : Envelope C.Value) → IsBytes b → (envelope_codec C).reads b tt v
     → (envelope_codec C).reads b tt w → v ≡ w)
@@ -187,7 +187,7 @@ module _ (C : Codec ℕ)
     → (envelope_codec C).reads b tt v → (envelope_codec C).refuses b tt e → ⊥)
     (one_fault : (b : List ℕ) (e f : DecodeError) → (envelope_codec C).refuses b tt e
     → (envelope_codec C).refuses b tt f → e ≡ f) where
-  -- one item
+  -- each message has at most one item
   pub one_item : (b : List ℕ) → IsBytes b → (i j : Item C.Value) → ItemIs C b i → ItemIs C b j
       → i ≡ j
   one_item b in_range (Ok p) (Ok q) h k =
@@ -198,7 +198,7 @@ module _ (C : Codec ℕ)
   one_item b in_range (Err e) (Ok q) h k = absurd (one_answer b _ e k.1 h)
   one_item b in_range (Err e) (Err f) h k = ap Err (one_fault b e f h k)
 
-  -- one list of items
+  -- each datagram has at most one list of items
   pub one_list : (b : List ℕ) → IsBytes b → (xs ys : List (Item C.Value))
       → ItemsAre (ItemIs C) b xs → ItemsAre (ItemIs C) b ys → xs ≡ ys
   one_list = one_list_by (ItemIs C) one_item

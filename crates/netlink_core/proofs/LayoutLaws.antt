@@ -1,4 +1,4 @@
--- A sound layout keeps the laws. Proved once, for every layout.
+-- A layout that meets the conditions of `IsSound` keeps the laws. Proved once, for every layout.
 use Rattle.std.proofs.Common.{◌≡◌, ◌↔◌, ℕ, ◌<◌, ◌≤◌, IsTrue, List, [], length}
 use Rattle.std.proofs.Common.{Result, Ok, Err, refl, sym, ap, ◌∙◌, arith}
 use Rattle.std.proofs.Common.{append-nil, le-ltb, lt-ltb}
@@ -19,11 +19,12 @@ use Rattle.netlink_core.specs.declared.fault.DecodeError.{DecodeError}
 use Rattle.netlink_core.specs.declared.fault.DecodeError.TheVariants.{Memory, BufferTooSmall}
 use Rattle.netlink_core.specs.declared.fault.RecordName.{RecordName}
 
--- `Ok x`, with the type of the error written
+-- `Ok x`, with the type of the error
 abbrev ok : {T : Type 0} → T → Result T DecodeError
 ok x = Ok x
 
--- what a reader's answer tells
+-- What an accepted byte string and its value are: it is long enough, it has a tag, and the value
+-- has the numbers of the bytes in the fields for this tag.
 pub record Accepts {Param Tag Value : Type 0} (layout : Layout Param Tag Value) (param : Param)
     (left : List ℕ) (value : Value) : Type 0 where
   pub long : layout.least ≤ length left
@@ -32,22 +33,22 @@ pub record Accepts {Param Tag Value : Type 0} (layout : Layout Param Tag Value) 
   pub is : value ≡ layout.value tag (values_of (table layout tag) left)
 
 module _ {Param Tag Value : Type 0} (layout : Layout Param Tag Value) where
-  -- the value in a string, by the table of its tag
+  -- the value of bytes, by the fields for their tag
   abbrev read_tagged : List ℕ → Result Tag DecodeError → Result Value DecodeError
   read_tagged left tag_found = map_ok (λ tag.
       layout.value tag (values_of (table layout tag) left)) tag_found
 
-  -- a string that is too short is refused
+  -- too few bytes are rejected
   pub too_short : (param : Param) (left : List ℕ) → length left < layout.least
       → read layout param left ≡ Err (BufferTooSmall layout.name (length left) layout.least)
   too_short param left l = rw (lt-ltb (length left) layout.least l) refl
 
-  -- one that is long enough is read by its fields
+  -- enough bytes are parsed by their fields
   pub long_enough : (param : Param) (left : List ℕ) → layout.least ≤ length left
       → read layout param left ≡ read_fields layout param left
   long_enough param left l = rw (le-ltb (length left) layout.least l) refl
 
-  -- a tag that was found gives its value
+  -- bytes with a tag have the value of their fields
   pub accepts : (param : Param) (left : List ℕ) (tag : Tag) → layout.tag_at param left ≡ Ok tag
       → read_fields layout param left ≡ Ok (layout.value tag (values_of (table layout tag) left))
   accepts param left tag e = ap (read_tagged left) e
@@ -58,13 +59,13 @@ module _ {Param Tag Value : Type 0} (layout : Layout Param Tag Value) where
   accepted_by tag_found left value e =
       grind arith
 
-  -- a value that was read by its fields is that of a tag that was found
+  -- bytes that parse by their fields have a tag, and the value has their numbers
   pub accepted_fields : (param : Param) (left : List ℕ) (value : Value)
       → read_fields layout param left ≡ Ok value → (tag : Tag) × (layout.tag_at param left ≡ Ok tag)
       × (value ≡ layout.value tag (values_of (table layout tag) left))
   accepted_fields param left value e = accepted_by (layout.tag_at param left) left value e
 
-  -- a value that was read is that of a tag that was found, in a string that is long enough
+  -- bytes that parse are long enough and have a tag, and the value has their numbers
   pub accepted : (param : Param) (left : List ℕ) (value : Value) → read layout param left ≡ Ok value
       → Accepts layout param left value
   accepted param left value e =
@@ -85,7 +86,7 @@ same_tag : {T : Type 0} (r : Result T DecodeError) (s t : T) → r ≡ Ok s → 
 same_tag r s t e f = cc
 
 module _ {Param Tag Value : Type 0} (layout : Layout Param Tag Value) (sound : IsSound layout) where
-  -- the table of a string's tag, and that of a value
+  -- the fields for the tag of bytes, or of a value, are consecutive
   table_is : (param : Param) (tag : Tag) (left : List ℕ) → layout.tag_at param left ≡ Ok tag
       → IsTable 0 (table layout tag) (sound.size tag)
   table_is param tag left tag_found =
@@ -96,12 +97,12 @@ module _ {Param Tag Value : Type 0} (layout : Layout Param Tag Value) (sound : I
   own_table_is value =
       grind (arith, table_from_test 0)
 
-  -- no fault is want of memory
+  -- bytes are never rejected with `Memory`
   pub named : (param : Param) (left : List ℕ) → read layout param left ≡ Err Memory → ⊥
   named param left e =
       grind (arith, cases_lt (length left), too_short, rejected_by, long_enough)
 
-  -- the value of a tag that was found stands there
+  -- bytes with a tag contain the value of their fields
   stands : (param : Param) (tag : Tag) (left : List ℕ) → IsBytes left → layout.least ≤ length left
       → layout.tag_at param left ≡ Ok tag
       → StandsIn layout left param (layout.value tag (values_of (table layout tag) left))
@@ -113,13 +114,13 @@ module _ {Param Tag Value : Type 0} (layout : Layout Param Tag Value) (sound : I
   reads param left value ((long, found, numbers), in_range, normal) =
       grind (arith, long_enough, accepts)
 
-  -- what is read is what stands there
+  -- bytes parse as a value if and only if they contain it
   pub stands_where_read : (param : Param) (left : List ℕ) (value : Value) → IsBytes left
       → (read layout param left ≡ Ok value) ↔ StandsIn layout left param value
   stands_where_read param left value h =
       grind (arith, accepted, stands param, reads param left value)
 
-  -- the same value, so the same fields
+  -- bytes are equivalent if and only if they have the same value
   idle_from_equal : (param : Param) (left right : List ℕ) (value : Value)
       → StandsIn layout left param value → StandsIn layout right param value
       → AreIdle layout param left right
@@ -131,7 +132,7 @@ module _ {Param Tag Value : Type 0} (layout : Layout Param Tag Value) (sound : I
   equal_from_idle param left right (tag, numbers, here, there) =
       grind (arith, long_enough, accepts)
 
-  -- a value in normal form is read back
+  -- a value in range and in normal form round-trips
   pub reads_back : (param : Param) (value : Value) → IsInRange layout value
       → IsNormal layout param value → read layout param (bytes layout value) ≡ Ok value
   reads_back param value t n =
@@ -149,12 +150,11 @@ module _ {Param Tag Value : Type 0} (layout : Layout Param Tag Value) (sound : I
         n,
       )
 
-  -- a value in range is written as bytes
+  -- a value in range serializes to bytes
   pub written_bytes : (value : Value) → IsInRange layout value → IsBytes (bytes layout value)
   written_bytes value t =
       grind (arith, bytes_of-bytes 0, own_table_is value)
 
-  -- the laws together
   pub keeps_laws : KeepsLaws (record_codec layout)
   keeps_laws = record {
     answered = λ b p tb. value_or_reason (read layout p b);
@@ -171,12 +171,11 @@ module _ {Param Tag Value : Type 0} (layout : Layout Param Tag Value) (sound : I
     reads_back = λ p v tv n f. reads_back p v tv n;
   }
 
-  -- the laws of the record
   pub record_laws : RecordLaws layout
   record_laws =
       grind (arith, keeps_laws, stands, stands_where_read)
 
--- what is shown of a record with one table
+-- the conditions on the layout of a record with the same rows for all values
 pub plain_sound : {Value : Type 0} {name : RecordName} {size : ℕ} {rows : List (Row Value)}
     {value : List ℕ → Value} {is_shaped : Value → Type 0}
     → IsTrue (is_table 0 (fields_of rows) size)

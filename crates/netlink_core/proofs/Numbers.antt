@@ -1,5 +1,4 @@
--- A number fixes its bytes, in either order, and bits that are masked in a number are those that
--- are masked in its bytes.
+-- A number determines its bytes, in either byte order, and masking a number is masking its bytes.
 use Rattle.std.proofs.Common.{◌≡◌, ℕ, zero, suc, ◌+◌, ◌*◌, ◌/◌, ◌%◌, ◌^◌, ◌<◌, ◌≤◌, List, [], ◌∷◌}
 use Rattle.std.proofs.Common.{◌++◌, length, take, replicate, slice_index, bit_and, refl, sym, ap}
 use Rattle.std.proofs.Common.{ap₂, ◌∙◌, arith}
@@ -18,28 +17,28 @@ use Rattle.netlink_core.specs.Bytes.{IsBytes}
 use Rattle.netlink_core.specs.SignificantBits.{masked}
 use Rattle.netlink_core.specs.laws.Byte.{byte_at-lt, IsBytes-number}
 
--- ---- numbers in either order
+-- ---- numbers in either byte order
 
--- which byte of a number stands first
+-- the byte order of a number
 pub data Order : Type 0 where
   little_endian big_endian : Order
 
--- a number of a table in that order
+-- a field of a number in this byte order
 abbrev pub field_in : Order → ℕ → ℕ → Field
 field_in little_endian = number
 field_in big_endian = network
 
--- the number in the first bytes, in that order
+-- the number in the first bytes, in this byte order
 abbrev pub number_in : Order → ℕ → List ℕ → ℕ
 number_in little_endian width bytes = little_number width bytes
 number_in big_endian width bytes = big_number width bytes
 
--- so many bytes of a number, in that order
+-- the `width` bytes of a number, in this byte order
 abbrev pub bytes_in : Order → ℕ → ℕ → List ℕ
 bytes_in little_endian width n = little_bytes width n
 bytes_in big_endian width n = big_bytes width n
 
--- ---- a number fixes its bytes
+-- ---- a number determines its bytes
 
 little-same : (n : ℕ) (xs ys : List ℕ) → IsBytes xs → IsBytes ys → n ≤ length xs → n ≤ length ys
     → little_from 0 n xs ≡ little_from 0 n ys → take n xs ≡ take n ys
@@ -59,19 +58,19 @@ big-same (suc n) (x ∷ xs) (y ∷ ys) hx hy lx ly e =
     grind (arith, big-same n xs ys (λ i. hx (suc i)) (λ i. hy (suc i)))
 big-same n xs ys hx hy lx ly e = grind arith
 
--- equal numbers have equal bytes
+-- bytes are equal if their numbers are
 pub number-same : (order : Order) (n : ℕ) (xs ys : List ℕ) → IsBytes xs → IsBytes ys → n ≤ length xs
     → n ≤ length ys → number_in order n xs ≡ number_in order n ys → take n xs ≡ take n ys
 number-same order n xs ys hx hy lx ly e =
     grind (arith, little-same, big-same)
 
--- a number is that of its first bytes
+-- a number depends on its own bytes only
 pub number-take : (order : Order) (n m : ℕ) (xs : List ℕ) → n ≤ m
     → number_in order n (take m xs) ≡ number_in order n xs
 number-take order n m xs h =
     grind (arith, little_from-take 0 n m xs, big_from-take 0 n m xs)
 
--- a number of bytes fits them, and reads back from its own
+-- a number of `n` bytes is below 256^n, and is read from the bytes that it is written as
 pub number-fits : (order : Order) (n : ℕ) (xs : List ℕ) → IsBytes xs
     → number_in order n xs < 256 ^ n
 number-fits order n xs h =
@@ -82,7 +81,6 @@ pub number-reads_back : (order : Order) (n x : ℕ) (rest : List ℕ) → x < 25
 number-reads_back order n x rest h =
     grind (arith, little_number-reads_back n x rest h, big_number-reads_back n x rest h)
 
--- a number has as many bytes as it is given
 pub length-bytes_in : (order : Order) (n x : ℕ) → length (bytes_in order n x) ≡ n
 length-bytes_in order n x =
     grind (arith, length-bytes_low_first 0 n x, length-bytes_high_first n x)
@@ -98,33 +96,32 @@ bytes_in-bytes big_endian n x = λ k. big-bytes n x k
 
 -- ---- masks on bytes
 
--- all bits of the first bytes
+-- masks of 255 keep all bits
 pub masked-all : (n : ℕ) (xs : List ℕ) → IsBytes xs → masked (replicate n 255) xs ≡ take n xs
 masked-all (suc n) (x ∷ xs) h =
     let below : x < 2 ^ 8 = h 0 in
     grind (arith, and_mask x 8, mod-eq_of_lt below, masked-all n xs (λ i. h (suc i)))
 masked-all n xs h = grind arith
 
--- no bits
+-- masks of 0 keep no bits
 pub masked-none : (n : ℕ) (xs : List ℕ) → n ≤ length xs → masked (replicate n 0) xs ≡ replicate n 0
 masked-none (suc n) (x ∷ xs) h =
     grind (arith, and_zero_r x, masked-none n xs)
 masked-none n xs h = grind arith
 
--- as many bytes as masks
 pub length-masked : (masks xs : List ℕ) → length masks ≤ length xs
     → length (masked masks xs) ≡ length masks
 length-masked (m ∷ masks) (x ∷ xs) h =
     grind (arith, length-masked masks xs)
 length-masked masks xs h = grind arith
 
--- bytes under masks are bytes
+-- masked bytes are bytes
 pub masked-bytes : (masks xs : List ℕ) (k : ℕ) → IsBytes xs → slice_index (masked masks xs) k < 256
 masked-bytes (m ∷ masks) (x ∷ xs) zero h = omega (arith, and_le_l x m, h 0)
 masked-bytes (m ∷ masks) (x ∷ xs) (suc k) h = masked-bytes masks xs k (λ i. h (suc i))
 masked-bytes masks xs k h = grind arith
 
--- the bytes of a number from the second on are those of what is left of it
+-- the bytes of a number from the second on are the bytes of the number divided by 256
 byte-shift : (i x : ℕ) → byte_at (suc i) x ≡ byte_at i (x / 256)
 byte-shift i x =
     grind (arith, pow-suc 256, mul_comm, div-div-eq-div-mul x 256)
@@ -134,7 +131,7 @@ bytes-shift i zero x = refl
 bytes-shift i (suc n) x =
     grind (arith, byte-shift i x, bytes-shift (suc i) n x)
 
--- a mask on a number is one on its bytes
+-- masking a number is masking its bytes
 pub and_number : (n mask : ℕ) (xs : List ℕ) → IsBytes xs → n ≤ length xs
     → bit_and (little_from 0 n xs) mask ≡ little_from 0 n (masked (bytes_low_first 0 n mask) xs)
 and_number zero mask xs h l = and_zero_l mask

@@ -1,4 +1,4 @@
--- What follows an attribute at the start of bytes.
+-- The padding after an attribute, and induction on the number of bytes.
 use Rattle.std.proofs.Common.{zero, suc, ◌≢◌, inl, inr, refl, ◌∷◌}
 use Rattle.std.proofs.Common.{[], ◌<◌, ◌⊎◌, ◌≡◌, ℕ, ◌+◌, List, ◌++◌, length, take, drop}
 use Rattle.std.proofs.Common.{arith}
@@ -6,14 +6,15 @@ use Rattle.std.proofs.lemmas.List.{take-append-drop, length-take, drop_all}
 use Rattle.std.proofs.Math.Seq.{drop-append-add}
 use Rattle.netlink_core.specs.Attribute.{Attribute, HasPrefix, StartsWith, fill, unpadded}
 
--- behind a head stand its padding and the rest, as much of either as there is
+-- the bytes `tail` are the padding, up to `n` bytes, and `rest`; the padding is shorter only if
+-- nothing follows
 pub padding_there : (n : ℕ) (tail rest : List ℕ) → rest ≡ drop n tail
     → (tail ≡ take n tail ++ rest)
     × ((length (take n tail) ≡ n) ⊎ ((length (take n tail) < n) × (rest ≡ [])))
 padding_there n tail rest rest-is =
     grind (arith, take-append-drop n tail, length-take n tail, drop_all n tail)
 
--- behind that of an attribute too
+-- bytes that begin with an attribute are the attribute, its padding, and `rest`
 pub starts_with : (bytes rest : List ℕ) (a : Attribute) (end : ℕ) → HasPrefix bytes a
     → end ≡ 4 + length a.value + fill (4 + length a.value) → rest ≡ drop end bytes
     → StartsWith bytes a rest
@@ -23,7 +24,7 @@ starts_with bytes rest a end head end-is rest-is =
     let behind = padding_there n head.0 rest (cc (drop-append-add (unpadded a) head.0 n)) in
     record { padding = take n head.0; parts = cc; fits = head.2; filled = behind.1 }
 
--- what holds of bytes where it holds of all that are fewer holds of all
+-- a property holds of all bytes if it holds of bytes whenever it holds of all fewer bytes
 pub by_length : (P : List ℕ → Type 0) → ((bytes : List ℕ)
     → ((rest : List ℕ) → length rest < length bytes → P rest) → P bytes)
     → (bytes : List ℕ) → P bytes
@@ -33,7 +34,6 @@ by_length P step bytes = within (suc (length bytes)) bytes (omega arith)
     within zero b short = absurd (omega arith)
     within (suc n) b short = step b (λ rest fewer. within n rest (omega arith))
 
--- there are bytes, or none
 pub some_or_none : (bytes : List ℕ) → (bytes ≡ []) ⊎ (bytes ≢ [])
 some_or_none [] = inl refl
 some_or_none (b ∷ bytes) = inr (λ e. cc)

@@ -1,4 +1,4 @@
--- Records that are given as layouts, in front of other bytes.
+-- Records with a layout that are followed by other bytes.
 use Rattle.std.proofs.Common.{◌≡◌, ℕ, ◌≤◌, List, ◌++◌, length, Ok, arith}
 use Rattle.std.proofs.lemmas.List.{length-append}
 use Rattle.netlink_core.specs.Layout.{Layout}
@@ -9,7 +9,8 @@ use Rattle.netlink_core.proofs.TableLaws.{table_from_test, values-bytes_of}
 use Rattle.netlink_core.proofs.LayoutLaws.{accepts, long_enough}
 
 module _ {Tag Value : Type 0} (layout : Layout (Unit {0}) Tag Value) (sound : IsSound layout) where
-  -- a record of one size whose tag is in its own bytes stands in front of whatever follows it
+  -- a record of fixed size, whose tag does not depend on later bytes, round-trips also if other
+  -- bytes follow
   pub is_prefix_codec : {size : ℕ} → IsFixed layout size
       → ((tag : Tag) (left rest : List ℕ) → layout.least ≤ length left
       → layout.tag_at tt left ≡ Ok tag → layout.tag_at tt (left ++ rest) ≡ Ok tag)

@@ -1,4 +1,4 @@
--- The laws of a reply, from those of its header and its attributes' set.
+-- The codec laws of a reply follow from the laws of its header and of its set of attribute types.
 use Rattle.std.proofs.Common.{Ok, ◌≡◌, ◌↔◌, inl, inr, ℕ, List, [], ◌∷◌}
 use Rattle.std.proofs.Common.{arith}
 use Rattle.std.specs.Prelude.{drop, map}
@@ -24,7 +24,7 @@ use Rattle.netlink_core.proofs.Cutting.{all_written_in_range, cut_in_range, mean
 use Rattle.netlink_core.proofs.Cutting.{means_or_fault_apart, one_fault, one_cut}
 use Rattle.netlink_core.proofs.Cutting.{written_values_are_read}
 
--- ---- from attributes to lists of them
+-- ---- from attributes to lists of attributes
 
 module _ (F : AttributeSet) (laws : AttributeSetLaws F) where
   abbrev Say : List Attribute → List (AttributeValue F) → Type 0
@@ -66,12 +66,11 @@ module _ (F : AttributeSet) (laws : AttributeSetLaws F) where
 module _ (R : ResponseSpec) (laws : ResponseLaws R) where
   open R use {attribute_set as F}
 
-  -- the attributes behind the header are in range
+  -- the attributes after the header are in range
   behind_in_range : (b : List ℕ) (xs : List Attribute) → IsBytes b → Cut (drop R.size b) xs []
       → AllByRecursion IsAttributeInRange xs
   behind_in_range b xs in_range = cut_in_range (drop R.size b) xs (AreBytes-drop R.size b in_range)
 
-  -- the laws together
   pub responses_keep_laws : KeepsLaws (response_codec R)
   responses_keep_laws = record {
     answered = λ b p in_range. elim (value_or_reason (R.header.reads tt b)) [
@@ -87,7 +86,7 @@ module _ (R : ResponseSpec) (laws : ResponseLaws R) where
     one_fault = λ b p e f h k. grind (arith, one_fault (decodes F) (drop R.size b) e f);
     named_fault = λ b p h.
         grind (arith, laws.header.named_fault b tt, set_faults_named F laws.attribute_set);
-    -- two strings have equal values exactly where they are idle
+    -- two accepted byte strings have equal values if and only if they are equivalent
     same_value = λ b c p v w b-in_range c-in_range h k.
         let headers = laws.header.same_value b c tt _ _ b-in_range c-in_range h.0 k.0 in
         let lists = lists_same_value F laws.attribute_set _ _ _ _
@@ -110,7 +109,7 @@ module _ (R : ResponseSpec) (laws : ResponseLaws R) where
     written_bytes = λ v in_range.
         IsBytes-append (R.header.bytes v.header) _ (laws.header.written_bytes v.header in_range.0)
         (all_written_in_range _ (list_writes_in_range F laws.attribute_set v.nlas in_range.1));
-    -- a writable value in normal form reads back as itself
+    -- a writable value in normal form round-trips
     reads_back = λ p v in_range normal fits.
         let nlas : List ℕ = flat_map written (map (encodes F) v.nlas) in
         let lists = list_reads_back F laws.attribute_set v.nlas in_range.1 normal.1 fits.0 in (

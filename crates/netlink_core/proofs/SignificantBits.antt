@@ -1,5 +1,5 @@
--- Two byte strings of one tag are equivalent if and only if they have equal bits under the masks of
--- that tag's table. Proved once, for each layout with well-formed tables.
+-- Two byte strings with the same tag are equivalent if and only if they have equal bits under the
+-- masks of the fields for this tag. Proved once, for each layout whose fields are consecutive.
 use Rattle.std.proofs.Common.{◌≡◌, ◌↔◌, ℕ, ◌<◌, ◌^◌, ◌≤◌, IsTrue, List, ◌∷◌, length, Ok}
 use Rattle.std.proofs.Common.{slice_index, refl, subst, sym, ◌∙◌, arith}
 use Rattle.std.proofs.lemmas.Nat.{and_mask}
@@ -11,20 +11,20 @@ use Rattle.netlink_core.specs.laws.Sound.{is_table, IsSound}
 use Rattle.netlink_core.specs.Layout.{Layout, AreIdle, table}
 use Rattle.netlink_core.proofs.TableLaws.{table_from_test, live_bits, values_and_bits}
 
--- A layout whose tables pass their test, each with its size. A byte string that is long enough and
--- has a tag has at least the size of that tag's table.
+-- A layout whose fields are consecutive for each tag, and have `size` bytes. Bytes that are long
+-- enough and have a tag have at least the size of this tag.
 module _ {Param Tag Value : Type 0} (layout : Layout Param Tag Value) (size : Tag → ℕ)
     (tables : (param : Param) (tag : Tag) (left : List ℕ) → layout.tag_at param left ≡ Ok tag
     → IsTrue (is_table 0 (table layout tag) (size tag)))
     (enough : (param : Param) (tag : Tag) (left : List ℕ) → layout.least ≤ length left
     → layout.tag_at param left ≡ Ok tag → size tag ≤ length left) where
-  -- both are long enough, have the same tag, and have equal bits under the masks of its table
+  -- both are long enough, have the same tag, and have equal bits under the masks of its fields
   abbrev pub EqualByTag : Param → List ℕ → List ℕ → Type 0
   EqualByTag param b c = (layout.least ≤ length b) × (layout.least ≤ length c) × (tag : Tag)
       × (layout.tag_at param b ≡ Ok tag) × (layout.tag_at param c ≡ Ok tag)
       × EqualUnder (live_bits (table layout tag)) b c
 
-  -- with one tag, equal values are equal bits under the masks
+  -- with the same tag, values are equal if and only if bits are equal under the masks
   values_and_masks : (param : Param) (tag : Tag) (b c : List ℕ) → IsBytes b → IsBytes c
       → layout.least ≤ length b → layout.least ≤ length c
       → layout.tag_at param b ≡ Ok tag → layout.tag_at param c ≡ Ok tag
@@ -54,7 +54,7 @@ module _ {Param Tag Value : Type 0} (layout : Layout Param Tag Value) (size : Ta
   equivalent_by_tag param b c hb hc =
       (equal_if_equivalent param b c hb hc, equivalent_if_equal param b c hb hc)
 
--- equivalence by a layout with one table, which has these masks
+-- equivalence by a layout with the same rows for all values, whose fields have these masks
 pub equivalent_by_masks : {Value : Type 0} (layout : Layout (Unit {0}) (Unit {0}) Value)
     (masks : List ℕ) → ((left : List ℕ) → layout.tag_at tt left ≡ Ok tt)
     → IsTrue (is_table 0 (table layout tt) layout.least) → live_bits (table layout tt) ≡ masks
@@ -70,13 +70,13 @@ equivalent_by_masks layout masks tag well_formed same b c hb hc =
     )
 
 module _ {Param Tag Value : Type 0} (layout : Layout Param Tag Value) (sound : IsSound layout) where
-  -- both byte strings have the same tag, and its table has these masks
+  -- both byte strings have the same tag, and its fields have these masks
   abbrev pub HasMasks : Param → List ℕ → List ℕ → List ℕ → Type 0
   HasMasks param masks b c = (tag : Tag) × (layout.tag_at param b ≡ Ok tag)
       × (layout.tag_at param c ≡ Ok tag) × (live_bits (table layout tag) ≡ masks)
 
-  -- Equivalence by a layout with several tables. A condition says, without the layout, that both
-  -- byte strings have the same tag, and its table has these masks.
+  -- Equivalence by a layout with several tags. `Condition` says, without the layout, that both byte
+  -- strings have the same tag, and that its fields have these masks.
   pub equivalent_by_condition : (param : Param) (masks : List ℕ) (Condition : Type 0) (b c : List ℕ)
       → IsBytes b → IsBytes c
       → (layout.least ≤ length b → layout.least ≤ length c → (tag : Tag)
@@ -97,7 +97,7 @@ module _ {Param Tag Value : Type 0} (layout : Layout Param Tag Value) (sound : I
             both.1 (lb, lc, tag, tb, tc, subst equal_under (sym same) equal),
       )
 
--- byte strings with equal bits have the same first byte, if the first mask is 255
+-- bytes with equal bits have the same first byte, if the first mask is 255
 pub equal_first_bytes : (masks b c : List ℕ) → IsBytes b → IsBytes c → 1 ≤ length b → 1 ≤ length c
     → slice_index masks 0 ≡ 255 → EqualUnder masks b c → slice_index b 0 ≡ slice_index c 0
 equal_first_bytes (m ∷ masks) (x ∷ b) (y ∷ c) hb hc lb lc all_bits e =

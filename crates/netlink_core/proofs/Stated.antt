@@ -1,11 +1,12 @@
--- The cutting has its two endings apart.
+-- How bytes are split, with the two cases of a padding apart.
 use Rattle.std.proofs.Common.{◌≡◌, ◌<◌, ◌⊎◌, ◌↔◌, ℕ, List, [], ◌∷◌, ◌++◌, length}
 use Rattle.std.proofs.Common.{arith}
 use Rattle.netlink_core.specs.Attribute.{Attribute, Cut, fill, unpadded}
 use Rattle.netlink_core.specs.laws.Prefix.{FitsWords}
 use Rattle.netlink_core.proofs.Cutting.{one_cut}
 
--- a cut into an attribute and others is one with its endings apart, and the other way round
+-- bytes are split into an attribute and others if and only if its padding is complete and the
+-- remaining bytes are split into the others, or its padding is short and nothing follows
 pub endings_apart : (bytes : List ℕ) (x : Attribute) (xs : List Attribute) → Cut bytes (x ∷ xs) []
     ↔ ((padding rest : List ℕ) × (bytes ≡ unpadded x ++ (padding ++ rest)) × FitsWords x
     × (((length padding ≡ fill (length x.value)) × Cut rest xs [])

@@ -1,5 +1,5 @@
--- The laws of tables, by induction on the fields: what was written is read again, and two strings
--- have the same values exactly where they have the same live bits.
+-- Properties of tables of fields, by induction on the fields: serialized numbers are parsed again,
+-- and two byte strings have the same numbers if and only if they have the same significant bits.
 use Rattle.std.proofs.lemmas.Grind.{common_steps}
 use Rattle.std.proofs.Common.{◌≡◌, ◌↔◌, ℕ, zero, suc, ◌+◌, ◌<◌, ◌≤◌, Bool, ◌&&◌, IsTrue}
 use Rattle.std.proofs.Common.{List, [], ◌∷◌, ◌++◌, length, drop, replicate, slice_index}
@@ -34,12 +34,13 @@ and_parts : (a b : Bool) → IsTrue (a && b) → IsTrue a × IsTrue b
 and_parts a b h =
     grind arith
 
--- what is written of itself is bytes
+-- what the serializer writes to an ignored field is bytes
 abbrev IsWritten : Field → Type 0
 IsWritten (unread offset written) = IsBytes written
 IsWritten _ = ⊤
 
--- the test as a fact
+-- the fields are consecutive from the offset `from` to the offset `end`, and what the serializer
+-- writes to ignored fields is bytes
 abbrev pub IsTable : ℕ → List Field → ℕ → Type 0
 IsTable from [] end = from ≡ end
 IsTable from (field ∷ fields) end = (offset_of field ≡ from) × IsWritten field
@@ -57,7 +58,7 @@ is_bytes : (field : Field) → IsTrue (is_written field) → IsWritten field
 is_bytes field h =
     grind (arith, bytes_from_test)
 
--- what the test of a table tells
+-- a table that passes the test `is_table` has this property
 pub table_from_test : (from : ℕ) (fields : List Field) (end : ℕ) → IsTrue (is_table from fields end)
     → IsTable from fields end
 table_from_test from [] end h = eqb-true from end h
@@ -75,7 +76,7 @@ table_from_test from (field ∷ fields) end h =
       width_of field,
     )
 
--- a table ends at its beginning or later
+-- a table ends at its start or later
 ends-after : (from : ℕ) (fields : List Field) (end : ℕ) → IsTable from fields end → from ≤ end
 ends-after from [] end h = omega arith
 ends-after from (field ∷ fields) end h =
@@ -83,20 +84,19 @@ ends-after from (field ∷ fields) end h =
 
 -- ---- lists
 
--- what follows in bytes is bytes
 pub AreBytes-drop : (n : ℕ) (bytes : List ℕ) → IsBytes bytes → IsBytes (drop n bytes)
 AreBytes-drop n bytes h = λ i. rw (get_or-drop n bytes i 0) (h (n + i))
 
--- masks in a row go over bytes in a row
+-- concatenated masks apply to consecutive bytes
 masked-append : (ms ns xs : List ℕ) → length ms ≤ length xs
     → masked (ms ++ ns) xs ≡ masked ms xs ++ masked ns (drop (length ms) xs)
 masked-append (m ∷ ms) ns (x ∷ xs) h =
     grind (arith, masked-append ms ns xs)
 masked-append ms ns xs h = grind arith
 
--- ---- reading what was written
+-- ---- parsing serialized numbers
 
--- it is written as bytes
+-- numbers that fit their fields serialize to bytes
 pub bytes_of-bytes : (from : ℕ) (fields : List Field) (end : ℕ) (values : List ℕ)
     → IsTable from fields end → Fit fields values → IsBytes (bytes_of fields values)
 bytes_of-bytes from [] end values t f = λ k. omega arith
@@ -115,7 +115,7 @@ bytes_of-bytes from (flags offset width mask ∷ fields) end (value ∷ values) 
     (bytes_of-bytes (from + width) fields end values t.2 f.1)
 bytes_of-bytes from fields end values t f = grind arith
 
--- what follows the first piece
+-- the bytes after the first part
 after_piece : (from : ℕ) (bytes piece tail rest : List ℕ) → drop from bytes
     ≡ (piece ++ tail) ++ rest → drop (from + length piece) bytes ≡ tail ++ rest
 after_piece from bytes piece tail rest e =
@@ -126,7 +126,7 @@ after_piece from bytes piece tail rest e =
       drop_at piece (tail ++ rest) (length piece),
     )
 
--- a number and what follows it
+-- the number at a position, and the bytes after it
 number_and_rest : (order : Order) (width from value : ℕ) (bytes tail rest : List ℕ)
     → value < 256 ^ width → drop from bytes ≡ (bytes_in order width value ++ tail) ++ rest
     → (number_in order width (drop from bytes) ≡ value)
@@ -140,7 +140,7 @@ number_and_rest order width from value bytes tail rest fits e =
       after_piece from bytes,
     )
 
--- what was written is read again
+-- the bytes that numbers serialize to have these numbers in their fields
 pub values-bytes_of : (from : ℕ) (fields : List Field) (end : ℕ) (values bytes rest : List ℕ)
     → IsTable from fields end → Fit fields values → AreDefined fields values
     → drop from bytes ≡ bytes_of fields values ++ rest → values_of fields bytes ≡ values
@@ -182,7 +182,7 @@ values-bytes_of from (flags offset width mask ∷ fields) end (value ∷ values)
     )
 values-bytes_of from fields end values bytes rest t f d e = grind arith
 
--- what was read fits, and has defined bits alone
+-- parsed numbers fit their fields
 pub values-fit : (fields : List Field) (bytes : List ℕ) → IsBytes bytes
     → Fit fields (values_of fields bytes)
 values-fit [] bytes h = tt
@@ -202,14 +202,14 @@ values-fit (flags offset width mask ∷ fields) bytes h =
     )
 values-fit (unread offset written ∷ fields) bytes h = values-fit fields bytes h
 
--- flags that were read are defined
+-- parsed flags are defined
 pub values-defined : (fields : List Field) (bytes : List ℕ)
     → AreDefined fields (values_of fields bytes)
 values-defined [] bytes = tt
 values-defined (field ∷ fields) bytes =
     grind (arith, and_assoc, and_self, values-defined fields bytes)
 
--- the value of one field, if it is read
+-- the number in one field; none if the field is ignored
 abbrev value_in : Field → List ℕ → List ℕ
 value_in field bytes = values_of (field ∷ []) bytes
 
@@ -217,9 +217,10 @@ values-cons : (field : Field) (fields : List Field) (b : List ℕ)
     → values_of (field ∷ fields) b ≡ value_in field b ++ values_of fields b
 values-cons field fields b = grind arith
 
--- ---- equal values, and the same live bits
+-- ---- equal numbers and equal significant bits
 
--- the bits that are live: all of a number's, the mask's, none of what isn't read
+-- the masks of the fields: all bits of a number, the defined bits of flags, no bit of an ignored
+-- field
 abbrev pub live_bits : List Field → List ℕ
 live_bits [] = []
 live_bits (byte offset ∷ fields) = 255 ∷ live_bits fields
@@ -228,7 +229,7 @@ live_bits (network offset width ∷ fields) = replicate width 255 ++ live_bits f
 live_bits (flags offset width mask ∷ fields) = little_bytes width mask ++ live_bits fields
 live_bits (unread offset written ∷ fields) = replicate (length written) 0 ++ live_bits fields
 
--- the live bits of one field
+-- the masks of one field
 abbrev live_in : Field → List ℕ
 live_in (byte offset) = replicate 1 255
 live_in (number offset width) = replicate width 255
@@ -248,7 +249,7 @@ length-live : (field : Field) → length (live_in field) ≡ width_of field
 length-live field =
     grind (arith, length-replicate, length-bytes_low_first)
 
--- bytes are the same exactly where their numbers are
+-- numbers are equal if and only if their bytes are
 number_bits : (order : Order) (width : ℕ) (xs ys : List ℕ) → IsBytes xs → IsBytes ys
     → width ≤ length xs → width ≤ length ys → ((number_in order width xs ≡ number_in order width ys)
     ↔ (masked (replicate width 255) xs ≡ masked (replicate width 255) ys))
@@ -262,7 +263,7 @@ number_bits order width xs ys hx hy lx ly =
       number-take order width width ys,
     )
 
--- and under a mask
+-- flags are equal if and only if their defined bits are
 flag_bits : (width mask : ℕ) (xs ys : List ℕ) → IsBytes xs → IsBytes ys → width ≤ length xs
     → width ≤ length ys → ((bit_and (little_number width xs) mask
     ≡ bit_and (little_number width ys) mask)
@@ -289,7 +290,7 @@ one_value : {P : Type 0} (x y : ℕ) → ((x ≡ y) ↔ P) → ((x ∷ [] ≡ y 
 one_value x y h =
     grind (arith, h)
 
--- a field that is there has equal values exactly where it has the same live bits
+-- the numbers in one field are equal if and only if its significant bits are
 field_bits : (field : Field) (b c xs ys : List ℕ) → drop (offset_of field) b ≡ xs
     → drop (offset_of field) c ≡ ys → IsBytes xs → IsBytes ys → width_of field ≤ length xs
     → width_of field ≤ length ys → ((value_in field b ≡ value_in field c)
@@ -311,7 +312,7 @@ field_bits (flags offset width mask) b c xs ys ex ey hx hy lx ly =
 field_bits (unread offset written) b c xs ys ex ey hx hy lx ly =
     grind (arith, masked-none (length written) xs lx, masked-none (length written) ys ly)
 
--- a first field and the others
+-- the masks of a first field and of the others apply to consecutive bytes
 bits-cons : (field : Field) (fields : List Field) (from : ℕ) (b : List ℕ)
     → from + width_of field ≤ length b → (width_of field ≤ length (drop from b))
     × (masked (live_bits (field ∷ fields)) (drop from b) ≡ masked (live_in field) (drop from b)
@@ -332,7 +333,7 @@ both_parts : (a b r s p q u v : List ℕ) → length a ≡ length b → length p
 both_parts a b r s p q u v l m here rest =
     grind (arith, same_parts a b r s l, same_parts p q u v m, here, rest)
 
--- equal values have the same live bits, and the same live bits make equal values
+-- the numbers in the fields are equal if and only if the significant bits are
 pub values_and_bits : (from : ℕ) (fields : List Field) (end : ℕ) (b c : List ℕ)
     → IsTable from fields end → IsBytes b → IsBytes c → end ≤ length b → end ≤ length c
     → ((values_of fields b ≡ values_of fields c)

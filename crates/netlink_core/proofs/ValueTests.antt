@@ -1,24 +1,23 @@
--- Tests of equality on what attributes decode to, from those of the values of each type.
+-- Tests of equality of decoded values, composed of tests for the values of each attribute type.
 use Rattle.std.proofs.Common.{◌≡◌, ◌↔◌, ◌&&◌, inl, inr, ℕ, [], ◌∷◌, Bool, false, eqb, IsTrue, arith}
 use lib.Pointwise.{pointwise, bytes_decides}
 use Rattle.netlink_core.specs.Attribute.{Attribute}
 use Rattle.netlink_core.specs.AttributeSet.{AttributeSet, AttributeValue}
 use Rattle.netlink_core.proofs.Equality.{and_decides, numbers_equal, apart}
 
--- a test that says whether two values are the same
+-- a test that decides whether two values are equal
 abbrev pub Test : Type 0 → Type 0
 Test A = (test : A → A → Bool) × ((x y : A) → IsTrue (test x y) ↔ (x ≡ y))
 
--- of two numbers
 abbrev pub number_test : Test ℕ
 number_test = (eqb, numbers_equal)
 
--- one for the values of each type
+-- a test for the values of each attribute type
 abbrev pub Tests : AttributeSet → Type 0
 Tests [] = Unit {0}
 Tests (spec ∷ others) = Test spec.value.Value × Tests others
 
--- of two attributes, and of what they decode to
+-- the test of two attributes, and the test of two decoded values
 abbrev pub attribute_test : Attribute → Attribute → Bool
 attribute_test a b = eqb a.type_word b.type_word && pointwise eqb a.value b.value
 

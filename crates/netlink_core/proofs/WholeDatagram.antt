@@ -1,4 +1,4 @@
--- A whole walk over a datagram gives the messages into which it is cut.
+-- Iterating over a whole datagram yields the messages that it is split into.
 use Rattle.std.proofs.Common.{arith}
 use Rattle.std.proofs.Common.{Err, Some, None, ◌≡◌, ℕ, List, [], ◌∷◌}
 use Rattle.std.specs.Prelude.{map}
@@ -10,7 +10,6 @@ use Rattle.netlink_core.specs.Datagram.{CutIntoMessages}
 use Rattle.netlink_core.proofs.WholeWalk.{found}
 use Rattle.netlink_core.specs.DatagramWalk.{datagram_left, GivesMessage}
 
--- the bytes of each message
 abbrev messages_of : List (Bor (List ℕ)) → List (List ℕ)
 messages_of given = map (λ (m : Bor (List ℕ)). m.now) given
 

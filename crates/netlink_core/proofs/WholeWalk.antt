@@ -1,4 +1,5 @@
--- A whole walk gives the cut, or all of it in front of the first framing fault.
+-- Iterating over all bytes yields the attributes that they are split into, up to the first framing
+-- error.
 use Rattle.std.proofs.Common.{arith}
 use Rattle.std.proofs.Common.{Result, Ok, Err, Some, ◌≡◌, List, [], ◌∷◌}
 use Rattle.std.specs.Prelude.{map}
@@ -10,7 +11,7 @@ use Rattle.netlink_core.specs.Attribute.{Cut, CutOff, IsFramingFault}
 use Rattle.netlink_core.proofs.Walking.{cut_off_behind}
 use Rattle.netlink_core.specs.Walk.{attribute_of, bytes_left, GivesAttribute}
 
--- items that are no faults
+-- items without errors
 abbrev pub found : {B : Type 0} → List B → List (Result B DecodeError)
 found given = map (λ item. Ok item) given
 

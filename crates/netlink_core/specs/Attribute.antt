@@ -1,4 +1,5 @@
--- Attributes in bytes: into which attributes a string is cut, and at which fault the cutting stops.
+-- Attributes in bytes (`struct nlattr` of linux/netlink.h): how bytes are split into attributes,
+-- and the first error of bytes that cannot be split.
 use Rattle.std.specs.Prelude.{◌≡◌, ◌≢◌, ℕ, ◌+◌, ◌-◌, ◌%◌, ◌^◌, ◌<◌, ◌≤◌, ◌⊎◌, List, [], ◌∷◌, ◌++◌}
 use Rattle.std.specs.Prelude.{length, replicate, bit_and, Result, Ok, Err, IsOk}
 use Rattle.byteorder.specs.Endian.{little_bytes, little_number}
@@ -8,42 +9,47 @@ use Rattle.netlink_core.specs.declared.fault.DecodeError.TheVariants.{AttributeH
 use Rattle.netlink_core.specs.declared.fault.DecodeError.TheVariants.{AttributeLengthUnder4}
 use Rattle.netlink_core.specs.declared.fault.DecodeError.TheVariants.{AttributeLengthPast}
 
--- an attribute without where it lies: its type word, and the bytes of its value
+-- an attribute without its length field and its padding
 pub record Attribute : Type 0 where
+  -- `nla_type`, 16 bits, with its two flag bits
   pub type_word : ℕ
+  -- the bytes between header and padding: `nla_len - 4` bytes
   pub value : List ℕ
 
--- the type word without its two flag bits
+-- the kind: `nla_type & NLA_TYPE_MASK`, without the bits NLA_F_NESTED and NLA_F_NET_BYTEORDER
 abbrev pub attribute_type : Attribute → ℕ
 attribute_type a = bit_and a.type_word 0x3fff
 
--- the number from 0 to 3 that brings a length to a multiple of four
+-- the number of padding bytes, 0 to 3, that follow `n` bytes: NLA_ALIGN(n) - n
 abbrev pub fill : ℕ → ℕ
 fill n = (4 - n % 4) % 4
 
--- the length word, the type word and the value
+-- an attribute without padding: `nla_len` (4 and the length of the value), `nla_type`, and the
+-- value; both fields have 16 bits and are little-endian
 abbrev pub unpadded : Attribute → List ℕ
 unpadded a = little_bytes 2 (4 + length a.value) ++ little_bytes 2 a.type_word ++ a.value
 
--- the same, and zeros up to a multiple of four
+-- the attribute with zeros as padding, up to a multiple of four
 abbrev pub written : Attribute → List ℕ
 written a = unpadded a ++ replicate (fill (length a.value)) 0
 
--- the value has at most 65,531 bytes, so that a word of 16 bits counts it and the header
+-- the value has at most 65,531 bytes, so that `nla_len` fits 16 bits
 abbrev pub HasFittingValue : Attribute → Type 0
 HasFittingValue a = length a.value ≤ 65531
 
--- each has such a length word, and all their bytes are at most this many
+-- the value of each attribute fits its length field, and all attributes with their padding have at
+-- most `limit` bytes
 abbrev pub AreWritable : List Attribute → ℕ → Type 0
 AreWritable all limit = AllByRecursion HasFittingValue all × (length (flat_map written all) ≤ limit)
 
--- the bytes begin with the attribute
+-- the bytes begin with the attribute; any bytes may follow its value, and its padding may be
+-- missing
 abbrev pub HasPrefix : List ℕ → Attribute → Type 0
 HasPrefix bytes a = (tail : List ℕ) × (bytes ≡ unpadded a ++ tail)
     × ((a.type_word < 2 ^ 16) × HasFittingValue a)
 
--- The bytes are the attribute, its padding and the rest. Where nothing follows, the padding may be
--- short.
+-- The bytes are the attribute, its padding, and `rest`. The padding may have any content. It is
+-- complete, up to a multiple of four; if nothing follows, it may be shorter.
 pub record StartsWith (bytes : List ℕ) (a : Attribute) (rest : List ℕ) : Type 0 where
   pub padding : List ℕ
   pub parts : bytes ≡ unpadded a ++ (padding ++ rest)
@@ -51,12 +57,14 @@ pub record StartsWith (bytes : List ℕ) (a : Attribute) (rest : List ℕ) : Typ
   pub filled : (length padding ≡ fill (length a.value))
       ⊎ ((length padding < fill (length a.value)) × (rest ≡ []))
 
--- the bytes are these attributes, one after the other, and then the rest
+-- the bytes are these attributes, consecutive and each with its padding, and then `rest`
 abbrev pub Cut : List ℕ → List Attribute → List ℕ → Type 0
 Cut bytes [] rest = bytes ≡ rest
 Cut bytes (a ∷ later) rest = (left : List ℕ) × StartsWith bytes a left × Cut left later rest
 
--- No attribute stands at the start of the bytes, and why. Of several faults it is the first.
+-- The first error of bytes that do not begin with an attribute: fewer than 4 bytes; else `nla_len`
+-- is below 4; else `nla_len` is above the number of bytes. The error contains `nla_len` (`word`)
+-- and the number of bytes (`left`).
 abbrev pub IsFramingFault : List ℕ → DecodeError → Type 0
 IsFramingFault bytes (AttributeHeaderCut left) = (left ≡ length bytes) × (length bytes < 4)
 IsFramingFault bytes (AttributeLengthUnder4 word) =
@@ -66,22 +74,26 @@ IsFramingFault bytes (AttributeLengthPast word left) =
     × (4 ≤ length bytes) × (4 ≤ word) × (length bytes < word)
 IsFramingFault bytes _ = ⊥
 
--- attributes come first; then bytes are left, and there the fault is
+-- the bytes are the attributes `given` and then at least one byte more, and the error of these last
+-- bytes is `e`, by `faulty`
 abbrev pub CutOff : (List ℕ → DecodeError → Type 0) → List ℕ → List Attribute → DecodeError → Type 0
 CutOff faulty bytes given e = (rest : List ℕ) × Cut bytes given rest × (rest ≢ []) × faulty rest e
 
--- What a reader makes of each attribute: a value, or the reason that it is refused.
+-- Given how the parser of one attribute works: `reads a` is its value, or the error that rejects
+-- it.
 module _ {A : Type 0} (reads : Attribute → Result A DecodeError) where
-  -- the bytes are cut into attributes, and these are what is read from them, in order
+  -- the bytes are split into attributes without any bytes left, and these parse as the values, in
+  -- order
   abbrev pub AttributesMean : List ℕ → List A → Type 0
   AttributesMean bytes values = (attributes : List Attribute) × Cut bytes attributes []
       × AllZip (λ a value. reads a ≡ Ok value) attributes values
 
-  -- the first fault that applies at the start of the bytes
+  -- the first error at the start of the bytes: an error of the framing, or else of the first
+  -- attribute's value
   abbrev pub IsPrefixFault : List ℕ → DecodeError → Type 0
   IsPrefixFault b e = IsFramingFault b e ⊎ ((a : Attribute) × HasPrefix b a × (reads a ≡ Err e))
 
-  -- the first fault stands behind attributes that can be read
+  -- the first error of the bytes: it is preceded by accepted attributes only
   abbrev pub AttributeFault : List ℕ → DecodeError → Type 0
   AttributeFault bytes e = (attributes : List Attribute)
       × CutOff IsPrefixFault bytes attributes e × AllByRecursion (λ a. IsOk (reads a)) attributes

@@ -1,5 +1,5 @@
--- Sets of attributes: a list of attribute types, and what follows from it: what each attribute
--- decodes to, which decode to the same, and what is written.
+-- Sets of attribute types. A set determines what each attribute decodes to, which attributes are
+-- equivalent, and what a decoded value serializes to.
 use Rattle.std.specs.Prelude.{◌≡◌, ◌≢◌, ℕ, ◌⊎◌, ◌==◌, if◌then◌else◌, cond, Bool, true, false}
 use Rattle.std.specs.Prelude.{◌<◌, ◌^◌, List, [], ◌∷◌, map, Option, Some, None, Result, Ok, ⊤}
 use Rattle.std.proofs.Common.{inl, inr}
@@ -9,91 +9,97 @@ use Rattle.netlink_core.specs.Bytes.{IsBytes}
 use Rattle.netlink_core.specs.Faults.{map_ok}
 use Rattle.netlink_core.specs.ValueCodec.{ValueCodec}
 
--- one attribute type: its number, how its values are read and written, and whether they are kept
--- without memory
+-- one attribute type
 pub record AttributeSpec : Type 1 where
+  -- its kind: `nla_type` without the two flag bits
   pub number : ℕ
+  -- the codec of its values
   pub value : ValueCodec (Unit {0})
+  -- its values need no memory
   pub is_spare : Type 0
 
--- a set: its types
+-- a set is a list of types; of two types with the same kind the first counts
 abbrev pub AttributeSet : Type 1
 AttributeSet = List AttributeSpec
 
--- the numbers of the types
+-- the kinds of the types
 abbrev pub numbers : AttributeSet → List ℕ
 numbers F = map (λ (spec : AttributeSpec). spec.number) F
 
--- what an attribute decodes to: a value of one of the types, or else the attribute itself
+-- what an attribute decodes to: a value of one of the types, or else the attribute itself, raw
 abbrev pub AttributeValue : AttributeSet → Type 0
 AttributeValue [] = Attribute
 AttributeValue (spec ∷ others) = spec.value.Value ⊎ AttributeValue others
 
--- what an attribute decodes to, or why it is refused
+-- decodes an attribute by its kind, or returns the error of its value; an attribute whose kind is
+-- not in the set decodes to itself
 abbrev pub decodes : (F : AttributeSet) → Attribute → Result (AttributeValue F) DecodeError
 decodes [] a = Ok a
 decodes (spec ∷ others) a =
     if attribute_type a == spec.number then map_ok inl (spec.value.reads tt a.value)
     else map_ok inr (decodes others a)
 
--- the attribute that is written: the type without flag bits and the value's bytes, or else the
--- attribute itself
+-- the attribute that a decoded value serializes as: its kind without flag bits and the bytes of its
+-- value; a raw attribute is unchanged
 abbrev pub encodes : (F : AttributeSet) → AttributeValue F → Attribute
 encodes [] a = a
 encodes (spec ∷ others) (inl x) = record { type_word = spec.number; value = spec.value.bytes x }
 encodes (spec ∷ others) (inr v) = encodes others v
 
--- of one type, and idle under it; or of none of the types, and equal
+-- two attributes are equivalent: they have the same kind in the set and equivalent values, whatever
+-- their flag bits are; or both kinds are not in the set, and the attributes are equal with their
+-- flag bits
 abbrev pub AreIdleAttributes : AttributeSet → Attribute → Attribute → Type 0
 AreIdleAttributes [] a b = a ≡ b
 AreIdleAttributes (spec ∷ others) a b = cond (attribute_type a == spec.number)
     ((attribute_type b ≡ spec.number) × spec.value.idle tt a.value b.value)
     ((attribute_type b ≢ spec.number) × AreIdleAttributes others a b)
 
--- a decoded value is in range: one of no type in the set has a type word of 16 bits, and bytes
+-- a decoded value is in range: a value of a type is, by its codec; a raw attribute has a type field
+-- of 16 bits, and its value is bytes
 abbrev pub IsInRangeBy : (F : AttributeSet) → AttributeValue F → Type 0
 IsInRangeBy [] a = (a.type_word < 2 ^ 16) × IsBytes a.value
 IsInRangeBy (spec ∷ others) (inl x) = spec.value.is_in_range x
 IsInRangeBy (spec ∷ others) (inr v) = IsInRangeBy others v
 
--- it is in normal form: a value of a type in the set is, and one of no type in the set has the
--- number of none
+-- a decoded value is in normal form: a value of a type is, by its codec, and no earlier type has
+-- the same kind; a raw attribute has a kind that is not in the set
 abbrev pub IsNormalBy : (F : AttributeSet) → AttributeValue F → Type 0
 IsNormalBy [] a = ⊤
 IsNormalBy (spec ∷ F) (inl x) = spec.value.is_normal tt x
 IsNormalBy (spec ∷ F) (inr v) = (attribute_type (encodes F v) ≢ spec.number) × IsNormalBy F v
 
--- it is kept without memory: a value of a type in the set whose values are
+-- a decoded value needs no memory: its type says so; a raw attribute always counts as needing it
 abbrev pub IsSpareBy : (F : AttributeSet) → AttributeValue F → Type 0
 IsSpareBy [] a = ⊥
 IsSpareBy (spec ∷ others) (inl x) = spec.is_spare
 IsSpareBy (spec ∷ others) (inr v) = IsSpareBy others v
 
--- ---- by the number of a type
+-- ---- by kind
 
--- the values of the type with that number, or attributes where there is none
+-- the values of the type of kind `k`, or raw attributes if no type has this kind
 abbrev pub ValueAt : AttributeSet → ℕ → Type 0
 ValueAt [] k = Attribute
 ValueAt (spec ∷ others) k = cond (spec.number == k) spec.value.Value (ValueAt others k)
 
--- injects into the left or the right of a sum
+-- injects into a sum: into the left if `t` is true, else by `later` and into the right
 abbrev pub put : {A B C : Type 0} → (t : Bool) → (B → C) → cond t A B → A ⊎ C
 put true later x = inl x
 put false later x = inr (later x)
 
--- a value of the type with that number, or an attribute under a number of no type in the set, as a
--- decoded value
+-- a value of kind `k` as a decoded value; it is a raw attribute if no type has this kind
 abbrev pub of_type : (F : AttributeSet) → (k : ℕ) → ValueAt F k → AttributeValue F
 of_type [] k a = a
 of_type (spec ∷ others) k x = put (spec.number == k) (of_type others k) x
 
--- projects from the left or the right of a sum; `None` if the value is on the other side
+-- projects from a sum: from the left if `t` is true, else from the right and by `later`; `None` if
+-- the value is on the other side
 abbrev pub got : {A B C : Type 0} → (t : Bool) → (C → Option B) → A ⊎ C → Option (cond t A B)
 got true later (inl x) = Some x
 got false later (inr v) = later v
 got t later v = None
 
--- the value of the type with that number, if the decoded value is of this type
+-- the value of kind `k`, or `None` if the decoded value is of another kind or raw
 abbrev pub content : (F : AttributeSet) → (k : ℕ) → AttributeValue F → Option (ValueAt F k)
 content [] k a = None
 content (spec ∷ others) k v = got (spec.number == k) (content others k) v

@@ -1,4 +1,4 @@
--- The usual types of attributes.
+-- The usual attribute types.
 use Rattle.std.specs.Prelude.{◌≡◌, ℕ, ◌<◌, ◌^◌, List, Some, Result, ⊤}
 use Rattle.byteorder.specs.Endian.{little_bytes}
 use Rattle.netlink_core.specs.declared.fault.DecodeError.{DecodeError}
@@ -6,16 +6,16 @@ use Rattle.netlink_core.specs.Parse.{exact_number}
 use Rattle.netlink_core.specs.ValueCodec.{ValueCodec}
 use Rattle.netlink_core.specs.AttributeSet.{AttributeSpec}
 
--- a type whose values are read and written so: a record and whatever follows it, or what is all of
--- the value
+-- the attribute type of kind `k` with this codec of its values, which need no memory
 abbrev pub spec : ℕ → ValueCodec (Unit {0}) → AttributeSpec
 spec k value = record { number = k; value = value; is_spare = ⊤ }
 
--- a type whose values take memory
+-- the attribute type of kind `k` with this codec of its values, which count as needing memory
 abbrev pub memory_spec : ℕ → ValueCodec (Unit {0}) → AttributeSpec
 memory_spec k value = record { number = k; value = value; is_spare = ⊥ }
 
--- what is read of all bytes, each of which is live
+-- The codec of values that take all bytes, all bits of which are significant: the parser, the
+-- serializer, which values are in range, and which are in normal form.
 abbrev pub exact_value : {A : Type 0} → (List ℕ → Result A DecodeError) → (A → List ℕ)
     → (A → Type 0) → (A → Type 0) → ValueCodec (Unit {0})
 exact_value {A} reads bytes is_in_range is_normal = record {
@@ -27,7 +27,8 @@ exact_value {A} reads bytes is_in_range is_normal = record {
   is_normal = λ p v. is_normal v;
 }
 
--- a type of numbers of exactly so many bytes; the fault of another length has the type
+-- the attribute type of kind `k` for little-endian numbers of exactly `w` bytes; the error of any
+-- other length contains the kind
 abbrev pub number_spec : ℕ → ℕ → AttributeSpec
 number_spec k w =
     spec k (exact_value (exact_number (Some k) w) (little_bytes w) (λ n. n < 256 ^ w) (λ n. ⊤))

@@ -1,5 +1,5 @@
--- Messages one after the other: into which messages a datagram is cut, and at which fault the
--- cutting stops.
+-- How a datagram is split into netlink messages, and the first error of bytes that do not begin
+-- with a message.
 use Rattle.std.specs.Prelude.{◌≡◌, ◌≢◌, ℕ, ◌<◌, ◌≤◌, ◌⊎◌, List, [], ◌∷◌, ◌++◌, length, Option}
 use Rattle.std.specs.Prelude.{Some, None}
 use Rattle.byteorder.specs.Endian.{little_number}
@@ -7,8 +7,9 @@ use Rattle.netlink_core.specs.declared.fault.DecodeError.{DecodeError}
 use Rattle.netlink_core.specs.Attribute.{fill}
 use Rattle.netlink_core.specs.Header.{IsEnvelopeFault}
 
--- The bytes are the message, its padding and the rest. The message is as long as its own length
--- word says, which counts the header. Where nothing follows, the padding may be short.
+-- The bytes are the message, its padding, and `rest`. The message is as long as its length field
+-- (`nlmsg_len`), which includes the 16 bytes of its header. The padding may have any content. It is
+-- complete, up to a multiple of four; if nothing follows, it may be shorter.
 pub record StartsWithMessage (bytes message rest : List ℕ) : Type 0 where
   pub padding : List ℕ
   pub parts : bytes ≡ message ++ (padding ++ rest)
@@ -16,7 +17,8 @@ pub record StartsWithMessage (bytes message rest : List ℕ) : Type 0 where
   pub filled : (length padding ≡ fill (length message))
       ⊎ ((length padding < fill (length message)) × (rest ≡ []))
 
--- the bytes are cut into these messages, and then nothing is left, or a fault stands there
+-- the bytes are split into these messages; then no bytes are left, or bytes that do not begin with
+-- a message, with this error
 abbrev pub CutIntoMessages : List ℕ → List (List ℕ) → Option DecodeError → Type 0
 CutIntoMessages bytes [] None = bytes ≡ []
 CutIntoMessages bytes [] (Some e) = (bytes ≢ []) × IsEnvelopeFault bytes e

@@ -15,11 +15,11 @@ use Rattle.netlink_core.specs.Header.{header_bytes, header_fields, header_values
 use Rattle.netlink_core.specs.Header.{HasHeader, IsEnvelopeFault}
 use Rattle.netlink_core.specs.Codec.{Codec}
 
--- the payload of a message; the bytes of a control message are a list
+-- the payload of a message; the raw bytes of a control message are a list
 abbrev pub Payload : Type 0 → Type 0
 Payload A = NetlinkPayload A (List ℕ)
 
--- a header and a payload
+-- a netlink message: its header and its payload
 pub record Envelope (A : Type 0) : Type 0 where
   pub header : NetlinkHeader
   pub payload : Payload A
@@ -29,7 +29,7 @@ abbrev pub IsInnerType : ℕ → Type 0
 IsInnerType t = (t ≡ 0) ⊎ (NLMSG_OVERRUN < t)
 
 -- The bytes parse as this payload under the message type, given how inner messages parse.
--- NLMSG_NOOP accepts any bytes.
+-- NLMSG_NOOP accepts any bytes, and drops them.
 abbrev pub PayloadIs : {A : Type 0} → (List ℕ → ℕ → A → Type 0) → List ℕ → ℕ → Payload A → Type 0
 PayloadIs reads bytes t Noop = t ≡ NLMSG_NOOP
 PayloadIs reads bytes t (Error given) = (t ≡ NLMSG_ERROR) × (given ≡ bytes)
@@ -46,7 +46,7 @@ AreEquivalentPayloads inner t b c = (t ≡ NLMSG_NOOP)
 
 -- ---- serializing
 
--- the bytes of a payload, given those of an inner message
+-- the bytes that a payload serializes to, given the bytes of an inner message
 abbrev pub payload_bytes : {A : Type 0} → (A → List ℕ) → Payload A → List ℕ
 payload_bytes bytes Noop = []
 payload_bytes bytes (Error given) = given
@@ -54,7 +54,7 @@ payload_bytes bytes (Done given) = given
 payload_bytes bytes (Overrun given) = given
 payload_bytes bytes (InnerMessage value) = bytes value
 
--- the message type of a payload, given that of an inner message
+-- the message type of a payload, given the type of an inner message
 abbrev pub payload_type : {A : Type 0} → (A → ℕ) → Payload A → ℕ
 payload_type type_of Noop = NLMSG_NOOP
 payload_type type_of (Error given) = NLMSG_ERROR
@@ -70,11 +70,12 @@ OfInner is (Error given) = ⊤
 OfInner is (Done given) = ⊤
 OfInner is (Overrun given) = ⊤
 
--- the signed 32-bit error number (0 or -errno) at the start of a payload of at least four bytes
+-- the signed 32-bit error number (0 or -errno), little-endian, at the start of a payload; `None` if
+-- the payload has fewer than four bytes
 abbrev pub leading_number : List ℕ → Option ℤ
 leading_number b = if nat_lt (length b) 4 then None else Some (cast_signed w32 (little_number 4 b))
 
--- the error number of a payload: NLMSG_ERROR and NLMSG_DONE start with one
+-- the error number of a payload: only NLMSG_ERROR and NLMSG_DONE start with one
 abbrev pub error_number_of : {A : Type 0} → Payload A → Option ℤ
 error_number_of (Error given) = leading_number given
 error_number_of (Done given) = leading_number given
@@ -82,7 +83,8 @@ error_number_of Noop = None
 error_number_of (Overrun given) = None
 error_number_of (InnerMessage value) = None
 
--- the header with the length and type of this payload; its other fields are unchanged
+-- the header with the length (header and payload) and the type of this payload; its other fields
+-- are unchanged; given are the bytes and the type of an inner message
 abbrev pub finalized : {A : Type 0} → (A → List ℕ) → (A → ℕ) → Envelope A → NetlinkHeader
 finalized bytes type_of e = record e.header {
   length = 16 + length (payload_bytes bytes e.payload);
@@ -91,7 +93,8 @@ finalized bytes type_of e = record e.header {
 
 -- ---- the codec
 
--- the codec of netlink messages, given that of inner messages under a message type
+-- the codec of netlink messages, given the codec of inner messages, whose parameter is the message
+-- type
 abbrev pub envelope_codec : Codec ℕ → Codec (Unit {0})
 envelope_codec C = record {
   Value = Envelope C.Value;
@@ -109,12 +112,12 @@ envelope_codec C = record {
       let payload : List ℕ → List ℕ = λ x. take (little_number 4 x - 16) (drop 16 x) in
       (take 16 b ≡ take 16 c)
       × AreEquivalentPayloads C.idle (little_number 2 (drop 4 b)) (payload b) (payload c);
-  -- an inner message is in normal form, under a type of inner messages
+  -- an inner message is in normal form, and the header's type is not that of a control message
   is_normal = λ p e. let t = e.header.message_type in
       OfInner (λ m. IsInnerType t × C.is_normal t m) e.payload;
   -- the header unchanged, then the payload
   written = λ e. header_bytes e.header ++ payload_bytes C.written e.payload;
-  -- an inner message can be serialized, and the total length fits the 32-bit length field
+  -- an inner message is writable, and the total length fits the 32-bit length field
   fits = λ e. OfInner C.fits e.payload
       × (16 + length (payload_bytes C.written e.payload) ≤ 4294967295);
 }

@@ -1,4 +1,4 @@
--- The faults by number.
+-- Decode errors: their codes, and results that may be decode errors.
 use Rattle.std.specs.Prelude.{ℕ, Some, None, Result}
 use Rattle.std.specs.Result.{result_map_both}
 use Rattle.netlink_core.specs.declared.fault.DecodeError.{DecodeError}
@@ -17,7 +17,7 @@ use Rattle.netlink_core.specs.declared.fault.DecodeError.TheVariants.{NameWithou
 use Rattle.netlink_core.specs.declared.fault.DecodeError.TheVariants.{EnvelopeLengthUnder16}
 use Rattle.netlink_core.specs.declared.fault.DecodeError.TheVariants.{EnvelopeLengthPast}
 
--- the number of a fault
+-- the code of an error, as in include/sockdiag.h
 abbrev pub number_of : DecodeError → ℕ
 number_of Memory = 1
 number_of (BufferTooSmall which got need) = 2
@@ -38,11 +38,11 @@ number_of (EnvelopeCut got) = 16
 number_of (EnvelopeLengthUnder16 len) = 17
 number_of (EnvelopeLengthPast len got) = 18
 
--- the fault with the attribute type filled in where a wrong length has none
+-- the error; a wrong length without a kind gets the kind `k`
 abbrev pub with_attribute_type : ℕ → DecodeError → DecodeError
 with_attribute_type k (WrongLength None got need) = WrongLength (Some k) got need
 with_attribute_type k other = other
 
--- what was read, as something else; a fault stays
+-- applies `made` to the value of an `Ok`; an error is unchanged
 abbrev pub map_ok : {A B : Type 0} → (A → B) → Result A DecodeError → Result B DecodeError
 map_ok made answer = result_map_both made (λ fault. fault) answer

@@ -1,4 +1,4 @@
--- An attribute of a set at the start of a string.
+-- The codec of one attribute by itself, given a set of attribute types.
 use Rattle.std.specs.Prelude.{◌≡◌, Ok}
 use Rattle.netlink_core.specs.Attribute.{Attribute, HasFittingValue, HasPrefix, IsPrefixFault}
 use Rattle.netlink_core.specs.Attribute.{written}
@@ -7,8 +7,9 @@ use Rattle.netlink_core.specs.AttributeSet.{IsInRangeBy, IsNormalBy}
 use Rattle.netlink_core.specs.AttributeSet.{IsSpareBy, AreIdleAttributes}
 use Rattle.netlink_core.specs.Codec.{Codec}
 
--- What the first attribute decodes to, and nothing of what follows it. It is refused for its
--- framing or its value. Strings are idle whose first attributes are idle by the set.
+-- Parses the attribute at the start of the bytes, by the set. Its padding and the bytes after it
+-- are ignored. It is rejected with the first error of its framing or its value. Byte strings are
+-- equivalent if their first attributes are.
 abbrev pub first_attribute_codec : AttributeSet → Codec (Unit {0})
 first_attribute_codec F = record {
   Value = AttributeValue F;

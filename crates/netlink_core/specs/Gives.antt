@@ -1,10 +1,11 @@
--- One step of an iterator over the parts of bytes.
+-- One step of an iterator over parts of bytes.
 use Rattle.std.specs.Prelude.{◌≡◌, ◌≢◌, ℕ, List, [], Option, Result, MatchOption, MatchResult}
 use Rattle.netlink_core.specs.declared.fault.DecodeError.{DecodeError}
 
--- Yields a part if the bytes that were left start with it, by `starts`, and the later bytes follow.
--- Or yields the error of the bytes that were left, by `faulty`, and no bytes are left. Or yields
--- `None`, only if no bytes were left.
+-- The step yields `given`. It starts with the bytes `left`, and the bytes `later` are left after
+-- it. It yields a part if `left` starts with this part and `later` follows, by `starts`. Or it
+-- yields the error of `left`, by `faulty`, and no bytes are left. Or it yields `None`, only if no
+-- bytes were left.
 abbrev pub Gives : {I : Type 0} → (List ℕ → I → List ℕ → Type 0) → (List ℕ → DecodeError → Type 0)
     → List ℕ → Option (Result I DecodeError) → List ℕ → Type 0
 Gives starts faulty left given later =

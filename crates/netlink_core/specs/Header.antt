@@ -1,4 +1,4 @@
--- The header of a netlink message, and the errors of a truncated or malformed one.
+-- The header of a netlink message, and the first error of bytes that do not begin with a message.
 use Rattle.std.specs.Prelude.{◌≡◌, ℕ, ◌<◌, ◌≤◌, List, [], ◌∷◌, length}
 use Rattle.byteorder.specs.Endian.{little_number}
 use Rattle.netlink_core.specs.Table.{Field, values_of, bytes_of}
@@ -10,7 +10,8 @@ use Rattle.netlink_core.specs.declared.fault.DecodeError.TheVariants.{EnvelopeLe
 use Rattle.netlink_core.specs.declared.fault.DecodeError.TheVariants.{EnvelopeLengthPast}
 use Rattle.netlink_core.specs.declared.header.NetlinkHeader.{NetlinkHeader}
 
--- `struct nlmsghdr` (linux/netlink.h)
+-- `struct nlmsghdr` (linux/netlink.h): `nlmsg_len`, `nlmsg_type`, `nlmsg_flags`, `nlmsg_seq`,
+-- `nlmsg_pid`
 abbrev pub header_rows : List (Row NetlinkHeader)
 header_rows =
     u32 0 NetlinkHeader.length ∷
@@ -19,7 +20,7 @@ header_rows =
     u32 8 NetlinkHeader.sequence_number ∷
     u32 12 NetlinkHeader.port_number ∷ []
 
--- the fields of the header
+-- the five fields of the header
 abbrev pub header_fields : List Field
 header_fields = fields_of header_rows
 
@@ -27,17 +28,19 @@ header_fields = fields_of header_rows
 abbrev pub header_values : NetlinkHeader → List ℕ
 header_values = numbers_of header_rows
 
--- the bytes of a header
+-- the 16 bytes that a header serializes to
 abbrev pub header_bytes : NetlinkHeader → List ℕ
 header_bytes h = bytes_of header_fields (header_values h)
 
--- the bytes begin with the header, each of whose fields is within its type, and its length is at
--- least that of the header and at most that of the bytes
+-- the bytes begin with the header, each number of which fits its field, and `nlmsg_len` is at least
+-- 16 and at most the number of bytes
 abbrev pub HasHeader : List ℕ → NetlinkHeader → Type 0
 HasHeader bytes h = (values_of header_fields bytes ≡ header_values h)
     × Fit header_fields (header_values h) × (16 ≤ h.length) × (h.length ≤ length bytes)
 
--- the first reason for which the bytes do not begin with a message
+-- The first error of bytes that do not begin with a message: fewer than 16 bytes; else `nlmsg_len`
+-- is below 16; else `nlmsg_len` is above the number of bytes. The error contains `nlmsg_len`
+-- (`word`) and the number of bytes (`got`).
 abbrev pub IsEnvelopeFault : List ℕ → DecodeError → Type 0
 IsEnvelopeFault bytes (EnvelopeCut got) = (got ≡ length bytes) × (length bytes < 16)
 IsEnvelopeFault bytes (EnvelopeLengthUnder16 word) =

@@ -1,4 +1,4 @@
--- What the messages of a datagram carry, and the faults among them.
+-- The items of a datagram: the payloads and the errors of its messages.
 use Rattle.std.specs.Prelude.{◌≡◌, ℕ, List, ◌++◌, Option, option_map, Result, Err, MatchResult}
 use Rattle.std.specs.Option.{option_to_list}
 use Rattle.std.specs.List.{AllZip}
@@ -8,17 +8,18 @@ use Rattle.netlink_core.specs.Datagram.{CutIntoMessages}
 use Rattle.netlink_core.specs.Codec.{Codec}
 use Rattle.netlink_core.specs.Envelope.{Payload, envelope_codec}
 
--- an item of a datagram: what a message carries, or its fault
+-- an item of a datagram: the payload of a message, or its error
 abbrev pub Item : Type 0 → Type 0
 Item A = Result (Payload A) DecodeError
 
--- a message as what it carries, or as its fault, by the codec of inner messages under a type
+-- the bytes of one message, `m`, parse as this payload with some header, or are rejected with this
+-- error; `C` is the codec of inner messages, whose parameter is the message type
 abbrev pub ItemIs : (C : Codec ℕ) → List ℕ → Item C.Value → Type 0
 ItemIs C m item = MatchResult item (λ p. (h : NetlinkHeader) × (envelope_codec C).reads m tt
     (record { header = h; payload = p })) ((envelope_codec C).refuses m tt)
 
--- the messages of a datagram in order, each as such an item, and last the fault of what stands
--- behind them, if there is one
+-- the items of a datagram: its messages in order, each as an item by `is`, and then, if bytes are
+-- left that do not begin with a message, their error
 abbrev pub ItemsAre : {A : Type 0} → (List ℕ → Item A → Type 0) → List ℕ → List (Item A) → Type 0
 ItemsAre {A} is bytes items = (messages : List (List ℕ)) × (end : Option DecodeError)
     × (carried : List (Item A)) × CutIntoMessages bytes messages end

@@ -1,4 +1,4 @@
--- Layouts of records, by rows.
+-- Layouts of records in bytes, by rows.
 use Rattle.std.specs.Prelude.{◌≡◌, ◌≤◌, ⊤, ℕ, nat_lt, if◌then◌else◌, List, length, Result, Ok, Err}
 use Rattle.netlink_core.specs.Table.{Field, values_of, bytes_of, Fit, AreDefined}
 use Rattle.netlink_core.specs.Rows.{Row, fields_of, numbers_of}
@@ -7,23 +7,31 @@ use Rattle.netlink_core.specs.declared.fault.DecodeError.{DecodeError}
 use Rattle.netlink_core.specs.declared.fault.DecodeError.TheVariants.{BufferTooSmall}
 use Rattle.netlink_core.specs.declared.fault.RecordName.{RecordName}
 
--- How a record is laid out in bytes: its name in errors, the fewest bytes that it is parsed from,
--- and its rows. A tag selects the rows: bytes that are long enough have the tag by which they are
--- parsed, or the error that rejects them, and a value has the tag by which it is serialized.
--- `is_shaped` says that arrays have the length of their types, and `is_own` what else the normal
--- form requires. `value` is the inverse of `values`, below: `StandsIn` says without it which value
--- the bytes contain, and by the law `read_where_it_stands` both agree.
+-- The layout of a record in bytes. A tag selects the rows that are used, for example the IP version
+-- of the addresses. A record with the same rows for all values has the tag `tt`.
 pub record Layout (Param Tag Value : Type 0) : Type 1 where
+  -- the name in errors
   pub name : RecordName
+  -- the fewest bytes that the record is parsed from
   pub least : ℕ
+  -- the tag by which these bytes are parsed, or the error that rejects them; there are at least
+  -- `least` bytes
   pub tag_at : Param → List ℕ → Result Tag DecodeError
+  -- the tag by which the value is serialized
   pub tag_of : Value → Tag
+  -- the rows for a tag
   pub rows : Tag → List (Row Value)
+  -- The value with these numbers in the fields that are not ignored, for a tag: the inverse of
+  -- `values`, below. `StandsIn` says without it which value the bytes contain, and by the law
+  -- `read_where_it_stands` both agree.
   pub value : Tag → List ℕ → Value
+  -- arrays have the length of their types
   pub is_shaped : Value → Type 0
+  -- what the normal form requires, in addition to defined flags
   pub is_own : Param → Value → Type 0
 
--- a record with the same rows for all values
+-- a record with the same rows for all values: its name, the fewest bytes, the rows, the value with
+-- given numbers, and whether arrays have the length of their types
 abbrev pub plain : {Value : Type 0} → RecordName → (least : ℕ) → List (Row Value)
     → (List ℕ → Value) → (Value → Type 0) → Layout (Unit {0}) (Unit {0}) Value
 plain name least rows value is_shaped = record {
@@ -38,29 +46,30 @@ plain name least rows value is_shaped = record {
 }
 
 module _ {Param Tag Value : Type 0} (layout : Layout Param Tag Value) where
-  -- the fields that the tag selects
+  -- the fields for a tag
   abbrev pub table : Tag → List Field
   table tag = fields_of (layout.rows tag)
 
-  -- the numbers of a value in the fields of its own tag
+  -- the numbers of a value, in the fields of its own tag that are not ignored
   abbrev pub values : Value → List ℕ
   values value = numbers_of (layout.rows (layout.tag_of value)) value
 
-  -- parses bytes that are long enough, by the fields of their tag, or returns the tag's error
+  -- parses bytes, at least `least` of them, by the fields of their tag, or returns the tag's error
   abbrev pub read_fields : Param → List ℕ → Result Value DecodeError
   read_fields param left =
       map_ok (λ tag. layout.value tag (values_of (table tag) left)) (layout.tag_at param left)
 
-  -- parses bytes, or returns the first error
+  -- parses bytes, or returns the first error: too few bytes, else the tag's error
   abbrev pub read : Param → List ℕ → Result Value DecodeError
   read param left = if nat_lt (length left) layout.least
       then Err (BufferTooSmall layout.name (length left) layout.least) else read_fields param left
 
-  -- serializes a value
+  -- the bytes that a value serializes to
   abbrev pub bytes : Value → List ℕ
   bytes value = bytes_of (table (layout.tag_of value)) (values value)
 
-  -- the bytes are long enough, and have the tag, and the numbers in the fields that are not ignored
+  -- the bytes are at least `least`, have the tag, and have these numbers in the fields that are not
+  -- ignored
   abbrev pub HasFields : Param → List ℕ → Tag → List ℕ → Type 0
   HasFields param b tag numbers = (layout.least ≤ length b) × (layout.tag_at param b ≡ Ok tag)
       × (values_of (table tag) b ≡ numbers)

@@ -1,4 +1,4 @@
--- Numbers and texts that fill their bytes.
+-- Numbers and texts that take all of their bytes.
 use Rattle.std.specs.Prelude.{ℕ, ◌-◌, ◌==◌, if◌then◌else◌, List, length, take, slice_index}
 use Rattle.std.specs.Prelude.{Option, Result, Ok, Err}
 use Rattle.std.specs.Str.{is_utf8}
@@ -6,16 +6,17 @@ use Rattle.byteorder.specs.Endian.{little_number}
 use Rattle.netlink_core.specs.declared.fault.DecodeError.{DecodeError}
 use Rattle.netlink_core.specs.declared.fault.DecodeError.TheVariants.{WrongLength, NotUtf8}
 
--- the number in exactly so many bytes, the low byte first; the fault of another length has a type,
--- where there is one
+-- the little-endian number of exactly `width` bytes; the error of any other length contains the
+-- kind `k`, if there is one
 abbrev pub exact_number : Option ℕ → ℕ → List ℕ → Result ℕ DecodeError
 exact_number k width b =
     if length b == width then Ok (little_number width b) else Err (WrongLength k (length b) width)
 
--- the bytes without a zero at their end, of which at most one is taken off
+-- the bytes without their last byte if this is NUL; only one is removed
 abbrev pub without_end_zero : List ℕ → List ℕ
 without_end_zero b = if slice_index b (length b - 1) == 0 then take (length b - 1) b else b
 
--- the text in the bytes: what is left without a zero at their end, where that is UTF-8
+-- the text in the bytes, without one terminating NUL if there is one, or the error that this is not
+-- valid UTF-8
 abbrev pub text_in : List ℕ → Result (List ℕ) DecodeError
 text_in b = if is_utf8 (without_end_zero b) then Ok (without_end_zero b) else Err NotUtf8

@@ -5,7 +5,7 @@ use Rattle.std.specs.List.{flat_map}
 use Rattle.netlink_core.specs.Table.{Field, byte, number, network, flags, unread, array}
 use Rattle.netlink_core.specs.Table.{bytes_at, first}
 
--- fields, and the numbers of a value in those fields that are not ignored
+-- fields, and the numbers that a value has in those that are not ignored
 abbrev pub Row : Type 0 → Type 0
 Row Value = List Field × (Value → List ℕ)
 
@@ -62,6 +62,6 @@ module _ {Value : Type 0} where
   abbrev pub when : Bool → Row Value → Row Value
   when test one = if test then one else ([], λ value. [])
 
--- an inner record, by its own rows
+-- an inner record, by its rows, whose offsets are those in the outer record
 abbrev pub embed : {Outer Inner : Type 0} → (Outer → Inner) → List (Row Inner) → Row Outer
 embed get rows = (fields_of rows, λ value. numbers_of rows (get value))

@@ -1,4 +1,5 @@
--- The fields of a record, consecutive, each with its offset. Bytes are a list of numbers below 256.
+-- The fields of a record, consecutive, each with its offset in bytes. Bytes are a list of numbers
+-- below 256.
 use Rattle.std.specs.Prelude.{◌≡◌, ◌<◌, ℕ, zero, suc, ◌+◌, ◌^◌, List, [], ◌∷◌, ◌++◌, drop}
 use Rattle.std.specs.Prelude.{slice_index, bit_and}
 use Rattle.byteorder.specs.Endian.{little_number, big_number, little_bytes, big_bytes}
@@ -22,7 +23,7 @@ array field offset width (suc count) =
 abbrev pub bytes_at : (offset count : ℕ) → List Field
 bytes_at offset count = array (λ at width. byte at) offset 1 count
 
--- the numbers that the bytes have in the fields that are not ignored
+-- the numbers in the bytes, one for each field that is not ignored; of flags, only the defined bits
 abbrev pub values_of : List Field → List ℕ → List ℕ
 values_of [] b = []
 values_of (byte at ∷ fields) b = slice_index b at ∷ values_of fields b
@@ -32,7 +33,7 @@ values_of (flags at width mask ∷ fields) b =
     bit_and (little_number width (drop at b)) mask ∷ values_of fields b
 values_of (unread at written ∷ fields) b = values_of fields b
 
--- the bytes of the fields with these numbers in those that are not ignored
+-- the bytes that the fields serialize to, given one number for each field that is not ignored
 abbrev pub bytes_of : List Field → List ℕ → List ℕ
 bytes_of (unread at written ∷ fields) values = written ++ bytes_of fields values
 bytes_of (byte at ∷ fields) (n ∷ rest) = n ∷ bytes_of fields rest
@@ -41,12 +42,12 @@ bytes_of (number at width ∷ fields) (n ∷ rest) = little_bytes width n ++ byt
 bytes_of (flags at width mask ∷ fields) (n ∷ rest) = little_bytes width n ++ bytes_of fields rest
 bytes_of _ _ = []
 
--- the first `n` numbers of a list; 0 for each that it lacks
+-- the first `n` numbers of a list; 0 for each number that is missing
 abbrev pub first : ℕ → List ℕ → List ℕ
 first zero xs = []
 first (suc n) xs = slice_index xs 0 ∷ first n (drop 1 xs)
 
--- one number for each field that is not ignored, within the field's width
+-- there is one number for each field that is not ignored, and it fits the field's width
 abbrev pub Fit : List Field → List ℕ → Type 0
 Fit [] [] = Unit {0}
 Fit (unread offset written ∷ fields) values = Fit fields values
@@ -56,7 +57,7 @@ Fit (network offset width ∷ fields) (value ∷ values) = (value < 256 ^ width)
 Fit (flags offset width mask ∷ fields) (value ∷ values) = (value < 256 ^ width) × Fit fields values
 Fit _ _ = ⊥
 
--- flags have only bits of their masks
+-- each number of flags has only the bits of its mask
 abbrev pub AreDefined : List Field → List ℕ → Type 0
 AreDefined (unread offset written ∷ fields) values = AreDefined fields values
 AreDefined (flags at width mask ∷ fields) (n ∷ rest) = (bit_and n mask ≡ n) × AreDefined fields rest

@@ -1,21 +1,24 @@
--- Parts of a string that are read on their own, as replies and attributes take them: a record at
--- its start, or a text or a flag that is all of it.
+-- The codec of a part of a message: of a header, or of the value of an attribute.
 use Rattle.std.specs.Prelude.{ℕ, List, Result}
 use Rattle.netlink_core.specs.declared.fault.DecodeError.{DecodeError}
 use Rattle.netlink_core.specs.Layout.{Layout, read, bytes, AreIdle, IsInRange, IsNormal}
 
--- Under a parameter, what the start of a string is read as or why it is refused, what a value is
--- written as, which strings differ in idle details alone, and which values are in range and in
--- normal form.
+-- How a part of a message is parsed, with a parameter, and serialized. A record may be followed by
+-- other bytes, which are ignored; a text or a flag takes all bytes.
 pub record ValueCodec (Param : Type 0) : Type 1 where
   pub Value : Type 0
+  -- the value of the bytes, or their first error
   pub reads : Param → List ℕ → Result Value DecodeError
+  -- the bytes that the value serializes to
   pub bytes : Value → List ℕ
+  -- two accepted byte strings are equivalent: they differ only in ignored bits
   pub idle : Param → List ℕ → List ℕ → Type 0
+  -- each number fits its field
   pub is_in_range : Value → Type 0
+  -- the value is in normal form, the form of every parsed value
   pub is_normal : Param → Value → Type 0
 
--- the part that a layout reads and writes
+-- the codec of a record, given its layout
 abbrev pub value_codec : {Param Tag Value : Type 0} → Layout Param Tag Value → ValueCodec Param
 value_codec {Param} {Tag} {Value} layout = record {
   Value = Value;

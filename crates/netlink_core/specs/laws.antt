@@ -1,4 +1,4 @@
--- Lemmas about the definitions, and what the lemmas need.
+-- Lemmas about the definitions, and the definitions that these lemmas need.
 pub mod Byte
 pub mod Sound
 pub mod Shown

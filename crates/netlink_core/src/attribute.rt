@@ -1,7 +1,8 @@
-//! Attributes in bytes, read in place.
+//! Attributes in bytes, borrowed.
 //!
-//! An attribute is a length word (4 and the value's bytes), a type word, the value, and padding to
-//! a multiple of 4. Both words have 16 bits, the low byte first.
+//! An attribute is a length field (`nla_len`: 4 and the number of the value's bytes), a type field
+//! (`nla_type`), the value, and padding to a multiple of 4. Both fields have 16 bits and are
+//! little-endian.
 
 ghost use Rattle.std.specs.Prelude.{◌≡◌, ◌+◌, ◌/◌, ◌≤◌, ◌<◌, ◌^◌, ◌↔◌, length, IsTrue, IsBitSet};
 ghost use Rattle.std.specs.Prelude.{MatchResult, IfSome, None};
@@ -12,23 +13,22 @@ use crate::codec::Input;
 use crate::fault::DecodeError;
 use byteorder::{ByteOrder, LittleEndian};
 
-/// How many bytes the two words in front of a value have.
+/// The size of an attribute's header, its length field and its type field, in bytes.
 pub const NLA_HEADER_SIZE: usize = 4;
 
-/// The most bytes that a value has: its length word counts the header too.
+/// The maximal length of a value in bytes, as the 16-bit length field includes the header.
 pub(crate) const MAX_VALUE: usize = 65531;
 
-/// The bit of the type word that says that attributes are nested in the value, `NLA_F_NESTED`.
+/// The bit of the type field for a value with nested attributes, `NLA_F_NESTED`.
 const NESTED: u16 = 0x8000;
 
-/// The bit of the type word that says that the value is in network byte order,
-/// `NLA_F_NET_BYTEORDER`.
+/// The bit of the type field for a value in network byte order, `NLA_F_NET_BYTEORDER`.
 const NETWORK_BYTE_ORDER: u16 = 0x4000;
 
-/// The bits of the type word that are the attribute's type, `NLA_TYPE_MASK`.
+/// The bits of the type field that are the attribute's kind, `NLA_TYPE_MASK`.
 const KIND: u16 = 0x3fff;
 
-/// One attribute, read in place.
+/// One attribute, borrowed.
 #[derive(Clone, Copy, Debug, PartialEq, Eq)]
 pub struct NlaBuffer<'a> {
     type_word: u16,
@@ -40,10 +40,12 @@ pub struct NlaBuffer<'a> {
 impl<'a> NlaBuffer<'a> {
     ghost use Rattle.netlink_core.specs.Walk.{attribute_of};
 
-    /// The attribute at the start of the bytes. Its padding and what follows it are not looked at.
+    /// Parses the attribute at the start of the bytes. Its padding and the bytes after it are
+    /// ignored.
     ///
-    /// Refused are fewer than 4 bytes as `AttributeHeaderCut`, then a length word under 4 as
-    /// `AttributeLengthUnder4`, then one past the bytes as `AttributeLengthPast`.
+    /// Fails with `AttributeHeaderCut` if there are fewer than 4 bytes, then with
+    /// `AttributeLengthUnder4` if the length field is below 4, then with `AttributeLengthPast` if
+    /// it is above the number of bytes.
     pub fn new_checked(bytes: &'a [u8]) -> Result<NlaBuffer<'a>, DecodeError>
         ensures { MatchResult result
             (λ buffer. HasPrefix bytes.entry.now (attribute_of buffer))
@@ -67,42 +69,42 @@ impl<'a> NlaBuffer<'a> {
         })
     }
 
-    /// The length word: 4 and the value's bytes, without the padding.
+    /// Returns the length field: 4 and the number of the value's bytes, without the padding.
     pub fn length(&self) -> u16
         ensures { result ≡ 4 + length (attribute_of self.now).value }
     {
         (NLA_HEADER_SIZE + self.value.len()) as u16
     }
 
-    /// The type word, with its two flag bits.
+    /// Returns the type field, with its two flag bits.
     pub fn type_word(&self) -> u16
         ensures { result ≡ (attribute_of self.now).type_word }
     {
         self.type_word
     }
 
-    /// The type word without its two flag bits.
+    /// Returns the kind: the type field without its two flag bits.
     pub fn kind(&self) -> u16
         ensures { result ≡ attribute_type (attribute_of self.now) }
     {
         self.type_word & KIND
     }
 
-    /// Whether the type word says that attributes are nested in the value.
+    /// Returns whether the type field has the flag for nested attributes.
     pub fn nested_flag(&self) -> bool
         ensures { IsTrue result ↔ IsBitSet (attribute_of self.now).type_word 15 }
     {
         self.type_word & NESTED != 0
     }
 
-    /// Whether the type word says that the value is in network byte order.
+    /// Returns whether the type field has the flag for network byte order.
     pub fn network_byte_order_flag(&self) -> bool
         ensures { IsTrue result ↔ IsBitSet (attribute_of self.now).type_word 14 }
     {
         self.type_word & NETWORK_BYTE_ORDER != 0
     }
 
-    /// The bytes between the header and the padding.
+    /// Returns the bytes between the header and the padding.
     pub fn value(&self) -> &'a [u8]
         ensures { result.now ≡ (attribute_of self.now).value }
     {
@@ -110,29 +112,29 @@ impl<'a> NlaBuffer<'a> {
     }
 }
 
-// An attribute is read as its bytes, with the padding.
+// As the input of a parser, an attribute is its bytes including the padding, which is zeros.
 impl Input for NlaBuffer<'_> {
     ghost use Rattle.netlink_core.specs.Walk.{attribute_of};
 
     ghost input = { λ nla. written (attribute_of nla) };
 }
 
-/// The walk over attributes that stand one after the other, each at a multiple of 4.
+/// An iterator over consecutive attributes, each of which starts at a multiple of 4.
 ///
-/// It ends where no bytes are left. Behind the last attribute the padding may be missing, in whole
-/// or in part. After a fault it gives nothing more.
+/// The iterator ends when no bytes are left. The padding after the last attribute may be missing,
+/// wholly or in part. An error is the last item.
 #[derive(Clone, Drop)]
 pub struct NlasIterator<'a> {
     bytes: &'a [u8],
-    // Where the next attribute stands. A place at the end of the bytes or behind it says that none
-    // is left.
+    // The offset of the next attribute. If it is not below the number of bytes, no attribute is
+    // left.
     at: usize,
 }
 
 impl<'a> NlasIterator<'a> {
     ghost use Rattle.netlink_core.specs.Walk.{bytes_left};
 
-    /// The walk over these bytes.
+    /// Returns an iterator over the attributes in the bytes.
     pub fn new(bytes: &'a [u8]) -> NlasIterator<'a>
         ensures { bytes_left result ≡ bytes.entry.now }
     {
@@ -168,7 +170,7 @@ impl<'a> Iterator for NlasIterator<'a> {
         }
     }
 
-    /// How many are left is told by the walk alone.
+    /// Returns `(0, None)`: the number of items is known only after iterating.
     fn size_hint(&self) -> (usize, Option<usize>)
         ensures lower { IsWithinCount result.0 (at_most ((length (bytes_left self.now) + 3) / 4)) }
         ensures upper { IfSome result.1 (UpTo (at_most ((length (bytes_left self.now) + 3) / 4))) }
@@ -178,7 +180,7 @@ impl<'a> Iterator for NlasIterator<'a> {
     }
 }
 
-/// The length with the padding that brings it to a multiple of 4.
+/// Returns the length rounded up to a multiple of 4.
 pub fn padded(length: usize) -> usize
     requires { length < 2 ^ 32 }
     ensures { result ≡ length + fill length }

@@ -1,12 +1,12 @@
-//! Values of which each field is compared and copied.
+//! Types whose `==` and `clone` use every field.
 
 ghost use Rattle.std.specs.Prelude.{◌≡◌, ◌↔◌, IsTrue};
 ghost use Rattle.std.proofs.Common.{rules};
 
 use crate::{NetlinkHeader, RecordBuffer, RecordName};
 
-/// A type whose `==` says whether two values are the same, and whose `clone` gives the same value,
-/// without fail.
+/// A type whose `==` returns whether two values are the same, and whose `clone` returns the same
+/// value and cannot fail.
 pub trait Exact: PartialEq + Clone {
     ghost exact: { ((v w : Self) → IsTrue (Self.eq v w) ↔ (v ≡ w))
         × ((v w : Self) → Self.is_clone v w → w ≡ v)

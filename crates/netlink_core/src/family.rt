@@ -1,4 +1,4 @@
-//! What an attribute of one family is, in place and with memory of its own.
+//! Attributes in replies of one address family, borrowed and owned.
 
 ghost use Rattle.std.specs.Prelude.{◌≡◌, ◌↔◌, Ok, Err, IfOk, IfErr, IsOk, IsTrue};
 ghost use Rattle.netlink_core.specs.AttributeSet.{AttributeSet, AttributeValue, decodes, encodes};
@@ -12,41 +12,42 @@ use crate::nla::Nla;
 use std::alloc::{AllocError, Global};
 use std::default::MadeWith;
 
-/// An attribute of one family of replies, read in place.
+/// A borrowed attribute in a reply of one family.
 pub trait FamilyView<'a>: Nla + PartialEq + Sized {
-    // The set of attributes, and what an attribute decodes to in it.
+    // The set of attribute types of the family, and the decoded value as an element of this set.
     ghost attribute_set: { AttributeSet };
 
     ghost model: { Self → AttributeValue attribute_set };
 
-    /// Reads one attribute.
+    /// Parses one attribute.
     fn read_view(nla: &NlaBuffer<'a>) -> Result<Self, DecodeError>
         ensures value { IfOk result (λ view. decodes attribute_set (attribute_of nla.now)
             ≡ Ok (model view)) }
         ensures fault { IfErr result (λ e. decodes attribute_set (attribute_of nla.now) ≡ Err e) };
 
-    /// Reads one attribute that is accepted.
+    /// Parses one attribute that is known to be accepted.
     fn read_accepted(nla: &NlaBuffer<'a>) -> Self
         requires { IsOk (decodes attribute_set (attribute_of nla.now)) }
         ensures { decodes attribute_set (attribute_of nla.now) ≡ Ok (model result) };
 
-    // An attribute is written as what it decodes to.
+    // An attribute serializes as what it decodes to.
     ghost written_as: { (view : Self) → Self.Nla.attribute view ≡ encodes attribute_set
         (model view) };
 }
 
-/// An attribute of one family of replies, with memory of its own.
+/// An owned attribute in a reply of one family.
 pub trait FamilyNla: Nla + PartialEq + MadeWith<Global> + Drop + Sized {
     /// The kind whose values are much larger than all others, if there is one. A list is built with
-    /// a branch of its own for this kind; the result does not depend on it.
+    /// a separate branch for this kind; the result does not depend on it.
     const LARGE_KIND: Option<u16> = None;
 
-    // The set of attributes, and what an attribute decodes to in it.
+    // The set of attribute types of the family, and the decoded value as an element of this set.
     ghost attribute_set: { AttributeSet };
 
     ghost model: { Self → AttributeValue attribute_set };
 
-    /// The attribute in bytes that are accepted.
+    /// Parses an attribute that is known to be accepted. Fails only if an allocation fails, and
+    /// never for a value that needs no memory.
     fn own_accepted(alloc: Global, nla: &NlaBuffer<'_>) -> Result<Self, AllocError>
         requires { IsOk (decodes attribute_set (attribute_of nla.now)) }
         ensures equal { IfOk result (λ own.
@@ -55,16 +56,17 @@ pub trait FamilyNla: Nla + PartialEq + MadeWith<Global> + Drop + Sized {
             → decodes attribute_set (attribute_of nla.now) ≡ Ok value
             → IsSpareBy attribute_set value → IsOk result };
 
-    /// An equal attribute.
+    /// Returns an equal attribute. Fails only if an allocation fails, and never for a value that
+    /// needs no memory.
     fn copy_nla(&self, alloc: Global) -> Result<Self, AllocError>
         ensures equal { IfOk result (λ copy. model copy ≡ model self.now) }
         ensures spare { IsSpareBy attribute_set (model self.now) → IsOk result };
 
-    /// Tells the prover that the attribute's numbers are within their types. It does nothing.
+    /// Proof only: puts the range of each number in scope. No run-time effect.
     fn value_in_range(&self)
         ensures { IsInRangeBy attribute_set (model self.now) };
 
-    // It is written as what it decodes to, and `==` compares that.
+    // An attribute serializes as what it decodes to, and `==` compares what it decodes to.
     ghost written_as: { (nla : Self) → Self.Nla.attribute nla ≡ encodes attribute_set (model nla) };
 
     ghost eq_is_model: { (v w : Self) → IsTrue (Self.PartialEq.eq v w) ↔ (model v ≡ model w) };

@@ -1,4 +1,4 @@
-//! Why bytes were refused. Lengths and offsets are in bytes.
+//! Decode errors: why bytes are rejected. Lengths and offsets are in bytes.
 
 ghost use Rattle.std.specs.Prelude.{◌≡◌};
 ghost use Rattle.netlink_core.specs.Faults.{number_of, with_attribute_type};
@@ -8,7 +8,7 @@ use std::alloc::{AllocError, AllocFailed};
 use std::fmt;
 use thiserror::Error;
 
-/// The records that have a least length, by their names in sock_diag(7) and the kernel's headers.
+/// The records that have a minimal length, named by sock_diag(7) and the kernel's headers.
 #[derive(Clone, Copy, Debug, PartialEq, Eq)]
 pub enum RecordName {
     /// `inet_diag_sockid`, 48 bytes.
@@ -31,11 +31,11 @@ pub enum RecordName {
     Vfs,
     /// The value of `UNIX_DIAG_MEMINFO`, 36 bytes.
     UnixMemInfo,
-    /// A request for sockets of another family, which is told by its number, one of `AF_..`.
+    /// A request for sockets of another family, a number `AF_..`.
     FamilyRequest { family: u8 },
-    /// The header of a reply about a socket of another family.
+    /// The header of a reply about a socket of another family, a number `AF_..`.
     FamilyResponseHeader { family: u8 },
-    /// The value of an attribute of such a reply, which is told by its family and its kind.
+    /// The value of an attribute of this kind, in a reply about a socket of another family.
     FamilyAttribute { family: u8, kind: u16 },
 }
 
@@ -45,14 +45,14 @@ impl fmt::Display for RecordName {
     }
 }
 
-/// Why a reader refused its bytes, or that memory ran out. The variants are numbered from 1, in
-/// this order.
+/// A decode error: why a parser rejected its bytes, or that an allocation failed. The codes of the
+/// variants are from 1 on, in this order.
 #[derive(Clone, Copy, Debug, PartialEq, Eq, Error)]
 pub enum DecodeError {
-    /// Memory ran out.
+    /// An allocation failed.
     #[error("out of memory")]
     Memory,
-    /// A record was given fewer bytes than it has.
+    /// A record has fewer bytes than it needs.
     #[error("{which}: buffer of {got} bytes, at least {need} needed")]
     BufferTooSmall {
         which: RecordName,
@@ -64,63 +64,64 @@ pub enum DecodeError {
     UnsupportedFamily {
         family: u8,
     },
-    /// A message has not even the byte of its family and the one behind it.
+    /// A message has fewer than 2 bytes: its family, and the byte after it.
     #[error("invalid buffer: length is {got} but packets are at least 2 bytes")]
     MessageTooShort {
         got: usize,
     },
-    /// The first byte of a message is no family whose replies are read.
+    /// The first byte of a message is not a family whose replies are parsed.
     #[error("unknown address family {family}")]
     UnknownFamily {
         family: u8,
     },
-    /// A message has another type than `SOCK_DIAG_BY_FAMILY`.
+    /// The type of a message is not `SOCK_DIAG_BY_FAMILY`.
     #[error("unknown message type {message_type}")]
     UnknownMessageType {
         message_type: u16,
     },
-    /// So many bytes are left where an attribute would begin, and they are fewer than its header's
-    /// 4.
+    /// At the start of an attribute only `left` bytes are left, fewer than the 4 bytes of its
+    /// header.
     #[error("attribute header cut: {left} bytes left")]
     AttributeHeaderCut {
         left: usize,
     },
-    /// An attribute's length word is under the 4 bytes of its header.
+    /// The length field of an attribute is below 4, the length of its header.
     #[error("attribute length {length} is under 4")]
     AttributeLengthUnder4 {
         length: u16,
     },
-    /// An attribute's length word is past the bytes from its first byte to the end.
+    /// The length field of an attribute is above the number of bytes from its first byte to the
+    /// end.
     #[error("attribute length {length} is past the {left} bytes left")]
     AttributeLengthPast {
         length: u16,
         left: usize,
     },
-    /// A value has another length than its kind. The kind is missing where the value was read by
-    /// itself.
+    /// A value does not have the length that its kind requires. The kind is `None` if the value was
+    /// parsed by itself.
     #[error("value of {got} bytes, {need} needed")]
     WrongLength {
         kind: Option<u16>,
         got: usize,
         need: usize,
     },
-    /// A list of 32-bit numbers has a part of one at its end.
+    /// The length of a list of 32-bit numbers is not a multiple of 4.
     #[error("value of {got} bytes is no multiple of 4")]
     NotMultipleOfFour {
         got: usize,
     },
-    /// A text is not UTF-8.
+    /// A text is not valid UTF-8.
     #[error("text is not UTF-8")]
     NotUtf8,
     /// A socket's name has no bytes.
     #[error("name is empty")]
     NameEmpty,
-    /// A path name holds a zero before its last byte, the first of them at this place.
+    /// A pathname contains a NUL before its last byte. `index` is the index of the first NUL.
     #[error("pathname holds a zero at {index}")]
     NameInnerZero {
         index: usize,
     },
-    /// A path name holds no zero.
+    /// A pathname contains no NUL.
     #[error("pathname is not null-terminated")]
     NameWithoutEnd,
     /// A message has fewer bytes than the 16 of its netlink header.
@@ -128,12 +129,12 @@ pub enum DecodeError {
     EnvelopeCut {
         got: usize,
     },
-    /// A message's length word is under the 16 bytes of its netlink header.
+    /// The length field of a message is below 16, the length of its netlink header.
     #[error("message length {length} is under 16")]
     EnvelopeLengthUnder16 {
         length: u32,
     },
-    /// A message's length word is past the bytes given.
+    /// The length field of a message is above the number of bytes.
     #[error("message length {length} is past the {got} bytes given")]
     EnvelopeLengthPast {
         length: u32,
@@ -142,7 +143,7 @@ pub enum DecodeError {
 }
 
 impl DecodeError {
-    /// The fault's number, from 1 to 18.
+    /// Returns the error code, from 1 to 18.
     pub fn number(&self) -> u8
         ensures { result ≡ number_of self.now }
     {
@@ -168,7 +169,7 @@ impl DecodeError {
         }
     }
 
-    /// The same fault. A `WrongLength` that told no kind tells this one.
+    /// Returns the same error. If it is a `WrongLength` without a kind, it gets this kind.
     pub fn with_kind(self, kind: u16) -> Self
         ensures { result ≡ with_attribute_type kind self }
     {

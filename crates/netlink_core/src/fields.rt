@@ -1,4 +1,4 @@
-//! The fields of a record's table, read from its bytes. Records are made of them.
+//! Reads the fields of a record from its bytes.
 
 ghost use Rattle.std.specs.Prelude.{◌≡◌, ◌≤◌, ◌+◌, ◌*◌, ℕ, length};
 ghost use Rattle.netlink_core.specs.Table.{bytes_at, network, number, array, values_of};
@@ -6,7 +6,7 @@ ghost use Rattle.netlink_core.specs.Table.{Fit};
 
 use byteorder::{BigEndian, ByteOrder, LittleEndian};
 
-/// The `N` bytes from the offset on.
+/// Returns the `N` bytes at the offset.
 pub fn array_at<const N: usize>(bytes: &[u8], offset: usize) -> [u8; N]
     requires { offset + N ≤ length bytes.now }
     ensures { result ≡ values_of (bytes_at offset N) bytes.now }
@@ -16,7 +16,7 @@ pub fn array_at<const N: usize>(bytes: &[u8], offset: usize) -> [u8; N]
     array
 }
 
-/// The `N` numbers of 32 bits from the offset on, low byte first.
+/// Returns the `N` little-endian 32-bit numbers at the offset.
 pub fn words_at<const N: usize>(bytes: &[u8], offset: usize) -> [u32; N]
     requires { offset + 4 * N ≤ length bytes.now }
     ensures { result ≡ values_of (array number offset 4 N) bytes.now }
@@ -26,7 +26,7 @@ pub fn words_at<const N: usize>(bytes: &[u8], offset: usize) -> [u32; N]
     array
 }
 
-/// The `N` numbers of 64 bits from the offset on, low byte first.
+/// Returns the `N` little-endian 64-bit numbers at the offset.
 pub fn long_words_at<const N: usize>(bytes: &[u8], offset: usize) -> [u64; N]
     requires { offset + 8 * N ≤ length bytes.now }
     ensures { result ≡ values_of (array number offset 8 N) bytes.now }
@@ -36,7 +36,7 @@ pub fn long_words_at<const N: usize>(bytes: &[u8], offset: usize) -> [u64; N]
     array
 }
 
-/// The `N` numbers of 16 bits from the offset on, high byte first.
+/// Returns the `N` 16-bit numbers in network byte order at the offset.
 pub fn big_shorts_at<const N: usize>(bytes: &[u8], offset: usize) -> [u16; N]
     requires { offset + 2 * N ≤ length bytes.now }
     ensures { result ≡ values_of (array network offset 2 N) bytes.now }
@@ -46,14 +46,15 @@ pub fn big_shorts_at<const N: usize>(bytes: &[u8], offset: usize) -> [u16; N]
     array
 }
 
-/// Tells the prover that words are numbers of four bytes, wherever they stand. It does nothing.
+/// Proof only: puts the range of each number in scope, for fields at any offset. No run-time
+/// effect.
 #[tactic(auto, using(crate::proofs::FieldReads::fit_numbers))]
 pub fn words_in_range(_words: &[u32])
     ensures { (offset : ℕ) → Fit (array number offset 4 (length _words.now)) _words.now }
 {}
 
-/// Tells the prover that long words are numbers of eight bytes, wherever they stand. It does
-/// nothing.
+/// Proof only: puts the range of each number in scope, for fields at any offset. No run-time
+/// effect.
 #[tactic(auto, using(crate::proofs::FieldReads::fit_numbers))]
 pub fn long_words_in_range(_words: &[u64])
     ensures { (offset : ℕ) → Fit (array number offset 8 (length _words.now)) _words.now }

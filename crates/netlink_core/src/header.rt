@@ -8,34 +8,34 @@ ghost use Rattle.netlink_core.specs.Table.{Fit};
 use crate::fault::DecodeError;
 use byteorder::{ByteOrder, LittleEndian};
 
-/// How many bytes the header of a netlink message has.
+/// The size of the header of a netlink message, in bytes.
 pub const NETLINK_HEADER_LEN: usize = 16;
 
-/// The header of a netlink message, `nlmsghdr` in netlink(7): 16 bytes, each number with its low
-/// byte first.
+/// The header of a netlink message (`nlmsghdr` in netlink(7)): 16 bytes, with little-endian fields.
 ///
-/// A default header has zeros.
+/// All fields of the default header are 0.
 #[derive(Clone, Debug, Default, Drop, PartialEq, Eq)]
 pub struct NetlinkHeader {
-    /// How many bytes the message has, with these 16. At offset 0, 4 bytes.
+    /// Length of the message in bytes, including these 16 (`nlmsg_len`). At offset 0, 4 bytes.
     pub length: u32,
-    /// What the payload is: one of the `NLMSG_` types, or a type of the protocol. At offset 4, 2
-    /// bytes.
+    /// Type of the message (`nlmsg_type`): one of the `NLMSG_` types, or a type of the protocol. At
+    /// offset 4, 2 bytes.
     pub message_type: u16,
-    /// The `NLM_F_` flags. At offset 6, 2 bytes.
+    /// The `NLM_F_` flags (`nlmsg_flags`). At offset 6, 2 bytes.
     pub flags: u16,
-    /// The sender's number for the message, which a reply repeats. At offset 8, 4 bytes.
+    /// Sequence number, which a reply repeats (`nlmsg_seq`). At offset 8, 4 bytes.
     pub sequence_number: u32,
-    /// The port of the sender, 0 for the kernel. At offset 12, 4 bytes.
+    /// Port of the sender, 0 for the kernel (`nlmsg_pid`). At offset 12, 4 bytes.
     pub port_number: u32,
 }
 
 impl NetlinkHeader {
-    /// The header at the start of the bytes, which hold the whole message. What follows the header
-    /// is not looked at, and no memory is taken.
+    /// Parses the header at the start of the bytes, which contain the whole message. The bytes
+    /// after the header are ignored. Nothing is allocated.
     ///
-    /// Refused are fewer than 16 bytes as `EnvelopeCut`, then a length under 16 as
-    /// `EnvelopeLengthUnder16`, then one past the bytes as `EnvelopeLengthPast`.
+    /// Fails with `EnvelopeCut` if there are fewer than 16 bytes, then with `EnvelopeLengthUnder16`
+    /// if the length field is below 16, then with `EnvelopeLengthPast` if it is above the number of
+    /// bytes.
     #[inline(always)]
     pub fn from_prefix(bytes: &[u8]) -> Result<Self, DecodeError>
         ensures { MatchResult result (HasHeader bytes.now) (IsEnvelopeFault bytes.now) }
@@ -60,7 +60,7 @@ impl NetlinkHeader {
         })
     }
 
-    /// Tells the prover that its numbers are within their types. It does nothing.
+    /// Proof only: puts the range of each field in scope. No run-time effect.
     pub fn in_range(&self)
         ensures { Fit header_fields (header_values self.now) }
     {
@@ -73,7 +73,7 @@ impl NetlinkHeader {
         } = *self;
     }
 
-    // Writes the five fields over sixteen bytes of any content.
+    // Writes the five fields over any sixteen bytes.
     pub(crate) fn write_fields(&self, buffer: &mut [u8])
         requires { length buffer.old ≡ 16 }
         ensures { buffer.new ≡ header_bytes self.now }

@@ -1,5 +1,4 @@
-//! Laws of the framing of attributes and of messages. The functions do nothing: their contracts are
-//! the laws.
+//! Properties of attributes, records and messages. Proof only: the contracts state the properties.
 
 ghost use Rattle.std.specs.Prelude.{◌≡◌, ◌≢◌, ◌↔◌, ◌⊎◌, ◌%◌, ◌^◌, ◌<◌, ◌++◌, Contains};
 ghost use Rattle.std.specs.Prelude.{ℕ, List, [], ◌∷◌, length, map};
@@ -44,9 +43,10 @@ use crate::{
 };
 use std::alloc::AllocError;
 
-/// A string is cut into attributes exactly as stated: into none where it has no bytes; and into one
-/// and others where it begins with that one, and then either its padding is whole and the rest is
-/// cut into the others, or its padding is short and nothing follows.
+/// Bytes are split into attributes (`Cut`) exactly as follows. Empty bytes have no attributes.
+/// Other bytes begin with the first attribute. Either its padding is complete, and the remaining
+/// bytes are split into the later attributes; or its padding is short, nothing follows, and it is
+/// the last one.
 pub fn cut_is_as_stated()
     ensures none { (bytes : List ℕ) → Cut bytes [] [] ↔ (bytes ≡ []) }
     ensures some { (bytes : List ℕ) (a : Attribute) (later : List Attribute)
@@ -57,45 +57,44 @@ pub fn cut_is_as_stated()
         ⊎ ((length padding < fill (length a.value)) × (rest ≡ []) × (later ≡ [])))) }
 {}
 
-/// A string is cut into at most one list of attributes.
+/// Bytes are split into at most one list of attributes.
 pub fn one_list_of_attributes()
     ensures { (bytes : List ℕ) (xs ys : List Attribute) → Cut bytes xs [] → Cut bytes ys []
         → xs ≡ ys }
 {}
 
-/// The written bytes of attributes that fit their words are cut into those attributes, whatever
-/// follows: so all padding is there.
+/// The bytes that attributes serialize to are split into these attributes, whatever follows, if
+/// each type field has 16 bits and each value fits its length field.
 pub fn written_attributes_are_cut()
     ensures { (xs : List Attribute) → AllByRecursion
         (λ (a : Attribute). (a.type_word < 2 ^ 16) × HasFittingValue a) xs
         → (rest : List ℕ) → Cut (flat_map written xs ++ rest) xs rest }
 {}
 
-/// A record is read exactly where it stands: a string that is long enough, has the tag of the value
-/// and has its numbers is read as the value in range and in normal form with these, and as no
-/// other.
+/// Bytes parse as a value if and only if they contain it (`StandsIn`): they are long enough, they
+/// have the tag and the numbers of the value, and the value is in range and in normal form. A
+/// record is parsed as no other value.
 pub fn read_where_it_stands<T: Record>()
     ensures { (bytes : List ℕ) (param : T.Param) (value : T) → IsBytes bytes
         → (read T.layout param bytes ≡ Ok value) ↔ StandsIn T.layout bytes param value }
 {}
 
-/// Whether reading a record takes memory: of none it does.
+/// Returns whether parsing a record can fail with `Memory`: it cannot.
 pub fn records_take_memory<T: Record>() -> bool
     ensures { result ≡ false }
 {
     T::TAKES_MEMORY
 }
 
-/// Whether reading an attribute of any type takes memory: it does.
+/// Returns whether parsing an attribute of any kind can fail with `Memory`: it can.
 pub fn attributes_take_memory() -> bool
     ensures { result ≡ true }
 {
     DefaultNla::TAKES_MEMORY
 }
 
-/// Proof only: the contract states the property. For any set of attribute types, the value of a
-/// type is found under the number of its type and under no other number, and nothing is found under
-/// a number of no type.
+/// For any set of attribute types, the value of a type is found under the number of its type, and
+/// under no other number. Nothing is found under a number that no type has.
 pub fn content_is_of_its_type<T: FamilyNla>()
     ensures own { (k : ℕ) (x : ValueAt T.attribute_set k) → Contains (numbers T.attribute_set) k
         → content T.attribute_set k (of_type T.attribute_set k x) ≡ Some x }
@@ -105,8 +104,9 @@ pub fn content_is_of_its_type<T: FamilyNla>()
         → ¬ Contains (numbers T.attribute_set) k → content T.attribute_set k v ≡ None }
 {}
 
-/// A walk that ends without a fault gave the attributes into which the bytes are cut, and one that
-/// ends with a fault those that stand in front of it.
+/// If the iterator ends without an error, it has yielded the attributes that the bytes are split
+/// into. If it yields an error, it has yielded the attributes before this error, and no bytes are
+/// left.
 pub fn whole_walk_is_the_cut()
     ensures ended { (walk : NlasIterator) (given : List NlaBuffer)
         → Drains GivesAttribute walk (map (λ (b : NlaBuffer). Ok b) given)
@@ -117,28 +117,28 @@ pub fn whole_walk_is_the_cut()
         × (bytes_left last ≡ []) }
 {}
 
-/// `==` says whether two values are the same.
+/// Returns `v == w`, which is true if and only if the two values are the same.
 pub fn equal_where_same<T: Exact>(v: &T, w: &T) -> bool
     ensures { IsTrue result ↔ (v.now ≡ w.now) }
 {
     v == w
 }
 
-/// `==` says whether two faults are the same.
+/// Returns `v == w`, which is true if and only if the two decode errors are the same.
 pub fn equal_faults(v: &Fault, w: &Fault) -> bool
     ensures { IsTrue result ↔ (v.now ≡ w.now) }
 {
     v == w
 }
 
-/// `==` says whether two errors of `canonical` are the same.
+/// Returns `v == w`, which is true if and only if the two errors of `canonical` are the same.
 pub fn equal_errors(v: &CanonError, w: &CanonError) -> bool
     ensures { IsTrue result ↔ (v.now ≡ w.now) }
 {
     v == w
 }
 
-/// A copy is the same fault.
+/// Returns a clone. Cloning a decode error succeeds, and the clone is the same error.
 pub fn copied_fault(v: &Fault) -> Result<Fault, AllocError>
     ensures ok { IsOk result }
     ensures same { IfOk result (λ copy. copy ≡ v.now) }
@@ -146,7 +146,7 @@ pub fn copied_fault(v: &Fault) -> Result<Fault, AllocError>
     v.clone()
 }
 
-/// A copy is the same error of `canonical`.
+/// Returns a clone. Cloning an error of `canonical` succeeds, and the clone is the same error.
 pub fn copied_error(v: &CanonError) -> Result<CanonError, AllocError>
     ensures ok { IsOk result }
     ensures same { IfOk result (λ copy. copy ≡ v.now) }
@@ -154,7 +154,7 @@ pub fn copied_error(v: &CanonError) -> Result<CanonError, AllocError>
     v.clone()
 }
 
-/// A copy is the same value.
+/// Returns a clone. Cloning a value of an `Exact` type succeeds, and the clone is the same value.
 pub fn copies_are_the_same<T: Exact>(v: &T) -> Result<T, AllocError>
     ensures ok { IsOk result }
     ensures same { IfOk result (λ copy. copy ≡ v.now) }
@@ -162,14 +162,15 @@ pub fn copies_are_the_same<T: Exact>(v: &T) -> Result<T, AllocError>
     v.clone()
 }
 
-/// `==` says whether two messages have the same header and carry the same.
+/// Returns `v == w`, which is true if and only if the headers and the models of the payloads are
+/// equal.
 pub fn equal_messages<I: Coded>(v: &NetlinkMessage<I>, w: &NetlinkMessage<I>) -> bool
     ensures { IsTrue result ↔ (envelope_of I.model v.now ≡ envelope_of I.model w.now) }
 {
     v == w
 }
 
-/// `==` says whether two payloads carry the same.
+/// Returns `v == w`, which is true if and only if the models of the payloads are equal.
 pub fn equal_payloads<I: Coded>(v: &NetlinkPayload<I>, w: &NetlinkPayload<I>) -> bool
     ensures { IsTrue result
         ↔ (payload_of vec_items I.model v.now ≡ payload_of vec_items I.model w.now) }
@@ -177,7 +178,7 @@ pub fn equal_payloads<I: Coded>(v: &NetlinkPayload<I>, w: &NetlinkPayload<I>) ->
     v == w
 }
 
-/// `==` says whether two attributes in place are the same attribute.
+/// Returns `v == w`, which is true if and only if the type fields and the values are equal.
 #[tactic(auto, using(crate::proofs::ValueTests::attribute_test_decides))]
 pub fn equal_buffers(v: &NlaBuffer<'_>, w: &NlaBuffer<'_>) -> bool
     ensures { IsTrue result ↔ (attribute_of v.now ≡ attribute_of w.now) }
@@ -185,7 +186,7 @@ pub fn equal_buffers(v: &NlaBuffer<'_>, w: &NlaBuffer<'_>) -> bool
     v == w
 }
 
-/// The copy of an attribute in place shows the same attribute.
+/// Returns a clone. Cloning a borrowed attribute succeeds, and the clone is the same attribute.
 pub fn copied_buffer<'a>(buffer: &NlaBuffer<'a>) -> Result<NlaBuffer<'a>, AllocError>
     ensures ok { IsOk result }
     ensures same { IfOk result (λ copy. attribute_of copy ≡ attribute_of buffer.now) }
@@ -193,7 +194,7 @@ pub fn copied_buffer<'a>(buffer: &NlaBuffer<'a>) -> Result<NlaBuffer<'a>, AllocE
     buffer.clone()
 }
 
-/// The copy of a walk has the same bytes left.
+/// Returns a clone. Cloning an iterator over attributes succeeds, and the same bytes are left.
 pub fn copied_walk<'a>(walk: &NlasIterator<'a>) -> Result<NlasIterator<'a>, AllocError>
     ensures ok { IsOk result }
     ensures same { IfOk result (λ copy. bytes_left copy ≡ bytes_left walk.now) }
@@ -201,7 +202,7 @@ pub fn copied_walk<'a>(walk: &NlasIterator<'a>) -> Result<NlasIterator<'a>, Allo
     walk.clone()
 }
 
-/// The copy of a walk over messages has the same bytes left.
+/// Returns a clone. Cloning an iterator over messages succeeds, and the same bytes are left.
 pub fn copied_messages<'a>(walk: &MessageStrings<'a>) -> Result<MessageStrings<'a>, AllocError>
     ensures ok { IsOk result }
     ensures same { IfOk result (λ copy. datagram_left copy ≡ datagram_left walk.now) }
@@ -209,7 +210,7 @@ pub fn copied_messages<'a>(walk: &MessageStrings<'a>) -> Result<MessageStrings<'
     walk.clone()
 }
 
-/// A default header has zeros.
+/// Returns the default header, whose fields are all 0.
 pub fn default_header() -> NetlinkHeader
     ensures { result ≡ record {
       length = 0;
@@ -222,7 +223,7 @@ pub fn default_header() -> NetlinkHeader
     NetlinkHeader::default()
 }
 
-/// Bytes have one message at their start or one fault, which has a name.
+/// Bytes start with one message or have one error, not both. The error is never `Memory`.
 pub fn one_message_or_fault<I: Coded<Param = u16>>()
     ensures answered { (b : List ℕ) → IsBytes b
         → ((v : Envelope I.codec.Value) × (envelope_codec I.codec).reads b tt v)
@@ -237,15 +238,15 @@ pub fn one_message_or_fault<I: Coded<Param = u16>>()
     ensures named_fault { (b : List ℕ) → (envelope_codec I.codec).refuses b tt Memory → ⊥ }
 {}
 
-/// Two accepted strings give equal messages exactly where they are idle.
+/// Two accepted inputs have equal messages if and only if they are equivalent (`idle`).
 pub fn equal_messages_where_idle<I: Coded<Param = u16>>()
     ensures { (b c : List ℕ) (v w : Envelope I.codec.Value) → IsBytes b → IsBytes c
         → (envelope_codec I.codec).reads b tt v → (envelope_codec I.codec).reads c tt w
         → ((v ≡ w) ↔ (envelope_codec I.codec).idle tt b c) }
 {}
 
-/// Two accepted strings whose messages can be written are written alike, their headers as they
-/// stand, exactly where they are idle.
+/// Two accepted inputs whose messages are writable serialize to the same bytes, with their headers
+/// unchanged, if and only if they are equivalent.
 pub fn messages_written_alike<I: Coded<Param = u16>>()
     ensures { (b c : List ℕ) (v w : Envelope I.codec.Value) → IsBytes b → IsBytes c
         → (envelope_codec I.codec).reads b tt v → (envelope_codec I.codec).reads c tt w
@@ -254,8 +255,8 @@ pub fn messages_written_alike<I: Coded<Param = u16>>()
         ↔ (envelope_codec I.codec).idle tt b c) }
 {}
 
-/// The bytes of a writable message whose header has its own length and type, as `finalize` sets
-/// them, read back as itself exactly where it is in normal form.
+/// A writable message whose header has the length and the type that `finalize` sets round-trips if
+/// and only if it is in normal form.
 pub fn finalized_message_reads_back<I: Coded<Param = u16>>()
     ensures { (type_of : I.codec.Value → ℕ) (v : Envelope I.codec.Value)
         → (envelope_codec I.codec).is_in_range v → (envelope_codec I.codec).fits v
@@ -264,8 +265,9 @@ pub fn finalized_message_reads_back<I: Coded<Param = u16>>()
         ↔ (envelope_codec I.codec).is_normal tt v) }
 {}
 
-/// A walk that ends without a fault gave the messages into which the datagram is cut, and one that
-/// ends with a fault those that stand in front of it.
+/// If the iterator ends without an error, it has yielded the messages that the datagram is split
+/// into. If it yields an error, it has yielded the messages before this error, and no bytes are
+/// left.
 pub fn whole_walk_is_the_datagram()
     ensures ended { (walk : MessageStrings) (given : List (Bor (List ℕ)))
         → Drains GivesMessage walk (map (λ (m : Bor (List ℕ)). Ok m) given)
@@ -276,20 +278,20 @@ pub fn whole_walk_is_the_datagram()
         × (datagram_left last ≡ []) }
 {}
 
-/// A datagram is cut into at most one list of messages, with one end.
+/// A datagram is split into at most one list of messages, with at most one end.
 pub fn one_list_of_messages()
     ensures { (bytes : List ℕ) (xs ys : List (List ℕ)) (e f : Option DecodeError)
         → CutIntoMessages bytes xs e → CutIntoMessages bytes ys f → (xs ≡ ys) × (e ≡ f) }
 {}
 
-/// Each datagram has items.
+/// Each datagram has a list of items.
 pub fn datagram_has_items<I: Coded<Param = u16>>()
     ensures { (bytes : List ℕ) → IsBytes bytes
         → (items : List (Result (Payload I.codec.Value) DecodeError))
         × ItemsAre (ItemIs I.codec) bytes items }
 {}
 
-/// Each datagram has one list of items.
+/// Each datagram has at most one list of items.
 pub fn one_list_of_items<I: Coded<Param = u16>>()
     ensures { (bytes : List ℕ) → IsBytes bytes
         → (xs ys : List (Result (Payload I.codec.Value) DecodeError))
@@ -298,8 +300,8 @@ pub fn one_list_of_items<I: Coded<Param = u16>>()
     one_message_or_fault::<I>();
 }
 
-/// Messages with all their padding, and then more bytes, have the items of those messages and then
-/// those of the others.
+/// Complete messages with all their padding, followed by more bytes, have the items of these
+/// messages and then the items of the other bytes.
 pub fn items_of_concatenation<I: Coded<Param = u16>>()
     ensures { (front back : List ℕ) (messages : List (List ℕ))
         (xs ys : List (Result (Payload I.codec.Value) DecodeError))
@@ -308,7 +310,7 @@ pub fn items_of_concatenation<I: Coded<Param = u16>>()
         → ItemsAre (ItemIs I.codec) (front ++ back) (xs ++ ys) }
 {}
 
-/// The types, flags and lengths at the root have the numbers of netlink(7).
+/// The constants have the numbers of netlink(7).
 pub fn message_constants_have_their_numbers()
     ensures noop { NLMSG_NOOP ≡ 1 }
     ensures error { NLMSG_ERROR ≡ 2 }

@@ -1,5 +1,5 @@
-//! What every netlink message crate stands on: faults, the framing of attributes, and readers
-//! joined with writers by laws.
+//! Common parts of netlink message crates: decode errors, attributes, netlink messages, and codecs
+//! with the properties that relate parsing and serializing.
 #![tactic(auto)]
 
 mod attribute;

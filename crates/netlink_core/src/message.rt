@@ -1,4 +1,4 @@
-//! Netlink messages: a header, and what it frames.
+//! Netlink messages: a header and a payload.
 
 ghost use Rattle.std.specs.Prelude.{◌≡◌, ◌≢◌, ◌≤◌, ◌<◌, ◌++◌, ◌↔◌, length, drop, IfOk, IfErr};
 ghost use Rattle.std.specs.Prelude.{IsTrue, List, ℕ, vec_items, ⊤};
@@ -16,43 +16,43 @@ use crate::wire::Coded;
 use byteorder::{ByteOrder, LittleEndian};
 use std::alloc::{AllocError, Global};
 
-/// The type of a message that says nothing, `NLMSG_NOOP` in netlink(7).
+/// Message type without any content, see netlink(7).
 pub const NLMSG_NOOP: u16 = 1;
 
-/// The type of a message that tells an error, or acknowledges a request.
+/// Message type of an error, or of the acknowledgement of a request.
 pub const NLMSG_ERROR: u16 = 2;
 
-/// The type of the message that ends a dump.
+/// Message type that ends a dump.
 pub const NLMSG_DONE: u16 = 3;
 
-/// The type of a message that tells that data was lost.
+/// Message type that reports that data was lost.
 pub const NLMSG_OVERRUN: u16 = 4;
 
-/// The flag of a header that each request has.
+/// Header flag of every request.
 pub const NLM_F_REQUEST: u16 = 1;
 
-/// The flags of a header that ask for all entries of a table.
+/// Header flags that request all entries of a table: `NLM_F_ROOT | NLM_F_MATCH`.
 pub const NLM_F_DUMP: u16 = 0x300;
 
-/// The most bytes that a message has, which its length word counts.
+/// The maximal length of a message in bytes, as its length field (`nlmsg_len`) has 32 bits.
 const LONGEST: usize = 4_294_967_295;
 
-/// A message of a protocol that is written behind a netlink header.
+/// A message of a protocol that is serialized after a netlink header.
 pub trait NetlinkSerializable: Coded<Param = u16> {
-    /// Whether the message can be written.
+    /// Returns whether the message is writable.
     fn is_writable(&self) -> bool
         ensures { IsTrue result ↔ Self.codec.fits (Self.model self.now) };
 
-    /// The message's type.
+    /// Returns the type of the message, for the type field of the header (`nlmsg_type`).
     fn message_type(&self) -> u16
         ensures { result ≡ Self.type_written (Self.model self.now) };
 
-    /// How many bytes `serialize` writes.
+    /// Returns the number of bytes that `serialize` writes.
     fn buffer_len(&self) -> usize
         requires { Self.codec.fits (Self.model self.now) }
         ensures { result ≡ length (Self.codec.written (Self.model self.now)) };
 
-    /// Writes the message at the start of the buffer, and leaves the rest.
+    /// Serializes the message to the start of the buffer. The bytes after it are unchanged.
     fn serialize(&self, buffer: &mut [u8])
         requires writable { Self.codec.fits (Self.model self.now) }
         requires room { length (Self.codec.written (Self.model self.now)) ≤ length buffer.old }
@@ -60,11 +60,11 @@ pub trait NetlinkSerializable: Coded<Param = u16> {
             ++ drop (length (Self.codec.written (Self.model self.now))) buffer.old };
 }
 
-/// A message of a protocol that is read from a payload under the type that the netlink header
-/// tells.
+/// A message of a protocol that is parsed from the payload of a netlink message, under the type in
+/// the netlink header.
 pub trait NetlinkDeserializable: Coded<Param = u16> {
-    /// Reads a message under the header's type, or returns the first fault. No other field of the
-    /// header is looked at.
+    /// Parses a message under the header's type, or returns the first decode error. No other field
+    /// of the header matters.
     fn deserialize(
         alloc: Global,
         header: &NetlinkHeader,
@@ -80,24 +80,24 @@ pub trait NetlinkDeserializable: Coded<Param = u16> {
             × ¬ Self.codec.is_spare m) };
 }
 
-/// The payload of a message, by the message's type. `B` holds the bytes of a payload that is not
-/// decoded: `Vec<u8>`, or `&[u8]` in a borrowed payload. Only a borrowed payload is `Clone` and
+/// The payload of a netlink message, by the message type. `B` holds the bytes of a payload that is
+/// not decoded: `Vec<u8>`, or `&[u8]` in a borrowed payload. Only a borrowed payload is `Clone` and
 /// `Copy`.
 #[derive(Copy, Debug, Drop, PartialEq, Eq)]
 pub enum NetlinkPayload<I, B = Vec<u8>> {
-    /// A dump ends. The bytes are kept as they came.
+    /// `NLMSG_DONE`: the end of a dump. The bytes are raw.
     Done(B),
-    /// A request failed, or is acknowledged. The bytes are kept as they came.
+    /// `NLMSG_ERROR`: a request failed, or is acknowledged. The bytes are raw.
     Error(B),
-    /// Nothing.
+    /// `NLMSG_NOOP`: no content.
     Noop,
-    /// Data was lost. The bytes are kept as they came.
+    /// `NLMSG_OVERRUN`: data was lost. The bytes are raw.
     Overrun(B),
     /// A message of the protocol.
     InnerMessage(I),
 }
 
-// By hand: a derived impl would give a payload that owns its bytes a `clone` without an allocator.
+// By hand: a derived impl would give an owned payload a `clone` without an allocator.
 impl<I: Copy, B: Copy> Clone for NetlinkPayload<I, B> {
     ghost is_clone = { λ payload copy. copy ≡ payload };
 
@@ -108,9 +108,9 @@ impl<I: Copy, B: Copy> Clone for NetlinkPayload<I, B> {
     }
 }
 
-/// The number that the payload of `NLMSG_ERROR` or `NLMSG_DONE` begins with: 0 for an
-/// acknowledgement or a dump that went well, else `-errno` (errno(3)). `None` where there are fewer
-/// than four bytes.
+/// Returns the error number at the start of the payload of an `NLMSG_ERROR` or `NLMSG_DONE`: 0 for
+/// an acknowledgement or a complete dump, else `-errno` (errno(3)). It has 4 bytes and is
+/// little-endian. Returns `None` if the payload is shorter.
 pub fn error_number(payload: &[u8]) -> Option<i32>
     ensures { result ≡ leading_number payload.now }
 {
@@ -121,8 +121,8 @@ pub fn error_number(payload: &[u8]) -> Option<i32>
 }
 
 impl<I: Coded> NetlinkPayload<I> {
-    /// The number that an error or an end tells, as [`error_number`] reads it, and `None` of any
-    /// other payload.
+    /// Returns the error number of an error or of the end of a dump, as [`error_number`] does, and
+    /// `None` for any other payload.
     pub fn error_number(&self) -> Option<i32>
         ensures { result ≡ error_number_of (payload_of vec_items I.model self.now) }
     {
@@ -134,8 +134,8 @@ impl<I: Coded> NetlinkPayload<I> {
 }
 
 impl<I> NetlinkPayload<I, &[u8]> {
-    /// The number that an error or an end tells, as [`error_number`] reads it, and `None` of any
-    /// other payload.
+    /// Returns the error number of an error or of the end of a dump, as [`error_number`] does, and
+    /// `None` for any other payload.
     pub fn error_number(&self) -> Option<i32>
         ensures { result ≡ error_number_of (payload_of (λ (b : Bor (List ℕ)). b.now) (λ m. m)
             self.now) }
@@ -148,8 +148,8 @@ impl<I> NetlinkPayload<I, &[u8]> {
 }
 
 impl<I: NetlinkSerializable> NetlinkPayload<I> {
-    /// The type that the message's header is to tell: `NLMSG_DONE`, `NLMSG_ERROR`, `NLMSG_NOOP`,
-    /// `NLMSG_OVERRUN`, or that of the inner message.
+    /// Returns the message type for the header: `NLMSG_DONE`, `NLMSG_ERROR`, `NLMSG_NOOP`,
+    /// `NLMSG_OVERRUN`, or the type of the inner message.
     pub fn message_type(&self) -> u16
         ensures { result ≡ payload_type I.type_written (payload_of vec_items I.model self.now) }
     {
@@ -162,7 +162,7 @@ impl<I: NetlinkSerializable> NetlinkPayload<I> {
         }
     }
 
-    // Whether an inner message, if there is one, can be written.
+    // Returns whether the inner message, if any, is writable.
     fn is_writable(&self) -> bool
         ensures { IsTrue result ↔ OfInner I.codec.fits (payload_of vec_items I.model self.now) }
     {
@@ -172,7 +172,7 @@ impl<I: NetlinkSerializable> NetlinkPayload<I> {
         }
     }
 
-    // How many bytes the payload is written as.
+    // Returns the number of bytes that `serialize` writes.
     fn buffer_len(&self) -> usize
         requires { OfInner I.codec.fits (payload_of vec_items I.model self.now) }
         ensures { result
@@ -187,7 +187,7 @@ impl<I: NetlinkSerializable> NetlinkPayload<I> {
         }
     }
 
-    // Writes the payload at the start of the buffer, and leaves the rest.
+    // Serializes the payload to the start of the buffer. The bytes after it are unchanged.
     fn serialize(&self, buffer: &mut [u8])
         requires writable { OfInner I.codec.fits (payload_of vec_items I.model self.now) }
         requires room { length
@@ -208,7 +208,7 @@ impl<I: NetlinkSerializable> NetlinkPayload<I> {
 }
 
 impl<I: NetlinkDeserializable> NetlinkPayload<I> {
-    // The payload under the header's type. A payload of nothing never wants memory.
+    // Parses the payload under the header's type. An `NLMSG_NOOP` never allocates.
     fn read(alloc: Global, header: &NetlinkHeader, bytes: &[u8]) -> Result<Self, DecodeError>
         ensures value { IfOk result (λ p. PayloadIs I.codec.reads bytes.now header.now.message_type
             (payload_of vec_items I.model p)) }
@@ -232,15 +232,15 @@ impl<I: NetlinkDeserializable> NetlinkPayload<I> {
 /// A netlink message: a header and a payload.
 #[derive(Debug, Drop, PartialEq, Eq)]
 pub struct NetlinkMessage<I> {
-    /// The header, whose length and type are those that were read or given until `finalize` sets
-    /// them.
+    /// The header. Its length and its type are as parsed or as passed to `new`, until `finalize`
+    /// sets them.
     pub header: NetlinkHeader,
-    /// What the message carries.
+    /// The payload.
     pub payload: NetlinkPayload<I>,
 }
 
 impl<I> NetlinkMessage<I> {
-    /// The message with this header, as it stands, and this payload.
+    /// Returns the message with this header, unchanged, and this payload.
     pub fn new(header: NetlinkHeader, payload: NetlinkPayload<I>) -> Self
         ensures header { result.header ≡ header }
         ensures payload { result.payload ≡ payload }
@@ -248,7 +248,7 @@ impl<I> NetlinkMessage<I> {
         NetlinkMessage { header, payload }
     }
 
-    /// The header and the payload.
+    /// Returns the header and the payload.
     pub fn into_parts(self) -> (NetlinkHeader, NetlinkPayload<I>)
         ensures header { result.0 ≡ self.header }
         ensures payload { result.1 ≡ self.payload }
@@ -259,8 +259,8 @@ impl<I> NetlinkMessage<I> {
 }
 
 impl<I: Coded<Param = u16>> NetlinkMessage<I> {
-    /// Tells the prover that its numbers are within their types, so that the laws of messages hold
-    /// of it. It does nothing.
+    /// Proof only: puts the range of each number in scope, so that the laws of messages apply. No
+    /// run-time effect.
     pub fn in_range(&self)
         ensures { (envelope_codec I.codec).is_in_range (envelope_of I.model self.now) }
     {
@@ -272,19 +272,19 @@ impl<I: Coded<Param = u16>> NetlinkMessage<I> {
 }
 
 impl<I: NetlinkDeserializable> NetlinkMessage<I> {
-    /// Reads the message at the start of the bytes. What follows its length is unread.
+    /// Parses the message at the start of the bytes. Bytes after the message's length are ignored.
     ///
-    /// Refused are fewer than 16 bytes as `EnvelopeCut`, then a length under 16 as
-    /// `EnvelopeLengthUnder16`, then one past the bytes as `EnvelopeLengthPast`, then what the
-    /// inner message's reader refuses. A message of type `NLMSG_NOOP` never wants memory, and its
-    /// payload is dropped.
+    /// Fails with `EnvelopeCut` if there are fewer than 16 bytes, then with `EnvelopeLengthUnder16`
+    /// if the length field is below 16, then with `EnvelopeLengthPast` if it is above the number of
+    /// bytes, then with the error of the inner message. For a message of type `NLMSG_NOOP` the
+    /// payload is dropped, and nothing is allocated.
     pub fn deserialize(alloc: Global, bytes: &[u8]) -> Result<Self, DecodeError>
         ensures value { IfOk result
             (λ m. (envelope_codec I.codec).reads bytes.now tt (envelope_of I.model m)) }
         ensures fault { IfErr result (λ e. e ≢ Memory
             → (envelope_codec I.codec).refuses bytes.now tt e) }
         ensures memory { IfErr result (λ e. e ≡ Memory → little_number 2 (drop 4 bytes.now) ≢ 1) }
-        // Memory is wanted only for bytes that have a message.
+        // `Memory` only if the bytes have a message.
         ensures wanted { IfErr result (λ e. e ≡ Memory → (m : Envelope I.codec.Value)
             × (envelope_codec I.codec).reads bytes.now tt m) }
     {
@@ -296,7 +296,7 @@ impl<I: NetlinkDeserializable> NetlinkMessage<I> {
 }
 
 impl<I: NetlinkSerializable> NetlinkMessage<I> {
-    /// Sets the header's length to that of the message, and its type to the payload's.
+    /// Sets the header's length to the length of the message, and its type to the payload's type.
     pub fn finalize(&mut self)
         requires { (envelope_codec I.codec).fits (envelope_of I.model self.old) }
         ensures header { self.new.header ≡ finalized I.codec.written I.type_written
@@ -307,15 +307,15 @@ impl<I: NetlinkSerializable> NetlinkMessage<I> {
         self.header.message_type = self.payload.message_type();
     }
 
-    /// Whether the message can be written: its inner message can be, and the whole has at most
-    /// 4,294,967,295 bytes, the header's 16 among them.
+    /// Returns whether the message is writable: its inner message is, and the whole has at most
+    /// 4,294,967,295 bytes, including the 16 bytes of the header.
     pub fn is_writable(&self) -> bool
         ensures { IsTrue result ↔ (envelope_codec I.codec).fits (envelope_of I.model self.now) }
     {
         self.payload.is_writable() && self.payload.buffer_len() <= LONGEST - NETLINK_HEADER_LEN
     }
 
-    /// How many bytes `serialize` writes.
+    /// Returns the number of bytes that `serialize` writes.
     pub fn buffer_len(&self) -> usize
         requires { (envelope_codec I.codec).fits (envelope_of I.model self.now) }
         ensures { result ≡ length ((envelope_codec I.codec).written
@@ -324,7 +324,8 @@ impl<I: NetlinkSerializable> NetlinkMessage<I> {
         NETLINK_HEADER_LEN + self.payload.buffer_len()
     }
 
-    /// Writes the header as it stands and then the payload, and leaves the rest of the buffer.
+    /// Serializes the header, unchanged, and the payload to the start of the buffer. The bytes
+    /// after them are unchanged.
     pub fn serialize(&self, buffer: &mut [u8])
         requires writable { (envelope_codec I.codec).fits (envelope_of I.model self.now) }
         requires room { length ((envelope_codec I.codec).written (envelope_of I.model self.now))

@@ -1,4 +1,4 @@
-//! Attributes that are written, and the attribute of any type.
+//! Serializing attributes, and the attribute of any kind.
 
 ghost use Rattle.std.specs.Prelude.{◌≡◌, ◌≤◌, ◌<◌, ◌↔◌, replicate, ◌++◌, length, drop, [], map};
 ghost use Rattle.std.specs.Prelude.{true, refl, IsTrue, IsOk, IfOk, SomeIff};
@@ -16,27 +16,28 @@ use crate::wire::{Coded, Wire, bytes_in_range, write_new};
 use byteorder::{ByteOrder, LittleEndian};
 use std::alloc::{AllocError, Global};
 
-/// A value that can be written as an attribute.
+/// A value that is serialized as an attribute.
 pub trait Nla {
-    // The attribute that is written.
+    // The attribute that the value serializes as.
     ghost attribute: { Self → Attribute };
 
-    /// How many bytes the value has, without header and padding.
+    /// Returns the number of the value's bytes, without header and padding.
     fn value_len(&self) -> usize
         ensures { result ≡ length (attribute self.now).value };
 
-    /// The type word that is written.
+    /// Returns the type field (`nla_type`) that is serialized.
     fn kind(&self) -> u16
         ensures { result ≡ (attribute self.now).type_word };
 
-    /// Writes the value at the start of the buffer, and leaves the rest.
+    /// Serializes the value to the start of the buffer. The bytes after it are unchanged.
     fn emit_value(&self, buffer: &mut [u8])
         requires fits { HasFittingValue (attribute self.now) }
         requires room { length (attribute self.now).value ≤ length buffer.old }
         ensures { buffer.new ≡ (attribute self.now).value
             ++ drop (length (attribute self.now).value) buffer.old };
 
-    /// Whether the value has at most 65,531 bytes, so that its length word can count them.
+    /// Returns whether the value has at most 65,531 bytes, so that its length fits the length
+    /// field.
     fn value_fits(&self) -> bool
         ensures { IsTrue result ↔ HasFittingValue (attribute self.now) }
     {
@@ -44,15 +45,15 @@ pub trait Nla {
     }
 }
 
-/// A value that is read and written as one attribute: what `emit` writes is the attribute, where
-/// its value fits.
+/// A value that is parsed and serialized as one attribute. It is writable if and only if the length
+/// of its value fits the length field.
 pub trait WireNla: Nla + Wire {
     ghost emitted_is: { (v : Self) → Self.bytes v ≡ written (Self.attribute v) };
 
     ghost writable_is: { (v : Self) → (Self.writable v ↔ HasFittingValue (Self.attribute v)) };
 }
 
-/// How many bytes the attribute has, with header and padding.
+/// Returns the number of the attribute's bytes, with header and padding.
 pub fn nla_len<T: Nla>(nla: &T) -> usize
     requires { HasFittingValue (T.attribute nla.now) }
     ensures { result ≡ length (written (T.attribute nla.now)) }
@@ -60,14 +61,15 @@ pub fn nla_len<T: Nla>(nla: &T) -> usize
     padded(NLA_HEADER_SIZE + nla.value_len())
 }
 
-/// Writes the attribute at the start of the buffer, with zeros as its padding, and leaves the rest.
+/// Serializes the attribute to the start of the buffer, with zeros as its padding. The bytes after
+/// it are unchanged.
 pub fn emit_nla<T: Nla>(nla: &T, buffer: &mut [u8])
     requires fits { HasFittingValue (T.attribute nla.now) }
     requires room { length (written (T.attribute nla.now)) ≤ length buffer.old }
     ensures { buffer.new ≡ written (T.attribute nla.now)
         ++ drop (length (written (T.attribute nla.now))) buffer.old }
 {
-    // All is asked of the attribute before a byte is written: then one test of its kind serves.
+    // Both are computed before a byte is written, so that one branch on the kind is enough.
     let len = nla.value_len();
     let kind = nla.kind();
     let end = NLA_HEADER_SIZE + len;
@@ -80,7 +82,7 @@ pub fn emit_nla<T: Nla>(nla: &T, buffer: &mut [u8])
     zero_padding(padding);
 }
 
-// Sets a padding to zeros, byte by byte: a call would take longer.
+// Sets the padding to zeros, byte by byte: a call would take longer.
 #[inline(always)]
 fn zero_padding(padding: &mut [u8])
     requires { length padding.old < 4 }
@@ -98,8 +100,8 @@ fn zero_padding(padding: &mut [u8])
     }
 }
 
-/// How many bytes the attributes have, one after the other, where each value fits and they have at
-/// most so many.
+/// Returns the number of the attributes' bytes, with headers and paddings, or `None` if a value
+/// does not fit its length field or the attributes have more than `limit` bytes.
 pub fn nlas_len_within<T: Nla>(nlas: &[T], limit: usize) -> Option<usize>
     ensures { SomeIff result (AreWritable (map T.attribute nlas.now) limit)
         (length (flat_map written (map T.attribute nlas.now))) }
@@ -118,14 +120,15 @@ pub fn nlas_len_within<T: Nla>(nlas: &[T], limit: usize) -> Option<usize>
     Some(limit - room)
 }
 
-/// Whether each value fits, and all of the attributes together have at most 4,294,967,295 bytes.
+/// Returns whether each value fits its length field, and all attributes together have at most
+/// 4,294,967,295 bytes.
 pub fn nlas_writable<T: Nla>(nlas: &[T]) -> bool
     ensures { IsTrue result ↔ AreWritable (map T.attribute nlas.now) 4294967295 }
 {
     nlas_len_within(nlas, u32::MAX as usize).is_some()
 }
 
-/// How many bytes the attributes have, one after the other.
+/// Returns the number of the attributes' bytes, with headers and paddings.
 pub fn nlas_len<T: Nla>(nlas: &[T]) -> usize
     requires { AreWritable (map T.attribute nlas.now) 4294967295 }
     ensures { result ≡ length (flat_map written (map T.attribute nlas.now)) }
@@ -137,7 +140,8 @@ pub fn nlas_len<T: Nla>(nlas: &[T]) -> usize
     len
 }
 
-/// Writes the attributes one after the other at the start of the buffer, and leaves the rest.
+/// Serializes the attributes, in order, to the start of the buffer. The bytes after them are
+/// unchanged.
 pub fn emit_nlas<T: Nla>(nlas: &[T], buffer: &mut [u8])
     requires fits { AreWritable (map T.attribute nlas.now) 4294967295 }
     requires room { length (flat_map written (map T.attribute nlas.now)) ≤ length buffer.old }
@@ -152,7 +156,7 @@ pub fn emit_nlas<T: Nla>(nlas: &[T], buffer: &mut [u8])
     }
 }
 
-/// An attribute of any type: its whole type word, with the two flag bits, and its value's bytes.
+/// A raw attribute of any kind: its type field, with the two flag bits, and the bytes of its value.
 #[derive(Debug, Drop, PartialEq, Eq)]
 pub struct DefaultNla {
     kind: u16,
@@ -163,14 +167,14 @@ impl DefaultNla {
     ghost use Rattle.netlink_core.specs.DefaultNla.{kept_attribute};
     ghost use Rattle.netlink_core.specs.Walk.{attribute_of};
 
-    /// The attribute with this type word and value.
+    /// Returns the attribute with this type field and this value.
     pub fn new(kind: u16, value: Vec<u8>) -> DefaultNla
         ensures { kept_attribute result ≡ record { type_word = kind; value = value.items } }
     {
         DefaultNla { kind, value }
     }
 
-    // The attribute with memory of its own, which one without a value doesn't need.
+    // Copies the attribute. Does not allocate if its value is empty.
     fn keep(alloc: Global, nla: &NlaBuffer<'_>) -> Result<DefaultNla, AllocError>
         ensures equal { IfOk result (λ kept. kept_attribute kept ≡ attribute_of nla.now) }
         ensures spare { (attribute_of nla.now).value ≡ [] → IsOk result }
@@ -181,22 +185,22 @@ impl DefaultNla {
         })
     }
 
-    /// The whole type word, with its two flag bits.
+    /// Returns the type field, with its two flag bits.
     pub fn kind(&self) -> u16
         ensures { result ≡ (kept_attribute self.now).type_word }
     {
         self.kind
     }
 
-    /// The value's bytes.
+    /// Returns the bytes of the value.
     pub fn value(&self) -> &[u8]
         ensures { result.now ≡ (kept_attribute self.now).value }
     {
         self.value.as_slice()
     }
 
-    /// An equal attribute. It fails only for want of memory, which only a value that has bytes
-    /// needs.
+    /// Returns an equal attribute. Fails only if an allocation fails; does not allocate if the
+    /// value is empty.
     pub fn clone(&self, alloc: Global) -> Result<Self, AllocError>
         ensures equal { IfOk result (λ copy. kept_attribute copy ≡ kept_attribute self.now) }
         ensures spare { (kept_attribute self.now).value ≡ [] → IsOk result }
@@ -208,9 +212,9 @@ impl DefaultNla {
     }
 }
 
-/// The list with memory of its own, which an empty one doesn't need.
+/// Copies the items to a new vector.
 ///
-/// It fails only for want of memory.
+/// Fails only if an allocation fails; does not allocate if there are no items.
 pub fn copy_list<T: Copy>(alloc: Global, items: &[T]) -> Result<Vec<T>, AllocError>
     ensures equal { IfOk result (λ copy. copy.items ≡ items.now) }
     ensures spare { items.now ≡ [] → IsOk result }
@@ -277,7 +281,7 @@ impl Coded for DefaultNla {
 
     type Param = ();
 
-    // Under a set of no types, where each attribute decodes to itself.
+    // The codec for a set without any types, in which each attribute decodes to itself.
     ghost codec = { first_attribute_codec [] };
 
     ghost model = { kept_attribute };
@@ -299,7 +303,7 @@ impl Wire for DefaultNla {
         Ok(DefaultNla::keep(alloc, &NlaBuffer::new_checked(bytes)?)?)
     }
 
-    // The value of an attribute in bytes always fits, so `Memory` may also be that of the copy.
+    // The value of a parsed attribute always fits, so an error of the copy may be returned too.
     fn rewrite(alloc: Global, bytes: &[u8], _param: ()) -> Result<Vec<u8>, CanonError> {
         write_new(
             alloc,

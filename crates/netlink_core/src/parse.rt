@@ -1,4 +1,4 @@
-//! Numbers and texts that fill their bytes.
+//! Numbers and texts that take all of their bytes.
 
 ghost use Rattle.std.specs.Prelude.{◌≡◌, ◌≢◌, ◌≤◌, ◌++◌, length, drop, string_bytes, None, IsOk};
 ghost use Rattle.std.specs.Prelude.{IfOk, IfErr};
@@ -11,7 +11,7 @@ use byteorder::{ByteOrder, LittleEndian};
 use std::alloc::Global;
 use std::str;
 
-/// The number in exactly one byte. Any other length is `WrongLength` with no kind.
+/// Parses a number of exactly one byte. Any other length is `WrongLength` without a kind.
 pub fn parse_u8(payload: &[u8]) -> Result<u8, DecodeError>
     ensures { result ≡ exact_number None 1 payload.now }
 {
@@ -21,7 +21,7 @@ pub fn parse_u8(payload: &[u8]) -> Result<u8, DecodeError>
     }
 }
 
-/// The number in exactly four bytes, the low byte first. Any other length is `WrongLength` with no
+/// Parses a little-endian number of exactly four bytes. Any other length is `WrongLength` without a
 /// kind.
 pub fn parse_u32(payload: &[u8]) -> Result<u32, DecodeError>
     ensures { result ≡ exact_number None 4 payload.now }
@@ -32,7 +32,7 @@ pub fn parse_u32(payload: &[u8]) -> Result<u32, DecodeError>
     Ok(LittleEndian::read_u32(payload))
 }
 
-// The fault of a value that is not that long.
+// Returns the error for a value that does not have `need` bytes.
 fn wrong_length(payload: &[u8], need: usize) -> DecodeError
     ensures { result ≡ DecodeError.WrongLength None (length payload.now) need }
 {
@@ -43,9 +43,9 @@ fn wrong_length(payload: &[u8], need: usize) -> DecodeError
     }
 }
 
-/// Returns the text in the bytes, without the one zero that may be at their end.
+/// Returns the text in the bytes, without one terminating NUL if there is one.
 ///
-/// Bytes that are not UTF-8 are `NotUtf8`. `Memory` is returned only for bytes that are a text.
+/// Fails with `NotUtf8` if this is not valid UTF-8, and with `Memory` only if the bytes are a text.
 pub fn parse_string(alloc: Global, payload: &[u8]) -> Result<String, DecodeError>
     ensures value { IfOk result (λ text. text_in payload.now ≡ Ok (string_bytes text)) }
     ensures fault { IfErr result (λ e. e ≢ Memory → text_in payload.now ≡ Err e) }
@@ -54,8 +54,8 @@ pub fn parse_string(alloc: Global, payload: &[u8]) -> Result<String, DecodeError
     Ok(String::from_str(alloc, parse_str(payload)?)?)
 }
 
-/// The text in the bytes, in place, without the one zero that may stand at their end. What is not
-/// UTF-8 is `NotUtf8`.
+/// Returns the text in the bytes, borrowed, without one terminating NUL if there is one. Fails with
+/// `NotUtf8` if this is not valid UTF-8.
 #[tactic(auto, using(crate::proofs::Texts::text_there, crate::proofs::Texts::no_text))]
 #[inline(always)]
 pub fn parse_str(payload: &[u8]) -> Result<&str, DecodeError>
@@ -68,7 +68,7 @@ pub fn parse_str(payload: &[u8]) -> Result<&str, DecodeError>
     }
 }
 
-// The bytes without the zero at their end.
+// Returns the bytes without one terminating NUL, if there is one.
 fn text_bytes(payload: &[u8]) -> &[u8]
     ensures { result.now ≡ without_end_zero payload.entry.now }
 {
@@ -78,7 +78,7 @@ fn text_bytes(payload: &[u8]) -> &[u8]
     }
 }
 
-/// Writes the number into the first four bytes, the low byte first, and leaves the rest.
+/// Writes the number, little-endian, to the first four bytes. The bytes after it are unchanged.
 pub fn emit_u32(buffer: &mut [u8], value: u32)
     requires { 4 ≤ length buffer.old }
     ensures { buffer.new ≡ little_bytes 4 value ++ drop 4 buffer.old }

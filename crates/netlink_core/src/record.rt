@@ -1,4 +1,4 @@
-//! Records: what each is read from and written as, and all that follows from it.
+//! Records: types with a layout, and the traits that follow from the layout.
 
 ghost use Rattle.std.specs.Prelude.{◌≡◌, ◌≢◌, ◌≤◌, IfErr, ℕ, List, length, take, SomeIff, false, ⊤};
 ghost use Rattle.std.specs.Prelude.{refl};
@@ -13,45 +13,45 @@ use crate::{
 use std::alloc::{AllocError, Global};
 use std::marker::{Model, PhantomData};
 
-/// A record. With this it is read and written, and joined by the laws of [`Wire`].
+/// A record. Every record is also [`Wire`], and so [`Coded`] and [`Emitable`].
 ///
-/// What follows its bytes is ignored, and fewer bytes are [`DecodeError::BufferTooSmall`].
+/// Bytes after the record are ignored. Too few bytes are [`DecodeError::BufferTooSmall`].
 pub trait Record: Exact + Sized {
-    /// What the reader takes in addition to the bytes.
+    /// The parameter of the parser.
     type Param: ReadParam;
 
     ghost Tag: { Type 0 } = { Unit {0} };
 
-    // How the record stands in bytes.
+    // The layout of the record in bytes.
     ghost layout: { Layout Self.Param Tag Self };
 
-    /// The record's name in faults, and the fewest bytes that it is read from.
+    /// Returns the record's name in errors, and the fewest bytes that it is parsed from.
     fn name_and_least() -> (RecordName, usize)
         ensures { result ≡ (layout.name, layout.least) };
 
-    /// The number of the value's bytes.
+    /// Returns the number of the value's bytes.
     fn size(&self) -> usize
         ensures { result ≡ length (bytes layout self.now) };
 
-    /// The value in bytes that are enough, or the first fault there.
+    /// Parses a value from enough bytes, or returns the first decode error.
     fn from_fields(bytes: &[u8], param: Self::Param) -> Result<Self, DecodeError>
         requires { layout.least ≤ length bytes.now }
         ensures { result ≡ read_fields layout param bytes.now };
 
-    /// Writes the value over bytes of any content.
+    /// Serializes the value over any bytes.
     fn write_fields(&self, buffer: &mut [u8])
         requires { length buffer.old ≡ length (bytes layout self.now) }
         ensures { buffer.new ≡ bytes layout self.now };
 
-    /// Tells the prover that the value's numbers are within their fields. It does nothing.
+    /// Proof only: puts the range of each field in scope. No run-time effect.
     fn fields_in_range(&self)
         ensures { IsInRange layout self.now };
 
-    // What is read is what stands in the bytes, and the codec keeps the laws.
+    // Bytes parse as a value if and only if they contain it, and the codec laws hold.
     ghost laws: { RecordLaws layout };
 }
 
-/// Reads the record at the start of the bytes.
+/// Parses the record at the start of the bytes.
 #[inline(always)]
 pub fn read_record<T: Record>(bytes: &[u8], param: T::Param) -> Result<T, DecodeError>
     ensures value { result ≡ read T.layout param bytes.now }
@@ -131,7 +131,7 @@ impl<T: Record> Wire for T {
 
     fn rewrite(alloc: Global, bytes: &[u8], param: T::Param) -> Result<Vec<u8>, CanonError> {
         param.prove_in_range();
-        // The value is not moved: a move of a large one takes longer than to write it.
+        // Borrowed, as moving a large value takes longer than serializing it.
         match &read_record::<T>(bytes, param) {
             Ok(value) => write_new(alloc, value),
             Err(fault) => Err(CanonError::Refused(*fault)),
@@ -139,14 +139,14 @@ impl<T: Record> Wire for T {
     }
 }
 
-/// A record whose values are `N` bytes each.
+/// A record whose values have `N` bytes each.
 pub trait Fills<const N: usize>: Record {
-    // Each value has as many bytes, and a string that is read has them.
+    // Each value serializes to `N` bytes, and is parsed from at least `N`.
     ghost fills: { (Self.layout.least ≡ N)
         × ((value : Self) → length (bytes Self.layout value) ≡ N) };
 }
 
-/// The bytes of a record, in the order that they came, those too that no reader looks at.
+/// The bytes of a record, unchanged, including those that no parser reads.
 #[derive(Debug, Drop, PartialEq, Eq)]
 pub struct RecordBuffer<T, const N: usize> {
     bytes: [u8; N],
@@ -175,7 +175,7 @@ impl<T, const N: usize> Model for RecordBuffer<T, N> {
 }
 
 impl<T, const N: usize> RecordBuffer<T, N> {
-    /// The first bytes, where there are as many.
+    /// Returns the first `N` bytes, or `None` if there are fewer.
     pub fn read_prefix(payload: &[u8]) -> Option<Self>
         ensures { SomeIff result (N ≤ length payload.now) (take N payload.now) }
     {
@@ -186,7 +186,7 @@ impl<T, const N: usize> RecordBuffer<T, N> {
         })
     }
 
-    /// The bytes.
+    /// Returns the bytes.
     pub fn to_bytes(&self) -> [u8; N]
         ensures { result ≡ self.now }
     {

@@ -1,4 +1,4 @@
-//! A reader joined with its writer.
+//! Codecs: a parser and a serializer, with the properties that relate them.
 
 ghost use Rattle.std.specs.Prelude.{◌≡◌, ◌≢◌, ◌<◌, ◌^◌, ◌↔◌, ℕ, List, IfOk, IfErr, IsTrue, refl};
 ghost use Rattle.std.proofs.Common.{sym, ap, ◌∙◌, subst};
@@ -10,40 +10,41 @@ ghost use Rattle.netlink_core.specs.declared.fault.DecodeError.TheVariants.{Memo
 use crate::{CanonError, DecodeError, Emitable, ReadParam, Readable};
 use std::alloc::Global;
 
-/// A value that stands in bytes: how it is read and written, what is compared of it, and the laws
-/// between them.
+/// A type with a codec, which states how its values are parsed, serialized and compared, and with
+/// the properties of this codec.
 pub trait Coded: PartialEq + Sized {
-    /// What the reader takes in addition to the bytes.
+    /// The parameter of the parser.
     type Param: ReadParam;
 
-    // How it stands in bytes, and the model of a value: each field, and lists by their elements.
+    // The codec, and the model of a value: each field, and lists by their elements.
     ghost codec: { Codec Self.Param };
 
     ghost model: { Self → codec.Value };
 
-    // The type that a header has in front of a message. It is 0 where the values are no messages.
+    // The type field of the netlink header (`nlmsg_type`) of a message; 0 if the values are not
+    // messages.
     ghost type_written: { codec.Value → ℕ };
 
-    /// Whether both have the same model: what `==` answers.
+    /// Returns whether both values have the same model. This is what `==` returns.
     fn equal(&self, other: &Self) -> bool
         ensures { IsTrue result ↔ (model self.now ≡ model other.now) }
     {
         self == other
     }
 
-    /// Tells the prover that the value's numbers are within their types. It does nothing.
+    /// Proof only: puts the range of each number in scope. No run-time effect.
     fn in_range(&self)
         ensures { codec.is_in_range (model self.now) };
 
     // `==` compares the models.
     ghost eq_is_model: { (v w : Self) → IsTrue (Self.eq v w) ↔ (model v ≡ model w) };
 
-    // A string has one value or one fault, idle strings have equal values, and a value in normal
-    // form reads back.
+    // The codec laws. For example, bytes have one value or one error, equivalent (`idle`) bytes
+    // have equal values, and writable values in normal form round-trip.
     ghost laws: { KeepsLaws codec };
 
-    // What follows holds by these laws, for every type.
-    // On accepted strings idle is reflexive, symmetric and transitive.
+    // The rest follows from these laws, for every type.
+    // On accepted bytes, equivalence is reflexive, symmetric and transitive.
     ghost idle_reflexive: { (b : List ℕ) (p : Self.Param) (v : codec.Value) → IsBytes b
         → codec.reads b p v
         → codec.idle p b b } = { λ b p v tb r. (laws.same_value b b p v v tb tb r r).0 refl };
@@ -63,13 +64,14 @@ pub trait Coded: PartialEq + Sized {
             ((laws.same_value b c p v w tb tc r s).1 h
             ∙ (laws.same_value c d p w x tc td s t).1 k) };
 
-    // A string has one value.
+    // Bytes have at most one value.
     ghost one_value: { (b : List ℕ) (p : Self.Param) (v w : codec.Value) → IsBytes b
         → codec.reads b p v → codec.reads b p w → v ≡ w } = { λ b p v w tb r s.
             (laws.same_value b b p v w tb tb r s).1
             ((laws.same_value b b p v v tb tb r r).0 refl) };
 
-    // Writable values in normal form with equal bytes are equal.
+    // Writable values that are in range and in normal form are equal if they serialize to the same
+    // bytes.
     ghost equal_by_bytes: { (p : Self.Param) (v w : codec.Value) → codec.is_in_range v
         → codec.is_in_range w → codec.is_normal p v → codec.is_normal p w
         → codec.fits v → codec.fits w → codec.written v ≡ codec.written w
@@ -78,7 +80,8 @@ pub trait Coded: PartialEq + Sized {
             (subst (λ (b : List ℕ). codec.reads b p v) e (laws.reads_back p v tv nv fv))
             (laws.reads_back p w tw nw fw) };
 
-    // The bytes of a writable value that was read are idle with the string.
+    // The bytes that a writable parsed value serializes to are equivalent to the bytes that it was
+    // parsed from.
     ghost idle_with_written: { (b : List ℕ) (p : Self.Param) (v : codec.Value) → IsBytes b
         → codec.reads b p v → codec.fits v
         → codec.idle p b (codec.written v) } = { λ b p v tb r f.
@@ -86,7 +89,7 @@ pub trait Coded: PartialEq + Sized {
             (laws.same_value b (codec.written v) p v v tb (laws.written_bytes v n.0) r
             (laws.reads_back p v n.0 n.1 f)).0 refl };
 
-    // A writable value in range reads back as itself exactly where it is in normal form.
+    // A writable value in range round-trips if and only if it is in normal form.
     ghost reads_back_exactly: { (p : Self.Param) (v : codec.Value) → codec.is_in_range v
         → codec.fits v
         → (codec.reads (codec.written v) p v ↔ codec.is_normal p v) } = { λ p v tv f. (
@@ -94,7 +97,8 @@ pub trait Coded: PartialEq + Sized {
           λ n. laws.reads_back p v tv n f,
         ) };
 
-    // Accepted strings with writable values are written alike exactly where they are idle.
+    // Accepted bytes with writable values serialize to the same bytes if and only if they are
+    // equivalent.
     ghost written_alike: { (b c : List ℕ) (p : Self.Param) (v w : codec.Value) → IsBytes b
         → IsBytes c
         → codec.reads b p v → codec.reads c p w → codec.fits v → codec.fits w
@@ -108,24 +112,24 @@ pub trait Coded: PartialEq + Sized {
             ) };
 }
 
-/// A type whose reader and writer are those of its codec.
+/// A type that is parsed and serialized as its codec states.
 pub trait Wire: Coded + Readable + Emitable {
-    /// Reads a value, or returns the first fault.
+    /// Parses a value, or returns the first decode error.
     fn read(alloc: Global, bytes: &[u8], param: Self::Param) -> Result<Self, DecodeError>
         ensures in_range { IsBytes bytes.now }
         ensures param_in_range { Self.Param.is_in_range param }
         ensures value { IfOk result (λ v. Self.codec.reads bytes.now param (Self.model v)) }
         ensures fault { IfErr result (λ e. e ≢ Memory → Self.codec.refuses bytes.now param e) }
         ensures memory { IfErr result (λ e. e ≡ Memory → IsTrue Self.TAKES_MEMORY) }
-        // Memory is wanted only where the string has a value, and one that is not spare.
+        // `Memory` only if the bytes have a value, and this value needs to allocate.
         ensures wanted { IfErr result (λ e. e ≡ Memory
             → (v : Self.codec.Value) × Self.codec.reads bytes.now param v
             × ¬ Self.codec.is_spare v) };
 
-    /// Returns the bytes that the value in the bytes is written as: what
-    /// [`canonical`](crate::canonical) returns.
-    // A type that has a view writes the view: to make an owned value could run out of memory for a
-    // value that can't be written.
+    /// Returns the bytes that the value of the bytes serializes to, as
+    /// [`canonical`](crate::canonical) does.
+    // A type that has a view serializes the view. Parsing an owned value could run out of memory,
+    // even if the value is not writable.
     fn rewrite(alloc: Global, bytes: &[u8], param: Self::Param) -> Result<Vec<u8>, CanonError>
     where
         Self: Drop,
@@ -136,14 +140,14 @@ pub trait Wire: Coded + Readable + Emitable {
         ensures err { IfErr result (GivesUp (Self.codec.reads bytes.now param)
             (Self.codec.refuses bytes.now param) Self.codec.fits) };
 
-    // The writer is that of `Emitable`.
+    // `Emitable` serializes as the codec does.
     ghost written_is: { (v : Self) → Self.bytes v ≡ Self.codec.written (Self.model v) };
 
     ghost fits_is: { (v : Self) → (Self.writable v ↔ Self.codec.fits (Self.model v)) };
 }
 
-/// Writes a value into a new list. It fails with `Unwritable` if the value can't be written, and
-/// with `Memory` only if it can.
+/// Serializes a value to a new vector. Fails with `Unwritable` if the value is not writable, and
+/// with `Memory` only if it is.
 pub fn write_new<T: Emitable>(alloc: Global, value: &T) -> Result<Vec<u8>, CanonError>
     ensures written { IfOk result (λ c. T.writable value.now × (c.items ≡ T.bytes value.now)) }
     ensures err { IfErr result (GivesUp (λ v. v ≡ value.now) (λ fault. ⊥) T.writable) }
@@ -156,13 +160,13 @@ pub fn write_new<T: Emitable>(alloc: Global, value: &T) -> Result<Vec<u8>, Canon
     Ok(written)
 }
 
-/// Tells the prover that bytes are numbers below 256. Like [`word_in_range`] it is for a type's own
-/// [`Coded::in_range`], and does nothing.
+/// Proof only: puts the range of each byte in scope. No run-time effect. Like [`word_in_range`] it
+/// is for implementations of [`Coded::in_range`].
 pub fn bytes_in_range(_bytes: &[u8])
     ensures { IsBytes _bytes.now }
 {}
 
-/// Tells the prover that a word is a number of four bytes. It does nothing.
+/// Proof only: puts the range of the number in scope. No run-time effect.
 pub fn word_in_range(_word: u32)
     ensures { _word < 256 ^ 4 }
 {}

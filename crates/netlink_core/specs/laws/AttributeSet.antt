@@ -1,4 +1,4 @@
--- What follows for a set of attributes from the laws of its types.
+-- Properties of a set of attribute types that follow from the codec laws of its types.
 use Rattle.std.proofs.Common.{Ok, Err, ◌≡◌, ◌↔◌, inl, inr, [], ◌∷◌}
 use Rattle.std.proofs.Common.{refl, arith}
 use Rattle.std.specs.Prelude.{◌≢◌}
@@ -12,7 +12,8 @@ use Rattle.netlink_core.specs.AttributeSet.{encodes, AreIdleAttributes}
 use Rattle.netlink_core.specs.AttributeSet.{IsInRangeBy, IsNormalBy}
 use Rattle.netlink_core.specs.laws.Shown.{AttributeSetLaws}
 
--- a value of the first type is read of an attribute of it, and another of one of another
+-- a value of the first type is decoded from an attribute of its kind, any other value from an
+-- attribute of another kind
 is_here : (spec : AttributeSpec) (others : AttributeSet) (a : Attribute) (x : spec.value.Value)
     → decodes (spec ∷ others) a ≡ Ok (inl x)
     → (attribute_type a ≡ spec.number) × (spec.value.reads tt a.value ≡ Ok x)
@@ -25,14 +26,14 @@ is_there : (spec : AttributeSpec) (others : AttributeSet) (a : Attribute)
 is_there spec others a v h =
     grind (arith, nat_tests)
 
--- no fault of an attribute is want of memory
+-- decoding an attribute never fails with `Memory`
 pub set_faults_named : (F : AttributeSet) → AttributeSetLaws F → (a : Attribute)
     → decodes F a ≡ Err Memory → ⊥
 set_faults_named [] laws a h = cc
 set_faults_named (spec ∷ others) laws a h =
     grind (arith, nat_tests, laws.0.value.named_fault a.value tt, set_faults_named others laws.1 a)
 
--- a value is written under the type that it was read from
+-- a decoded value serializes with the kind that it was decoded from
 own_type : (F : AttributeSet) → AttributeSetLaws F → (a : Attribute) (v : AttributeValue F)
     → decodes F a ≡ Ok v
     → attribute_type (encodes F v) ≡ attribute_type a
@@ -56,7 +57,7 @@ set_gives_normal (spec ∷ others) laws a (inr v) in_range h =
       own_type others laws.1 a v,
     )
 
--- two attributes decode to the same value exactly where they are idle
+-- two attributes decode to the same value if and only if they are equivalent
 pub set_same_value : (F : AttributeSet) → AttributeSetLaws F
     → (a b : Attribute) (v w : AttributeValue F)
     → IsAttributeInRange a → IsAttributeInRange b → decodes F a ≡ Ok v → decodes F b ≡ Ok w
@@ -74,7 +75,7 @@ set_same_value (spec ∷ others) laws a b (inr v) (inr w) s t h k =
 set_same_value (spec ∷ others) laws a b v w s t h k =
     grind (arith, nat_tests)
 
--- a value in range is written as an attribute in range
+-- a decoded value in range serializes as an attribute in range
 pub writes_in_range : (F : AttributeSet) → AttributeSetLaws F → (v : AttributeValue F)
     → IsInRangeBy F v
     → IsAttributeInRange (encodes F v)
@@ -83,7 +84,7 @@ writes_in_range (spec ∷ others) laws (inl x) t =
     grind (arith, and_mask spec.number 14)
 writes_in_range (spec ∷ others) laws (inr v) t = writes_in_range others laws.1 v t
 
--- one in normal form is decoded from its own attribute
+-- a decoded value in range and in normal form is decoded from the attribute that it serializes as
 pub reads_back : (F : AttributeSet) → AttributeSetLaws F → (v : AttributeValue F)
     → IsInRangeBy F v → IsNormalBy F v
     → decodes F (encodes F v) ≡ Ok v

@@ -1,5 +1,4 @@
--- An attribute of a set, read at the start of a string, keeps the laws. Proved once, for every set
--- of attributes.
+-- The codec of the first attribute keeps the codec laws, for every set of attribute types.
 use Rattle.std.proofs.Common.{arith}
 use Rattle.std.proofs.Common.{Ok, ◌≡◌, inl, inr, [], length, replicate}
 use Rattle.std.proofs.Common.{refl, sym, ap}
@@ -17,18 +16,17 @@ use Rattle.netlink_core.specs.laws.AttributeSet.{set_faults_named, set_gives_nor
 use Rattle.netlink_core.specs.laws.AttributeSet.{writes_in_range, reads_back}
 
 module _ (F : AttributeSet) (a : Attribute) (fits : FitsWords a) where
-  -- what a written attribute decodes to is read of its bytes
+  -- what an attribute decodes to is parsed from the bytes that the attribute serializes to
   pub value_is_read : (v : AttributeValue F) → decodes F a ≡ Ok v
       → (first_attribute_codec F).reads (written a) tt v
   value_is_read v s = (a, (replicate (fill (length a.value)) 0, refl, fits), s)
 
--- it is kept as what is read of its bytes
+-- a raw copy of an attribute is what is parsed from the bytes that the attribute serializes to
 pub kept_is_read : (a v : Attribute) → FitsWords a → v ≡ a
     → (first_attribute_codec []).reads (written a) tt v
 kept_is_read a v fits e = value_is_read [] a fits v (ap Ok (sym e))
 
 module _ (F : AttributeSet) (laws : AttributeSetLaws F) where
-  -- the laws together
   pub first_attribute_keeps_laws : KeepsLaws (first_attribute_codec F)
   first_attribute_keeps_laws = record {
     answered = λ b p in_range. elim (prefix_or_fault b in_range) [

@@ -1,4 +1,4 @@
--- The attribute at the start of a string, or the fault there.
+-- The attribute at the start of bytes, or the error of bytes that do not begin with one.
 use Rattle.std.proofs.Common.{Result, Ok, Err, ◌≡◌, ◌∙◌, ◌⊎◌, inl, inr, ℕ, ◌+◌}
 use Rattle.std.proofs.Common.{◌-◌, ◌*◌, ◌/◌, ◌%◌, ◌^◌, ◌≤◌, List, [], ◌∷◌, ◌++◌}
 use Rattle.std.proofs.Common.{suc, length, take, drop, refl, sym, ap, arith, ◌<◌}
@@ -14,17 +14,18 @@ use Rattle.netlink_core.specs.Attribute.{written, HasPrefix, IsFramingFault, IsP
 use Rattle.netlink_core.specs.laws.Byte.{IsBytes-append, IsBytes-left, IsBytes-number}
 use Rattle.netlink_core.specs.laws.Byte.{IsBytes-zeros}
 
--- a type word of 16 bits, and a value whose length word is one of 16 bits
+-- the type field and the length field have 16 bits
 abbrev pub FitsWords : Attribute → Type 0
 FitsWords a = (a.type_word < 2 ^ 16) × (length a.value ≤ 65531)
 
--- a type word of 16 bits, and a value of bytes
+-- the type field has 16 bits, and the value is bytes
 abbrev pub IsAttributeInRange : Attribute → Type 0
 IsAttributeInRange a = (a.type_word < 2 ^ 16) × IsBytes a.value
 
--- ---- the attribute at the start
+-- ---- the first attribute
 
--- what stands between the header and the length word's end is the value
+-- bytes with a valid length field begin with an attribute whose value is between its header and the
+-- end that the length field gives
 pub has_prefix : (bytes : List ℕ) (word type_word : ℕ) → IsBytes bytes
     → word ≡ little_number 2 bytes
     → type_word ≡ little_number 2 (take (length bytes - 2) (drop 2 bytes))
@@ -44,7 +45,8 @@ has_prefix (a ∷ b ∷ c ∷ d ∷ tail) word type_word fits word-is type-given
     )
 has_prefix bytes word type_word fits word-is type-is low high = absurd (omega arith)
 
--- two lists with fronts of one length are equal in both parts
+-- if two concatenations are equal and their first parts have the same length, then both parts are
+-- equal
 pub same_parts : (xs ys s t : List ℕ) → length xs ≡ length ys → xs ++ s ≡ ys ++ t → (xs ≡ ys)
     × (s ≡ t)
 same_parts [] [] s t len e = (refl, e)
@@ -52,7 +54,7 @@ same_parts (x ∷ xs) (y ∷ ys) s t len e =
     grind (arith, same_parts xs ys s t)
 same_parts xs ys s t len e = absurd (omega arith)
 
--- the attribute is fixed by the bytes, and so is what follows
+-- the first attribute is determined by the bytes, and so are the bytes after it
 pub one_prefix : (a b : Attribute) (s t : List ℕ) → FitsWords a → FitsWords b
     → unpadded a ++ s ≡ unpadded b ++ t → (a ≡ b) × (s ≡ t)
 one_prefix a b s t a-fits b-fits e =
@@ -66,35 +68,36 @@ prefix_in_range b a in_range h = (
   IsBytes-left a.value h.0 (λ i. (rw h.1 at in_range) (suc (suc (suc (suc i))))),
 )
 
--- one attribute stands at the start
+-- bytes begin with at most one attribute
 pub one_attribute : (b : List ℕ) (x y : Attribute) → HasPrefix b x → HasPrefix b y → x ≡ y
 one_attribute b x y h k = (one_prefix x y h.0 k.0 h.2 k.2 (sym h.1 ∙ k.1)).0
 
--- a written attribute is bytes
+-- an attribute in range serializes to bytes
 pub written_in_range : (a : Attribute) → IsAttributeInRange a → IsBytes (written a)
 written_in_range a in_range = search (IsBytes-append, IsBytes-number, IsBytes-zeros) depth 7
 
--- ---- an attribute or a fault
+-- ---- an attribute or an error
 
--- the length word of an attribute at the start
+-- the length field of bytes that begin with an attribute counts its header and its value, and is at
+-- most the number of bytes
 pub word_is : (bytes : List ℕ) (a : Attribute) → HasPrefix bytes a
     → (little_number 2 bytes ≡ 4 + length a.value) × (4 + length a.value ≤ length bytes)
 word_is bytes a head =
     grind (arith, length-append)
 
--- not both an attribute and a fault
+-- bytes that begin with an attribute have no framing error
 pub prefix_or_fault_apart : (bytes : List ℕ) (a : Attribute) (e : DecodeError) → HasPrefix bytes a
     → IsFramingFault bytes e → ⊥
 prefix_or_fault_apart bytes a e head f =
     grind (arith, word_is bytes a head)
 
--- too few bytes for a header, a length word that counts less than it, one that counts more than
--- there is, or none of these
+-- too few bytes for a header; or a length field below the header's length; or a length field above
+-- the number of bytes; or none of these
 pub framed_or_not : (least len word : ℕ) → (len < least) ⊎ (((least ≤ len) × (word < least))
     ⊎ (((least ≤ len) × (least ≤ word) × (len < word)) ⊎ ((least ≤ word) × (word ≤ len))))
 framed_or_not least len word = grind arith
 
--- an attribute or a fault stands there
+-- bytes begin with an attribute or have a framing error
 pub prefix_or_fault : (bytes : List ℕ) → IsBytes bytes → ((a : Attribute) × HasPrefix bytes a)
     ⊎ ((e : DecodeError) × IsFramingFault bytes e)
 prefix_or_fault bytes fits = elim (framed_or_not 4 (length bytes) (little_number 2 bytes)) [
@@ -107,13 +110,13 @@ prefix_or_fault bytes fits = elim (framed_or_not 4 (length bytes) (little_number
   | inr (inr (inr there)) ↦ inl (_, has_prefix bytes _ _ fits refl refl there.0 there.1)
 ]
 
--- an answer is a value or a fault
+-- a result is a value or an error
 pub value_or_reason : {A : Type 0} (read : Result A DecodeError) → ((value : A) × (read ≡ Ok value))
     ⊎ ((e : DecodeError) × (read ≡ Err e))
 value_or_reason (Ok value) = inl (value, refl)
 value_or_reason (Err e) = inr (e, refl)
 
--- one fault at most, of the framing and of all
+-- bytes have at most one framing error, and at most one error of their first attribute
 pub one_framing_fault : (bytes : List ℕ) (e f : DecodeError) → IsFramingFault bytes e
     → IsFramingFault bytes f → e ≡ f
 one_framing_fault bytes e f h k = grind arith

@@ -1,4 +1,4 @@
--- What is shown of a layout, from which its laws follow.
+-- What has to be proved of a layout, so that its laws follow.
 use Rattle.std.specs.Prelude.{◌≡◌, ◌≤◌, ℕ, ◌+◌, Bool, true, ◌&&◌, ◌==◌, nat_lt, List, [], ◌∷◌}
 use Rattle.std.specs.Prelude.{length, Ok}
 use Rattle.std.specs.Prelude.{Err, IsTrue}
@@ -8,7 +8,7 @@ use Rattle.netlink_core.specs.Table.{Field, byte, number, network, flags, unread
 use Rattle.netlink_core.specs.Layout.{Layout, table, values, bytes, IsInRange, IsNormal}
 use Rattle.netlink_core.specs.declared.fault.DecodeError.TheVariants.{Memory}
 
--- where a field begins, and how many bytes it has
+-- the offset of a field, and its number of bytes
 abbrev pub offset_of : Field → ℕ
 offset_of (byte offset) = offset
 offset_of (number offset width) = offset
@@ -23,25 +23,25 @@ width_of (network offset width) = width
 width_of (flags offset width mask) = width
 width_of (unread offset written) = length written
 
--- what is written of itself is bytes
+-- what the serializer writes to an ignored field is bytes
 abbrev pub is_written : Field → Bool
 is_written (unread offset written) = list_all (λ one. nat_lt one 256) written
 is_written _ = true
 
--- the fields stand one after the other from this offset on and end at that one, and what is written
--- is bytes
+-- the fields are consecutive from the offset `from` to the offset `end`, and what the serializer
+-- writes to ignored fields is bytes
 abbrev pub is_table : ℕ → List Field → ℕ → Bool
 is_table from [] end = from == end
 is_table from (field ∷ fields) end =
     ((offset_of field == from) && is_written field) && is_table (from + width_of field) fields end
 
 module _ {Param Tag Value : Type 0} (layout : Layout Param Tag Value) where
-  -- What is shown of a layout so that it keeps the laws.
+  -- The conditions on a layout from which its laws follow.
   pub record IsSound : Type 0 where
-    -- how many bytes each table has
+    -- the number of bytes for a tag
     pub size : Tag → ℕ
-    -- Each table of a string's tag is one of its size, which the string has. So is the table of
-    -- each value, whose size is not under the least.
+    -- The fields for the tag of bytes or of a value are consecutive, and have this number of bytes.
+    -- Accepted bytes have at least this number, which for a value is at least `least`.
     pub tables : (param : Param) (tag : Tag) (left : List ℕ)
         → layout.tag_at param left ≡ Ok tag
         → IsTrue (is_table 0 (table layout tag) (size tag))
@@ -51,12 +51,12 @@ module _ {Param Tag Value : Type 0} (layout : Layout Param Tag Value) where
         → IsTrue (is_table 0 (table layout (layout.tag_of value))
         (size (layout.tag_of value)))
     pub enough : (value : Value) → layout.least ≤ size (layout.tag_of value)
-    -- each value has as many bytes, and no fault of a string's tag is want of memory
+    -- a value serializes to this number of bytes, and bytes are never rejected with `Memory`
     pub long : (value : Value) → length (bytes layout value)
         ≡ size (layout.tag_of value)
     pub named : (param : Param) (left : List ℕ) → layout.tag_at param left ≡ Err Memory → ⊥
-    -- a value that was read has the values and the tag that were read, and is shaped and as normal
-    -- form asks
+    -- a parsed value has the numbers and the tag of the bytes, its arrays have their length, and it
+    -- meets the layout's other conditions
     pub kept : (param : Param) (tag : Tag) (left : List ℕ) → IsBytes left
         → layout.tag_at param left ≡ Ok tag
         → values layout (layout.value tag (values_of (table layout tag) left))
@@ -69,7 +69,8 @@ module _ {Param Tag Value : Type 0} (layout : Layout Param Tag Value) where
     pub owned : (param : Param) (tag : Tag) (left : List ℕ) → IsBytes left
         → layout.tag_at param left ≡ Ok tag
         → layout.is_own param (layout.value tag (values_of (table layout tag) left))
-    -- a value in range in normal form is that of its values, and its bytes have its tag
+    -- a value in range and in normal form is determined by its tag and its numbers, and its bytes
+    -- have its tag
     pub back : (param : Param) (value : Value) → IsInRange layout value
         → IsNormal layout param value
         → layout.value (layout.tag_of value) (values layout value) ≡ value
@@ -77,6 +78,6 @@ module _ {Param Tag Value : Type 0} (layout : Layout Param Tag Value) where
         → IsNormal layout param value
         → layout.tag_at param (bytes layout value) ≡ Ok (layout.tag_of value)
 
-  -- each value has as many bytes, and a string that is read has them
+  -- each value has `size` bytes, and is parsed from at least `size` bytes
   abbrev pub IsFixed : ℕ → Type 0
   IsFixed size = (layout.least ≡ size) × ((value : Value) → length (bytes layout value) ≡ size)

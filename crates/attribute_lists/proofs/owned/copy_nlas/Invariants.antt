@@ -3,7 +3,8 @@ use Rattle.std.specs.List.{AllByRecursion}
 use Rattle.netlink_core.specs.AttributeSet.{IsSpareBy}
 use Rattle.attribute_lists.proofs.owned.copy_nlas.Given as goal
 
--- the copy has what was passed, and room for all; where all are spare, those that are left are
+-- the copy equals the attributes so far, and has capacity for all; if no attribute needs memory, no
+-- remaining one does
 abbrev pub invariant-loop-nla : goal.invariant-loop-nla
 invariant-loop-nla g l =
     let spare = AllByRecursion (IsSpareBy g.T.FamilyNla.attribute_set) in

@@ -3,7 +3,7 @@ use Rattle.std.specs.List.{AllByRecursion}
 use Rattle.netlink_core.specs.AttributeSet.{IsInRangeBy}
 use Rattle.attribute_lists.proofs.owned.nlas_in_range.Given as goal
 
--- where those that are left are in range, all are
+-- if the remaining attributes are in range, all are
 abbrev pub invariant-loop-nla : goal.invariant-loop-nla
 invariant-loop-nla g l =
     let in_range = IsInRangeBy g.T.FamilyNla.attribute_set in

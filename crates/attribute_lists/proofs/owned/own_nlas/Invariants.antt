@@ -5,7 +5,7 @@ use Rattle.netlink_core.specs.AttributeSet.{decodes, IsSpareBy}
 use Rattle.attribute_lists.specs.AttributesIn.{HasNoFault, values_in}
 use Rattle.attribute_lists.proofs.owned.own_nlas.Given as goal
 
--- what was kept and what is left are all, and there is room for all
+-- the list so far and the remaining values are all values, and the list has capacity for all
 abbrev pub invariant-loop-item : goal.invariant-loop-item
 invariant-loop-item g l =
     let reads = decodes g.T.FamilyNla.attribute_set in

@@ -6,8 +6,8 @@ use Rattle.netlink_core.specs.AttributeSet.{AttributeValue, decodes}
 use Rattle.attribute_lists.specs.AttributesIn.{values_in}
 use Rattle.attribute_lists.proofs.views.check_nlas.Given as goal
 
--- where what is left means something or has a fault, so do all the bytes; and what was read was
--- counted, at four bytes or more for each
+-- if the remaining bytes have values or an error, so do all bytes; and `count` attributes were
+-- read, of at least four bytes each
 abbrev pub invariant-loop-item : goal.invariant-loop-item
 invariant-loop-item g l =
     let F = g.V.FamilyView.attribute_set in

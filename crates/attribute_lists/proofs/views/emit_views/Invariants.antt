@@ -7,8 +7,8 @@ use Rattle.attribute_lists.specs.AttributesIn.{HasNoFault, values_in}
 use Rattle.attribute_lists.proofs.Emitting.{attributes_in}
 use Rattle.attribute_lists.proofs.views.emit_views.Given as goal
 
--- what was written and what is left make the whole, and behind what was written the buffer is as it
--- was
+-- the written bytes and the bytes of the remaining attributes are the whole, and the buffer after
+-- the written bytes is unchanged
 abbrev pub invariant-loop-view : goal.invariant-loop-view
 invariant-loop-view g l =
     let left = attributes_in g.V.FamilyView.attribute_set (bytes_left l.walk) in

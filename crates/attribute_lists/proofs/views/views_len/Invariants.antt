@@ -8,7 +8,8 @@ use Rattle.attribute_lists.specs.AttributesIn.{HasNoFault, values_in}
 use Rattle.attribute_lists.proofs.Emitting.{attributes_in}
 use Rattle.attribute_lists.proofs.views.views_len.Given as goal
 
--- what was counted and what is left make the whole, and all values fit where those do that are left
+-- the length so far and the length of the remaining attributes are the whole length, and all values
+-- fit if and only if the remaining ones do
 abbrev pub invariant-loop-view : goal.invariant-loop-view
 invariant-loop-view g l =
     let left = attributes_in g.V.FamilyView.attribute_set (bytes_left l.walk) in

@@ -2,7 +2,7 @@ use Rattle.std.proofs.Common.{◌≡◌, List, ℕ, ◌++◌, length}
 use Rattle.std.specs.Io.KnownBytes.{Appends}
 use Rattle.line_server.proofs.stream.send.Given as goal
 
--- what was written so far, before the rest
+-- `front` has been written, and `rest` follows it
 abbrev pub invariant-writes : goal.invariant-writes
 invariant-writes g l = (front : List ℕ) × (l.fn.bytes ≡ front ++ l.rest)
     × Appends (g.W.AnswerWrite.held l.fn.output) (g.W.AnswerWrite.held l.output) front

@@ -4,7 +4,7 @@ use Rattle.line_server.specs.private.Run.{IsLine, all_good}
 use Rattle.line_server.proofs.RunLemmas.{Exchange}
 use Rattle.line_server.proofs.stream.serve.Given as goal
 
--- before each read
+-- before each read, all complete lines have been answered, and no answer is buffered
 abbrev pub invariant-reads : goal.invariant-reads
 invariant-reads g l = record {
   whole : List (List ℕ);

@@ -5,7 +5,7 @@ use Rattle.line_server.specs.Run.{answer_lines}
 use Rattle.line_server.specs.private.Run.{IsLine, all_good}
 use Rattle.line_server.proofs.stream.take_piece.Given as goal
 
--- the lines that were taken so far, before the rest
+-- the lines `whole` have been answered, and `rest` remains
 abbrev pub invariant-lines : goal.invariant-lines
 invariant-lines g l = record {
   whole : List (List ℕ);

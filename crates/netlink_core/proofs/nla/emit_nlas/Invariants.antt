@@ -4,8 +4,8 @@ use Rattle.std.specs.List.{flat_map}
 use Rattle.netlink_core.specs.Attribute.{AreWritable, written}
 use Rattle.netlink_core.proofs.nla.emit_nlas.Given as goal
 
--- what was written and what is left make the whole, and behind what was written the buffer is as it
--- was
+-- the written bytes and the bytes of the remaining attributes are the whole, and the buffer after
+-- the written bytes is unchanged
 abbrev pub invariant-loop-nla : goal.invariant-loop-nla
 invariant-loop-nla g l = record {
   fits : AreWritable (map g.T.Nla.attribute (drop l.nla-index l.nlas)) 4294967295;

@@ -4,7 +4,7 @@ use Rattle.std.specs.List.{flat_map}
 use Rattle.netlink_core.specs.Attribute.{AreWritable, written}
 use Rattle.netlink_core.proofs.nla.nlas_len.Given as goal
 
--- what was counted and what is left make the whole
+-- the length so far and the length of the remaining attributes are the whole length
 abbrev pub invariant-loop-nla : goal.invariant-loop-nla
 invariant-loop-nla g l = record {
   fits : AreWritable (map g.T.Nla.attribute (drop l.nla-index l.nlas)) 4294967295;

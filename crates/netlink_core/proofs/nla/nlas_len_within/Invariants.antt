@@ -4,7 +4,8 @@ use Rattle.std.specs.List.{flat_map}
 use Rattle.netlink_core.specs.Attribute.{AreWritable, written}
 use Rattle.netlink_core.proofs.nla.nlas_len_within.Given as goal
 
--- what is left is to fit the room that is left, and fills it as far as all fills the limit
+-- all attributes are writable within `limit` if and only if the remaining ones are within `room`,
+-- and the lengths before them add up to `limit - room`
 abbrev pub invariant-loop-nla : goal.invariant-loop-nla
 invariant-loop-nla g l = record {
   room : l.room ≤ l.limit;
