@@ -41,7 +41,7 @@ pub by_versions : (P : IpVersions → Type 0) → P (ipv4, ipv4) → P (ipv4, ip
     → P (ipv6, ipv6) → (versions : IpVersions) → P versions
 by_versions P a b c d versions = grind arith
 
--- An address is the inverse of its values. The values after it remain.
+-- the inverse of an address's values is the address, and the values after them remain
 address_back : (address : IpAddr) (rest : List ℕ) → IsAddress address
     → address_of (address_data address).0 (address_values address ++ rest) ≡ address
 address_back address rest h =
@@ -51,7 +51,7 @@ behind_address : (address : IpAddr) (rest : List ℕ)
     → drop (count_of (address_data address).0) (address_values address ++ rest) ≡ rest
 behind_address address rest = grind arith
 
--- a socket id is the inverse of its values, whatever follows them
+-- the inverse of a socket id's values, whatever follows them, is the socket id
 pub socket_id_back : (value : SocketId) (rest : List ℕ) → IsShaped value
     → socket_id_of (versions_of value) (socket_id_values value ++ rest) ≡ value
 socket_id_back value rest shaped =
@@ -100,7 +100,7 @@ socket_id_size = (refl, socket_id_long)
 
 -- ---- a socket id in another record
 
--- the values of a socket id at the offset `by`
+-- the values of a socket id that is stored at the offset `by`
 pub values-inside : (by : ℕ) (left : List ℕ) (versions : IpVersions)
     → values_of (socket_id_fields 0 versions) (drop by left)
     ≡ values_of (socket_id_fields by versions) left
@@ -108,7 +108,7 @@ values-inside by left = by_versions _ (simp (get_or-drop, drop-drop, add_assoc))
     (simp (get_or-drop, drop-drop, add_assoc)) (simp (get_or-drop, drop-drop, add_assoc))
     (simp (get_or-drop, drop-drop, add_assoc))
 
--- the same, if the socket id is the last field of the table
+-- the values of a socket id that is stored at the offset `by`, as the last field of a table
 pub values-at_end : (by : ℕ) (left : List ℕ) (versions : IpVersions)
     → values_of (socket_id_fields 0 versions) (drop by left)
     ≡ values_of (socket_id_fields by versions ++ []) left
