@@ -20,8 +20,8 @@ packet_info = fields 17 0 24 (λ bytes. record {
 })
 
 -- `struct packet_diag_ring` (linux/packet_diag.h), the value of `PACKET_DIAG_RX_RING` (2) or
--- `PACKET_DIAG_TX_RING` (3), as `kind` says: `pdr_block_size`, `pdr_block_nr`, `pdr_frame_size`,
--- `pdr_frame_nr`, `pdr_retire_tmo`, `pdr_sizeof_priv`, `pdr_features`
+-- `PACKET_DIAG_TX_RING` (3): `pdr_block_size`, `pdr_block_nr`, `pdr_frame_size`, `pdr_frame_nr`,
+-- `pdr_retire_tmo`, `pdr_sizeof_priv`, `pdr_features`. Only the error depends on the kind.
 abbrev pub packet_ring : (kind : ℕ) → List ℕ → Result PacketRing DecodeError
 packet_ring kind = fields 17 kind 28 (λ bytes. record {
   block_size = u32_at 0 bytes;

@@ -41,7 +41,7 @@ mem_info = record {
   is_own = λ param value. IfSome value.drops (λ drops. IsSome value.backlog_queue_length);
 }
 
--- the 28, 32 or 36 bytes
+-- the 28, 32 or 36 bytes of seven, eight or nine `u32`
 abbrev pub held_bytes : MemInfoBytes → List ℕ
 held_bytes (Seven bytes) = bytes
 held_bytes (Eight bytes) = bytes

@@ -26,7 +26,7 @@ pub struct MemInfo {
     pub receive_queue: u32,
     /// Receive buffer limit in bytes (`SK_MEMINFO_RCVBUF`), at offset 4.
     pub receive_queue_max: u32,
-    /// Memory of packets that were committed to the network layer and the device queue, in bytes
+    /// Memory of packets that were committed to the device queue, in bytes
     /// (`SK_MEMINFO_WMEM_ALLOC`), at offset 8.
     pub bottom_send_queues: u32,
     /// Send buffer limit in bytes (`SK_MEMINFO_SNDBUF`), at offset 12.
@@ -35,7 +35,7 @@ pub struct MemInfo {
     /// at offset 16.
     pub cache: u32,
     /// Memory that the send queue uses, in bytes (`SK_MEMINFO_WMEM_QUEUED`), at offset 20. It does
-    /// not include packets that were committed to the network layer.
+    /// not include packets that were committed to the device queue.
     pub send_queue: u32,
     /// Memory of the socket's options in bytes (`SK_MEMINFO_OPTMEM`), at offset 24.
     pub options: u32,
@@ -172,9 +172,8 @@ impl MemInfo {
         let _options = self.options;
     }
 
-    /// Parses the first 36 bytes; if there are fewer, the first 32; if there are fewer than 32, the
-    /// first 28. It ignores the bytes after them. Fewer than 28 bytes are
-    /// [`DecodeError::BufferTooSmall`].
+    /// Parses the longest prefix of 36, 32 or 28 bytes, and ignores the bytes after it. Fewer than
+    /// 28 bytes are [`DecodeError::BufferTooSmall`].
     pub fn parse(payload: &[u8]) -> Result<Self, DecodeError>
         ensures { result ≡ read mem_info tt payload.now }
     {
@@ -183,8 +182,7 @@ impl MemInfo {
 }
 
 impl MemInfoBuffer {
-    /// Copies the first 36 bytes; if there are fewer, the first 32; if there are fewer than 32, the
-    /// first 28. Returns `None` if there are fewer than 28.
+    /// Copies the longest prefix of 36, 32 or 28 bytes. Returns `None` if there are fewer than 28.
     pub fn read_prefix(payload: &[u8]) -> Option<Self>
         ensures enough { IsSome result ↔ 28 ≤ length payload.now }
         ensures bytes { IfSome result
@@ -244,7 +242,7 @@ fn word_at(payload: &[u8], offset: usize) -> Option<u32>
     Some(LittleEndian::read_u32(payload.get(offset..offset + 4)?))
 }
 
-// Serializes a value of which the serialized length is `N`.
+// Serializes a value whose serialized form has `N` bytes.
 fn row_of<const N: usize>(value: &MemInfo) -> [u8; N]
     requires { length (bytes mem_info value.now) ≡ N }
     ensures { result ≡ bytes mem_info value.now }
