@@ -9,13 +9,13 @@ mod netlink;
 mod records;
 mod sizes;
 
-/// `Debug` shows the value so.
+/// Asserts that `Debug` prints the value as this text.
 fn shows<T: Debug>(rt: &impl Abort, alloc: Global, value: &T, text: &str) {
     let shown = format!(in alloc; "{value:?}").expect(rt, "memory");
     assert!(rt; shown.as_str() == text, "{shown}");
 }
 
-/// The answers of the walk, one after the other, are shown like this.
+/// Asserts that `Debug` prints the list of all items of the iterator as this text.
 fn gives<I: Iterator + Drop>(rt: &impl Abort, alloc: Global, walk: I, text: &str)
 where
     I::Item: Debug + Drop,

@@ -1,4 +1,4 @@
--- What the getters of attributes that are kept whole answer.
+-- What getters of raw attributes return, and how the value of an attribute is parsed as a record.
 use Rattle.std.specs.Prelude.{ℕ, ◌==◌, nat_lt, if◌then◌else◌, List, [], ◌∷◌, drop, length, Option}
 use Rattle.std.specs.Prelude.{Some, None, Result, Ok, Err}
 use Rattle.byteorder.specs.Endian.{little_number}
@@ -8,19 +8,20 @@ use Rattle.netlink_core.specs.declared.fault.DecodeError.{DecodeError}
 use Rattle.netlink_core.specs.declared.fault.DecodeError.TheVariants.{BufferTooSmall}
 use Rattle.netlink_core.specs.declared.fault.RecordName.TheVariants as name
 
--- the value of the first attribute of that type, whatever its flag bits
+-- the value of the first attribute of this kind, whatever its two flag bits, or `None`
 abbrev pub first_value : ℕ → List Attribute → Option (List ℕ)
 first_value kind [] = None
 first_value kind (a ∷ later) = if attribute_type a == kind then Some a.value else first_value kind
     later
 
--- what is read of the value, where there is one
+-- parses the value, if there is one; `Ok None` if there is none
 abbrev pub within : {A : Type 0} → (List ℕ → Result A DecodeError) → Option (List ℕ)
     → Result (Option A) DecodeError
 within reads None = Ok None
 within reads (Some value) = map_ok Some (reads value)
 
--- the value of an attribute of the family and the kind, if it has at least `least` bytes
+-- the value of an attribute of this family and kind, if it has at least `least` bytes, else the
+-- error `BufferTooSmall`
 abbrev pub enough : (family kind least : ℕ) → List ℕ → Result (List ℕ) DecodeError
 enough family kind least value =
     if nat_lt (length value) least
@@ -33,7 +34,8 @@ u32_at offset bytes = little_number 4 (drop offset bytes)
 abbrev pub u64_at : (offset : ℕ) → List ℕ → ℕ
 u64_at offset bytes = little_number 8 (drop offset bytes)
 
--- parses such a value, or returns the error of one that is too short
+-- parses the value of an attribute of this family and kind by `of`, if it has at least `least`
+-- bytes, else returns the error `BufferTooSmall`
 abbrev pub fields : {A : Type 0} → (family kind least : ℕ) → (List ℕ → A) → List ℕ
     → Result A DecodeError
 fields family kind least of value = map_ok of (enough family kind least value)

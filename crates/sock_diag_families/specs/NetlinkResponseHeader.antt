@@ -5,7 +5,7 @@ use Rattle.netlink_core.specs.Rows.{skip, u8, u32, u64}
 use Rattle.netlink_core.specs.declared.fault.RecordName.TheVariants as name
 use Rattle.sock_diag_families.specs.declared.netlink.response.NetlinkResponseHeader.{NetlinkResponseHeader}
 
--- the header with the numbers of its fields
+-- the header with these numbers in the fields that are not ignored
 abbrev pub netlink_header_of : List ℕ → NetlinkResponseHeader
 netlink_header_of values = record {
   kind = slice_index values 0;
@@ -18,7 +18,10 @@ netlink_header_of values = record {
   cookie = slice_index values 7;
 }
 
--- `struct netlink_diag_msg` (linux/netlink_diag.h): the family is ignored
+-- `struct netlink_diag_msg` (linux/netlink_diag.h): `ndiag_family`, which is ignored and serialized
+-- as AF_NETLINK (16), `ndiag_type`, `ndiag_protocol`, `ndiag_state`, `ndiag_portid`,
+-- `ndiag_dst_portid`, `ndiag_dst_group`, `ndiag_ino`, `ndiag_cookie`. Arguments of `plain`: the
+-- name in errors, the length in bytes, the rows, their inverse, and the condition on arrays (none).
 abbrev pub netlink_header : Layout (Unit {0}) (Unit {0}) NetlinkResponseHeader
 netlink_header = plain (name.FamilyResponseHeader 16) 28 (
     skip 0 (16 ∷ []) ∷

@@ -5,7 +5,7 @@ use Rattle.netlink_core.specs.Rows.{skip, u8, u16, u32, u64}
 use Rattle.netlink_core.specs.declared.fault.RecordName.TheVariants as name
 use Rattle.sock_diag_families.specs.declared.packet.response.PacketResponseHeader.{PacketResponseHeader}
 
--- the header with the numbers of its fields
+-- the header with these numbers in the fields that are not ignored
 abbrev pub packet_header_of : List ℕ → PacketResponseHeader
 packet_header_of values = record {
   kind = slice_index values 0;
@@ -14,7 +14,10 @@ packet_header_of values = record {
   cookie = slice_index values 3;
 }
 
--- `struct packet_diag_msg` (linux/packet_diag.h): the family is ignored
+-- `struct packet_diag_msg` (linux/packet_diag.h): `pdiag_family`, which is ignored and serialized
+-- as AF_PACKET (17), `pdiag_type`, `pdiag_num`, `pdiag_ino`, `pdiag_cookie`. Arguments of `plain`:
+-- the name in errors, the length in bytes, the rows, their inverse, and the condition on arrays
+-- (none).
 abbrev pub packet_header : Layout (Unit {0}) (Unit {0}) PacketResponseHeader
 packet_header = plain (name.FamilyResponseHeader 17) 16 (
     skip 0 (17 ∷ []) ∷

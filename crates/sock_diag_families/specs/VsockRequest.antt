@@ -5,12 +5,14 @@ use Rattle.netlink_core.specs.Rows.{skip, u32, u64}
 use Rattle.netlink_core.specs.declared.fault.RecordName.TheVariants as name
 use Rattle.sock_diag_families.specs.declared.vsock.request.VsockRequest.{VsockRequest}
 
--- the request with the numbers of its fields
+-- the request with these numbers in the fields that are not ignored
 abbrev pub vsock_request_of : List ℕ → VsockRequest
 vsock_request_of values = record { states = slice_index values 0; cookie = slice_index values 1 }
 
--- `struct vsock_diag_req` (linux/vm_sockets_diag.h): family, protocol, padding, `vdiag_ino` and
--- `vdiag_show` are ignored
+-- `struct vsock_diag_req` (linux/vm_sockets_diag.h): `sdiag_family`, `sdiag_protocol` and `pad` are
+-- ignored, and serialized as AF_VSOCK (40) and 0; `vdiag_states`; `vdiag_ino` and `vdiag_show` are
+-- ignored, and serialized as 0; `vdiag_cookie`. Arguments of `plain`: the name in errors, the
+-- length in bytes, the rows, their inverse, and the condition on arrays (none).
 abbrev pub vsock_request : Layout (Unit {0}) (Unit {0}) VsockRequest
 vsock_request = plain (name.FamilyRequest 40) 24 (
     skip 0 (40 ∷ 0 ∷ 0 ∷ 0 ∷ []) ∷

@@ -5,7 +5,7 @@ use Rattle.netlink_core.specs.Rows.{skip, u8, u32, u64}
 use Rattle.netlink_core.specs.declared.fault.RecordName.TheVariants as name
 use Rattle.sock_diag_families.specs.declared.vsock.response.VsockResponseHeader.{VsockResponseHeader}
 
--- the header with the numbers of its fields
+-- the header with these numbers in the fields that are not ignored
 abbrev pub vsock_header_of : List ℕ → VsockResponseHeader
 vsock_header_of values = record {
   kind = slice_index values 0;
@@ -19,7 +19,11 @@ vsock_header_of values = record {
   cookie = slice_index values 8;
 }
 
--- `struct vsock_diag_msg` (linux/vm_sockets_diag.h): the family is ignored
+-- `struct vsock_diag_msg` (linux/vm_sockets_diag.h): `vdiag_family`, which is ignored and
+-- serialized as AF_VSOCK (40), `vdiag_type`, `vdiag_state`, `vdiag_shutdown`, `vdiag_src_cid`,
+-- `vdiag_src_port`, `vdiag_dst_cid`, `vdiag_dst_port`, `vdiag_ino`, `vdiag_cookie`. Arguments of
+-- `plain`: the name in errors, the length in bytes, the rows, their inverse, and the condition on
+-- arrays (none).
 abbrev pub vsock_header : Layout (Unit {0}) (Unit {0}) VsockResponseHeader
 vsock_header = plain (name.FamilyResponseHeader 40) 32 (
     skip 0 (40 ∷ []) ∷

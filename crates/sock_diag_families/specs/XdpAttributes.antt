@@ -1,5 +1,6 @@
--- The values of attributes of a reply about an XDP socket. More bytes may follow each: newer
--- kernels append members.
+-- The values of attributes of a reply about an XDP socket. Arguments of `fields`: the family AF_XDP
+-- (44), the kind of the attribute, the length of the record in bytes, and its members. More bytes
+-- may follow each record: newer kernels append members.
 use Rattle.std.specs.Prelude.{ℕ, List, Result}
 use Rattle.netlink_core.specs.declared.fault.DecodeError.{DecodeError}
 use Rattle.sock_diag_families.specs.Found.{fields, u32_at, u64_at}
@@ -7,14 +8,16 @@ use Rattle.sock_diag_families.specs.declared.xdp.attributes.XdpInfo.{XdpInfo}
 use Rattle.sock_diag_families.specs.declared.xdp.attributes.XdpStatistics.{XdpStatistics}
 use Rattle.sock_diag_families.specs.declared.xdp.attributes.XdpUmem.{XdpUmem}
 
--- `struct xdp_diag_info` (linux/xdp_diag.h)
+-- `struct xdp_diag_info` (linux/xdp_diag.h), the value of `XDP_DIAG_INFO` (1): `ifindex`,
+-- `queue_id`
 abbrev pub xdp_info : List ℕ → Result XdpInfo DecodeError
 xdp_info = fields 44 1 8 (λ bytes. record {
   interface = u32_at 0 bytes;
   queue = u32_at 4 bytes;
 })
 
--- `struct xdp_diag_umem` (linux/xdp_diag.h)
+-- `struct xdp_diag_umem` (linux/xdp_diag.h): `size`, `id`, `num_pages`, `chunk_size`, `headroom`,
+-- `ifindex`, `queue_id`, `flags`, `refs`
 abbrev pub xdp_umem_in : List ℕ → XdpUmem
 xdp_umem_in bytes = record {
   size = u64_at 0 bytes;
@@ -28,11 +31,12 @@ xdp_umem_in bytes = record {
   references = u32_at 36 bytes;
 }
 
--- the value of `XDP_DIAG_UMEM`
+-- the value of `XDP_DIAG_UMEM` (5)
 abbrev pub xdp_umem : List ℕ → Result XdpUmem DecodeError
 xdp_umem = fields 44 5 40 xdp_umem_in
 
--- `struct xdp_diag_stats` (linux/xdp_diag.h)
+-- `struct xdp_diag_stats` (linux/xdp_diag.h): `n_rx_dropped`, `n_rx_invalid`, `n_rx_full`,
+-- `n_fill_ring_empty`, `n_tx_invalid`, `n_tx_ring_empty`
 abbrev pub xdp_statistics_in : List ℕ → XdpStatistics
 xdp_statistics_in bytes = record {
   received_dropped = u64_at 0 bytes;
@@ -43,6 +47,6 @@ xdp_statistics_in bytes = record {
   send_ring_empty = u64_at 40 bytes;
 }
 
--- the value of `XDP_DIAG_STATS`
+-- the value of `XDP_DIAG_STATS` (9)
 abbrev pub xdp_statistics : List ℕ → Result XdpStatistics DecodeError
 xdp_statistics = fields 44 9 48 xdp_statistics_in

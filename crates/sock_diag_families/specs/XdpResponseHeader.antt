@@ -5,7 +5,7 @@ use Rattle.netlink_core.specs.Rows.{skip, u8, u32, u64}
 use Rattle.netlink_core.specs.declared.fault.RecordName.TheVariants as name
 use Rattle.sock_diag_families.specs.declared.xdp.response.XdpResponseHeader.{XdpResponseHeader}
 
--- the header with the numbers of its fields
+-- the header with these numbers in the fields that are not ignored
 abbrev pub xdp_header_of : List ℕ → XdpResponseHeader
 xdp_header_of values = record {
   kind = slice_index values 0;
@@ -13,7 +13,9 @@ xdp_header_of values = record {
   cookie = slice_index values 2;
 }
 
--- `struct xdp_diag_msg` (linux/xdp_diag.h): family and padding are ignored
+-- `struct xdp_diag_msg` (linux/xdp_diag.h): `xdiag_family` and `pad` are ignored, and serialized as
+-- AF_XDP (44) and 0; `xdiag_type`, `xdiag_ino`, `xdiag_cookie`. Arguments of `plain`: the name in
+-- errors, the length in bytes, the rows, their inverse, and the condition on arrays (none).
 abbrev pub xdp_header : Layout (Unit {0}) (Unit {0}) XdpResponseHeader
 xdp_header = plain (name.FamilyResponseHeader 44) 16 (
     skip 0 (44 ∷ []) ∷

@@ -1,5 +1,6 @@
-//! Properties of constants and of attributes that are kept whole. Proof only: the contract of each
-//! function states the property.
+//! Laws of constants and of raw attributes.
+//!
+//! Proof only: the contract of each function states the property.
 
 ghost use Rattle.std.specs.Prelude.{◌≡◌, ◌↔◌, [], ◌∷◌, IfOk, IsOk, IsTrue};
 ghost use Rattle.netlink_core.specs.Walk.{attribute_of};
@@ -24,7 +25,8 @@ use crate::xdp::{
 };
 use std::alloc::AllocError;
 
-/// States that `==` holds if and only if two attributes have the same type word and the same value.
+/// States that `==` of two attributes returns true if and only if they have the same type field and
+/// the same value.
 #[tactic(auto, using(netlink_core::proofs::ValueTests::attribute_test_decides))]
 pub fn equal_whole_nlas(v: &WholeNla<'_>, w: &WholeNla<'_>) -> bool
     ensures { IsTrue result ↔ (attribute_of v.now.0 ≡ attribute_of w.now.0) }
@@ -32,7 +34,7 @@ pub fn equal_whole_nlas(v: &WholeNla<'_>, w: &WholeNla<'_>) -> bool
     v == w
 }
 
-/// States that a copy is the same attribute, and that `clone` never fails.
+/// States that `clone` returns the same attribute, and never fails.
 pub fn copied_whole_nla<'a>(nla: &WholeNla<'a>) -> Result<WholeNla<'a>, AllocError>
     ensures ok { IsOk result }
     ensures same { IfOk result (λ copy. attribute_of copy.0 ≡ attribute_of nla.now.0) }
@@ -40,7 +42,7 @@ pub fn copied_whole_nla<'a>(nla: &WholeNla<'a>) -> Result<WholeNla<'a>, AllocErr
     nla.clone()
 }
 
-/// States the number of each constant.
+/// States the value of each constant.
 pub fn family_constants_have_their_numbers()
     ensures families { AreEqual ((AF_VSOCK, 40) ∷ (AF_XDP, 44) ∷ []) }
     ensures netlink_requests { AreEqual ((NDIAG_PROTO_ALL, 255) ∷ (NDIAG_SHOW_MEMINFO, 1) ∷

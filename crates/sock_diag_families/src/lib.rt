@@ -1,5 +1,5 @@
-//! Sockets of the families beside the port's, vsock, netlink, packet and XDP: the requests, the
-//! headers of replies, and what the values of attributes tell.
+//! Records of four families of sockets that the port does not parse: vsock, netlink, packet and
+//! XDP. The crate has the requests, the headers of replies, and the values of attributes.
 #![tactic(auto)]
 
 pub mod laws;

@@ -1,4 +1,4 @@
-//! The request for sockets that three of the families share.
+//! The request for netlink, packet and XDP sockets.
 
 ghost use Rattle.std.proofs.Common.{rules};
 ghost use Rattle.netlink_core.proofs.LayoutLaws.{record_laws};
@@ -9,17 +9,20 @@ use byteorder::{ByteOrder, LittleEndian};
 use netlink_core::fields::{long_words_at, words_at};
 use netlink_core::{DecodeError, Exact, Record, RecordName};
 
-/// A request for the sockets of the family: 20 bytes, numbers low byte first. The byte at 0 is not
-/// read, and is written the family; those at 2 and 3 are not read, and are written 0.
+/// A request for the sockets of `FAMILY`: `struct netlink_diag_req`, `packet_diag_req` or
+/// `xdp_diag_req`, 20 bytes, little-endian. The bytes at offsets 0 (`sdiag_family`), 2 and 3
+/// (`pad`) are ignored, and serialized as the family and 0.
 #[derive(Clone, Copy, Debug, PartialEq, Eq)]
 pub struct ShowRequest<const FAMILY: u8> {
-    /// The protocol of the sockets, `sdiag_protocol`, at 1.
+    /// Protocol of the requested sockets (`sdiag_protocol`), at offset 1.
     pub protocol: u8,
-    /// The inode of a single socket, at 4. Linux lists sockets alone, and doesn't look at it.
+    /// Inode number of a single socket (`ndiag_ino`, `pdiag_ino`, `xdiag_ino`), at offset 4. Linux
+    /// only lists all sockets, and ignores it.
     pub inode: u32,
-    /// Which attributes the replies shall have, at 8.
+    /// Requested attributes (`ndiag_show`, `pdiag_show`, `xdiag_show`), at offset 8.
     pub show: u32,
-    /// What tells a single socket from others of its inode, at 12. Linux doesn't look at it.
+    /// Cookie of a single socket (`ndiag_cookie`, `pdiag_cookie`, `xdiag_cookie`), at offset 12.
+    /// Linux ignores it.
     pub cookie: u64,
 }
 
@@ -40,8 +43,8 @@ impl<const FAMILY: u8> Record for ShowRequest<FAMILY> {
         20
     }
 
-    /// Reads the first 20 bytes. What follows them is ignored, and fewer are
-    /// [`DecodeError::BufferTooSmall`].
+    /// Parses the first 20 bytes, and ignores the bytes after them. There have to be 20 bytes: the
+    /// caller checks this first, and reports [`DecodeError::BufferTooSmall`].
     fn from_fields(payload: &[u8], _param: ()) -> Result<Self, DecodeError> {
         let [inode, show] = words_at::<2>(payload, 4);
         let [cookie] = long_words_at::<1>(payload, 12);

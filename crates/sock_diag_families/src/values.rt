@@ -1,4 +1,4 @@
-//! Values of attributes, of which a later kernel may tell more.
+//! A check of the length of an attribute's value. A newer kernel may append fields to the value.
 
 ghost use Rattle.std.specs.Prelude.{◌≡◌};
 ghost use Rattle.netlink_core.specs.Faults.{map_ok};
@@ -6,7 +6,8 @@ ghost use Rattle.sock_diag_families.specs.Found.{enough};
 
 use netlink_core::{DecodeError, RecordName};
 
-// The value of an attribute, where it has at least so many bytes.
+// Returns the value if it has at least `need` bytes, else the error [`DecodeError::BufferTooSmall`]
+// with the family and the kind of the attribute.
 pub(crate) fn enough_in(
     value: &[u8],
     family: u8,

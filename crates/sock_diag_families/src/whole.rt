@@ -1,11 +1,11 @@
-//! Attributes that are kept whole.
+//! Raw attributes.
 
 ghost use Rattle.std.specs.Prelude.{[], refl};
 ghost use Rattle.netlink_core.specs.Walk.{attribute_of};
 
 use netlink_core::{DecodeError, FamilyView, Nla, NlaBuffer};
 
-/// An attribute that is kept whole, read in place: its type word and its value's bytes.
+/// A raw, borrowed attribute: its type field, and the bytes of its value.
 #[derive(Clone, Copy, Debug, PartialEq, Eq)]
 pub struct WholeNla<'a>(pub NlaBuffer<'a>);
 
@@ -26,7 +26,7 @@ impl Nla for WholeNla<'_> {
     }
 }
 
-// Of a set without types: each attribute decodes to itself.
+// The set of attribute kinds is empty, so that each attribute decodes to itself.
 impl<'a> FamilyView<'a> for WholeNla<'a> {
     ghost attribute_set = { [] };
 

@@ -1,5 +1,5 @@
--- The masks of the tables of `SocketId`, `InetRequest` and `InetResponseHeader` are those of the
--- family and the timer byte.
+-- The significant bits of the layouts `socket_id`, `inet_request` and `inet_response_header` are
+-- the masks of the family and the timer byte.
 use Rattle.std.proofs.Common.{◌≡◌, ◌⊎◌, inl, inr, ◌<◌, ℕ, Result, Ok, refl, ◌∙◌, arith}
 use Rattle.netlink_core.specs.Layout.{table}
 use Rattle.netlink_core.proofs.TableLaws.{live_bits}
@@ -16,7 +16,7 @@ use Rattle.sock_diag_records.specs.Timer.{class_of_byte}
 
 -- ---- families
 
--- a family that has IP versions is AF_INET or AF_INET6
+-- only AF_INET and AF_INET6 have IP versions
 inet_or_inet6 : (family : ℕ) (versions : IpVersions) → versions_of_family family ≡ Ok versions
     → ((family ≡ 2) × (versions ≡ (ipv4, ipv4))) ⊎ ((family ≡ 10) × (versions ≡ (ipv6, ipv6)))
 inet_or_inet6 family versions e = grind arith
@@ -48,9 +48,9 @@ masks_of_request family versions e = elim (inet_or_inet6 family versions e) [
   | inr (f, v) ↦ rw (f, v)
 ]
 
--- ---- the header of a reply
+-- ---- reply headers
 
--- timer bytes have the same class if and only if the layout chooses the same table for them
+-- Timer bytes have the same class if and only if they select the same rows of the layout.
 pub same_timer : (x y : ℕ) → class_of_byte x ≡ class_of_byte y → SameTimerClass x y
 same_timer x y e = grind arith
 
@@ -60,7 +60,7 @@ same_class x y h = grind arith
 abbrev ok_tag : IpVersions × ℕ → Result (IpVersions × ℕ) DecodeError
 ok_tag tag = Ok tag
 
--- the tag of a header is the IP versions of its family and the class of its timer
+-- a header's tag is the IP versions of its family and the class of its timer
 pub tag_parts : (class : ℕ) (versions : Result IpVersions DecodeError) (tag : IpVersions × ℕ)
     → with_class class versions ≡ ok_tag tag → (versions ≡ Ok tag.0) × (class ≡ tag.1)
 tag_parts class versions tag e = grind arith
@@ -69,7 +69,7 @@ pub tag_of_parts : (class : ℕ) (versions : Result IpVersions DecodeError) (tag
     → versions ≡ Ok tag.0 → class ≡ tag.1 → with_class class versions ≡ ok_tag tag
 tag_of_parts class versions tag e f = grind arith
 
--- a timer byte has the masks of its class
+-- the masks of a timer byte are the masks of its class
 masks_of_class : (family timer : ℕ) → inet_response_header_masks family (class_of_byte timer)
     ≡ inet_response_header_masks family timer
 masks_of_class family timer = grind arith

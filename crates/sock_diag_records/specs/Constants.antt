@@ -1,7 +1,7 @@
--- What is said of a table of constants, a name and a number each.
+-- A predicate for contracts that list the values of constants.
 use Rattle.std.specs.Prelude.{ℕ, ◌==◌, List, IsTrue}
 use Rattle.std.specs.List.{list_all}
 
--- each constant is the number beside it
+-- both numbers of each pair are equal: a constant, and the value that the contract lists for it
 abbrev pub AreEqual : List (ℕ × ℕ) → Type 0
 AreEqual table = IsTrue (list_all (λ row. row.0 == row.1) table)

@@ -1,24 +1,30 @@
--- The flags of requests: the name of each beside its bit, in a table a type.
+-- The flags that have a name in this crate: for each flag type, a table of names and bits. A name
+-- is a list of character codes.
 use Rattle.std.specs.Prelude.{ℕ, ◌^◌, ◌==◌, List, [], ◌∷◌, ◌++◌, codes, map}
 use Rattle.std.specs.List.{enumerate_from, slice_split}
 
--- the words of a text, each beside its bit: bit n at the first, bit n + 1 at the next, and so on
+-- the words of a text that is separated by spaces, each with its bit: 2^n for the first, 2^(n + 1)
+-- for the second, and so on
 abbrev pub bits_from : ℕ → List ℕ → List (List ℕ × ℕ)
 bits_from n text = map (λ w. (w.1, 2 ^ w.0)) (enumerate_from n (slice_split (λ c. c == 32) text))
 
--- the states of an IPv4 or IPv6 socket, bit 1 to bit 11
+-- `idiag_states` of `struct inet_diag_req_v2`: bit n for state n, from `TCP_ESTABLISHED` (1) to
+-- `TCP_CLOSING` (11)
 abbrev pub inet_states : List (List ℕ × ℕ)
 inet_states = bits_from 1 (codes "ESTABLISHED SYN_SENT SYN_RECV FIN_WAIT1 FIN_WAIT2 TIME_WAIT "
     ++ codes "CLOSE CLOSE_WAIT LAST_ACK LISTEN CLOSING")
 
--- the attributes of an IPv4 or IPv6 socket, bit 0 to bit 7
+-- `idiag_ext` of `struct inet_diag_req_v2`: bit n - 1 for attribute kind n, from
+-- `INET_DIAG_MEMINFO` (1) to `INET_DIAG_SHUTDOWN` (8)
 abbrev pub inet_extensions : List (List ℕ × ℕ)
 inet_extensions = bits_from 0 (codes "MEMINFO INFO VEGASINFO CONG TOS TCLASS SKMEMINFO SHUTDOWN")
 
--- the states of a UNIX socket, bit 1 and bit 10
+-- `udiag_states` of `struct unix_diag_req`: bit n for state n, `TCP_ESTABLISHED` (1) and
+-- `TCP_LISTEN` (10). `TCP_CLOSE` (7) has no name here.
 abbrev pub unix_states : List (List ℕ × ℕ)
 unix_states = (codes "ESTABLISHED", 0x2) ∷ (codes "LISTEN", 0x400) ∷ []
 
--- what a request for UNIX sockets asks to be shown, bit 0 to bit 5
+-- `udiag_show` of `struct unix_diag_req`: `UDIAG_SHOW_NAME` (0x1) to `UDIAG_SHOW_MEMINFO` (0x20).
+-- `UDIAG_SHOW_UID` (0x40) of newer kernels has no name here.
 abbrev pub unix_shown : List (List ℕ × ℕ)
 unix_shown = bits_from 0 (codes "NAME VFS PEER ICONS RQLEN MEMINFO")

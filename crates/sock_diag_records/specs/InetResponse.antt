@@ -12,11 +12,13 @@ use Rattle.sock_diag_records.specs.Timer.{IsWholeMilliseconds}
 use Rattle.sock_diag_records.specs.inverse.InetResponse.{header_of}
 use Rattle.netlink_core.specs.Rows.{u8, u32, skip, embed}
 
--- `struct inet_diag_msg` (linux/inet_diag.h). The class of the timer is at 2 (`idiag_timer`). The
--- byte at 3 (`idiag_retrans`) is ignored unless the class is 1, retransmit, and the `u32` at 52
--- (`idiag_expires`) is ignored if the class is 0, no timer, or 3, time-wait. The family has to be
--- AF_INET or AF_INET6. In normal form both addresses are of its version, and the timer's duration
--- is a whole number of milliseconds below 2^32.
+-- `struct inet_diag_msg` (linux/inet_diag.h). The tag is the IP versions, which the family selects
+-- (`idiag_family`, at 0), and the class of the timer (`idiag_timer`, at 2). The family has to be
+-- AF_INET or AF_INET6. The byte at 3 (`idiag_retrans`) is ignored unless the class is 1,
+-- retransmit. The `u32` at 52 (`idiag_expires`) is ignored if the class is 0, no timer, or 3,
+-- time-wait. The serializer writes the class at 2, and 0 in ignored fields. In normal form
+-- (`is_own`) both addresses are of the family's IP version, and the timer's duration is a whole
+-- number of milliseconds below 2^32.
 unfoldable pub inet_response_header : Layout (Unit {0}) (IpVersions × ℕ) InetResponseHeader
 inet_response_header = record {
   name = name.InetResponseHeader;

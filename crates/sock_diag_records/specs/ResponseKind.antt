@@ -1,4 +1,4 @@
--- Which message bytes hold.
+-- Which kind of message a payload is.
 use Rattle.std.specs.Prelude.{ℕ, ◌==◌, ◌||◌, not, nat_lt, if◌then◌else◌, List, length}
 use Rattle.std.specs.Prelude.{slice_index, Result, Ok, Err}
 use Rattle.netlink_core.specs.declared.fault.DecodeError.{DecodeError}
@@ -6,13 +6,15 @@ use Rattle.netlink_core.specs.declared.fault.DecodeError.TheVariants.{MessageToo
 use Rattle.netlink_core.specs.declared.fault.DecodeError.TheVariants.{UnknownFamily}
 use Rattle.netlink_core.specs.declared.fault.DecodeError.TheVariants.{UnknownMessageType}
 
--- the four kinds of messages
+-- The four kinds of messages. Payloads are parsed as replies only: `inet_response` or
+-- `unix_response`.
 pub data MessageKind : Type 0 where
   inet_request inet_response unix_request unix_response : MessageKind
 
--- The kind of the reply that bytes are under a type, or the fault of bytes that are none. The type
--- 20 is SOCK_DIAG_BY_FAMILY, and the first byte is 1 for AF_UNIX, 2 for AF_INET and 10 for
--- AF_INET6.
+-- The kind of reply that the payload `b` of a netlink message of type `t` is, or its error. The
+-- errors are checked in this order: fewer than two bytes; a type other than SOCK_DIAG_BY_FAMILY
+-- (20); a first byte (`idiag_family`, `udiag_family`) other than AF_UNIX (1), AF_INET (2) and
+-- AF_INET6 (10).
 abbrev pub response_kind : List ℕ → ℕ → Result MessageKind DecodeError
 response_kind b t =
     if nat_lt (length b) 2 then Err (MessageTooShort (length b))

@@ -1,4 +1,6 @@
--- The significant bits of the records: a mask for each byte. A byte range does not count its end.
+-- The significant bits of the records: a mask for each byte. A bit that is 0 in the mask is
+-- ignored. The four bytes of a `u32` are little-endian. Offsets are those of the C structs, and a
+-- range of offsets does not include its end.
 use Rattle.std.specs.Prelude.{◌≡◌, ◌⊎◌, ◌<◌, ℕ, ◌==◌, ◌||◌, if◌then◌else◌, List, [], ◌∷◌, ◌++◌}
 use Rattle.netlink_core.specs.SignificantBits.{significant, ignored}
 
@@ -6,37 +8,63 @@ use Rattle.netlink_core.specs.SignificantBits.{significant, ignored}
 abbrev pub IsInetFamily : ℕ → Type 0
 IsInetFamily family = (family ≡ 2) ⊎ (family ≡ 10)
 
--- AF_INET: 0..8, 20..24 and 36..48; AF_INET6: 0..48
+-- `struct inet_diag_sockid`, for AF_INET (2) or AF_INET6 (10):
+--   0..4    `idiag_sport`, `idiag_dport`
+--   4..20   `idiag_src`: 4..8 for AF_INET, all for AF_INET6
+--   20..36  `idiag_dst`: 20..24 for AF_INET, all for AF_INET6
+--   36..48  `idiag_if`, `idiag_cookie`
 abbrev pub socket_id_masks : ℕ → List ℕ
 socket_id_masks family =
     if family == 2 then significant 8 ++ ignored 12 ++ significant 4 ++ ignored 12 ++ significant 12
     else significant 48
 
--- 0..3, 4..8 under fe 0f 00 00, and 8..56 as a `SocketId` of the family
+-- `struct inet_diag_req_v2`:
+--   0..3    `sdiag_family`, `sdiag_protocol`, `idiag_ext`
+--   3       `pad`: ignored
+--   4..8    `idiag_states`: bits 1 (`TCP_ESTABLISHED`) to 11 (`TCP_CLOSING`), 0xffe
+--   8..56   `id`, for the family
 abbrev pub inet_request_masks : ℕ → List ℕ
 inet_request_masks family = significant 3 ++ ignored 1 ++ (0xfe ∷ 0x0f ∷ 0 ∷ 0 ∷ [])
     ++ socket_id_masks family
 
--- 0..2, 3 if `timer` is 1, 4..52 as a `SocketId`, 52..56 if `timer` is 1, 2 or 4, and 56..72
+-- `struct inet_diag_msg`; `timer` is its byte `idiag_timer`:
+--   0..2    `idiag_family`, `idiag_state`
+--   2       `idiag_timer`: ignored by the mask, since `SameTimerClass` compares it
+--   3       `idiag_retrans`: only if the timer is 1, retransmit
+--   4..52   `id`, for the family
+--   52..56  `idiag_expires`: only if the timer is 1, 2 or 4
+--   56..72  `idiag_rqueue`, `idiag_wqueue`, `idiag_uid`, `idiag_inode`
 abbrev pub inet_response_header_masks : (family timer : ℕ) → List ℕ
 inet_response_header_masks family timer = significant 2 ++ ignored 1
     ++ (if timer == 1 then significant 1 else ignored 1) ++ socket_id_masks family
     ++ (if timer == 1 || timer == 2 || timer == 4 then significant 4 else ignored 4)
     ++ significant 16
 
--- the timer byte is none of 1, 2, 3 and 4: there is no timer
+-- the byte `idiag_timer` is none of 1, 2, 3 and 4: there is no timer
 abbrev pub HasNoTimer : ℕ → Type 0
 HasNoTimer timer = (timer ≡ 0) ⊎ (4 < timer)
 
--- the timer bytes are equal, or neither has a timer; the classes are 1, 2, 3, 4 and all others
+-- two bytes `idiag_timer` are equal, or neither has a timer; the classes are 1, 2, 3, 4 and all
+-- others
 abbrev pub SameTimerClass : ℕ → ℕ → Type 0
 SameTimerClass x y = (x ≡ y) ⊎ (HasNoTimer x × HasNoTimer y)
 
--- 4..8 under 02 04 00 00, 8..12, 12..16 under 3f 00 00 00, and 16..24
+-- `struct unix_diag_req`:
+--   0..4    `sdiag_family`, `sdiag_protocol`, `pad`: ignored, the parser does not check them
+--   4..8    `udiag_states`: bits 1 (`TCP_ESTABLISHED`) and 10 (`TCP_LISTEN`), 0x402;
+--           not bit 7 (`TCP_CLOSE`), which has no name in `unix_states`
+--   8..12   `udiag_ino`
+--   12..16  `udiag_show`: `UDIAG_SHOW_NAME` (0x1) to `UDIAG_SHOW_MEMINFO` (0x20), 0x3f;
+--           not `UDIAG_SHOW_UID` (0x40), which has no name in `unix_shown`
+--   16..24  `udiag_cookie`
 abbrev pub unix_request_masks : List ℕ
 unix_request_masks = ignored 4 ++ (0x02 ∷ 0x04 ∷ 0 ∷ 0 ∷ []) ++ significant 4
     ++ (0x3f ∷ 0 ∷ 0 ∷ 0 ∷ []) ++ significant 8
 
--- 1, 2 and 4..16
+-- `struct unix_diag_msg`:
+--   0       `udiag_family`: ignored, the parser of this record does not check it
+--   1..3    `udiag_type`, `udiag_state`: any values, such as state 7 (`TCP_CLOSE`)
+--   3       `pad`: ignored
+--   4..16   `udiag_ino`, `udiag_cookie`
 abbrev pub unix_response_header_masks : List ℕ
 unix_response_header_masks = ignored 1 ++ significant 2 ++ ignored 1 ++ significant 12

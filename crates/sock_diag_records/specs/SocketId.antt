@@ -1,5 +1,5 @@
--- The id of a socket, 48 bytes. Of the 16 bytes of an address, an IPv4 address has the first four
--- octets, and an IPv6 address has all, as eight segments in network byte order.
+-- The id of an IPv4 or IPv6 socket, 48 bytes. An address field has 16 bytes. An IPv4 address is in
+-- the first four, as octets. An IPv6 address is in all, as eight segments in network byte order.
 use Rattle.std.specs.Prelude.{◌≡◌, ℕ, ◌+◌, List, [], ◌∷◌, ◌++◌, length, replicate, Ok}
 use Rattle.std.specs.declared.net.ip_addr.IpAddr.{IpAddr}
 use Rattle.netlink_core.specs.Table.{Field, unread, bytes_at}
@@ -13,22 +13,24 @@ use Rattle.sock_diag_records.specs.inverse.SocketId.{socket_id_of}
 use Rattle.netlink_core.specs.Table.{network, array}
 use Rattle.netlink_core.specs.Rows.{Row, be16, u32, u8s}
 
--- the fields of an address: four octets and twelve ignored bytes, or eight segments
+-- the fields of an address at an offset: four octets and twelve ignored bytes, or eight segments
 abbrev pub address_fields : (offset : ℕ) → IpVersion → List Field
 address_fields offset ipv4 = bytes_at offset 4 ++ unread (offset + 4) (replicate 12 0) ∷ []
 address_fields offset ipv6 = array network offset 2 8
 
--- the octets or segments of an address
+-- the four octets or eight segments of an address
 abbrev pub address_values : IpAddr → List ℕ
 address_values address = first (address_data address).1 (address_data address).2
 
 -- ---- the record
 
--- an address of an IP version, `__be32[4]`
+-- a row for an address: its offset, its IP version, and the member of `SocketId` that is stored
+-- there; in C `__be32[4]`
 abbrev pub address : (offset : ℕ) → IpVersion → (SocketId → IpAddr) → Row SocketId
 address offset version get = (address_fields offset version, λ value. address_values (get value))
 
--- `struct inet_diag_sockid` (linux/inet_diag.h) at an offset
+-- `struct inet_diag_sockid` (linux/inet_diag.h) at an offset: `idiag_sport`, `idiag_dport`,
+-- `idiag_src`, `idiag_dst`, `idiag_if`, `idiag_cookie`
 abbrev pub socket_id_rows : (offset : ℕ) → IpVersions → List (Row SocketId)
 socket_id_rows offset versions =
     be16 offset SocketId.source_port ∷
@@ -38,16 +40,17 @@ socket_id_rows offset versions =
     u32 (offset + 36) SocketId.interface_id ∷
     u8s (offset + 40) 8 SocketId.cookie ∷ []
 
--- an address has four octets or eight segments
+-- an address has four octets or eight segments, by its IP version
 abbrev pub IsAddress : IpAddr → Type 0
 IsAddress address = length (address_data address).2 ≡ (address_data address).1
 
--- arrays have the length of their types
+-- the addresses have their numbers of octets or segments, and the cookie has eight bytes
 abbrev pub IsShaped : SocketId → Type 0
 IsShaped v = IsAddress v.source_address × IsAddress v.destination_address × (length v.cookie ≡ 8)
 
--- The family, a parameter, has to be AF_INET or AF_INET6, and in normal form both addresses are of
--- its version.
+-- `struct inet_diag_sockid` by itself. The parameter is the address family. It has to be AF_INET or
+-- AF_INET6, and selects the IP version of both addresses. In normal form (`is_own`) both addresses
+-- are of this version.
 unfoldable pub socket_id : Layout ℕ IpVersions SocketId
 socket_id = record {
   name = name.SocketId;

@@ -12,7 +12,7 @@ use Rattle.sock_diag_records.specs.declared.inet.response.Timer.TheVariants.{Tim
 abbrev pub milliseconds : Duration → ℕ
 milliseconds time = as_nanos time / 1_000_000 % 2 ^ 32
 
--- the class of a byte `idiag_timer`: a number below 5 is its own class, and all others are 0
+-- the class of a byte `idiag_timer`: the byte itself if it is below 5, else 0
 abbrev pub class_of_byte : ℕ → ℕ
 class_of_byte timer = if nat_lt timer 5 then timer else 0
 
@@ -20,7 +20,8 @@ class_of_byte timer = if nat_lt timer 5 then timer else 0
 abbrev pub IsWholeMilliseconds : Duration → Type 0
 IsWholeMilliseconds time = as_nanos time ≡ milliseconds time * 1_000_000
 
--- the class, the number of retransmits and the duration of a timer; 0 for each that it lacks
+-- the class of a timer (`idiag_timer`), its number of retransmits (`idiag_retrans`) and its
+-- duration (`idiag_expires`); 0 for each that the timer does not have
 abbrev pub timer_data : Option Timer → ℕ × ℕ × Duration
 timer_data (Some (Retransmit expires count)) = (1, count, expires)
 timer_data (Some (KeepAlive expires)) = (2, 0, expires)

@@ -1,4 +1,5 @@
--- From the numbers of a layout's fields to the value. Only layouts refer to these definitions.
+-- Inverses of the layouts: from the numbers in a layout's fields to the value. Only layouts refer
+-- to these definitions.
 pub mod UnixRequest
 pub mod SocketId
 pub mod UnixResponseHeader

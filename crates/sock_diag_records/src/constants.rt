@@ -1,11 +1,12 @@
-//! The numbers of sock_diag(7), and of the pages that it stands on, under the kernel's names.
+//! The constants of sock_diag(7), and of the pages and headers that it refers to, under the
+//! kernel's names.
 
 ghost use Rattle.std.specs.Prelude.{[], ◌∷◌};
 ghost use Rattle.sock_diag_records.specs.Constants.{AreEqual};
 
-// ---- the types of messages
+// ---- message types
 
-/// A request for sockets, and the reply about one.
+/// A request for sockets, or a reply about one.
 pub const SOCK_DIAG_BY_FAMILY: u16 = 20;
 
 /// A request to close a socket.
@@ -16,28 +17,28 @@ pub const SOCK_DESTROY: u16 = 21;
 /// No family.
 pub const AF_UNSPEC: u8 = 0;
 
-/// Sockets on one machine, unix(7).
+/// UNIX domain sockets: sockets on one machine, unix(7).
 pub const AF_UNIX: u8 = 1;
 
 /// IPv4, ip(7).
 pub const AF_INET: u8 = 2;
 
-/// AX.25 of amateur radio.
+/// AX.25 (amateur radio).
 pub const AF_AX25: u8 = 3;
 
-/// IPX of Novell.
+/// IPX (Novell).
 pub const AF_IPX: u8 = 4;
 
 /// AppleTalk, ddp(7).
 pub const AF_APPLETALK: u8 = 5;
 
-/// NET/ROM of amateur radio.
+/// NET/ROM (amateur radio).
 pub const AF_NETROM: u8 = 6;
 
-/// Bridges between networks.
+/// Multiprotocol bridges.
 pub const AF_BRIDGE: u8 = 7;
 
-/// Permanent circuits of ATM.
+/// ATM permanent virtual circuits.
 pub const AF_ATMPVC: u8 = 8;
 
 /// X.25, x25(7).
@@ -46,357 +47,357 @@ pub const AF_X25: u8 = 9;
 /// IPv6, ipv6(7).
 pub const AF_INET6: u8 = 10;
 
-/// ROSE of amateur radio.
+/// ROSE (amateur radio X.25).
 pub const AF_ROSE: u8 = 11;
 
 /// DECnet.
 pub const AF_DECNET: u8 = 12;
 
-/// LLC of 802.2, kept for NetBEUI.
+/// Reserved for IEEE 802.2 LLC (NetBEUI).
 pub const AF_NETBEUI: u8 = 13;
 
-/// Callbacks of security modules.
+/// Pseudo family of security callbacks.
 pub const AF_SECURITY: u8 = 14;
 
-/// Keys of IPsec.
+/// PF_KEY, the key management of IPsec.
 pub const AF_KEY: u8 = 15;
 
-/// Messages to and from the kernel, netlink(7).
+/// Netlink, netlink(7).
 pub const AF_NETLINK: u8 = 16;
 
-/// Packets of a device, packet(7).
+/// Packets of network devices, packet(7).
 pub const AF_PACKET: u8 = 17;
 
 /// Ash.
 pub const AF_ASH: u8 = 18;
 
-/// Econet of Acorn.
+/// Econet (Acorn).
 pub const AF_ECONET: u8 = 19;
 
-/// Switched circuits of ATM.
+/// ATM switched virtual circuits.
 pub const AF_ATMSVC: u8 = 20;
 
-/// Reliable datagrams.
+/// Reliable Datagram Sockets (RDS).
 pub const AF_RDS: u8 = 21;
 
-/// SNA of Linux.
+/// SNA (Systems Network Architecture).
 pub const AF_SNA: u8 = 22;
 
-/// Infrared links.
+/// IrDA (infrared).
 pub const AF_IRDA: u8 = 23;
 
-/// PPP over a network.
+/// PPP over other protocols (PPPoX).
 pub const AF_PPPOX: u8 = 24;
 
 /// Wanpipe.
 pub const AF_WANPIPE: u8 = 25;
 
-/// Logical link control of 802.2.
+/// IEEE 802.2 LLC.
 pub const AF_LLC: u8 = 26;
 
-/// Controller area networks.
+/// Controller Area Network (CAN).
 pub const AF_CAN: u8 = 29;
 
-/// Messages between the nodes of a cluster.
+/// TIPC, communication between the nodes of a cluster.
 pub const AF_TIPC: u8 = 30;
 
 /// Bluetooth.
 pub const AF_BLUETOOTH: u8 = 31;
 
-/// Messages between the guests of z/VM.
+/// IUCV, communication between the guests of z/VM.
 pub const AF_IUCV: u8 = 32;
 
-/// Remote procedure calls of AFS.
+/// RxRPC, the remote procedure calls of AFS.
 pub const AF_RXRPC: u8 = 33;
 
-/// ISDN.
+/// ISDN (mISDN).
 pub const AF_ISDN: u8 = 34;
 
-/// Phonet of Nokia's modems.
+/// Phonet (Nokia modems).
 pub const AF_PHONET: u8 = 35;
 
-/// Radios of IEEE 802.15.4.
+/// IEEE 802.15.4 radios.
 pub const AF_IEEE802154: u8 = 36;
 
-/// CAIF of Ericsson's modems.
+/// CAIF (Ericsson modems).
 pub const AF_CAIF: u8 = 37;
 
-/// The kernel's cryptography.
+/// Cryptographic algorithms of the kernel.
 pub const AF_ALG: u8 = 38;
 
-// ---- protocols over IP
+// ---- IP protocols
 
-/// IPv4; for a socket, no protocol in particular.
+/// The default protocol of a socket type.
 pub const IPPROTO_IP: u8 = 0;
 
-/// Control messages, icmp(7).
+/// ICMP, icmp(7).
 pub const IPPROTO_ICMP: u8 = 1;
 
-/// Group management.
+/// IGMP, management of multicast groups.
 pub const IPPROTO_IGMP: u8 = 2;
 
-/// IPv4 in IP.
+/// IPv4 in IP (tunnels).
 pub const IPPROTO_IPIP: u8 = 4;
 
 /// TCP, tcp(7).
 pub const IPPROTO_TCP: u8 = 6;
 
-/// Exterior gateways.
+/// Exterior Gateway Protocol.
 pub const IPPROTO_EGP: u8 = 8;
 
-/// PUP of Xerox.
+/// PUP (Xerox).
 pub const IPPROTO_PUP: u8 = 12;
 
 /// UDP, udp(7).
 pub const IPPROTO_UDP: u8 = 17;
 
-/// IDP of Xerox.
+/// XNS IDP (Xerox).
 pub const IPPROTO_IDP: u8 = 22;
 
-/// ISO transport, class 4.
+/// ISO transport protocol, class 4.
 pub const IPPROTO_TP: u8 = 29;
 
-/// Datagrams with congestion control.
+/// DCCP, datagrams with congestion control.
 pub const IPPROTO_DCCP: u8 = 33;
 
-/// IPv6 in IP.
+/// IPv6 in IPv4 (tunnels).
 pub const IPPROTO_IPV6: u8 = 41;
 
-/// Reservation of resources.
+/// RSVP, reservation of resources.
 pub const IPPROTO_RSVP: u8 = 46;
 
-/// Generic routing encapsulation.
+/// Generic Routing Encapsulation.
 pub const IPPROTO_GRE: u8 = 47;
 
-/// Encrypted payloads of IPsec.
+/// Encapsulating Security Payload (IPsec).
 pub const IPPROTO_ESP: u8 = 50;
 
-/// Authentication headers of IPsec.
+/// Authentication Header (IPsec).
 pub const IPPROTO_AH: u8 = 51;
 
-/// Multicast transport.
+/// Multicast Transport Protocol.
 pub const IPPROTO_MTP: u8 = 92;
 
-/// The pseudo header of IPsec's BEET mode.
+/// Pseudo header of the IPsec mode BEET.
 pub const IPPROTO_BEETPH: u8 = 94;
 
-/// Encapsulation headers.
+/// Encapsulation Header.
 pub const IPPROTO_ENCAP: u8 = 98;
 
-/// Multicast routing.
+/// Protocol Independent Multicast.
 pub const IPPROTO_PIM: u8 = 103;
 
-/// Compressed payloads.
+/// IP Payload Compression.
 pub const IPPROTO_COMP: u8 = 108;
 
-/// Streams of messages, sctp(7).
+/// SCTP, sctp(7).
 pub const IPPROTO_SCTP: u8 = 132;
 
-/// UDP with a part of the checksum, udplite(7).
+/// UDP-Lite: UDP with partial checksums, udplite(7).
 pub const IPPROTO_UDPLITE: u8 = 136;
 
 /// MPLS in IP.
 pub const IPPROTO_MPLS: u8 = 137;
 
-/// IP packets as they are, raw(7).
+/// Raw IP packets, raw(7).
 pub const IPPROTO_RAW: u8 = 255;
 
-/// IPv6 options for each hop.
+/// IPv6 hop-by-hop options.
 pub const IPPROTO_HOPOPTS: u8 = 0;
 
-/// IPv6 routing headers.
+/// IPv6 routing header.
 pub const IPPROTO_ROUTING: u8 = 43;
 
-/// IPv6 fragments.
+/// IPv6 fragment header.
 pub const IPPROTO_FRAGMENT: u8 = 44;
 
-/// Control messages of IPv6.
+/// ICMPv6.
 pub const IPPROTO_ICMPV6: u8 = 58;
 
-/// No header follows, in IPv6.
+/// IPv6: no next header.
 pub const IPPROTO_NONE: u8 = 59;
 
-/// IPv6 options for the destination.
+/// IPv6 destination options.
 pub const IPPROTO_DSTOPTS: u8 = 60;
 
-/// IPv6 mobility headers.
+/// IPv6 mobility header.
 pub const IPPROTO_MH: u8 = 135;
 
-// ---- kinds of attributes of IPv4 and IPv6 sockets
+// ---- attribute kinds of IPv4 and IPv6 sockets
 
 /// No attribute.
 pub const INET_DIAG_NONE: u16 = 0;
 
-/// The memory, as older kernels tell it: `LegacyMemInfo`.
+/// Memory of the socket in the format of old kernels: `LegacyMemInfo`.
 pub const INET_DIAG_MEMINFO: u16 = 1;
 
-/// The TCP connection: `TcpInfo`.
+/// State of the TCP connection: `TcpInfo`.
 pub const INET_DIAG_INFO: u16 = 2;
 
-/// What TCP Vegas measures.
+/// Measurements of TCP Vegas: `struct tcpvegas_info`.
 pub const INET_DIAG_VEGASINFO: u16 = 3;
 
-/// The name of the congestion control.
+/// Name of the congestion control algorithm.
 pub const INET_DIAG_CONG: u16 = 4;
 
-/// The type of service.
+/// Type of service, a `u8`.
 pub const INET_DIAG_TOS: u16 = 5;
 
-/// The traffic class of IPv6.
+/// IPv6 traffic class, a `u8`.
 pub const INET_DIAG_TCLASS: u16 = 6;
 
-/// The memory: `MemInfo` of `inet::nlas`.
+/// Memory of the socket: `MemInfo` of `inet::nlas`.
 pub const INET_DIAG_SKMEMINFO: u16 = 7;
 
-/// Which directions are shut down, shutdown(2).
+/// Directions that are shut down, a `u8`: bit 0 for receiving, bit 1 for sending. See shutdown(2).
 pub const INET_DIAG_SHUTDOWN: u16 = 8;
 
-/// What DCTCP measures.
+/// Measurements of DCTCP: `struct tcp_dctcp_info`.
 pub const INET_DIAG_DCTCPINFO: u16 = 9;
 
-/// The protocol of a raw socket, as `IPPROTO_..`.
+/// Protocol of a raw socket, `IPPROTO_*`.
 pub const INET_DIAG_PROTOCOL: u16 = 10;
 
-/// Whether the socket takes IPv6 alone.
+/// Whether the socket is IPv6-only.
 pub const INET_DIAG_SKV6ONLY: u16 = 11;
 
-/// The local addresses of an SCTP socket.
+/// Local addresses of an SCTP socket.
 pub const INET_DIAG_LOCALS: u16 = 12;
 
-/// The peer's addresses of an SCTP socket.
+/// Remote addresses of an SCTP socket.
 pub const INET_DIAG_PEERS: u16 = 13;
 
 /// Padding.
 pub const INET_DIAG_PAD: u16 = 14;
 
-/// The mark, `SO_MARK` of socket(7).
+/// Mark of the socket, `SO_MARK` of socket(7).
 pub const INET_DIAG_MARK: u16 = 15;
 
-/// What BBR measures.
+/// Measurements of BBR: `struct tcp_bbr_info`.
 pub const INET_DIAG_BBRINFO: u16 = 16;
 
-/// The class of the socket's control group.
+/// Traffic class id (net_cls) of the socket's control group.
 pub const INET_DIAG_CLASS_ID: u16 = 17;
 
-/// The keys of TCP's MD5 signatures.
+/// Keys of TCP MD5 signatures.
 pub const INET_DIAG_MD5SIG: u16 = 18;
 
-// ---- states of a socket
+// ---- TCP states
 
 /// The connection is open.
 pub const TCP_ESTABLISHED: u8 = 1;
 
-/// A request to connect was sent.
+/// A SYN was sent.
 pub const TCP_SYN_SENT: u8 = 2;
 
-/// A request to connect came, and was answered.
+/// A SYN was received and answered.
 pub const TCP_SYN_RECV: u8 = 3;
 
-/// This end has closed, and waits for the acknowledgement.
+/// The local side has sent a FIN, and waits for its acknowledgement.
 pub const TCP_FIN_WAIT1: u8 = 4;
 
-/// This end has closed, and waits for the other to close.
+/// The local side has closed, and waits for a FIN.
 pub const TCP_FIN_WAIT2: u8 = 5;
 
-/// Both ends have closed; segments that are late are waited for.
+/// Both sides have closed; late segments are waited for.
 pub const TCP_TIME_WAIT: u8 = 6;
 
 /// There is no connection.
 pub const TCP_CLOSE: u8 = 7;
 
-/// The other end has closed, and this one has not.
+/// The remote side has sent a FIN, and the local side has not.
 pub const TCP_CLOSE_WAIT: u8 = 8;
 
-/// Both ends have closed, the other first; the last acknowledgement is waited for.
+/// Both sides have closed, the remote side first; the last acknowledgement is waited for.
 pub const TCP_LAST_ACK: u8 = 9;
 
-/// Connections are waited for.
+/// The socket listens for connections.
 pub const TCP_LISTEN: u8 = 10;
 
-/// Both ends have closed at once, and wait for the acknowledgement.
+/// Both sides have closed at the same time, and wait for the acknowledgement.
 pub const TCP_CLOSING: u8 = 11;
 
-// ---- which attributes a reply about a UNIX socket shall have
+// ---- flags that request attributes of UNIX sockets
 
-/// Asks for `UNIX_DIAG_NAME`.
+/// Requests `UNIX_DIAG_NAME`.
 pub const UDIAG_SHOW_NAME: u32 = 1;
 
-/// Asks for `UNIX_DIAG_VFS`.
+/// Requests `UNIX_DIAG_VFS`.
 pub const UDIAG_SHOW_VFS: u32 = 2;
 
-/// Asks for `UNIX_DIAG_PEER`.
+/// Requests `UNIX_DIAG_PEER`.
 pub const UDIAG_SHOW_PEER: u32 = 4;
 
-/// Asks for `UNIX_DIAG_ICONS`.
+/// Requests `UNIX_DIAG_ICONS`.
 pub const UDIAG_SHOW_ICONS: u32 = 8;
 
-/// Asks for `UNIX_DIAG_RQLEN`.
+/// Requests `UNIX_DIAG_RQLEN`.
 pub const UDIAG_SHOW_RQLEN: u32 = 16;
 
-/// Asks for `UNIX_DIAG_MEMINFO`.
+/// Requests `UNIX_DIAG_MEMINFO`.
 pub const UDIAG_SHOW_MEMINFO: u32 = 32;
 
-// ---- kinds of attributes of UNIX sockets
+// ---- attribute kinds of UNIX sockets
 
-/// The name that the socket is bound to.
+/// Name that the socket is bound to.
 pub const UNIX_DIAG_NAME: u16 = 0;
 
-/// The file that the socket is bound to: `Vfs`.
+/// File that the socket is bound to: `Vfs`.
 pub const UNIX_DIAG_VFS: u16 = 1;
 
-/// The inode of the peer.
+/// Inode number of the peer.
 pub const UNIX_DIAG_PEER: u16 = 2;
 
-/// The inodes of pending connections.
+/// Inode numbers of pending connections.
 pub const UNIX_DIAG_ICONS: u16 = 3;
 
-/// The lengths of the queues.
+/// Lengths of the queues.
 pub const UNIX_DIAG_RQLEN: u16 = 4;
 
-/// The memory: `MemInfo` of `unix::nlas`.
+/// Memory of the socket: `MemInfo` of `unix::nlas`.
 pub const UNIX_DIAG_MEMINFO: u16 = 5;
 
-/// Which directions are shut down, shutdown(2).
+/// Directions that are shut down, a `u8`: bit 0 for receiving, bit 1 for sending. See shutdown(2).
 pub const UNIX_DIAG_SHUTDOWN: u16 = 6;
 
-// ---- types of sockets
+// ---- socket types
 
-/// Streams of bytes, in order.
+/// Byte streams: in order, reliable.
 pub const SOCK_STREAM: u8 = 1;
 
-/// Messages that may be lost.
+/// Datagrams: not reliable.
 pub const SOCK_DGRAM: u8 = 2;
 
-/// Packets of a protocol as they are.
+/// Raw access to a network protocol.
 pub const SOCK_RAW: u8 = 3;
 
-/// Messages that are not lost, in any order.
+/// Reliable datagrams, in any order.
 pub const SOCK_RDM: u8 = 4;
 
-/// Messages that are not lost, in order.
+/// Reliable datagrams, in order.
 pub const SOCK_SEQPACKET: u8 = 5;
 
-/// Packets of a device, kept for old programs.
+/// Packets of network devices, packet(7). Obsolete.
 pub const SOCK_PACKET: u8 = 10;
 
-// ---- states of congestion control
+// ---- congestion control states
 
-/// Nothing is amiss.
+/// The normal state: no sign of loss or congestion.
 pub const TCP_CA_OPEN: u8 = 0;
 
-/// Segments were acknowledged twice or out of order.
+/// Duplicate or selective acknowledgements were received.
 pub const TCP_CA_DISORDER: u8 = 1;
 
-/// The congestion window is made smaller.
+/// The congestion window is being reduced, after a congestion notification.
 pub const TCP_CA_CWR: u8 = 2;
 
-/// Lost segments are sent again at once.
+/// Lost segments are retransmitted, by fast retransmit.
 pub const TCP_CA_RECOVERY: u8 = 3;
 
-/// Lost segments are sent again after the timer ran out.
+/// Lost segments are retransmitted, after the retransmission timeout.
 pub const TCP_CA_LOSS: u8 = 4;
 
-// ---- bits of the states of congestion control
+// ---- bits of congestion control states
 
 /// The bit of `TCP_CA_OPEN`.
 pub const TCPF_CA_OPEN: u32 = 1;
@@ -415,36 +416,38 @@ pub const TCPF_CA_LOSS: u32 = 16;
 
 // ---- options of a TCP connection
 
-/// Segments carry their time.
+/// Timestamps.
 pub const TCPI_OPT_TIMESTAMPS: u8 = 1;
 
-/// Segments are acknowledged out of order.
+/// Selective acknowledgements.
 pub const TCPI_OPT_SACK: u8 = 2;
 
-/// Windows are shifted.
+/// Window scaling.
 pub const TCPI_OPT_WSCALE: u8 = 4;
 
-/// Congestion is told by marks.
+/// Explicit congestion notification (ECN) was negotiated.
 pub const TCPI_OPT_ECN: u8 = 8;
 
-/// A packet came that takes part in marking.
+/// A packet of an ECN-capable transport was received.
 pub const TCPI_OPT_ECN_SEEN: u8 = 16;
 
-/// Data that went with the request to connect was acknowledged.
+/// Data in the SYN was acknowledged (TCP Fast Open).
 pub const TCPI_OPT_SYN_DATA: u8 = 32;
 
-// ---- which directions of a socket are shut down
+// ---- arguments of shutdown(2)
 
-/// Nothing is received any more, shutdown(2).
+/// Disables receiving.
 pub const SHUT_RD: u8 = 0;
 
-/// Nothing is sent any more.
+/// Disables sending.
 pub const SHUT_WR: u8 = 1;
 
-/// Neither is anything received nor sent any more.
+/// Disables receiving and sending.
 pub const SHUT_RDWR: u8 = 2;
 
-/// Each constant of this module is its number. It is for proofs, and does nothing.
+/// States the value of each constant of this module.
+///
+/// Proof only: the contract states the property.
 pub fn constants_have_their_numbers()
     ensures message_types { AreEqual ((SOCK_DIAG_BY_FAMILY, 20) ∷ (SOCK_DESTROY, 21) ∷ []) }
     ensures address_families { AreEqual ((AF_UNSPEC, 0) ∷ (AF_UNIX, 1) ∷ (AF_INET, 2) ∷

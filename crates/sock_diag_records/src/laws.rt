@@ -1,4 +1,5 @@
-//! Equivalence of the five records, on bytes.
+//! Laws of equivalence (`idle`) of the five records, stated on bytes. A mask for each byte defines
+//! the significant bits.
 //!
 //! Proof only: the contracts state the property.
 
@@ -16,8 +17,8 @@ use crate::unix::{UnixRequest, UnixResponseHeader};
 use netlink_core::Coded;
 
 /// States that two byte strings are equivalent as [`SocketId`] of a family if and only if both have
-/// at least 48 bytes, the family is `AF_INET` or `AF_INET6`, and the significant bits of that
-/// family are equal.
+/// at least 48 bytes, the family is `AF_INET` or `AF_INET6`, and the bits that are significant for
+/// the family are equal.
 pub fn equivalent_socket_ids()
     ensures { (family : ℕ) (b c : List ℕ) → IsBytes b → IsBytes c
         → ⟦<SocketId as Coded>⟧.codec.idle family b c
@@ -26,8 +27,8 @@ pub fn equivalent_socket_ids()
 {}
 
 /// States that two byte strings are equivalent as [`InetRequest`] if and only if both have at least
-/// 56 bytes, the family of the first is `AF_INET` or `AF_INET6`, and the significant bits of that
-/// family are equal. The byte of the family is significant.
+/// 56 bytes, the family in the first one is `AF_INET` or `AF_INET6`, and the bits that are
+/// significant for this family are equal. The family itself is significant.
 pub fn equivalent_inet_requests()
     ensures { (b c : List ℕ) → IsBytes b → IsBytes c
         → ⟦<InetRequest as Coded>⟧.codec.idle tt b c
@@ -36,9 +37,9 @@ pub fn equivalent_inet_requests()
 {}
 
 /// States that two byte strings are equivalent as [`InetResponseHeader`] if and only if both have
-/// at least 72 bytes, the family of the first is `AF_INET` or `AF_INET6`, both timer bytes have the
-/// same class, and the significant bits of the first's family and timer are equal. The byte of the
-/// family is significant.
+/// at least 72 bytes, the family in the first one is `AF_INET` or `AF_INET6`, both timer bytes have
+/// the same class, and the bits that are significant for the first one's family and timer are
+/// equal. The family itself is significant.
 pub fn equivalent_inet_response_headers()
     ensures { (b c : List ℕ) → IsBytes b → IsBytes c
         → ⟦<InetResponseHeader as Coded>⟧.codec.idle tt b c
@@ -48,7 +49,7 @@ pub fn equivalent_inet_response_headers()
 {}
 
 /// States that two byte strings are equivalent as [`UnixRequest`] if and only if both have at least
-/// 24 bytes and equal significant bits.
+/// 24 bytes, and their significant bits are equal.
 pub fn equivalent_unix_requests()
     ensures { (b c : List ℕ) → IsBytes b → IsBytes c
         → ⟦<UnixRequest as Coded>⟧.codec.idle tt b c
@@ -56,7 +57,7 @@ pub fn equivalent_unix_requests()
 {}
 
 /// States that two byte strings are equivalent as [`UnixResponseHeader`] if and only if both have
-/// at least 16 bytes and equal significant bits.
+/// at least 16 bytes, and their significant bits are equal.
 pub fn equivalent_unix_response_headers()
     ensures { (b c : List ℕ) → IsBytes b → IsBytes c
         → ⟦<UnixResponseHeader as Coded>⟧.codec.idle tt b c

@@ -1,4 +1,4 @@
-//! The fixed records and the constants of sock_diag(7).
+//! The fixed-size records of sock_diag(7), and its constants.
 #![tactic(auto)]
 
 pub mod constants;

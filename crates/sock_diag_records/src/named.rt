@@ -1,6 +1,6 @@
-//! The flags of a type, each beside its name.
+//! The macro that lists the flags of a type.
 
-/// A flag for each of the type's constants, under the name of the constant.
+/// Expands to a list of the given constants of a type, each with its name as text.
 macro_rules! named_flags {
     ($flags:ident: $($name:ident),*) => {
         &[$(bitflags::Flag { name: stringify!($name), value: $flags::$name }),*]

@@ -1,5 +1,4 @@
--- The memory of a socket, as older kernels tell it: 16 bytes, four words of 32 bits, low byte
--- first.
+-- The memory of a socket in the format of old kernels: four little-endian `u32`, 16 bytes.
 use Rattle.std.specs.Prelude.{⊤, [], ◌∷◌}
 use Rattle.netlink_core.specs.Layout.{Layout, plain}
 use Rattle.netlink_core.specs.declared.fault.RecordName.TheVariants as name
@@ -7,7 +6,9 @@ use Rattle.sock_diag_values.specs.declared.inet.legacy_mem_info.LegacyMemInfo.{L
 use Rattle.sock_diag_values.specs.inverse.LegacyMemInfo.{legacy_mem_info_of}
 use Rattle.netlink_core.specs.Rows.{u32}
 
--- `struct inet_diag_meminfo` (linux/inet_diag.h)
+-- `struct inet_diag_meminfo` (linux/inet_diag.h): `idiag_rmem`, `idiag_wmem`, `idiag_fmem`,
+-- `idiag_tmem`. Arguments of `plain`: the name in errors, the length in bytes, the rows, their
+-- inverse, and the condition on arrays (none).
 abbrev pub legacy_mem_info : Layout (Unit {0}) (Unit {0}) LegacyMemInfo
 legacy_mem_info = plain name.LegacyMemInfo 16 (
     u32 0 LegacyMemInfo.receive_queue ∷

@@ -1,4 +1,5 @@
--- The memory of a socket: seven, eight or nine `u32`. Newer kernels added the last two, one by one.
+-- The memory of a socket: an array of seven, eight or nine little-endian `u32`. Newer kernels added
+-- the last two, one by one.
 use Rattle.std.specs.Prelude.{⊤, ℕ, List, [], ◌∷◌, Ok, nat_lt, is_some}
 use Rattle.std.specs.Prelude.{if◌then◌else◌, length, unwrap_or, IfSome, IsSome}
 use Rattle.netlink_core.specs.Layout.{Layout}
@@ -10,13 +11,15 @@ use Rattle.sock_diag_values.specs.declared.inet.mem_info.MemInfoBytes.TheVariant
 use Rattle.sock_diag_values.specs.declared.inet.mem_info.MemInfoBytes.TheVariants.{Nine}
 use Rattle.netlink_core.specs.Rows.{u32, when}
 
--- the number of whole `u32` in 28 bytes or more, at most nine
+-- The number of whole `u32` in `bytes` bytes, at most nine. It is used for 28 bytes or more.
 abbrev pub words_in : ℕ → ℕ
 words_in bytes = if nat_lt bytes 32 then 7 else if nat_lt bytes 36 then 8 else 9
 
--- An array of `u32`, indexed by `SK_MEMINFO_*` (linux/sock_diag.h), with the number of them as its
--- tag. Drops after an absent backlog are serialized with a backlog of 0; in normal form a backlog
--- precedes drops.
+-- An array of `u32`, indexed by `SK_MEMINFO_*` (linux/sock_diag.h), of at least 28 bytes. The tag
+-- is the number of elements. Bytes are parsed with as many elements as they contain. A value is
+-- serialized with nine elements if it has drops, else with eight if it has a backlog, else with
+-- seven. Drops without a backlog are serialized after a backlog of 0. In normal form (`is_own`) a
+-- value with drops has a backlog. There are no arrays to check (`is_shaped`).
 abbrev pub mem_info : Layout (Unit {0}) ℕ MemInfo
 mem_info = record {
   name = name.MemInfo;
@@ -38,7 +41,7 @@ mem_info = record {
   is_own = λ param value. IfSome value.drops (λ drops. IsSome value.backlog_queue_length);
 }
 
--- the bytes of seven, eight or nine `u32`
+-- the 28, 32 or 36 bytes of seven, eight or nine `u32`
 abbrev pub held_bytes : MemInfoBytes → List ℕ
 held_bytes (Seven bytes) = bytes
 held_bytes (Eight bytes) = bytes

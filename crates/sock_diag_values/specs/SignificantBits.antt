@@ -1,28 +1,30 @@
--- The significant bits of the records: a mask for each byte. A byte range does not count its end.
+-- The significant bits of the records: a mask for each byte, 255 if the byte is significant, 0 if
+-- it is ignored. A byte range does not include its end. Offsets are those of the C structs.
 use Rattle.std.specs.Prelude.{ℕ, ◌*◌, ◌/◌, List, ◌++◌, length, min}
 use Rattle.netlink_core.specs.SignificantBits.{significant, ignored}
 
--- 0..8
+-- `struct unix_diag_vfs`: 0..8
 abbrev pub vfs_masks : List ℕ
 vfs_masks = significant 8
 
--- 4..8, 12..16 and 20..24
+-- `SK_MEMINFO_RCVBUF` at 4..8, `SK_MEMINFO_SNDBUF` at 12..16, `SK_MEMINFO_WMEM_QUEUED` at 20..24;
+-- the other 24 of 36 bytes are ignored
 abbrev pub unix_mem_info_masks : List ℕ
 unix_mem_info_masks = ignored 4 ++ significant 4 ++ ignored 4 ++ significant 4 ++ ignored 4
     ++ significant 4 ++ ignored 12
 
--- 0..16
+-- `struct inet_diag_meminfo`: 0..16
 abbrev pub legacy_mem_info_masks : List ℕ
 legacy_mem_info_masks = significant 16
 
--- the number of whole `u32` fields in the bytes, at most nine
+-- the number of whole `u32` in the bytes, at most nine
 abbrev pub word_count : List ℕ → ℕ
 word_count bytes = min 9 (length bytes / 4)
 
--- 0..4 * words
+-- the first `words` elements of the array that `SK_MEMINFO_*` indexes, of four bytes each
 abbrev pub mem_info_masks : ℕ → List ℕ
 mem_info_masks words = significant (4 * words)
 
--- 0..232
+-- `struct tcp_info` up to `tcpi_snd_wnd`: 0..232
 abbrev pub tcp_info_masks : List ℕ
 tcp_info_masks = significant 232

@@ -6,7 +6,10 @@ use Rattle.sock_diag_values.specs.declared.inet.tcp_info.TcpInfo.{TcpInfo}
 use Rattle.sock_diag_values.specs.inverse.TcpInfo.{tcp_info_of}
 use Rattle.netlink_core.specs.declared.fault.RecordName.TheVariants as name
 
--- `struct tcp_info` (linux/tcp.h); newer kernels append members
+-- `struct tcp_info` (linux/tcp.h) up to `tcpi_snd_wnd`: each member has the name in C without the
+-- prefix `tcpi_`. Two rows are bytes of bit fields: `wscale` is `tcpi_snd_wscale` and
+-- `tcpi_rcv_wscale`; `delivery_rate_app_limited` includes `tcpi_fastopen_client_fail`. Newer
+-- kernels append members, which are ignored.
 abbrev pub tcp_info_rows : List (Row TcpInfo)
 tcp_info_rows =
     u8 0 TcpInfo.state ∷
@@ -64,6 +67,7 @@ tcp_info_rows =
     u32 224 TcpInfo.rcv_ooopack ∷
     u32 228 TcpInfo.snd_wnd ∷ []
 
--- the rows as a layout
+-- The rows as a layout. Arguments of `plain`: the name in errors, the length in bytes, the rows,
+-- their inverse, and the condition on arrays (none).
 unfoldable pub tcp_info : Layout (Unit {0}) (Unit {0}) TcpInfo
 tcp_info = plain name.TcpInfo 232 tcp_info_rows tcp_info_of (λ value. ⊤)

@@ -1,4 +1,4 @@
--- The memory of a UNIX socket, 36 bytes.
+-- The memory of a UNIX socket: an array of nine little-endian `u32`, 36 bytes.
 use Rattle.std.specs.Prelude.{⊤, [], ◌∷◌, replicate}
 use Rattle.netlink_core.specs.Layout.{Layout, plain}
 use Rattle.netlink_core.specs.declared.fault.RecordName.TheVariants as name
@@ -6,7 +6,10 @@ use Rattle.sock_diag_values.specs.declared.unix.mem_info.MemInfo.{MemInfo}
 use Rattle.sock_diag_values.specs.inverse.UnixMemInfo.{unix_mem_info_of}
 use Rattle.netlink_core.specs.Rows.{skip, u32}
 
--- an array of `u32`, indexed by `SK_MEMINFO_*` (linux/sock_diag.h); six of them are ignored
+-- An array of `u32`, indexed by `SK_MEMINFO_*` (linux/sock_diag.h): `SK_MEMINFO_RCVBUF` at 4,
+-- `SK_MEMINFO_SNDBUF` at 12, `SK_MEMINFO_WMEM_QUEUED` at 20. The other six are ignored, and
+-- serialized as 0. Arguments of `plain`: the name in errors, the length in bytes, the rows, their
+-- inverse, and the condition on arrays (none).
 abbrev pub unix_mem_info : Layout (Unit {0}) (Unit {0}) MemInfo
 unix_mem_info = plain name.UnixMemInfo 36 (
     skip 0 (replicate 4 0) ∷

@@ -1,4 +1,4 @@
--- The file of a UNIX socket: 8 bytes, two words of 32 bits, low byte first.
+-- The file that a UNIX socket is bound to: two little-endian `u32`, 8 bytes.
 use Rattle.std.specs.Prelude.{⊤, [], ◌∷◌}
 use Rattle.netlink_core.specs.Layout.{Layout, plain}
 use Rattle.netlink_core.specs.declared.fault.RecordName.TheVariants as name
@@ -6,7 +6,9 @@ use Rattle.sock_diag_values.specs.declared.unix.vfs.Vfs.{Vfs}
 use Rattle.sock_diag_values.specs.inverse.Vfs.{vfs_of}
 use Rattle.netlink_core.specs.Rows.{u32}
 
--- `struct unix_diag_vfs` (linux/unix_diag.h)
+-- `struct unix_diag_vfs` (linux/unix_diag.h): `udiag_vfs_ino`, `udiag_vfs_dev`. Arguments of
+-- `plain`: the name in errors, the length in bytes, the rows, their inverse, and the condition on
+-- arrays (none).
 abbrev pub vfs : Layout (Unit {0}) (Unit {0}) Vfs
 vfs = plain name.Vfs 8 (
     u32 0 Vfs.inode ∷

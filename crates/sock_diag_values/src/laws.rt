@@ -1,4 +1,4 @@
-//! Equivalence of the five records, on bytes.
+//! Laws of equivalence (`idle`) of the five records, stated on bytes.
 //!
 //! Proof only: the contracts state the property.
 
@@ -13,29 +13,30 @@ use crate::inet::{LegacyMemInfo, MemInfo, TcpInfo};
 use crate::unix::{MemInfo as UnixMemInfo, Vfs};
 use netlink_core::Coded;
 
-/// States that two byte strings are equivalent as [`Vfs`] if and only if both have at least 8 bytes
-/// and equal significant bits.
+/// States that two byte strings are equivalent as [`Vfs`] if and only if both have at least 8
+/// bytes, and their first 8 bytes are equal.
 pub fn equivalent_vfs()
     ensures { (b c : List ℕ) → IsBytes b → IsBytes c → ⟦<Vfs as Coded>⟧.codec.idle tt b c
         ↔ ((8 ≤ length b) × (8 ≤ length c) × EqualUnder vfs_masks b c) }
 {}
 
 /// States that two byte strings are equivalent as [`UnixMemInfo`] if and only if both have at least
-/// 36 bytes and equal significant bits: the fields at 4, 12 and 20.
+/// 36 bytes, and the fields at offsets 4, 12 and 20 are equal. The other bytes are ignored.
 pub fn equivalent_unix_mem_infos()
     ensures { (b c : List ℕ) → IsBytes b → IsBytes c → ⟦<UnixMemInfo as Coded>⟧.codec.idle tt b c
         ↔ ((36 ≤ length b) × (36 ≤ length c) × EqualUnder unix_mem_info_masks b c) }
 {}
 
 /// States that two byte strings are equivalent as [`LegacyMemInfo`] if and only if both have at
-/// least 16 bytes and equal significant bits.
+/// least 16 bytes, and their first 16 bytes are equal.
 pub fn equivalent_legacy_mem_infos()
     ensures { (b c : List ℕ) → IsBytes b → IsBytes c → ⟦<LegacyMemInfo as Coded>⟧.codec.idle tt b c
         ↔ ((16 ≤ length b) × (16 ≤ length c) × EqualUnder legacy_mem_info_masks b c) }
 {}
 
 /// States that two byte strings are equivalent as [`MemInfo`] if and only if both have at least 28
-/// bytes and the same number of `u32` fields, of which nine count at most, and these are equal.
+/// bytes, both have the same number of whole `u32` fields (at most nine are counted), and these
+/// fields are equal.
 pub fn equivalent_mem_infos()
     ensures { (b c : List ℕ) → IsBytes b → IsBytes c → ⟦<MemInfo as Coded>⟧.codec.idle tt b c
         ↔ ((28 ≤ length b) × (28 ≤ length c) × (word_count b ≡ word_count c)
@@ -43,7 +44,7 @@ pub fn equivalent_mem_infos()
 {}
 
 /// States that two byte strings are equivalent as [`TcpInfo`] if and only if both have at least 232
-/// bytes and equal significant bits.
+/// bytes, and their first 232 bytes are equal.
 pub fn equivalent_tcp_infos()
     ensures { (b c : List ℕ) → IsBytes b → IsBytes c → ⟦<TcpInfo as Coded>⟧.codec.idle tt b c
         ↔ ((232 ≤ length b) × (232 ≤ length c) × EqualUnder tcp_info_masks b c) }

@@ -1,4 +1,5 @@
-//! The bytes are worked out by hand from the layouts of sock_diag(7).
+//! Tests of names and attributes. The bytes are worked out by hand from the layouts of
+//! sock_diag(7).
 
 use super::{shows, sizes};
 use netlink_core::{DefaultNla, NlaBuffer, Parseable, Wire, canonical, write_new};
@@ -8,9 +9,9 @@ use std::alloc::Global;
 use std::fmt::Debug;
 use std::process::Abort;
 
-/// What is read in place too.
+/// A type that has a borrowed form, a view.
 pub(super) trait Viewed: Wire<Param = ()> + Debug + Drop {
-    /// What is shown of it in place, and a copy with memory of its own.
+    /// Parses a view. Returns the text that `Debug` prints for it, and a clone of its owned copy.
     fn viewed(rt: &impl Abort, alloc: Global, bytes: &[u8]) -> (String, Self);
 }
 
@@ -43,8 +44,9 @@ impl Viewed for inet::Nla {
     }
 }
 
-// What is read from the bytes, with memory of its own, copied and in place, is shown like this, and
-// written as these bytes.
+// Asserts that the bytes parse as an owned value and as a view, which `Debug` prints as these
+// texts, that the view's owned copy prints as the owned value does, and that the canonical form is
+// `written`.
 fn told<T: Viewed>(
     rt: &impl Abort,
     alloc: Global,
@@ -61,8 +63,8 @@ fn told<T: Viewed>(
     assert!(rt; form.as_slice() == written, "{form:?}");
 }
 
-// In each row: bytes, what they are written as, what is shown of the value and, where it is another
-// text, of what is read in place.
+// Checks each row: the bytes and their canonical form, in hexadecimal, and the text of the owned
+// value. After a `|` the text of the view follows, if it differs.
 fn rows<T: Viewed>(rt: &impl Abort, alloc: Global, rows: &str) {
     for row in rows.lines() {
         let (bytes, rest) = row.split_once(' ').expect(rt, "no bytes");
@@ -151,7 +153,7 @@ fn numbers_are_shown_and_kept(rt: HostRuntime) {
     shows(&rt, alloc, &owned, "[5]");
 }
 
-// In each row: bytes, and why they are refused.
+// Checks each row: bytes in hexadecimal, and the error that rejects them.
 fn refused<T: Wire<Param = ()> + Debug + Drop>(rt: &impl Abort, alloc: Global, rows: &str) {
     for row in rows.lines() {
         let (bytes, text) = row.split_once(' ').expect(rt, "no text");
@@ -184,7 +186,7 @@ fn refusals(rt: HostRuntime) {
     refused::<inet::Nla>(&rt, rt.alloc(), NO_INET);
 }
 
-// A value is written as these bytes, and they are read like this.
+// Asserts that a value serializes to these bytes, and that these parse as this text.
 fn reads_back<T: Wire<Param = ()> + Debug + Drop>(
     rt: &impl Abort,
     alloc: Global,

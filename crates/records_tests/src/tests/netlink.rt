@@ -48,8 +48,8 @@ fn attributes_and_their_faults(rt: HostRuntime) {
     }
 }
 
-// A message of type 16 with one byte behind its header, three bytes of padding, and a bare header
-// of type 3.
+// A message of type 16 with one byte after its header and three bytes of padding, and a message of
+// type 3 without payload.
 const TWO: [u8; 36] = [
     17, 0, 0, 0, 16, 0, 0, 0, 0, 0, 0, 0, 0, 0, 0, 0, 7, 0xee, 0xee, 0xee, 16, 0, 0, 0, 3, 0, 0, 0,
     0, 0, 0, 0, 0, 0, 0, 0,
@@ -67,7 +67,7 @@ fn messages_of_a_datagram(rt: HostRuntime) {
     }
 }
 
-// Each fault, in the order of its number.
+// Returns each error, in the order of the codes.
 fn faults() -> [DecodeError; 18] {
     let which = RecordName::Vfs;
     let (kind, got, need) = (Some(2), 7, 8);
@@ -132,7 +132,7 @@ fn faults_tell_numbers_and_texts(rt: HostRuntime) {
     }
 }
 
-/// The names of the records of the port, and their texts.
+/// The record names of the port, and their texts.
 const RECORDS: [(RecordName, &str); 10] = [
     (RecordName::SocketId, "SocketId"),
     (RecordName::InetRequest, "InetRequest"),
@@ -146,7 +146,9 @@ const RECORDS: [(RecordName, &str); 10] = [
     (RecordName::UnixMemInfo, "UnixMemInfo"),
 ];
 
-// A text is read, bytes are copied, and an attribute is copied, written and rewritten.
+// Asserts that there is memory for `size` bytes: to parse a text, to copy a list, and to clone an
+// attribute, serialize it and return its canonical form. An attribute is writable if its value has
+// at most 65,531 bytes.
 fn has_room(rt: &impl Abort, alloc: Global, size: usize) {
     let bytes = vec![in alloc; b'a'; size].expect(rt, "memory");
     parse_string(alloc, &bytes).expect(rt, "refused");

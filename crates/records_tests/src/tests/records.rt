@@ -13,22 +13,23 @@ use std::net::{IpAddr, Ipv6Addr};
 use std::process::Abort;
 use std::time::Duration;
 
-// A reply about a socket with a timer that keeps it alive.
+// A reply header of a socket with a keepalive timer.
 const HEADER: [u8; 72] = [
     2, 1, 2, 0, 0xeb, 0x14, 1, 0xbb, 0xc0, 0xa8, 0xb2, 0x3c, 0, 0, 0, 0, 0, 0, 0, 0, 0, 0, 0, 0,
     0xac, 0xd9, 0x17, 0x83, 0, 0, 0, 0, 0, 0, 0, 0, 0, 0, 0, 0, 0, 0, 0, 0, 0x52, 3, 0, 0, 0, 0, 0,
     0, 0x80, 0x60, 0, 0, 0, 0, 0, 0, 0, 0, 0, 0, 0xe8, 3, 0, 0, 0xa8, 0xda, 0x29, 0,
 ];
 
-// A request for IPv4 sockets with other bytes in its pad, its undefined flag bits and behind the
-// first address. Its identity has ports 53 and 54321 at 127.0.0.1.
+// A request for IPv4 sockets with nonzero bytes in `pad`, in the undefined flag bits, and after the
+// source address. Its id has the ports 53 and 54321, and the addresses 127.0.0.1.
 const LOOSE_INET: [u8; 56] = [
     2, 0x11, 0, 0xee, 255, 255, 255, 255, 0, 0x35, 0xd4, 0x31, 127, 0, 0, 1, 238, 238, 238, 238,
     238, 238, 238, 238, 238, 238, 238, 238, 127, 0, 0, 1, 0, 0, 0, 0, 0, 0, 0, 0, 0, 0, 0, 0, 1, 0,
     0, 0, 0, 1, 2, 3, 4, 5, 6, 7,
 ];
 
-// A request with undefined flag bits, other bytes in its pads, and three bytes more.
+// A request for UNIX sockets with undefined flag bits, other values in the bytes that are ignored,
+// and three more bytes.
 const LOOSE_UNIX: [u8; 27] = [
     7, 9, 255, 255, 255, 255, 255, 255, 0x34, 0x12, 0, 0, 255, 255, 255, 255, 255, 255, 255, 255,
     255, 255, 255, 255, 0xaa, 0xbb, 0xcc,
@@ -38,7 +39,7 @@ const UNIX: [u8; 24] = [
     1, 0, 0, 0, 2, 4, 0, 0, 0x34, 0x12, 0, 0, 0x3f, 0, 0, 0, 255, 255, 255, 255, 255, 255, 255, 255,
 ];
 
-// Each byte tells its own place.
+// Returns bytes of which each is its own offset.
 fn places() -> [u8; 232] {
     let mut places = [0; 232];
     for place in 0..232_u8 {
@@ -51,8 +52,8 @@ fn same(rt: &impl Abort, bytes: &[u8], wanted: &[u8]) {
     assert!(rt; bytes == wanted, "{bytes:?}");
 }
 
-// The bytes are read as the value that is shown like this, and it is written as `written`. One byte
-// less is refused as `short` tells.
+// Asserts that the bytes parse as the text, and that their canonical form is `written`. With one
+// byte less, they are rejected with the error `short`.
 fn reads<T: Fills<N> + Debug + Drop, const N: usize>(
     rt: &impl Abort,
     alloc: Global,
@@ -69,12 +70,12 @@ fn reads<T: Fills<N> + Debug + Drop, const N: usize>(
     shows(rt, alloc, &T::read(alloc, cut, told), short);
 }
 
-// The value is written as these bytes.
+// Asserts that the value serializes to these bytes.
 fn is_written<T: Fills<N>, const N: usize>(rt: &impl Abort, value: &T, bytes: [u8; N]) {
     same(rt, &RecordBuffer::from(value).to_bytes(), &bytes);
 }
 
-// What is read of a UNIX socket's memory, without the words that nothing is told of.
+// The canonical form of `places` as the memory of a UNIX socket: the ignored fields are 0.
 const UNIX_MEMORY: [u8; 36] = [
     0, 0, 0, 0, 4, 5, 6, 7, 0, 0, 0, 0, 12, 13, 14, 15, 0, 0, 0, 0, 20, 21, 22, 23, 0, 0, 0, 0, 0,
     0, 0, 0, 0, 0, 0, 0,
@@ -114,8 +115,8 @@ sndbuf_limited: 13816689325120338360, delivered: 3284320704, delivered_ce: 33516
 bytes_sent: 14974132090529565128, bytes_retrans: 15552853473234178512, dsack_dups: 3688552920, \
 reord_seen: 3755924956, rcv_ooopack: 3823296992, snd_wnd: 3890669028 }";
 
-// The bytes are read as seven words and what is shown behind them, and the value is written as what
-// is kept: up to the last whole word.
+// Asserts that the bytes parse as seven `u32` and the fields in `end`, and that the value
+// serializes to `kept`, up to the last whole `u32`.
 fn words(rt: &impl Abort, alloc: Global, bytes: &[u8], end: &str, kept: &[u8]) {
     let value = MemInfo::parse(bytes).expect(rt, "refused");
     let written = MemInfoBuffer::from(&value);
@@ -163,7 +164,7 @@ fn headers_of_replies(rt: HostRuntime) {
     reads::<InetResponseHeader, 72>(&rt, alloc, &HEADER, (), (text, short), &HEADER);
 }
 
-// The header with another timer, another number of retransmits and another time.
+// Returns the reply header with another timer, number of retransmits and time.
 fn with_timer(timer: [u8; 2], expires: [u8; 4]) -> [u8; 72] {
     let mut bytes = HEADER;
     bytes[2..4].copy_from_slice(&timer);

@@ -1,4 +1,4 @@
-//! Readers, copies and writers over inputs of each size: no allocation fails if there is memory.
+//! Tests that parsers, copies and serializers succeed for inputs of each size, if there is memory.
 
 use super::attributes::Viewed;
 use super::shows;
@@ -8,7 +8,7 @@ use sock_diag_attributes::unix::nlas::{Nla, NlaView, UnixDiagName};
 use std::alloc::{AllocError, Global};
 use std::process::Abort;
 
-/// The bytes of an attribute of this length and kind, whose value has one byte again and again.
+/// Returns the bytes of an attribute of this length and kind. Each byte of the value is `byte`.
 pub(super) fn attribute(
     alloc: Global,
     length: u16,
@@ -21,7 +21,7 @@ pub(super) fn attribute(
     Ok(bytes)
 }
 
-/// Asserts that a value is read, copied from a borrowed one, shown and written.
+/// Asserts that a value is parsed, copied from its view, printed, and serialized.
 fn has_room<T: Viewed>(rt: &impl Abort, alloc: Global, bytes: &[u8]) {
     let value = T::read(alloc, bytes, ()).expect(rt, "refused");
     T::viewed(rt, alloc, bytes);
@@ -29,7 +29,7 @@ fn has_room<T: Viewed>(rt: &impl Abort, alloc: Global, bytes: &[u8]) {
     assert!(rt; canonical::<T>(alloc, bytes, ()).is_ok());
 }
 
-/// Sizes over 300, up to a million. Tests of sizes also have each size up to 300.
+/// Sizes from 512 to 1,000,000. Tests of sizes also have each size up to 300.
 pub(super) const LARGE: [usize; 16] = [
     512, 1_000, 1_024, 2_048, 4_096, 8_192, 10_000, 16_384, 32_768, 65_531, 65_536, 100_000,
     131_072, 262_144, 524_288, 1_000_000,
@@ -48,7 +48,8 @@ fn names(rt: HostRuntime) {
     }
 }
 
-/// Lengths of attributes over 304, with the 4 bytes of the header, all multiples of 4.
+/// Lengths of attributes, including the 4 bytes of the header, from 516 to 65,532. All are
+/// multiples of 4.
 const LENGTHS: [u16; 11] = [
     516, 1_004, 1_028, 2_052, 4_100, 8_196, 10_004, 16_388, 32_772, 50_004, 65_532,
 ];
@@ -64,7 +65,7 @@ fn unix_attributes(rt: HostRuntime) {
     }
 }
 
-/// Asserts that a list of numbers is read, copied from a borrowed one, shown and written.
+/// Asserts that a list of `u32` is parsed, copied from its view, printed, and serialized.
 fn has_room_for_numbers(rt: &impl Abort, alloc: Global, bytes: &[u8]) {
     has_room::<Nla>(rt, alloc, bytes);
     let nla = NlaBuffer::new_checked(bytes).expect(rt, "refused");
@@ -74,7 +75,7 @@ fn has_room_for_numbers(rt: &impl Abort, alloc: Global, bytes: &[u8]) {
     assert!(rt; numbers.to_owned(alloc).is_ok());
 }
 
-/// Numbers of 32-bit numbers in a list over 300.
+/// Lengths of lists of `u32`, from 512 to 16,382.
 const COUNTS: [u16; 7] = [512, 1_000, 1_024, 4_096, 8_192, 10_000, 16_382];
 
 #[test]
@@ -95,7 +96,8 @@ fn inet_attributes(rt: HostRuntime) {
             has_room::<InetNla>(&rt, alloc, &bytes.expect(&rt, "memory"));
         }
     }
-    // A text of the longest attribute has no room for its end zero.
+    // The longest text fills its attribute, and leaves no byte for the terminating NUL that the
+    // serializer appends.
     let long = attribute(alloc, u16::MAX, 4, b'a').expect(&rt, "memory");
     let form = canonical::<InetNla>(alloc, &long, ());
     shows(&rt, alloc, &form, "Err(Unwritable)");

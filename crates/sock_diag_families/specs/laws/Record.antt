@@ -1,4 +1,4 @@
--- The layouts of the requests and headers are sound.
+-- The layouts of the requests and of the headers are sound (`IsSound`).
 use Rattle.std.proofs.Common.{◌<◌, ℕ, ◌%◌, IsTrue, lt-ltb, refl, arith}
 use Rattle.netlink_core.specs.Layout.{table}
 use Rattle.netlink_core.specs.laws.Sound.{IsSound, is_table}

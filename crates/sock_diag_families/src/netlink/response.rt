@@ -1,4 +1,4 @@
-//! The header of a reply about one netlink socket.
+//! The header of a reply about a netlink socket.
 
 ghost use Rattle.std.proofs.Common.{rules};
 ghost use Rattle.netlink_core.proofs.LayoutLaws.{record_laws};
@@ -10,26 +10,28 @@ use netlink_core::fields::{long_words_at, words_at};
 use netlink_core::{DecodeError, Exact, Record, RecordName};
 use sock_diag_records::constants::AF_NETLINK;
 
-/// The header of a reply about a netlink socket: `struct netlink_diag_msg`, 28 bytes, numbers low
-/// byte first. The byte at 0 is not read, and is written AF_NETLINK (16).
+/// The header of a reply about a netlink socket: `struct netlink_diag_msg`, 28 bytes,
+/// little-endian. The byte at offset 0 (`ndiag_family`) is ignored, and serialized as AF_NETLINK
+/// (16).
 #[repr(C)]
 #[derive(Clone, Copy, Debug, PartialEq, Eq)]
 pub struct NetlinkResponseHeader {
-    /// The type of the socket, SOCK_RAW (3) or SOCK_DGRAM (2), `ndiag_type`, at 1.
+    /// Socket type (`ndiag_type`), SOCK_RAW (3) or SOCK_DGRAM (2), at offset 1.
     pub kind: u8,
-    /// The protocol, one of `linux/netlink.h`, `ndiag_protocol`, at 2.
+    /// Protocol (`ndiag_protocol`), `NETLINK_*` of `linux/netlink.h`, at offset 2.
     pub protocol: u8,
-    /// The state, 1 of a socket that is connected to another, `ndiag_state`, at 3.
+    /// State (`ndiag_state`), 1 if the socket is connected to another one, at offset 3.
     pub state: u8,
-    /// The port number of the socket, `ndiag_portid`, at 4: 0 is the kernel's.
+    /// Port id of the socket (`ndiag_portid`), at offset 4. The kernel has port id 0.
     pub port: u32,
-    /// That of the socket that it is connected to, `ndiag_dst_portid`, at 8.
+    /// Port id of the socket that this one is connected to (`ndiag_dst_portid`), at offset 8.
     pub destination_port: u32,
-    /// The groups that it sends to, `ndiag_dst_group`, at 12.
+    /// Number of the multicast group that the socket is connected to (`ndiag_dst_group`), at offset
+    /// 12. It is one group's number, not a mask; 0 means none.
     pub destination_group: u32,
-    /// The inode of the socket, `ndiag_ino`, at 16.
+    /// Inode number of the socket (`ndiag_ino`), at offset 16.
     pub inode: u32,
-    /// What tells the socket from others of its inode, `ndiag_cookie`, at 20.
+    /// Cookie that distinguishes sockets with the same inode number (`ndiag_cookie`), at offset 20.
     pub cookie: u64,
 }
 
@@ -50,8 +52,8 @@ impl Record for NetlinkResponseHeader {
         28
     }
 
-    /// Reads the first 28 bytes. What follows them is ignored, and fewer are
-    /// [`DecodeError::BufferTooSmall`].
+    /// Parses the first 28 bytes, and ignores the bytes after them. There have to be 28 bytes: the
+    /// caller checks this first, and reports [`DecodeError::BufferTooSmall`].
     fn from_fields(payload: &[u8], _param: ()) -> Result<Self, DecodeError> {
         let [port, destination_port, destination_group, inode] = words_at::<4>(payload, 4);
         let [cookie] = long_words_at::<1>(payload, 20);

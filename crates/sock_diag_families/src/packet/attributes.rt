@@ -1,4 +1,4 @@
-//! What the values of attributes of a reply about a packet socket tell.
+//! The values of attributes of a reply about a packet socket.
 
 ghost use Rattle.std.proofs.Common.{rules};
 ghost use Rattle.std.specs.Prelude.{◌≡◌};
@@ -10,22 +10,25 @@ use netlink_core::fields::words_at;
 use netlink_core::{DecodeError, Exact};
 use sock_diag_records::constants::AF_PACKET;
 
-/// What a packet socket is set to: `struct packet_diag_info`, the first 24 bytes of
-/// `PACKET_DIAG_INFO`, six words, low byte first.
+/// Settings of a packet socket: `struct packet_diag_info`, the first 24 bytes of the value of
+/// `PACKET_DIAG_INFO`: six `u32`, little-endian. `linux/if_packet.h` has the socket options.
 #[repr(C)]
 #[derive(Clone, Copy, Debug, PartialEq, Eq)]
 pub struct PacketInfo {
-    /// The interface that the socket is bound to, 0 for all, at 0.
+    /// Index of the interface that the socket is bound to (`pdi_index`), at offset 0. 0 means all
+    /// interfaces.
     pub interface: u32,
-    /// The layout of a ring's frames, one of `TPACKET_V..`, at 4.
+    /// Version of the ring's frame format (`pdi_version`), `TPACKET_V*`, at offset 4.
     pub version: u32,
-    /// The bytes that a frame keeps free for the program, at 8.
+    /// Headroom that is reserved in a frame of the ring, in bytes (`pdi_reserve`, option
+    /// `PACKET_RESERVE`), at offset 8.
     pub reserve: u32,
-    /// From how many bytes on a packet is also copied to the queue, at 12.
+    /// Copy threshold (`pdi_copy_thresh`, option `PACKET_COPY_THRESH`), at offset 12. If it is not
+    /// 0, a packet that is longer than a frame of the ring is also copied to the receive queue.
     pub copy_threshold: u32,
-    /// Which clocks tell the time of a packet, at 16.
+    /// Type of the timestamps (`pdi_tstamp`, option `PACKET_TIMESTAMP`), at offset 16.
     pub timestamp: u32,
-    /// The bits `PDI_..`, at 20.
+    /// Flags (`pdi_flags`), bits `PDI_*`, at offset 20.
     pub flags: u32,
 }
 
@@ -34,7 +37,7 @@ impl Exact for PacketInfo {
 }
 
 impl PacketInfo {
-    /// What the value of an attribute `PACKET_DIAG_INFO` tells. Fewer than 24 bytes are
+    /// Parses the value of an attribute `PACKET_DIAG_INFO`. Fewer than 24 bytes are
     /// `BufferTooSmall`.
     pub fn parse(value: &[u8]) -> Result<PacketInfo, DecodeError>
         ensures { result ≡ packet_info value.now }
@@ -60,23 +63,25 @@ impl PacketInfo {
 }
 
 /// A ring that a packet socket shares with its program: `struct packet_diag_ring`, the first 28
-/// bytes of `PACKET_DIAG_RX_RING` and `PACKET_DIAG_TX_RING`, seven words, low byte first.
+/// bytes of the value of `PACKET_DIAG_RX_RING` or `PACKET_DIAG_TX_RING`: seven `u32`,
+/// little-endian.
 #[repr(C)]
 #[derive(Clone, Copy, Debug, PartialEq, Eq)]
 pub struct PacketRing {
-    /// The bytes of a block, at 0.
+    /// Size of a block in bytes (`pdr_block_size`), at offset 0.
     pub block_size: u32,
-    /// The number of blocks, at 4.
+    /// Number of blocks (`pdr_block_nr`), at offset 4.
     pub blocks: u32,
-    /// The bytes of a frame, at 8.
+    /// Size of a frame in bytes (`pdr_frame_size`), at offset 8.
     pub frame_size: u32,
-    /// The number of frames, at 12.
+    /// Number of frames (`pdr_frame_nr`), at offset 12.
     pub frames: u32,
-    /// After how many milliseconds a block is handed over that isn't full, at 16.
+    /// Time after which a block that is not full is passed to the program, in milliseconds
+    /// (`pdr_retire_tmo`), at offset 16.
     pub retire_timeout: u32,
-    /// The bytes of a block that are the program's, at 20.
+    /// Size of the program's private area in a block, in bytes (`pdr_sizeof_priv`), at offset 20.
     pub private_size: u32,
-    /// The bits `TP_FT_..`, at 24.
+    /// Features (`pdr_features`), bits `TP_FT_*`, at offset 24.
     pub features: u32,
 }
 
@@ -85,8 +90,8 @@ impl Exact for PacketRing {
 }
 
 impl PacketRing {
-    /// What the value of an attribute `PACKET_DIAG_RX_RING` or `PACKET_DIAG_TX_RING`, which a fault
-    /// names by its kind, tells. Fewer than 28 bytes are `BufferTooSmall`.
+    /// Parses the value of an attribute `PACKET_DIAG_RX_RING` or `PACKET_DIAG_TX_RING`. Fewer than
+    /// 28 bytes are `BufferTooSmall`. `kind` is the attribute's kind, which this error contains.
     pub fn parse(value: &[u8], kind: u16) -> Result<PacketRing, DecodeError>
         ensures { result ≡ packet_ring kind value.now }
     {

@@ -1,4 +1,4 @@
-//! The header of a reply about one packet socket.
+//! The header of a reply about a packet socket.
 
 ghost use Rattle.std.proofs.Common.{rules};
 ghost use Rattle.netlink_core.proofs.LayoutLaws.{record_laws};
@@ -10,18 +10,19 @@ use netlink_core::fields::{long_words_at, words_at};
 use netlink_core::{DecodeError, Exact, Record, RecordName};
 use sock_diag_records::constants::AF_PACKET;
 
-/// The header of a reply about a packet socket: `struct packet_diag_msg`, 16 bytes, numbers low
-/// byte first. The byte at 0 is not read, and is written AF_PACKET (17).
+/// The header of a reply about a packet socket: `struct packet_diag_msg`, 16 bytes, little-endian.
+/// The byte at offset 0 (`pdiag_family`) is ignored, and serialized as AF_PACKET (17).
 #[repr(C)]
 #[derive(Clone, Copy, Debug, PartialEq, Eq)]
 pub struct PacketResponseHeader {
-    /// The type of the socket, one of `SOCK_..`, `pdiag_type`, at 1.
+    /// Socket type (`pdiag_type`), `SOCK_*`, at offset 1.
     pub kind: u8,
-    /// The protocol, one of `linux/if_ether.h`, `pdiag_num`, at 2.
+    /// Protocol (`pdiag_num`), `ETH_P_*` of `linux/if_ether.h`, at offset 2. It is not in network
+    /// byte order.
     pub protocol: u16,
-    /// The inode of the socket, `pdiag_ino`, at 4.
+    /// Inode number of the socket (`pdiag_ino`), at offset 4.
     pub inode: u32,
-    /// What tells the socket from others of its inode, `pdiag_cookie`, at 8.
+    /// Cookie that distinguishes sockets with the same inode number (`pdiag_cookie`), at offset 8.
     pub cookie: u64,
 }
 
@@ -42,8 +43,8 @@ impl Record for PacketResponseHeader {
         16
     }
 
-    /// Reads the first 16 bytes. What follows them is ignored, and fewer are
-    /// [`DecodeError::BufferTooSmall`].
+    /// Parses the first 16 bytes, and ignores the bytes after them. There have to be 16 bytes: the
+    /// caller checks this first, and reports [`DecodeError::BufferTooSmall`].
     fn from_fields(payload: &[u8], _param: ()) -> Result<Self, DecodeError> {
         let [inode] = words_at::<1>(payload, 4);
         let [cookie] = long_words_at::<1>(payload, 8);

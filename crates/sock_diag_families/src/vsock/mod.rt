@@ -1,4 +1,4 @@
-//! Sockets between a virtual machine and its host, after `linux/vm_sockets_diag.h`.
+//! Sockets between a virtual machine and its host, by `linux/vm_sockets_diag.h`.
 
 mod request;
 mod response;
@@ -6,5 +6,5 @@ mod response;
 pub use request::VsockRequest;
 pub use response::VsockResponseHeader;
 
-/// The family of these sockets, `AF_VSOCK` of `linux/socket.h`.
+/// The address family of vsock sockets, `AF_VSOCK` of `linux/socket.h`.
 pub const AF_VSOCK: u8 = 40;

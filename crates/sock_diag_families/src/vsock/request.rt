@@ -10,15 +10,16 @@ use byteorder::{ByteOrder, LittleEndian};
 use netlink_core::fields::{long_words_at, words_at};
 use netlink_core::{DecodeError, Exact, Record, RecordName};
 
-/// The request for vsock sockets: `struct vsock_diag_req`, 24 bytes, numbers low byte first. The
-/// bytes at 0 to 3 and 8 to 15 are not read; they are written AF_VSOCK (40) and zeros, as the
-/// kernel asks. It lists sockets alone: none is asked for by itself.
+/// A request for vsock sockets: `struct vsock_diag_req`, 24 bytes, little-endian. The bytes at
+/// offsets 0 to 3 (`sdiag_family`, `sdiag_protocol`, `pad`) and 8 to 15 (`vdiag_ino`, `vdiag_show`)
+/// are ignored. They are serialized as AF_VSOCK (40) and zeros, as the kernel requires. Linux only
+/// lists all sockets: a single socket cannot be requested.
 #[derive(Clone, Copy, Debug, PartialEq, Eq)]
 pub struct VsockRequest {
-    /// Which states are asked for, `vdiag_states`, at 4: the bit `1 << TCP_LISTEN` for the state
-    /// `TCP_LISTEN`.
+    /// Requested states (`vdiag_states`), at offset 4. The bit of a state is `1 << state`, such as
+    /// `1 << TCP_LISTEN`.
     pub states: u32,
-    /// What tells a socket from others, `vdiag_cookie`, at 16. Linux doesn't look at it.
+    /// Cookie of a single socket (`vdiag_cookie`), at offset 16. Linux ignores it.
     pub cookie: u64,
 }
 
@@ -39,8 +40,8 @@ impl Record for VsockRequest {
         24
     }
 
-    /// Reads the first 24 bytes. What follows them is ignored, and fewer are
-    /// [`DecodeError::BufferTooSmall`].
+    /// Parses the first 24 bytes, and ignores the bytes after them. There have to be 24 bytes: the
+    /// caller checks this first, and reports [`DecodeError::BufferTooSmall`].
     fn from_fields(payload: &[u8], _param: ()) -> Result<Self, DecodeError> {
         let [states] = words_at::<1>(payload, 4);
         let [cookie] = long_words_at::<1>(payload, 16);

@@ -1,4 +1,4 @@
-//! The header of a reply about one vsock socket.
+//! The header of a reply about a vsock socket.
 
 ghost use Rattle.std.proofs.Common.{rules};
 ghost use Rattle.netlink_core.proofs.LayoutLaws.{record_laws};
@@ -10,29 +10,30 @@ use byteorder::{ByteOrder, LittleEndian};
 use netlink_core::fields::{long_words_at, long_words_in_range, words_at};
 use netlink_core::{DecodeError, Exact, Record, RecordName};
 
-/// The header of a reply about a vsock socket: `struct vsock_diag_msg`, 32 bytes, numbers low byte
-/// first. The byte at 0 is not read, and is written AF_VSOCK (40). No attributes follow it.
+/// The header of a reply about a vsock socket: `struct vsock_diag_msg`, 32 bytes, little-endian.
+/// The byte at offset 0 (`vdiag_family`) is ignored, and serialized as AF_VSOCK (40). No attributes
+/// follow the header.
 #[repr(C)]
 #[derive(Clone, Copy, Debug, PartialEq, Eq)]
 pub struct VsockResponseHeader {
-    /// The type of the socket, one of `SOCK_..`, `vdiag_type`, at 1.
+    /// Socket type (`vdiag_type`), `SOCK_*`, at offset 1.
     pub kind: u8,
-    /// The state, one of `TCP_..`, `vdiag_state`, at 2.
+    /// State (`vdiag_state`), `TCP_*`, at offset 2.
     pub state: u8,
-    /// Which directions the socket shut down, `vdiag_shutdown`, at 3: the bit 1 for receiving, the
-    /// bit 2 for sending.
+    /// Directions that the socket has shut down (`vdiag_shutdown`), at offset 3: 1 (`RCV_SHUTDOWN`)
+    /// for receiving, 2 (`SEND_SHUTDOWN`) for sending, 3 for both.
     pub shutdown: u8,
-    /// The context of the socket, `vdiag_src_cid`, at 4: 2 is the host.
+    /// Context id of the socket (`vdiag_src_cid`), at offset 4. The host has context id 2.
     pub source_context: u32,
-    /// The port of the socket, `vdiag_src_port`, at 8.
+    /// Port of the socket (`vdiag_src_port`), at offset 8.
     pub source_port: u32,
-    /// The context of the peer, `vdiag_dst_cid`, at 12.
+    /// Context id of the peer (`vdiag_dst_cid`), at offset 12.
     pub destination_context: u32,
-    /// The port of the peer, `vdiag_dst_port`, at 16.
+    /// Port of the peer (`vdiag_dst_port`), at offset 16.
     pub destination_port: u32,
-    /// The inode of the socket, `vdiag_ino`, at 20.
+    /// Inode number of the socket (`vdiag_ino`), at offset 20.
     pub inode: u32,
-    /// What tells the socket from others of its inode, `vdiag_cookie`, at 24.
+    /// Cookie that distinguishes sockets with the same inode number (`vdiag_cookie`), at offset 24.
     pub cookie: u64,
 }
 
@@ -53,8 +54,8 @@ impl Record for VsockResponseHeader {
         32
     }
 
-    /// Reads the first 32 bytes. What follows them is ignored, and fewer are
-    /// [`DecodeError::BufferTooSmall`].
+    /// Parses the first 32 bytes, and ignores the bytes after them. There have to be 32 bytes: the
+    /// caller checks this first, and reports [`DecodeError::BufferTooSmall`].
     fn from_fields(payload: &[u8], _param: ()) -> Result<Self, DecodeError> {
         let [
             source_context,

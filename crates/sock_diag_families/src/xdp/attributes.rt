@@ -1,4 +1,4 @@
-//! What the values of attributes of a reply about an XDP socket tell.
+//! The values of attributes of a reply about an XDP socket.
 
 ghost use Rattle.std.proofs.Common.{rules};
 ghost use Rattle.std.specs.Prelude.{◌≡◌, ◌≤◌, length};
@@ -10,13 +10,14 @@ use crate::values::enough_in;
 use netlink_core::fields::{long_words_at, words_at};
 use netlink_core::{DecodeError, Exact};
 
-/// Where an XDP socket is bound: `struct xdp_diag_info`, the first 8 bytes of `XDP_DIAG_INFO`.
+/// The interface and the queue that an XDP socket is bound to: `struct xdp_diag_info`, the first 8
+/// bytes of the value of `XDP_DIAG_INFO`, little-endian.
 #[repr(C)]
 #[derive(Clone, Copy, Debug, PartialEq, Eq)]
 pub struct XdpInfo {
-    /// The interface, a `u32` at 0.
+    /// Index of the interface (`ifindex`), at offset 0.
     pub interface: u32,
-    /// Its queue, a `u32` at 4.
+    /// Index of the interface's queue (`queue_id`), at offset 4.
     pub queue: u32,
 }
 
@@ -25,8 +26,7 @@ impl Exact for XdpInfo {
 }
 
 impl XdpInfo {
-    /// What the value of an attribute `XDP_DIAG_INFO` tells. Fewer than 8 bytes are
-    /// `BufferTooSmall`.
+    /// Parses the value of an attribute `XDP_DIAG_INFO`. Fewer than 8 bytes are `BufferTooSmall`.
     pub fn parse(value: &[u8]) -> Result<XdpInfo, DecodeError>
         ensures { result ≡ xdp_info value.now }
     {
@@ -36,28 +36,28 @@ impl XdpInfo {
     }
 }
 
-/// The memory that an XDP socket shares with its program: `struct xdp_diag_umem`, the first 40
-/// bytes of `XDP_DIAG_UMEM`.
+/// The memory that an XDP socket shares with its program (UMEM): `struct xdp_diag_umem`, the first
+/// 40 bytes of the value of `XDP_DIAG_UMEM`, little-endian.
 #[repr(C)]
 #[derive(Clone, Copy, Debug, PartialEq, Eq)]
 pub struct XdpUmem {
-    /// Its bytes, a `u64` at 0. What follows is a `u32` each.
+    /// Size of the memory in bytes (`size`), at offset 0.
     pub size: u64,
-    /// Its number, at 8.
+    /// Id of the memory (`id`), at offset 8.
     pub id: u32,
-    /// Its pages, at 12.
+    /// Number of pages (`num_pages`), at offset 12.
     pub pages: u32,
-    /// The bytes of a chunk, at 16.
+    /// Size of a chunk in bytes (`chunk_size`), at offset 16.
     pub chunk_size: u32,
-    /// The bytes of a chunk that are the program's, at 20.
+    /// Headroom of a chunk that the program reserves, in bytes (`headroom`), at offset 20.
     pub headroom: u32,
-    /// The interface that it is bound to, at 24.
+    /// Index of the interface that the memory is bound to (`ifindex`), at offset 24.
     pub interface: u32,
-    /// The queue of the interface, at 28.
+    /// Index of the interface's queue (`queue_id`), at offset 28.
     pub queue: u32,
-    /// The bit `XDP_DU_F_ZEROCOPY`, 1, at 32.
+    /// Flags (`flags`), the bit `XDP_DU_F_ZEROCOPY` (1), at offset 32.
     pub flags: u32,
-    /// How many sockets share it, at 36.
+    /// Number of sockets that share the memory (`refs`), at offset 36.
     pub references: u32,
 }
 
@@ -66,8 +66,7 @@ impl Exact for XdpUmem {
 }
 
 impl XdpUmem {
-    /// What the value of an attribute `XDP_DIAG_UMEM` tells. Fewer than 40 bytes are
-    /// `BufferTooSmall`.
+    /// Parses the value of an attribute `XDP_DIAG_UMEM`. Fewer than 40 bytes are `BufferTooSmall`.
     pub fn parse(value: &[u8]) -> Result<XdpUmem, DecodeError>
         ensures { result ≡ xdp_umem value.now }
     {
@@ -76,22 +75,27 @@ impl XdpUmem {
     }
 }
 
-/// What an XDP socket counted: `struct xdp_diag_stats`, the first 48 bytes of `XDP_DIAG_STATS`, six
-/// `u64`.
+/// The counters of an XDP socket: `struct xdp_diag_stats`, the first 48 bytes of the value of
+/// `XDP_DIAG_STATS`: six `u64`, little-endian.
 #[repr(C)]
 #[derive(Clone, Copy, Debug, PartialEq, Eq)]
 pub struct XdpStatistics {
-    /// Packets dropped for another reason than those below, at 0.
+    /// Number of received packets that were dropped for reasons other than the following
+    /// (`n_rx_dropped`), at offset 0.
     pub received_dropped: u64,
-    /// Packets with a bad address of a frame, at 8.
+    /// Number of received packets that were dropped because of an invalid descriptor
+    /// (`n_rx_invalid`), at offset 8.
     pub received_invalid: u64,
-    /// Packets dropped since the ring was full, at 16.
+    /// Number of received packets that were dropped because the receive ring was full
+    /// (`n_rx_full`), at offset 16.
     pub received_full: u64,
-    /// Packets without a frame to fill, at 24.
+    /// Number of times that a frame was needed and the fill ring was empty (`n_fill_ring_empty`),
+    /// at offset 24.
     pub fill_ring_empty: u64,
-    /// Bad addresses of frames to send, at 32.
+    /// Number of packets that were not sent because of an invalid descriptor (`n_tx_invalid`), at
+    /// offset 32.
     pub sent_invalid: u64,
-    /// How often nothing was there to send, at 40.
+    /// Number of times that the transmit ring was found empty (`n_tx_ring_empty`), at offset 40.
     pub send_ring_empty: u64,
 }
 
@@ -100,8 +104,7 @@ impl Exact for XdpStatistics {
 }
 
 impl XdpStatistics {
-    /// What the value of an attribute `XDP_DIAG_STATS` tells. Fewer than 48 bytes are
-    /// `BufferTooSmall`.
+    /// Parses the value of an attribute `XDP_DIAG_STATS`. Fewer than 48 bytes are `BufferTooSmall`.
     pub fn parse(value: &[u8]) -> Result<XdpStatistics, DecodeError>
         ensures { result ≡ xdp_statistics value.now }
     {
@@ -110,7 +113,7 @@ impl XdpStatistics {
     }
 }
 
-// The memory that so many bytes tell.
+// Parses a `struct xdp_diag_umem`.
 fn umem_in(value: &[u8]) -> XdpUmem
     requires { 40 ≤ length value.now }
     ensures { result ≡ xdp_umem_in value.now }
@@ -139,7 +142,7 @@ fn umem_in(value: &[u8]) -> XdpUmem
     }
 }
 
-// The counts that so many bytes tell.
+// Parses a `struct xdp_diag_stats`.
 fn statistics_in(value: &[u8]) -> XdpStatistics
     requires { 48 ≤ length value.now }
     ensures { result ≡ xdp_statistics_in value.now }

@@ -1,4 +1,4 @@
-//! The header of a reply about one XDP socket.
+//! The header of a reply about an XDP socket.
 
 ghost use Rattle.std.proofs.Common.{rules};
 ghost use Rattle.netlink_core.proofs.LayoutLaws.{record_laws};
@@ -10,16 +10,17 @@ use byteorder::{ByteOrder, LittleEndian};
 use netlink_core::fields::{long_words_at, words_at};
 use netlink_core::{DecodeError, Exact, Record, RecordName};
 
-/// The header of a reply about an XDP socket: `struct xdp_diag_msg`, 16 bytes, numbers low
-/// byte first. The bytes at 0, 2 and 3 are not read, and are written AF_XDP (44) and zeros.
+/// The header of a reply about an XDP socket: `struct xdp_diag_msg`, 16 bytes, little-endian. The
+/// bytes at offsets 0 (`xdiag_family`), 2 and 3 (`pad`) are ignored, and serialized as AF_XDP (44)
+/// and 0.
 #[repr(C)]
 #[derive(Clone, Copy, Debug, PartialEq, Eq)]
 pub struct XdpResponseHeader {
-    /// The type of the socket, SOCK_RAW (3), `xdiag_type`, at 1.
+    /// Socket type (`xdiag_type`), SOCK_RAW (3), at offset 1.
     pub kind: u8,
-    /// The inode of the socket, `xdiag_ino`, at 4.
+    /// Inode number of the socket (`xdiag_ino`), at offset 4.
     pub inode: u32,
-    /// What tells the socket from others of its inode, `xdiag_cookie`, at 8.
+    /// Cookie that distinguishes sockets with the same inode number (`xdiag_cookie`), at offset 8.
     pub cookie: u64,
 }
 
@@ -40,8 +41,8 @@ impl Record for XdpResponseHeader {
         16
     }
 
-    /// Reads the first 16 bytes. What follows them is ignored, and fewer are
-    /// [`DecodeError::BufferTooSmall`].
+    /// Parses the first 16 bytes, and ignores the bytes after them. There have to be 16 bytes: the
+    /// caller checks this first, and reports [`DecodeError::BufferTooSmall`].
     fn from_fields(payload: &[u8], _param: ()) -> Result<Self, DecodeError> {
         let [inode] = words_at::<1>(payload, 4);
         let [cookie] = long_words_at::<1>(payload, 8);

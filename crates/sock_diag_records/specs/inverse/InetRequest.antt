@@ -1,10 +1,10 @@
--- The request for IPv4 or IPv6 sockets with the numbers of its fields.
+-- The inverse of the layout `inet_request`.
 use Rattle.std.specs.Prelude.{ℕ, List, drop, slice_index}
 use Rattle.sock_diag_records.specs.declared.inet.request.InetRequest.{InetRequest}
 use Rattle.sock_diag_records.specs.IpVersions.{IpVersions}
 use Rattle.sock_diag_records.specs.inverse.SocketId.{socket_id_of}
 
--- the request with these values, the identity's addresses of these versions
+-- the request with these numbers in the fields that are not ignored, for these IP versions
 abbrev pub inet_request_of : IpVersions → List ℕ → InetRequest
 inet_request_of versions values = record {
   family = slice_index values 0;

@@ -1,4 +1,4 @@
--- The header of a reply about an IPv4 or IPv6 socket with the numbers of its fields.
+-- The inverse of the layout `inet_response_header`.
 use Rattle.std.specs.Prelude.{ℕ, ◌+◌, ◌*◌, ◌/◌, ◌%◌, ◌==◌, ◌||◌, if◌then◌else◌, List, drop}
 use Rattle.std.specs.Prelude.{slice_index, Option, Some, None}
 use Rattle.std.specs.declared.time.Duration.{Duration}
@@ -9,22 +9,23 @@ use Rattle.sock_diag_records.specs.declared.inet.response.InetResponseHeader.{In
 use Rattle.sock_diag_records.specs.IpVersions.{IpVersions}
 use Rattle.sock_diag_records.specs.inverse.SocketId.{count_of, socket_id_of}
 
--- so many milliseconds
+-- the duration of a number of milliseconds
 abbrev pub duration : ℕ → Duration
 duration milliseconds = record {
   secs = milliseconds / 1_000;
   nanos = milliseconds % 1_000 * 1_000_000;
 }
 
--- how many values the byte at 3 has
+-- the number of values of `idiag_retrans`, at 3: one if the class has it, else none
 abbrev pub retransmits_count : ℕ → ℕ
 retransmits_count class = if class == 1 then 1 else 0
 
--- how many values the word at 52 has
+-- the number of values of `idiag_expires`, at 52: one if the class has it, else none
 abbrev pub expires_count : ℕ → ℕ
 expires_count class = if class == 0 || class == 3 then 0 else 1
 
--- the timer of a class, with the byte at 3 and the word at 52
+-- the timer with a class, a number of retransmits (`idiag_retrans`) and a time in milliseconds
+-- (`idiag_expires`)
 abbrev pub timer_of : ℕ → ℕ → ℕ → Option Timer
 timer_of class count expires =
     if class == 1 then Some (Retransmit (duration expires) count)
@@ -32,11 +33,13 @@ timer_of class count expires =
     else if class == 3 then Some TimeWait
     else if class == 4 then Some (Probe (duration expires)) else None
 
--- how many values a socket's identity has
+-- the number of values of a socket id: two ports, the octets or segments of two addresses, the
+-- interface, and eight bytes of the cookie
 abbrev pub socket_id_count : IpVersions → ℕ
 socket_id_count versions = 2 + count_of versions.0 + count_of versions.1 + 9
 
--- the header with these values
+-- the header with these numbers in the fields that are not ignored, for a tag: IP versions and a
+-- timer class
 abbrev pub header_of : IpVersions × ℕ → List ℕ → InetResponseHeader
 header_of tag values =
     let socket = drop (retransmits_count tag.1) (drop 2 values) in

@@ -1,21 +1,21 @@
--- The identity of a socket with the numbers of its fields.
+-- The inverse of the layout `socket_id`.
 use Rattle.std.specs.Prelude.{ℕ, List, take, drop, slice_index}
 use Rattle.std.specs.declared.net.ip_addr.IpAddr.{IpAddr}
 use Rattle.std.specs.declared.net.ip_addr.IpAddr.TheVariants.{V4, V6}
 use Rattle.sock_diag_records.specs.declared.inet.socket_id.SocketId.{SocketId}
 use Rattle.sock_diag_records.specs.IpVersions.{IpVersion, ipv4, ipv6, IpVersions}
 
--- how many values an address has
+-- the number of values of an address: four octets or eight segments
 abbrev pub count_of : IpVersion → ℕ
 count_of ipv4 = 4
 count_of ipv6 = 8
 
--- the address with these values
+-- the address that starts with these octets or segments
 abbrev pub address_of : IpVersion → List ℕ → IpAddr
 address_of ipv4 values = V4 record { octets = take 4 values }
 address_of ipv6 values = V6 record { segments = take 8 values }
 
--- the identity of two ports, two addresses, and an interface before a cookie
+-- the id with two ports, two addresses, and a list of the interface and the bytes of the cookie
 abbrev pub socket_id_with : ℕ → ℕ → IpAddr → IpAddr → List ℕ → SocketId
 socket_id_with source_port destination_port source destination rest = record {
   source_port = source_port;
@@ -26,7 +26,7 @@ socket_id_with source_port destination_port source destination rest = record {
   cookie = take 8 (drop 1 rest);
 }
 
--- the identity with these values, its addresses of these versions
+-- the id with these numbers in the fields that are not ignored, for these IP versions
 abbrev pub socket_id_of : IpVersions → List ℕ → SocketId
 socket_id_of versions values =
     let addresses = drop 2 values in

@@ -1,8 +1,8 @@
--- The request for UNIX sockets with the numbers of its fields.
+-- The inverse of the layout `unix_request`.
 use Rattle.std.specs.Prelude.{ℕ, List, take, drop, slice_index}
 use Rattle.sock_diag_records.specs.declared.unix.request.UnixRequest.{UnixRequest}
 
--- the request with these values
+-- the request with these numbers in the fields that are not ignored
 abbrev pub unix_request_of : List ℕ → UnixRequest
 unix_request_of values = record {
   state_flags = record { 0 = slice_index values 0 };

@@ -1,8 +1,8 @@
--- The header of a reply about a UNIX socket with the numbers of its fields.
+-- The inverse of the layout `unix_response_header`.
 use Rattle.std.specs.Prelude.{ℕ, List, take, drop, slice_index}
 use Rattle.sock_diag_records.specs.declared.unix.response.UnixResponseHeader.{UnixResponseHeader}
 
--- the header with these values
+-- the header with these numbers in the fields that are not ignored
 abbrev pub unix_response_header_of : List ℕ → UnixResponseHeader
 unix_response_header_of values = record {
   kind = slice_index values 0;

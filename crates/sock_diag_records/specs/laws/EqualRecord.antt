@@ -1,4 +1,4 @@
--- Records that hold records are equal by each of their fields.
+-- `==` of the records that contain other records returns true if and only if all fields are equal.
 use Rattle.std.proofs.Common.{arith, ◌≡◌, ◌↔◌, ◌&&◌, Bool, eqb, IsTrue}
 use Rattle.std.specs.Option.{option_eq}
 use Rattle.sock_diag_records.specs.declared.inet.socket_id.SocketId.{SocketId}

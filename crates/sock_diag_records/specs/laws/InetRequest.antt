@@ -1,4 +1,4 @@
--- The request for IPv4 or IPv6 sockets keeps the laws.
+-- The layout `inet_request` is sound (`IsSound`), and has a fixed length of 56 bytes.
 use Rattle.std.proofs.Common.{◌≡◌, [], ◌∷◌, ◌++◌, length}
 use Rattle.std.proofs.Common.{refl, arith}
 use Rattle.netlink_core.specs.laws.Sound.{IsSound, IsFixed}
@@ -9,7 +9,7 @@ use Rattle.sock_diag_records.specs.SocketId.{socket_id}
 use Rattle.sock_diag_records.specs.InetRequest.{inet_request}
 use Rattle.sock_diag_records.specs.laws.SocketId.{socket_id_back}
 
--- the bytes of the request in pieces
+-- a request serializes to its first eight bytes and then its socket id
 pub request_pieces : (value : InetRequest)
     → bytes inet_request value ≡ (value.family ∷ value.protocol ∷ value.extensions.0 ∷ 0 ∷ [])
     ++ (little_bytes 4 value.states.0 ++ bytes socket_id value.socket_id)

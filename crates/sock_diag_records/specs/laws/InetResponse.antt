@@ -1,4 +1,4 @@
--- The layout of the header of a reply is sound.
+-- The layout `inet_response_header` is sound (`IsSound`), and has a fixed length of 72 bytes.
 use Rattle.std.proofs.Common.{IsTrue, ◌≡◌, ℕ, ◌^◌, ◌<◌}
 use Rattle.std.proofs.Common.{List, ◌++◌, drop, length}
 use Rattle.std.proofs.Common.{slice_index, Option, Some, None, Result, Ok, refl}
@@ -30,24 +30,24 @@ use Rattle.sock_diag_records.specs.Timer.{timer_data, IsWholeMilliseconds}
 use Rattle.sock_diag_records.specs.laws.SocketId.{by_versions, socket_id_back}
 use Rattle.netlink_core.specs.Table.{number, array}
 
--- the class beside what the family tells, or the family's fault
+-- the tag of IP versions and a timer class, or the error of the family
 abbrev pub with_class : ℕ → Result IpVersions DecodeError → Result (IpVersions × ℕ) DecodeError
 with_class class tag_found = map_ok (λ versions. (versions, class)) tag_found
 
--- what holds of 0 to 4 holds of each class
+-- a property of 0 to 4 holds for every timer class
 pub each : (P : ℕ → Type 0) → P 0 → P 1 → P 2 → P 3 → P 4 → (class : ℕ) → class < 5 → P class
 each P none retransmits keeps_alive waits probes class h = grind arith
 
--- ---- what is read
+-- ---- parsing
 
--- the number of the word at 52
+-- the `u32` at 52, `idiag_expires`
 abbrev expires_at : List ℕ → ℕ
 expires_at left = slice_index (values_of (array number 52 4 1) left) 0
 
 pub class_lt : (timer : ℕ) → class_of_byte timer < 5
 class_lt timer = grind arith
 
--- the fields of each tag stand in a row
+-- the fields of each tag are consecutive, and end at 72
 tables_are : (versions : IpVersions) (class : ℕ) → class < 5
     → IsTrue (is_table 0 (table inet_response_header (versions, class)) 72)
 unfolding inet_response_header
@@ -57,7 +57,7 @@ tables_are = by_versions _ (each _ refl refl refl refl refl) (each _ refl refl r
 class_of_lt : (timer : Option Timer) → (timer_data timer).0 < 5
 class_of_lt timer = grind arith
 
--- what is read has the values that were read, and a timer of whole milliseconds
+-- a parsed header has the numbers that are in the bytes, and its timer has whole milliseconds
 kept_are : (left : List ℕ) → IsBytes left → (versions : IpVersions) (class : ℕ) → class < 5
     → let numbers = values_of (table inet_response_header (versions, class)) left in
     let value = header_of (versions, class) numbers in
@@ -74,7 +74,7 @@ kept_are left h =
     (each _ (refl, refl) (rw same, whole) (rw same, whole) (refl, refl) (rw same, whole))
     (each _ (refl, refl) (rw same, whole) (rw same, whole) (refl, refl) (rw same, whole))
 
--- a header of its fields, the last five in a list
+-- the header with these fields, of which the last five are in a list
 abbrev pub header_found : ℕ → ℕ → ℕ → ℕ → SocketId → List ℕ → Result InetResponseHeader DecodeError
 header_found class family state count socket words = Ok record {
   family = family;
@@ -97,9 +97,9 @@ unfolding inet_response_header
 header_is left = by_versions _ (each _ refl refl refl refl refl) (each _ refl refl refl refl refl)
     (each _ refl refl refl refl refl) (each _ refl refl refl refl refl)
 
--- ---- a header is that of its values
+-- ---- the inverse
 
--- whole milliseconds make their duration
+-- a duration of whole milliseconds below 2^32 is the duration of its milliseconds
 duration_back : (time : Duration) → IsWholeMilliseconds time → duration (milliseconds time) ≡ time
 duration_back time whole = grind arith
 
@@ -132,9 +132,9 @@ header_back (Some TimeWait) family state socket recv send uid inode shaped whole
 header_back (Some (Probe time)) family state socket recv send uid inode shaped whole =
     simp (behind_socket, socket_id_back, shaped, duration_back time whole)
 
--- ---- the layout is sound
+-- ---- soundness
 
--- a header has 72 bytes
+-- a header serializes to 72 bytes
 pub header_long : (value : InetResponseHeader) → length (bytes inet_response_header value) ≡ 72
 unfolding inet_response_header
 header_long value = grind arith

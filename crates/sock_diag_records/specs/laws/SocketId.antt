@@ -1,4 +1,4 @@
--- The layout of a socket's identity is sound.
+-- The layout `socket_id` is sound (`IsSound`), and has a fixed length of 48 bytes.
 use Rattle.std.proofs.Common.{◌≡◌, ℕ, List, [], ◌∷◌, ◌++◌, drop, length}
 use Rattle.std.proofs.Common.{refl, sym, ap, ◌∙◌}
 use Rattle.std.proofs.Common.{arith}
@@ -28,7 +28,7 @@ use Rattle.sock_diag_records.specs.IpVersions.{versions_of}
 use Rattle.std.proofs.lemmas.List.{get_or-drop, drop-drop}
 use Rattle.std.proofs.Math.Nat.{add_assoc}
 
--- the fields, where the record begins at that offset, and the values in the fields
+-- the fields of a socket id that is stored at an offset, and the values in these fields
 abbrev pub socket_id_fields : ℕ → IpVersions → List Field
 socket_id_fields offset versions = fields_of (socket_id_rows offset versions)
 
@@ -36,12 +36,12 @@ abbrev pub socket_id_values : SocketId → List ℕ
 socket_id_values v = v.source_port ∷ v.destination_port ∷ (address_values v.source_address
     ++ (address_values v.destination_address ++ v.interface_id ∷ first 8 v.cookie))
 
--- what holds of each pair of versions
+-- a property of the four pairs of IP versions holds for every pair
 pub by_versions : (P : IpVersions → Type 0) → P (ipv4, ipv4) → P (ipv4, ipv6) → P (ipv6, ipv4)
     → P (ipv6, ipv6) → (versions : IpVersions) → P versions
 by_versions P a b c d versions = grind arith
 
--- an address is that of its values, and the values behind it are left
+-- the inverse of an address's values is the address, and the values after them remain
 address_back : (address : IpAddr) (rest : List ℕ) → IsAddress address
     → address_of (address_data address).0 (address_values address ++ rest) ≡ address
 address_back address rest h =
@@ -51,7 +51,7 @@ behind_address : (address : IpAddr) (rest : List ℕ)
     → drop (count_of (address_data address).0) (address_values address ++ rest) ≡ rest
 behind_address address rest = grind arith
 
--- an identity is that of its values, whatever follows them
+-- the inverse of a socket id's values, whatever follows them, is the socket id
 pub socket_id_back : (value : SocketId) (rest : List ℕ) → IsShaped value
     → socket_id_of (versions_of value) (socket_id_values value ++ rest) ≡ value
 socket_id_back value rest shaped =
@@ -63,7 +63,7 @@ socket_id_back value rest shaped =
       first_all 8 value.cookie shaped.2,
     )
 
--- the bytes of the record by itself
+-- the serialized form of a socket id by itself
 pub bytes_alone : (value : SocketId) → bytes socket_id value
     ≡ flat_map (big_bytes 2) (value.source_port ∷ value.destination_port ∷ [])
     ++ (address_bytes value.source_address ++ (address_bytes value.destination_address
@@ -71,7 +71,7 @@ pub bytes_alone : (value : SocketId) → bytes socket_id value
 unfolding socket_id
 bytes_alone value = grind arith
 
--- an identity has 48 bytes
+-- a socket id serializes to 48 bytes
 pub socket_id_long : (value : SocketId) → length (bytes socket_id value) ≡ 48
 unfolding socket_id
 socket_id_long value = grind arith
@@ -98,9 +98,9 @@ pub socket_id_size : IsFixed socket_id 48
 unfolding socket_id
 socket_id_size = (refl, socket_id_long)
 
--- ---- the record inside another
+-- ---- a socket id in another record
 
--- what is read so many bytes on
+-- the values of a socket id that is stored at the offset `by`
 pub values-inside : (by : ℕ) (left : List ℕ) (versions : IpVersions)
     → values_of (socket_id_fields 0 versions) (drop by left)
     ≡ values_of (socket_id_fields by versions) left
@@ -108,7 +108,7 @@ values-inside by left = by_versions _ (simp (get_or-drop, drop-drop, add_assoc))
     (simp (get_or-drop, drop-drop, add_assoc)) (simp (get_or-drop, drop-drop, add_assoc))
     (simp (get_or-drop, drop-drop, add_assoc))
 
--- and at the end of a table
+-- the values of a socket id that is stored at the offset `by`, as the last field of a table
 pub values-at_end : (by : ℕ) (left : List ℕ) (versions : IpVersions)
     → values_of (socket_id_fields 0 versions) (drop by left)
     ≡ values_of (socket_id_fields by versions ++ []) left
@@ -116,7 +116,7 @@ values-at_end by left versions = values-inside by left versions
     ∙ ap (λ (fields : List Field). values_of fields left)
     (sym (append-nil (socket_id_fields by versions)))
 
--- an identity in hand is in range there too
+-- a socket id in range is also in range inside another record
 pub fit_inside : (by : ℕ) (value : SocketId) → IsInRange socket_id value
     → Fit (socket_id_fields by (versions_of value)) (socket_id_values value)
 unfolding socket_id

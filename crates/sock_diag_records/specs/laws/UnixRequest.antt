@@ -1,4 +1,4 @@
--- The layout of a request for UNIX sockets is sound.
+-- The layout `unix_request` is sound (`IsSound`).
 use Rattle.std.proofs.Common.{refl, arith}
 use Rattle.netlink_core.proofs.LayoutLaws.{plain_sound}
 use Rattle.netlink_core.specs.laws.Sound.{IsSound}

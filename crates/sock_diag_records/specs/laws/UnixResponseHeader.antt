@@ -1,4 +1,4 @@
--- The layout of the header of a reply about a UNIX socket is sound.
+-- The layout `unix_response_header` is sound (`IsSound`).
 use Rattle.std.proofs.Common.{refl, arith}
 use Rattle.netlink_core.proofs.LayoutLaws.{plain_sound}
 use Rattle.netlink_core.specs.laws.Sound.{IsSound}

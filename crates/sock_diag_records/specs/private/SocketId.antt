@@ -1,4 +1,4 @@
--- The bytes of an address in a socket's identity.
+-- The bytes of an address in a socket id.
 use Rattle.std.specs.Prelude.{ℕ, List, ◌++◌, replicate}
 use Rattle.std.specs.List.{flat_map}
 use Rattle.byteorder.specs.Endian.{big_bytes}
@@ -6,7 +6,7 @@ use Rattle.std.specs.declared.net.ip_addr.IpAddr.{IpAddr}
 use Rattle.std.specs.declared.net.ip_addr.IpAddr.TheVariants.{V4, V6}
 use Rattle.netlink_core.specs.Table.{first}
 
--- four octets and twelve zeros, or eight segments
+-- four octets and twelve zeros, or eight segments in network byte order
 abbrev pub address_bytes : IpAddr → List ℕ
 address_bytes (V4 ip) = first 4 ip.octets ++ replicate 12 0
 address_bytes (V6 ip) = flat_map (big_bytes 2) (first 8 ip.segments)

@@ -1,4 +1,4 @@
-//! Records that hold records are compared and copied by each of their fields.
+//! `Exact` for the records that contain other records: `==` compares and `clone` copies each field.
 
 ghost use Rattle.std.proofs.Common.{rules};
 ghost use Rattle.sock_diag_records.specs.laws.EqualRecord.{request_equal, header_equal};

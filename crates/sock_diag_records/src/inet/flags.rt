@@ -1,4 +1,4 @@
-//! What a request for IPv4 or IPv6 sockets asks for.
+//! The flags of a request for IPv4 or IPv6 sockets.
 
 ghost use Rattle.std.proofs.Common.{rules};
 ghost use Rattle.std.specs.Prelude.{⊤, ◌≡◌};
@@ -11,8 +11,8 @@ use bitflags::{Flag, Flags};
 use netlink_core::Exact;
 use std::ops::BitOr;
 
-/// Which states are asked for, `idiag_states` of sock_diag(7): a set of eleven bits, each that of
-/// the number of its state.
+/// The requested states (`idiag_states` of sock_diag(7)): a set of eleven bits. The bit of a state
+/// is `1 << state`, with the states `TCP_ESTABLISHED` (1) to `TCP_CLOSING` (11).
 #[derive(Clone, Debug, Drop, PartialEq, Eq)]
 pub struct StateFlags(u32);
 
@@ -21,7 +21,7 @@ impl BitOr for StateFlags {
 
     ghost bitor_gives = { λ v w both. both.0 ≡ bit_or v.0 w.0 };
 
-    /// The flags of both sets.
+    /// Returns the union of both sets.
     fn bitor(self, other: StateFlags) -> StateFlags {
         StateFlags(self.0 | other.0)
     }
@@ -81,8 +81,9 @@ impl Flags for StateFlags {
     }
 }
 
-/// Which attributes the replies shall have, `idiag_ext` of sock_diag(7): a set of eight bits, each
-/// one below the kind of its attribute.
+/// The requested attributes (`idiag_ext` of sock_diag(7)): a set of eight bits. The bit of an
+/// attribute is `1 << (kind - 1)`, with the kinds `INET_DIAG_MEMINFO` (1) to `INET_DIAG_SHUTDOWN`
+/// (8).
 #[derive(Clone, Debug, Drop, PartialEq, Eq)]
 pub struct ExtensionFlags(u8);
 
@@ -91,7 +92,7 @@ impl BitOr for ExtensionFlags {
 
     ghost bitor_gives = { λ v w both. both.0 ≡ bit_or v.0 w.0 };
 
-    /// The flags of both sets.
+    /// Returns the union of both sets.
     fn bitor(self, other: ExtensionFlags) -> ExtensionFlags {
         ExtensionFlags(self.0 | other.0)
     }
@@ -144,15 +145,17 @@ impl Flags for ExtensionFlags {
     }
 }
 
-/// The defined bits of the flags of a request are these numbers. It is for proofs, and does
-/// nothing.
+/// States which bits have a name in this crate: 1 to 11 of a [`StateFlags`], and all eight of an
+/// [`ExtensionFlags`]. A parser masks off all other bits.
+///
+/// Proof only: the contract states the property.
 #[tactic(auto, unfolding(bitflags::proofs::OnLiterals::bitflags_on_literals))]
 pub fn flags_have_their_bits()
     ensures states { known_bits inet_states ≡ 0xffe }
     ensures extensions { known_bits inet_extensions ≡ 0xff }
 {}
 
-/// Each constant of [`StateFlags`] is its number.
+/// States the bits of each constant of [`StateFlags`].
 pub fn state_flags_have_their_numbers()
     ensures established { StateFlags.ESTABLISHED.0 ≡ 0x2 }
     ensures syn_sent { StateFlags.SYN_SENT.0 ≡ 0x4 }
@@ -167,7 +170,7 @@ pub fn state_flags_have_their_numbers()
     ensures closing { StateFlags.CLOSING.0 ≡ 0x800 }
 {}
 
-/// Each constant of [`ExtensionFlags`] is its number.
+/// States the bits of each constant of [`ExtensionFlags`].
 pub fn extension_flags_have_their_numbers()
     ensures meminfo { ExtensionFlags.MEMINFO.0 ≡ 0x1 }
     ensures info { ExtensionFlags.INFO.0 ≡ 0x2 }

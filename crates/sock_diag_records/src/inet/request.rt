@@ -11,23 +11,25 @@ use byteorder::{ByteOrder, LittleEndian};
 use netlink_core::fields::words_at;
 use netlink_core::{DecodeError, Fills, Record, RecordBuffer, RecordName};
 
-/// The request for IPv4 or IPv6 sockets: `struct inet_diag_req_v2` of sock_diag(7), 56 bytes. The
-/// byte at 3 is not read, and is written 0.
+/// A request for IPv4 or IPv6 sockets: `struct inet_diag_req_v2` (sock_diag(7)), 56 bytes. The byte
+/// at offset 3 (`pad`) is ignored, and serialized as 0.
 #[derive(Clone, Debug, Drop, PartialEq, Eq)]
 pub struct InetRequest {
-    /// AF_INET or AF_INET6, `sdiag_family`, at 0.
+    /// Address family (`sdiag_family`), `AF_INET` (2) or `AF_INET6` (10), at offset 0.
     pub family: u8,
-    /// The protocol, one of `IPPROTO_..`, `sdiag_protocol`, at 1.
+    /// IP protocol (`sdiag_protocol`), `IPPROTO_*`, at offset 1.
     pub protocol: u8,
-    /// Which attributes the replies shall have, `idiag_ext`, at 2.
+    /// Requested attributes (`idiag_ext`), at offset 2.
     pub extensions: ExtensionFlags,
-    /// Which states are asked for, `idiag_states`, at 4. The reader takes undefined bits off.
+    /// Requested states (`idiag_states`), little-endian, at offset 4. The parser masks off
+    /// undefined bits.
     pub states: StateFlags,
-    /// The socket that is asked for, `id`, at 8, its addresses of the family's version.
+    /// Id of the requested socket (`id`), at offset 8. In a parsed request, the addresses are of
+    /// the family's IP version.
     pub socket_id: SocketId,
 }
 
-/// The bytes of an [`InetRequest`], in the order that they came, those too that no reader looks at.
+/// The 56 bytes of an [`InetRequest`], including the ignored ones.
 pub type InetRequestBuffer = RecordBuffer<InetRequest, 56>;
 
 impl Record for InetRequest {
@@ -47,9 +49,9 @@ impl Record for InetRequest {
         56
     }
 
-    /// Reads the first 56 bytes. What follows them is ignored. Fewer are
-    /// [`DecodeError::BufferTooSmall`]; then a family but AF_INET and AF_INET6 is
-    /// [`DecodeError::UnsupportedFamily`].
+    /// Parses the first 56 bytes, and ignores the bytes after them. A family other than AF_INET and
+    /// AF_INET6 is [`DecodeError::UnsupportedFamily`]. There have to be 56 bytes: the caller checks
+    /// this first, and reports [`DecodeError::BufferTooSmall`].
     #[tactic(auto, unfolding(crate::specs::InetRequest::inet_request, crate::specs::SocketId::socket_id))]
     fn from_fields(payload: &[u8], _param: ()) -> Result<Self, DecodeError> {
         let family = payload[0];

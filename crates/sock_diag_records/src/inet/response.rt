@@ -17,51 +17,54 @@ use netlink_core::fields::words_at;
 use netlink_core::{DecodeError, Exact, Fills, Record, RecordBuffer, RecordName, read_record};
 use std::time::Duration;
 
-/// The timer that runs for a TCP socket, `idiag_timer` of sock_diag(7), with the time until it
-/// ends.
+/// The active timer of a TCP socket (`idiag_timer` of sock_diag(7)), with the time until it expires
+/// (`idiag_expires`).
 ///
-/// The time is read as so many milliseconds. It is written in whole milliseconds, modulo 2 to the
-/// power of 32. The number of retransmits that sock_diag(7) tells under 2 and 4 too is not kept.
+/// The time is parsed as milliseconds, and serialized as whole milliseconds modulo 2^32. Only timer
+/// 1 has the number of retransmits (`idiag_retrans`). sock_diag(7) documents it for timers 2 and 4
+/// too, where it is ignored.
 #[derive(Clone, Debug, Drop, PartialEq, Eq)]
 pub enum Timer {
-    /// 1: a segment will be sent again. With how often it was, `idiag_retrans`.
+    /// 1: the retransmission timer, with the number of retransmits (`idiag_retrans`).
     Retransmit(Duration, u8),
-    /// 2: a silent peer will be asked whether it is there.
+    /// 2: the keepalive timer.
     KeepAlive(Duration),
-    /// 3: the end of TIME_WAIT is waited for. The time isn't kept.
+    /// 3: the TIME_WAIT timer. Its time is ignored, and serialized as 0.
     TimeWait,
-    /// 4: a closed window will be probed.
+    /// 4: the zero-window probe timer.
     Probe(Duration),
 }
 
-/// The header of a reply about an IPv4 or IPv6 socket: `struct inet_diag_msg` of sock_diag(7), 72
+/// The header of a reply about an IPv4 or IPv6 socket: `struct inet_diag_msg` (sock_diag(7)), 72
 /// bytes.
 #[derive(Clone, Debug, Drop, PartialEq, Eq)]
 pub struct InetResponseHeader {
-    /// AF_INET or AF_INET6, `idiag_family`, at 0.
+    /// Address family (`idiag_family`), `AF_INET` (2) or `AF_INET6` (10), at offset 0.
     pub family: u8,
-    /// The state, one of `TCP_ESTABLISHED` to `TCP_CLOSING`, `idiag_state`, at 1.
+    /// TCP state (`idiag_state`), `TCP_ESTABLISHED` to `TCP_CLOSING`, at offset 1.
     pub state: u8,
-    /// The timer: `idiag_timer` at 2, `idiag_retrans` at 3 and `idiag_expires` at 52, low byte
-    /// first. Any byte but 1, 2, 3 and 4 is no timer, which is written 0, as are the fields that a
-    /// timer doesn't keep.
+    /// Timer: `idiag_timer` at offset 2, `idiag_retrans` at offset 3, and `idiag_expires`,
+    /// little-endian, at offset 52. A timer byte other than 1, 2, 3 and 4 means no timer, and is
+    /// serialized as 0. A field that the timer does not have is ignored, and serialized as 0.
     pub timer: Option<Timer>,
-    /// The socket, `id`, at 4, its addresses of the family's version.
+    /// Id of the socket (`id`), at offset 4. In a parsed header, the addresses are of the family's
+    /// IP version.
     pub socket_id: SocketId,
-    /// How many connections are pending on a listening socket, or how many bytes wait to be read,
-    /// `idiag_rqueue`, at 56, low byte first.
+    /// For a listening TCP socket, the number of pending connections; else the bytes in the receive
+    /// queue that are not yet read (`idiag_rqueue`), little-endian, at offset 56.
     pub recv_queue: u32,
-    /// The limit of pending connections of a listening socket, or the room for what is sent, in
-    /// bytes, `idiag_wqueue`, at 60, low byte first.
+    /// For a listening TCP socket, the backlog limit; else the bytes in the send queue
+    /// (`idiag_wqueue`), little-endian, at offset 60. For TCP these are the bytes that are not yet
+    /// acknowledged. sock_diag(7) describes the memory available for sending, which is not what the
+    /// kernel writes.
     pub send_queue: u32,
-    /// The user that the socket belongs to, `idiag_uid`, at 64, low byte first.
+    /// User id of the socket's owner (`idiag_uid`), little-endian, at offset 64.
     pub uid: u32,
-    /// The inode of the socket, `idiag_inode`, at 68, low byte first.
+    /// Inode number of the socket (`idiag_inode`), little-endian, at offset 68.
     pub inode: u32,
 }
 
-/// The bytes of an [`InetResponseHeader`], in the order that they came, those too that no reader
-/// looks at.
+/// The 72 bytes of an [`InetResponseHeader`], including the ignored ones.
 pub type InetResponseBuffer = RecordBuffer<InetResponseHeader, 72>;
 
 impl Exact for Timer {
@@ -85,9 +88,9 @@ impl Record for InetResponseHeader {
         72
     }
 
-    /// Reads the first 72 bytes. What follows them is ignored. Fewer are
-    /// [`DecodeError::BufferTooSmall`]; then a family but AF_INET and AF_INET6 is
-    /// [`DecodeError::UnsupportedFamily`].
+    /// Parses the first 72 bytes, and ignores the bytes after them. A family other than AF_INET and
+    /// AF_INET6 is [`DecodeError::UnsupportedFamily`]. There have to be 72 bytes: the caller checks
+    /// this first, and reports [`DecodeError::BufferTooSmall`].
     #[tactic(auto, unfolding(crate::specs::InetResponse::inet_response_header, crate::specs::SocketId::socket_id))]
     #[inline(always)]
     fn from_fields(payload: &[u8], _param: ()) -> Result<Self, DecodeError> {
@@ -143,8 +146,8 @@ impl Fills<72> for InetResponseHeader {
 }
 
 impl InetResponseHeader {
-    /// Reads the first 72 bytes, and takes no memory. What follows them is ignored. Fewer are
-    /// [`DecodeError::BufferTooSmall`]; then a family but AF_INET and AF_INET6 is
+    /// Parses the first 72 bytes, and ignores the bytes after them. It does not allocate. Fewer
+    /// bytes are [`DecodeError::BufferTooSmall`]; then a family other than AF_INET and AF_INET6 is
     /// [`DecodeError::UnsupportedFamily`].
     #[inline(always)]
     pub fn from_prefix(payload: &[u8]) -> Result<Self, DecodeError>
@@ -155,14 +158,15 @@ impl InetResponseHeader {
     }
 }
 
-// The whole milliseconds of a duration, in 32 bits.
+// Returns the whole milliseconds of a duration, modulo 2^32.
 fn wrapped_milliseconds(time: Duration) -> u32
     ensures { result ≡ milliseconds time }
 {
     (time.as_millis() % 0x1_0000_0000) as u32
 }
 
-// The byte of a timer, and its count and its milliseconds or else zeros.
+// Returns the fields `idiag_timer`, `idiag_retrans` and `idiag_expires`, with 0 for each that the
+// timer does not have.
 fn timer_words(timer: &Option<Timer>) -> (u8, u8, u32)
     ensures byte { result.0 ≡ (timer_data timer.now).0 }
     ensures retransmits { result.1 ≡ (timer_data timer.now).1 }
@@ -179,7 +183,7 @@ fn timer_words(timer: &Option<Timer>) -> (u8, u8, u32)
     }
 }
 
-// The timer that a byte tells.
+// Returns the timer with these fields `idiag_timer`, `idiag_retrans` and `idiag_expires`.
 fn timer_from(timer: u8, retransmits: u8, milliseconds: u32) -> Option<Timer>
     ensures { result ≡ timer_of (class_of_byte timer) retransmits milliseconds }
 {
@@ -193,7 +197,7 @@ fn timer_from(timer: u8, retransmits: u8, milliseconds: u32) -> Option<Timer>
     }
 }
 
-// The number of retransmits is within its type.
+// Proof only: puts the range of the number of retransmits in scope. No run-time effect.
 fn timer_in_range(timer: &Option<Timer>)
     ensures { (timer_data timer.now).1 < 256 }
 {

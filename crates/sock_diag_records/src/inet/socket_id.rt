@@ -1,4 +1,4 @@
-//! The identity of a socket.
+//! The id of an IPv4 or IPv6 socket.
 
 ghost use Rattle.std.proofs.Common.{rules};
 ghost use Rattle.std.specs.Prelude.{◌≡◌, ◌≢◌, ◌≤◌, ◌+◌, length, replicate, IfErr};
@@ -25,29 +25,32 @@ use netlink_core::{
 };
 use std::net::{IpAddr, Ipv4Addr, Ipv6Addr};
 
-/// The identity of an IPv4 or IPv6 socket: `struct inet_diag_sockid` of sock_diag(7), 48 bytes.
+/// The id of an IPv4 or IPv6 socket: `struct inet_diag_sockid` (sock_diag(7)), 48 bytes.
 ///
-/// The family isn't among them, so the reader takes it as a parameter: AF_INET (2) or AF_INET6
-/// (10). The writer goes by the addresses.
+/// The bytes do not contain the address family. The parser has it as a parameter: AF_INET (2) or
+/// AF_INET6 (10). The serializer writes the addresses of either version.
 #[derive(Clone, Debug, Drop, PartialEq, Eq)]
 pub struct SocketId {
-    /// The port of this end, `idiag_sport`, at 0, high byte first.
+    /// Local port (`idiag_sport`), in network byte order, at offset 0.
     pub source_port: u16,
-    /// The port of the other end, `idiag_dport`, at 2, high byte first.
+    /// Remote port (`idiag_dport`), in network byte order, at offset 2.
     pub destination_port: u16,
-    /// The address of this end, `idiag_src`, at 4: 4 bytes and 12 that are not read, or 16 bytes.
+    /// Local address (`idiag_src`), in network byte order, at offset 4: 4 bytes and 12 ignored
+    /// bytes for IPv4, 16 bytes for IPv6.
     pub source_address: IpAddr,
-    /// The address of the other end, `idiag_dst`, at 20, likewise.
+    /// Remote address (`idiag_dst`), in network byte order, at offset 20: 4 bytes and 12 ignored
+    /// bytes for IPv4, 16 bytes for IPv6.
     pub destination_address: IpAddr,
-    /// The number of the interface that the socket is bound to, `idiag_if`, at 36, low byte first.
+    /// Index of the interface that the socket is bound to (`idiag_if`), little-endian, at offset
+    /// 36.
     pub interface_id: u32,
-    /// What tells the socket from others with its addresses and ports, `idiag_cookie`, at 40. Eight
-    /// bytes 0xff are INET_DIAG_NOCOOKIE.
+    /// Cookie that distinguishes sockets with the same addresses and ports (`idiag_cookie`), at
+    /// offset 40. Eight bytes 0xff are INET_DIAG_NOCOOKIE.
     pub cookie: [u8; 8],
 }
 
 impl SocketId {
-    /// The identity of zeros alone, with IPv4 addresses.
+    /// Returns an id of zeros, with IPv4 addresses.
     pub fn new_v4() -> Self
         ensures { let none : IpAddr = V4 record { octets = replicate 4 0 } in result
             ≡ record {
@@ -69,7 +72,7 @@ impl SocketId {
         }
     }
 
-    /// The identity of zeros alone, with IPv6 addresses.
+    /// Returns an id of zeros, with IPv6 addresses.
     pub fn new_v6() -> Self
         ensures { let none : IpAddr = V6 record { segments = replicate 8 0 } in result
             ≡ record {
@@ -92,10 +95,10 @@ impl SocketId {
     }
 }
 
-/// The bytes of a [`SocketId`], in the order that they came, those too that no reader looks at.
+/// The 48 bytes of a [`SocketId`], including the ignored ones.
 pub type SocketIdBuffer = RecordBuffer<SocketId, 48>;
 
-// The IPv4 address at an offset.
+// Parses the IPv4 address at the offset.
 fn ipv4_at(bytes: &[u8], offset: usize) -> Ipv4Addr
     requires { offset + 4 ≤ length bytes.now }
     ensures { ipv4_octets result ≡ values_of (bytes_at offset 4) bytes.now }
@@ -108,7 +111,7 @@ fn ipv4_at(bytes: &[u8], offset: usize) -> Ipv4Addr
     )
 }
 
-// The IPv6 address at an offset.
+// Parses the IPv6 address at the offset.
 fn ipv6_at(bytes: &[u8], offset: usize) -> Ipv6Addr
     requires { offset + 16 ≤ length bytes.now }
     ensures { ipv6_segments result ≡ values_of (array network offset 2 8) bytes.now }
@@ -116,7 +119,7 @@ fn ipv6_at(bytes: &[u8], offset: usize) -> Ipv6Addr
     Ipv6Addr::from_segments(big_shorts_at(bytes, offset))
 }
 
-// Writes an address, and zeros behind an IPv4 address.
+// Writes an address. Zeros follow the four bytes of an IPv4 address.
 fn write_address(address: IpAddr, buffer: &mut [u8])
     requires { length buffer.old ≡ 16 }
     ensures { buffer.new ≡ address_bytes address }
@@ -151,9 +154,9 @@ impl Record for SocketId {
         48
     }
 
-    /// Reads the first 48 bytes under the family. What follows them is ignored. Fewer are
-    /// [`DecodeError::BufferTooSmall`]; then a family but AF_INET and AF_INET6 is
-    /// [`DecodeError::UnsupportedFamily`].
+    /// Parses the first 48 bytes for the family, and ignores the bytes after them. A family other
+    /// than AF_INET and AF_INET6 is [`DecodeError::UnsupportedFamily`]. There have to be 48 bytes:
+    /// the caller checks this first, and reports [`DecodeError::BufferTooSmall`].
     #[tactic(auto, unfolding(crate::specs::SocketId::socket_id))]
     #[inline(always)]
     fn from_fields(payload: &[u8], family: u8) -> Result<Self, DecodeError> {
@@ -206,9 +209,9 @@ impl Record for SocketId {
 }
 
 impl SocketId {
-    /// Reads the first 48 bytes under the family, and takes no memory. What follows them is
-    /// ignored. Fewer are [`DecodeError::BufferTooSmall`]; then a family but AF_INET and AF_INET6
-    /// is [`DecodeError::UnsupportedFamily`].
+    /// Parses the first 48 bytes for the family, and ignores the bytes after them. It does not
+    /// allocate. Fewer bytes are [`DecodeError::BufferTooSmall`]; then a family other than AF_INET
+    /// and AF_INET6 is [`DecodeError::UnsupportedFamily`].
     #[inline(always)]
     pub fn from_prefix(payload: &[u8], family: u8) -> Result<Self, DecodeError>
         ensures value { result ≡ read socket_id family payload.now }
@@ -222,7 +225,7 @@ impl Fills<48> for SocketId {
     ghost fills = { socket_id_size };
 }
 
-// The parts of an address are within their types, wherever it stands.
+// Proof only: puts the range of the octets or segments in scope. No run-time effect.
 fn address_in_range(address: IpAddr)
     ensures shaped { IsAddress address }
     ensures fit { (offset : ℕ)
@@ -234,7 +237,7 @@ fn address_in_range(address: IpAddr)
     }
 }
 
-// Numbers are of 16 bits.
+// Proof only: puts the range of each number in scope. No run-time effect.
 fn shorts_in_range(_numbers: &[u16])
     ensures { (i : ℕ) → slice_index _numbers.now i < 65536 }
 {}

@@ -1,4 +1,4 @@
-//! What a request for UNIX sockets asks for.
+//! The flags of a request for UNIX sockets.
 
 ghost use Rattle.std.proofs.Common.{rules};
 ghost use Rattle.std.specs.Prelude.{⊤, ◌≡◌};
@@ -11,8 +11,10 @@ use bitflags::{Flag, Flags};
 use netlink_core::Exact;
 use std::ops::BitOr;
 
-/// Which states are asked for, `udiag_states` of sock_diag(7): a set of two bits, each that of the
-/// number of its state. A reader drops all others.
+/// The requested states (`udiag_states` of sock_diag(7)): a set of two bits. The bit of a state is
+/// `1 << state`, with the states `TCP_ESTABLISHED` (1) and `TCP_LISTEN` (10). A parser masks off
+/// all other bits, also the bit of `TCP_CLOSE` (7), the state of sockets that are neither connected
+/// nor listening.
 #[derive(Clone, Debug, Drop, PartialEq, Eq)]
 pub struct StateFlags(u32);
 
@@ -21,7 +23,7 @@ impl BitOr for StateFlags {
 
     ghost bitor_gives = { λ v w both. both.0 ≡ bit_or v.0 w.0 };
 
-    /// The flags of both sets.
+    /// Returns the union of both sets.
     fn bitor(self, other: StateFlags) -> StateFlags {
         StateFlags(self.0 | other.0)
     }
@@ -60,8 +62,9 @@ impl Flags for StateFlags {
     }
 }
 
-/// Which attributes the replies shall have, `udiag_show` of sock_diag(7): a set of six bits, each
-/// that of the kind of its attribute.
+/// The requested attributes (`udiag_show` of sock_diag(7)): a set of six bits. The bit of an
+/// attribute is `1 << kind`, with the kinds `UNIX_DIAG_NAME` (0) to `UNIX_DIAG_MEMINFO` (5).
+/// `UDIAG_SHOW_UID` (0x40) of newer kernels has no constant.
 #[derive(Clone, Debug, Drop, PartialEq, Eq)]
 pub struct ShowFlags(u32);
 
@@ -70,24 +73,24 @@ impl BitOr for ShowFlags {
 
     ghost bitor_gives = { λ v w both. both.0 ≡ bit_or v.0 w.0 };
 
-    /// The flags of both sets.
+    /// Returns the union of both sets.
     fn bitor(self, other: ShowFlags) -> ShowFlags {
         ShowFlags(self.0 | other.0)
     }
 }
 
 impl ShowFlags {
-    /// The attribute `UNIX_DIAG_NAME`, as `UDIAG_SHOW_NAME`.
+    /// The attribute `UNIX_DIAG_NAME` (`UDIAG_SHOW_NAME`).
     pub const NAME: ShowFlags = ShowFlags(0x1);
-    /// The attribute `UNIX_DIAG_VFS`, as `UDIAG_SHOW_VFS`.
+    /// The attribute `UNIX_DIAG_VFS` (`UDIAG_SHOW_VFS`).
     pub const VFS: ShowFlags = ShowFlags(0x2);
-    /// The attribute `UNIX_DIAG_PEER`, as `UDIAG_SHOW_PEER`.
+    /// The attribute `UNIX_DIAG_PEER` (`UDIAG_SHOW_PEER`).
     pub const PEER: ShowFlags = ShowFlags(0x4);
-    /// The attribute `UNIX_DIAG_ICONS`, as `UDIAG_SHOW_ICONS`.
+    /// The attribute `UNIX_DIAG_ICONS` (`UDIAG_SHOW_ICONS`).
     pub const ICONS: ShowFlags = ShowFlags(0x8);
-    /// The attribute `UNIX_DIAG_RQLEN`, as `UDIAG_SHOW_RQLEN`.
+    /// The attribute `UNIX_DIAG_RQLEN` (`UDIAG_SHOW_RQLEN`).
     pub const RQLEN: ShowFlags = ShowFlags(0x10);
-    /// The attribute `UNIX_DIAG_MEMINFO`, as `UDIAG_SHOW_MEMINFO`.
+    /// The attribute `UNIX_DIAG_MEMINFO` (`UDIAG_SHOW_MEMINFO`).
     pub const MEMINFO: ShowFlags = ShowFlags(0x20);
 }
 
@@ -117,21 +120,23 @@ impl Flags for ShowFlags {
     }
 }
 
-/// The defined bits of the flags of a request are these numbers. It is for proofs, and does
-/// nothing.
+/// States which bits have a name in this crate: 1 and 10 of a [`StateFlags`], and 0 to 5 of a
+/// [`ShowFlags`]. A parser masks off all other bits.
+///
+/// Proof only: the contract states the property.
 #[tactic(auto, unfolding(bitflags::proofs::OnLiterals::bitflags_on_literals))]
 pub fn flags_have_their_bits()
     ensures states { known_bits unix_states ≡ 0x402 }
     ensures shown { known_bits unix_shown ≡ 0x3f }
 {}
 
-/// Each constant of [`StateFlags`] is its number.
+/// States the bits of each constant of [`StateFlags`].
 pub fn state_flags_have_their_numbers()
     ensures established { StateFlags.ESTABLISHED.0 ≡ 0x2 }
     ensures listen { StateFlags.LISTEN.0 ≡ 0x400 }
 {}
 
-/// Each constant of [`ShowFlags`] is its number.
+/// States the bits of each constant of [`ShowFlags`].
 pub fn show_flags_have_their_numbers()
     ensures name { ShowFlags.NAME.0 ≡ 0x1 }
     ensures vfs { ShowFlags.VFS.0 ≡ 0x2 }

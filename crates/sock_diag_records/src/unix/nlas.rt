@@ -1,3 +1,3 @@
-//! Re-exports the records that attributes of UNIX sockets carry.
+//! Re-exports the records that are values of attributes of UNIX sockets.
 
 pub use sock_diag_values::unix::{MemInfo, MemInfoBuffer, Vfs, VfsBuffer};

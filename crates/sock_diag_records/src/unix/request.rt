@@ -13,23 +13,25 @@ use byteorder::{ByteOrder, LittleEndian};
 use netlink_core::fields::{array_at, words_at};
 use netlink_core::{DecodeError, Exact, Fills, Record, RecordBuffer, RecordName, bytes_in_range};
 
-/// The request for UNIX sockets: `struct unix_diag_req` of sock_diag(7), 24 bytes, numbers low byte
-/// first. The bytes at 0 to 3 are not read, and are written AF_UNIX (1), 0, 0, 0.
+/// A request for UNIX sockets: `struct unix_diag_req` (sock_diag(7)), 24 bytes, little-endian. The
+/// bytes at offsets 0 to 3 (`sdiag_family`, `sdiag_protocol`, `pad`) are ignored, and serialized as
+/// AF_UNIX (1), 0, 0, 0.
 #[derive(Clone, Debug, Drop, PartialEq, Eq)]
 pub struct UnixRequest {
-    /// Which states are asked for, `udiag_states`, at 4. It is ignored where a single socket is
-    /// asked for. The reader takes undefined bits off.
+    /// Requested states (`udiag_states`), at offset 4. The parser masks off undefined bits. The
+    /// kernel ignores it in a request for a single socket.
     pub state_flags: StateFlags,
-    /// The inode of a single socket, `udiag_ino`, at 8. It is ignored where a list is asked for.
+    /// Inode number of the requested socket (`udiag_ino`), at offset 8. The kernel ignores it in a
+    /// request for all sockets.
     pub inode: u32,
-    /// Which attributes the replies shall have, `udiag_show`, at 12. The reader takes undefined
-    /// bits off.
+    /// Requested attributes (`udiag_show`), at offset 12. The parser masks off undefined bits.
     pub show_flags: ShowFlags,
-    /// What tells a single socket from others of its inode, `udiag_cookie`, at 16.
+    /// Cookie that distinguishes sockets with the same inode number (`udiag_cookie`), at offset 16.
+    /// The kernel ignores it in a request for all sockets. Eight bytes 0xff select any cookie.
     pub cookie: [u8; 8],
 }
 
-/// The bytes of a [`UnixRequest`], in the order that they came, those too that no reader looks at.
+/// The 24 bytes of a [`UnixRequest`], including the ignored ones.
 pub type UnixRequestBuffer = RecordBuffer<UnixRequest, 24>;
 
 impl Exact for UnixRequest {
@@ -49,8 +51,8 @@ impl Record for UnixRequest {
         24
     }
 
-    /// Reads the first 24 bytes. What follows them is ignored, and fewer are
-    /// [`DecodeError::BufferTooSmall`].
+    /// Parses the first 24 bytes, and ignores the bytes after them. There have to be 24 bytes: the
+    /// caller checks this first, and reports [`DecodeError::BufferTooSmall`].
     fn from_fields(payload: &[u8], _param: ()) -> Result<Self, DecodeError> {
         let [state_flags, inode, show_flags] = words_at::<3>(payload, 4);
         Ok(UnixRequest {

@@ -14,23 +14,23 @@ use netlink_core::{
     DecodeError, Exact, Fills, Record, RecordBuffer, RecordName, bytes_in_range, read_record,
 };
 
-/// The header of a reply about a UNIX socket: `struct unix_diag_msg` of sock_diag(7), 16 bytes. The
-/// bytes at 0 and 3 are not read, and are written AF_UNIX (1) and 0.
+/// The header of a reply about a UNIX socket: `struct unix_diag_msg` (sock_diag(7)), 16 bytes. The
+/// bytes at offsets 0 (`udiag_family`) and 3 (`pad`) are ignored, and serialized as AF_UNIX (1) and
+/// 0.
 #[derive(Clone, Debug, Drop, PartialEq, Eq)]
 pub struct UnixResponseHeader {
-    /// The type of the socket, one of `SOCK_..`, `udiag_type`, at 1.
+    /// Socket type (`udiag_type`), `SOCK_*`, at offset 1.
     pub kind: u8,
-    /// The state, `TCP_ESTABLISHED`, `TCP_LISTEN`, or 7 of a socket without a peer, `udiag_state`,
-    /// at 2.
+    /// State (`udiag_state`), at offset 2: `TCP_ESTABLISHED` (1), `TCP_LISTEN` (10), or `TCP_CLOSE`
+    /// (7) for a socket that is neither connected nor listening.
     pub state: u8,
-    /// The inode of the socket, `udiag_ino`, at 4, low byte first.
+    /// Inode number of the socket (`udiag_ino`), little-endian, at offset 4.
     pub inode: u32,
-    /// What tells the socket from others of its inode, `udiag_cookie`, at 8.
+    /// Cookie that distinguishes sockets with the same inode number (`udiag_cookie`), at offset 8.
     pub cookie: [u8; 8],
 }
 
-/// The bytes of a [`UnixResponseHeader`], in the order that they came, those too that no reader
-/// looks at.
+/// The 16 bytes of a [`UnixResponseHeader`], including the ignored ones.
 pub type UnixResponseBuffer = RecordBuffer<UnixResponseHeader, 16>;
 
 impl Exact for UnixResponseHeader {
@@ -50,8 +50,8 @@ impl Record for UnixResponseHeader {
         16
     }
 
-    /// Reads the first 16 bytes. What follows them is ignored, and fewer are
-    /// [`DecodeError::BufferTooSmall`].
+    /// Parses the first 16 bytes, and ignores the bytes after them. There have to be 16 bytes: the
+    /// caller checks this first, and reports [`DecodeError::BufferTooSmall`].
     fn from_fields(payload: &[u8], _param: ()) -> Result<Self, DecodeError> {
         let [inode] = words_at::<1>(payload, 4);
         Ok(UnixResponseHeader {
@@ -79,8 +79,8 @@ impl Record for UnixResponseHeader {
 }
 
 impl UnixResponseHeader {
-    /// Reads the first 16 bytes, and takes no memory. What follows them is ignored, and fewer are
-    /// [`DecodeError::BufferTooSmall`].
+    /// Parses the first 16 bytes, and ignores the bytes after them. It does not allocate. Fewer
+    /// bytes are [`DecodeError::BufferTooSmall`].
     pub fn from_prefix(payload: &[u8]) -> Result<Self, DecodeError>
         ensures { result ≡ read unix_response_header tt payload.now }
     {

@@ -1,8 +1,9 @@
--- The memory of a socket with the numbers of its fields.
+-- The inverse of the layout `mem_info`.
 use Rattle.std.specs.Prelude.{ℕ, List, slice_index, slice_get}
 use Rattle.sock_diag_values.specs.declared.inet.mem_info.MemInfo.{MemInfo}
 
--- the memory with these words
+-- The value with these numbers in its fields, in the order of the rows. The last two are absent if
+-- there are fewer than eight or nine numbers.
 abbrev pub mem_info_of : List ℕ → MemInfo
 mem_info_of values = record {
   receive_queue = slice_index values 0;

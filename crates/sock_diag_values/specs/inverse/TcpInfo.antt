@@ -1,8 +1,8 @@
--- The record of a TCP connection with the numbers of its fields.
+-- The inverse of the layout `tcp_info`.
 use Rattle.std.specs.Prelude.{ℕ, List, drop, slice_index}
 use Rattle.sock_diag_values.specs.declared.inet.tcp_info.TcpInfo.{TcpInfo}
 
--- the value with the numbers of each group of fields
+-- the value with these numbers in its fields, by groups of consecutive fields of one width
 abbrev pub with_fields : (states counts ages metrics receiver rates segments limits deliveries
     totals
     reorderings : List ℕ) → TcpInfo
@@ -65,7 +65,7 @@ with_fields states counts ages metrics receiver rates segments limits deliveries
       snd_wnd = slice_index reorderings 3;
     }
 
--- the value with the numbers of all fields, in the same order
+-- the value with these numbers in its fields, in the order of the rows
 abbrev pub tcp_info_of : List ℕ → TcpInfo
 tcp_info_of values = with_fields values (drop 8 values) (drop 17 values) (drop 21 values)
     (drop 29 values) (drop 32 values) (drop 36 values) (drop 42 values) (drop 46 values)

@@ -1,8 +1,8 @@
--- The memory of a UNIX socket with the numbers of its fields.
+-- The inverse of the layout `unix_mem_info`.
 use Rattle.std.specs.Prelude.{ℕ, List, slice_index}
 use Rattle.sock_diag_values.specs.declared.unix.mem_info.MemInfo.{MemInfo}
 
--- the memory with these words
+-- the value with these numbers in the three fields that are not ignored
 abbrev pub unix_mem_info_of : List ℕ → MemInfo
 unix_mem_info_of words = record {
   so_rcvbuf = slice_index words 0;

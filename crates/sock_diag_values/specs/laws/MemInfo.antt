@@ -1,4 +1,4 @@
--- The record of a socket's memory is sound.
+-- The layout `mem_info` is sound (`IsSound`).
 use Rattle.std.proofs.Common.{arith, ◌*◌}
 use Rattle.netlink_core.specs.laws.Sound.{IsSound}
 use Rattle.sock_diag_values.specs.MemInfo.{mem_info}

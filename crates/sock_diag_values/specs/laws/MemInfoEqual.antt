@@ -1,4 +1,5 @@
--- Two memory records are equal by each of their words.
+-- `==` of `MemInfo`, of its bytes and of its buffer returns true if and only if the values are
+-- equal.
 use Rattle.std.proofs.Common.{arith, ◌≡◌, ◌↔◌, ◌&&◌, eqb, IsTrue}
 use Rattle.std.specs.Option.{option_eq}
 use lib.Pointwise.{bytes_decides}
@@ -17,7 +18,6 @@ pub mem_info_equal : (v w : MemInfo)
     && option_eq eqb v.drops w.drops)))))))) ↔ (v ≡ w)
 mem_info_equal v w = (λ h. grind arith, λ e. grind (arith, e))
 
--- and so are their bytes
 pub bytes_equal : (v w : MemInfoBytes) → IsTrue (held.eq v w) ↔ (v ≡ w)
 bytes_equal v w =
     grind (arith, bytes_decides)

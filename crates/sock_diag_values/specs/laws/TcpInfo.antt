@@ -1,4 +1,4 @@
--- The record of a TCP connection is sound.
+-- The layout `tcp_info` is sound (`IsSound`), and has a fixed length of 232 bytes.
 use Rattle.std.proofs.Common.{refl}
 use Rattle.netlink_core.specs.laws.Sound.{IsSound, IsFixed}
 use Rattle.netlink_core.proofs.LayoutLaws.{plain_sound}

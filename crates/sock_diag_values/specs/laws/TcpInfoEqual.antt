@@ -1,4 +1,4 @@
--- Two TCP connections are equal by each of their numbers.
+-- `==` of `TcpInfo` returns true if and only if all fields are equal.
 use Rattle.std.proofs.Common.{arith}
 use Rattle.std.proofs.Common.{◌≡◌, ◌↔◌, ◌&&◌, ℕ, List, [], ◌∷◌, Bool, false, eqb, IsTrue, drop}
 use Rattle.std.proofs.Common.{rules}
@@ -6,7 +6,7 @@ use Rattle.sock_diag_values.specs.declared.inet.tcp_info.TcpInfo.{TcpInfo}
 use Rattle.sock_diag_values.specs.TcpInfo.{tcp_info_rows}
 use Rattle.netlink_core.specs.Rows.{numbers_of}
 
--- the first numbers are equal, and those behind them
+-- whether two nonempty lists, each given by its first element and the others, are equal
 abbrev equal_from : ℕ → ℕ → List ℕ → List ℕ → Bool
 equal_from x y [] [] = eqb x y
 equal_from x y (a ∷ xs) (b ∷ ys) = eqb x y && equal_from a b xs ys

@@ -1,4 +1,4 @@
-//! What INET_DIAG_MEMINFO tells: the memory of a socket, as older kernels tell it.
+//! The value of `INET_DIAG_MEMINFO`: the memory of a socket in the format of old kernels.
 
 ghost use Rattle.std.specs.Prelude.{◌≡◌, refl};
 ghost use Rattle.std.proofs.Common.{rules};
@@ -10,22 +10,23 @@ use byteorder::{ByteOrder, LittleEndian};
 use netlink_core::fields::words_at;
 use netlink_core::{DecodeError, Exact, Fills, Record, RecordBuffer, RecordName, read_record};
 
-/// The memory of a socket, as the attribute `INET_DIAG_MEMINFO` tells it: `struct
-/// inet_diag_meminfo` of sock_diag(7). It is 16 bytes, each word a `u32`, low byte first. Newer
-/// kernels tell of memory by [`MemInfo`](super::MemInfo).
+/// The memory of a socket in the format of old kernels: `struct inet_diag_meminfo` (sock_diag(7)),
+/// the value of the attribute `INET_DIAG_MEMINFO`. It has 16 bytes: four `u32`, little-endian.
+/// Newer kernels also send [`MemInfo`](super::MemInfo).
 #[derive(Clone, Debug, Drop, PartialEq, Eq)]
 pub struct LegacyMemInfo {
-    /// The data in the receive queue, `idiag_rmem`, at 0, in bytes.
+    /// Data in the receive queue in bytes (`idiag_rmem`), at offset 0.
     pub receive_queue: u32,
-    /// The data that TCP has queued and not yet sent, `idiag_wmem`, at 4, in bytes.
+    /// Data that TCP has queued and not yet sent, in bytes (`idiag_wmem`), at offset 4.
     pub bottom_send_queue: u32,
-    /// The memory that is set aside for later use, `idiag_fmem`, at 8, in bytes. TCP alone has it.
+    /// Memory that is reserved for later use, in bytes (`idiag_fmem`), at offset 8. Only TCP has
+    /// it.
     pub cache: u32,
-    /// The data in the send queue, `idiag_tmem`, at 12, in bytes.
+    /// Data in the send queue in bytes (`idiag_tmem`), at offset 12.
     pub send_queue: u32,
 }
 
-/// The bytes of a [`LegacyMemInfo`], each one that was read, in the order that they came.
+/// The 16 bytes of a [`LegacyMemInfo`].
 pub type LegacyMemInfoBuffer = RecordBuffer<LegacyMemInfo, 16>;
 
 impl Exact for LegacyMemInfo {
@@ -85,7 +86,7 @@ impl Fills<16> for LegacyMemInfo {
 }
 
 impl LegacyMemInfo {
-    /// Reads the first 16 bytes. What follows them is ignored, and fewer are
+    /// Parses the first 16 bytes, and ignores the bytes after them. Fewer bytes are
     /// [`DecodeError::BufferTooSmall`].
     pub fn parse(payload: &[u8]) -> Result<Self, DecodeError>
         ensures { result ≡ read legacy_mem_info tt payload.now }

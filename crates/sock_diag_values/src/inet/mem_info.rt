@@ -1,4 +1,4 @@
-//! What INET_DIAG_SKMEMINFO tells: the memory of a socket.
+//! The value of `INET_DIAG_SKMEMINFO`: the memory of a socket.
 
 ghost use Rattle.std.specs.Prelude.{ℕ, ◌≡◌, ◌≤◌, ◌+◌, ◌*◌, ◌↔◌, ◌<◌, ◌^◌, length, take, drop};
 ghost use Rattle.std.specs.Prelude.{SomeIff, IfSome, IsSome};
@@ -17,49 +17,51 @@ use byteorder::{ByteOrder, LittleEndian};
 use netlink_core::fields::words_at;
 use netlink_core::{DecodeError, Exact, Record, RecordName, read_record, word_in_range};
 
-/// The memory of a socket, as the attribute `INET_DIAG_SKMEMINFO` tells it: the nine words
-/// `SK_MEMINFO_..` of `linux/sock_diag.h`. It is 36 bytes, each word a `u32`, low byte first. Older
-/// kernels tell seven words, 28 bytes, or eight, 32 bytes.
+/// The memory of a socket, the value of the attribute `INET_DIAG_SKMEMINFO`: an array of `u32`,
+/// little-endian, indexed by `SK_MEMINFO_*` (linux/sock_diag.h). It has nine elements, 36 bytes.
+/// Older kernels send seven (28 bytes) or eight (32 bytes).
 #[derive(Clone, Debug, Drop, PartialEq, Eq)]
 pub struct MemInfo {
-    /// The memory that the receive queue takes now, `SK_MEMINFO_RMEM_ALLOC`, at 0, in bytes.
+    /// Memory that the receive queue uses, in bytes (`SK_MEMINFO_RMEM_ALLOC`), at offset 0.
     pub receive_queue: u32,
-    /// The most that the receive queue may take, `SK_MEMINFO_RCVBUF`, at 4, in bytes.
+    /// Receive buffer limit in bytes (`SK_MEMINFO_RCVBUF`), at offset 4.
     pub receive_queue_max: u32,
-    /// The memory of packets that were handed down the network stack, `SK_MEMINFO_WMEM_ALLOC`, at
-    /// 8, in bytes.
+    /// Memory of packets that were committed to the device queue, in bytes
+    /// (`SK_MEMINFO_WMEM_ALLOC`), at offset 8.
     pub bottom_send_queues: u32,
-    /// The most that the send queue may take, `SK_MEMINFO_SNDBUF`, at 12, in bytes.
+    /// Send buffer limit in bytes (`SK_MEMINFO_SNDBUF`), at offset 12.
     pub send_queue_max: u32,
-    /// The memory that the socket holds and does not use, `SK_MEMINFO_FWD_ALLOC`, at 16, in bytes.
+    /// Memory that the socket has reserved and does not use yet, in bytes (`SK_MEMINFO_FWD_ALLOC`),
+    /// at offset 16.
     pub cache: u32,
-    /// The memory that the send queue takes now, `SK_MEMINFO_WMEM_QUEUED`, at 20, in bytes. What
-    /// was handed down the network stack is not in it.
+    /// Memory that the send queue uses, in bytes (`SK_MEMINFO_WMEM_QUEUED`), at offset 20. It does
+    /// not include packets that were committed to the device queue.
     pub send_queue: u32,
-    /// The memory of the socket's options, `SK_MEMINFO_OPTMEM`, at 24, in bytes.
+    /// Memory of the socket's options in bytes (`SK_MEMINFO_OPTMEM`), at offset 24.
     pub options: u32,
-    /// The memory of packets that wait while the socket is locked, `SK_MEMINFO_BACKLOG`, at 28, in
-    /// bytes.
+    /// Memory of received packets that wait while a process has locked the socket, in bytes
+    /// (`SK_MEMINFO_BACKLOG`), at offset 28. `None` if the kernel sent seven elements.
     pub backlog_queue_length: Option<u32>,
-    /// How many packets were dropped, `SK_MEMINFO_DROPS`, at 32. It is written behind a backlog, 0
-    /// where that is absent.
+    /// Number of dropped packets (`SK_MEMINFO_DROPS`), at offset 32. `None` if the kernel sent
+    /// seven or eight elements. If this is `Some` and the backlog is `None`, the backlog is
+    /// serialized as 0.
     pub drops: Option<u32>,
 }
 
-/// The bytes of a [`MemInfo`], each one that was read, in the order that they came.
+/// The 28, 32 or 36 bytes of a [`MemInfo`].
 #[derive(Clone, Debug, Drop, PartialEq, Eq)]
 pub struct MemInfoBuffer {
     bytes: MemInfoBytes,
 }
 
-/// The bytes of seven, eight or nine words.
+/// An array of seven, eight or nine `u32` fields, as bytes.
 #[derive(Clone, Copy, Debug, PartialEq, Eq)]
 pub enum MemInfoBytes {
-    /// Neither backlog nor drops.
+    /// Seven fields: neither backlog nor drops.
     Seven([u8; 28]),
-    /// No drops.
+    /// Eight fields: a backlog, and no drops.
     Eight([u8; 32]),
-    /// All words.
+    /// All nine fields.
     Nine([u8; 36]),
 }
 
@@ -157,7 +159,7 @@ impl Record for MemInfo {
 }
 
 impl MemInfo {
-    // The first seven words are within their types.
+    // Proof only: puts the range of the first seven fields in scope. No run-time effect.
     fn words_are_in_range(&self)
         ensures { Fit (array number 0 4 7) (take 7 (values mem_info self.now)) }
     {
@@ -170,8 +172,8 @@ impl MemInfo {
         let _options = self.options;
     }
 
-    /// Reads the first 36 bytes, or the first 32 or 28 where there are no more. What follows them
-    /// is ignored, and fewer are [`DecodeError::BufferTooSmall`].
+    /// Parses the longest prefix of 36, 32 or 28 bytes, and ignores the bytes after it. Fewer than
+    /// 28 bytes are [`DecodeError::BufferTooSmall`].
     pub fn parse(payload: &[u8]) -> Result<Self, DecodeError>
         ensures { result ≡ read mem_info tt payload.now }
     {
@@ -180,7 +182,7 @@ impl MemInfo {
 }
 
 impl MemInfoBuffer {
-    /// The first 36 bytes, or the first 32 or 28 where there are no more.
+    /// Copies the longest prefix of 36, 32 or 28 bytes. Returns `None` if there are fewer than 28.
     pub fn read_prefix(payload: &[u8]) -> Option<Self>
         ensures enough { IsSome result ↔ 28 ≤ length payload.now }
         ensures bytes { IfSome result
@@ -197,7 +199,7 @@ impl MemInfoBuffer {
         Some(MemInfoBuffer { bytes })
     }
 
-    /// The bytes.
+    /// Returns the bytes.
     pub fn to_bytes(&self) -> MemInfoBytes
         ensures { result ≡ self.now.bytes }
     {
@@ -219,7 +221,7 @@ impl From<&MemInfo> for MemInfoBuffer {
 }
 
 impl MemInfoBytes {
-    /// The bytes.
+    /// Returns the bytes as a slice.
     pub fn as_slice(&self) -> &[u8]
         ensures { result.now ≡ held_bytes self.now }
     {
@@ -231,7 +233,7 @@ impl MemInfoBytes {
     }
 }
 
-// The word at the offset, where the bytes have it whole.
+// Returns the little-endian `u32` at the offset, or `None` if the bytes end before its end.
 fn word_at(payload: &[u8], offset: usize) -> Option<u32>
     requires { offset + 4 < 2 ^ 64 }
     ensures { SomeIff result (offset + 4 ≤ length payload.now)
@@ -240,7 +242,7 @@ fn word_at(payload: &[u8], offset: usize) -> Option<u32>
     Some(LittleEndian::read_u32(payload.get(offset..offset + 4)?))
 }
 
-// The bytes of a value that has so many.
+// Serializes a value whose serialized form has `N` bytes.
 fn row_of<const N: usize>(value: &MemInfo) -> [u8; N]
     requires { length (bytes mem_info value.now) ≡ N }
     ensures { result ≡ bytes mem_info value.now }

@@ -1,4 +1,4 @@
-//! Records that tell of IPv4 and IPv6 sockets.
+//! Records that describe IPv4 and IPv6 sockets.
 
 mod legacy_mem_info;
 mod mem_info;

@@ -1,4 +1,4 @@
-//! What INET_DIAG_INFO tells: a TCP connection.
+//! The value of `INET_DIAG_INFO`: the state of a TCP connection.
 
 ghost use Rattle.std.specs.Prelude.{◌≡◌, ⊤, length};
 ghost use Rattle.std.proofs.Common.{rules};
@@ -20,134 +20,148 @@ use netlink_core::{
 };
 use std::alloc::AllocError;
 
-/// A TCP connection, as the attribute `INET_DIAG_INFO` tells it: `struct tcp_info` of
-/// `linux/tcp.h`, 232 bytes, numbers of 8, 32 and 64 bits, low byte first.
+/// The state of a TCP connection: `struct tcp_info` (linux/tcp.h), the value of the attribute
+/// `INET_DIAG_INFO`. It has 232 bytes: `u8`, `u32` and `u64` fields, little-endian. Newer kernels
+/// append fields, which are ignored.
 #[derive(Debug, Drop, PartialEq, Eq)]
 pub struct TcpInfo {
-    /// The state of the connection, one of `TCP_ESTABLISHED` to `TCP_CLOSING`, `tcpi_state`, at 0.
+    /// TCP state (`tcpi_state`), `TCP_ESTABLISHED` to `TCP_CLOSING`, at offset 0.
     pub state: u8,
-    /// The state of congestion control, one of `TCP_CA_OPEN` to `TCP_CA_LOSS`, `tcpi_ca_state`, at
-    /// 1.
+    /// State of congestion control (`tcpi_ca_state`), `TCP_CA_OPEN` to `TCP_CA_LOSS`, at offset 1.
     pub ca_state: u8,
-    /// How often the timer has made the oldest segment be sent again, `tcpi_retransmits`, at 2.
+    /// Number of times that the retransmission timer has retransmitted the oldest segment
+    /// (`tcpi_retransmits`), at offset 2.
     pub retransmits: u8,
-    /// How many probes of a closed window or of a silent peer were not answered, `tcpi_probes`, at
-    /// 3.
+    /// Number of unanswered zero-window or keepalive probes (`tcpi_probes`), at offset 3.
     pub probes: u8,
-    /// How often the timer was doubled, `tcpi_backoff`, at 4.
+    /// Number of times that the timer was doubled, by exponential backoff (`tcpi_backoff`), at
+    /// offset 4.
     pub backoff: u8,
-    /// The options that both ends agreed on, bits `TCPI_OPT_..`, `tcpi_options`, at 5.
+    /// Options of the connection (`tcpi_options`), bits `TCPI_OPT_*`, at offset 5.
     pub options: u8,
-    /// The shifts of both windows, `tcpi_snd_wscale` and `tcpi_rcv_wscale`, at 6, four bits each.
+    /// Window scale shifts, at offset 6: `tcpi_snd_wscale` in bits 0 to 3, `tcpi_rcv_wscale` in
+    /// bits 4 to 7.
     pub wscale: u8,
-    /// Bit 0 is set where the sender's program limits `delivery_rate`,
-    /// `tcpi_delivery_rate_app_limited`, at 7. The next bits are `tcpi_fastopen_client_fail`.
+    /// Bit fields at offset 7. Bit 0 is set if the sending program limits `delivery_rate`
+    /// (`tcpi_delivery_rate_app_limited`). Bits 1 and 2 are `tcpi_fastopen_client_fail`.
     pub delivery_rate_app_limited: u8,
-    /// The time until a segment is sent again, `tcpi_rto`, at 8, in microseconds.
+    /// Retransmission timeout in microseconds (`tcpi_rto`), at offset 8.
     pub rto: u32,
-    /// The time until an answer is sent late, `tcpi_ato`, at 12, in microseconds.
+    /// Timeout of delayed acknowledgements in microseconds (`tcpi_ato`), at offset 12.
     pub ato: u32,
-    /// The largest segment that is sent, `tcpi_snd_mss`, at 16, in bytes.
+    /// Maximum size of sent segments in bytes (`tcpi_snd_mss`), at offset 16.
     pub snd_mss: u32,
-    /// The largest segment that is taken to come, `tcpi_rcv_mss`, at 20, in bytes.
+    /// Estimated maximum size of received segments in bytes (`tcpi_rcv_mss`), at offset 20.
     pub rcv_mss: u32,
-    /// How many segments are sent and not acknowledged, `tcpi_unacked`, at 24. A listening socket
-    /// tells its pending connections.
+    /// Number of segments that are sent and not acknowledged (`tcpi_unacked`), at offset 24. For a
+    /// listening socket, the number of pending connections.
     pub unacked: u32,
-    /// How many segments were acknowledged out of order, `tcpi_sacked`, at 28. A listening socket
-    /// tells its limit of pending connections.
+    /// Number of segments that are selectively acknowledged (`tcpi_sacked`), at offset 28. For a
+    /// listening socket, the backlog limit.
     pub sacked: u32,
-    /// How many segments are held to be lost, `tcpi_lost`, at 32.
+    /// Number of segments that are considered lost (`tcpi_lost`), at offset 32.
     pub lost: u32,
-    /// How many segments that were sent again are on their way, `tcpi_retrans`, at 36.
+    /// Number of retransmitted segments in flight (`tcpi_retrans`), at offset 36.
     pub retrans: u32,
-    /// How far the acknowledged segments reach, `tcpi_fackets`, at 40. Newer kernels write 0.
+    /// Number of segments up to the highest one that is selectively acknowledged (`tcpi_fackets`),
+    /// at offset 40. Newer kernels write 0.
     pub fackets: u32,
-    /// The time since data was sent, `tcpi_last_data_sent`, at 44, in milliseconds.
+    /// Time since data was last sent, in milliseconds (`tcpi_last_data_sent`), at offset 44.
     pub last_data_sent: u32,
-    /// The time since an acknowledgement was sent, `tcpi_last_ack_sent`, at 48. The kernel writes
-    /// 0.
+    /// Time since an acknowledgement was last sent (`tcpi_last_ack_sent`), at offset 48. The kernel
+    /// does not record it, and writes 0.
     pub last_ack_sent: u32,
-    /// The time since data came, `tcpi_last_data_recv`, at 52, in milliseconds.
+    /// Time since data was last received, in milliseconds (`tcpi_last_data_recv`), at offset 52.
     pub last_data_recv: u32,
-    /// The time since an acknowledgement came, `tcpi_last_ack_recv`, at 56, in milliseconds.
+    /// Time since an acknowledgement was last received, in milliseconds (`tcpi_last_ack_recv`), at
+    /// offset 56.
     pub last_ack_recv: u32,
-    /// The largest packet that the path takes, `tcpi_pmtu`, at 60, in bytes.
+    /// Path MTU in bytes (`tcpi_pmtu`), at offset 60.
     pub pmtu: u32,
-    /// The most that the receive window may grow to for now, `tcpi_rcv_ssthresh`, at 64, in bytes.
+    /// Current limit on the growth of the receive window, in bytes (`tcpi_rcv_ssthresh`), at offset
+    /// 64.
     pub rcv_ssthresh: u32,
-    /// The round trip's time, smoothed, `tcpi_rtt`, at 68, in microseconds.
+    /// Smoothed round-trip time in microseconds (`tcpi_rtt`), at offset 68.
     pub rtt: u32,
-    /// How far round trips differ from it, `tcpi_rttvar`, at 72, in microseconds.
+    /// Mean deviation of the round-trip time in microseconds (`tcpi_rttvar`), at offset 72.
     pub rttvar: u32,
-    /// The window from which on slow start ends, `tcpi_snd_ssthresh`, at 76, in segments.
+    /// Slow start threshold in segments (`tcpi_snd_ssthresh`), at offset 76.
     pub snd_ssthresh: u32,
-    /// The congestion window, `tcpi_snd_cwnd`, at 80, in segments.
+    /// Congestion window in segments (`tcpi_snd_cwnd`), at offset 80.
     pub snd_cwnd: u32,
-    /// The largest segment that was offered to the peer, `tcpi_advmss`, at 84, in bytes.
+    /// Maximum segment size that was advertised to the peer, in bytes (`tcpi_advmss`), at offset
+    /// 84.
     pub advmss: u32,
-    /// How far segments may come out of order before one is held to be lost, `tcpi_reordering`, at
-    /// 88, in segments.
+    /// Reordering metric in segments (`tcpi_reordering`), at offset 88: how far segments may be out
+    /// of order before one is considered lost.
     pub reordering: u32,
-    /// The round trip's time as the receiver measures it, `tcpi_rcv_rtt`, at 92, in microseconds.
+    /// Round-trip time that the receiver estimates, in microseconds (`tcpi_rcv_rtt`), at offset 92.
     pub rcv_rtt: u32,
-    /// The size that the receive buffer is fitted to, `tcpi_rcv_space`, at 96, in bytes.
+    /// Space that receive buffer auto-tuning provides for, in bytes (`tcpi_rcv_space`), at offset
+    /// 96.
     pub rcv_space: u32,
-    /// How many segments were sent again in all, `tcpi_total_retrans`, at 100.
+    /// Total number of retransmitted segments (`tcpi_total_retrans`), at offset 100.
     pub total_retrans: u32,
-    /// The rate at which segments are let go, `tcpi_pacing_rate`, at 104, in bytes a second.
+    /// Pacing rate in bytes per second (`tcpi_pacing_rate`), at offset 104.
     pub pacing_rate: u64,
-    /// The most that this rate may be, `tcpi_max_pacing_rate`, at 112, in bytes a second.
+    /// Limit on the pacing rate in bytes per second (`tcpi_max_pacing_rate`), at offset 112.
     pub max_pacing_rate: u64,
-    /// How many bytes were acknowledged, `tcpi_bytes_acked`, at 120.
+    /// Number of acknowledged bytes (`tcpi_bytes_acked`), at offset 120.
     pub bytes_acked: u64,
-    /// How many bytes came in order, `tcpi_bytes_received`, at 128.
+    /// Number of bytes that were received in order (`tcpi_bytes_received`), at offset 128.
     pub bytes_received: u64,
-    /// How many segments were sent, `tcpi_segs_out`, at 136.
+    /// Number of sent segments (`tcpi_segs_out`), at offset 136.
     pub segs_out: u32,
-    /// How many segments came, `tcpi_segs_in`, at 140.
+    /// Number of received segments (`tcpi_segs_in`), at offset 140.
     pub segs_in: u32,
-    /// How many queued bytes were not sent yet, `tcpi_notsent_bytes`, at 144.
+    /// Number of bytes in the send queue that are not yet sent (`tcpi_notsent_bytes`), at offset
+    /// 144.
     pub notsent_bytes: u32,
-    /// The shortest round trip's time, `tcpi_min_rtt`, at 148, in microseconds.
+    /// Minimum round-trip time in microseconds (`tcpi_min_rtt`), at offset 148.
     pub min_rtt: u32,
-    /// How many segments with data came, `tcpi_data_segs_in`, at 152.
+    /// Number of received segments with data (`tcpi_data_segs_in`), at offset 152.
     pub data_segs_in: u32,
-    /// How many segments with data were sent, `tcpi_data_segs_out`, at 156.
+    /// Number of sent segments with data (`tcpi_data_segs_out`), at offset 156.
     pub data_segs_out: u32,
-    /// The rate at which data last reached the peer, `tcpi_delivery_rate`, at 160, in bytes a
-    /// second.
+    /// Most recent rate at which data was delivered to the peer, in bytes per second
+    /// (`tcpi_delivery_rate`), at offset 160.
     pub delivery_rate: u64,
-    /// The time in which there was data to send, `tcpi_busy_time`, at 168, in microseconds.
+    /// Time with data to send, in microseconds (`tcpi_busy_time`), at offset 168.
     pub busy_time: u64,
-    /// The part of it in which the peer's window was too small, `tcpi_rwnd_limited`, at 176, in
-    /// microseconds.
+    /// Part of the busy time in which the peer's receive window was the limit, in microseconds
+    /// (`tcpi_rwnd_limited`), at offset 176.
     pub rwnd_limited: u64,
-    /// The part of it in which the send buffer was too small, `tcpi_sndbuf_limited`, at 184, in
-    /// microseconds.
+    /// Part of the busy time in which the send buffer was the limit, in microseconds
+    /// (`tcpi_sndbuf_limited`), at offset 184.
     pub sndbuf_limited: u64,
-    /// How many segments reached the peer, those sent again too, `tcpi_delivered`, at 192.
+    /// Number of segments that were delivered to the peer, including retransmitted ones
+    /// (`tcpi_delivered`), at offset 192.
     pub delivered: u32,
-    /// How many of them the peer told to be marked for congestion, `tcpi_delivered_ce`, at 196.
+    /// Number of delivered segments that the peer reported as marked for congestion, by ECN
+    /// (`tcpi_delivered_ce`), at offset 196.
     pub delivered_ce: u32,
-    /// How many bytes of data were sent, those sent again too, `tcpi_bytes_sent`, at 200.
+    /// Number of sent bytes of data, including retransmitted ones (`tcpi_bytes_sent`), at offset
+    /// 200.
     pub bytes_sent: u64,
-    /// How many bytes of data were sent again, `tcpi_bytes_retrans`, at 208.
+    /// Number of retransmitted bytes of data (`tcpi_bytes_retrans`), at offset 208.
     pub bytes_retrans: u64,
-    /// How many segments the peer told to have come twice, `tcpi_dsack_dups`, at 216.
+    /// Number of segments that the peer reported as received twice, by DSACK (`tcpi_dsack_dups`),
+    /// at offset 216.
     pub dsack_dups: u32,
-    /// How often segments were seen to be out of order, `tcpi_reord_seen`, at 220.
+    /// Number of times that reordering was observed (`tcpi_reord_seen`), at offset 220.
     pub reord_seen: u32,
-    /// How many segments came out of order, `tcpi_rcv_ooopack`, at 224.
+    /// Number of segments that were received out of order (`tcpi_rcv_ooopack`), at offset 224.
     pub rcv_ooopack: u32,
-    /// The peer's window after its shift, `tcpi_snd_wnd`, at 228, in bytes.
+    /// Receive window that the peer advertises, after scaling, in bytes (`tcpi_snd_wnd`), at offset
+    /// 228.
     pub snd_wnd: u32,
 }
 
-/// The bytes of a [`TcpInfo`], in the order that they came.
+/// The 232 bytes of a [`TcpInfo`].
 pub type TcpInfoBuffer = RecordBuffer<TcpInfo, 232>;
 
-// By hand: a derived one has a branch for each number that is copied, and takes a minute to prove.
+// Implemented by hand: a derived `clone` has a branch for each copied field, and takes a minute to
+// prove.
 impl Clone for TcpInfo {
     ghost is_clone = { λ info copy. copy ≡ info };
 
@@ -281,7 +295,7 @@ impl Fills<232> for TcpInfo {
 }
 
 impl TcpInfo {
-    /// Reads the first 232 bytes. What follows them is ignored, and fewer are
+    /// Parses the first 232 bytes, and ignores the bytes after them. Fewer bytes are
     /// [`DecodeError::BufferTooSmall`].
     #[inline(always)]
     pub fn parse(payload: &[u8]) -> Result<Self, DecodeError>
@@ -290,7 +304,7 @@ impl TcpInfo {
         read_record(payload, ())
     }
 
-    // Writes the fields at 0 to 60.
+    // Writes the fields at offsets 0 to 91.
     fn write_front(&self, buffer: &mut [u8])
         requires { length buffer.old ≡ 92 }
         ensures { buffer.new ≡ front self.now }
@@ -304,7 +318,7 @@ impl TcpInfo {
         LittleEndian::write_u32_into(&self.metrics(), metrics);
     }
 
-    // Writes the fields at 92 to 160.
+    // Writes the fields at offsets 92 to 191.
     fn write_middle(&self, buffer: &mut [u8])
         requires { length buffer.old ≡ 100 }
         ensures { buffer.new ≡ middle self.now }
@@ -318,7 +332,7 @@ impl TcpInfo {
         LittleEndian::write_u64_into(&self.limits(), limits);
     }
 
-    // Writes the fields at 192 to 216.
+    // Writes the fields at offsets 192 to 231.
     fn write_back(&self, buffer: &mut [u8])
         requires { length buffer.old ≡ 40 }
         ensures { buffer.new ≡ back self.now }
@@ -330,7 +344,7 @@ impl TcpInfo {
         LittleEndian::write_u32_into(&self.reorderings(), reorderings);
     }
 
-    // The bytes at 0.
+    // Returns the eight `u8` at offset 0.
     fn states(&self) -> [u8; 8]
         ensures { result ≡ states self.now }
     {
@@ -346,7 +360,7 @@ impl TcpInfo {
         ]
     }
 
-    // The words at 8.
+    // Returns the nine `u32` at offset 8.
     fn counts(&self) -> [u32; 9]
         ensures { result ≡ counts self.now }
     {
@@ -363,7 +377,7 @@ impl TcpInfo {
         ]
     }
 
-    // The words at 44.
+    // Returns the four `u32` at offset 44.
     fn ages(&self) -> [u32; 4]
         ensures { result ≡ ages self.now }
     {
@@ -375,7 +389,7 @@ impl TcpInfo {
         ]
     }
 
-    // The words at 60.
+    // Returns the eight `u32` at offset 60.
     fn metrics(&self) -> [u32; 8]
         ensures { result ≡ metrics self.now }
     {
@@ -391,14 +405,14 @@ impl TcpInfo {
         ]
     }
 
-    // The words at 92.
+    // Returns the three `u32` at offset 92.
     fn receiver(&self) -> [u32; 3]
         ensures { result ≡ receiver self.now }
     {
         [self.rcv_rtt, self.rcv_space, self.total_retrans]
     }
 
-    // The long words at 104.
+    // Returns the four `u64` at offset 104.
     fn rates(&self) -> [u64; 4]
         ensures { result ≡ rates self.now }
     {
@@ -410,7 +424,7 @@ impl TcpInfo {
         ]
     }
 
-    // The words at 136.
+    // Returns the six `u32` at offset 136.
     fn segments(&self) -> [u32; 6]
         ensures { result ≡ segments self.now }
     {
@@ -424,7 +438,7 @@ impl TcpInfo {
         ]
     }
 
-    // The long words at 160.
+    // Returns the four `u64` at offset 160.
     fn limits(&self) -> [u64; 4]
         ensures { result ≡ limits self.now }
     {
@@ -436,21 +450,21 @@ impl TcpInfo {
         ]
     }
 
-    // The words at 192.
+    // Returns the two `u32` at offset 192.
     fn deliveries(&self) -> [u32; 2]
         ensures { result ≡ deliveries self.now }
     {
         [self.delivered, self.delivered_ce]
     }
 
-    // The long words at 200.
+    // Returns the two `u64` at offset 200.
     fn totals(&self) -> [u64; 2]
         ensures { result ≡ totals self.now }
     {
         [self.bytes_sent, self.bytes_retrans]
     }
 
-    // The words at 216.
+    // Returns the four `u32` at offset 216.
     fn reorderings(&self) -> [u32; 4]
         ensures { result ≡ reorderings self.now }
     {

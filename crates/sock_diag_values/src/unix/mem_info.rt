@@ -1,4 +1,4 @@
-//! What UNIX_DIAG_MEMINFO tells: the memory of a UNIX socket.
+//! The value of `UNIX_DIAG_MEMINFO`: the memory of a UNIX socket.
 
 ghost use Rattle.std.specs.Prelude.{◌≡◌, refl};
 ghost use Rattle.std.proofs.Common.{rules};
@@ -10,25 +10,26 @@ use byteorder::{ByteOrder, LittleEndian};
 use netlink_core::fields::words_at;
 use netlink_core::{DecodeError, Exact, Fills, Record, RecordBuffer, RecordName, read_record};
 
-/// The memory of a UNIX socket, as the attribute `UNIX_DIAG_MEMINFO` tells it: the nine words
-/// `SK_MEMINFO_..` of `linux/sock_diag.h`, 36 bytes, each a `u32`, low byte first.
+/// The memory of a UNIX socket, the value of the attribute `UNIX_DIAG_MEMINFO`: an array of nine
+/// `u32`, little-endian, indexed by `SK_MEMINFO_*` (linux/sock_diag.h). It has 36 bytes.
 ///
-/// A UNIX socket puts what it sends straight into the queue of its peer, so three of the words say
-/// something. The others, at 0, 8, 16, 24, 28 and 32, are not read, and are written 0.
+/// Three of the elements are parsed. The other six, at offsets 0, 8, 16, 24, 28 and 32, are
+/// ignored, and serialized as 0.
 #[derive(Clone, Copy, Debug, PartialEq, Eq)]
 pub struct MemInfo {
-    /// The size of the receive buffer, `SK_MEMINFO_RCVBUF`, at 4, in bytes. It has no effect on a
-    /// UNIX socket.
+    /// Receive buffer limit in bytes (`SK_MEMINFO_RCVBUF`), at offset 4. It has no effect on a UNIX
+    /// socket.
     pub so_rcvbuf: u32,
-    /// The limit on a datagram that is sent, `SK_MEMINFO_SNDBUF`, at 12, in bytes.
+    /// Send buffer limit in bytes (`SK_MEMINFO_SNDBUF`), at offset 12. It limits the size of a sent
+    /// datagram: unix(7).
     pub max_datagram_size: u32,
-    /// The memory of what is queued to be sent, `SK_MEMINFO_WMEM_QUEUED`, at 20, in bytes. Linux
-    /// counts what a UNIX socket sent and its peer has not yet read in the word at 8, and this one
-    /// is 0.
+    /// Memory of data that is queued to be sent, in bytes (`SK_MEMINFO_WMEM_QUEUED`), at offset 20.
+    /// Linux writes 0: data that a UNIX socket sent and its peer has not read is counted in the
+    /// ignored field at offset 8 (`SK_MEMINFO_WMEM_ALLOC`).
     pub alloc: u32,
 }
 
-/// The bytes of a [`MemInfo`], each one that was read, in the words that no reader looks at too.
+/// The 36 bytes of a [`MemInfo`], including the ignored fields.
 pub type MemInfoBuffer = RecordBuffer<MemInfo, 36>;
 
 impl Exact for MemInfo {
@@ -89,7 +90,7 @@ impl Fills<36> for MemInfo {
 }
 
 impl MemInfo {
-    /// Reads the first 36 bytes. What follows them is ignored, and fewer are
+    /// Parses the first 36 bytes, and ignores the bytes after them. Fewer bytes are
     /// [`DecodeError::BufferTooSmall`].
     pub fn parse(payload: &[u8]) -> Result<Self, DecodeError>
         ensures { result ≡ read unix_mem_info tt payload.now }

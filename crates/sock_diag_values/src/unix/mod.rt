@@ -1,4 +1,4 @@
-//! Records that tell of UNIX sockets.
+//! Records that describe UNIX sockets.
 
 mod mem_info;
 mod vfs;

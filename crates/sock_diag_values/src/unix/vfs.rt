@@ -1,4 +1,4 @@
-//! What UNIX_DIAG_VFS tells: the file that a UNIX socket is bound to.
+//! The value of `UNIX_DIAG_VFS`: the file that a UNIX socket is bound to.
 
 ghost use Rattle.std.specs.Prelude.{◌≡◌, refl};
 ghost use Rattle.std.proofs.Common.{rules};
@@ -10,18 +10,19 @@ use byteorder::{ByteOrder, LittleEndian};
 use netlink_core::fields::words_at;
 use netlink_core::{DecodeError, Exact, Fills, Record, RecordBuffer, RecordName, read_record};
 
-/// The file that a UNIX socket is bound to, as the attribute `UNIX_DIAG_VFS` tells it: `struct
-/// unix_diag_vfs` of sock_diag(7). It is 8 bytes: the inode at 0 and the device at 4, each a `u32`,
-/// low byte first.
+/// The file that a UNIX socket is bound to: `struct unix_diag_vfs` (linux/unix_diag.h), the value
+/// of the attribute `UNIX_DIAG_VFS`. It has 8 bytes: two `u32`, little-endian. The inode precedes
+/// the device, although sock_diag(7) lists the device first.
 #[derive(Clone, Debug, Drop, PartialEq, Eq)]
 pub struct Vfs {
-    /// The inode, `udiag_vfs_ino`, at 0.
+    /// Inode number of the file (`udiag_vfs_ino`), at offset 0.
     inode: u32,
-    /// The device, `udiag_vfs_dev`, at 4, as the kernel puts a major and a minor number together.
+    /// Device of the file (`udiag_vfs_dev`), at offset 4. The major and the minor number are
+    /// combined as in the kernel's `dev_t`.
     device: u32,
 }
 
-/// The bytes of a [`Vfs`], each one that was read, in the order that they came.
+/// The 8 bytes of a [`Vfs`].
 pub type VfsBuffer = RecordBuffer<Vfs, 8>;
 
 impl Exact for Vfs {
@@ -63,7 +64,7 @@ impl Fills<8> for Vfs {
 }
 
 impl Vfs {
-    /// Reads the first 8 bytes. What follows them is ignored, and fewer are
+    /// Parses the first 8 bytes, and ignores the bytes after them. Fewer bytes are
     /// [`DecodeError::BufferTooSmall`].
     pub fn parse(payload: &[u8]) -> Result<Self, DecodeError>
         ensures { result ≡ read vfs tt payload.now }
@@ -71,14 +72,14 @@ impl Vfs {
         read_record(payload, ())
     }
 
-    /// The inode of the file.
+    /// Returns the inode number of the file (`udiag_vfs_ino`).
     pub fn inode(&self) -> u32
         ensures { result ≡ self.now.inode }
     {
         self.inode
     }
 
-    /// The device that the file is on.
+    /// Returns the device of the file (`udiag_vfs_dev`).
     pub fn device(&self) -> u32
         ensures { result ≡ self.now.device }
     {

@@ -11,7 +11,7 @@ use Rattle.sock_diag_values.proofs.laws.equivalent_mem_infos.Goals as goal
 abbrev ok_count : ℕ → Result ℕ DecodeError
 ok_count words = Ok words
 
--- the layout and the statement count the same fields
+-- from 28 bytes on, the layout and the contract count the same fields
 count_is : (b : List ℕ) → 28 ≤ length b → words_in (length b) ≡ word_count b
 count_is b h = grind arith
 
@@ -23,7 +23,7 @@ seven_to_nine : (b : List ℕ) → 28 ≤ length b
     → (word_count b ≡ 7) ⊎ ((word_count b ≡ 8) ⊎ (word_count b ≡ 9))
 seven_to_nine b h = grind arith
 
--- in each of the three tables all bits are significant
+-- for 7, 8 and 9 fields, all bits are significant
 masks_of_mem_info : (words : ℕ) → (words ≡ 7) ⊎ ((words ≡ 8) ⊎ (words ≡ 9))
     → live_bits (table mem_info words) ≡ mem_info_masks words
 masks_of_mem_info words h = grind arith
