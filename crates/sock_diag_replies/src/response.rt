@@ -82,8 +82,8 @@ impl<H: ReplyOwned + Debug, N: Debug> Debug for Reply<H, N> {
 impl<H: ReplyOwned> Reply<H, H::Nla> {
     ghost use Rattle.sock_diag_replies.specs.ResponseModel.{response_model};
 
-    /// Returns an equal reply. Fails only if an allocation fails. A reply of at most eight
-    /// attributes that need no memory never fails to be cloned.
+    /// Returns an equal reply. Fails only if an allocation fails. Cloning a reply of at most eight
+    /// attributes that need no memory never fails.
     pub fn clone(&self, alloc: Global) -> Result<Self, AllocError>
         ensures equal { IfOk result (λ copy.
             response_model H.header_model H.Nla.FamilyNla.model copy
