@@ -59,8 +59,8 @@ impl<'a> UnixResponseView<'a> {
         })
     }
 
-    /// Returns the directions that are shut down: the value of the first `Shutdown`
-    /// (`UNIX_DIAG_SHUTDOWN`), if there is one.
+    /// Returns the directions that are shut down (1 for receiving, 2 for sending, 3 for both): the
+    /// value of the first `Shutdown` (`UNIX_DIAG_SHUTDOWN`), if there is one.
     pub fn shutdown_state(&self) -> Option<u8>
         ensures { result
             ≡ first_of (content unix UNIX_DIAG_SHUTDOWN) (unix_response_view_model self.now).nlas }
