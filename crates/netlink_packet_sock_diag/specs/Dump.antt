@@ -31,10 +31,10 @@ module _ {A : Type 0} where
   end_of (Err e) = Some (Err e)
   end_of _ = None
 
-  -- `Dump before items after end`: after the messages `before`, the items lead to the messages
-  -- `after` and to `end`. The inner messages before the first item that ends the dump are appended.
-  -- `end` is the end at that item. If no item ends the dump, `end` is `Ok (Reading, None)`: it is
-  -- still being read.
+  -- `Dump before items after end`: a dump with the messages `before` that reads these items has the
+  -- messages `after` and the end `end`. The inner messages up to the first item that ends the dump
+  -- are appended to `before`, and `end` is what `end_of` returns for that item. If no item ends the
+  -- dump, `end` is `Ok (Reading, None)`: the dump is still being read.
   abbrev pub Dump : List A → List (Item A) → List A → Result Standing DecodeError → Type 0
   Dump before items after end = (passed later : List (Item A)) × (items ≡ passed ++ later)
       × AllByRecursion (λ one. end_of one ≡ None) passed × (after ≡ before ++ flat_map kept passed)

@@ -36,6 +36,7 @@ message_codec = record {
   -- the bytes dispatch to no reply, or the reply of their kind is rejected
   refuses = λ b t e. (response_kind b t ≡ Err e)
       ⊎ ((kind : MessageKind) × (response_kind b t ≡ Ok kind) × (codec_of kind).refuses b tt e);
+  -- no message counts as a value that needs no memory
   is_spare = λ m. ⊥;
   -- both dispatch to the same kind of reply, and are equivalent as such replies
   idle = λ t b c. (kind : MessageKind) × (response_kind b t ≡ Ok kind)

@@ -1,4 +1,5 @@
--- A boolean in one byte, as the value of an attribute.
+-- A boolean in one byte, as the value of an attribute. The arguments of `exact_value` are: how a
+-- value is parsed, how it is serialized, which values are in range, and which are in normal form.
 use Rattle.std.specs.Prelude.{◌≡◌, ℕ, ◌==◌, ◌↔◌, not, if◌then◌else◌, [], ◌∷◌, slice_index, Some, ⊤}
 use Rattle.netlink_core.specs.ValueCodec.{ValueCodec}
 use Rattle.netlink_core.specs.AttributeSpecs.{exact_value}

@@ -25,7 +25,7 @@ IsNormalName (Abstract address) = ⊤
 
 -- An empty value is an error. A name whose first byte is zero is abstract. Any other name is a path
 -- that ends at the first zero byte, which must be the last byte. `i` is the index of the first zero
--- byte, or the length if there is none, which is another error.
+-- byte, or the length if there is none. A missing zero byte and an earlier one are errors.
 abbrev pub read_name : List ℕ → Result (SocketName (List ℕ)) DecodeError
 read_name [] = Err NameEmpty
 read_name (zero ∷ address) = Ok (Abstract address)
@@ -33,8 +33,8 @@ read_name bytes = let i = position_or_len (λ byte. byte == 0) bytes in
     if i + 1 == length bytes then Ok (Pathname (take i bytes))
     else Err (if i == length bytes then NameWithoutEnd else NameInnerZero i)
 
--- a name as the value of an attribute: in range if it serializes to bytes; only equal values are
--- equivalent
+-- a name as the value of an attribute: how it is parsed and serialized, when it is in range (if it
+-- serializes to bytes), and its normal form; only equal values are equivalent
 abbrev pub name_value : ValueCodec (Unit {0})
 name_value = exact_value read_name name_bytes (λ name. IsBytes (name_bytes name)) IsNormalName
 

@@ -1,4 +1,6 @@
--- Little-endian numbers that make up the complete value of an attribute.
+-- Little-endian numbers that make up the complete value of an attribute. The arguments of
+-- `exact_value` are: how a value is parsed, how it is serialized, which values are in range, and
+-- which are in normal form. With `exact_value`, only equal bytes are equivalent (`idle`).
 use Rattle.std.specs.List.{AllByRecursion}
 use Rattle.netlink_core.specs.ValueCodec.{ValueCodec}
 use Rattle.netlink_core.specs.AttributeSpecs.{exact_value}

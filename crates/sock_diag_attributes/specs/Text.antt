@@ -1,4 +1,5 @@
--- A text as the value of an attribute.
+-- A text as the value of an attribute. The arguments of `exact_value` are: how a value is parsed,
+-- how it is serialized, which values are in range, and which are in normal form.
 use Rattle.std.specs.Prelude.{◌≡◌, ℕ, ◌⊎◌, List, [], ◌∷◌, ◌++◌, IsUtf8, ⊤}
 use Rattle.netlink_core.specs.Bytes.{IsBytes}
 use Rattle.netlink_core.specs.Parse.{text_in}
