@@ -1,5 +1,5 @@
--- Each list of items has one dump, and items in a row have that of the first part, continued by the
--- second.
+-- Each list of items has exactly one dump. The dump over two concatenated lists is the dump over
+-- the first list, continued over the second list.
 use Rattle.std.proofs.lemmas.Grind.{common_steps}
 use Rattle.std.proofs.Common.{◌≡◌, ◌≢◌, ◌↔◌, ℕ, ◌⊎◌, inl, inr, List, [], ◌∷◌, ◌++◌, refl, sym, ap}
 use Rattle.std.proofs.Common.{◌∙◌, append_assoc, arith, Bool, IsTrue, ◌%◌, length}
@@ -29,23 +29,23 @@ use Rattle.netlink_packet_sock_diag.specs.Feed.{DumpProgress, FeedLeaves, FeedsL
 use Rattle.netlink_packet_sock_diag.specs.Feed.{Interrupt, IsReading, ReadsDatagram, end_so_far}
 use Rattle.netlink_packet_sock_diag.specs.Feed.{new_dump}
 
--- lists one after the other, as one
+-- the concatenation of the lists
 abbrev pub concatenation : {A : Type 0} → List (List A) → List A
 concatenation lists = flat_map (λ one. one) lists
 
--- no end has come yet
+-- the dump has not ended
 abbrev pub unended : Standing
 unended = (Reading, None)
 
--- how a dump ends, or its fault
+-- how a dump ends, or its error
 abbrev pub End : Type 0
 End = Result Standing DecodeError
 
--- the first of the later items ends the dump; where there is none it is still read
+-- the first of the later items ends the dump; if there are none, the dump is still being read
 abbrev pub Ends : {A : Type 0} → List (Item A) → End → Type 0
 Ends later end = MatchOption (slice_get later 0) (end ≡ Ok unended) (λ item. end_of item ≡ Some end)
 
--- the dump goes on, if it was still read; else its list and its end stay
+-- the dump continues, if it was still being read; otherwise its messages and its end are unchanged
 abbrev pub DumpGoesOn : {A : Type 0} → List A → End → List (Item A) → List A → End → Type 0
 DumpGoesOn middle state items after end = ((state ≡ Ok unended) × Dump middle items after end)
     ⊎ ((state ≢ Ok unended) × (after ≡ middle) × (end ≡ state))
@@ -58,28 +58,29 @@ none_or_some : {X : Type 0} (end : Option X) → (end ≡ None) ⊎ ((x : X) × 
 none_or_some None = inl refl
 none_or_some (Some x) = inr (x, refl)
 
--- what holds at the first message or further on, where more messages stand further on
+-- the induction step of `flags_of_concatenation`
 further : {T M E I O K P J : Type 0} → (T ↔ (M ⊎ (E × I))) → (O ↔ (M ⊎ (E × K)))
     → (I ↔ (K ⊎ (P × J))) → (T ↔ (O ⊎ ((E × P) × J)))
 further t o i = grind arith
 
--- what grows by one part, and then by another one if that goes on, grows by both
+-- the induction step of `feeds_dump`, for the flag
 grows : {W M N X Z P I : Type 0} → (M ↔ (W ⊎ X)) → (N ↔ (M ⊎ (P × I))) → (Z ↔ (X ⊎ (P × I)))
     → (N ↔ (W ⊎ Z))
 grows m n z = grind arith
 
--- a fact has one flag
+-- two flags with the same meaning are equal
 one_flag : {P : Type 0} (x y : Bool) → (IsTrue x ↔ P) → (IsTrue y ↔ P) → x ≡ y
 one_flag x y p q =
     grind (arith, p, q)
 
 module _ {A : Type 0} where
-  -- at its end a dump keeps what came before; else what later items lead to
+  -- if an item ends the dump, the messages before it and its end; otherwise what the later items
+  -- lead to
   abbrev unless : Option End → List A → List A × End → List A × End
   unless None before later = later
   unless (Some end) before later = (before, end)
 
-  -- what a dump keeps of the items, and how it ends
+  -- the messages that a dump keeps of the items, and how it ends, by recursion
   abbrev pub reach : List A → List (Item A) → List A × End
   reach before [] = (before, Ok unended)
   reach before (x ∷ xs) = unless (end_of x) before (reach (before ++ kept x) xs)
@@ -116,13 +117,13 @@ module _ {A : Type 0} where
   one_dump before items a b e f d t =
       grind (arith, dump_is before a items e, dump_is before b items f)
 
-  -- a dump that is still read has no number
+  -- a dump that is still being read has no error number
   pub unnumbered : (items : List (Item A)) (s : Standing) → Ends items (Ok s) → s.0 ≡ Reading
       → s ≡ unended
   unnumbered items s ends is =
       grind arith
 
-  -- a dump is still read where no item ends it
+  -- a dump is still being read if and only if no item ends it
   all_plain : (before : List A) (items : List (Item A))
       → ((reach before items).1 ≡ Ok unended) ↔ Plain items
   all_plain before [] = grind arith
@@ -132,7 +133,8 @@ module _ {A : Type 0} where
   no_end_reads : (item : Item A) (end : End) → end_of item ≡ Some end → end ≢ Ok unended
   no_end_reads item end ends is = grind arith
 
-  -- items in a row lead where the second part leads from the end of the first
+  -- the dump over two concatenated lists continues over the second list, if the first does not end
+  -- it
   goes_on : (before : List A) (xs ys : List (Item A)) (after : List A) (end : End)
       → (reach before (xs ++ ys) ≡ (after, end)) ↔ ((((reach before xs).1 ≡ Ok unended)
       × (reach (reach before xs).0 ys ≡ (after, end)))
@@ -172,18 +174,18 @@ module _ {A : Type 0} where
     ],
   )
 
--- bytes one after the other are bytes
+-- the concatenation of byte strings is a byte string
 pub bytes-concatenation : (datagrams : List (List ℕ)) → AllByRecursion IsBytes datagrams
     → IsBytes (concat datagrams)
 bytes-concatenation [] in_range = IsBytes-nil
 bytes-concatenation (b ∷ later) in_range =
     grind (arith, common_steps, bytes-concatenation later in_range.1)
 
--- the header of the message has the flag
+-- the header of the message has the flag NLM_F_DUMP_INTR
 abbrev pub IsMarked : List ℕ → Type 0
 IsMarked message = (h : NetlinkHeader) × HasHeader message h × IsBitSet h.flags 4
 
--- bytes interrupt a dump by their first message, or by what stands behind it
+-- bytes interrupt a dump by their first message, or by the messages after it
 pub first_or_later : {A : Type 0} (bytes message rest : List ℕ) (item : Item A)
     (items : List (Item A)) → StartsWithMessage bytes message rest
     → (Interrupt bytes (item ∷ items)
@@ -194,7 +196,7 @@ first_or_later bytes message rest item items s = (
 )
 
 module _ {A : Type 0} (item_is : List ℕ → Item A → Type 0) where
-  -- bytes have items, and one list of them
+  -- all bytes have a list of items
   abbrev pub SomeItems : Type 0
   SomeItems = (b : List ℕ) → IsBytes b → (items : List (Item A)) × ItemsAre item_is b items
 
@@ -202,7 +204,7 @@ module _ {A : Type 0} (item_is : List ℕ → Item A → Type 0) where
   OneList = (b : List ℕ) → IsBytes b → (xs ys : List (Item A)) → ItemsAre item_is b xs
       → ItemsAre item_is b ys → xs ≡ ys
 
-  -- datagrams have items
+  -- each datagram has a list of items
   pub items_of_each : SomeItems → (datagrams : List (List ℕ)) → AllByRecursion IsBytes datagrams
       → (parts : List (List (Item A))) × AllZip (ItemsAre item_is) datagrams parts
   items_of_each some [] in_range = ([], tt)
@@ -211,7 +213,7 @@ module _ {A : Type 0} (item_is : List ℕ → Item A → Type 0) where
       let rest = items_of_each some later in_range.1 in
       (first.0 ∷ rest.0, (first.1, rest.1))
 
-  -- and one list of them each
+  -- datagrams have at most one list of items each
   pub one_row : OneList → (datagrams : List (List ℕ)) → AllByRecursion IsBytes datagrams
       → (xs ys : List (List (Item A))) → AllZip (ItemsAre item_is) datagrams xs
       → AllZip (ItemsAre item_is) datagrams ys → xs ≡ ys
@@ -229,7 +231,7 @@ module _ {A : Type 0} (item_is : List ℕ → Item A → Type 0) where
       let parts = one_row one datagrams in_range items xs are each in
       (ys, also, rw (← same, ← parts) d)
 
-  -- and datagrams one dump
+  -- datagrams have at most one dump
   pub one_dumps : OneList → (before : List A) (datagrams : List (List ℕ))
       → AllByRecursion IsBytes datagrams → (a b : List A) (e f : End)
       → DatagramsDump item_is before datagrams a e → DatagramsDump item_is before datagrams b f
@@ -238,7 +240,7 @@ module _ {A : Type 0} (item_is : List ℕ → Item A → Type 0) where
       let same = one_row one datagrams in_range items parts are also in
       one_dump before (concatenation parts) a b e f (rw same at d) t
 
-  -- a datagram has one dump and one flag
+  -- a datagram leads to at most one list of messages, end and flag
   takes_once : OneList → (b : List ℕ) → IsBytes b → (old p q : DumpProgress A) (e f : End)
       → ReadsDatagram item_is old b p e → ReadsDatagram item_is old b q f
       → (p.messages ≡ q.messages) × (e ≡ f)
@@ -248,9 +250,9 @@ module _ {A : Type 0} (item_is : List ℕ → Item A → Type 0) where
       let ends = one_dump old.messages u.0 p.messages q.messages e f (rw rows at t.2) u.2 in
       (ends.0, ends.1, one_flag p.is_interrupted q.is_interrupted (rw rows at t.3) u.3)
 
-  -- ---- how whole messages are split into datagrams
+  -- ---- how complete messages are split into datagrams
 
-  -- the last datagram has the bytes and the items; else it is whole messages
+  -- either there is no later datagram, or the datagram consists of complete messages
   last_or_whole : (b : List ℕ) (later : List (List ℕ)) (parts : List (List (Item A)))
       → AreSplit (b ∷ later) → AllZip (ItemsAre item_is) later parts
       → ((later ≡ []) × (parts ≡ [])) ⊎ ((messages : List (List ℕ))
@@ -258,7 +260,7 @@ module _ {A : Type 0} (item_is : List ℕ → Item A → Type 0) where
   last_or_whole b later parts split each =
       grind arith
 
-  -- the items of split datagrams are those of all their bytes
+  -- the items of split datagrams, concatenated, are the items of the concatenated bytes
   split_items : (datagrams : List (List ℕ)) (parts : List (List (Item A)))
       → AreSplit datagrams → AllZip (ItemsAre item_is) datagrams parts
       → ItemsAre item_is (concat datagrams) (concatenation parts)
@@ -270,7 +272,7 @@ module _ {A : Type 0} (item_is : List ℕ → Item A → Type 0) where
   ]
   split_items datagrams parts split each = grind arith
 
-  -- the dump over the items of one part is that over a row of it
+  -- a dump over the items of a single datagram is a dump over the list of these items
   of_one_part : (before : List A) (datagram : List ℕ) (after : List A) (end : End)
       (parts : List (List (Item A))) → AllZip (ItemsAre item_is) (datagram ∷ []) parts
       → Dump before (concatenation parts) after end
@@ -278,12 +280,12 @@ module _ {A : Type 0} (item_is : List ℕ → Item A → Type 0) where
   of_one_part before datagram after end (items ∷ []) are d = (items, are.0, rw append-nil at d)
   of_one_part before datagram after end parts are d = grind arith
 
-  -- the dump over the items of a datagram
+  -- the dump over the items of one datagram
   abbrev pub DatagramDump : List A → List ℕ → List A → End → Type 0
   DatagramDump before datagram after end =
       (items : List (Item A)) × ItemsAre item_is datagram items × Dump before items after end
 
-  -- is that over this datagram alone
+  -- it is the dump over a list of this one datagram
   pub dump_of_one : (before : List A) (datagram : List ℕ) (after : List A) (end : End)
       → DatagramDump before datagram after end
       ↔ DatagramsDump item_is before (datagram ∷ []) after end
@@ -292,14 +294,14 @@ module _ {A : Type 0} (item_is : List ℕ → Item A → Type 0) where
     λ (parts, are, d). of_one_part before datagram after end parts are d,
   )
 
-  -- the dump of split datagrams is that of the items of all their bytes
+  -- the dump over split datagrams is the dump over the items of the concatenated bytes
   pub dump_of_split : (datagrams : List (List ℕ)) → AreSplit datagrams
       → (before after : List A) (end : End) → DatagramsDump item_is before datagrams after end
       → DatagramDump before (concat datagrams) after end
   dump_of_split datagrams split before after end (items, are, d) =
       (concatenation items, split_items datagrams items split are, d)
 
-  -- the other way round
+  -- the converse of `dump_of_split`
   pub split_of_dump : SomeItems → OneList → (datagrams : List (List ℕ))
       → AllByRecursion IsBytes datagrams → AreSplit datagrams
       → (before after : List A) (end : End)
@@ -312,9 +314,9 @@ module _ {A : Type 0} (item_is : List ℕ → Item A → Type 0) where
       (split_items datagrams parts.0 split parts.1) in
       (parts.0, parts.1, rw same at d.2)
 
-  -- ---- what feeding leaves
+  -- ---- the result of feeding
 
-  -- where the flag is in whole messages and then more bytes
+  -- the flag in complete messages that are followed by more bytes
   flags_of_concatenation : (front back : List ℕ) (messages : List (List ℕ))
       (xs ys : List (Item A)) → CutIntoMessages front messages None × (length front % 4 ≡ 0)
       → AllZip item_is messages xs → (Interrupt (front ++ back) (xs ++ ys)
@@ -329,7 +331,7 @@ module _ {A : Type 0} (item_is : List ℕ → Item A → Type 0) where
       further all own later
   flags_of_concatenation front back messages xs ys whole each = grind arith
 
-  -- and in a datagram and then others
+  -- the flag in a datagram that is followed by other datagrams
   flags_of_split : (b : List ℕ) (later : List (List ℕ)) (items : List (Item A))
       (parts : List (List (Item A))) → AreSplit (b ∷ later) → ItemsAre item_is b items
       → AllZip (ItemsAre item_is) later parts
@@ -345,7 +347,7 @@ module _ {A : Type 0} (item_is : List ℕ → Item A → Type 0) where
         whole_items item_is,
       )
 
-  -- the state in which a dump is left
+  -- the state that a dump has after it ended so
   abbrev pub state_left : End → Standing
   state_left (Ok state) = state
   state_left (Err e) = (Failed, None)
@@ -365,8 +367,8 @@ module _ {A : Type 0} (item_is : List ℕ → Item A → Type 0) where
       grind (arith, ended_stays later old new over)
   ended_stays datagrams old new over f = grind arith
 
-  -- Feeding datagrams in a row gives their dump. Where they are split, it is interrupted where all
-  -- the bytes do so.
+  -- Feeding datagrams in order leads to their dump. If they are split, the dump is interrupted if
+  -- and only if it was before, or the concatenated bytes interrupt it.
   feeds_dump : SomeItems → (datagrams : List (List ℕ)) → AllByRecursion IsBytes datagrams
       → (old new : DumpProgress A) → IsReading old → FeedsLeave item_is old datagrams new
       → (end : End) × (all : DatagramsDump item_is old.messages datagrams new.messages end)
@@ -421,7 +423,7 @@ module _ (C : Codec ℕ) (laws : KeepsLaws C) where
   pub some_items : SomeItems (ItemIs C)
   some_items = items_of C laws.answered
 
-  -- a message has one item
+  -- a message has at most one item
   pub one_item_of : (message : List ℕ) → IsBytes message → (i j : Item C.Value)
       → ItemIs C message i → ItemIs C message j → i ≡ j
   one_item_of =
@@ -436,7 +438,7 @@ module _ (C : Codec ℕ) (laws : KeepsLaws C) where
 
 module _ {A : Type 0} (item_is : List ℕ → Item A → Type 0) (some : SomeItems item_is)
     (one : OneList item_is) where
-  -- feeding split datagrams leaves what the dump over all the bytes does
+  -- feeding split datagrams leads to the same progress as the dump over the concatenated bytes
   pub whole_feed : (datagrams : List (List ℕ)) → AllByRecursion IsBytes datagrams
       → AreSplit datagrams → (left : DumpProgress A) → FeedsLeave item_is new_dump datagrams left
       → (all : (end : End) × ReadsDatagram item_is new_dump (concat datagrams) left end)
@@ -447,7 +449,7 @@ module _ {A : Type 0} (item_is : List ℕ → Item A → Type 0) (some : SomeIte
       let d = dump_of_split item_is datagrams split [] left.messages a.0 a.1 in
       ((a.0, (d.0, d.1, d.2, a.3 split)), a.2)
 
-  -- feeding the same bytes in split datagrams leaves the same
+  -- feeding the same bytes in differently split datagrams leads to the same progress
   pub same_feeds : (datagrams others : List (List ℕ)) → AllByRecursion IsBytes datagrams
       → AllByRecursion IsBytes others → AreSplit datagrams → AreSplit others
       → concat datagrams ≡ concat others → (left also : DumpProgress A)
@@ -466,7 +468,7 @@ module _ {A : Type 0} (item_is : List ℕ → Item A → Type 0) (some : SomeIte
         is_interrupted = ends.2 i;
       }
 
-  -- feeding datagrams with the same items in a row leaves the same messages and state
+  -- feeding datagrams whose concatenated items are equal leads to the same messages and state
   pub same_items_feeds : (datagrams others : List (List ℕ)) (xs ys : List (List (Item A)))
       → AllByRecursion IsBytes datagrams → AllByRecursion IsBytes others
       → AllZip (ItemsAre item_is) datagrams xs → AllZip (ItemsAre item_is) others ys

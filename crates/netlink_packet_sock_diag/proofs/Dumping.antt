@@ -1,4 +1,4 @@
--- A dump goes through the items of a datagram.
+-- Reading the messages of a datagram one by one, up to the end of the dump.
 use Rattle.std.proofs.Common.{◌≡◌, ◌≢◌, ◌↔◌, ℕ, ◌⊎◌, List, [], ◌∷◌, ◌++◌, refl, ◌∙◌}
 use Rattle.std.proofs.Common.{append_assoc, arith, Bool, IsTrue}
 use Rattle.std.specs.Prelude.{Some, None, Ok, Err, IsBitSet}
@@ -21,19 +21,20 @@ use Rattle.netlink_packet_sock_diag.specs.Feed.{Interrupt, ReadsDatagram, ReadsU
 use Rattle.netlink_packet_sock_diag.proofs.DumpRows.{End, dump_is, first_or_later, reach}
 use Rattle.netlink_packet_sock_diag.proofs.DumpRows.{unended}
 
--- the flag that is seen at a message is that of the bytes in front of the rest
+-- the flag after a message was read, by the flags before it and in the remaining bytes
 seen : {I W T A M N J B : Type 0} → ((I ⊎ T) ↔ (W ⊎ A)) → (T ↔ (M ⊎ N)) → (M ↔ B)
     → (J ↔ (I ⊎ B)) → ((J ⊎ N) ↔ (W ⊎ A))
 seen all first mark step = grind arith
 
 module _ {A : Type 0} (item_is : List ℕ → Item A → Type 0) where
-  -- each message has an item
+  -- each message that is as long as its length field says has an item
   abbrev pub SomeItem : Type 0
   SomeItem = (message : List ℕ) → IsBytes message → IsOfOwnLength message
       → (item : Item A) × item_is message item
 
-  -- Some items were passed. What is left goes on from there, whatever items it has, and so do what
-  -- is kept and the flag.
+  -- The messages before `rest` have the items `passed`, and none of these ended the dump. Whatever
+  -- items `later` the rest has, the datagram has the items `passed ++ later`, and the dump and its
+  -- flag continue from `after` and `is`.
   pub record Passing (datagram rest : List ℕ) (before after : List A)
       (was is : Bool) : Type 0 where
     pub passed : List (Item A)
@@ -44,7 +45,8 @@ module _ {A : Type 0} (item_is : List ℕ → Item A → Type 0) where
     pub flags : (later : List (Item A)) → (IsTrue is ⊎ Interrupt rest later)
         ↔ (IsTrue was ⊎ Interrupt datagram (passed ++ later))
 
-  -- the same where a message comes next that has the item, and its flag was seen
+  -- the same when a message with this item is read: its flag is part of `now`, and `next` are the
+  -- bytes after it
   pub record Here (datagram next : List ℕ) (before after : List A) (was now : Bool)
       (item : Item A) : Type 0 where
     pub passed : List (Item A)
@@ -73,7 +75,7 @@ module _ {A : Type 0} {item_is : List ℕ → Item A → Type 0} {datagram rest 
         (λ (k, own, bit). rw (one_header message k h own head) at bit, λ bit. (h, head, bit)) step;
   }
 
-  -- no message is left
+  -- the rest has no more messages: the datagram was read to its end
   pub closes : (later : List (Item A)) (end : End) → ItemsAre item_is rest later
       → reach after later ≡ (after, end) → (Interrupt rest later → ⊥)
       → ReadsDatagram item_is (dump_with before unended was) datagram

@@ -1,4 +1,4 @@
--- Laws of netlink messages that carry messages of sock_diag(7).
+-- Properties of netlink messages that carry messages of sock_diag(7).
 use Rattle.std.proofs.Common.{◌≡◌, ◌↔◌, inr, inl, ℕ, Bool, List, [], ◌∷◌, ◌++◌, refl, arith}
 use Rattle.std.specs.Prelude.{IsTrue, count_by}
 use Rattle.netlink_core.specs.declared.fault.DecodeError.TheVariants.{UnknownMessageType}
@@ -14,7 +14,7 @@ use Rattle.sock_diag_records.specs.ResponseKind.{MessageKind, inet_request, inet
 use Rattle.sock_diag_records.specs.ResponseKind.{unix_request, unix_response}
 use Rattle.netlink_packet_sock_diag.specs.laws.Message.{length-written, other_type_refused}
 
--- one test of the kinds tells a kind
+-- a message has exactly one of the four kinds
 pub one_of : (own : MessageKind) (tests : MessageKind → Bool)
     → ((kind : MessageKind) → IsTrue (tests kind) ↔ (own ≡ kind))
     → count_by tests (inet_request ∷ inet_response ∷ unix_request ∷ unix_response ∷ []) ≡ 1
@@ -29,7 +29,7 @@ sent h m = (envelope_codec message_codec).written (record {
   payload = InnerMessage m;
 })
 
--- no message is read under that type, and so none is where more bytes stand behind it
+-- no message is parsed under the type 21, and so these bytes are rejected, whatever follows them
 pub destroy_is_refused : (h : NetlinkHeader) (m : Message) (rest bytes : List ℕ)
     → Fit header_fields (header_values h)
     → (envelope_codec message_codec).fits (record { header = h; payload = InnerMessage m })
@@ -46,7 +46,7 @@ destroy_is_refused h m rest bytes in_range fits whole =
     inl (other_type_refused inside 21 (length-written m) (λ is. omega (arith, is))) in
     rw whole (inr (own, stands.0, inr (omega arith), rw stands.1 refused))
 
--- the type of a finalized inner message is 20, a type of inner messages
+-- the type of a finalized inner message is 20, which is a type of inner messages
 pub normal_payload : (t : ℕ) (p : Payload Message) → t ≡ payload_type (λ _. 20) p
     → (OfInner (λ m. IsInnerType t × message_codec.is_normal t m) p
     ↔ OfInner (message_codec.is_normal 20) p)

@@ -1,4 +1,4 @@
--- Payloads are equal where they tell the same.
+-- `==` of payloads is true if and only if their models are equal.
 use Rattle.std.proofs.Common.{arith}
 use Rattle.std.proofs.Common.{◌≡◌, ◌↔◌, ℕ, List, IsTrue}
 use mir.Syntax.{given}
@@ -8,7 +8,7 @@ use Rattle.netlink_core.specs.declared.message.NetlinkPayload.{NetlinkPayload}
 use Rattle.netlink_core.specs.contracts.message.NetlinkPayloadPartialEq.TheImpl.{ghosts}
 use Rattle.netlink_core.specs.EnvelopeModel.{payload_of}
 
--- over what holds their bytes and what an inner message is, by which they are compared
+-- over the types of inner messages and of bytes, and `==` of them
 module _ (I B : RattleType) (i : Ghosts I.Denot) (b : Ghosts B.Denot) {A : Type 0}
     (bytes : B.Denot → List ℕ) (model : I.Denot → A)
     (held : (x y : B.Denot) → IsTrue (b.eq x y) ↔ (bytes x ≡ bytes y))

@@ -1,4 +1,4 @@
--- What was fed to the reader of a dump, with one datagram more.
+-- Feeding one more datagram to a reader of dumps keeps the invariant of its ghost field `fed`.
 use Rattle.std.proofs.Common.{◌≡◌, ◌≢◌, ◌⊎◌, inl, inr, ℕ, List, [], ◌∷◌, ◌++◌, refl, sym, ◌∙◌}
 use Rattle.std.proofs.Common.{arith}
 use Rattle.std.proofs.lemmas.Fn.{FoldsTo-push}
@@ -13,7 +13,7 @@ use Rattle.netlink_packet_sock_diag.specs.Feed.{end_so_far, new_dump}
 use Rattle.netlink_packet_sock_diag.proofs.DumpRows.{unended}
 
 module _ {A : Type 0} (item_is : List ℕ → Item A → Type 0) where
-  -- as the ghost field of the reader says
+  -- the invariant of the ghost field `fed`
   abbrev pub Fed : DumpProgress A → Type 0
   Fed now =
       (datagrams : List (List ℕ)) × (before : DumpProgress A)
@@ -22,12 +22,12 @@ module _ {A : Type 0} (item_is : List ℕ → Item A → Type 0) where
       ⊎ ((end_so_far now ≡ (Failed, None)) × (last : List ℕ) × (answer : Result Unit DumpError)
       × FeedLeaves item_is before last now answer))
 
-  -- a datagram is fed, with memory for all
+  -- a datagram is fed, and no allocation fails
   abbrev Feeds : DumpProgress A → List ℕ → DumpProgress A → Type 0
   Feeds old datagram new = (answer : Result Unit DumpError)
       × FeedLeaves item_is old datagram new answer × (answer ≢ Err (Fault Memory))
 
-  -- a dump that is read was left so with memory for all
+  -- feeding one more datagram keeps the invariant
   pub fed_on : (before after : DumpProgress A) (datagram : List ℕ)
       (answer : Result Unit DumpError) → Fed before
       → FeedLeaves item_is before datagram after answer → Fed after

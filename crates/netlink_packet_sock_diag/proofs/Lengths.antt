@@ -1,4 +1,4 @@
--- How long replies are.
+-- The lengths of serialized replies.
 use Rattle.std.proofs.Common.{◌≡◌, ◌%◌, List, [], ◌∷◌, length, map, replicate, refl, arith}
 use Rattle.std.specs.List.{flat_map}
 use Rattle.std.proofs.lemmas.List.{length-append, length-replicate}
@@ -7,7 +7,7 @@ use Rattle.netlink_core.specs.AttributeSet.{encodes}
 use Rattle.netlink_core.specs.Response.{ResponseSpec, ValueOf, response_bytes}
 use Rattle.netlink_core.specs.laws.Shown.{ResponseLaws}
 
--- an attribute with its padding is a multiple of four
+-- the length of an attribute with its padding is a multiple of four
 written_multiple : (a : Attribute) → length (written a) % 4 ≡ 0
 written_multiple a =
     grind (
@@ -16,7 +16,7 @@ written_multiple a =
       length-replicate,
     )
 
--- and so are attributes in a row
+-- the length of consecutive attributes with their padding is a multiple of four
 all_multiple : (xs : List Attribute) → length (flat_map written xs) % 4 ≡ 0
 all_multiple [] = refl
 all_multiple (x ∷ xs) =
@@ -27,7 +27,7 @@ all_multiple (x ∷ xs) =
       all_multiple xs,
     )
 
--- and a reply, behind a header that is one
+-- the length of a reply is a multiple of four, if the length of its header is one
 pub reply_multiple : (R : ResponseSpec) → ResponseLaws R → R.size % 4 ≡ 0 → (v : ValueOf R)
     → R.header.is_in_range v.header → length (response_bytes R v) % 4 ≡ 0
 reply_multiple R laws four v in_range =

@@ -1,4 +1,5 @@
--- What a dump without a fault keeps, a lossy one keeps too, and at which faults that one ends.
+-- If a dump ends without an error, a `LossyDump` keeps the same messages. The errors at which a
+-- `LossyDump` ends are those of bytes that are not a message.
 use Rattle.std.proofs.Common.{◌≡◌, ℕ, List, [], ◌∷◌, ◌++◌, map, refl, arith}
 use Rattle.std.specs.Option.{option_to_list}
 use Rattle.std.specs.Prelude.{Option, option_map, Some, None, Result, Ok, Err}
@@ -17,7 +18,7 @@ use Rattle.netlink_packet_sock_diag.specs.laws.Kept.{as_entry, is_entry, one_ent
 use Rattle.netlink_packet_sock_diag.proofs.DumpRows.{OneList, SomeItems, dump_is, dump_of_one}
 use Rattle.netlink_packet_sock_diag.proofs.DumpRows.{one_item_of, reach}
 
--- the fault behind the messages of a datagram, if there is one
+-- the error of the bytes after the messages of a datagram, if there is one
 abbrev last : {A : Type 0} → Option DecodeError → List (Item A)
 last end = option_to_list (option_map Err end)
 
@@ -48,7 +49,7 @@ module _ (C : Codec ℕ) where
       )
   zip_entries bytes messages end cut carried each = grind arith
 
-  -- what is kept of a datagram without a fault
+  -- the entries for a datagram whose dump ends without an error
   pub lossy_keeps : (datagram : List ℕ) (before after : List C.Value) (s : Standing)
       → DatagramsDump (ItemIs C) before (datagram ∷ []) after (Ok s)
       → DatagramsDump (EntryIs C) (map (λ v. Ok v) before) (datagram ∷ []) (map (λ v. Ok v) after)
@@ -66,9 +67,9 @@ module _ (C : Codec ℕ) where
             (reach_entries are.2 are.1 before after s (rw are.5 at went)),
       )
 
-  -- ---- the faults
+  -- ---- the errors
 
-  -- where a lossy dump ends with a fault, that is one of what is no message
+  -- an error that ends a `LossyDump` is the error of bytes that are not a message
   fault_in : (bytes : List ℕ) (messages : List (List ℕ)) (end : Option DecodeError)
       (carried : List (Item (Result C.Value DecodeError))) → CutIntoMessages bytes messages end
       → AllZip (EntryIs C) messages carried
@@ -93,7 +94,7 @@ module _ (C : Codec ℕ) where
       let went = (dump_is before after one.0 (Err e)).0 one.2 in
       fault_in datagram are.0 are.1 are.2 are.3 are.4 before after e (rw are.5 at went)
 
--- ---- a datagram has one list of entries
+-- ---- a datagram has exactly one list of entries
 
 module _ (C : Codec ℕ) (laws : KeepsLaws C) where
   pub some_entries : SomeItems (EntryIs C)

@@ -1,4 +1,4 @@
--- A whole walk over the messages of a datagram, each as what it carries, gives the items of the
+-- A complete iteration over the payloads of the messages of a datagram yields the items of the
 -- datagram.
 use Rattle.std.proofs.Common.{Result, ◌≡◌, inl, inr, List, [], ◌∷◌, refl}
 use Rattle.std.proofs.Common.{arith}
@@ -16,7 +16,7 @@ use Rattle.netlink_packet_sock_diag.specs.Message.{message_codec}
 use Rattle.netlink_core.specs.Faults.{map_ok}
 use Rattle.netlink_packet_sock_diag.specs.PayloadViewModel.{payload_view_model}
 
--- where nothing is left nothing is given
+-- nothing is yielded if no bytes are left
 nothing_more : (walk : DumpViews) (given : List (Result PayloadView DecodeError))
     → Drains GivesView walk given → datagram_left walk.messages ≡ [] → given ≡ []
 nothing_more walk [] h none = refl

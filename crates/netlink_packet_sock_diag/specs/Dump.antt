@@ -11,17 +11,19 @@ use Rattle.netlink_packet_sock_diag.specs.declared.dump.DumpState.{DumpState}
 use Rattle.netlink_packet_sock_diag.specs.declared.dump.DumpState.TheVariants.{Reading, Done, Error}
 use Rattle.netlink_packet_sock_diag.specs.declared.dump.DumpState.TheVariants.{Overrun}
 
--- the state of a dump, and the error number at the start of its NLMSG_DONE or NLMSG_ERROR
+-- the state of a dump, and the error number of the NLMSG_DONE or NLMSG_ERROR that ended it, if it
+-- has one
 abbrev pub Standing : Type 0
 Standing = DumpState × Option ℤ
 
 module _ {A : Type 0} where
-  -- the inner message of an item, if it has one
+  -- the inner message of an item, as a list of one or no message
   abbrev pub kept : Item A → List A
   kept (Ok (payload.InnerMessage value)) = value ∷ []
   kept _ = []
 
-  -- the end of a dump at an item that ends it; an inner message and NLMSG_NOOP do not
+  -- how an item ends a dump: with a state and an error number, or with a decode error; `None` if
+  -- the item is an inner message or NLMSG_NOOP, which do not end a dump
   abbrev pub end_of : Item A → Option (Result Standing DecodeError)
   end_of (Ok (payload.Done given)) = Some (Ok (Done, leading_number given))
   end_of (Ok (payload.Error given)) = Some (Ok (Error, leading_number given))
@@ -29,20 +31,24 @@ module _ {A : Type 0} where
   end_of (Err e) = Some (Err e)
   end_of _ = None
 
-  -- Appends the inner messages before the first item that is neither an inner message nor a NOOP.
-  -- That item ends the dump; if there is none, the dump is still being read.
+  -- `Dump before items after end`: a dump with the messages `before` that reads these items has the
+  -- messages `after` and the end `end`. The inner messages up to the first item that ends the dump
+  -- are appended to `before`, and `end` is what `end_of` returns for that item. If no item ends the
+  -- dump, `end` is `Ok (Reading, None)`: the dump is still being read.
   abbrev pub Dump : List A → List (Item A) → List A → Result Standing DecodeError → Type 0
   Dump before items after end = (passed later : List (Item A)) × (items ≡ passed ++ later)
       × AllByRecursion (λ one. end_of one ≡ None) passed × (after ≡ before ++ flat_map kept passed)
       × MatchOption (slice_get later 0) (end ≡ Ok (Reading, None)) (λ item. end_of item ≡ Some end)
 
-  -- the dump over datagrams: over the items of all of them, in order
+  -- `DatagramsDump is before datagrams after end`: the dump over the items of all the datagrams, in
+  -- order, if `is` relates a message to its item
   abbrev pub DatagramsDump : (List ℕ → Item A → Type 0) → List A → List (List ℕ) → List A
       → Result Standing DecodeError → Type 0
   DatagramsDump is before datagrams after end = (items : List (List (Item A)))
       × AllZip (ItemsAre is) datagrams items × Dump before (flat_map (λ one. one) items) after end
 
--- each datagram except the last consists of complete messages with all their padding
+-- each datagram except the last consists of complete messages with all their padding: it splits
+-- into messages without an error, and its length is a multiple of 4
 abbrev pub AreSplit : List (List ℕ) → Type 0
 AreSplit [] = ⊤
 AreSplit (datagram ∷ later) = ((later ≡ []) ⊎ ((messages : List (List ℕ))

@@ -11,7 +11,7 @@ use Rattle.netlink_packet_sock_diag.specs.Feed.{DumpProgress, dump_with}
 use Rattle.netlink_packet_sock_diag.specs.Message.{Message}
 use Rattle.netlink_packet_sock_diag.specs.MessageModel.{message_model}
 
--- a dump by the models of what it keeps
+-- the progress of a reader, with the model of each value that it keeps
 abbrev pub progress : {I A : Type 0} {G : Ghosts I} → (I → A) → FedDump I G → DumpProgress A
 progress model dump = dump_with (map model dump.kept.items) dump.standing dump.interrupted
 
@@ -19,15 +19,15 @@ progress model dump = dump_with (map model dump.kept.items) dump.standing dump.i
 abbrev pub IsFull : {I : Type 0} {G : Ghosts I} → FedDump I G → Type 0
 IsFull dump = vec_capacity dump.kept ≤ vec_len dump.kept
 
--- the dump that a `DumpReader` reads
+-- the progress of a `DumpReader`
 abbrev pub reader_progress : DumpReader → DumpProgress Message
 reader_progress reader = progress message_model reader.dump
 
--- the entries of a `LossyDump`: messages, and the errors of rejected ones
+-- the entries of a `LossyDump`: messages, and the decode errors of rejected ones
 abbrev pub lossy_entries : LossyDump → List (Result SockDiagMessage DecodeError)
 lossy_entries lossy = lossy.dump.kept.items
 
--- the dump that a `LossyDump` reads
+-- the progress of a `LossyDump`
 abbrev pub lossy_progress : LossyDump → DumpProgress (Result Message DecodeError)
 lossy_progress lossy = progress (map_ok message_model) lossy.dump
 

@@ -15,15 +15,15 @@ use Rattle.netlink_packet_sock_diag.specs.declared.dump.DumpError.{DumpError}
 use Rattle.netlink_packet_sock_diag.specs.declared.dump.DumpError.TheVariants.{Ended, Fault}
 use Rattle.netlink_packet_sock_diag.specs.Dump.{Dump, Standing, end_of}
 
--- A dump that datagrams were fed to: the messages that it has kept, its state, the error number of
--- the message that ended it, and whether a message had the flag NLM_F_DUMP_INTR.
+-- The progress of a reader of dumps: the messages that it keeps, the state, the error number of the
+-- message that ended the dump, and whether a message had the flag NLM_F_DUMP_INTR.
 pub record DumpProgress (A : Type 0) : Type 0 where
   pub messages : List A
   pub state : DumpState
   pub error_number : Option ℤ
   pub is_interrupted : Bool
 
--- a dump with these messages, this state and error number, and this flag
+-- the progress with these messages, this state and error number, and this flag
 abbrev pub dump_with : {A : Type 0} → List A → Standing → Bool → DumpProgress A
 dump_with messages end is_interrupted = record {
   messages = messages;
@@ -32,39 +32,41 @@ dump_with messages end is_interrupted = record {
   is_interrupted = is_interrupted;
 }
 
--- a dump that nothing was fed to
+-- the progress of a reader that nothing was fed to
 abbrev pub new_dump : {A : Type 0} → DumpProgress A
 new_dump = dump_with [] (Reading, None) false
 
--- its state and its error number
+-- the state and the error number
 abbrev pub end_so_far : {A : Type 0} → DumpProgress A → Standing
 end_so_far dump = (dump.state, dump.error_number)
 
--- no message has ended it, and no error
+-- neither a message nor an error has ended the dump
 abbrev pub IsReading : {A : Type 0} → DumpProgress A → Type 0
 IsReading dump = end_so_far dump ≡ (Reading, None)
 
--- Bytes whose first messages have these items interrupt a dump: the header of the first message has
--- the flag NLM_F_DUMP_INTR, 16, which is bit 4; or its item does not end the dump, and the bytes
--- after it interrupt the dump.
+-- `Interrupt bytes items`: the messages at the start of `bytes`, which have these items, interrupt
+-- a dump. That is, the header of the first message has the flag NLM_F_DUMP_INTR, 0x10, which is bit
+-- 4. Or the first item does not end the dump, and the messages after it interrupt the dump.
 abbrev pub Interrupt : {A : Type 0} → List ℕ → List (Item A) → Type 0
 Interrupt bytes [] = ⊥
 Interrupt bytes (item ∷ items) = (message rest : List ℕ) × StartsWithMessage bytes message rest
     × (((h : NetlinkHeader) × HasHeader message h × IsBitSet h.flags 4)
     ⊎ ((end_of item ≡ None) × Interrupt rest items))
 
--- for the relation between a message and its item
+-- `is` relates a message to its item
 module _ {A : Type 0} (is : List ℕ → Item A → Type 0) where
-  -- The items of the datagram extend the messages, and lead to this end. The dump is interrupted if
-  -- it was before, or if the datagram interrupts it.
+  -- `ReadsDatagram old datagram new end`: the items of the datagram extend the messages of `old` to
+  -- those of `new`, and lead to this end. The dump is interrupted if it was before, or if the
+  -- datagram interrupts it. The state and the error number of `old` and `new` are not considered.
   abbrev pub ReadsDatagram : DumpProgress A → List ℕ → DumpProgress A
       → Result Standing DecodeError → Type 0
   ReadsDatagram old datagram new end = (items : List (Item A)) × ItemsAre is datagram items
       × Dump old.messages items new.messages end
       × (IsTrue new.is_interrupted ↔ (IsTrue old.is_interrupted ⊎ Interrupt datagram items))
 
-  -- The datagram is read up to the message with this entry, where memory ran out. No item before
-  -- that message ends the dump; the flag of the message counts.
+  -- `ReadsUpTo entry old datagram new`: the datagram is read up to the inner message with this
+  -- entry, which is not kept, because an allocation failed. No item before it ends the dump. Its
+  -- own flag counts for whether the dump is interrupted.
   abbrev pub ReadsUpTo : A → DumpProgress A → List ℕ → DumpProgress A → Type 0
   ReadsUpTo entry old datagram new = (front later : List (Item A))
       × ItemsAre is datagram (front ++ Ok (InnerMessage entry) ∷ later)
@@ -72,9 +74,11 @@ module _ {A : Type 0} (is : List ℕ → Item A → Type 0) where
       × (IsTrue new.is_interrupted ↔ (IsTrue old.is_interrupted
       ⊎ Interrupt datagram (front ++ Ok (InnerMessage entry) ∷ [])))
 
-  -- By the result of `feed`: the dump was being read, and the datagram leads to its new end; or it
-  -- had ended, and is unchanged; or it was being read and has failed, because the datagram leads to
-  -- this error, or because memory ran out at a message.
+  -- `FeedLeaves old datagram new result`, by the result of `feed`:
+  -- - `Ok`: the dump was being read, and the datagram leads to its new end;
+  -- - `Err Ended`: the dump had ended before, and is unchanged;
+  -- - `Err (Fault e)`: the dump was being read and has failed, because the datagram leads to the
+  --   error `e`, or, if `e` is `Memory`, because an allocation failed at a message.
   abbrev pub FeedLeaves : DumpProgress A → List ℕ → DumpProgress A → Result Unit DumpError → Type 0
   FeedLeaves old datagram new (Ok _) =
       IsReading old × ReadsDatagram old datagram new (Ok (end_so_far new))
@@ -83,7 +87,7 @@ module _ {A : Type 0} (is : List ℕ → Item A → Type 0) where
       × (e ≢ Memory → ReadsDatagram old datagram new (Err e))
       × (e ≡ Memory → (entry : A) × ReadsUpTo entry old datagram new)
 
-  -- datagrams are fed in order, and memory does not run out
+  -- the datagrams are fed in order, and no `feed` fails with `Memory`
   abbrev pub FeedsLeave : DumpProgress A → List (List ℕ) → DumpProgress A → Type 0
   FeedsLeave = FoldsTo (λ old datagram new. (answer : Result Unit DumpError)
       × FeedLeaves old datagram new answer × (answer ≢ Err (Fault Memory)))

@@ -7,7 +7,9 @@ use Rattle.netlink_core.specs.Items.{Item}
 use Rattle.netlink_core.specs.declared.fault.DecodeError.{DecodeError}
 use Rattle.netlink_core.specs.declared.header.NetlinkHeader.{NetlinkHeader}
 
--- a message as its payload, in which an invalid inner message is its decode error
+-- `EntryIs C message item`: the message starts with the header `h`, and `item` is the payload, the
+-- bytes from offset 16 to `h.length`. An inner message is its value, or its decode error if it is
+-- invalid. A message never has an item `Err e`.
 abbrev pub EntryIs : (C : Codec ℕ) → List ℕ → Item (Result C.Value DecodeError) → Type 0
 EntryIs C message (Ok payload) = (h : NetlinkHeader) × HasHeader message h
     × PayloadIs (λ b t entry. MatchResult entry (C.reads b t) (C.refuses b t))

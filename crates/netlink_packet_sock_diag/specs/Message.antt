@@ -10,22 +10,23 @@ use Rattle.sock_diag_records.specs.ResponseKind.{MessageKind, inet_request, inet
 use Rattle.sock_diag_records.specs.ResponseKind.{unix_request, unix_response, response_kind}
 use Rattle.sock_diag_replies.specs.UnixResponseSpec.{unix_response_spec}
 
--- the codec of the request or reply of each kind of message
+-- the codec of the request or reply of each kind: `inet_diag_req_v2`, `inet_diag_msg`,
+-- `unix_diag_req` and `unix_diag_msg`; after the two replies, attributes follow
 abbrev pub codec_of : MessageKind → Codec (Unit {0})
 codec_of inet_request = record_codec inet_request_layout
 codec_of inet_response = response_codec inet_response_spec
 codec_of unix_request = record_codec unix_request_layout
 codec_of unix_response = response_codec unix_response_spec
 
--- a message: its kind and its request or reply
+-- a message: its kind, and the request or reply of this kind
 pub data Message : Type 0 where
   message_of : (kind : MessageKind) → (codec_of kind).Value → Message
 
--- a function of the kind and of the request or reply, applied to a message
+-- applies a function to the kind and the request or reply of a message
 abbrev pub by_kind {ℓ} : {T : Type ℓ} → ((k : MessageKind) → (codec_of k).Value → T) → Message → T
 by_kind tells (message_of kind v) = tells kind v
 
--- the codec of messages under the 16-bit type of the netlink header
+-- the codec of messages; the parameter `t` is the 16-bit message type in the netlink header
 abbrev pub message_codec : Codec ℕ
 message_codec = record {
   Value = Message;
@@ -35,6 +36,7 @@ message_codec = record {
   -- the bytes dispatch to no reply, or the reply of their kind is rejected
   refuses = λ b t e. (response_kind b t ≡ Err e)
       ⊎ ((kind : MessageKind) × (response_kind b t ≡ Ok kind) × (codec_of kind).refuses b tt e);
+  -- no message counts as a value that needs no memory
   is_spare = λ m. ⊥;
   -- both dispatch to the same kind of reply, and are equivalent as such replies
   idle = λ t b c. (kind : MessageKind) × (response_kind b t ≡ Ok kind)
@@ -43,6 +45,6 @@ message_codec = record {
   is_normal = λ t m. by_kind (λ k v. (t ≡ 20) × ((k ≡ inet_response) ⊎ (k ≡ unix_response))
       × (codec_of k).is_normal tt v) m;
   written = by_kind (λ k v. (codec_of k).written v);
-  -- the lengths of the reply fit their fields; those of a request always do
+  -- the lengths of the reply fit their fields; the lengths of a request always do
   fits = by_kind (λ k v. (codec_of k).fits v);
 }

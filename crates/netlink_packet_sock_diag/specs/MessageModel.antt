@@ -8,7 +8,7 @@ use Rattle.netlink_packet_sock_diag.specs.Message.{Message, message_of}
 use Rattle.sock_diag_records.specs.ResponseKind.{inet_request, inet_response, unix_request}
 use Rattle.sock_diag_records.specs.ResponseKind.{unix_response}
 
--- the value of a message
+-- the kind of the message, and the model of its request or reply
 abbrev pub message_model : SockDiagMessage → Message
 message_model (message.InetRequest request) = message_of inet_request request
 message_model (message.InetResponse reply) =

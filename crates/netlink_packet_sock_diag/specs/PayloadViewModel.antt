@@ -1,4 +1,5 @@
--- The model of what a message carries, where it is read in place: what contracts see of it.
+-- The models of a borrowed payload, and of a borrowed message with its header: what contracts see
+-- of them.
 use Rattle.std.specs.Prelude.{ℕ, List}
 use Rattle.std.specs.Borrow.{Bor}
 use Rattle.netlink_core.specs.declared.message.NetlinkPayload.{NetlinkPayload}
@@ -9,14 +10,14 @@ use Rattle.netlink_packet_sock_diag.specs.declared.message.SockDiagView.{SockDia
 use Rattle.netlink_packet_sock_diag.specs.Message.{Message}
 use Rattle.netlink_packet_sock_diag.specs.MessageViewModel.{message_view_model}
 
--- what a message carries, read in place
+-- a borrowed payload: a borrowed inner message, or the borrowed bytes of a control message
 abbrev pub PayloadView : Type 0
 PayloadView = NetlinkPayload SockDiagView (Bor (List ℕ))
 
--- what it tells
+-- the payload, with the model of its inner message or with its bytes
 abbrev pub payload_view_model : PayloadView → Payload Message
 payload_view_model p = payload_of (λ (b : Bor (List ℕ)). b.now) message_view_model p
 
--- the message, with its header
+-- the header and the payload
 abbrev pub envelope_view_model : MessageView → Envelope Message
 envelope_view_model v = record { header = v.header; payload = payload_view_model v.payload }

@@ -1,4 +1,4 @@
-//! How messages stand in bytes, under the type of their netlink header.
+//! The codec of messages, under the message type of their netlink header.
 
 ghost use Rattle.netlink_packet_sock_diag.specs.Message.{message_codec};
 ghost use Rattle.netlink_packet_sock_diag.specs.laws.Message.{message_laws};
@@ -9,7 +9,7 @@ ghost use Rattle.netlink_packet_sock_diag.specs.MessageViewModel.{message_view_m
 use crate::message::{SockDiagDestroy, SockDiagMessage, SockDiagView};
 use netlink_core::{Coded, Emitable};
 
-/// An answer of what a message holds, whatever its kind.
+/// Evaluates an expression for the request or reply in a message, whatever its kind.
 macro_rules! held {
     ($message:expr, $held:ident => $answer:expr) => {
         match $message {
@@ -21,7 +21,7 @@ macro_rules! held {
     };
 }
 
-/// The same of a message that is read in place.
+/// Evaluates an expression for the reply in a borrowed message, whatever its kind.
 macro_rules! lent {
     ($message:expr, $reply:ident => $answer:expr) => {
         match $message {
@@ -49,7 +49,7 @@ impl Emitable for SockDiagMessage {
     }
 }
 
-/// Writes the bytes of the message's canonical form, and takes no memory.
+/// Serializes to the canonical form of the message. Does not allocate.
 impl Emitable for SockDiagView<'_> {
     ghost bytes = { λ v. message_codec.written (message_view_model v) };
 

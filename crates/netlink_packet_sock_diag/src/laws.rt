@@ -1,4 +1,4 @@
-//! Laws of replies and of messages. The functions do nothing: their contracts are the laws.
+//! Properties of replies, messages and dumps. Proof only: the contracts state the properties.
 
 ghost use Rattle.std.specs.Prelude.{Bool, true, ◌≡◌, ◌≢◌, ◌%◌, ◌↔◌, ◌⊎◌, ◌++◌, ℕ, List, [], ◌∷◌};
 ghost use Rattle.std.specs.Prelude.{length, count_by, IsTrue, Result, IfOk, IsOk, map, None};
@@ -48,8 +48,7 @@ use crate::unix::{UnixResponse, UnixResponseView};
 use netlink_core::{Emitable, NetlinkSerializable, Readable, laws};
 use std::alloc::{AllocError, Global};
 
-/// The number of bytes that a reply is written as, `buffer_len`, is a multiple of 4, for both
-/// families.
+/// The length of a serialized reply, `buffer_len`, is a multiple of 4, for both families.
 pub fn reply_lengths_are_multiples_of_four()
     ensures unix { (v : ValueOf unix_response_spec)
         → (response_codec unix_response_spec).is_in_range v
@@ -59,22 +58,23 @@ pub fn reply_lengths_are_multiples_of_four()
         → length (response_bytes inet_response_spec v) % 4 ≡ 0 }
 {}
 
-/// Exactly one of four tests, each for one kind, is true of a message.
+/// Given a test for each of the four kinds, which is true if and only if a message has this kind,
+/// exactly one of the four tests is true.
 pub fn one_kind()
     ensures { (m : Message) (tests : MessageKind → Bool)
         → ((kind : MessageKind) → IsTrue (tests kind) ↔ (by_kind (λ kind v. kind) m ≡ kind))
         → count_by tests (inet_request ∷ inet_response ∷ unix_request ∷ unix_response ∷ []) ≡ 1 }
 {}
 
-/// A message that was read is a reply.
+/// Every parsed message is a reply.
 pub fn read_messages_are_replies()
     ensures { (b : List ℕ) (t : ℕ) (m : Message) → message_codec.reads b t m
         → (by_kind (λ kind v. kind) m ≡ inet_response)
         ⊎ (by_kind (λ kind v. kind) m ≡ unix_response) }
 {}
 
-/// A request to close sockets is written under the type 21, `SOCK_DESTROY`, and a message under 20,
-/// `SOCK_DIAG_BY_FAMILY`.
+/// A request to close sockets is serialized under the type 21 (`SOCK_DESTROY`), and a message under
+/// the type 20 (`SOCK_DIAG_BY_FAMILY`).
 pub fn types_that_are_written(destroy: &SockDiagDestroyed, message: &SockDiagMessage) -> (u16, u16)
     ensures { result ≡ (21, 20) }
 {
@@ -84,7 +84,7 @@ pub fn types_that_are_written(destroy: &SockDiagDestroyed, message: &SockDiagMes
     )
 }
 
-/// Readers of replies and of messages may want memory.
+/// Parsers of owned replies and of messages may need to allocate.
 pub fn readers_take_memory() -> (bool, bool, bool)
     ensures { result ≡ (true, true, true) }
 {
@@ -95,8 +95,8 @@ pub fn readers_take_memory() -> (bool, bool, bool)
     )
 }
 
-/// A finalized request to close sockets is refused by its own reader: it is written under a type of
-/// its own, and messages are read under 20 alone.
+/// The parser of requests to close sockets rejects a finalized request: the request is serialized
+/// under the type 21, and messages are parsed only under the type 20.
 pub fn finalized_destroy_is_refused()
     ensures { (h : NetlinkHeader) (m : Message) → Fit header_fields (header_values h)
         → (envelope_codec message_codec).fits (record { header = h; payload = InnerMessage m })
@@ -109,8 +109,8 @@ pub fn finalized_destroy_is_refused()
         (UnknownMessageType (destroys.type_written m)) }
 {}
 
-/// So it is of a request in hand: what `serialize` writes of its message behind `finalize`, with
-/// whatever follows in the buffer, is refused by the reader of the request.
+/// The same holds for Rust values: what `serialize` writes for a request after `finalize`, followed
+/// by any bytes, is rejected by the parser of the request.
 pub fn finalized_destroy_in_hand_is_refused()
     ensures { (message : NetlinkMessage SockDiagDestroy) (destroy : SockDiagDestroy) (rest : List ℕ)
         → message.payload ≡ InnerMessage destroy
@@ -124,7 +124,8 @@ pub fn finalized_destroy_in_hand_is_refused()
         (UnknownMessageType (destroys.type_written (destroys.model destroy))) }
 {}
 
-/// Bytes have one netlink message of sock_diag(7) at their start or one fault, which has a name.
+/// Each input has one netlink message of sock_diag(7) at its start, or one decode error. It does
+/// not have both, and the error is not `Memory`.
 pub fn one_message_or_fault()
     ensures answered { (b : List ℕ) → IsBytes b
         → ((v : Envelope Message) × (envelope_codec message_codec).reads b tt v)
@@ -143,7 +144,7 @@ pub fn one_message_or_fault()
     laws::one_message_or_fault::<SockDiagMessage>();
 }
 
-/// Two accepted strings give equal netlink messages exactly where they are idle.
+/// Two accepted inputs have equal netlink messages if and only if they are equivalent (`idle`).
 pub fn equal_messages_where_idle()
     ensures { (b c : List ℕ) (v w : Envelope Message) → IsBytes b → IsBytes c
         → (envelope_codec message_codec).reads b tt v → (envelope_codec message_codec).reads c tt w
@@ -152,8 +153,8 @@ pub fn equal_messages_where_idle()
     laws::equal_messages_where_idle::<SockDiagMessage>();
 }
 
-/// Two accepted strings whose netlink messages can be written are written alike, their headers as
-/// they stand, exactly where they are idle.
+/// Two accepted inputs whose netlink messages are writable serialize to the same bytes, with their
+/// headers unchanged, if and only if they are equivalent.
 pub fn messages_written_alike()
     ensures { (b c : List ℕ) (v w : Envelope Message) → IsBytes b → IsBytes c
         → (envelope_codec message_codec).reads b tt v → (envelope_codec message_codec).reads c tt w
@@ -164,9 +165,8 @@ pub fn messages_written_alike()
     laws::messages_written_alike::<SockDiagMessage>();
 }
 
-/// The bytes of a writable netlink message whose header has its own length and type, as `finalize`
-/// sets them, read back as itself exactly where it carries nothing or bytes that are kept, or a
-/// message in normal form under the type 20.
+/// A writable netlink message whose header has the length and type that `finalize` sets round-trips
+/// if and only if it has no inner message, or an inner message in normal form under the type 20.
 pub fn finalized_message_reads_back()
     ensures { (v : Envelope Message) → (envelope_codec message_codec).is_in_range v
         → (envelope_codec message_codec).fits v
@@ -177,7 +177,7 @@ pub fn finalized_message_reads_back()
     laws::finalized_message_reads_back::<SockDiagMessage>();
 }
 
-/// Items have one dump.
+/// Each list of items has exactly one dump.
 pub fn items_have_one_dump()
     ensures some { (before : List Message) (items : List (Result (Payload Message) DecodeError))
         → (after : List Message) × (end : Result Standing DecodeError)
@@ -187,7 +187,8 @@ pub fn items_have_one_dump()
         → Dump before items a e → Dump before items b f → (a ≡ b) × (e ≡ f) }
 {}
 
-/// The dump over items in a row is that over the first part, continued by the second.
+/// The dump over two concatenated lists of items is the dump over the first list if that list ends
+/// the dump. Otherwise it is continued over the second list.
 pub fn dump_over_concatenation()
     ensures { (before after : List Message) (end : Result Standing DecodeError)
         (xs ys : List (Result (Payload Message) DecodeError))
@@ -198,7 +199,7 @@ pub fn dump_over_concatenation()
         ⊎ ((state ≢ Ok (Reading, None)) × (after ≡ middle) × (end ≡ state))))) }
 {}
 
-/// Datagrams with the same items in a row have the same dump.
+/// Datagrams whose items, concatenated, are equal have the same dump.
 pub fn same_items_have_one_dump()
     ensures { (datagrams others : List (List ℕ))
         (xs ys : List (List (Result (Payload Message) DecodeError)))
@@ -213,8 +214,9 @@ pub fn same_items_have_one_dump()
     laws::one_list_of_items::<SockDiagMessage>();
 }
 
-/// The dump does not depend on the split: any two ways to cut the same bytes into datagrams, of
-/// which all but the last are whole messages with all padding, have the same dump.
+/// The dump does not depend on the split into datagrams. Any two ways to split the same bytes into
+/// datagrams have the same dump, if each datagram except the last consists of complete messages
+/// with all their padding.
 pub fn split_changes_no_dump()
     ensures { (datagrams others : List (List ℕ)) → AllByRecursion IsBytes datagrams
         → AllByRecursion IsBytes others
@@ -227,9 +229,10 @@ pub fn split_changes_no_dump()
     laws::one_list_of_items::<SockDiagMessage>();
 }
 
-/// Nor does what feeding leaves: the same bytes, fed to two new readers in any two such ways, and
-/// memory for all, leave the same messages, the same state and the same number, and interrupt both
-/// or none: those of all the bytes in one datagram.
+/// The result of feeding does not depend on the split either. If the same bytes are fed to two new
+/// readers in any two such ways, and no allocation fails, then the readers have the same messages,
+/// state and error number, and both or neither are interrupted. These are the same as if all bytes
+/// were read as one datagram.
 pub fn split_changes_no_feed()
     ensures same { (datagrams others : List (List ℕ)) → AllByRecursion IsBytes datagrams
         → AllByRecursion IsBytes others
@@ -244,9 +247,10 @@ pub fn split_changes_no_feed()
         × ReadsDatagram (ItemIs message_codec) new_dump (concat datagrams) left end }
 {}
 
-/// Nor does it where datagrams have the same items in a row, as where one of them lacks the padding
-/// behind its last message: fed to two new readers, and with memory for all, they leave the same
-/// messages, the same state and the same number.
+/// The result of feeding is the same for datagrams whose items, concatenated, are equal. They may
+/// differ in the padding after the last message of a datagram. Two new readers, if no allocation
+/// fails, have the same messages, state and error number. Whether a dump is interrupted may differ,
+/// because an item does not contain the flags of its message.
 pub fn same_items_change_no_feed()
     ensures { (datagrams others : List (List ℕ))
         (xs ys : List (List (Result (Payload Message) DecodeError)))
@@ -261,9 +265,10 @@ pub fn same_items_change_no_feed()
         × (left.error_number ≡ also.error_number) }
 {}
 
-/// What feeding a `LossyDump` leaves does not depend on the split either: the same bytes, fed to
-/// two new ones in any two such ways, and memory for all, leave the same entries, the same state
-/// and the same number, and interrupt both or none: those of all the bytes in one datagram.
+/// The result of feeding a `LossyDump` does not depend on the split either. If the same bytes are
+/// fed to two new readers in any two such ways, and no allocation fails, then the readers have the
+/// same entries, state and error number, and both or neither are interrupted. These are the same as
+/// if all bytes were read as one datagram.
 pub fn split_changes_no_lossy_feed()
     ensures same { (datagrams others : List (List ℕ)) → AllByRecursion IsBytes datagrams
         → AllByRecursion IsBytes others
@@ -279,8 +284,8 @@ pub fn split_changes_no_lossy_feed()
         × ReadsDatagram (EntryIs message_codec) new_dump (concat datagrams) left end }
 {}
 
-/// Nor does it where datagrams have the same items in a row: fed to two new `LossyDump`s, and with
-/// memory for all, they leave the same entries, the same state and the same number.
+/// The result of feeding a `LossyDump` is the same for datagrams whose items, concatenated, are
+/// equal. Two new readers, if no allocation fails, have the same entries, state and error number.
 pub fn same_items_change_no_lossy_feed()
     ensures { (datagrams others : List (List ℕ))
         (xs ys : List (List (Result (Payload (Result Message DecodeError)) DecodeError)))
@@ -295,8 +300,9 @@ pub fn same_items_change_no_lossy_feed()
         × (left.error_number ≡ also.error_number) }
 {}
 
-/// Of a datagram without a fault a `LossyDump` keeps what a [`DumpReader`](crate::DumpReader) does,
-/// and ends as that does; and a fault that ends it is one of what is no message.
+/// If the dump over a datagram ends without an error, a `LossyDump` keeps the same messages as a
+/// [`DumpReader`](crate::DumpReader) and ends in the same way. If a `LossyDump` ends with an error,
+/// it is the error of bytes that are not a message.
 pub fn lossy_dump_keeps_messages()
     ensures kept { (datagram : List ℕ) (before after : List Message) (end : Standing)
         → DatagramsDump (ItemIs message_codec) before (datagram ∷ []) after (Ok end)
@@ -308,8 +314,8 @@ pub fn lossy_dump_keeps_messages()
         → (rest : List ℕ) × IsEnvelopeFault rest fault }
 {}
 
-/// A whole walk over a datagram gives its items in order: what each message carries or its fault,
-/// and last the fault of what is no message, if there is one.
+/// A complete iteration over a datagram yields its items in order: the payload or the error of each
+/// message, and last the error of bytes that are not a message, if there are such bytes.
 pub fn whole_views_are_the_datagram()
     ensures { (walk : DumpViews) (given : List (Result PayloadView DecodeError))
         → Drains GivesView walk given
@@ -317,14 +323,14 @@ pub fn whole_views_are_the_datagram()
         (map (map_ok payload_view_model) given) }
 {}
 
-/// `==` says whether two errors of a dump are the same.
+/// `==` of two errors of a dump is true if and only if they are equal.
 pub fn equal_dump_errors(v: &DumpError, w: &DumpError) -> bool
     ensures { IsTrue result ↔ (v.now ≡ w.now) }
 {
     v == w
 }
 
-/// A copy is the same error of a dump.
+/// The clone of an error of a dump is equal, and cloning does not fail.
 pub fn copied_dump_error(v: &DumpError) -> Result<DumpError, AllocError>
     ensures ok { IsOk result }
     ensures same { IfOk result (λ copy. copy ≡ v.now) }
@@ -332,7 +338,7 @@ pub fn copied_dump_error(v: &DumpError) -> Result<DumpError, AllocError>
     v.clone()
 }
 
-/// The copy of a walk has the same bytes left.
+/// The clone of an iterator has the same bytes left, and cloning does not fail.
 pub fn copied_views<'a>(walk: &Views<'a>) -> Result<Views<'a>, AllocError>
     ensures ok { IsOk result }
     ensures same { IfOk result
@@ -341,21 +347,22 @@ pub fn copied_views<'a>(walk: &Views<'a>) -> Result<Views<'a>, AllocError>
     walk.clone()
 }
 
-/// `==` says whether two replies in place, about UNIX sockets, tell the same.
+/// `==` of two borrowed replies about UNIX sockets is true if and only if their models are equal.
 pub fn equal_unix_views(v: &UnixResponseView<'_>, w: &UnixResponseView<'_>) -> bool
     ensures { IsTrue result ↔ (view_model v.now ≡ view_model w.now) }
 {
     v == w
 }
 
-/// `==` says whether two replies in place, about IPv4 and IPv6 sockets, tell the same.
+/// `==` of two borrowed replies about IPv4 or IPv6 sockets is true if and only if their models are
+/// equal.
 pub fn equal_inet_views(v: &InetResponseView<'_>, w: &InetResponseView<'_>) -> bool
     ensures { IsTrue result ↔ (view_model v.now ≡ view_model w.now) }
 {
     v == w
 }
 
-/// `==` says whether two payloads in place tell the same.
+/// `==` of two borrowed payloads is true if and only if their models are equal.
 #[tactic(auto, using(crate::specs::laws::EqualMessage::view_equal))]
 pub fn equal_payload_views(v: &View<'_>, w: &View<'_>) -> bool
     ensures { IsTrue result ↔ (payload_view_model v.now ≡ payload_view_model w.now) }
@@ -363,7 +370,7 @@ pub fn equal_payload_views(v: &View<'_>, w: &View<'_>) -> bool
     v == w
 }
 
-/// `==` says whether two messages in place tell the same.
+/// `==` of two borrowed messages is true if and only if their models are equal.
 #[tactic(auto, using(crate::specs::laws::EqualMessage::view_equal))]
 pub fn equal_message_views(v: &SockDiagView<'_>, w: &SockDiagView<'_>) -> bool
     ensures { IsTrue result ↔ (message_view_model v.now ≡ message_view_model w.now) }
@@ -371,7 +378,7 @@ pub fn equal_message_views(v: &SockDiagView<'_>, w: &SockDiagView<'_>) -> bool
     v == w
 }
 
-/// The copy of a reply in place, about a UNIX socket, tells the same.
+/// The clone of a borrowed reply about a UNIX socket has the same model.
 pub fn copied_unix_view<'a>(view: &UnixResponseView<'a>) -> Result<UnixResponseView<'a>, AllocError>
     ensures ok { IsOk result }
     ensures same { IfOk result (λ copy. view_model copy ≡ view_model view.now) }
@@ -379,7 +386,7 @@ pub fn copied_unix_view<'a>(view: &UnixResponseView<'a>) -> Result<UnixResponseV
     view.clone()
 }
 
-/// The copy of a reply in place, about an IPv4 or IPv6 socket, tells the same.
+/// The clone of a borrowed reply about an IPv4 or IPv6 socket has the same model.
 pub fn copied_inet_view<'a>(view: &InetResponseView<'a>) -> Result<InetResponseView<'a>, AllocError>
     ensures ok { IsOk result }
     ensures same { IfOk result (λ copy. view_model copy ≡ view_model view.now) }
@@ -387,7 +394,7 @@ pub fn copied_inet_view<'a>(view: &InetResponseView<'a>) -> Result<InetResponseV
     view.clone()
 }
 
-/// The copy of a message in place tells the same.
+/// The clone of a borrowed message has the same model.
 pub fn copied_message_view<'a>(view: &SockDiagView<'a>) -> Result<SockDiagView<'a>, AllocError>
     ensures ok { IsOk result }
     ensures same { IfOk result (λ copy. message_view_model copy ≡ message_view_model view.now) }
@@ -395,7 +402,7 @@ pub fn copied_message_view<'a>(view: &SockDiagView<'a>) -> Result<SockDiagView<'
     view.clone()
 }
 
-/// The copy of a payload in place tells the same.
+/// The clone of a borrowed payload has the same model.
 pub fn copied_payload_view<'a>(view: &View<'a>) -> Result<View<'a>, AllocError>
     ensures ok { IsOk result }
     ensures same { IfOk result (λ copy. payload_view_model copy ≡ payload_view_model view.now) }
@@ -403,7 +410,8 @@ pub fn copied_payload_view<'a>(view: &View<'a>) -> Result<View<'a>, AllocError>
     view.clone()
 }
 
-/// A reply in place, about a UNIX socket, is written as the reply with memory of its own.
+/// A borrowed reply about a UNIX socket serializes to the same bytes as the owned reply. Both or
+/// neither are writable.
 pub fn owned_unix_view(
     view: &UnixResponseView<'_>,
     alloc: Global,
@@ -418,7 +426,8 @@ pub fn owned_unix_view(
     view.to_owned(alloc)
 }
 
-/// A reply in place, about an IPv4 or IPv6 socket, is written as the reply with memory of its own.
+/// A borrowed reply about an IPv4 or IPv6 socket serializes to the same bytes as the owned reply.
+/// Both or neither are writable.
 pub fn owned_inet_view(
     view: &InetResponseView<'_>,
     alloc: Global,
@@ -433,7 +442,8 @@ pub fn owned_inet_view(
     view.to_owned(alloc)
 }
 
-/// A message in place is written as the message with memory of its own.
+/// A borrowed message serializes to the same bytes as the owned message. Both or neither are
+/// writable.
 pub fn owned_message_view(
     view: &SockDiagView<'_>,
     alloc: Global,

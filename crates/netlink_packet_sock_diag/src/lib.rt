@@ -1,9 +1,9 @@
 //! Messages of sock_diag(7): requests, replies, and the request to close sockets.
 //!
-//! What differs from a string in idle details alone is read as the same value: undefined flag bits,
-//! pads and bytes that no reader looks at, what follows a record or a netlink message, the padding
-//! of attributes, the flag bits of known kinds, one end zero of a text, and which nonzero byte says
-//! true.
+//! Inputs that differ only in ignored bits parse as the same value. Ignored are undefined flag
+//! bits, padding and bytes that no parser reads, bytes after a record or after a netlink message,
+//! the padding of attributes, the flag bits of known attribute kinds, one terminating NUL of a
+//! text, and which nonzero byte means true.
 #![tactic(auto)]
 
 ghost use Rattle.std.specs.Prelude.{◌≡◌, [], ◌∷◌};
@@ -172,8 +172,8 @@ pub use sock_diag_replies::inet;
 pub use sock_diag_replies::same_views;
 pub use sock_diag_replies::unix;
 
-/// The constants that stand at the root too are the numbers of these names. It is for proofs, and
-/// does nothing.
+/// The constants that are re-exported at the root have these numeric values. Proof only: the
+/// contract states the property.
 pub fn root_constants_have_their_numbers()
     ensures { (AF_ALG ∷ AF_APPLETALK ∷ AF_ASH ∷ AF_ATMPVC ∷ AF_ATMSVC ∷ AF_AX25 ∷ AF_BLUETOOTH
         ∷ AF_BRIDGE ∷ AF_CAIF ∷

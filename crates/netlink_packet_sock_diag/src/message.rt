@@ -1,4 +1,4 @@
-//! The messages of sock_diag(7): requests and replies, and the request to close sockets.
+//! The messages of sock_diag(7): requests, replies, and the request to close sockets.
 
 ghost use Rattle.std.specs.Prelude.{◌≡◌, ◌≢◌, ◌<◌, ◌↔◌, ◌⊎◌, true, refl, IsTrue, IfOk, IfErr, IsOk};
 ghost use Rattle.netlink_core.specs.declared.fault.DecodeError.TheVariants.{Memory};
@@ -16,23 +16,23 @@ use netlink_core::{
 };
 use std::alloc::{AllocError, Global};
 
-/// A message of sock_diag(7). Replies alone are read; requests are only written.
+/// A message of sock_diag(7). Only replies can be parsed. Requests can only be serialized.
 #[derive(Debug, Drop, PartialEq, Eq)]
 pub enum SockDiagMessage {
-    /// Asks for IPv4 or IPv6 sockets.
+    /// A request for IPv4 or IPv6 sockets (`inet_diag_req_v2`).
     InetRequest(InetRequest),
-    /// Tells one IPv4 or IPv6 socket.
+    /// A reply describing one IPv4 or IPv6 socket (`inet_diag_msg`).
     InetResponse(Box<InetResponse>),
-    /// Asks for UNIX sockets.
+    /// A request for UNIX sockets (`unix_diag_req`).
     UnixRequest(UnixRequest),
-    /// Tells one UNIX socket.
+    /// A reply describing one UNIX socket (`unix_diag_msg`).
     UnixResponse(Box<UnixResponse>),
 }
 
 impl SockDiagMessage {
     ghost use Rattle.netlink_packet_sock_diag.specs.MessageModel.{message_model};
 
-    /// Whether the message asks for IPv4 or IPv6 sockets.
+    /// Returns whether the message is a request for IPv4 or IPv6 sockets.
     pub fn is_inet_request(&self) -> bool
         ensures { IsTrue result
             ↔ (by_kind (λ kind v. kind) (message_model self.now) ≡ inet_request) }
@@ -40,7 +40,7 @@ impl SockDiagMessage {
         matches!(self, SockDiagMessage::InetRequest(_))
     }
 
-    /// Whether the message tells an IPv4 or IPv6 socket.
+    /// Returns whether the message is a reply describing an IPv4 or IPv6 socket.
     pub fn is_inet_response(&self) -> bool
         ensures { IsTrue result
             ↔ (by_kind (λ kind v. kind) (message_model self.now) ≡ inet_response) }
@@ -48,7 +48,7 @@ impl SockDiagMessage {
         matches!(self, SockDiagMessage::InetResponse(_))
     }
 
-    /// Whether the message asks for UNIX sockets.
+    /// Returns whether the message is a request for UNIX sockets.
     pub fn is_unix_request(&self) -> bool
         ensures { IsTrue result
             ↔ (by_kind (λ kind v. kind) (message_model self.now) ≡ unix_request) }
@@ -56,7 +56,7 @@ impl SockDiagMessage {
         matches!(self, SockDiagMessage::UnixRequest(_))
     }
 
-    /// Whether the message tells a UNIX socket.
+    /// Returns whether the message is a reply describing a UNIX socket.
     pub fn is_unix_response(&self) -> bool
         ensures { IsTrue result
             ↔ (by_kind (λ kind v. kind) (message_model self.now) ≡ unix_response) }
@@ -64,14 +64,15 @@ impl SockDiagMessage {
         matches!(self, SockDiagMessage::UnixResponse(_))
     }
 
-    /// The type under which the message is written and read: `SOCK_DIAG_BY_FAMILY`, 20.
+    /// Returns the message type under which the message is serialized and parsed:
+    /// `SOCK_DIAG_BY_FAMILY`, 20.
     pub fn message_type(&self) -> u16
         ensures { result ≡ 20 }
     {
         SOCK_DIAG_BY_FAMILY
     }
 
-    /// An equal message. It fails only for want of memory, and a request never does.
+    /// Returns an equal message. Fails only if an allocation fails. Cloning a request never fails.
     pub fn clone(&self, alloc: Global) -> Result<Self, AllocError>
         ensures equal { IfOk result (λ copy. message_model copy ≡ message_model self.now) }
         ensures spare { let kind = by_kind (λ kind v. kind) (message_model self.now) in
@@ -93,7 +94,7 @@ impl SockDiagMessage {
         })
     }
 
-    // The message in the bytes under the type, or the first fault.
+    // Parses the payload under the message type, or returns its first error.
     fn read_under(
         alloc: Global,
         payload: &[u8],
@@ -103,7 +104,7 @@ impl SockDiagMessage {
             (λ m. message_codec.reads payload.now message_type (message_model m)) }
         ensures fault { IfErr result (λ e. e ≢ Memory
             → message_codec.refuses payload.now message_type e) }
-        // Memory is wanted only for bytes that have a message.
+        // `Memory` is returned only for bytes that have a message.
         ensures wanted { IfErr result (λ e. e ≡ Memory
             → (m : Message) × message_codec.reads payload.now message_type m
             × ¬ message_codec.is_spare m) }
@@ -112,13 +113,13 @@ impl SockDiagMessage {
     }
 }
 
-/// A message of sock_diag(7), read in place: a [`SockDiagMessage`] whose bytes are borrowed.
-/// Replies alone are read.
+/// A borrowed message of sock_diag(7): the bytes of a [`SockDiagMessage`], checked. Only replies
+/// can be parsed.
 #[derive(Clone, Copy, Debug, PartialEq, Eq)]
 pub enum SockDiagView<'a> {
-    /// Tells one IPv4 or IPv6 socket.
+    /// A reply describing one IPv4 or IPv6 socket.
     InetResponse(InetResponseView<'a>),
-    /// Tells one UNIX socket.
+    /// A reply describing one UNIX socket.
     UnixResponse(UnixResponseView<'a>),
 }
 
@@ -126,10 +127,14 @@ impl<'a> SockDiagView<'a> {
     ghost use Rattle.netlink_packet_sock_diag.specs.MessageModel.{message_model};
     ghost use Rattle.netlink_packet_sock_diag.specs.MessageViewModel.{message_view_model};
 
-    /// Checks the whole of the bytes under a message type, and takes no memory. Fewer than 2 bytes
-    /// are `MessageTooShort`; then a type but `SOCK_DIAG_BY_FAMILY` is `UnknownMessageType`; then a
-    /// first byte but `AF_UNIX`, `AF_INET` and `AF_INET6` is `UnknownFamily`; then the view of that
-    /// family's replies decides.
+    /// Checks all of the bytes under a message type, and returns a view of them. Does not allocate.
+    ///
+    /// Returns the first of these errors that applies:
+    ///
+    /// - `MessageTooShort`, if there are fewer than 2 bytes;
+    /// - `UnknownMessageType`, if the type is not `SOCK_DIAG_BY_FAMILY`;
+    /// - `UnknownFamily`, if the first byte is not `AF_UNIX`, `AF_INET` or `AF_INET6`;
+    /// - the error that the view of the family's replies returns.
     pub fn parse(payload: &'a [u8], message_type: u16) -> Result<SockDiagView<'a>, DecodeError>
         ensures value { IfOk result
             (λ view. message_codec.reads payload.entry.now message_type (message_view_model view)) }
@@ -148,7 +153,7 @@ impl<'a> SockDiagView<'a> {
         }
     }
 
-    /// The message with memory of its own. It fails only for want of memory.
+    /// Returns the owned message. Fails only if an allocation fails.
     pub fn to_owned(&self, alloc: Global) -> Result<SockDiagMessage, AllocError>
         ensures { IfOk result (λ message. message_model message ≡ message_view_model self.now) }
     {
@@ -170,10 +175,15 @@ impl Readable for SockDiagMessage {
 }
 
 impl<'a> ParseableParametrized<&'a [u8], u16> for SockDiagMessage {
-    /// Reads a reply under a message type. Fewer than 2 bytes are `MessageTooShort`; then a type
-    /// but `SOCK_DIAG_BY_FAMILY` is `UnknownMessageType`; then a first byte but `AF_UNIX`,
-    /// `AF_INET` and `AF_INET6` is `UnknownFamily`; then the reader of that family's replies
-    /// decides.
+    /// Parses a reply under a message type.
+    ///
+    /// Returns the first of these errors that applies:
+    ///
+    /// - `MessageTooShort`, if there are fewer than 2 bytes;
+    /// - `UnknownMessageType`, if the type is not `SOCK_DIAG_BY_FAMILY`;
+    /// - `UnknownFamily`, if the first byte is not `AF_UNIX`, `AF_INET` or `AF_INET6`;
+    /// - the error that the parser of the family's replies returns;
+    /// - `Memory`, if an allocation fails.
     fn parse_with_param(
         alloc: Global,
         payload: &'a [u8],
@@ -188,7 +198,8 @@ impl Wire for SockDiagMessage {
         SockDiagMessage::read_under(alloc, bytes, param)
     }
 
-    // The view is written: an owned message could run out of memory though it can't be written.
+    // Serializes the view. Building an owned message first could fail with `Memory` for a message
+    // that is not writable.
     fn rewrite(alloc: Global, bytes: &[u8], param: u16) -> Result<Vec<u8>, CanonError> {
         match SockDiagView::parse(bytes, param) {
             Ok(view) => write_new(alloc, &view),
@@ -237,25 +248,26 @@ impl From<SockDiagMessage> for NetlinkPayload<SockDiagMessage> {
     }
 }
 
-/// The request to close the sockets that a message tells: the message's bytes under the type
-/// `SOCK_DESTROY`, 21.
+/// The request to close the sockets that a message selects or describes: the bytes of the message
+/// under the type `SOCK_DESTROY`, 21.
 ///
-/// It is read as a message is, so under `SOCK_DIAG_BY_FAMILY` alone, and what was written under its
-/// own type is refused.
+/// It is parsed as a message is, and so only under the type `SOCK_DIAG_BY_FAMILY`. A serialized
+/// request has the type 21, and is rejected.
 #[derive(Debug, Drop, PartialEq, Eq)]
 pub struct SockDiagDestroy(pub(crate) SockDiagMessage);
 
 impl SockDiagDestroy {
     ghost use Rattle.netlink_packet_sock_diag.specs.MessageModel.{message_model};
 
-    /// The request to close what the message tells.
+    /// Returns the request to close the sockets that `message` selects or describes.
     pub fn new(message: SockDiagMessage) -> Self
         ensures { message_model result.0 ≡ message_model message }
     {
         SockDiagDestroy(message)
     }
 
-    /// An equal request. It fails only for want of memory, and not where it holds a request.
+    /// Returns an equal request. Fails only if an allocation fails. Never fails if it contains an
+    /// `InetRequest` or a `UnixRequest`.
     pub fn clone(&self, alloc: Global) -> Result<Self, AllocError>
         ensures equal { IfOk result (λ copy. message_model copy.0 ≡ message_model self.now.0) }
         ensures spare { let kind = by_kind (λ kind v. kind) (message_model self.now.0) in

@@ -1,4 +1,5 @@
-//! The bytes are worked out by hand from the layouts of sock_diag(7) and netlink(7).
+//! Test data and helpers. The bytes were worked out by hand from the layouts in sock_diag(7) and
+//! netlink(7).
 
 ghost use Rattle.std.specs.Iterator.{IsFinite};
 
@@ -17,50 +18,53 @@ mod views;
 /// The header of a reply about a listening UNIX socket.
 const LISTENING: &str = "01010a000e4f0000a002000000000000";
 
-/// Of a connected one.
+/// The header of a reply about a connected UNIX socket.
 const CONNECTED: &str = "01010100b77c00002200000000000000";
 
-/// Of a connection with a timer that keeps it alive.
+/// The header of a reply about an IPv4 connection with a keepalive timer.
 const INET: &str = "02010200eb1401bbc0a8b23c000000000000000000000000acd917830000000000000000000000\
 00000000005203000000000000806000000000000000000000e8030000a8da2900";
 
-/// A listening socket at /tmp/.ICE-unix/1151, for at most 128 connections.
+/// A reply about a listening socket at /tmp/.ICE-unix/1151, with a limit of 128 pending
+/// connections.
 const PATH: &str = "01010a000e4f0000a002000000000000180000002f746d702f2e4943452d756e69782f31313531\
 000c00040000000000800000000500060000000000";
 
-/// The same with an abstract name.
+/// A reply about a listening socket with an abstract name, and the same limit.
 const ABSTRACT: &str = "01010a000e4f0000a002000000000000300000000031633134343063356635653261353265\
 2f6275732f73797374656d642f002f6275732d6170692d757365720c00040000000000800000000500060000000000";
 
-/// A connected socket at /run/user/1000/bus, with its peer.
+/// A reply about a connected socket at /run/user/1000/bus, with its peer.
 const PEER: &str = "01010100b77c00002200000000000000170000002f72756e2f757365722f313030302f62757300\
 0008000200567900000c00040000000000000000000500060000000000";
 
-/// No direction of an internet socket that is shut down.
+/// An attribute `INET_DIAG_SHUTDOWN` with the value 0: no direction is shut down.
 const SHUTDOWN: &str = "0500080000000000";
 
-/// Sixteen bytes of zero.
+/// The digits of sixteen zero bytes.
 const ZEROS: &str = "00000000000000000000000000000000";
 
-/// The bytes that these digits stand for, in a row.
+/// Returns the bytes of the hexadecimal digits in all of the parts, concatenated.
 fn bytes(rt: &impl Abort, alloc: Global, parts: &[&str]) -> Vec<u8> {
     let digits = parts.concat(alloc).expect(rt, "memory");
     hex::decode(alloc, digits.as_str()).expect(rt, "digits")
 }
 
-/// The bytes and the text of a row: behind a front the bytes' digits, and behind a space the text.
+/// Splits a row at its first space. Returns the bytes of `front` and of the digits before the
+/// space, and the text after the space.
 fn cells<'a>(rt: &impl Abort, alloc: Global, front: &str, row: &'a str) -> (Vec<u8>, &'a str) {
     let (digits, text) = row.split_once(' ').expect(rt, "a text");
     (bytes(rt, alloc, &[front, digits]), text)
 }
 
-/// What `Debug` shows of the value has this part.
+/// Asserts that `part` occurs in what `Debug` prints for the value.
 fn shows<T: Debug>(rt: &impl Abort, alloc: Global, value: &T, part: &str) {
     let shown = format!(in alloc; "{value:?}").expect(rt, "memory");
     assert!(rt; shown.contains(part), "{shown}");
 }
 
-/// The answers of the walk, one after the other, are shown like this.
+/// Asserts that `text` occurs in what `Debug` prints for the list of all items that the iterator
+/// yields.
 fn gives<I: Iterator + Drop>(rt: &impl Abort, alloc: Global, walk: I, text: &str)
 where
     I::Item: Debug + Drop,

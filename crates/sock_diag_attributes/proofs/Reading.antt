@@ -1,4 +1,4 @@
--- An attribute of any family: when a reader that makes an owned value returns `Memory`, and when an
+-- An attribute of any family: when a parser of an owned value returns `Memory`, and when an
 -- attribute has no canonical form.
 use Rattle.std.proofs.Common.{arith, inr}
 use Rattle.std.proofs.Common.{◌≡◌, ◌≢◌, List, ℕ, Result, Ok, Err, IsOk, IfErr, IsErrAnd}
@@ -15,12 +15,12 @@ use Rattle.netlink_core.specs.laws.AttributeSet.{set_faults_named}
 use Rattle.netlink_core.specs.FirstAttribute.{first_attribute_codec}
 use Rattle.netlink_core.specs.laws.Shown.{AttributeSetLaws}
 
--- memory is answered where it is wanted
+-- `Memory` is returned only for bytes with a value that needs memory
 abbrev Wanted : (F : AttributeSet) → List ℕ → {T : Type 0} → Result T DecodeError → Type 0
 Wanted F b r = IfErr r (λ e. e ≡ Memory
     → (v : AttributeValue F) × (first_attribute_codec F).reads b tt v × ¬ IsSpareBy F v)
 
--- not where the value is refused
+-- this holds for the error of a rejected value
 pub refused_wants_none : (F : AttributeSet) → AttributeSetLaws F
     → (b : List ℕ) {T : Type 0} (a : Attribute)
     (e : DecodeError) → decodes F a ≡ Err e → (r : Result T DecodeError) → IsErrAnd r (λ f. f ≡ e)
@@ -28,7 +28,7 @@ pub refused_wants_none : (F : AttributeSet) → AttributeSetLaws F
 refused_wants_none F laws b a e refused r given =
     grind (arith, err_from_is_err_and r given, set_faults_named F laws a)
 
--- but where it can't be kept, which is not spare then
+-- this holds for an accepted value that was not kept, which then needs memory
 pub unkept_wants : (F : AttributeSet) {b : List ℕ} {T N E : Type 0} (a : Attribute)
     (v : AttributeValue F)
     → HasPrefix b a → decodes F a ≡ Ok v → (kept : Result N E) (e : E) → kept ≡ Err e

@@ -1,5 +1,6 @@
 -- The attributes of replies about IPv4 and IPv6 sockets (`enum` of INET_DIAG_.. in
 -- linux/inet_diag.h): one line for each type that is decoded, with the codec of its value.
+-- Attributes of all other types are kept raw.
 use Rattle.std.specs.Prelude.{[], ◌∷◌}
 use Rattle.netlink_core.specs.AttributeSet.{AttributeSet}
 use Rattle.netlink_core.specs.ValueCodec.{value_codec}
@@ -19,9 +20,12 @@ use Rattle.sock_diag_records.specs.declared.constants.TheConstants.{INET_DIAG_SK
 use Rattle.sock_diag_records.specs.declared.constants.TheConstants.{INET_DIAG_MARK}
 use Rattle.sock_diag_records.specs.declared.constants.TheConstants.{INET_DIAG_CLASS_ID}
 
--- memory in the format of old kernels, the TCP connection, the congestion control algorithm, the
--- type of service, the traffic class, the memory, the directions that are shut down, the protocol,
--- whether the socket is for IPv6 only, the mark, and the class
+-- Types 1 (`struct inet_diag_meminfo`), 2 (`struct tcp_info`), 4 (the name of the congestion
+-- control algorithm), 5 (type of service), 6 (traffic class), 7 (`u32` values, indexed by
+-- SK_MEMINFO_..), 8 (the directions that are shut down), 10 (IPPROTO_..), 11 (whether the socket is
+-- restricted to IPv6), 15 (the mark) and 17 (the traffic control class). `number_spec t w` is a
+-- little-endian number of exactly `w` bytes. The value of a `memory_spec` needs memory, the value
+-- of any other type does not.
 abbrev pub inet : AttributeSet
 inet =
     spec INET_DIAG_MEMINFO (value_codec legacy_mem_info) ∷

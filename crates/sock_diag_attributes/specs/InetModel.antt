@@ -24,10 +24,11 @@ use Rattle.sock_diag_records.specs.declared.constants.TheConstants.{INET_DIAG_SK
 use Rattle.sock_diag_records.specs.declared.constants.TheConstants.{INET_DIAG_MARK}
 use Rattle.sock_diag_records.specs.declared.constants.TheConstants.{INET_DIAG_CLASS_ID}
 
--- Owned and borrowed attributes differ in the types of texts and undecoded attributes: these
--- functions turn each into its value.
+-- Owned and borrowed attributes differ in the types of texts and of raw attributes. `text` and
+-- `other` return the bytes of a text, and the type field and value of a raw attribute.
 module _ {T O : Type 0} (text : T → List ℕ) (other : O → Attribute) where
-  -- the decoded value of an attribute; `Other` is of no type in the set, here under 0xffff
+  -- the decoded value of an attribute; no type in the set has the number 0xffff, so that `Other` is
+  -- a raw attribute
   abbrev pub model : InetNla T O → AttributeValue inet
   model (nla.LegacyMemInfo m) = of_type inet INET_DIAG_MEMINFO m
   model (nla.TcpInfo t) = of_type inet INET_DIAG_INFO t
@@ -42,7 +43,7 @@ module _ {T O : Type 0} (text : T → List ℕ) (other : O → Attribute) where
   model (nla.ClassId n) = of_type inet INET_DIAG_CLASS_ID n
   model (nla.Other a) = of_type inet 0xffff (other a)
 
--- the variant that a decoded value is
+-- the variant of a decoded value; the values of the types are nested in the order of the set
 abbrev pub inet_variant : AttributeValue inet → InetNla (List ℕ) Attribute
 inet_variant (inl memory) = nla.LegacyMemInfo memory
 inet_variant (inr (inl info)) = nla.TcpInfo info

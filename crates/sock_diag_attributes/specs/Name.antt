@@ -1,4 +1,4 @@
--- The name of a UNIX socket, and its bytes.
+-- The name of a UNIX socket (`sun_path` of `struct sockaddr_un` in linux/un.h), and its bytes.
 use Rattle.std.specs.Prelude.{◌≢◌, ◌+◌, ◌==◌, if◌then◌else◌, ℕ, zero, List, [], ◌∷◌, ◌++◌, length}
 use Rattle.std.specs.Prelude.{take, ◌≤◌, All, Result, Ok, Err, ⊤}
 use Rattle.std.specs.List.{position_or_len}
@@ -12,18 +12,20 @@ use Rattle.netlink_core.specs.declared.fault.DecodeError.TheVariants.{NameWithou
 use Rattle.sock_diag_attributes.specs.declared.unix.name.SocketName.{SocketName}
 use Rattle.sock_diag_attributes.specs.declared.unix.name.SocketName.TheVariants.{Pathname, Abstract}
 
--- a path and its end zero, or a zero in front of the address of an abstract name
+-- a path is followed by one zero byte; an abstract name (unix(7)) starts with a zero byte
 abbrev pub name_bytes : SocketName (List ℕ) → List ℕ
 name_bytes (Pathname path) = path ++ 0 ∷ []
 name_bytes (Abstract address) = 0 ∷ address
 
--- a path is not empty and holds no zero
+-- a path in normal form is not empty and contains no zero byte; every abstract name is in normal
+-- form
 abbrev pub IsNormalName : SocketName (List ℕ) → Type 0
 IsNormalName (Pathname path) = All (λ byte. byte ≢ 0) path × (path ≢ [])
 IsNormalName (Abstract address) = ⊤
 
--- No bytes are no name. A zero in front says an abstract name. Else the first zero ends a path, and
--- must be the last byte; where there is none its place is the length.
+-- An empty value is an error. A name whose first byte is zero is abstract. Any other name is a path
+-- that ends at the first zero byte, which must be the last byte. `i` is the index of the first zero
+-- byte, or the length if there is none. A missing zero byte and an earlier one are errors.
 abbrev pub read_name : List ℕ → Result (SocketName (List ℕ)) DecodeError
 read_name [] = Err NameEmpty
 read_name (zero ∷ address) = Ok (Abstract address)
@@ -31,11 +33,12 @@ read_name bytes = let i = position_or_len (λ byte. byte == 0) bytes in
     if i + 1 == length bytes then Ok (Pathname (take i bytes))
     else Err (if i == length bytes then NameWithoutEnd else NameInnerZero i)
 
--- a name as the value of an attribute, in range where what it is written as is bytes
+-- a name as the value of an attribute: how it is parsed and serialized, when it is in range (if it
+-- serializes to bytes), and its normal form; only equal values are equivalent
 abbrev pub name_value : ValueCodec (Unit {0})
 name_value = exact_value read_name name_bytes (λ name. IsBytes (name_bytes name)) IsNormalName
 
--- a name by itself, which takes memory
+-- a name by itself: it needs memory, and is writable if it has at most 4,294,967,295 bytes
 abbrev pub name_codec : Codec (Unit {0})
 name_codec = record (as_codec name_value) {
   is_spare = λ v. ⊥;

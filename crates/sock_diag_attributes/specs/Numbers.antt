@@ -1,4 +1,6 @@
--- Numbers that fill the value of an attribute, the low byte of each first.
+-- Little-endian numbers that make up the complete value of an attribute. The arguments of
+-- `exact_value` are: how a value is parsed, how it is serialized, which values are in range, and
+-- which are in normal form. With `exact_value`, only equal bytes are equivalent (`idle`).
 use Rattle.std.specs.List.{AllByRecursion}
 use Rattle.netlink_core.specs.ValueCodec.{ValueCodec}
 use Rattle.netlink_core.specs.AttributeSpecs.{exact_value}
@@ -8,19 +10,22 @@ use Rattle.byteorder.specs.Endian.{little_number, little_bytes}
 use Rattle.netlink_core.specs.declared.fault.DecodeError.TheVariants.{WrongLength}
 use Rattle.netlink_core.specs.declared.fault.DecodeError.TheVariants.{NotMultipleOfFour}
 
--- the numbers in four bytes each, one after the other
+-- the consecutive little-endian numbers of four bytes each; up to three bytes at the end that are
+-- not a complete number are left out
 abbrev pub numbers_in : List ℕ → List ℕ
 numbers_in (a ∷ b ∷ c ∷ d ∷ rest) = little_number 4 (a ∷ b ∷ c ∷ d ∷ []) ∷ numbers_in rest
 numbers_in bytes = []
 
--- two numbers in exactly eight bytes, four for each, as the value of an attribute of type k
+-- two little-endian numbers of four bytes each, in exactly eight bytes, as the value of an
+-- attribute of type `k`; any other length is `WrongLength`
 abbrev pub two_value : ℕ → ValueCodec (Unit {0})
 two_value k = exact_value {A = ℕ × ℕ}
     (λ b. if length b == 8 then Ok (little_number 4 b, little_number 4 (drop 4 b))
     else Err (WrongLength (Some k) (length b) 8)) (λ ns. little_bytes 4 ns.0 ++ little_bytes 4 ns.1)
     (λ ns. (ns.0 < 2 ^ 32) × (ns.1 < 2 ^ 32)) (λ ns. ⊤)
 
--- any number of numbers, in four bytes each, as the value of an attribute
+-- any count of little-endian numbers of four bytes each, as the value of an attribute; a length
+-- that is not a multiple of four is `NotMultipleOfFour`
 abbrev pub numbers_value : ValueCodec (Unit {0})
 numbers_value = exact_value
     (λ b. if length b % 4 == 0 then Ok (numbers_in b) else Err (NotMultipleOfFour (length b)))

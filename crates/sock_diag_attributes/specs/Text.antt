@@ -1,17 +1,18 @@
--- A text as the value of an attribute.
+-- A text as the value of an attribute. The arguments of `exact_value` are: how a value is parsed,
+-- how it is serialized, which values are in range, and which are in normal form.
 use Rattle.std.specs.Prelude.{◌≡◌, ℕ, ◌⊎◌, List, [], ◌∷◌, ◌++◌, IsUtf8, ⊤}
 use Rattle.netlink_core.specs.Bytes.{IsBytes}
 use Rattle.netlink_core.specs.Parse.{text_in}
 use Rattle.netlink_core.specs.ValueCodec.{ValueCodec}
 use Rattle.netlink_core.specs.AttributeSpecs.{exact_value}
 
--- the right bytes are the left ones, which do not end in a zero, followed by one zero
+-- `right` is `left` with one zero byte added, and `left` does not end in a zero byte
 abbrev pub AddsEndZero : List ℕ → List ℕ → Type 0
 AddsEndZero left right = ¬ ((front : List ℕ) × (left ≡ front ++ 0 ∷ [])) × (right ≡ left ++ 0 ∷ [])
 
--- A text is read from all of the value but one end zero, and its model is its bytes, which are
--- UTF-8. It is always written with one end zero. Values are idle that are equal, or of which one
--- adds an end zero.
+-- A text is the value without one terminating NUL, if it has one. It must be UTF-8, and its model
+-- is its bytes. It always serializes with one terminating NUL. Two values are equivalent (`idle`)
+-- if they are equal, or if one is the other, which has no terminating NUL, with one added.
 abbrev pub text_value : ValueCodec (Unit {0})
 text_value = record (exact_value text_in (λ text. text ++ 0 ∷ [])
     (λ text. IsUtf8 text × IsBytes text) (λ text. ⊤)) {

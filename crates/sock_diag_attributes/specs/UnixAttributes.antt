@@ -1,5 +1,6 @@
 -- The attributes of replies about UNIX sockets (`enum` of UNIX_DIAG_.. in linux/unix_diag.h): one
--- line for each type, with the codec of its value.
+-- line for each type that is decoded, with the codec of its value. Attributes of all other types
+-- are kept raw.
 use Rattle.std.specs.Prelude.{[], ◌∷◌}
 use Rattle.netlink_core.specs.AttributeSet.{AttributeSet}
 use Rattle.netlink_core.specs.ValueCodec.{value_codec}
@@ -14,8 +15,11 @@ use Rattle.sock_diag_records.specs.declared.constants.TheConstants.{UNIX_DIAG_RQ
 use Rattle.sock_diag_records.specs.declared.constants.TheConstants.{UNIX_DIAG_MEMINFO}
 use Rattle.sock_diag_records.specs.declared.constants.TheConstants.{UNIX_DIAG_SHUTDOWN}
 
--- the name, the file, the peer, the pending connections, the queue lengths, the memory, and the
--- directions that are shut down
+-- Types 0 (the name), 1 (`struct unix_diag_vfs`), 2 (the inode of the peer), 3 (the inodes of the
+-- connections that wait to be accepted), 4 (`struct unix_diag_rqlen`), 5 (`u32` values, indexed by
+-- SK_MEMINFO_..) and 6 (the directions that are shut down). `number_spec t w` is a little-endian
+-- number of exactly `w` bytes. The value of a `memory_spec` needs memory, the value of any other
+-- type does not.
 abbrev pub unix : AttributeSet
 unix =
     memory_spec UNIX_DIAG_NAME name_value ∷

@@ -24,11 +24,13 @@ use Rattle.sock_diag_records.specs.declared.constants.TheConstants.{UNIX_DIAG_RQ
 use Rattle.sock_diag_records.specs.declared.constants.TheConstants.{UNIX_DIAG_MEMINFO}
 use Rattle.sock_diag_records.specs.declared.constants.TheConstants.{UNIX_DIAG_SHUTDOWN}
 
--- Owned and borrowed attributes differ in the types of names, lists and undecoded attributes: these
--- functions turn each into its value.
+-- Owned and borrowed attributes differ in the types of names, lists and raw attributes. `name`,
+-- `list` and `other` return the name with its bytes, the numbers of a list, and the type field and
+-- value of a raw attribute.
 module _ {N L O : Type 0} (name : N → SocketName (List ℕ)) (list : L → List ℕ)
     (other : O → Attribute) where
-  -- the decoded value of an attribute; `Other` is of no type in the set, here under 0xffff
+  -- the decoded value of an attribute; no type in the set has the number 0xffff, so that `Other` is
+  -- a raw attribute
   abbrev pub model : UnixNla N L O → AttributeValue unix
   model (nla.Name n) = of_type unix UNIX_DIAG_NAME (name n)
   model (nla.Vfs v) = of_type unix UNIX_DIAG_VFS v
@@ -39,7 +41,7 @@ module _ {N L O : Type 0} (name : N → SocketName (List ℕ)) (list : L → Lis
   model (nla.Shutdown n) = of_type unix UNIX_DIAG_SHUTDOWN n
   model (nla.Other a) = of_type unix 0xffff (other a)
 
--- the variant that a decoded value is
+-- the variant of a decoded value; the values of the types are nested in the order of the set
 abbrev pub unix_variant : AttributeValue unix → UnixNla (SocketName (List ℕ)) (List ℕ) Attribute
 unix_variant (inl name) = nla.Name name
 unix_variant (inr (inl file)) = nla.Vfs file

@@ -1,4 +1,4 @@
-//! Laws of attributes that are read in place.
+//! Properties of attributes and names. Proof only: the contracts state the properties.
 
 ghost use Rattle.std.specs.Prelude.{◌≡◌, ◌↔◌, IsTrue, IsOk, IfOk, true};
 ghost use Rattle.sock_diag_attributes.specs.NameModel.{name_of};
@@ -18,7 +18,7 @@ use crate::unix::nlas::{
 use netlink_core::Readable;
 use std::alloc::AllocError;
 
-/// Whether reading an attribute or a name takes memory: of both families and of a name it does.
+/// Parsers of owned attributes, of both families, and of owned names may need to allocate.
 pub fn readers_take_memory() -> (bool, bool, bool)
     ensures { result ≡ (true, true, true) }
 {
@@ -29,30 +29,29 @@ pub fn readers_take_memory() -> (bool, bool, bool)
     )
 }
 
-/// Proof only: the contract states the property. Each decoded value of an attribute of a reply
-/// about a UNIX socket is the model of its variant.
+/// Each decoded value of an attribute of a reply about a UNIX socket is the model of its variant.
 #[tactic(auto, using(crate::specs::laws::Variant::same_unix_variant))]
 pub fn unix_values_are_variants()
     ensures { (v : AttributeValue unix)
         → unix_model (λ name. name) (λ list. list) (λ other. other) (unix_variant v) ≡ v }
 {}
 
-/// Proof only: the contract states the property. Each decoded value of an attribute of a reply
-/// about an IPv4 or IPv6 socket is the model of its variant.
+/// Each decoded value of an attribute of a reply about an IPv4 or IPv6 socket is the model of its
+/// variant.
 #[tactic(auto, using(crate::specs::laws::Variant::same_inet_variant))]
 pub fn inet_values_are_variants()
     ensures { (v : AttributeValue inet)
         → inet_model (λ text. text) (λ other. other) (inet_variant v) ≡ v }
 {}
 
-/// `==` says whether two names in place are the same name.
+/// `==` of two borrowed names is true if and only if the names are equal.
 pub fn equal_name_views(v: &NameView<'_>, w: &NameView<'_>) -> bool
     ensures { IsTrue result ↔ (name_of (λ b. b.now) v.now ≡ name_of (λ b. b.now) w.now) }
 {
     v == w
 }
 
-/// `==` says whether the same numbers stand in both places.
+/// `==` of two borrowed lists of numbers is true if and only if the numbers are equal.
 #[tactic(auto, using(crate::specs::laws::EqualUnix::number_views_equal))]
 pub fn equal_numbers_views(v: &NumbersView<'_>, w: &NumbersView<'_>) -> bool
     ensures { IsTrue result ↔ (numbers_view_model v.now ≡ numbers_view_model w.now) }
@@ -60,21 +59,23 @@ pub fn equal_numbers_views(v: &NumbersView<'_>, w: &NumbersView<'_>) -> bool
     v == w
 }
 
-/// `==` says whether two attributes in place, of replies about UNIX sockets, say the same.
+/// `==` of two borrowed attributes of replies about UNIX sockets is true if and only if their
+/// models are equal.
 pub fn equal_unix_views(v: &UnixNlaView<'_>, w: &UnixNlaView<'_>) -> bool
     ensures { IsTrue result ↔ (unix_view_model v.now ≡ unix_view_model w.now) }
 {
     v == w
 }
 
-/// `==` says whether two attributes in place, of replies about IPv4 and IPv6 sockets, say the same.
+/// `==` of two borrowed attributes of replies about IPv4 or IPv6 sockets is true if and only if
+/// their models are equal.
 pub fn equal_inet_views(v: &InetNlaView<'_>, w: &InetNlaView<'_>) -> bool
     ensures { IsTrue result ↔ (inet_view_model v.now ≡ inet_view_model w.now) }
 {
     v == w
 }
 
-/// The copy of a name in place is the same name.
+/// The clone of a borrowed name is the same name.
 pub fn copied_name_view<'a>(view: &NameView<'a>) -> Result<NameView<'a>, AllocError>
     ensures ok { IsOk result }
     ensures same { IfOk result (λ copy. name_of (λ b. b.now) copy ≡ name_of (λ b. b.now) view.now) }
@@ -82,7 +83,7 @@ pub fn copied_name_view<'a>(view: &NameView<'a>) -> Result<NameView<'a>, AllocEr
     view.clone()
 }
 
-/// The copy of numbers in place has the same numbers.
+/// The clone of borrowed numbers has the same numbers.
 pub fn copied_numbers_view<'a>(view: &NumbersView<'a>) -> Result<NumbersView<'a>, AllocError>
     ensures ok { IsOk result }
     ensures same { IfOk result (λ copy. numbers_view_model copy ≡ numbers_view_model view.now) }
@@ -90,7 +91,7 @@ pub fn copied_numbers_view<'a>(view: &NumbersView<'a>) -> Result<NumbersView<'a>
     view.clone()
 }
 
-/// The copy of a walk over numbers has the same numbers left.
+/// The clone of an iterator over numbers has the same numbers left.
 pub fn copied_numbers_walk<'a>(
     walk: &NumbersIterator<'a>,
 ) -> Result<NumbersIterator<'a>, AllocError>
@@ -100,7 +101,7 @@ pub fn copied_numbers_walk<'a>(
     walk.clone()
 }
 
-/// The copy of an attribute in place, of a reply about a UNIX socket, says the same.
+/// The clone of a borrowed attribute of a reply about a UNIX socket has the same model.
 pub fn copied_unix_view<'a>(view: &UnixNlaView<'a>) -> Result<UnixNlaView<'a>, AllocError>
     ensures ok { IsOk result }
     ensures same { IfOk result (λ copy. unix_view_model copy ≡ unix_view_model view.now) }
@@ -108,7 +109,7 @@ pub fn copied_unix_view<'a>(view: &UnixNlaView<'a>) -> Result<UnixNlaView<'a>, A
     view.clone()
 }
 
-/// The copy of an attribute in place, of a reply about an IPv4 or IPv6 socket, says the same.
+/// The clone of a borrowed attribute of a reply about an IPv4 or IPv6 socket has the same model.
 pub fn copied_inet_view<'a>(view: &InetNlaView<'a>) -> Result<InetNlaView<'a>, AllocError>
     ensures ok { IsOk result }
     ensures same { IfOk result (λ copy. inet_view_model copy ≡ inet_view_model view.now) }

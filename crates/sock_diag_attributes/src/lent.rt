@@ -1,4 +1,4 @@
-//! What an attribute that owns its parts and one that borrows them lend alike.
+//! Traits of the parts that an attribute either owns or borrows.
 
 ghost use Rattle.std.specs.List.{AllByRecursion};
 ghost use Rattle.std.specs.Prelude.{◌≡◌, ◌<◌, ◌^◌, ℕ, List, [], IfOk, IsOk, flat_map};
@@ -18,20 +18,21 @@ use crate::value::Value;
 use netlink_core::{DefaultNla, NlaBuffer, copy_list};
 use std::alloc::{AllocError, Global};
 
-/// An attribute of no known kind.
+/// An attribute of an unknown kind, owned or borrowed.
 pub(crate) trait OtherNla {
-    // The attribute.
+    // The type field and the value of the attribute.
     ghost attribute: { Self → Attribute };
 
-    /// The whole type word, with its two flag bits.
+    /// Returns the complete type field (`nla_type`), with its two flag bits.
     fn type_word(&self) -> u16
         ensures { result ≡ (attribute self.now).type_word };
 
-    /// The value's bytes.
+    /// Returns the bytes of the value.
     fn bytes(&self) -> &[u8]
         ensures { result.now ≡ (attribute self.now).value };
 
-    /// The attribute with bytes of its own. It fails only for want of memory, which no bytes need.
+    /// Returns the owned attribute. Fails only if an allocation fails. An empty value needs no
+    /// allocation.
     fn to_kept(&self, alloc: Global) -> Result<DefaultNla, AllocError>
         ensures equal { IfOk result (λ kept. kept_attribute kept ≡ attribute self.now) }
         ensures spare { (attribute self.now).value ≡ [] → IsOk result };
@@ -75,12 +76,12 @@ impl OtherNla for NlaBuffer<'_> {
     }
 }
 
-/// The name of a UNIX socket.
+/// The name of a UNIX socket, owned or borrowed.
 pub(crate) trait LendsName {
-    // The name.
+    // The name with its bytes.
     ghost name: { Self → SocketName (List ℕ) };
 
-    /// The name, its bytes borrowed.
+    /// Returns the name with borrowed bytes.
     fn lent_name(&self) -> NameView<'_>
         ensures { name_of (λ b. b.now) result ≡ name self.now };
 }
@@ -103,18 +104,19 @@ impl LendsName for NameView<'_> {
     }
 }
 
-/// Numbers of four bytes each.
+/// A list of 32-bit numbers, owned or borrowed.
 pub(crate) trait LendsNumbers {
-    // The numbers.
+    // The numbers in the list.
     ghost numbers: { Self → List ℕ };
 
-    /// The numbers as the value of an attribute.
+    /// Returns the numbers as the value of an attribute.
     fn lent_value(&self) -> Value<'_>
         ensures bytes { value_bytes result ≡ flat_map (little_bytes 4) (numbers self.now) }
         ensures in_range { IsValueInRange result
             → AllByRecursion (λ n. n < 2 ^ 32) (numbers self.now) };
 
-    /// The numbers in a list of their own. It fails only for want of memory, which no numbers need.
+    /// Returns the numbers in an owned list. Fails only if an allocation fails. An empty list needs
+    /// no allocation.
     fn to_list(&self, alloc: Global) -> Result<Vec<u32>, AllocError>
         ensures equal { IfOk result (λ list. list.items ≡ numbers self.now) }
         ensures spare { numbers self.now ≡ [] → IsOk result };

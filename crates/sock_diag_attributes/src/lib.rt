@@ -1,4 +1,4 @@
-//! The attributes of replies of sock_diag(7).
+//! The attributes of the replies of sock_diag(7).
 #![tactic(auto)]
 
 pub mod inet;

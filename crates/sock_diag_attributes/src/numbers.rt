@@ -1,4 +1,4 @@
-//! Numbers that fill the value of an attribute.
+//! Little-endian numbers that make up the complete value of an attribute.
 
 ghost use Rattle.std.specs.List.{AllByRecursion};
 ghost use Rattle.std.specs.Prelude.{◌≡◌, ◌<◌, ◌^◌, ◌≤◌, ◌↔◌, ◌++◌, ◌%◌, [], length, drop};
@@ -16,29 +16,31 @@ use byteorder::{ByteOrder, LittleEndian};
 use netlink_core::{DecodeError, parse_u8, parse_u32};
 use std::alloc::{AllocError, Global};
 
-/// The number in exactly one byte. Any other length is `WrongLength` with the kind.
+/// Parses the number in exactly one byte. Returns `WrongLength` with the kind for any other length.
 pub(crate) fn exact_u8(kind: u16, value: &[u8]) -> Result<u8, DecodeError>
     ensures { result ≡ exact_number (Some kind) 1 value.now }
 {
     parse_u8(value).map_err(|fault| fault.with_kind(kind))
 }
 
-/// The number in exactly four bytes, the low byte first. Any other length is `WrongLength` with the
-/// kind.
+/// Parses the little-endian number in exactly four bytes. Returns `WrongLength` with the kind for
+/// any other length.
 pub(crate) fn exact_u32(kind: u16, value: &[u8]) -> Result<u32, DecodeError>
     ensures { result ≡ exact_number (Some kind) 4 value.now }
 {
     parse_u32(value).map_err(|fault| fault.with_kind(kind))
 }
 
-/// Whether exactly one byte is not zero. Any other length is `WrongLength` with the kind.
+/// Parses the flag in exactly one byte, which is true if the byte is not zero. Returns
+/// `WrongLength` with the kind for any other length.
 pub(crate) fn exact_flag(kind: u16, value: &[u8]) -> Result<bool, DecodeError>
     ensures { result ≡ (flag_value kind).reads tt value.now }
 {
     Ok(exact_u8(kind, value)? != 0)
 }
 
-/// The two numbers in exactly eight bytes. Any other length is `WrongLength` with the kind.
+/// Parses the two little-endian numbers in exactly eight bytes. Returns `WrongLength` with the kind
+/// for any other length.
 pub(crate) fn exact_u32_pair(kind: u16, value: &[u8]) -> Result<(u32, u32), DecodeError>
     ensures { result ≡ (two_value kind).reads tt value.now }
 {
@@ -56,7 +58,7 @@ pub(crate) fn exact_u32_pair(kind: u16, value: &[u8]) -> Result<(u32, u32), Deco
     ))
 }
 
-/// Numbers of four bytes each, the low byte first, one after the other, read in place.
+/// Consecutive little-endian numbers of four bytes each, borrowed.
 #[derive(Clone, Copy, Debug, PartialEq, Eq)]
 pub struct NumbersView<'a> {
     bytes: &'a [u8],
@@ -67,7 +69,8 @@ pub struct NumbersView<'a> {
 impl<'a> NumbersView<'a> {
     ghost use Rattle.sock_diag_attributes.specs.NumbersModel.{numbers_left, numbers_view_model};
 
-    /// The numbers in the bytes. A length that is no multiple of four is `NotMultipleOfFour`.
+    /// Checks the length of the bytes, and returns a view of the numbers in them. Returns
+    /// `NotMultipleOfFour` if the length is not a multiple of four.
     pub(crate) fn parse(bytes: &'a [u8]) -> Result<NumbersView<'a>, DecodeError>
         ensures { MatchResult result
             (λ numbers. numbers_value.reads tt bytes.entry.now ≡ Ok (numbers_view_model numbers))
@@ -79,7 +82,7 @@ impl<'a> NumbersView<'a> {
         Ok(NumbersView { bytes })
     }
 
-    /// How many numbers there are.
+    /// Returns the count of numbers.
     #[tactic(auto, using(crate::specs::laws::Number::how_many))]
     pub fn len(&self) -> usize
         ensures { result ≡ length (numbers_view_model self.now) }
@@ -87,7 +90,7 @@ impl<'a> NumbersView<'a> {
         self.bytes.len() / 4
     }
 
-    /// The number at this place, the first one at 0.
+    /// Returns the number at `index`, or `None` if the index is out of bounds.
     #[tactic(auto, using(crate::specs::laws::Number::how_many, crate::specs::laws::Number::number_at, std::proofs::lemmas::List::take_rest, std::proofs::lemmas::Option::slice_get_past))]
     pub fn get(&self, index: usize) -> Option<u32>
         ensures { result ≡ slice_get (numbers_view_model self.now) index }
@@ -98,7 +101,7 @@ impl<'a> NumbersView<'a> {
         Some(LittleEndian::read_u32(&self.bytes[4 * index..]))
     }
 
-    /// Whether there are none.
+    /// Returns whether there are no numbers.
     #[tactic(auto, using(crate::specs::laws::Number::how_many))]
     pub fn is_empty(&self) -> bool
         ensures { IsTrue result ↔ (numbers_view_model self.now ≡ []) }
@@ -106,14 +109,14 @@ impl<'a> NumbersView<'a> {
         self.bytes.is_empty()
     }
 
-    /// The numbers, one after the other.
+    /// Returns an iterator over the numbers.
     pub fn iter(&self) -> NumbersIterator<'a>
         ensures { numbers_left result ≡ numbers_view_model self.now }
     {
         NumbersIterator { rest: *self }
     }
 
-    // The bytes in which they stand, as which they are written.
+    // Returns the bytes of the numbers, which are also the bytes that they serialize to.
     #[tactic(auto, using(crate::specs::laws::Number::whole))]
     pub(crate) fn bytes(&self) -> &'a [u8]
         ensures { result.now ≡ flat_map (little_bytes 4) (numbers_view_model self.now) }
@@ -121,8 +124,8 @@ impl<'a> NumbersView<'a> {
         self.bytes
     }
 
-    /// Returns the numbers in an owned list. Fails only if an allocation fails; an empty list needs
-    /// none.
+    /// Returns the numbers in an owned list. Fails only if an allocation fails. An empty list needs
+    /// no allocation.
     pub fn to_owned(&self, alloc: Global) -> Result<Vec<u32>, AllocError>
         ensures equal { IfOk result (λ numbers. numbers.items ≡ numbers_view_model self.now) }
         ensures spare { numbers_view_model self.now ≡ [] → IsOk result }
@@ -136,7 +139,7 @@ impl<'a> NumbersView<'a> {
     }
 }
 
-/// The numbers of a [`NumbersView`], one after the other.
+/// An iterator over the numbers of a [`NumbersView`].
 #[derive(Clone, Debug, Drop)]
 pub struct NumbersIterator<'a> {
     rest: NumbersView<'a>,
@@ -161,7 +164,7 @@ impl<'a> Iterator for NumbersIterator<'a> {
         Some(LittleEndian::read_u32(bytes))
     }
 
-    /// How many numbers are left, exactly.
+    /// Returns the exact count of the numbers that were not yielded yet.
     #[tactic(auto, using(crate::specs::laws::Number::how_many))]
     fn size_hint(&self) -> (usize, Option<usize>)
         ensures lower { IsWithinCount result.0 (item_count numbers_left self.now) }
@@ -175,7 +178,8 @@ impl<'a> Iterator for NumbersIterator<'a> {
     }
 }
 
-/// Writes the two numbers at the front, and leaves the rest.
+/// Writes the two numbers, little-endian, at the start of `buffer`. The bytes after them are
+/// unchanged.
 pub(crate) fn emit_u32_pair(first: u32, second: u32, buffer: &mut [u8])
     requires { 8 ≤ length buffer.old }
     ensures { buffer.new ≡ little_bytes 4 first ++ little_bytes 4 second
@@ -184,7 +188,7 @@ pub(crate) fn emit_u32_pair(first: u32, second: u32, buffer: &mut [u8])
     LittleEndian::write_u32_into(&[first, second], &mut buffer[..8]);
 }
 
-/// Writes the numbers one after the other at the front, and leaves the rest.
+/// Writes the numbers, little-endian, at the start of `buffer`. The bytes after them are unchanged.
 #[tactic(auto, using(crate::specs::laws::Number::length_numbers, crate::specs::laws::Number::front_of))]
 pub(crate) fn emit_numbers(numbers: &[u32], buffer: &mut [u8])
     requires { length (flat_map (little_bytes 4) numbers.now) ≤ length buffer.old }
@@ -194,12 +198,12 @@ pub(crate) fn emit_numbers(numbers: &[u32], buffer: &mut [u8])
     LittleEndian::write_u32_into(numbers, &mut buffer[..4 * numbers.len()]);
 }
 
-/// Tells the prover that a byte is below 256. It does nothing.
+/// Proof only: puts the range of the number in scope. No run-time effect.
 pub(crate) fn byte_in_range(_byte: u8)
     ensures { _byte < 256 }
 {}
 
-/// Tells the prover that each word is a number of four bytes. It does nothing.
+/// Proof only: puts the range of each number in scope. No run-time effect.
 #[tactic(auto, using(crate::specs::laws::Number::each_below))]
 pub(crate) fn words_in_range(_words: &[u32])
     ensures { AllByRecursion (λ n. n < 2 ^ 32) _words.now }

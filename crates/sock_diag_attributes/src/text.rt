@@ -1,9 +1,10 @@
-//! Texts that fill the value of an attribute.
+//! Texts that make up the complete value of an attribute.
 
 ghost use Rattle.std.specs.Prelude.{◌≡◌, ◌≤◌, [], ◌∷◌, ◌++◌, length, drop, IsUtf8};
 ghost use Rattle.netlink_core.specs.Bytes.{IsBytes};
 
-/// Writes the text and an end zero at the front, and leaves the rest.
+/// Writes the text and a terminating NUL at the start of `buffer`. The bytes after them are
+/// unchanged.
 pub(crate) fn emit_text(text: &str, buffer: &mut [u8])
     requires { length (text.now ++ 0 ∷ []) ≤ length buffer.old }
     ensures { buffer.new ≡ (text.now ++ 0 ∷ [])
@@ -13,7 +14,7 @@ pub(crate) fn emit_text(text: &str, buffer: &mut [u8])
     buffer[text.len()] = 0;
 }
 
-/// Tells the prover that a text is UTF-8. It does nothing.
+/// Proof only: puts in scope that the text is UTF-8. No run-time effect.
 pub(crate) fn text_in_range(_text: &str)
     ensures { IsUtf8 _text.now × IsBytes _text.now }
 {}

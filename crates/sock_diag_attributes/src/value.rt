@@ -1,4 +1,4 @@
-//! What the value of an attribute is made of, whatever type it is of.
+//! The value of an attribute, whatever its kind.
 
 ghost use Rattle.std.specs.Prelude.{◌≡◌, ◌≤◌, ◌++◌, length, drop};
 ghost use Rattle.sock_diag_attributes.specs.private.Value.{value_bytes, IsValueInRange};
@@ -28,7 +28,7 @@ pub(crate) enum Value<'a> {
 }
 
 impl Value<'_> {
-    /// How many bytes it is written as.
+    /// Returns the length of the serialized value in bytes.
     #[inline(always)]
     #[tactic(auto, using(crate::specs::laws::Number::length_numbers))]
     pub(crate) fn len(&self) -> usize
@@ -50,7 +50,7 @@ impl Value<'_> {
         }
     }
 
-    /// Writes it at the start of the buffer, and leaves the rest.
+    /// Writes the value at the start of `buffer`. The bytes after it are unchanged.
     #[inline(always)]
     pub(crate) fn emit(&self, buffer: &mut [u8])
         requires { length (value_bytes self.now) ≤ length buffer.old }
@@ -73,7 +73,7 @@ impl Value<'_> {
         }
     }
 
-    /// Tells the prover that its numbers are within their types. It does nothing.
+    /// Proof only: puts the range of each number in scope. No run-time effect.
     pub(crate) fn in_range(&self)
         ensures { IsValueInRange self.now }
     {

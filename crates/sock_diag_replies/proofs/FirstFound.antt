@@ -1,4 +1,4 @@
--- The first content among the items that an iterator gives, as `find_map` finds it.
+-- `find_map` over attributes finds the first value of an attribute type.
 use Rattle.std.proofs.Common.{Global, Vec, ◌≡◌, ℕ, zero, suc, ◌+◌, ◌<◌, List, [], ◌∷◌, ◌++◌, map}
 use Rattle.std.proofs.Common.{length, drop, Option, Some, None, MatchOption, IfSome, IsSome}
 use Rattle.std.proofs.Common.{IsSomeAnd, IsTrue, slice_get, Iter, Bor, refl, sym, ap, subst, ◌∙◌}
@@ -27,7 +27,7 @@ use Rattle.sock_diag_replies.specs.UnixGetters.{first_of}
 use denote.Param.Members.{Mut}
 use lib.ListN.{length-map}
 
--- what holds of a value where there is one
+-- a property of the value of an option, if there is one, implies a weaker property
 module _ {A : Type 0} {P Q : A → Type 0} (weaker : (x : A) → P x → Q x) where
   if_some : (o : Option A) → IfSome o P → IfSome o Q
   if_some o h =
@@ -41,13 +41,13 @@ module _ {A B D : Type 0} (told : B → Option D) (v : A → B) where
   stays : (more : List D) (o : Option D) → IsSome o → slice_get (cons_option o more) 0 ≡ o
   stays more o some = grind arith
 
-  -- among items without a content there is no first one
+  -- if no item of the list has a value, there is no first value
   none_in : (xs : List A) → ((k : ℕ) → IfSome (slice_get xs k) (λ x. told (v x) ≡ None))
       → first_of told (map v xs) ≡ None
   none_in [] none = refl
   none_in (x ∷ xs) none = rw (none 0) (none_in xs (λ k. none (suc k)))
 
-  -- behind such items stands the first
+  -- if the items before index `i` have no value, the first value is that of the item at `i`
   first_at : (xs : List A) (i : ℕ) (more : List B) (o : Option D) → IsSome o
       → IsSomeAnd (slice_get xs i) (λ x. told (v x) ≡ o)
       → ((k : ℕ) → k < i → IsSomeAnd (slice_get xs k) (λ x. told (v x) ≡ None))
@@ -57,7 +57,7 @@ module _ {A B D : Type 0} (told : B → Option D) (v : A → B) where
   first_at (x ∷ xs) (suc i) more o some here none = rw (none 0 (omega arith))
       (first_at xs i more o some here (λ k low. none (suc k) (omega arith)))
 
--- what `find_map` says of its answer
+-- what the contract of `find_map` states of its result
 abbrev Finds : {S A C F : Type 0} (steps : S → Option A → S → Type 0)
     → Mut F (A × Unit {0}) (Option C) → S → F → Option C → Type 0
 Finds steps g s f r = SomeRun steps s (λ p. MatchOption r (IsTrue p.whole × AllItemsGive p g f None)
@@ -68,7 +68,7 @@ module _ {A B C D F : Type 0} {g : Mut F (A × Unit {0}) (Option C)} {f : F} (v 
     (blank : shows None ≡ None) (filled : (y : C) → IsSome (shows (Some y)))
     (told : (x : A) (o : Option C) (q : F) → Called g f (x, tt) o q → (q ≡ f)
     × (shows o ≡ tells (v x))) where
-  -- what is found among all that an iterator gives
+  -- the result of `find_map` over an iterator is the first value among all items that it yields
   first_found : {S : Type 0} {steps : S → Option A → S → Type 0} {s : S} {all : List B}
       → YieldsList steps v s all → (r : Option C) → Finds steps g s f r
       → shows r ≡ first_of tells all
@@ -94,14 +94,14 @@ module _ {A B C D F : Type 0} {g : Mut F (A × Unit {0}) (Option C)} {f : F} (v 
       (some_and (λ x c. sym (told x None f c).1 ∙ blank) (p.at k) (first.1 k low)) in
       rw parts (sym (first_at tells v p.items run.0 rest (shows (Some y)) (filled y) here none))
 
--- an attribute of a UNIX socket, owned and in place
+-- the attributes of a UNIX socket, owned and borrowed
 abbrev Nla : Type 0
 Nla = UnixNla (SocketName (Vec ℕ Global)) (Vec ℕ Global) DefaultNla
 
 abbrev NlaView : Type 0
 NlaView = UnixNla (SocketName (Bor (List ℕ))) NumbersView NlaBuffer
 
--- in a list of attributes, what is said under a number
+-- `find_map` over a list of owned attributes finds the first value of the attribute type `k`
 pub first_owned : {C F : Type 0} {g : Mut F (Bor Nla × Unit {0}) (Option C)} {f : F} {s : Iter Nla}
     (k : ℕ) (shows : Option C → Option (ValueAt unix k))
     → shows None ≡ None → ((y : C) → IsSome (shows (Some y)))
@@ -117,11 +117,11 @@ first_owned {s = s} k shows blank filled xs rest told =
     first_found (λ x. nla_model x.now) (content unix k) shows blank filled told
     (subst (λ ys. YieldsList iter_steps (λ x. nla_model x.now) s (map nla_model ys)) rest said)
 
--- what the attributes that the iterator has not given yet decode to
+-- the values of the attributes that the iterator has not yielded yet
 abbrev left_in : {H : Type 0} {of : Ghosts H} → AttributeViews H of → List (AttributeValue unix)
 left_in views = values_in (decodes unix) (bytes_left views.walk)
 
--- and in a walk over such as are read in place
+-- `find_map` over borrowed attributes finds the first value of the attribute type `k`
 pub first_in_view : {H : Type 0} {of : Ghosts H} {C F : Type 0}
     {g : Mut F (NlaView × Unit {0}) (Option C)} {f : F} {s : AttributeViews H of} (k : ℕ)
     (shows : Option C → Option (ValueAt unix k))

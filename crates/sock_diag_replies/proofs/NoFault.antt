@@ -1,13 +1,13 @@
--- What is known behind a test of an answer for a fault.
+-- What follows from a test whether a result is an error.
 use Rattle.std.proofs.Common.{◌≡◌, Bool, true, false, Result, IsOk, OnOk, arith}
 use Rattle.std.specs.Result.{is_err}
 
--- an answer that is no fault has the fact of its values
+-- a result that is not an error has the property of `Ok` results
 pub on_no_fault : {T E P : Type 0} (r : Result T E) (is_fault : Bool)
     → is_fault ≡ false → is_fault ≡ is_err r → OnOk r P → P
 on_no_fault r is_fault good test fact = grind arith
 
--- an answer that is a fault is no value
+-- a result that is an error has no value
 pub fault_is_no_value : {T E : Type 0} (r : Result T E) (is_fault : Bool)
     → is_fault ≡ true → is_fault ≡ is_err r → IsOk r → ⊥
 fault_is_no_value r is_fault bad test ok = grind arith

@@ -1,4 +1,4 @@
--- Lemmas about the definitions, and what the lemmas need.
+-- Lemmas about the definitions of this crate, and the definitions that only lemmas use.
 pub mod UnixResponseSpec
 pub mod InetResponseSpec
 pub mod EqualResponse

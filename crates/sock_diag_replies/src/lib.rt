@@ -1,4 +1,4 @@
-//! Replies of sock_diag(7), in place and with memory of their own: a header, and then attributes.
+//! Replies of sock_diag(7), borrowed and owned: a header followed by attributes.
 #![tactic(auto)]
 
 pub mod inet;

@@ -1,4 +1,4 @@
-//! How replies of every family are compared, measured and written: a header, and then attributes.
+//! Comparing, measuring and serializing replies of every family: a header followed by attributes.
 
 ghost use Rattle.std.specs.Prelude.{◌≡◌, ◌≤◌, ◌↔◌, ◌++◌, length, drop, map, Bool, IsSome, IfSome};
 ghost use Rattle.std.specs.Prelude.{SomeIff};
@@ -23,8 +23,8 @@ pub(crate) fn without_memory<T: Drop>(_begun: T) -> DecodeError
     DecodeError::Memory
 }
 
-/// Whether the same attributes stand in both places, in the same order, by any test that `==` of
-/// two attributes is.
+/// Returns whether `left` and `right` contain equal attributes in the same order. Two attributes
+/// are compared by `==` of their views. Neither may contain a decode error.
 pub fn same_views<'a, V: FamilyView<'a> + Drop>(left: &'a [u8], right: &'a [u8]) -> bool
     requires left { HasNoFault (decodes V.attribute_set) left.now }
     requires right { HasNoFault (decodes V.attribute_set) right.now }
@@ -44,8 +44,8 @@ pub fn same_views<'a, V: FamilyView<'a> + Drop>(left: &'a [u8], right: &'a [u8])
     next_view::<V>(&mut others).is_none()
 }
 
-/// How many bytes header and attributes have, where each value fits and all of it has at most
-/// 4,294,967,295 bytes.
+/// Returns the length of the serialized header and attributes. Returns `None` if the value of an
+/// attribute has more than 65,531 bytes, or if the whole has more than 4,294,967,295 bytes.
 pub(crate) fn reply_len<H: Emitable, T: FamilyNla>(header: &H, nlas: &[T]) -> Option<usize>
     requires { H.writable header.now }
     ensures { let attributes = map (encodes T.attribute_set) (map T.model nlas.now) in
@@ -57,7 +57,7 @@ pub(crate) fn reply_len<H: Emitable, T: FamilyNla>(header: &H, nlas: &[T]) -> Op
     Some(len + values_len_within(nlas, room)?)
 }
 
-/// How many bytes header and attributes have.
+/// Returns the length of the serialized header and attributes, which must be writable.
 pub(crate) fn fitting_reply_len<H: Emitable, T: FamilyNla>(header: &H, nlas: &[T]) -> usize
     requires header { H.writable header.now }
     requires fits { FramedFits (H.bytes header.now)
@@ -68,7 +68,8 @@ pub(crate) fn fitting_reply_len<H: Emitable, T: FamilyNla>(header: &H, nlas: &[T
     header.buffer_len() + values_len(nlas)
 }
 
-/// Writes header and attributes at the start of the buffer, and leaves the rest.
+/// Writes the header and the attributes at the start of `buffer`. The bytes after them are
+/// unchanged.
 pub(crate) fn emit_reply<H: Emitable, T: FamilyNla>(header: &H, nlas: &[T], buffer: &mut [u8])
     requires header { H.writable header.now }
     requires fits { FramedFits (H.bytes header.now)
@@ -84,8 +85,9 @@ pub(crate) fn emit_reply<H: Emitable, T: FamilyNla>(header: &H, nlas: &[T], buff
     emit_values(nlas, rest);
 }
 
-/// How many bytes the header and the attributes behind it are written as, where each value fits and
-/// all of it has at most 4,294,967,295.
+/// Returns the length that the header and the attributes in `bytes` have in canonical form. Returns
+/// `None` if the value of an attribute then has more than 65,531 bytes, or if the whole has more
+/// than 4,294,967,295 bytes.
 pub(crate) fn reply_view_len<'a, H: Emitable, V: FamilyView<'a> + Drop>(
     header: &H,
     bytes: &'a [u8],
@@ -106,7 +108,8 @@ pub(crate) fn reply_view_len<'a, H: Emitable, V: FamilyView<'a> + Drop>(
     views_len::<V>(len, bytes)
 }
 
-/// Writes the header and the attributes behind it at the start of the buffer, and leaves the rest.
+/// Writes the header and the attributes in `bytes`, in canonical form, at the start of `buffer`.
+/// The bytes after them are unchanged.
 pub(crate) fn emit_reply_view<'a, H: Emitable, V: FamilyView<'a> + Drop>(
     header: &H,
     bytes: &'a [u8],

@@ -1,4 +1,4 @@
-//! A reply of any family, with memory of its own.
+//! Owned replies of any family.
 
 ghost use Rattle.std.specs.Prelude.{◌≡◌, ◌≤◌, ◌↔◌, ℕ, List, [], length, drop, map, IfOk, IsOk};
 ghost use Rattle.std.specs.Prelude.{OnOk, IsTrue, true, refl};
@@ -21,28 +21,29 @@ use smallvec::SmallVec;
 use std::alloc::{AllocError, Global};
 use std::fmt::{self, Debug, Formatter};
 
-/// A reply: the header, and the attributes that were asked for, in the order that they came.
+/// A reply: the header, and the attributes in wire order.
 #[derive(Drop, PartialEq, Eq)]
 pub struct Reply<H, N> {
-    /// The header, which tells the socket.
+    /// The header, which identifies and describes the socket.
     pub header: H,
-    /// The attributes. Up to eight stand in the value itself.
+    /// The attributes. Up to eight are stored inline.
     pub nlas: SmallVec<N, 8>,
 }
 
-/// The same header, and what the attributes behind it are kept as.
+/// A header whose replies have an owned form.
 pub trait ReplyOwned: ReplyHeader + Exact + Emitable {
-    /// An attribute, with memory of its own.
+    /// An owned attribute.
     type Nla: FamilyNla;
 
-    /// The name of such a reply, as `Debug` prints it.
+    /// The name of the owned reply, as `Debug` prints it.
     const REPLY: &'static str;
 
-    /// Tells the prover that the header's numbers are within their types. It does nothing.
+    /// Proof only: puts the range of each field in scope. No run-time effect.
     fn header_in_range(&self)
         ensures { Self.reply.header.is_in_range (Self.header_model self.now) };
 
-    // `==` compares what a header tells, and it is written as that.
+    // `==` is true if and only if the models of the headers are equal. A header serializes to the
+    // bytes of its model, and is always writable.
     ghost eq_is_model: { (v w : Self) → IsTrue (Self.PartialEq.eq v w)
         ↔ (Self.ReplyHeader.header_model v ≡ Self.ReplyHeader.header_model w) };
 
@@ -51,7 +52,10 @@ pub trait ReplyOwned: ReplyHeader + Exact + Emitable {
 
     ghost fits: { (header : Self) → Self.Emitable.writable header };
 
-    // The attributes are those of the reply's family, and a reply keeps the laws.
+    // How the attribute set of the owned attributes relates to the reply's attribute set: bytes
+    // with an error have the same error, bytes without an error have none, the number of values is
+    // the same, and the values serialize to the same attributes. The codec over the owned
+    // attributes satisfies the codec laws.
     ghost same: { let set = Self.Nla.FamilyNla.attribute_set in
         let view_set = Self.ReplyHeader.reply.attribute_set in
         ((b : List ℕ) (e : DecodeError)
@@ -78,8 +82,8 @@ impl<H: ReplyOwned + Debug, N: Debug> Debug for Reply<H, N> {
 impl<H: ReplyOwned> Reply<H, H::Nla> {
     ghost use Rattle.sock_diag_replies.specs.ResponseModel.{response_model};
 
-    /// An equal reply. It fails only for want of memory, which up to eight attributes that need
-    /// none do not want.
+    /// Returns an equal reply. Fails only if an allocation fails. Cloning a reply of at most eight
+    /// attributes that need no memory never fails.
     pub fn clone(&self, alloc: Global) -> Result<Self, AllocError>
         ensures equal { IfOk result (λ copy.
             response_model H.header_model H.Nla.FamilyNla.model copy
@@ -105,8 +109,9 @@ impl<H, N> Readable for Reply<H, N> {
 }
 
 impl<'a, H: ReplyOwned> Parseable<&'a [u8]> for Reply<H, H::Nla> {
-    /// Reads the header, and then the attributes up to the end of the bytes. A fault of the header
-    /// is returned, or else the first fault of an attribute.
+    /// Parses the header, and then the attributes up to the end of the bytes. Returns the error of
+    /// the header, or else the first error of an attribute. Returns `Memory` if an allocation
+    /// fails.
     #[inline(always)]
     fn parse(alloc: Global, payload: &'a [u8]) -> Result<Self, DecodeError> {
         let view = ReplyView::<H>::parse(payload)?;
@@ -125,8 +130,8 @@ impl<H: ReplyOwned> ReplyView<'_, H> {
     ghost use Rattle.sock_diag_replies.specs.ResponseModel.{response_model};
     ghost use Rattle.sock_diag_replies.specs.ViewModel.{bytes_after_header, view_model};
 
-    // Puts the attributes, with memory of their own, into the empty list. They are not moved again
-    // where the list is already in its place.
+    // Appends the owned attributes to the empty list `nlas`. A caller passes the list that the
+    // reply keeps, so that the attributes are not moved afterwards.
     fn own_into(&self, alloc: Global, nlas: &mut SmallVec<H::Nla, 8>) -> Result<(), AllocError>
         requires { nlas.old.items ≡ [] }
         ensures equal { OnOk result (map H.Nla.FamilyNla.model nlas.new.items
@@ -144,7 +149,7 @@ impl<H: ReplyOwned> ReplyView<'_, H> {
         own_nlas(alloc, self.attribute_bytes(), self.count(), nlas)
     }
 
-    /// The reply with memory of its own. It fails only for want of memory.
+    /// Returns the owned reply. Fails only if an allocation fails.
     pub fn to_owned(&self, alloc: Global) -> Result<Reply<H, H::Nla>, AllocError>
         ensures equal { IfOk result (λ reply.
             response_model H.header_model H.Nla.FamilyNla.model reply
@@ -165,7 +170,7 @@ impl<H: ReplyOwned> ReplyView<'_, H> {
         })
     }
 
-    /// The same in a box: the attributes are built where they stay.
+    /// Returns the owned reply in a box. The attributes are built in the box, and not moved there.
     #[inline(always)]
     pub fn to_boxed(&self, alloc: Global) -> Result<Box<Reply<H, H::Nla>>, AllocError>
         ensures { IfOk result (λ reply. response_model H.header_model H.Nla.FamilyNla.model
@@ -238,8 +243,8 @@ impl<H: ReplyOwned> Coded for Reply<H, H::Nla> {
 }
 
 impl<H: ReplyOwned> Wire for Reply<H, H::Nla> {
-    // The same as `parse`, which is inlined where it is called: a reply that is passed on takes a
-    // move of 2,000 bytes.
+    // Repeats the body of `parse`, which is inlined into its callers: returning the reply of a call
+    // to `parse` would move 2,000 bytes.
     fn read(alloc: Global, bytes: &[u8], _param: ()) -> Result<Self, DecodeError> {
         let view = ReplyView::<H>::parse(bytes)?;
         let mut nlas = SmallVec::new(alloc);
@@ -252,7 +257,8 @@ impl<H: ReplyOwned> Wire for Reply<H, H::Nla> {
         })
     }
 
-    // The view is written: an owned reply could run out of memory though it can't be written.
+    // Serializes the view. Building an owned reply first could fail with `Memory` for a reply that
+    // is not writable.
     fn rewrite(alloc: Global, bytes: &[u8], _param: ()) -> Result<Vec<u8>, CanonError> {
         match ReplyView::<H>::parse(bytes) {
             Ok(view) => write_new(alloc, &view),

@@ -1,4 +1,4 @@
-//! A reply of any family, read in place.
+//! Borrowed replies of any family.
 
 ghost use Rattle.std.specs.Prelude.{◌≡◌, ◌≢◌, ◌≤◌, ◌↔◌, ◌++◌, ⊤, ℕ, List, Bool, length, drop, map};
 ghost use Rattle.std.specs.Prelude.{Ok, Err, OnOk, IfOk, IfErr, IsTrue, Some, IfSome, SomeIff};
@@ -25,34 +25,36 @@ use std::marker::PhantomData;
 
 /// The header of the replies of one family.
 pub trait ReplyHeader: Drop + Sized {
-    /// The name of the view of such a reply, as `Debug` prints it.
+    /// The name of the borrowed reply, as `Debug` prints it.
     const VIEW: &'static str;
 
-    // The replies, what a header says in them, and how two of them are compared.
+    // The format of the replies, the model of a header, and the comparison of two replies.
     ghost reply: { ResponseSpec };
 
     ghost header_model: { Self → reply.header.Value };
 
     ghost test: { ValueOf reply → ValueOf reply → Bool };
 
-    /// The number of the header's bytes.
+    /// Returns the length of the header in bytes.
     fn length() -> usize
         ensures { result ≡ reply.size };
 
-    /// Reads the header.
+    /// Parses the header at the start of `bytes`.
     fn read_header(bytes: &[u8]) -> Result<Self, DecodeError>
         ensures value { IfOk result (λ header.
             reply.header.reads tt bytes.now ≡ Ok (header_model header)) }
         ensures fault { IfErr result (λ fault. reply.header.reads tt bytes.now ≡ Err fault) };
 
-    /// Reads each attribute and counts them, or returns the first fault. It takes no memory.
+    /// Checks each attribute and returns their number, or returns the first error. Does not
+    /// allocate.
     fn check(bytes: &[u8]) -> Result<usize, DecodeError>
         ensures clean { OnOk result (HasNoFault (decodes reply.attribute_set) bytes.now) }
         ensures count { IfOk result (λ count.
             count ≡ length (values_in (decodes reply.attribute_set) bytes.now)) }
         ensures fault { IfErr result (AttributeFault (decodes reply.attribute_set) bytes.now) };
 
-    /// Whether the headers are equal, and the same attributes stand in both places.
+    /// Returns whether the headers are equal, and `left` and `right` contain equal attributes in
+    /// the same order.
     fn is_same(&self, left: &[u8], other: &Self, right: &[u8]) -> bool
         requires left { HasNoFault (decodes reply.attribute_set) left.now }
         requires right { HasNoFault (decodes reply.attribute_set) right.now }
@@ -60,14 +62,15 @@ pub trait ReplyHeader: Drop + Sized {
             (response_behind reply (header_model self.now) left.now)
             (response_behind reply (header_model other.now) right.now) };
 
-    /// How many bytes the header and the attributes are written as, where each value and the whole
-    /// fit their lengths.
+    /// Returns the length that the header and the attributes in `bytes` have in canonical form.
+    /// Returns `None` if the reply is not writable.
     fn len_with(&self, bytes: &[u8]) -> Option<usize>
         requires { HasNoFault (decodes reply.attribute_set) bytes.now }
         ensures { let v = response_behind reply (header_model self.now) bytes.now in
             SomeIff result ((response_codec reply).fits v) (length (response_bytes reply v)) };
 
-    /// Writes the header and the attributes at the start of the buffer, and leaves the rest.
+    /// Writes the header and the attributes in `bytes`, in canonical form, at the start of
+    /// `buffer`. The bytes after them are unchanged.
     fn emit_with(&self, bytes: &[u8], buffer: &mut [u8])
         requires clean { HasNoFault (decodes reply.attribute_set) bytes.now }
         requires fits { (response_codec reply).fits
@@ -79,8 +82,8 @@ pub trait ReplyHeader: Drop + Sized {
             (response_behind reply (header_model self.now) bytes.now) in
             buffer.new ≡ all ++ drop (length all) buffer.old };
 
-    // A string with a header has all its bytes, a reply keeps the laws, and equal replies pass the
-    // test.
+    // Bytes with a valid header have at least `size` bytes. The codec of the replies satisfies the
+    // codec laws. The comparison is true if and only if the replies are equal.
     ghost enough: { (b : List ℕ) (h : reply.header.Value) → reply.header.reads tt b ≡ Ok h
         → reply.size ≤ length b };
 
@@ -89,12 +92,13 @@ pub trait ReplyHeader: Drop + Sized {
     ghost compared: { (v w : ValueOf reply) → IsTrue (test v w) ↔ (v ≡ w) };
 }
 
-/// The same header, and what the attributes behind it are read as.
+/// A header whose replies have a borrowed form.
 pub trait ReplyViews<'a>: ReplyHeader {
-    /// An attribute, read in place.
+    /// A borrowed attribute.
     type View: FamilyView<'a> + Drop;
 
-    // The set of the views accepts the bytes that the reply's does, and has as many values of them.
+    // The attribute set of the views accepts the same bytes as the reply's attribute set, and has
+    // the same number of values in them.
     ghost same: { let view_set = Self.View.FamilyView.attribute_set in
         let set = Self.ReplyHeader.reply.attribute_set in
         ((b : List ℕ) → HasNoFault (decodes view_set) b ↔ HasNoFault (decodes set) b)
@@ -102,14 +106,14 @@ pub trait ReplyViews<'a>: ReplyHeader {
         ≡ length (values_in (decodes set) b)) };
 }
 
-/// A reply, read in place: its bytes, of which all were checked.
+/// A borrowed reply: bytes that have been checked completely.
 pub struct ReplyView<'a, H: ReplyHeader> {
     bytes: &'a [u8],
-    // How many attributes there are.
+    // The number of attributes.
     count: usize,
     header: PhantomData<H>,
     ghost long: { H.reply.size ≤ length bytes.now },
-    // What the header says.
+    // The model of the header.
     ghost head: { (h : H.reply.header.Value)
         × (H.reply.header.reads tt bytes.now ≡ Ok h) } by { one_value_in
             (H.reply.header.reads tt bytes.now) },
@@ -143,9 +147,10 @@ impl<'a, H: ReplyHeader> ReplyView<'a, H> {
     ghost use Rattle.sock_diag_replies.specs.ViewModel.{bytes_after_header};
     ghost use Rattle.sock_diag_replies.specs.ViewModel.{view_bytes, view_model};
 
-    /// Checks the whole of the bytes, and takes no memory. A fault of the header is returned, or
-    /// else the first fault of an attribute. Fewer bytes than the header has are `BufferTooSmall`.
-    // It stands apart: its walk takes no time where a list is made.
+    /// Checks all of the bytes, and returns a view of them. Returns the error of the header, or
+    /// else the first error of an attribute. The error is `BufferTooSmall` if the header is
+    /// truncated. Does not allocate.
+    // Out of line, to keep the loop over the attributes out of callers that build a list.
     #[inline(never)]
     pub fn parse(bytes: &'a [u8]) -> Result<ReplyView<'a, H>, DecodeError>
         ensures value { IfOk result (λ view.
@@ -163,7 +168,7 @@ impl<'a, H: ReplyHeader> ReplyView<'a, H> {
         })
     }
 
-    // How many attributes there are.
+    // Returns the number of attributes.
     #[inline(always)]
     pub(crate) fn count(&self) -> usize
         ensures { result ≡ length (view_model self.now).nlas }
@@ -171,7 +176,7 @@ impl<'a, H: ReplyHeader> ReplyView<'a, H> {
         self.count
     }
 
-    /// The header, which tells the socket.
+    /// Returns the header, which identifies and describes the socket.
     #[inline(always)]
     pub fn header(&self) -> H
         ensures { H.header_model result ≡ (view_model self.now).header }
@@ -182,7 +187,7 @@ impl<'a, H: ReplyHeader> ReplyView<'a, H> {
         header
     }
 
-    // The bytes behind the header.
+    // Returns the bytes after the header.
     pub(crate) fn attribute_bytes(&self) -> &'a [u8]
         ensures part { result.now ≡ bytes_after_header self.now }
         ensures clean { HasNoFault (decodes H.reply.attribute_set) result.now }
@@ -196,12 +201,12 @@ impl<'a, H: ReplyViews<'a>> ReplyView<'a, H> {
     ghost use Rattle.attribute_lists.specs.CheckedModel.{checked_left};
     ghost use Rattle.attribute_lists.specs.declared.checked.CheckedNlas.{CheckedNlas};
 
-    /// The header, and the attributes, each of which is checked as it is given: for who wants each
-    /// once. It takes no memory. A fault of the header is told here, and that of an attribute in
-    /// its place.
+    /// Parses the header, and returns it with an iterator that checks each attribute when it yields
+    /// it. This suits a caller that needs each attribute once. Returns the error of the header. The
+    /// iterator yields the error of an attribute. Does not allocate.
     ///
-    /// The bytes are a reply where the walk ends without a fault, and refused where it gives one,
-    /// as [`ReplyView::parse`] says of them.
+    /// The bytes are a valid reply if the iterator ends without an error. If it yields an error,
+    /// [`ReplyView::parse`] rejects the bytes with the same error.
     #[inline(always)]
     pub fn walk(bytes: &'a [u8]) -> Result<(H, CheckedNlas<'a, H::View>), DecodeError>
         ensures header { IfOk result (λ parts.
@@ -230,7 +235,7 @@ impl<'a, H: ReplyViews<'a>> ReplyView<'a, H> {
         Ok((header, CheckedNlas::new(&bytes[H::length()..])))
     }
 
-    /// The attributes, in the order that they came.
+    /// Returns an iterator over the attributes, in wire order.
     pub fn attributes(&self) -> AttributeViews<'a, H>
         ensures { let reads = decodes H.View.FamilyView.attribute_set in
             values_in reads (attributes_left result)
@@ -244,8 +249,8 @@ impl<'a, H: ReplyViews<'a>> ReplyView<'a, H> {
     }
 }
 
-/// Two replies are equal where they tell the same: equal headers, and the same attributes in the
-/// same order.
+/// Two replies are equal if and only if their headers are equal and they have equal attributes in
+/// the same order.
 impl<H: ReplyHeader> PartialEq for ReplyView<'_, H> {
     ghost use Rattle.sock_diag_replies.specs.ViewModel.{view_model};
 
@@ -268,7 +273,7 @@ impl<H: ReplyHeader> Eq for ReplyView<'_, H> {
     ghost laws = { equivalence _ view_model (λ v w. H.compared _ _) };
 }
 
-/// Writes the bytes of the reply's canonical form, and takes no memory.
+/// Serializes to the canonical form of the reply. Does not allocate.
 impl<H: ReplyHeader> Emitable for ReplyView<'_, H> {
     ghost use Rattle.sock_diag_replies.specs.ViewModel.{view_model};
 
@@ -296,11 +301,11 @@ impl<H: ReplyHeader> Emitable for ReplyView<'_, H> {
     }
 }
 
-/// The attributes of a reply, read in place, in the order that they came.
+/// An iterator over the attributes of a borrowed reply, in wire order.
 #[derive(Drop)]
 pub struct AttributeViews<'a, H: ReplyHeader> {
     walk: NlasIterator<'a>,
-    // How many are left.
+    // The number of attributes that were not yielded yet.
     count: usize,
     header: PhantomData<H>,
     ghost clean: { HasNoFault (decodes H.reply.attribute_set) (bytes_left walk) },
@@ -344,7 +349,7 @@ impl<'a, H: ReplyViews<'a>> Iterator for AttributeViews<'a, H> {
         Some(view)
     }
 
-    /// How many attributes are left, exactly.
+    /// Returns the exact number of attributes that were not yielded yet.
     fn size_hint(&self) -> (usize, Option<usize>)
         ensures lower { let left = values_in (decodes H.View.FamilyView.attribute_set)
             (attributes_left self.now) in

@@ -1,4 +1,4 @@
--- Messages are equal where their models are.
+-- `==` of messages is true if and only if their models are equal.
 use Rattle.std.proofs.Common.{arith}
 use Rattle.std.proofs.Common.{◌≡◌, ◌↔◌, Bool, IsTrue, ap}
 use Rattle.netlink_core.proofs.Equality.{apart}
@@ -26,7 +26,7 @@ use Rattle.sock_diag_replies.specs.laws.UnixResponseSpec.{unix_test_decides}
 use Rattle.sock_diag_replies.specs.ViewModel.{view_model}
 use Rattle.netlink_packet_sock_diag.specs.MessageViewModel.{message_view_model}
 
--- what a message of a kind holds, and else something given
+-- the request or reply of a message of this kind; `other` if the message is of another kind
 abbrev held_as : (kind : MessageKind) → (codec_of kind).Value → Message → (codec_of kind).Value
 held_as inet_request other (message_of inet_request v) = v
 held_as inet_response other (message_of inet_response v) = v
@@ -34,7 +34,7 @@ held_as unix_request other (message_of unix_request v) = v
 held_as unix_response other (message_of unix_response v) = v
 held_as _ other _ = other
 
--- messages of one kind are equal where they hold the same
+-- equal messages of one kind have equal requests or replies
 same_held : (kind : MessageKind) (v w : (codec_of kind).Value)
     → message_of kind v ≡ message_of kind w → v ≡ w
 same_held inet_request v w e = ap (held_as inet_request v) e
@@ -42,7 +42,7 @@ same_held inet_response v w e = ap (held_as inet_response v) e
 same_held unix_request v w e = ap (held_as unix_request v) e
 same_held unix_response v w e = ap (held_as unix_response v) e
 
--- so a test of what they hold is one of them
+-- a test that decides whether the requests or replies are equal decides whether the messages are
 by_held : (kind : MessageKind) (is : Bool) (v w : (codec_of kind).Value)
     → (IsTrue is ↔ (v ≡ w)) → (IsTrue is ↔ (message_of kind v ≡ message_of kind w))
 by_held kind is v w same =
@@ -62,7 +62,7 @@ message_equal (message.UnixResponse a) (message.UnixResponse x) =
     (responses_equal (λ h. h) unix.nla_model exact_unix.0 same_unix a.value x.value)
 message_equal v w = apart (λ e. let kinds = ap (by_kind (λ kind v. kind)) e in cc)
 
--- and so are messages that are read in place
+-- `==` of borrowed messages is true if and only if their models are equal
 pub view_equal : (v w : SockDiagView) → IsTrue (views.eq v w)
     ↔ (message_view_model v ≡ message_view_model w)
 view_equal (view.InetResponse a) (view.InetResponse x) =

@@ -1,4 +1,4 @@
--- What a dump keeps of messages is told by them.
+-- What a reader of dumps keeps of a payload determines the item of the message.
 use Rattle.std.proofs.Common.{◌≡◌, ℕ, List, inl, inr, refl, sym, ap, ◌∙◌, arith}
 use Rattle.std.specs.Prelude.{Result, Ok, Err, MatchResult}
 use Rattle.netlink_core.specs.Bytes.{IsBytes}
@@ -14,13 +14,14 @@ use Rattle.netlink_core.proofs.Items.{item_of}
 use Rattle.netlink_packet_sock_diag.specs.private.Kept.{KeepsItems}
 use Rattle.netlink_packet_sock_diag.specs.Lossy.{EntryIs}
 
--- no fault stands at the start of a message
+-- a message that is as long as its length field says has no error in its header
 pub no_fault_in_message : (message : List ℕ) (e : DecodeError) → IsOfOwnLength message
     → IsEnvelopeFault message e → ⊥
 no_fault_in_message message e whole f = grind arith
 
 module _ {A : Type 0} where
-  -- the item that a lossy dump has of one: a refused message is one that is kept
+  -- the item of a message in a `LossyDump`: the decode error of an invalid message is kept as an
+  -- inner message
   abbrev pub as_entry : Item A → Item (Result A DecodeError)
   as_entry (Ok (InnerMessage v)) = Ok (InnerMessage (Ok v))
   as_entry (Ok Noop) = Ok Noop
@@ -29,7 +30,7 @@ module _ {A : Type 0} where
   as_entry (Ok (Overrun given)) = Ok (Overrun given)
   as_entry (Err e) = Ok (InnerMessage (Err e))
 
-  -- and the other way round
+  -- the inverse of `as_entry`
   abbrev as_item : Payload (Result A DecodeError) → Item A
   as_item (InnerMessage (Ok v)) = Ok (InnerMessage v)
   as_item (InnerMessage (Err e)) = Err e
@@ -67,7 +68,7 @@ module _ (C : Codec ℕ) where
   is_item message (Error given) (h, head, is) = (h, (head, is))
   is_item message (Overrun given) (h, head, is) = (h, (head, is))
 
-  -- a message that has one item has one entry
+  -- if a message has at most one item, it has at most one entry
   pub one_entry : ((message : List ℕ) → IsBytes message → (i j : Item C.Value)
       → ItemIs C message i → ItemIs C message j → i ≡ j)
       → (message : List ℕ) → IsBytes message → (i j : Item (Result C.Value DecodeError))

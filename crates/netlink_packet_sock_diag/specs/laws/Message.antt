@@ -1,4 +1,4 @@
--- The laws of messages.
+-- The codec laws of messages.
 use Rattle.std.proofs.Common.{◌≡◌, ◌≢◌, ◌↔◌, ◌∙◌, ℕ, ◌≤◌, ◌⊎◌, inl, inr}
 use Rattle.std.proofs.Common.{List, [], ◌∷◌, length, slice_index, Result, Ok, Err}
 use Rattle.std.proofs.Common.{refl, sym, ap, arith, le-ltb}
@@ -28,7 +28,7 @@ use Rattle.netlink_packet_sock_diag.specs.Message.{message_codec}
 use Rattle.sock_diag_records.specs.ResponseKind.{MessageKind, inet_request, inet_response}
 use Rattle.sock_diag_records.specs.ResponseKind.{unix_request, unix_response, response_kind}
 
--- each kind's codec keeps the laws
+-- the codec of each kind satisfies the codec laws
 laws_of : (kind : MessageKind) → KeepsLaws (codec_of kind)
 laws_of kind =
     grind (
@@ -43,9 +43,9 @@ laws_of kind =
       unix_response_laws,
     )
 
--- ---- which kind is found
+-- ---- the kind of bytes
 
--- under the type 20 the first byte tells it, as that of two bytes does
+-- under the type 20, the first byte determines the kind
 pub kind_by_first_byte : (b : List ℕ) (t first : ℕ) → 2 ≤ length b → t ≡ 20
     → slice_index b 0 ≡ first
     → response_kind b t ≡ response_kind (first ∷ 0 ∷ []) 20
@@ -55,7 +55,7 @@ pub other_type_refused : (b : List ℕ) (t : ℕ) → 2 ≤ length b
     → t ≢ 20 → response_kind b t ≡ Err (UnknownMessageType t)
 other_type_refused b t long other = rw (le-ltb (length b) 2 long, ne_eqb t 20 other) refl
 
--- what each answer tells
+-- the type is 20 and the kind is a reply; or the error is not `Memory`
 abbrev IsResponseKind : ℕ → Result MessageKind DecodeError → Type 0
 IsResponseKind t found =
     MatchResult found (λ kind. (t ≡ 20) × ((kind ≡ inet_response) ⊎ (kind ≡ unix_response)))
@@ -65,15 +65,15 @@ response_kinds : (b : List ℕ) (t : ℕ) (found : Result MessageKind DecodeErro
     → response_kind b t ≡ found → IsResponseKind t found
 response_kinds b t found h = rw (← h) (grind (arith, nat_tests, eqb-true))
 
--- what is read is a reply, under the type 20
+-- a parsed message is a reply, under the type 20
 pub read_reply : (b : List ℕ) (t : ℕ) (m : Message) → message_codec.reads b t m
     → (t ≡ 20) × ((by_kind (λ kind v. kind) m ≡ inet_response)
     ⊎ (by_kind (λ kind v. kind) m ≡ unix_response))
 read_reply b t (message_of kind v) r = response_kinds b t (Ok kind) r.0
 
--- ---- one message or one fault
+-- ---- one message or one error
 
--- the message or the fault by the kind that is found, or its fault
+-- bytes have a message or an error, by the result of `response_kind`
 answered_as : (b : List ℕ) (t : ℕ) (found : Result MessageKind DecodeError) → IsBytes b
     → response_kind b t ≡ found
     → ((m : Message) × message_codec.reads b t m)
@@ -102,16 +102,16 @@ named_fault : (b : List ℕ) (t : ℕ) → message_codec.refuses b t Memory → 
 named_fault b t (inl none) = response_kinds b t (Err Memory) none refl
 named_fault b t (inr (kind, found, refused)) = (laws_of kind).named_fault b tt refused
 
--- ---- equal messages
+-- ---- equivalent bytes
 
--- strings that one message belongs to are idle
+-- two byte strings that parse as the same message are equivalent
 idle_of : (b c : List ℕ) (t : ℕ) (m : Message) → IsBytes b → IsBytes c
     → message_codec.reads b t m → message_codec.reads c t m → message_codec.idle t b c
 idle_of b c t (message_of kind v) tb tc r s =
     let law = (laws_of kind).same_value b c tt v v tb tc r.1 s.1 in
     (kind, r.0, s.0, law.0 refl)
 
--- what belongs to a string of a kind is of that kind
+-- a message that is parsed from bytes of a kind is of this kind
 of_kind : (b : List ℕ) (t : ℕ) (kind : MessageKind) (m : Message) → response_kind b t ≡ Ok kind
     → message_codec.reads b t m
     → (v : (codec_of kind).Value) × (m ≡ message_of kind v) × (codec_of kind).reads b tt v
@@ -129,7 +129,7 @@ same_value b c t m n tb tc r s = (
       x.1 ∙ ap (message_of kind) (law.1 idle) ∙ sym y.1,
 )
 
--- ---- what is read and written
+-- ---- parsed and serialized messages
 
 reads_normal : (b : List ℕ) (t : ℕ) (m : Message) → IsBytes b → message_codec.reads b t m
     → message_codec.is_in_range m × message_codec.is_normal t m
@@ -141,13 +141,13 @@ reads_normal b t (message_of kind v) tb (found, r) =
 written_bytes : (m : Message) → message_codec.is_in_range m → IsBytes (message_codec.written m)
 written_bytes (message_of kind v) in_range = (laws_of kind).written_bytes v in_range
 
--- the family of an internet reply in normal form tells its kind
+-- the family of an IPv4 or IPv6 reply in normal form determines its kind
 kind_of_versions : (family : ℕ) (versions : IpVersions) → versions_of_family family ≡ Ok versions
     → response_kind (family ∷ 0 ∷ []) 20 ≡ Ok inet_response
 kind_of_versions family versions h =
     grind (arith, nat_tests)
 
--- a message in normal form is written as a reply of its kind
+-- a message in normal form serializes to bytes of its kind
 kind_written : (t : ℕ) (m : Message) → message_codec.is_normal t m
     → response_kind (message_codec.written m) t ≡ Ok (by_kind (λ kind v. kind) m)
 unfolding inet_response_header
@@ -181,7 +181,7 @@ message_laws = record {
   reads_back = reads_back;
 }
 
--- a message is written as two bytes and more
+-- a message serializes to at least two bytes
 pub length-written : (m : Message) → 2 ≤ length (message_codec.written m)
 unfolding inet_request_layout inet_response_header
 length-written (message_of inet_request v) = omega arith

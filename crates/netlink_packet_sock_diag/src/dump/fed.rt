@@ -32,8 +32,8 @@ fn interrupted_by(was: bool, header: &NetlinkHeader) -> bool
 
 // Reads the messages of a datagram up to the end of the dump, and returns the new state of the dump
 // and the error number of its end. The type and the flags of a message are read before its payload.
-// If it fails with `Memory`, the first message that was not kept may need memory, or the list is
-// full.
+// If the error is `Memory`, then the first message that was not kept may need memory, or the list
+// is full.
 fn take_messages<I: Kept>(
     alloc: Global,
     messages: &mut Vec<I>,
@@ -82,8 +82,8 @@ pub(crate) struct FedDump<I: Kept> {
     pub(crate) interrupted: bool,
     // A dump that has not ended has no error number.
     ghost unnumbered: { (standing.0 ≡ Reading) → (standing ≡ (Reading, None)) },
-    // Feeding some datagrams, with enough memory, leads to this progress; or feeding one more did,
-    // and the dump has failed.
+    // Feeding some datagrams, with enough memory, leads to this progress. Or it leads to an earlier
+    // progress, feeding one more datagram leads from there to this one, and the dump has failed.
     ghost fed: { ∥ ((datagrams : List (List ℕ)) × (before : DumpProgress I.Entry)
         × FeedsLeave I.item_is new_dump datagrams before
         × ((before ≡ dump_with (map I.model kept.items) standing interrupted)

@@ -1,4 +1,4 @@
-//! What a dump keeps of the messages of the protocol.
+//! What the reader of a dump keeps of an inner message.
 
 ghost use Rattle.std.specs.Prelude.{◌≡◌, ◌≢◌, ℕ, List, Result as result, MatchResult, IfOk, IfErr};
 ghost use Rattle.std.specs.Prelude.{IsOk, ⊤};
@@ -17,10 +17,12 @@ use crate::message::SockDiagMessage;
 use netlink_core::{DecodeError, NetlinkDeserializable, NetlinkHeader};
 use std::alloc::Global;
 
-/// What a dump keeps of a message of the protocol.
+/// What the reader of a dump keeps of an inner message.
 pub(crate) trait Kept: Drop + Sized {
-    // By the header's type, what is kept of a payload, and with which fault one is refused; which
-    // item of a dump a message is; the entries that may need memory; and the model of what is kept.
+    // `Entry` is the model of what is kept. `reads b t m`: the payload `b` under the message type
+    // `t` is kept as `m`. `refuses b t e`: such a payload ends the dump with the error `e`.
+    // `item_is`: the item of the datagram that a message is. `needs_memory`: keeping the entry may
+    // need memory. `model`: the entry that a Rust value represents.
     ghost Entry: { Type 0 };
 
     ghost reads: { List ℕ → ℕ → Entry → Type 0 };
@@ -33,22 +35,23 @@ pub(crate) trait Kept: Drop + Sized {
 
     ghost model: { Self → Entry };
 
-    /// Reads what is kept of a payload under the header's type, or returns the fault that ends the
-    /// dump.
+    /// Parses the payload under the header's message type. Returns what is kept of it, or the error
+    /// that ends the dump.
     fn take(alloc: Global, header: &NetlinkHeader, payload: &[u8]) -> Result<Self, DecodeError>
         ensures value { IfOk result
             (λ m. Self.reads payload.now header.now.message_type (Self.model m)) }
         ensures fault { IfErr result (λ e. e ≢ Memory
             → Self.refuses payload.now header.now.message_type e) }
-        // Memory runs out only at a payload whose entry may need some.
+        // `Memory` is returned only for a payload whose entry may need memory.
         ensures wanted { IfErr result (λ e. e ≡ Memory → (m : Self.Entry)
             × Self.reads payload.now header.now.message_type m × Self.needs_memory m) };
 
-    // Which item a message is follows from what its payload is read as, or from its fault.
+    // The item of a message follows from what its payload is kept as, or from the error of the
+    // payload.
     ghost laws: { KeepsItems reads refuses item_is };
 }
 
-/// The message; a refused one ends the dump.
+/// Keeps the message. An invalid message ends the dump.
 impl Kept for SockDiagMessage {
     ghost Entry = { Message };
 
@@ -69,7 +72,8 @@ impl Kept for SockDiagMessage {
     ghost laws = { keeps_messages message_codec message_laws };
 }
 
-/// The message, or its error: `take` fails only if an accepted message is out of memory.
+/// Keeps the message, or its decode error. `take` fails only if an allocation for a valid message
+/// fails.
 impl Kept for Result<SockDiagMessage, DecodeError> {
     ghost Entry = { result Message Fault };
 

@@ -37,10 +37,10 @@ impl LossyDump {
 
     /// Reads the messages of a datagram of complete messages, up to the end of the dump. An invalid
     /// payload becomes an entry with its error. If bytes are not a message (`EnvelopeCut`,
-    /// `EnvelopeLengthUnder16` or `EnvelopeLengthPast`), or if memory runs out, the entries before
-    /// are kept, and the dump has failed. Feeding a dump that has ended changes nothing.
+    /// `EnvelopeLengthUnder16` or `EnvelopeLengthPast`), or if an allocation fails, the entries
+    /// before are kept, and the dump has failed. Feeding a dump that has ended changes nothing.
     ///
-    /// Memory runs out only at an accepted message, or if the list of entries has to grow: the
+    /// An allocation can fail only at a valid message, or if the list of entries has to grow: the
     /// entry of an invalid message needs a slot in the list too.
     pub fn feed(&mut self, datagram: &[u8]) -> Result<(), DumpError>
         ensures leaves { FeedLeaves (EntryIs message_codec) (lossy_progress self.old) datagram.now

@@ -1,4 +1,4 @@
-//! The messages of a datagram with what they carry, read in place.
+//! Borrowed messages of a datagram, with their payloads.
 
 ghost use Rattle.std.specs.Prelude.{◌≡◌, ◌↔◌, length, IfOk, IfErr, IsTrue, SomeIff};
 ghost use Rattle.netlink_core.specs.Envelope.{IsInnerType, OfInner, PayloadIs, envelope_codec};
@@ -15,10 +15,11 @@ use netlink_core::{
     NLMSG_OVERRUN, NetlinkHeader, NetlinkPayload,
 };
 
-/// What a message carries, read in place.
+/// The borrowed payload of a message.
 pub type PayloadView<'a> = NetlinkPayload<SockDiagView<'a>, &'a [u8]>;
 
-// What a message carries behind its header, or the fault of an inner message.
+// Parses the payload by the message type of the header. Returns the error of an invalid inner
+// message.
 #[inline(always)]
 fn read_payload<'a>(
     header: &NetlinkHeader,
@@ -38,7 +39,8 @@ fn read_payload<'a>(
     })
 }
 
-// How many bytes are written of what a message carries, where it can be written.
+// Returns the length of the serialized payload. Returns `None` if the inner message is not
+// writable.
 fn payload_writable_len(payload: &PayloadView<'_>) -> Option<usize>
     ensures { SomeIff result (OfInner message_codec.fits (payload_view_model payload.now))
         (length (payload_bytes message_codec.written (payload_view_model payload.now))) }
@@ -52,21 +54,21 @@ fn payload_writable_len(payload: &PayloadView<'_>) -> Option<usize>
     }
 }
 
-/// A message with its header, read in place: a [`netlink_core::NetlinkMessage`] whose bytes are
-/// borrowed.
+/// A borrowed message with its header: the bytes of a [`netlink_core::NetlinkMessage`], checked.
 #[derive(Debug, Drop)]
 pub struct MessageView<'a> {
-    /// The header. Its sequence number is that of the request which is answered.
+    /// The header. Its sequence number is the one of the request that is answered.
     pub header: NetlinkHeader,
-    /// What the message carries.
+    /// The payload.
     pub payload: PayloadView<'a>,
 }
 
 impl<'a> MessageView<'a> {
     ghost use Rattle.netlink_packet_sock_diag.specs.PayloadViewModel.{envelope_view_model};
 
-    /// Reads the message at the start of the bytes, and takes no memory. What follows its length is
-    /// unread. The faults are those of [`netlink_core::NetlinkMessage::deserialize`].
+    /// Parses the message at the start of the bytes. Does not allocate. Bytes after the length of
+    /// the message are ignored. Returns the same errors as
+    /// [`netlink_core::NetlinkMessage::deserialize`].
     #[inline(always)]
     pub fn parse(bytes: &'a [u8]) -> Result<MessageView<'a>, DecodeError>
         ensures value { IfOk result (λ view.
@@ -79,8 +81,8 @@ impl<'a> MessageView<'a> {
         Ok(MessageView { header, payload })
     }
 
-    /// Whether the message can be written: its inner message can be, and the whole has at most
-    /// 4,294,967,295 bytes, the header's 16 among them.
+    /// Returns whether the message is writable: its inner message is writable, and the message has
+    /// at most 4,294,967,295 bytes, including the 16 bytes of its header.
     pub fn is_writable(&self) -> bool
         ensures { IsTrue result
             ↔ (envelope_codec message_codec).fits (envelope_view_model self.now) }
@@ -102,10 +104,12 @@ fn payload_of<'a>(header: &NetlinkHeader, message: &'a [u8]) -> Result<PayloadVi
     read_payload(header, &message[NETLINK_HEADER_LEN..])
 }
 
-/// The walk over the messages of a datagram, each as what it carries. The end of a dump does not
-/// end it, nor does a message whose payload is refused: that is told, and the next message follows.
+/// An iterator over the payloads of the messages of a datagram. If the payload of a message is
+/// invalid, its error is yielded, and the next message follows. The iterator also continues after a
+/// message that ends a dump.
 ///
-/// It ends where no bytes are left, and behind what is no message. No memory is taken.
+/// It ends when no bytes are left, or after the error of bytes that are not a message. Nothing is
+/// allocated.
 #[derive(Clone, Drop)]
 pub struct DumpViews<'a> {
     messages: FramedMessages<'a>,
@@ -134,11 +138,11 @@ impl<'a> Iterator for DumpViews<'a> {
 
     ghost next_gives = { GivesView };
 
-    // At most one item for each sixteen bytes, rounded up.
+    // At most one item for each 16 bytes, rounded up.
     ghost remaining = { λ walk. at_most ((length (views_left walk) + 15) / 16) };
 
-    /// What the next message carries, or its fault. At what is no message the faults are those of
-    /// [`NetlinkHeader::from_prefix`], over the bytes that are left.
+    /// Returns the payload of the next message, or its error. If the remaining bytes are not a
+    /// message, the error is the one that [`NetlinkHeader::from_prefix`] returns for them.
     #[inline(always)]
     fn next(&mut self) -> Option<Result<PayloadView<'a>, DecodeError>> {
         match self.messages.next()? {
@@ -147,7 +151,7 @@ impl<'a> Iterator for DumpViews<'a> {
         }
     }
 
-    /// How many are left is told by the walk alone.
+    /// Returns `(0, None)`: only iterating shows how many messages are left.
     fn size_hint(&self) -> (usize, Option<usize>)
         ensures lower { IsWithinCount result.0
             (at_most ((length (views_left self.now) + 15) / 16)) }

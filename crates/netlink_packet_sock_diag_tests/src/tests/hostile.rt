@@ -1,5 +1,5 @@
-//! Each changed byte of two requests and four replies. Each cut of them is a line of the stored
-//! input of the program `sockdiag`.
+//! Two requests and four replies with each byte changed. Their truncated forms are lines of the
+//! stored input of the program `sockdiag`.
 
 use super::read_twice::{ReadTwice, read_twice};
 use super::{ABSTRACT, INET, PATH, PEER, SHUTDOWN, ZEROS, bytes, shows};
@@ -9,8 +9,8 @@ use netlink_packet_sock_diag::unix::{UnixRequest, UnixResponse};
 use std::alloc::Global;
 use std::process::Abort;
 
-/// One string more that was read as the value that it was made from (at 0) or as another (at 1), or
-/// was refused by the fault of a number (at this number).
+/// Counts one more input: at 0 if it is parsed as the original value, at 1 if it is parsed as
+/// another value, and at the code of its error if it is rejected.
 fn count<T: PartialEq + Drop>(tally: &mut [u32; 11], read: Result<T, DecodeError>, value: &T) {
     let place = match read {
         Ok(read) => u8::from(read != *value),
@@ -21,7 +21,7 @@ fn count<T: PartialEq + Drop>(tally: &mut [u32; 11], read: Result<T, DecodeError
     }
 }
 
-/// The bytes with the one at a place changed.
+/// Returns the bytes with `change` applied to the byte at `place`, by exclusive or.
 fn changed(rt: &impl Abort, alloc: Global, whole: &[u8], place: usize, change: u8) -> Vec<u8> {
     let mut bytes = Vec::from_slice(alloc, whole).expect(rt, "memory");
     if let Some(byte) = bytes.get_mut(place) {
@@ -30,8 +30,8 @@ fn changed(rt: &impl Abort, alloc: Global, whole: &[u8], place: usize, change: u
     bytes
 }
 
-/// Reads the bytes by both readers with each byte in turn changed to each other one. The counts are
-/// shown like this.
+/// Parses the bytes in both ways, with each byte in turn changed to each other value. Asserts that
+/// `counts` occurs in what `Debug` prints for the counts.
 fn changes<T: ReadTwice>(rt: &impl Abort, alloc: Global, parts: &[&str], counts: &str) {
     let whole = bytes(rt, alloc, parts);
     let value = T::read_once(alloc, &whole).expect(rt, "refused");
@@ -55,7 +55,7 @@ fn requests(rt: HostRuntime) {
     changes::<InetRequest>(&rt, rt.alloc(), &internet, counts);
 }
 
-// Of a UNIX reply it is told how many changes are of no account.
+// For a UNIX reply, only the number of changes that do not change the value is checked.
 #[test]
 fn replies(rt: HostRuntime) {
     for (reply, counts) in [(PATH, "[1284, "), (PEER, "[1542, "), (ABSTRACT, "[1284, ")] {

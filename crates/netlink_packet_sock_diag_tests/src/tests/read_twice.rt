@@ -1,4 +1,5 @@
-//! What has two readers: replies and messages are read with memory of their own and in place.
+//! Values that are parsed in two ways, with equal results: for example as an owned value, and as a
+//! borrowed one.
 
 use netlink_core::{CanonError, DecodeError, Parseable, ParseableParametrized, Wire, canonical};
 use netlink_packet_sock_diag::SockDiagMessage;
@@ -8,20 +9,20 @@ use std::alloc::Global;
 use std::fmt::Debug;
 use std::process::Abort;
 
-/// A value with two readers. A message is read under type 20. The trait does not extend `Wire`,
-/// whose laws make each call of a generic helper slow to prove.
+/// A value with two parsers. A message is parsed under the type 20. The trait does not extend
+/// `Wire`, whose laws make each call of a generic helper slow to prove.
 pub(crate) trait ReadTwice: Sized + PartialEq + Debug + Drop {
-    /// Reads an owned value.
+    /// Parses an owned value.
     fn read_once(alloc: Global, bytes: &[u8]) -> Result<Self, DecodeError>;
 
-    /// Reads by the other reader, and returns a copy.
+    /// Parses with the other parser, and returns a clone.
     fn read_again(alloc: Global, bytes: &[u8]) -> Result<Self, DecodeError>;
 
     /// Returns the canonical form.
     fn rewritten(alloc: Global, bytes: &[u8]) -> Result<Vec<u8>, CanonError>;
 }
 
-/// Returns the value or the error that both readers return.
+/// Returns the value or the error that both parsers return.
 pub(crate) fn read_twice<T: ReadTwice>(
     rt: &impl Abort,
     alloc: Global,

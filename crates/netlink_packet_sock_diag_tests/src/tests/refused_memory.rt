@@ -1,4 +1,4 @@
-//! What holds in each run, whichever requests for memory are refused.
+//! What holds in each run, whichever allocations fail.
 
 use super::read_twice::ReadTwice;
 use super::{INET, LISTENING, PATH};
@@ -10,18 +10,18 @@ use netlink_packet_sock_diag::{DumpReader, DumpState, LossyDump, SockDiagMessage
 use std::alloc::Global;
 use std::process::Abort;
 
-/// Nine attributes, for which a reply itself has no room.
+/// Nine attributes, one more than a reply stores inline.
 const NINE: &str =
     "050006000000000005000600000000000500060000000000050006000000000005000600000000000500\
 060000000000050006000000000005000600000000000500060000000000";
 
-/// An abstract name, two inodes and a kind that is not known.
+/// An abstract name, two inodes and an attribute of an unknown kind.
 const OTHER: &str = "08000000006275730c00030005000000060000000500070002000000";
 
-/// A direction that is shut down, a text and a kind that is not known.
+/// The directions that are shut down, a text and an attribute of an unknown kind.
 const INET_OTHER: &str = "05000800000000000a000400637562696300000005000300aa000000";
 
-/// The bytes of a header and attributes, where there is memory for them.
+/// Returns the bytes of a header and attributes, or `None` if an allocation fails.
 fn reply(rt: &impl Abort, alloc: Global, header: &str, attributes: &str) -> Option<Vec<u8>> {
     let digits = [header, attributes].concat(alloc).ok()?;
     match hex::decode(alloc, digits.as_str()) {
@@ -33,7 +33,7 @@ fn reply(rt: &impl Abort, alloc: Global, header: &str, attributes: &str) -> Opti
     }
 }
 
-/// Whether the answers are the same, where none of them is want of memory.
+/// Returns whether the results are equal, or one of them is `Memory`.
 fn agree<T: PartialEq + Drop>(
     first: Result<T, DecodeError>,
     second: Result<T, DecodeError>,
@@ -44,7 +44,8 @@ fn agree<T: PartialEq + Drop>(
     }
 }
 
-/// Both readers give the value and `canonical` gives these bytes, or they want memory.
+/// Asserts that both parsers return equal results, and that `canonical` returns the same bytes,
+/// unless an allocation fails.
 fn copes<T: ReadTwice>(rt: &impl Abort, alloc: Global, bytes: &[u8]) {
     assert!(rt; agree(T::read_once(alloc, bytes), T::read_again(alloc, bytes)));
     match T::rewritten(alloc, bytes) {
@@ -53,7 +54,7 @@ fn copes<T: ReadTwice>(rt: &impl Abort, alloc: Global, bytes: &[u8]) {
     }
 }
 
-/// The same of a reply, also as a message.
+/// Asserts the same for a reply, and for the reply as a message.
 fn copes_with_reply<T: ReadTwice>(rt: &impl Abort, alloc: Global, header: &str, attributes: &str) {
     if let Some(bytes) = reply(rt, alloc, header, attributes) {
         copes::<T>(rt, alloc, &bytes);
@@ -69,13 +70,15 @@ fn replies(rt: HostRuntime) {
     copes_with_reply::<InetResponse>(&rt, rt.alloc(), INET, INET_OTHER);
 }
 
-/// Messages: of nothing, about a listening socket and a connected one, and the end of a dump.
+/// A message of type `NLMSG_NOOP`.
 const NOOP: &[u8] = b"\x10\0\0\0\x01\0\x02\0\x07\0\0\0\0\0\0\0";
 
+/// Two replies, about a listening socket and a connected one.
 const BOTH: &[u8] = b"\x20\0\0\0\x14\0\x02\0\x07\0\0\0\0\0\0\0\
 \x01\x01\x0a\0\x0e\x4f\0\0\xa0\x02\0\0\0\0\0\0\
 \x20\0\0\0\x14\0\x02\0\x07\0\0\0\0\0\0\0\x01\x01\x01\0\xb7\x7c\0\0\x22\0\0\0\0\0\0\0";
 
+/// A message of type `NLMSG_DONE`.
 const DONE: &[u8] = b"\x14\0\0\0\x03\0\x02\0\x07\0\0\0\0\0\0\0\0\0\0\0";
 
 #[test]
@@ -88,7 +91,7 @@ fn netlink_messages(rt: HostRuntime) {
     assert!(rt; NetlinkMessage::<SockDiagMessage>::deserialize(alloc, NOOP).is_ok());
 }
 
-/// The number of the fault, or 0 at a value.
+/// Returns the code of the error, or 0 for a value.
 fn number<T: Drop>(read: Result<T, DecodeError>) -> u8 {
     match read {
         Ok(_) => 0,
@@ -96,7 +99,8 @@ fn number<T: Drop>(read: Result<T, DecodeError>) -> u8 {
     }
 }
 
-/// Both readers give a value of so many bytes, or the fault of this number, in every run.
+/// Asserts that in every run both parsers accept the first `count` bytes, if `want` is 0, or return
+/// the error with the code `want`.
 fn answers<T: ReadTwice>(
     rt: &impl Abort,
     alloc: Global,
@@ -111,7 +115,8 @@ fn answers<T: ReadTwice>(
     }
 }
 
-/// Strings that are refused, and up to eight attributes that hold neither name nor text nor list.
+/// Checks inputs for which no parser allocates: invalid bytes, and replies of at most eight
+/// attributes that are neither a name nor a text nor a list.
 #[test]
 fn spare_strings(rt: HostRuntime) {
     let nine = (LISTENING, NINE);
@@ -124,7 +129,8 @@ fn spare_strings(rt: HostRuntime) {
     answers::<InetResponse>(&rt, rt.alloc(), (INET, INET_OTHER), 80, 0);
 }
 
-/// The dump is done and keeps all replies, or it failed for want of memory, and stays so.
+/// Checks that a dump is done and has all replies, or has failed because an allocation failed, and
+/// remains failed.
 #[test]
 fn dumps(rt: HostRuntime) {
     let mut reader = DumpReader::new(rt.alloc());
@@ -136,7 +142,7 @@ fn dumps(rt: HostRuntime) {
     assert!(rt; all || reader.state() == DumpState::Failed);
 }
 
-/// Want of memory is no entry.
+/// Checks that a failed allocation is not an entry.
 #[test]
 fn lossy_dumps(rt: HostRuntime) {
     let mut dump = LossyDump::new(rt.alloc());
@@ -148,7 +154,7 @@ fn lossy_dumps(rt: HostRuntime) {
     }
 }
 
-/// A dump that retains no message never fails, whichever allocations fail.
+/// Checks that a dump that keeps no message never fails, whichever allocations fail.
 #[test]
 fn spare_dumps(rt: HostRuntime) {
     let mut reader = DumpReader::new(rt.alloc());

@@ -1,5 +1,5 @@
-//! What `Debug` shows of replies and messages, or a part of it. In a row stand the digits that
-//! follow those in front of it, and behind a space that part.
+//! What `Debug` prints for replies and messages, or a part of it. A row has more digits for the
+//! bytes, a space, and that part.
 
 use super::read_twice::{ReadTwice, read_twice};
 use super::{CONNECTED, INET, PATH, PEER, SHUTDOWN, bytes, cells, shows};
@@ -11,37 +11,37 @@ use std::alloc::Global;
 use std::fmt::Debug;
 use std::process::Abort;
 
-/// What both readers tell of a row.
+/// Asserts that the part in the row occurs in what `Debug` prints for the result of both parsers.
 fn tell<T: ReadTwice>(rt: &impl Abort, alloc: Global, front: &str, row: &str) {
     let (reply, part) = cells(rt, alloc, front, row);
     shows(rt, alloc, &read_twice::<T>(rt, alloc, &reply), part);
 }
 
-/// Behind a path.
+/// For the reply `PATH`.
 const WITH_PATH: &str = " Ok(UnixResponse { header: UnixResponseHeader { kind: 1, state: 10, \
 inode: 20238, cookie: [160, 2, 0, 0, 0, 0, 0, 0] }, nlas: [Name(Pathname([47, 116, 109, 112, 47, \
 46, 73, 67, 69, 45, 117, 110, 105, 120, 47, 49, 49, 53, 49])), ReceiveQueueLength(0, 128), \
 Shutdown(0)] })";
 
-/// Behind a peer.
+/// For the reply `PEER`.
 const WITH_PEER: &str = " Ok(UnixResponse { header: UnixResponseHeader { kind: 1, state: 1, \
 inode: 31927, cookie: [34, 0, 0, 0, 0, 0, 0, 0] }, nlas: [Name(Pathname([47, 114, 117, 110, 47, \
 117, 115, 101, 114, 47, 49, 48, 48, 48, 47, 98, 117, 115])), Peer(31062), ReceiveQueueLength(0, \
 0), Shutdown(0)] })";
 
-/// Behind a direction that is shut down.
+/// For the header `INET` and the attribute `SHUTDOWN`.
 const WITH_SHUTDOWN: &str = " Ok(InetResponse { header: InetResponseHeader { family: 2, state: 1, \
 timer: Some(KeepAlive(24.704s)), socket_id: SocketId { source_port: 60180, destination_port: 443, \
 source_address: 192.168.178.60, destination_address: 172.217.23.131, interface_id: 0, \
 cookie: [82, 3, 0, 0, 0, 0, 0, 0] }, recv_queue: 0, send_queue: 0, uid: 1000, inode: 2742952 }, \
 nlas: [Shutdown(0)] })";
 
-/// The same as a message.
+/// For the same bytes, parsed as a message.
 const INET_MESSAGE: &str =
     " Ok(InetResponse(InetResponse { header: InetResponseHeader { family: 2, \
 state: 1, timer: Some(KeepAlive(24.704s)), socket_id: SocketId { source_port: 60180, ";
 
-/// A request of UNIX sockets, read as a reply.
+/// A request for UNIX sockets, parsed as a reply.
 const MESSAGE: &str = "010000000204000034120000040000000800020001000000 \
 Ok(UnixResponse(UnixResponse { header: UnixResponseHeader { kind: 0, state: 0, inode: 1026, \
 cookie: [52, 18, 0, 0, 4, 0, 0, 0] }, nlas: [Peer(1)] }))";
@@ -57,7 +57,7 @@ fn replies_and_a_message(rt: HostRuntime) {
     tell::<SockDiagMessage>(&rt, alloc, "", MESSAGE);
 }
 
-/// Asserts that `Debug` prints one more than a number of equal attributes of a reply.
+/// Asserts that `Debug` prints `count + 1` equal attributes of a reply.
 fn tell_many<T: ReadTwice>(
     rt: &impl Abort,
     alloc: Global,
@@ -82,7 +82,7 @@ fn replies_with_many_attributes(rt: HostRuntime) {
     }
 }
 
-/// What is told of each message in its envelope.
+/// Asserts what `Debug` prints for the netlink message in each row.
 fn tell_envelopes<I: NetlinkDeserializable + Debug + Drop>(
     rt: &impl Abort,
     alloc: Global,
@@ -95,7 +95,7 @@ fn tell_envelopes<I: NetlinkDeserializable + Debug + Drop>(
     }
 }
 
-/// A reply, and messages that carry none.
+/// A message with a reply, and control messages.
 const ENVELOPES: &str = "2000000014000200070000000000000001010a000e4f0000a002000000000000ffff \
 Ok(NetlinkMessage { header: NetlinkHeader { length: 32, message_type: 20, flags: 2, \
 sequence_number: 7, port_number: 0 }, payload: InnerMessage(UnixResponse(UnixResponse { header: \
@@ -120,7 +120,7 @@ fn a_borrowed_message(rt: HostRuntime) {
     shows(&rt, rt.alloc(), &MessageView::parse(&end), text);
 }
 
-/// The request to close a socket, under the type that it is read under and under its own.
+/// The request to close a socket, under the type under which it is parsed, and under its own type.
 const CLOSING: &str = "2000000014000000000000000000000001010100b77c00002200000000000000 payload: \
 InnerMessage(SockDiagDestroy(UnixResponse(UnixResponse { header: UnixResponseHeader { kind: 1, \
 state: 1, inode: 31927, cookie: [34, 0, 0, 0, 0, 0, 0, 0] }, nlas: [] }))) })

@@ -1,4 +1,4 @@
-//! Requests, as they are made, shown and sent.
+//! How requests are built, printed and serialized.
 
 use super::{ZEROS, bytes, shows};
 use netlink_core::{
@@ -13,7 +13,8 @@ use std::alloc::Global;
 use std::net::{IpAddr, Ipv6Addr};
 use std::process::Abort;
 
-/// Behind a header that asks for a dump, the payload is sent as these bytes.
+/// Asserts that a message with this payload, with the flags of a dump request, serializes to these
+/// bytes after `finalize`.
 fn sends<I: NetlinkSerializable + Drop>(
     rt: &impl Abort,
     alloc: Global,
@@ -40,7 +41,7 @@ fn is_written<I: NetlinkSerializable>(
     assert!(rt; buffer == wanted, "{buffer:?}");
 }
 
-// Each family's requests are made of its own flags, as they are given again.
+// The requests of each family use the flags that its module re-exports.
 #[test]
 fn a_unix_request(rt: HostRuntime) {
     let alloc = rt.alloc();
@@ -79,8 +80,8 @@ fn an_inet_request_and_one_to_close(rt: HostRuntime) {
     sends(&rt, alloc, destroy.into(), &[front, ZEROS, ZEROS, ZEROS]);
 }
 
-// A value that no reader gives: a request of the family of UNIX sockets, whose address holds the
-// header of an attribute.
+// A value that no parser returns: an `InetRequest` with the family `AF_UNIX`, in whose address is
+// the header of an attribute.
 #[test]
 fn a_request_that_reads_as_a_reply(rt: HostRuntime) {
     let alloc = rt.alloc();

@@ -9,16 +9,16 @@ use netlink_packet_sock_diag::{DumpReader, LossyDump, SockDiagDestroy, SockDiagM
 use std::alloc::Global;
 use std::process::Abort;
 
-/// Numbers of attributes and of messages over 300. Tests also have each up to 300.
+/// Numbers of attributes and of messages above 300. Tests also have each number up to 300.
 const COUNTS: [usize; 7] = [512, 1_000, 1_024, 2_048, 4_096, 8_192, 10_000];
 
-/// Sizes of payloads over 300, up to a million. Tests also have each up to 300.
+/// Sizes of payloads above 300, up to a million. Tests also have each size up to 300.
 const SIZES: [u32; 15] = [
     512, 1_000, 1_024, 2_048, 4_096, 8_192, 10_000, 16_384, 32_768, 65_536, 100_000, 131_072,
     262_144, 524_288, 1_000_000,
 ];
 
-/// Asserts that both readers accept the bytes, and that they have a canonical form.
+/// Asserts that both parsers accept the bytes, and that the bytes have a canonical form.
 fn accepts<T: ReadTwice>(rt: &impl Abort, alloc: Global, bytes: &[u8]) {
     assert!(rt; read_twice::<T>(rt, alloc, bytes).is_ok());
     assert!(rt; T::rewritten(alloc, bytes).is_ok());
@@ -34,7 +34,7 @@ fn envelope(rt: &impl Abort, alloc: Global, kind: u8, payload: &[u8]) -> Vec<u8>
     message
 }
 
-/// Asserts that a whole message is read.
+/// Asserts that a complete message is parsed.
 fn opens(rt: &impl Abort, alloc: Global, message: &[u8]) {
     assert!(rt; NetlinkMessage::<SockDiagMessage>::deserialize(alloc, message).is_ok());
     assert!(rt; NetlinkMessage::<SockDiagDestroy>::deserialize(alloc, message).is_ok());
@@ -52,7 +52,8 @@ fn repeated(
     bytes(rt, alloc, &[header, &attributes])
 }
 
-/// Asserts that a reply with a number of attributes is read, by itself and in its message.
+/// Asserts that a reply with this number of attributes is parsed, by itself and in a netlink
+/// message.
 fn has_room_for<T: ReadTwice>(
     rt: &impl Abort,
     alloc: Global,
@@ -66,7 +67,7 @@ fn has_room_for<T: ReadTwice>(
     opens(rt, alloc, &envelope(rt, alloc, 20, &reply));
 }
 
-/// Asserts that a reply with each number of attributes is read.
+/// Asserts that a reply with each number of attributes is parsed.
 fn has_room<T: ReadTwice>(rt: &impl Abort, alloc: Global, header: &str, attribute: &str) {
     for count in (0..301).chain(COUNTS) {
         has_room_for::<T>(rt, alloc, header, attribute, count);
@@ -90,7 +91,7 @@ fn lists_of_attributes(rt: HostRuntime) {
     has_room::<InetResponse>(&rt, rt.alloc(), INET, "0600040061000000");
 }
 
-/// Checks a payload of each size, under each type of netlink(7) that keeps its bytes.
+/// Checks a payload of each size, under each type of netlink(7) whose payload is kept as bytes.
 #[test]
 fn payloads(rt: HostRuntime) {
     for kind in [2, 3, 4] {
@@ -101,7 +102,7 @@ fn payloads(rt: HostRuntime) {
     }
 }
 
-/// Asserts that both kinds of dump keep all messages of a datagram.
+/// Asserts that both readers of dumps keep all messages of a datagram.
 fn keeps(rt: &impl Abort, alloc: Global, datagram: &[u8], count: usize) {
     let mut dump = DumpReader::new(alloc);
     assert!(rt; dump.feed(datagram).is_ok() && dump.messages().len() == count);
@@ -120,7 +121,7 @@ fn dumps_of_one_datagram(rt: HostRuntime) {
     }
 }
 
-/// Asserts that the request to close the socket of a message is copied.
+/// Asserts that the request to close the socket of a message is cloned.
 fn is_copied(rt: &impl Abort, alloc: Global, message: &[u8]) {
     let closing = NetlinkMessage::<SockDiagDestroy>::deserialize(alloc, message);
     match &closing.expect(rt, "refused").payload {
@@ -129,7 +130,7 @@ fn is_copied(rt: &impl Abort, alloc: Global, message: &[u8]) {
     }
 }
 
-/// Checks a dump of one reply with each number of attributes, and a copy of it.
+/// Checks a dump of one reply with each number of attributes, and a clone of its request to close.
 #[test]
 fn dumps_of_one_message(rt: HostRuntime) {
     for count in (0..301).chain(COUNTS) {
@@ -142,7 +143,7 @@ fn dumps_of_one_message(rt: HostRuntime) {
     }
 }
 
-/// Checks a dump whose datagrams have one message each, so that it grows by one message a datagram.
+/// Checks a dump whose datagrams have one message each, so that each datagram adds one message.
 #[test]
 fn dumps_of_many_datagrams(rt: HostRuntime) {
     let reply = bytes(&rt, rt.alloc(), &[LISTENING]);
@@ -155,8 +156,8 @@ fn dumps_of_many_datagrams(rt: HostRuntime) {
     assert!(rt; reader.messages().len() == 100_000 && lossy.entries().len() == 100_000);
 }
 
-/// A header, the head of an attribute, a byte so many times and what follows; and how many bytes
-/// are written, or why none.
+/// A header, the first four bytes of an attribute, a byte, how often the byte is repeated, and the
+/// digits that follow; and the length of the canonical form, or why there is none.
 const LONG: [(&str, &str, u8, usize, &str, &str); 6] = [
     (LISTENING, "ffff0700", 1, 65_531, "", "Ok(65552)"),
     (INET, "ffff0400", 97, 65_531, "", "Err(Unwritable)"),
@@ -170,7 +171,7 @@ fn written_len(alloc: Global, bytes: &[u8]) -> Result<usize, CanonError> {
     Ok(canonical::<SockDiagMessage>(alloc, bytes, 20)?.len())
 }
 
-/// Returns the bytes of these digits and then a number of equal bytes.
+/// Returns the bytes of these digits, followed by `count` equal bytes.
 fn padded(rt: &impl Abort, alloc: Global, digits: &[&str], byte: u8, count: usize) -> Vec<u8> {
     let mut padded = bytes(rt, alloc, digits);
     let len = padded.len().saturating_add(count);

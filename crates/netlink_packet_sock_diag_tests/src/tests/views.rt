@@ -1,4 +1,4 @@
-//! What is read in place, replies and the messages of a datagram, and how far dumps are.
+//! Borrowed replies, the messages of a datagram, and the states of dumps.
 
 use super::{INET, PATH, SHUTDOWN, bytes, gives, shows};
 use netlink_core::{DecodeError, Emitable, write_new};
@@ -10,7 +10,7 @@ use netlink_packet_sock_diag::{
 use std::alloc::Global;
 use std::process::Abort;
 
-/// The value is written as these bytes.
+/// Asserts that the value serializes to these bytes.
 fn writes<T: Emitable>(rt: &impl Abort, alloc: Global, value: &T, parts: &[&str]) {
     let written = write_new(alloc, value).expect(rt, "unwritable");
     assert!(rt; written == bytes(rt, alloc, parts), "{written:?}");
@@ -48,7 +48,7 @@ fn an_inet_reply_in_place(rt: HostRuntime) {
     writes(&rt, alloc, &message, &parts);
 }
 
-// A fault in mid-walk is the last item.
+// The error of an attribute is the last item.
 #[test]
 fn attributes_are_checked_as_they_are_given(rt: HostRuntime) {
     let alloc = rt.alloc();
@@ -65,7 +65,8 @@ fn attributes_are_checked_as_they_are_given(rt: HostRuntime) {
     gives(&rt, alloc, nlas, answers);
 }
 
-/// The digits of a message by its name. The odd one has 37 bytes. Digits are themselves.
+/// Returns the digits of a message by its name. The message `odd` has 37 bytes. Any other name
+/// consists of digits, and is returned.
 fn digits(name: &str) -> &str {
     match name {
         "noop" => "10000000010000000000000000000000",
@@ -79,7 +80,7 @@ fn digits(name: &str) -> &str {
     }
 }
 
-/// The messages of a datagram, by their names.
+/// Returns a datagram of the messages with these names, which are separated by `+`.
 fn datagram(rt: &impl Abort, alloc: Global, names: &str) -> Vec<u8> {
     let mut text = String::new(alloc);
     for name in names.split('+') {
@@ -88,8 +89,7 @@ fn datagram(rt: &impl Abort, alloc: Global, names: &str) -> Vec<u8> {
     bytes(rt, alloc, &[text.as_str()])
 }
 
-/// Datagrams, the answer to the last one, how far the dump is then, the number that its end tells,
-/// and how many messages it keeps.
+/// In each row: datagrams, and what a `DumpReader` reports after the last one, as in `Told`.
 const DUMPS: &str = ": (Ok(()), Reading, None, 0)
 reply: (Ok(()), Reading, None, 1)
 reply done: (Ok(()), Done, Some(0), 1)
@@ -109,7 +109,8 @@ odd reply: (Ok(()), Reading, None, 2)
 odd+000000+reply: (Ok(()), Reading, None, 2)
 odd+reply: (Err(Fault(EnvelopeLengthPast { length: 33559552, got: 29 })), Failed, None, 1)";
 
-/// What a reader tells of these datagrams.
+/// The result of the last `feed`, the state, the error number, and the number of messages of a
+/// `DumpReader`.
 type Told = (Result<(), DumpError>, DumpState, Option<i32>, usize);
 
 fn fed(rt: &impl Abort, alloc: Global, datagrams: &str) -> Told {
@@ -130,8 +131,8 @@ fn dumps_are_read(rt: HostRuntime) {
     }
 }
 
-/// Datagrams, the answer of a `LossyDump` to the last one, how far the dump is then, the number
-/// that its end tells, and the fault of each entry, or none.
+/// In each row: datagrams, and what a `LossyDump` reports after the last one: the result of the
+/// last `feed`, the state, the error number, and the error of each entry, or `None`.
 const LOSSY_DUMPS: &str = "reply unknown+reply: (Ok(()), Reading, None, [None, \
 Some(UnknownMessageType { message_type: 21 }), None])
 2000000014000200070000000000000011010a000e4f0000a002000000000000 noop+reply+done: (Ok(()), Done, \
@@ -174,7 +175,7 @@ fn dumps_go_past_refused_replies(rt: HostRuntime) {
     }
 }
 
-// Over a megabyte in a datagram.
+// A datagram of more than a megabyte.
 #[test]
 fn a_long_dump_keeps_all(rt: HostRuntime) {
     let many = datagram(&rt, rt.alloc(), "reply")
@@ -186,7 +187,7 @@ fn a_long_dump_keeps_all(rt: HostRuntime) {
     assert!(rt; reader.messages().len() == 100_000 && reader.state() == DumpState::Reading);
 }
 
-/// A datagram, and the answers of the walk over it.
+/// In each row: a datagram, and the items that `DumpViews` yields.
 const WALKS: &str = "reply: [Ok(InnerMessage(UnixResponse(UnixResponseView { bytes: [1, 1, 10, \
 0, 14, 79, 0, 0, 160, 2, 0, 0, 0, 0, 0, 0], count: 0 })))]
 noop+reply+done+reply: [Ok(Noop), Ok(InnerMessage(UnixResponse(UnixResponseView { bytes: [1, 1, \

@@ -1,4 +1,4 @@
--- Attributes of replies are equal where their models are.
+-- `==` of attributes is true if and only if their models are equal.
 use Rattle.std.proofs.Common.{arith}
 use Rattle.std.proofs.Common.{◌≡◌, ◌↔◌, ℕ, List, Bool, eqb, IsTrue, rules}
 use mathlib.Core.Bool.{beq}
@@ -24,7 +24,7 @@ use Rattle.sock_diag_attributes.specs.contracts.inet.nlas.InetNlaPartialEq.TheIm
 pub truth : (a b : Bool) → IsTrue (beq a b) ↔ (a ≡ b)
 truth a b = search rules
 
--- the test of each type's values
+-- a test for the values of each type
 abbrev pub inet_tests : Tests inet
 inet_tests =
     (legacy.eq, exact_legacy.0) ⊕ (tcp.eq, exact_tcp.0) ⊕ (pointwise eqb, bytes_decides)
@@ -32,12 +32,13 @@ inet_tests =
     ⊕ (memory.eq, exact_memory.0) ⊕ number_test ⊕ number_test ⊕ (beq, truth) ⊕ number_test
     ⊕ number_test ⊕ tt
 
--- over what a text and an attribute of another type lend, by which they are compared
+-- over the types of texts and raw attributes, whose `==` compares the bytes and attributes that
+-- `text` and `other` return
 module _ (T O : RattleType) (t : Ghosts T.Denot) (o : Ghosts O.Denot) (text : T.Denot → List ℕ)
     (other : O.Denot → Attribute)
     (texts : (a b : T.Denot) → t.eq a b ≡ pointwise eqb (text a) (text b)) (others : (a b : O.Denot)
     → o.eq a b ≡ attribute_test (other a) (other b)) where
-  -- the third clause splits w, so that the last stands for each other pair of variants
+  -- `==` of two attributes is the test of their models
   pub tests : (v w : InetNla T.Denot O.Denot) → (ghosts T O t (given 0) o (given 0)).eq v w
       ≡ value_test inet inet_tests (model text other v) (model text other w)
   tests v w =

@@ -1,4 +1,4 @@
--- Names of UNIX sockets are equal where their models are.
+-- `==` of names of UNIX sockets is true if and only if their models are equal.
 use Rattle.std.proofs.Common.{arith}
 use Rattle.std.proofs.Common.{◌≡◌, ◌↔◌, ℕ, List, Bool, false, eqb, IsTrue, ap}
 use mir.Syntax.{given}
@@ -23,7 +23,7 @@ name_test_decides (Abstract x) (Abstract y) =
     (λ h. ap Abstract ((bytes_decides x y).0 h), λ e. (bytes_decides x y).1 cc)
 name_test_decides n m = apart (λ e. cc)
 
--- over what holds the bytes, by which names are compared
+-- over the type that holds the bytes, whose `==` compares the bytes
 module _ (B : RattleType) (b : Ghosts B.Denot) (held : B.Denot → List ℕ)
     (same : (x y : B.Denot) → b.eq x y ≡ pointwise eqb (held x) (held y)) where
   pub same_names : (v w : SocketName B.Denot)

@@ -1,4 +1,4 @@
--- Attributes of replies are equal where their models are.
+-- `==` of attributes is true if and only if their models are equal.
 use Rattle.std.proofs.Common.{arith}
 use Rattle.std.proofs.Common.{◌≡◌, ◌↔◌, ℕ, List, ◌&&◌, Bool, eqb, IsTrue, ap, rules}
 use mir.Syntax.{given}
@@ -32,7 +32,7 @@ two_test a b = eqb a.0 b.0 && eqb a.1 b.1
 pub two_test_decides : (a b : ℕ × ℕ) → IsTrue (two_test a b) ↔ (a ≡ b)
 two_test_decides a b = (λ h. search rules, λ e. search rules)
 
--- the test of each type's values
+-- a test for the values of each type
 abbrev pub unix_tests : Tests unix
 unix_tests =
     (name_test, name_test_decides) ⊕ (vfs.eq, exact_vfs.0) ⊕ number_test
@@ -52,13 +52,14 @@ pub list_views_model : (v w : NumbersView)
     (numbers_view_model w)
 list_views_model v w = same_test _ _ (number_views_equal v w) (bytes_decides _ _)
 
--- over what a name, a list and an attribute of another type lend, by which they are compared
+-- over the types of names, lists and raw attributes, whose `==` compares what `name`, `list` and
+-- `other` return
 module _ (N L O : RattleType) (n : Ghosts N.Denot) (l : Ghosts L.Denot) (o : Ghosts O.Denot)
     (name : N.Denot → SocketName (List ℕ)) (list : L.Denot → List ℕ) (other : O.Denot → Attribute)
     (names : (a b : N.Denot) → n.eq a b ≡ name_test (name a) (name b)) (lists : (a b : L.Denot)
     → l.eq a b ≡ pointwise eqb (list a) (list b))
     (others : (a b : O.Denot) → o.eq a b ≡ attribute_test (other a) (other b)) where
-  -- the fourth clause splits w, so that the last stands for each other pair of variants
+  -- `==` of two attributes is the test of their models
   pub tests : (v w : UnixNla N.Denot L.Denot O.Denot)
       → (ghosts N L O n (given 0) l (given 0) o (given 0)).eq v w ≡ value_test unix unix_tests
       (model name list other v) (model name list other w)

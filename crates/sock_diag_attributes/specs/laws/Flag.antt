@@ -1,4 +1,4 @@
--- The laws of a byte that says yes or no.
+-- The codec laws of a boolean in one byte.
 use Rattle.std.proofs.Common.{◌≡◌, ◌↔◌, ℕ, []}
 use Rattle.std.proofs.Common.{slice_index, arith}
 use Rattle.std.specs.Prelude.{not, ◌==◌}
@@ -7,11 +7,11 @@ use Rattle.netlink_core.specs.Codec.{KeepsLaws, as_codec}
 use Rattle.netlink_core.specs.laws.Prefix.{value_or_reason}
 use Rattle.sock_diag_attributes.specs.Flag.{flag_value}
 
--- two numbers say the same exactly where both are zero or both are not
+-- two bytes are the same boolean if and only if both are zero or neither is zero
 truth_decides : (m n : ℕ) → (not (m == 0) ≡ not (n == 0)) ↔ ((m ≡ 0) ↔ (n ≡ 0))
 truth_decides m n = (λ e. (λ z. grind arith, λ z. grind arith), λ h. grind arith)
 
--- a flag keeps the laws
+-- a flag satisfies the codec laws
 pub flag_laws : (k : ℕ) → KeepsLaws (as_codec (flag_value k))
 flag_laws k = record {
   answered = λ b p in_range. value_or_reason ((flag_value k).reads tt b);

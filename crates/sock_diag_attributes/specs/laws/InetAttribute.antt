@@ -1,4 +1,4 @@
--- The laws of the attributes of replies about IPv4 and IPv6 sockets.
+-- The codec laws of the attributes of replies about IPv4 and IPv6 sockets.
 use Rattle.std.proofs.Common.{refl}
 use Rattle.netlink_core.specs.laws.Shown.{AttributeSetLaws}
 use Rattle.netlink_core.proofs.AttributeTypeLaws.{◌⊕◌, spec_laws, memory_spec_laws, number_laws}

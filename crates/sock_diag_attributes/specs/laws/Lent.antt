@@ -1,5 +1,5 @@
--- The types of what attributes hold, as the logic has them. Of these a law of `==` takes the values
--- alone, so any lifetime will do.
+-- The Rust types of the parts of attributes, as the logic represents them. Laws about `==` use only
+-- the values, so that any lifetime can be chosen.
 use Rattle.std.specs.Prelude.{[]}
 use Rattle.std.specs.Borrow.{RattleType, u8, u32}
 use mir.Syntax.{named}

@@ -1,4 +1,4 @@
--- The laws of the name of a UNIX socket.
+-- The codec laws of the name of a UNIX socket.
 use Rattle.std.proofs.lemmas.Grind.{common_steps}
 use Rattle.netlink_core.specs.Codec.{KeepsLaws, as_codec}
 use Rattle.netlink_core.proofs.AttributeTypeLaws.{exact_laws}
@@ -29,16 +29,16 @@ use Rattle.sock_diag_attributes.specs.Name.{name_bytes}
 use Rattle.sock_diag_attributes.specs.Name.{IsNormalName, read_name}
 use Rattle.sock_diag_attributes.specs.Name.{name_codec}
 
--- no byte is a zero
+-- no byte is zero
 abbrev pub HasNoZero : List ℕ → Type 0
 HasNoZero bytes = All (λ byte. byte ≢ 0) bytes
 
--- no fault of a name is want of memory
+-- no error of a name is `Memory`
 name_named : (x : List ℕ) → read_name x ≡ Err Memory → ⊥
 name_named x h =
     grind arith
 
--- a name that was read is written as its string, and is in normal form
+-- a parsed name serializes to the bytes that it was parsed from, and is in normal form
 name_exact : (x : List ℕ) (u : SocketName (List ℕ)) → read_name x ≡ Ok u → (x ≡ name_bytes u)
     × IsNormalName u
 name_exact (suc n ∷ xs) u h =
@@ -61,14 +61,14 @@ name_exact (suc n ∷ xs) u h =
     )
 name_exact x u h = grind arith
 
--- the path in bytes, by the place of their first zero
+-- the path in the bytes, by the index of the first zero byte
 abbrev path_at : List ℕ → ℕ → Result (SocketName (List ℕ)) DecodeError
 path_at bytes i =
     if i + 1 == length bytes then Ok (Pathname (take i bytes))
     else Err (if i == length bytes then NameWithoutEnd else NameInnerZero i)
 
--- a name that does not begin with a zero, by what stands in front of its first one, which is all of
--- it where there is none
+-- a name whose first byte is not zero, by the bytes before its first zero byte; these are all of
+-- the bytes if there is none
 first_zero : (bytes front rest : List ℕ) → bytes ≡ front ++ rest → get_or bytes 0 0 ≢ 0
     → HasNoZero front → get_or rest 0 0 ≡ 0 → read_name bytes
     ≡ path_at bytes (length front)
@@ -79,8 +79,8 @@ first_zero (suc n ∷ xs) front rest parts first none here =
     (λ l. grind (arith, parts, get_or-append-add front rest 0 0, here))) refl
 first_zero _ front rest parts first none here = absurd (first refl)
 
--- The three answers to such a name, by its last byte and what stands in front of it: a zero there,
--- none and a zero in the last place, and none at all.
+-- The three results for such a name, by its last byte and the bytes before it: a zero byte before
+-- the last byte, a zero byte only at the end, and no zero byte.
 pub reads_inner_zero : (bytes path : List ℕ) (last i : ℕ) → bytes ≡ path ++ last ∷ []
     → get_or bytes 0 0 ≢ 0 → i < length path → get_or path i 0 ≡ 0 → HasNoZero (take i path)
     → read_name bytes ≡ Err (NameInnerZero i)
@@ -101,28 +101,27 @@ reads_no_end bytes path last parts first some none =
     first_zero bytes bytes [] (sym (append-nil bytes)) first
     (rw parts (All-push (λ b. b ≢ 0) path last none some)) refl ∙ grind arith
 
--- a name in normal form reads back
+-- a name in normal form round-trips
 name_reads_back : (u : SocketName (List ℕ)) → IsNormalName u → read_name (name_bytes u) ≡ Ok u
 name_reads_back u good =
     grind (arith, common_steps, reads_path)
 
--- an accepted name that is not empty, of which the first byte is no zero: nothing else needs a look
+-- an accepted name whose first byte is not zero is the path before its last byte
 pub known_path : (bytes path : List ℕ) (last : ℕ) → bytes ≡ path ++ last ∷ [] → get_or bytes 0 0 ≢ 0
     → IsOk (read_name bytes) → read_name bytes ≡ Ok (Pathname path)
 known_path bytes path last parts first ok =
     grind (arith, length-append path (last ∷ []), take-append_seam path (last ∷ []))
 
--- bytes and an end zero are bytes
+-- a path with a zero byte after it consists of bytes
 pub path_bytes_in_range : (path : List ℕ) → IsBytes path → IsBytes (path ++ 0 ∷ [])
 path_bytes_in_range path in_range =
     IsBytes-append path (0 ∷ []) in_range (IsBytes-cons 0 [] (omega arith) IsBytes-nil)
 
--- and a zero in front of bytes
+-- an address with a zero byte before it consists of bytes
 pub address_bytes_in_range : (address : List ℕ) → IsBytes address → IsBytes (0 ∷ address)
 address_bytes_in_range address in_range = IsBytes-cons 0 address (omega arith) in_range
 
--- a name as the value of an attribute: its reader, its bytes, equal strings alone being idle, and
--- its normal form
+-- a name as the value of an attribute satisfies the codec laws; only equal values are equivalent
 pub name_laws : KeepsLaws (as_codec name_value)
 name_laws = exact_laws read_name name_bytes (λ u. IsBytes (name_bytes u)) IsNormalName name_named
     (λ x u in_range h. let exact = name_exact x u h in
@@ -130,7 +129,7 @@ name_laws = exact_laws read_name name_bytes (λ u. IsBytes (name_bytes u)) IsNor
     (λ u in_range. in_range)
     (λ u in_range normal. name_reads_back u normal)
 
--- and by itself
+-- a name by itself satisfies the codec laws
 pub name_keeps_laws : KeepsLaws name_codec
 name_keeps_laws = record {
   answered = name_laws.answered;

@@ -1,4 +1,4 @@
--- The laws of numbers that fill the value of an attribute.
+-- The codec laws of numbers that make up the complete value of an attribute.
 use Rattle.std.proofs.lemmas.Grind.{common_steps}
 use Rattle.std.proofs.Common.{Some, Ok, ◌≡◌, ◌∙◌, ℕ, suc, ◌+◌, ◌*◌, ◌/◌, ◌%◌}
 use Rattle.std.proofs.Common.{◌≤◌, ◌<◌, ◌^◌, List, [], ◌∷◌, ◌++◌, length, take, drop, refl, sym}
@@ -19,7 +19,7 @@ use Rattle.netlink_core.specs.Codec.{KeepsLaws, as_codec}
 use Rattle.std.specs.Prelude.{⊤, slice_index, flat_map}
 use Rattle.sock_diag_attributes.specs.Numbers.{numbers_in, two_value, numbers_value}
 
--- the bytes of the number in a string of that width
+-- bytes of this length are the little-endian bytes of their number
 number_exact : (width : ℕ) (x : List ℕ) → IsBytes x → length x ≡ width
     → x ≡ little_bytes width (little_number width x)
 number_exact width x in_range long =
@@ -29,7 +29,8 @@ number_exact width x in_range long =
     (sym (rw append-nil at (little_number-reads_back width n []
     (little_from-lt 0 width x in_range))))
 
--- the first of the numbers in bytes, and those behind it
+-- fewer than four bytes contain no number; other bytes contain a first number, and the numbers
+-- after it
 pub numbers_in_none : (x : List ℕ) → length x < 4 → numbers_in x ≡ []
 numbers_in_none x short =
     grind arith
@@ -39,7 +40,7 @@ pub numbers_in_first : (x : List ℕ) → 4 ≤ length x → numbers_in x ≡ li
 numbers_in_first x long =
     grind arith
 
--- bytes whose number is a multiple of four are numbers
+-- bytes whose length is a multiple of four are the little-endian bytes of their numbers
 pub whole : (x : List ℕ) → IsBytes x → length x % 4 ≡ 0
     → (x ≡ flat_map (little_bytes 4) (numbers_in x))
     × AllByRecursion (λ n. n < 2 ^ 32) (numbers_in x)
@@ -53,28 +54,28 @@ whole (a ∷ b ∷ c ∷ d ∷ rest) in_range four =
     )
 whole _ in_range four = absurd (omega (arith, four))
 
--- numbers that are below a bound place by place
+-- a bound on the number at each index is a bound on each number
 pub each_below : (bound : ℕ) (u : List ℕ) → ((i : ℕ) → slice_index u i < bound)
     → AllByRecursion (λ n. n < bound) u
 each_below bound [] below = tt
 each_below bound (n ∷ u) below = (below 0, each_below bound u (λ i. below (suc i)))
 
--- four bytes each
+-- the length of numbers in bytes, four for each number
 pub length_numbers : (u : List ℕ) → length (flat_map (little_bytes 4) u) ≡ 4 * length u
 length_numbers [] = refl
 length_numbers (n ∷ u) = omega (arith, length_numbers u)
 
--- bytes in front that have room for all
+-- the prefix of bytes that are long enough has the length of the numbers
 pub front_of : (u bytes : List ℕ) → length (flat_map (little_bytes 4) u) ≤ length bytes
     → length (take (4 * length u) bytes) ≡ 4 * length u
 front_of u bytes room = length-take-le _ bytes (omega (arith, length_numbers u))
 
--- no bytes are those of no numbers
+-- numbers that have no bytes are no numbers
 pub no_numbers : (u : List ℕ) → flat_map (little_bytes 4) u ≡ [] → u ≡ []
 no_numbers [] none = refl
 no_numbers (n ∷ u) none = absurd cc
 
--- the numbers in the bytes of numbers
+-- the numbers in the bytes of numbers are these numbers
 back : (u : List ℕ) → AllByRecursion (λ n. n < 2 ^ 32) u
     → numbers_in (flat_map (little_bytes 4) u) ≡ u
 back [] fit = refl
@@ -86,13 +87,13 @@ back (n ∷ u) fit =
       back u fit.1,
     )
 
--- their bytes are bytes
+-- the bytes of numbers are bytes
 pub numbers_in_range : (u : List ℕ) → IsBytes (flat_map (little_bytes 4) u)
 numbers_in_range [] = IsBytes-nil
 numbers_in_range (n ∷ u) =
     grind (arith, flat_map (little_bytes 4) u, numbers_in_range u)
 
--- both keep the laws of the value of an attribute
+-- both kinds of values satisfy the codec laws
 pub numbers_laws : KeepsLaws (as_codec numbers_value)
 numbers_laws =
     grind (
@@ -121,14 +122,14 @@ two_laws k = exact_laws ((two_value k).reads tt) (two_value k).bytes
       little_number-reads_back 4 u.1 [] fits.1 i,
     ))
 
--- ---- numbers in place
+-- ---- borrowed numbers
 
--- how many there are
+-- the count of the numbers
 pub how_many : (x : List ℕ) → length (numbers_in x) ≡ length x / 4
 how_many (a ∷ b ∷ c ∷ d ∷ rest) = omega (arith, how_many rest)
 how_many _ = refl
 
--- the one at a place, and none past the last
+-- the number at an index within the bounds
 pub number_at : (x : List ℕ) (i : ℕ) → 4 * i + 4 ≤ length x
     → slice_get (numbers_in x) i ≡ Some (little_number 4 (drop (4 * i) x))
 number_at (a ∷ b ∷ c ∷ d ∷ rest) (suc i) long =
@@ -136,14 +137,14 @@ number_at (a ∷ b ∷ c ∷ d ∷ rest) (suc i) long =
     rw next (number_at rest i (omega arith))
 number_at x i long = grind arith
 
--- numbers that were read place by place
+-- numbers that were read one by one are the numbers in the bytes
 pub places : (x u : List ℕ) → length x ≡ 4 * length u → IsRead little_number 4 x u
     → numbers_in x ≡ u
 places x u long each = same_number_lists (numbers_in x) u (omega (arith, how_many x))
     (λ k l. get_or_from_slice_get _ k _ 0 (number_at x k (omega (arith, how_many x, l)))
     ∙ sym (each k (omega (arith, how_many x, l))))
 
--- equal numbers stand in equal bytes
+-- equal numbers are in equal bytes
 pub numbers_in_same : (x y : List ℕ) → IsBytes x → IsBytes y → length x % 4 ≡ 0 → length y % 4 ≡ 0
     → numbers_in x ≡ numbers_in y → x ≡ y
 numbers_in_same x y tx ty wx wy e = cc ((whole x tx wx).0, (whole y ty wy).0)

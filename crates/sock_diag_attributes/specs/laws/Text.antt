@@ -1,4 +1,4 @@
--- The laws of a text as the value of an attribute.
+-- The codec laws of a text as the value of an attribute.
 use Rattle.std.proofs.Common.{Ok, ◌≡◌, ◌↔◌, inl, inr, ℕ, List, [], ◌∷◌, ◌++◌}
 use Rattle.std.proofs.Common.{length, ap, sym, subst, arith}
 use Rattle.std.specs.Prelude.{IsUtf8}
@@ -12,7 +12,7 @@ use Rattle.netlink_core.specs.laws.Prefix.{value_or_reason}
 use Rattle.netlink_core.proofs.Texts.{end_zero, kept_or_ends, text_there}
 use Rattle.sock_diag_attributes.specs.Text.{text_value}
 
--- not both
+-- bytes do not end in a zero byte if and only if removing a terminating NUL changes nothing
 all_kept : (s : List ℕ) → ¬ ((front : List ℕ) × (s ≡ front ++ 0 ∷ [])) ↔ (without_end_zero s ≡ s)
 all_kept s = (
   λ none. elim (kept_or_ends s) [ inl e ↦ absurd (none (_, e)) | inr e ↦ e ],
@@ -21,18 +21,18 @@ all_kept s = (
       omega (arith, ap length front, ap length ends.1, length-append ends.0 (0 ∷ [])),
 )
 
--- what is kept of two strings is equal exactly where they are idle
+-- two values have equal texts if and only if they are equivalent
 idle_where_kept : (b c : List ℕ) → (without_end_zero b ≡ without_end_zero c)
     ↔ text_value.idle tt b c
 idle_where_kept b c =
     grind (arith, kept_or_ends b, kept_or_ends c, all_kept b, all_kept c, end_zero b, end_zero c)
 
--- what was read is what is kept, which is UTF-8
+-- a parsed text is the value without a terminating NUL, and is UTF-8
 text_is : (b v : List ℕ) → text_in b ≡ Ok v → (without_end_zero b ≡ v) × IsUtf8 (without_end_zero b)
 text_is b v h =
     grind (arith, IsUtf8-from_is_utf8)
 
--- what is kept of bytes is bytes
+-- bytes without their terminating NUL are bytes
 kept_in_range : (b : List ℕ) → IsBytes b → IsBytes (without_end_zero b)
 kept_in_range b in_range =
     elim (kept_or_ends b) [
@@ -40,7 +40,7 @@ kept_in_range b in_range =
       | inr e ↦ rw e in_range
     ]
 
--- a text keeps the laws
+-- a text satisfies the codec laws
 pub text_laws : KeepsLaws (as_codec text_value)
 text_laws = record {
   answered = λ b p in_range. value_or_reason (text_in b);

@@ -1,4 +1,4 @@
--- The laws of the attributes of replies about UNIX sockets.
+-- The codec laws of the attributes of replies about UNIX sockets.
 use Rattle.std.proofs.Common.{refl}
 use Rattle.netlink_core.specs.laws.Shown.{AttributeSetLaws}
 use Rattle.netlink_core.proofs.AttributeTypeLaws.{◌⊕◌, spec_laws, memory_spec_laws, number_laws}

@@ -1,4 +1,4 @@
--- What the value of an attribute is made of, whatever type it is of.
+-- The value of an attribute, whatever its kind.
 use Rattle.std.specs.Prelude.{ℕ, ◌<◌, ◌^◌, List, [], ◌∷◌, ◌++◌, flat_map, IsUtf8}
 use Rattle.std.specs.List.{AllByRecursion}
 use Rattle.byteorder.specs.Endian.{little_bytes}
@@ -14,7 +14,7 @@ use Rattle.sock_diag_attributes.specs.NameModel.{name_of}
 use Rattle.sock_diag_attributes.specs.declared.value.Value.{Value}
 use Rattle.sock_diag_attributes.specs.declared.value.Value.TheVariants as value
 
--- the bytes that it is written as
+-- the bytes that the value serializes to
 abbrev pub value_bytes : Value → List ℕ
 value_bytes (value.Byte n) = little_bytes 1 n
 value_bytes (value.Word n) = little_bytes 4 n
@@ -29,7 +29,7 @@ value_bytes (value.UnixMemInfo m) = bytes unix_mem_info m.now
 value_bytes (value.Vfs v) = bytes vfs v.now
 value_bytes (value.Bytes b) = b.now
 
--- each number is within its type, and a text is UTF-8
+-- each number fits its type, and a text is UTF-8
 abbrev pub IsValueInRange : Value → Type 0
 IsValueInRange (value.Byte n) = n < 256
 IsValueInRange (value.Word n) = n < 256 ^ 4

@@ -1,4 +1,4 @@
-//! How an attribute stands in bytes.
+//! The codec of one attribute of a reply about an IPv4 or IPv6 socket.
 
 ghost use Rattle.std.specs.Prelude.{refl, string_bytes};
 ghost use Rattle.netlink_core.specs.DefaultNla.{kept_attribute};

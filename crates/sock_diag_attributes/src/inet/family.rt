@@ -1,4 +1,4 @@
-//! The attributes of replies about IPv4 and IPv6 sockets, as those of one set.
+//! The attribute set of replies about IPv4 and IPv6 sockets.
 
 ghost use Rattle.std.specs.Prelude.{refl};
 ghost use Rattle.sock_diag_attributes.specs.InetAttributes.{inet};

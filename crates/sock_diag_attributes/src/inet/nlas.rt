@@ -1,4 +1,4 @@
-//! The attributes of a reply about an IPv4 or IPv6 socket, and what they carry.
+//! The attributes of a reply about an IPv4 or IPv6 socket, and the types of their values.
 
 ghost use Rattle.std.specs.Prelude.{◌≡◌, [], Ok, Err, IsOk, IfOk, MatchResult, true};
 ghost use Rattle.netlink_core.specs.Attribute.{HasFittingValue, written};
@@ -23,42 +23,43 @@ use std::alloc::{AllocError, Global};
 use std::convert::AsStr;
 use std::default::MadeWith;
 
-/// One attribute of a reply about an IPv4 or IPv6 socket, whose text is a `T` and which is an `O`
-/// where it is of another kind.
+/// An attribute of a reply about an IPv4 or IPv6 socket. `T` is the type of a text, and `O` the
+/// type of an attribute of another kind.
 #[derive(Clone, Debug, Drop, PartialEq, Eq)]
 pub enum InetNla<T, O> {
-    /// The memory of the socket, as older kernels tell it, `INET_DIAG_MEMINFO`.
+    /// Socket memory in the format of old kernels (`INET_DIAG_MEMINFO`).
     LegacyMemInfo(LegacyMemInfo),
-    /// What is known of the TCP connection, `INET_DIAG_INFO`.
+    /// Information about the TCP connection (`INET_DIAG_INFO`).
     TcpInfo(TcpInfo),
-    /// The name of the congestion control algorithm, `INET_DIAG_CONG`. It is written with an end
-    /// zero.
+    /// Name of the congestion control algorithm (`INET_DIAG_CONG`). It is serialized with a
+    /// terminating NUL.
     Congestion(T),
-    /// The type of service, `INET_DIAG_TOS`.
+    /// Type of service (`INET_DIAG_TOS`).
     Tos(u8),
-    /// The traffic class of an IPv6 socket, `INET_DIAG_TCLASS`.
+    /// Traffic class of an IPv6 socket (`INET_DIAG_TCLASS`).
     Tc(u8),
-    /// The memory of the socket, `INET_DIAG_SKMEMINFO`.
+    /// Socket memory (`INET_DIAG_SKMEMINFO`).
     MemInfo(MemInfo),
-    /// Which directions are shut down, `INET_DIAG_SHUTDOWN`, as the kernel tells them.
+    /// Directions that are shut down (`INET_DIAG_SHUTDOWN`), as the kernel reports them: 1 for
+    /// receiving, 2 for sending, 3 for both.
     Shutdown(u8),
-    /// The protocol, `IPPROTO_..`, `INET_DIAG_PROTOCOL`.
+    /// Protocol, `IPPROTO_..` (`INET_DIAG_PROTOCOL`).
     Protocol(u8),
-    /// Whether the socket is for IPv6 alone, `INET_DIAG_SKV6ONLY`.
+    /// Whether the socket is restricted to IPv6 (`INET_DIAG_SKV6ONLY`).
     SkV6Only(bool),
-    /// The mark of the socket, `INET_DIAG_MARK`.
+    /// Mark of the socket (`INET_DIAG_MARK`).
     Mark(u32),
-    /// The class of the socket's packets for traffic control, `INET_DIAG_CLASS_ID`.
+    /// Traffic control class of the packets of the socket (`INET_DIAG_CLASS_ID`).
     ClassId(u32),
-    /// An attribute of another kind, with its whole type word.
+    /// An attribute of another kind, raw, with its complete type field (`nla_type`).
     Other(O),
 }
 
-/// One attribute of a reply about an IPv4 or IPv6 socket.
+/// An attribute of a reply about an IPv4 or IPv6 socket, owned.
 pub type Nla = InetNla<String, DefaultNla>;
 
-/// One attribute of a reply about an IPv4 or IPv6 socket, read in place: an [`Nla`] whose text and
-/// bytes are borrowed.
+/// An attribute of a reply about an IPv4 or IPv6 socket, borrowed: an [`Nla`] whose text and bytes
+/// are borrowed.
 pub type NlaView<'a> = InetNla<&'a str, NlaBuffer<'a>>;
 
 impl Readable for Nla {
@@ -89,8 +90,8 @@ impl<T: AsStr, O: OtherNla> Emitable for InetNla<T, O> {
     }
 }
 
-// Fills the unused slots of a `SmallVec`. All of it is zeros, as fresh memory is, so filling costs
-// nothing.
+// Fills the unused slots of a `SmallVec`. The value is all zeros, like fresh memory, so that
+// filling costs nothing.
 impl MadeWith<Global> for Nla {
     ghost use Rattle.sock_diag_attributes.specs.declared.inet.nlas.InetNla.TheVariants as variants;
 
@@ -116,8 +117,8 @@ impl Nla {
     ghost use Rattle.sock_diag_attributes.specs.InetAttributes.{inet};
     ghost use Rattle.sock_diag_attributes.specs.InetModel.{nla_model};
 
-    /// An equal attribute. It fails only for want of memory, which only a text, and an attribute of
-    /// another type that has bytes, need.
+    /// Returns an equal attribute. Fails only if an allocation fails. Only a text, and an attribute
+    /// of another kind whose value is not empty, need an allocation.
     pub fn clone(&self, alloc: Global) -> Result<Self, AllocError>
         ensures equal { IfOk result (λ copy. nla_model copy ≡ nla_model self.now) }
         ensures spare { IsSpareBy inet (nla_model self.now) → IsOk result }
@@ -131,7 +132,7 @@ impl<T: AsStr, O: OtherNla> InetNla<T, O> {
     ghost use Rattle.sock_diag_attributes.specs.InetAttributes.{inet};
     ghost use Rattle.sock_diag_attributes.specs.InetModel.{model, nla_model};
 
-    // The attribute with a text and bytes of its own.
+    // Returns the attribute with an owned text and owned bytes.
     #[inline(always)]
     fn owned(&self, alloc: Global) -> Result<Nla, AllocError>
         ensures equal { IfOk result (λ nla. nla_model nla ≡ model T.text O.attribute self.now) }
@@ -158,7 +159,7 @@ impl<T: AsStr, O: OtherNla> InetNla<T, O> {
         })
     }
 
-    // The kind and the value.
+    // Returns the type field and the value.
     #[inline(always)]
     pub(super) fn parts(&self) -> (u16, Value<'_>)
         ensures kind { result.0
@@ -189,8 +190,8 @@ impl<'a> NlaView<'a> {
     ghost use Rattle.sock_diag_attributes.specs.InetAttributes.{inet};
     ghost use Rattle.sock_diag_attributes.specs.InetModel.{nla_model, nla_view_model};
 
-    /// Reads the value by the attribute's kind, whatever its flag bits. An attribute of a kind that
-    /// is not known here is `Other`.
+    /// Parses the value by the kind of the attribute, whatever its flag bits. An attribute of an
+    /// unknown kind is returned as `Other`.
     #[inline(always)]
     pub fn parse(nla: &NlaBuffer<'a>) -> Result<NlaView<'a>, DecodeError>
         ensures { MatchResult result
@@ -214,7 +215,7 @@ impl<'a> NlaView<'a> {
         })
     }
 
-    /// Reads the value where [`NlaView::parse`] accepts it.
+    /// Parses the value of an attribute that [`NlaView::parse`] accepts.
     #[inline(always)]
     pub fn new(nla: &NlaBuffer<'a>) -> NlaView<'a>
         requires { IsOk (decodes inet (attribute_of nla.now)) }
@@ -226,7 +227,7 @@ impl<'a> NlaView<'a> {
         view
     }
 
-    /// The attribute with a text and bytes of its own. It fails only for want of memory.
+    /// Returns the attribute with an owned text and owned bytes. Fails only if an allocation fails.
     #[inline(always)]
     pub fn to_owned(&self, alloc: Global) -> Result<Nla, AllocError>
         ensures equal { IfOk result (λ nla. nla_model nla ≡ nla_view_model self.now) }
@@ -238,8 +239,8 @@ impl<'a> NlaView<'a> {
 }
 
 impl<'a> Parseable<NlaBuffer<'a>> for Nla {
-    /// Reads the value by the attribute's kind, whatever its flag bits. An attribute of a kind that
-    /// is not known here is kept as it is.
+    /// Parses the value by the kind of the attribute, whatever its flag bits. An attribute of an
+    /// unknown kind is kept raw, as `Other`.
     fn parse(alloc: Global, buf: NlaBuffer<'a>) -> Result<Self, DecodeError> {
         Ok(NlaView::parse(&buf)?.to_owned(alloc)?)
     }

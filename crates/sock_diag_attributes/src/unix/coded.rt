@@ -1,4 +1,4 @@
-//! How an attribute stands in bytes.
+//! The codec of one attribute of a reply about a UNIX socket.
 
 ghost use Rattle.std.specs.Prelude.{refl, vec_items};
 ghost use Rattle.netlink_core.specs.DefaultNla.{kept_attribute};

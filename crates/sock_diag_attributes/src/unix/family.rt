@@ -1,4 +1,4 @@
-//! The attributes of replies about UNIX sockets, as those of one set.
+//! The attribute set of replies about UNIX sockets.
 
 ghost use Rattle.std.specs.Prelude.{refl};
 ghost use Rattle.sock_diag_attributes.specs.UnixAttributes.{unix};

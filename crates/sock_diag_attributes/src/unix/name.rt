@@ -20,13 +20,13 @@ use std::alloc::{AllocError, Global};
 /// only zero.
 #[derive(Copy, Debug, Drop, PartialEq, Eq)]
 pub enum SocketName<B> {
-    /// The path of a file, without the zero at its end. It is written with that zero.
+    /// The path of a file, without its terminating NUL. It is serialized with the NUL.
     Pathname(B),
-    /// The bytes behind the zero that tells an abstract name; zeros may be among them.
+    /// The bytes after the leading zero byte of an abstract name. They may contain zeros.
     Abstract(B),
 }
 
-// By hand: a derived impl would give a name that owns its bytes a `clone` without an allocator.
+// Not derived: a derived impl would give an owned name a `clone` without an allocator.
 impl<B: Copy> Clone for SocketName<B> {
     ghost is_clone = { λ name copy. copy ≡ name };
 
@@ -37,17 +37,17 @@ impl<B: Copy> Clone for SocketName<B> {
     }
 }
 
-/// The name that a UNIX socket is bound to, with bytes of its own.
+/// The name that a UNIX socket is bound to, with owned bytes.
 pub type UnixDiagName = SocketName<Vec<u8>>;
 
-/// The name that a UNIX socket is bound to, read in place: a [`UnixDiagName`] whose bytes are
-/// borrowed.
+/// The name that a UNIX socket is bound to, with borrowed bytes.
 pub type NameView<'a> = SocketName<&'a [u8]>;
 
 impl UnixDiagName {
     ghost use Rattle.sock_diag_attributes.specs.NameModel.{name_of};
 
-    /// An equal name. It fails only for want of memory, which a name of one byte doesn't need.
+    /// Returns an equal name. Fails only if an allocation fails. A name that serializes to one byte
+    /// needs no allocation.
     pub fn clone(&self, alloc: Global) -> Result<Self, AllocError>
         ensures equal { IfOk result (λ name. name_of vec_items name ≡ name_of vec_items self.now) }
         ensures spare { length (name_bytes (name_of vec_items self.now)) ≤ 1 → IsOk result }
@@ -55,7 +55,7 @@ impl UnixDiagName {
         self.view().to_owned(alloc)
     }
 
-    // The same name, its bytes borrowed.
+    // Returns the name with borrowed bytes.
     pub(crate) fn view(&self) -> NameView<'_>
         ensures { name_of (λ b. b.now) result ≡ name_of vec_items self.now }
     {
@@ -69,8 +69,9 @@ impl UnixDiagName {
 impl<'a> NameView<'a> {
     ghost use Rattle.sock_diag_attributes.specs.NameModel.{name_of};
 
-    /// The whole of the bytes as a name. No bytes are `NameEmpty`. Of a path, a first zero before
-    /// the last byte is `NameInnerZero`, and no zero is `NameWithoutEnd`.
+    /// Parses all of the bytes as a name. Returns `NameEmpty` if there are no bytes. For a path,
+    /// returns `NameInnerZero` if the first zero is before the last byte, and `NameWithoutEnd` if
+    /// there is no zero.
     #[inline(always)]
     #[tactic(auto, using(crate::specs::laws::Name::reads_inner_zero, crate::specs::laws::Name::reads_path, crate::specs::laws::Name::reads_no_end))]
     pub fn parse(bytes: &'a [u8]) -> Result<NameView<'a>, DecodeError>
@@ -91,8 +92,8 @@ impl<'a> NameView<'a> {
         }
     }
 
-    /// The whole of the bytes as a name, where [`NameView::parse`] accepts them. They are not
-    /// searched again.
+    /// Returns the name in bytes that [`NameView::parse`] accepts. They are not searched for zeros
+    /// again.
     #[inline(always)]
     #[tactic(auto, using(crate::specs::laws::Name::known_path))]
     pub fn new(bytes: &'a [u8]) -> NameView<'a>
@@ -108,7 +109,7 @@ impl<'a> NameView<'a> {
         NameView::Pathname(path)
     }
 
-    // How many bytes it is written as.
+    // Returns the length of the serialized name in bytes.
     pub(crate) fn len(&self) -> usize
         ensures { result ≡ length (name_bytes (name_of (λ b. b.now) self.now)) }
     {
@@ -118,7 +119,7 @@ impl<'a> NameView<'a> {
         }
     }
 
-    // Writes the name with its zero at the start of the buffer, and leaves the rest.
+    // Writes the name with its zero at the start of `buffer`. The bytes after it are unchanged.
     pub(crate) fn emit_name(&self, buffer: &mut [u8])
         requires { length (name_bytes (name_of (λ b. b.now) self.now)) ≤ length buffer.old }
         ensures { buffer.new ≡ name_bytes (name_of (λ b. b.now) self.now)
@@ -136,7 +137,7 @@ impl<'a> NameView<'a> {
         }
     }
 
-    // Tells the prover that its bytes are bytes. It does nothing.
+    // Proof only: puts the range of the bytes in scope. No run-time effect.
     #[tactic(auto, using(crate::specs::laws::Name::path_bytes_in_range, crate::specs::laws::Name::address_bytes_in_range))]
     pub(crate) fn in_range(&self)
         ensures { IsBytes (name_bytes (name_of (λ b. b.now) self.now)) }
@@ -147,8 +148,8 @@ impl<'a> NameView<'a> {
         }
     }
 
-    /// The name with bytes of its own. It fails only for want of memory, which a name of one byte
-    /// doesn't need.
+    /// Returns the name with owned bytes. Fails only if an allocation fails. A name that serializes
+    /// to one byte needs no allocation.
     pub fn to_owned(&self, alloc: Global) -> Result<UnixDiagName, AllocError>
         ensures equal { IfOk result (λ name.
             name_of vec_items name ≡ name_of (λ b. b.now) self.now) }
@@ -168,8 +169,9 @@ impl Readable for UnixDiagName {
 }
 
 impl<'a> Parseable<&'a [u8]> for UnixDiagName {
-    /// Reads the whole of the bytes as a name. No bytes are `NameEmpty`. Of a path, a first zero
-    /// before the last byte is `NameInnerZero`, and no zero is `NameWithoutEnd`.
+    /// Parses all of the bytes as a name. Returns `NameEmpty` if there are no bytes. For a path,
+    /// returns `NameInnerZero` if the first zero is before the last byte, and `NameWithoutEnd` if
+    /// there is no zero.
     fn parse(alloc: Global, bytes: &'a [u8]) -> Result<Self, DecodeError> {
         Ok(NameView::parse(bytes)?.to_owned(alloc)?)
     }
@@ -251,8 +253,8 @@ impl Wire for UnixDiagName {
     ghost fits_is = { λ _. (λ h. h, λ h. h) };
 }
 
-// The place of the first zero. That there is none is usual, and is seen without a look at each byte
-// by itself.
+// Returns the index of the first zero. Usually there is none, which `contains` finds out faster
+// than a search byte by byte.
 fn first_zero(bytes: &[u8]) -> Option<usize>
     ensures { MatchOption result (HasNoZero bytes.now) (λ index.
         (index < length bytes.now) × (slice_index bytes.now index ≡ 0)

@@ -1,4 +1,4 @@
-//! The attributes of a reply about a UNIX socket, and what they carry.
+//! The attributes of a reply about a UNIX socket, and the types of their values.
 
 ghost use Rattle.std.specs.Prelude.{◌≡◌, [], Ok, Err, IsOk, IfOk, MatchResult, true};
 ghost use Rattle.netlink_core.specs.Attribute.{HasFittingValue, written};
@@ -21,36 +21,39 @@ pub use sock_diag_records::unix::nlas::{MemInfo, MemInfoBuffer, Vfs, VfsBuffer};
 use std::alloc::{AllocError, Global};
 use std::default::MadeWith;
 
-/// One attribute of a reply about a UNIX socket, whose name is an `N`, whose list of inodes is an
-/// `L`, and which is an `O` where it is of another kind.
+/// An attribute of a reply about a UNIX socket. `N` is the type of a name, `L` of a list of inodes,
+/// and `O` of an attribute of another kind.
 #[derive(Clone, Debug, Drop, PartialEq, Eq)]
 pub enum UnixNla<N, L, O> {
-    // It stands first, so that what stands in unused places of a small vector is zeros alone.
-    /// The inode of the peer, `UNIX_DIAG_PEER`.
+    // First, so that a `Peer` of inode 0, which fills the unused slots of a `SmallVec`, is all
+    // zeros.
+    /// Inode of the peer (`UNIX_DIAG_PEER`).
     Peer(u32),
-    /// The name that the socket is bound to, `UNIX_DIAG_NAME`.
+    /// Name that the socket is bound to (`UNIX_DIAG_NAME`).
     Name(N),
-    /// The file that the socket is bound to, `UNIX_DIAG_VFS`.
+    /// File that the socket is bound to (`UNIX_DIAG_VFS`).
     Vfs(Vfs),
-    /// The inodes of the sockets that wait to be accepted, `UNIX_DIAG_ICONS`.
+    /// Inodes of the sockets that wait to be accepted (`UNIX_DIAG_ICONS`).
     PendingConnections(L),
-    /// The lengths of the queues, `UNIX_DIAG_RQLEN`. Of a listening socket, how many connections
-    /// wait to be accepted, and how many may wait; of another, how many bytes wait to be read, and
-    /// how many bytes of memory are taken by what was sent and is not yet read.
+    /// Lengths of the queues (`udiag_rqueue` and `udiag_wqueue` of `unix_diag_rqlen`,
+    /// `UNIX_DIAG_RQLEN`). If the socket listens: the number of connections that wait to be
+    /// accepted, and the limit on it. If it does not listen: the number of bytes that wait to be
+    /// read, and the memory in bytes of sent data that was not read yet.
     ReceiveQueueLength(u32, u32),
-    /// The memory of the socket, `UNIX_DIAG_MEMINFO`.
+    /// Socket memory (`UNIX_DIAG_MEMINFO`).
     MemInfo(MemInfo),
-    /// Which directions are shut down, `UNIX_DIAG_SHUTDOWN`, as the kernel tells them.
+    /// Directions that are shut down (`UNIX_DIAG_SHUTDOWN`), as the kernel reports them: 1 for
+    /// receiving, 2 for sending, 3 for both.
     Shutdown(u8),
-    /// An attribute of another kind, with its whole type word.
+    /// An attribute of another kind, raw, with its complete type field (`nla_type`).
     Other(O),
 }
 
-/// One attribute of a reply about a UNIX socket.
+/// An attribute of a reply about a UNIX socket, owned.
 pub type Nla = UnixNla<UnixDiagName, Vec<u32>, DefaultNla>;
 
-/// One attribute of a reply about a UNIX socket, read in place: an [`Nla`] whose name, numbers and
-/// bytes are borrowed.
+/// An attribute of a reply about a UNIX socket, borrowed: an [`Nla`] whose name, numbers and bytes
+/// are borrowed.
 pub type NlaView<'a> = UnixNla<NameView<'a>, NumbersView<'a>, NlaBuffer<'a>>;
 
 impl Readable for Nla {
@@ -96,8 +99,8 @@ impl Nla {
     ghost use Rattle.sock_diag_attributes.specs.UnixAttributes.{unix};
     ghost use Rattle.sock_diag_attributes.specs.UnixModel.{nla_model};
 
-    /// An equal attribute. It fails only for want of memory, which only a name, and a list and an
-    /// attribute of another type that aren't empty, need.
+    /// Returns an equal attribute. Fails only if an allocation fails. Only a name, a list that is
+    /// not empty, and an attribute of another kind whose value is not empty, need an allocation.
     pub fn clone(&self, alloc: Global) -> Result<Self, AllocError>
         ensures equal { IfOk result (λ copy. nla_model copy ≡ nla_model self.now) }
         ensures spare { IsSpareBy unix (nla_model self.now) → IsOk result }
@@ -111,7 +114,7 @@ impl<N: LendsName, L: LendsNumbers, O: OtherNla> UnixNla<N, L, O> {
     ghost use Rattle.sock_diag_attributes.specs.UnixAttributes.{unix};
     ghost use Rattle.sock_diag_attributes.specs.UnixModel.{model, nla_model};
 
-    // The attribute with a name, numbers and bytes of its own.
+    // Returns the attribute with an owned name, owned numbers and owned bytes.
     #[inline(always)]
     #[tactic(auto, using(crate::specs::laws::Number::no_numbers))]
     fn owned(&self, alloc: Global) -> Result<Nla, AllocError>
@@ -135,7 +138,7 @@ impl<N: LendsName, L: LendsNumbers, O: OtherNla> UnixNla<N, L, O> {
         })
     }
 
-    // The kind and the value.
+    // Returns the type field and the value.
     #[inline(always)]
     pub(super) fn parts(&self) -> (u16, Value<'_>)
         ensures kind { result.0
@@ -164,8 +167,8 @@ impl<'a> NlaView<'a> {
     ghost use Rattle.sock_diag_attributes.specs.UnixAttributes.{unix};
     ghost use Rattle.sock_diag_attributes.specs.UnixModel.{nla_model, nla_view_model};
 
-    /// Reads the value by the attribute's kind, whatever its flag bits. An attribute of a kind that
-    /// is not known here is `Other`.
+    /// Parses the value by the kind of the attribute, whatever its flag bits. An attribute of an
+    /// unknown kind is returned as `Other`.
     #[inline(always)]
     pub fn parse(nla: &NlaBuffer<'a>) -> Result<NlaView<'a>, DecodeError>
         ensures { MatchResult result
@@ -188,7 +191,8 @@ impl<'a> NlaView<'a> {
         })
     }
 
-    /// Reads the value where [`NlaView::parse`] accepts it. A name is not searched again.
+    /// Parses the value of an attribute that [`NlaView::parse`] accepts. A name is not searched for
+    /// zeros again.
     #[inline(always)]
     pub fn new(nla: &NlaBuffer<'a>) -> NlaView<'a>
         requires { IsOk (decodes unix (attribute_of nla.now)) }
@@ -203,7 +207,8 @@ impl<'a> NlaView<'a> {
         view
     }
 
-    /// The attribute with a name, numbers and bytes of its own. It fails only for want of memory.
+    /// Returns the attribute with an owned name, owned numbers and owned bytes. Fails only if an
+    /// allocation fails.
     #[inline(always)]
     pub fn to_owned(&self, alloc: Global) -> Result<Nla, AllocError>
         ensures equal { IfOk result (λ nla. nla_model nla ≡ nla_view_model self.now) }
@@ -215,8 +220,8 @@ impl<'a> NlaView<'a> {
 }
 
 impl<'a> Parseable<NlaBuffer<'a>> for Nla {
-    /// Reads the value by the attribute's kind, whatever its flag bits. An attribute of a kind that
-    /// is not known here is kept as it is.
+    /// Parses the value by the kind of the attribute, whatever its flag bits. An attribute of an
+    /// unknown kind is kept raw, as `Other`.
     fn parse(alloc: Global, buf: NlaBuffer<'a>) -> Result<Self, DecodeError> {
         Ok(NlaView::parse(&buf)?.to_owned(alloc)?)
     }

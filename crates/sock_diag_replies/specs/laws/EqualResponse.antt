@@ -1,4 +1,4 @@
--- Replies are equal where their models are.
+-- Tests that decide whether two replies, or their models, are equal.
 use Rattle.std.proofs.Common.{arith}
 use Rattle.std.proofs.Common.{◌≡◌, ◌↔◌, ◌&&◌, Bool, true, IsTrue}
 use Rattle.std.proofs.lemmas.List.{map-id}
@@ -10,14 +10,14 @@ use Rattle.netlink_core.specs.Response.{ResponseValue}
 use Rattle.sock_diag_replies.specs.declared.response.Reply.{Reply}
 use Rattle.sock_diag_replies.specs.ResponseModel.{response_model}
 
--- a test of the headers and one of the attributes are one of replies
+-- a test of the headers and a test of the attributes decide together whether two replies are equal
 both_equal : {H V : Type 0} (headers nlas : Bool) (v w : ResponseValue H V)
     → (IsTrue headers ↔ (v.header ≡ w.header)) → (IsTrue nlas ↔ (v.nlas ≡ w.nlas))
     → IsTrue (headers && nlas) ↔ (v ≡ w)
 both_equal {H} {V} headers nlas v w fronts rests =
     grind (arith, and_decides fronts rests)
 
--- replies with memory of their own
+-- `==` of two owned replies decides whether their models are equal
 pub responses_equal : {H A V W : Type 0} {same : H → H → Bool} {test : A → A
     → Bool} (header_model : H → V)
     (model : A → W) → ((h k : H) → IsTrue (same h k) ↔ (header_model h ≡ header_model k))
@@ -27,9 +27,9 @@ pub responses_equal : {H A V W : Type 0} {same : H → H → Bool} {test : A →
 responses_equal header_model model headers attributes v w =
     grind (arith, both_equal, lists_equal)
 
--- over the test of a header and those of the types of a set
+-- over a test of headers and tests of the values of an attribute set
 module _ {H : Type 0} (same : H → H → Bool) (F : AttributeSet) (tests : Tests F) where
-  -- equal headers, and the same attributes
+  -- the headers pass the test, and so do the attributes at each index
   abbrev pub response_test : ResponseValue H (AttributeValue F) → ResponseValue H (AttributeValue F)
       → Bool
   response_test v w = same v.header w.header && pointwise (value_test F tests) v.nlas w.nlas
@@ -48,6 +48,6 @@ module _ {H : Type 0} (same : H → H → Bool) (F : AttributeSet) (tests : Test
         value_test_decides,
       )
 
--- where the headers are equal, the attributes decide
+-- if the test of the headers is true, the test of the attributes decides
 pub then_rest : {t rest result : Bool} → t ≡ true → result ≡ rest → result ≡ (t && rest)
 then_rest {t} {rest} {result} equal same = rw equal same

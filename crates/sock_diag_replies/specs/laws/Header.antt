@@ -1,4 +1,4 @@
--- The laws of replies whose header is a record of one size.
+-- Laws of replies whose header is a record of a fixed size.
 use Rattle.std.proofs.Common.{◌≡◌, ℕ, ◌≤◌, List, ◌++◌, length, Ok, arith}
 use Rattle.netlink_core.specs.Layout.{Layout, read}
 use Rattle.netlink_core.specs.AttributeSet.{AttributeSet}
@@ -10,11 +10,12 @@ use Rattle.netlink_core.proofs.PrefixCodecs.{is_prefix_codec}
 
 module _ {Tag Value : Type 0} (layout : Layout (Unit {0}) Tag Value) {size : ℕ}
     (fixed : IsFixed layout size) where
-  -- a string with a header has all its bytes
+  -- bytes with a valid header have at least `size` bytes
   pub enough : (b : List ℕ) (h : Value) → read layout tt b ≡ Ok h → size ≤ length b
   enough b h e = let long = (accepted layout tt b h e).long in omega (arith, long, fixed.0)
 
-  -- of the header, which bytes behind it don't change, and of the attributes
+  -- the laws of a reply, if bytes after the header do not change its tag, and if the attribute set
+  -- satisfies its laws
   pub response_laws : {F : AttributeSet} → IsSound layout
       → ((tag : Tag) (left rest : List ℕ) → layout.least ≤ length left
       → layout.tag_at tt left ≡ Ok tag → layout.tag_at tt (left ++ rest) ≡ Ok tag)

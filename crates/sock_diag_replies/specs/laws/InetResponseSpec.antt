@@ -1,4 +1,4 @@
--- The laws of replies about IPv4 and IPv6 sockets.
+-- Laws of the replies about IPv4 and IPv6 sockets.
 use Rattle.std.proofs.Common.{◌≡◌, ◌↔◌, ℕ, ◌≤◌, List, Bool, IsTrue, ◌++◌, length, slice_index}
 use Rattle.std.proofs.Common.{Ok, arith}
 use Rattle.std.proofs.lemmas.List.{get_or_append_left}
@@ -19,7 +19,7 @@ use Rattle.sock_diag_replies.specs.laws.EqualResponse.{response_test, response_t
 use Rattle.sock_diag_replies.specs.laws.Header.{enough, response_laws}
 use Rattle.sock_diag_replies.specs.InetResponseSpec.{inet_response_spec}
 
--- bytes behind a header change nothing of what it tells
+-- bytes after a header do not change its tag
 goes_on : (tag : IpVersions × ℕ) (left rest : List ℕ) → inet_response_header.least ≤ length left
     → inet_response_header.tag_at tt left ≡ Ok tag → inet_response_header.tag_at tt (left ++ rest)
     ≡ Ok tag
@@ -33,12 +33,12 @@ goes_on tag left rest long e =
       with_class,
     )
 
--- a string with a header has all its bytes
+-- bytes with a valid header have at least 72 bytes
 pub header_enough : (b : List ℕ) (h : InetResponseHeader) → read inet_response_header tt b ≡ Ok h
     → 72 ≤ length b
 header_enough = enough inet_response_header header_size
 
--- the laws of header and attributes
+-- the codec laws of the header and of the attributes
 pub inet_response_laws : ResponseLaws inet_response_spec
 inet_response_laws = response_laws inet_response_header header_size header_sound goes_on inet_laws
 

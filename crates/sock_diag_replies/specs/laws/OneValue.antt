@@ -1,16 +1,16 @@
--- An answer has one value at most.
+-- A result has at most one value.
 use mathlib.Core.Path.{◌≡◌, ◌∙◌, path_j, refl, sym}
 use Rattle.std.specs.Prelude.{⊤, Result, Ok, Err}
 
--- a value of the answer
+-- a value of the result, with the proof that it is the value
 abbrev Found : {A E : Type 0} → Result A E → Type 0
 Found {A} answer = (value : A) × (answer ≡ Ok value)
 
--- a value in hand
+-- the value `a` of `Ok a`
 abbrev own : {A E : Type 0} (a : A) → Found {A = A} {E = E} (Ok a)
 own a = (a, refl)
 
--- the value in the answer is the one in hand
+-- if the result is an `Ok`, its value with its proof equals `own a`
 abbrev IsOwn : {A E : Type 0} (a : A) (answer : Result A E) → Ok a ≡ answer → Type 0
 IsOwn {A} {E} a (Ok b) is = ◌≡◌ {A = Found {A = A} {E = E} (Ok a)} (own a) (b, is)
 IsOwn a (Err e) is = ⊤

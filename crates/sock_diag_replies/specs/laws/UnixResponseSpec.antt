@@ -1,4 +1,4 @@
--- The laws of replies about UNIX sockets.
+-- Laws of the replies about UNIX sockets.
 use Rattle.std.proofs.Common.{◌≡◌, ◌≤◌, ◌↔◌, ℕ, List, Bool, IsTrue, length, Ok, refl}
 use Rattle.netlink_core.specs.Layout.{read}
 use Rattle.netlink_core.specs.Response.{ValueOf}
@@ -15,12 +15,12 @@ use Rattle.sock_diag_replies.specs.laws.EqualResponse.{response_test, response_t
 use Rattle.sock_diag_replies.specs.laws.Header.{enough, response_laws}
 use Rattle.sock_diag_replies.specs.UnixResponseSpec.{unix_response_spec}
 
--- a string with a header has all its bytes
+-- bytes with a valid header have at least 16 bytes
 pub header_enough : (b : List ℕ) (h : UnixResponseHeader) → read unix_response_header tt b ≡ Ok h
     → 16 ≤ length b
 header_enough = enough unix_response_header (refl, λ tag. refl)
 
--- the laws of header and attributes
+-- the codec laws of the header and of the attributes
 pub unix_response_laws : ResponseLaws unix_response_spec
 unix_response_laws = response_laws unix_response_header (
   refl,

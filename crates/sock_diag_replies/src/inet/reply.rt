@@ -1,4 +1,4 @@
-//! The reply about one IPv4 or IPv6 socket, with memory of its own and read in place.
+//! Replies about one IPv4 or IPv6 socket, owned and borrowed.
 
 ghost use Rattle.std.specs.Prelude.{refl};
 ghost use Rattle.netlink_core.proofs.Responses.{responses_keep_laws};
@@ -16,25 +16,26 @@ use crate::view::{AttributeViews, ReplyHeader, ReplyView, ReplyViews};
 use attribute_lists::check_nlas;
 use netlink_core::{Coded, DecodeError};
 
-/// The number of bytes of the header.
+/// The length of the header (`inet_diag_msg`) in bytes.
 const LENGTH: usize = 72;
 
-/// The reply about one IPv4 or IPv6 socket: the header, and the attributes that were asked for, in
-/// the order that they came.
+/// A reply about one IPv4 or IPv6 socket: the header (`inet_diag_msg`) and the attributes, in wire
+/// order.
 ///
-/// Of `parse`, fewer than 72 bytes are `BufferTooSmall`, then another family than 2 and 10 is
-/// `UnsupportedFamily`; after that the first fault of the attributes counts.
+/// `parse` returns `BufferTooSmall` for fewer than 72 bytes. Else it returns `UnsupportedFamily` if
+/// the family is neither 2 (`AF_INET`) nor 10 (`AF_INET6`). Else it returns the first error of an
+/// attribute, if there is one.
 pub type InetResponse = Reply<InetResponseHeader, Nla>;
 
-/// The attributes of a reply about an IPv4 or IPv6 socket, read in place, in the order that they
-/// came.
+/// An iterator over the attributes of a borrowed reply about an IPv4 or IPv6 socket, in wire order.
 pub type NlaViews<'a> = AttributeViews<'a, InetResponseHeader>;
 
-/// The reply about one IPv4 or IPv6 socket, read in place: an
-/// [`InetResponse`](super::InetResponse) whose bytes are borrowed.
+/// A borrowed reply about one IPv4 or IPv6 socket: the bytes of an
+/// [`InetResponse`](super::InetResponse), checked.
 ///
-/// Of `parse`, fewer than 72 bytes are `BufferTooSmall`; then a family but AF_INET and AF_INET6 is
-/// `UnsupportedFamily`; else the first fault of an attribute is told.
+/// `parse` returns `BufferTooSmall` for fewer than 72 bytes. Else it returns `UnsupportedFamily` if
+/// the family is neither `AF_INET` nor `AF_INET6`. Else it returns the first error of an attribute,
+/// if there is one.
 pub type InetResponseView<'a> = ReplyView<'a, InetResponseHeader>;
 
 impl ReplyHeader for InetResponseHeader {

@@ -1,4 +1,4 @@
-//! The attributes of a reply about a UNIX socket, and what they carry.
+//! The attributes of a reply about a UNIX socket, and the types of their values.
 
 pub use crate::unix::reply::NlaViews;
 pub use sock_diag_attributes::unix::nlas::{

@@ -1,4 +1,4 @@
-//! The reply about one UNIX socket, with memory of its own and read in place.
+//! Replies about one UNIX socket, owned and borrowed.
 
 ghost use Rattle.std.specs.Prelude.{refl};
 ghost use Rattle.netlink_core.proofs.Responses.{responses_keep_laws};
@@ -16,24 +16,23 @@ use crate::view::{AttributeViews, ReplyHeader, ReplyView, ReplyViews};
 use attribute_lists::check_nlas;
 use netlink_core::{Coded, DecodeError};
 
-/// The number of bytes of the header.
+/// The length of the header (`unix_diag_msg`) in bytes.
 const LENGTH: usize = 16;
 
-/// The reply about one UNIX socket: the header, and the attributes that were asked for, in
-/// the order that they came.
+/// A reply about one UNIX socket: the header (`unix_diag_msg`) and the attributes, in wire order.
 ///
-/// Of `parse`, fewer than 16 bytes are `BufferTooSmall`; after that the first fault of the
-/// attributes counts.
+/// `parse` returns `BufferTooSmall` for fewer than 16 bytes. Else it returns the first error of an
+/// attribute, if there is one.
 pub type UnixResponse = Reply<UnixResponseHeader, Nla>;
 
-/// The attributes of a reply about a UNIX socket, read in place, in the order that they came.
+/// An iterator over the attributes of a borrowed reply about a UNIX socket, in wire order.
 pub type NlaViews<'a> = AttributeViews<'a, UnixResponseHeader>;
 
-/// The reply about one UNIX socket, read in place: a
-/// [`UnixResponse`](super::UnixResponse) whose bytes are borrowed.
+/// A borrowed reply about one UNIX socket: the bytes of a [`UnixResponse`](super::UnixResponse),
+/// checked.
 ///
-/// Of `parse`, fewer than 16 bytes are `BufferTooSmall`; else the first fault of an attribute is
-/// told.
+/// `parse` returns `BufferTooSmall` for fewer than 16 bytes. Else it returns the first error of an
+/// attribute, if there is one.
 pub type UnixResponseView<'a> = ReplyView<'a, UnixResponseHeader>;
 
 impl ReplyHeader for UnixResponseHeader {

@@ -1,4 +1,4 @@
-//! What the attributes of a reply about a UNIX socket tell, read in place.
+//! Getters for the attributes of a borrowed reply about a UNIX socket.
 
 ghost use Rattle.std.specs.Prelude.{◌≡◌, if◌then◌else◌, None, IsSome, option_map};
 ghost use Rattle.sock_diag_attributes.specs.NameModel.{name_of};
@@ -23,8 +23,8 @@ impl<'a> UnixResponseView<'a> {
           unix_response_view_model,
     };
 
-    /// The inode of the socket's peer, where an attribute tells it: the content of the first
-    /// `Peer`.
+    /// Returns the inode of the peer: the value of the first `Peer` (`UNIX_DIAG_PEER`), if there is
+    /// one.
     pub fn peer(&self) -> Option<u32>
         ensures { result
             ≡ first_of (content unix UNIX_DIAG_PEER) (unix_response_view_model self.now).nlas }
@@ -35,7 +35,8 @@ impl<'a> UnixResponseView<'a> {
         })
     }
 
-    /// The socket's name, where an attribute tells it: the content of the first `Name`.
+    /// Returns the name of the socket: the value of the first `Name` (`UNIX_DIAG_NAME`), if there
+    /// is one.
     pub fn name(&self) -> Option<NameView<'a>>
         ensures { option_map (name_of (λ b. b.now)) result ≡ first_of (content unix UNIX_DIAG_NAME)
             (unix_response_view_model self.now).nlas }
@@ -46,8 +47,8 @@ impl<'a> UnixResponseView<'a> {
         })
     }
 
-    /// The inodes of the connections that wait to be accepted: the content of the first
-    /// `PendingConnections`.
+    /// Returns the inodes of the connections that wait to be accepted: the value of the first
+    /// `PendingConnections` (`UNIX_DIAG_ICONS`), if there is one.
     pub fn pending_connections(&self) -> Option<NumbersView<'a>>
         ensures { option_map numbers_view_model result ≡ first_of (content unix UNIX_DIAG_ICONS)
             (unix_response_view_model self.now).nlas }
@@ -58,7 +59,8 @@ impl<'a> UnixResponseView<'a> {
         })
     }
 
-    /// Which directions are shut down: the content of the first `Shutdown`.
+    /// Returns the directions that are shut down (1 for receiving, 2 for sending, 3 for both): the
+    /// value of the first `Shutdown` (`UNIX_DIAG_SHUTDOWN`), if there is one.
     pub fn shutdown_state(&self) -> Option<u8>
         ensures { result
             ≡ first_of (content unix UNIX_DIAG_SHUTDOWN) (unix_response_view_model self.now).nlas }
@@ -78,11 +80,12 @@ impl<'a> UnixResponseView<'a> {
     ghost use Rattle.sock_diag_replies.specs.UnixGetters.{listening_queue_of};
     ghost use Rattle.sock_diag_replies.specs.UnixGetters.{other_queue_of};
 
-    /// How many connections wait to be accepted, of a listening socket (state `TCP_LISTEN`): the
-    /// first number of the first `ReceiveQueueLength`.
+    /// Returns the number of connections that wait to be accepted, if the socket listens (state
+    /// `TCP_LISTEN`): the first number of the first `ReceiveQueueLength` (`udiag_rqueue` of
+    /// `unix_diag_rqlen`).
     ///
-    /// Where this is told, [`receive_queue_size`](Self::receive_queue_size) and
-    /// [`send_queue_size`](Self::send_queue_size) are not.
+    /// If the result is a `Some`, [`receive_queue_size`](Self::receive_queue_size) and
+    /// [`send_queue_size`](Self::send_queue_size) return `None`.
     pub fn number_of_pending_connection(&self) -> Option<u32>
         ensures value { result ≡ option_map (λ ns. ns.0)
             (listening_queue_of (unix_response_view_model self.now)) }
@@ -92,8 +95,8 @@ impl<'a> UnixResponseView<'a> {
         Some(waiting)
     }
 
-    /// How many connections may wait to be accepted, of a listening socket: the second number of
-    /// the first `ReceiveQueueLength`.
+    /// Returns the limit on the connections that wait to be accepted, if the socket listens: the
+    /// second number of the first `ReceiveQueueLength` (`udiag_wqueue` of `unix_diag_rqlen`).
     pub fn max_number_of_pending_connection(&self) -> Option<u32>
         ensures { result ≡ option_map (λ ns.
             ns.1) (listening_queue_of (unix_response_view_model self.now)) }
@@ -102,7 +105,7 @@ impl<'a> UnixResponseView<'a> {
         Some(limit)
     }
 
-    // The content of the first `ReceiveQueueLength`.
+    // Returns the value of the first `ReceiveQueueLength` (`UNIX_DIAG_RQLEN`).
     fn queue(&self) -> Option<(u32, u32)>
         ensures { result
             ≡ first_of (content unix UNIX_DIAG_RQLEN) (unix_response_view_model self.now).nlas }
@@ -113,7 +116,8 @@ impl<'a> UnixResponseView<'a> {
         })
     }
 
-    // The lengths of the queues, where the socket listens or does not, as is asked.
+    // Returns the queue lengths if the socket listens and `listens` is true, or if the socket does
+    // not listen and `listens` is false. Returns `None` otherwise.
     fn queue_where(&self, listens: bool) -> Option<(u32, u32)>
         ensures { result ≡ if listens then listening_queue_of (unix_response_view_model self.now)
             else other_queue_of (unix_response_view_model self.now) }
@@ -125,8 +129,8 @@ impl<'a> UnixResponseView<'a> {
         }
     }
 
-    /// How many bytes wait to be read, of a socket that does not listen: the first number of the
-    /// first `ReceiveQueueLength`.
+    /// Returns the number of bytes that wait to be read, if the socket does not listen: the first
+    /// number of the first `ReceiveQueueLength` (`udiag_rqueue` of `unix_diag_rqlen`).
     pub fn receive_queue_size(&self) -> Option<u32>
         ensures { result ≡ option_map (λ ns.
             ns.0) (other_queue_of (unix_response_view_model self.now)) }
@@ -135,8 +139,9 @@ impl<'a> UnixResponseView<'a> {
         Some(received)
     }
 
-    /// How many bytes of memory are taken by what was sent and is not yet read, of a socket that
-    /// does not listen: the second number of the first `ReceiveQueueLength`.
+    /// Returns the memory in bytes of sent data that was not read yet, if the socket does not
+    /// listen: the second number of the first `ReceiveQueueLength` (`udiag_wqueue` of
+    /// `unix_diag_rqlen`).
     pub fn send_queue_size(&self) -> Option<u32>
         ensures { result ≡ option_map (λ ns.
             ns.1) (other_queue_of (unix_response_view_model self.now)) }
@@ -152,8 +157,8 @@ impl<'a> UnixResponseView<'a> {
           unix_response_view_model,
     };
 
-    /// The size of the send buffer, which bounds a datagram: the field `max_datagram_size` of the
-    /// first `MemInfo`.
+    /// Returns the size of the send buffer in bytes, which limits the size of a datagram: the field
+    /// `max_datagram_size` of the first `MemInfo` (`SK_MEMINFO_SNDBUF` of `UNIX_DIAG_MEMINFO`).
     pub fn max_datagram_size(&self) -> Option<u32>
         ensures { result ≡ option_map (λ info. info.max_datagram_size)
             (first_of (content unix UNIX_DIAG_MEMINFO) (unix_response_view_model self.now).nlas) }
@@ -161,8 +166,9 @@ impl<'a> UnixResponseView<'a> {
         Some(self.memory()?.max_datagram_size)
     }
 
-    /// How many bytes of memory are taken by what was sent and is not yet read: the field `alloc`
-    /// of the first `MemInfo`.
+    /// Returns the field `alloc` of the first `MemInfo` (`SK_MEMINFO_WMEM_QUEUED` of
+    /// `UNIX_DIAG_MEMINFO`): the memory of the data that is queued to be sent, in bytes. Linux
+    /// reports 0 here for a UNIX socket.
     pub fn memory_used_for_outgoing_data(&self) -> Option<u32>
         ensures { result ≡ option_map (λ info. info.alloc)
             (first_of (content unix UNIX_DIAG_MEMINFO) (unix_response_view_model self.now).nlas) }
@@ -170,7 +176,7 @@ impl<'a> UnixResponseView<'a> {
         Some(self.memory()?.alloc)
     }
 
-    // The content of the first `MemInfo`.
+    // Returns the value of the first `MemInfo` (`UNIX_DIAG_MEMINFO`).
     fn memory(&self) -> Option<MemInfo>
         ensures { result
             ≡ first_of (content unix UNIX_DIAG_MEMINFO) (unix_response_view_model self.now).nlas }

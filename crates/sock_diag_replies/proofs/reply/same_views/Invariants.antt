@@ -5,7 +5,7 @@ use Rattle.netlink_core.specs.AttributeSet.{AttributeValue, decodes}
 use Rattle.attribute_lists.specs.AttributesIn.{HasNoFault, values_in}
 use Rattle.sock_diag_replies.proofs.reply.same_views.Given as goal
 
--- what is left on both sides compares as all does
+-- comparing the attributes that are left on both sides decides the result
 abbrev pub invariant-loop-view : goal.invariant-loop-view
 invariant-loop-view g l =
     let F = g.V.FamilyView.attribute_set in

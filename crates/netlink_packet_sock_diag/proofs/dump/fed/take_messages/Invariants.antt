@@ -3,7 +3,8 @@ use Rattle.netlink_core.specs.DatagramWalk.{framed_left}
 use Rattle.netlink_packet_sock_diag.proofs.Dumping.{Passing}
 use Rattle.netlink_packet_sock_diag.proofs.dump.fed.take_messages.Given as goal
 
--- the dump goes on with what is left
+-- the messages that were read did not end the dump, and the dump continues with the bytes that are
+-- left
 abbrev pub invariant-loop-item : goal.invariant-loop-item
 invariant-loop-item g l =
     Passing g.I.Kept.item_is l.datagram (framed_left l.item-iterator)

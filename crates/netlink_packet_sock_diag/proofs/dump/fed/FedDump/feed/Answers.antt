@@ -11,14 +11,14 @@ use Rattle.netlink_packet_sock_diag.proofs.Feeding.{fed_on}
 use Rattle.netlink_packet_sock_diag.proofs.dump.fed.FedDump.feed.Goals as goal
 use denote.Enum.Bare.{sameb}
 
--- what is still read is as at first
+-- a dump that has not ended has no error number
 still_reading : (standing : Standing) (differs : Bool)
     → (standing.0 ≡ Reading → standing ≡ unended)
     → differs ≡ not (sameb the_type standing.0 Reading) → differs ≡ false → standing ≡ unended
 still_reading standing differs first is equal =
     grind (arith, first)
 
--- the fault of a feed that failed
+-- equal results have equal errors
 same_fault : (e f : DecodeError) → ◌≡◌ {A = Result Unit DumpError} (Err (Fault e)) (Err (Fault f))
     → e ≡ f
 same_fault e f same = grind arith

@@ -1,7 +1,7 @@
 use Rattle.std.proofs.Common.{◌⊎◌, inl, inr, Result, Ok, Err, IsOk, arith}
 use Rattle.netlink_packet_sock_diag.proofs.dump.lossy.LossyDump.feed.Goals as goal
 
--- an entry that may need memory is an accepted message
+-- an entry that may need memory is a valid message
 accepted_or_full : {A E F : Type 0} (stops_at : Result A E → Type 0)
     → ((m : Result A E) × stops_at m × (IsOk m ⊎ F)) → ((a : A) × stops_at (Ok a)) ⊎ F
 accepted_or_full stops_at (Ok a, stops, why) = inl (a, stops)
