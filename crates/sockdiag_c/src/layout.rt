@@ -1,4 +1,4 @@
-//! The sizes of the structs that C shares, where its rules put each field at the same place
+//! The sizes of the structs that C shares. The C ABI has each field at the same offset
 //! (`tests/c_header.py`).
 
 use crate::details::{Number, Text};
