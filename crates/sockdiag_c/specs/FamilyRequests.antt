@@ -11,22 +11,24 @@ use Rattle.sockdiag_c.specs.declared.family_requests.ShowRequest.{ShowRequest}
 use Rattle.sockdiag_c.specs.declared.family_requests.VsockRequest.{VsockRequest}
 
 -- The records `struct netlink_diag_req`, `packet_diag_req` and `xdp_diag_req`, which have one
--- layout, and `struct vsock_diag_req`. Each field is the field of `struct sockdiag_show_request` or
--- `sockdiag_vsock_request` with the same name.
+-- layout, from `struct sockdiag_show_request`. Each field is the field with the same name.
 abbrev pub show_request_of : (family : ℕ) → ShowRequest → show.ShowRequest family
 show_request_of family r =
     record { protocol = r.protocol; inode = r.inode; show = r.show; cookie = r.cookie }
 
+-- `struct vsock_diag_req` from `struct sockdiag_vsock_request`, in the same way
 abbrev pub vsock_request_of : VsockRequest → vsock.VsockRequest
 vsock_request_of r = record { states = r.states; cookie = r.cookie }
 
--- netlink messages of 36 and 40 bytes with type 20, SOCK_DIAG_BY_FAMILY: a header of 16 bytes, then
--- a record of 20 or 24 bytes
+-- a netlink message of 36 bytes with type 20, SOCK_DIAG_BY_FAMILY: a header of 16 bytes, then a
+-- record of 20 bytes
 abbrev pub show_message : ℕ → ShowRequest → List ℕ
 show_message family r =
     header_bytes (header_of 36 20 r.header)
     ++ bytes (show_request family) (show_request_of family r)
 
+-- a netlink message of 40 bytes with type 20, SOCK_DIAG_BY_FAMILY: a header of 16 bytes, then a
+-- record of 24 bytes
 abbrev pub vsock_message : VsockRequest → List ℕ
 vsock_message r =
     header_bytes (header_of 40 20 r.header) ++ bytes vsock_request (vsock_request_of r)

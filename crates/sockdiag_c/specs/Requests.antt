@@ -72,11 +72,13 @@ abbrev pub protocol_attribute : ℕ → List ℕ
 protocol_attribute p =
     if nat_lt p 256 then [] else written record { type_word = 3; value = little_bytes 4 p }
 
--- The netlink message with type t: 20 is SOCK_DIAG_BY_FAMILY, and 21 is SOCK_DESTROY. A UNIX
--- request has 40 bytes. An internet request has 72 bytes, and 8 more if it has the attribute.
+-- the netlink message of 40 bytes with type t of a UNIX request: 20 is SOCK_DIAG_BY_FAMILY, and 21
+-- is SOCK_DESTROY
 abbrev pub unix_message : ℕ → UnixRequest → List ℕ
 unix_message t r = header_bytes (header_of 40 t r.header) ++ bytes unix_request (unix_request_of r)
 
+-- the netlink message with type t of an internet request: 72 bytes, and 8 more if it has the
+-- attribute
 abbrev pub inet_message : ℕ → InetRequest → List ℕ
 inet_message t r =
     header_bytes (header_of (72 + length (protocol_attribute r.protocol)) t r.header)
