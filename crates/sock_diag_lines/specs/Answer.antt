@@ -48,8 +48,11 @@ IsRequest line name b = (hex : List ℕ) × (line ≡ (entry_of name).0 ++ 32 �
 -- The text answers the line. If the line is a name and a hex field, it answers the bytes. If it is
 -- a dump over datagrams, it answers the dump. Else it is `bad line`.
 pub record IsAnswerOf (line text : List ℕ) : Type 0 where
+  -- if the line is a name and a hex field
   pub asked : (n : Name) (b : List ℕ) → IsRequest line n b → IsAnswerAs (entry_of n).1 b text
+  -- if the line is a dump over datagrams
   pub dumped : (given : List (List ℕ)) → IsDumpRequest line given → IsDumpAnswer given text
+  -- if the line is neither
   pub other : ((name : Name) (b : List ℕ) → ¬ IsRequest line name b)
       → ((datagrams : List (List ℕ)) → ¬ IsDumpRequest line datagrams) → text ≡ codes "bad line"
 

@@ -17,6 +17,7 @@ is_space c = c == 32
 pub record IsFirstSpace (line : List ℕ) (i : ℕ) : Type 0 where
   pub within : i < length line
   pub cut : line ≡ take i line ++ 32 ∷ drop (i + 1) line
+  -- no space precedes it
   pub split : slice_split is_space line ≡ take i line ∷ slice_split is_space (drop (i + 1) line)
 
 -- `ok ` and the text of a value
