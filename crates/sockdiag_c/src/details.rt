@@ -36,7 +36,7 @@ pub struct Text<'a> {
     /// Kind of the text. 0: the reply contains no such text. 1: a pathname, or the name of a
     /// congestion control algorithm. 2: an abstract name. 3: bytes that are not text.
     pub kind: u32,
-    /// The text, without the NUL that ends a pathname or precedes an abstract name.
+    /// The text, without the NUL that ends a text or precedes an abstract name.
     pub bytes: &'a [u8],
 }
 
@@ -49,7 +49,7 @@ pub(crate) const ABSTRACT: u32 = 2;
 /// Kind of bytes that are not text.
 pub(crate) const BYTES: u32 = 3;
 
-/// A number that the reply does not contain.
+/// The number of a reply that contains none.
 pub(crate) const NO_NUMBER: Number = Number {
     is_told: 0,
     value: 0,
@@ -67,7 +67,7 @@ impl Number {
 }
 
 impl<'a> Text<'a> {
-    /// Returns a text that the reply does not contain.
+    /// Returns the text of a reply that contains none.
     pub(crate) fn none() -> Text<'a>
         ensures { text_of result ≡ None }
     {
@@ -150,7 +150,8 @@ pub extern "C" fn sockdiag_inet_get_details<'a>(
     tell_reply(payload, details)
 }
 
-// Stores the contents of the reply in the details, or returns the code of the first error.
+// Stores the contents of the reply in the details. Returns 0, or the code of the first error; then
+// the details are unchanged.
 fn tell_reply<'a, T: KeepsDetails<'a>>(payload: &'a [u8], details: &mut T) -> u32
     ensures { AnswersBy ((response_codec T.reply).reads payload.entry.now tt)
         ((response_codec T.reply).refuses payload.entry.now tt)

@@ -38,7 +38,7 @@ pub struct Memory {
     pub drops: Number,
 }
 
-/// Memory that the reply does not contain.
+/// The memory of a reply that contains none.
 const NO_MEMORY: Memory = Memory {
     receive_queue: NO_NUMBER,
     receive_queue_max: NO_NUMBER,

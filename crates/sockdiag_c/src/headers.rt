@@ -59,7 +59,7 @@ pub struct InetHeader {
     /// (`idiag_rqueue`, at 56).
     pub recv_queue: u32,
     /// Limit of pending connections (backlog) of a listening TCP socket, else bytes in the send
-    /// queue that are not yet acknowledged (`idiag_wqueue`, at 60).
+    /// queue: for TCP, those that are not yet acknowledged (`idiag_wqueue`, at 60).
     pub send_queue: u32,
     /// User id of the owner (`idiag_uid`, at 64).
     pub uid: u32,

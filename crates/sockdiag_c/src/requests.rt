@@ -93,7 +93,7 @@ pub extern "C" fn sockdiag_write_unix_request(request: &UnixRequest, buffer: &mu
 }
 
 /// Writes the same request with the type `SOCK_DESTROY`, which requests the kernel to close the
-/// UNIX socket with the inode and the cookie.
+/// UNIX socket with the inode and the cookie. Linux returns `EOPNOTSUPP`.
 #[unsafe(no_mangle)]
 pub extern "C" fn sockdiag_write_unix_destroy(request: &UnixRequest, buffer: &mut [u8]) -> usize
     ensures { WritesWhole 40 (unix_message 21 request.now) buffer.old buffer.new result }

@@ -1,5 +1,5 @@
-//! The canonical form of replies. All equivalent (`idle`) replies have the same canonical form:
-//! replies that differ only in ignored bits.
+//! The canonical form of replies. Equivalent (`idle`) replies, which differ only in ignored bits,
+//! have the same canonical form.
 
 ghost use Rattle.std.specs.Prelude.{◌≡◌};
 ghost use Rattle.netlink_core.specs.Faults.{number_of};

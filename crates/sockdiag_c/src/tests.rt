@@ -27,7 +27,7 @@ const INET_REPLY: [u8; 72] = [
     2, 0, 0, 0, 0xe8, 3, 0, 0, 0x39, 0x30, 0, 0,
 ];
 
-// An `NLMSG_NOOP` with one byte, a message with an unknown family, which is rejected, and two more
+// An `NLMSG_NOOP` with one byte; a message of family `AF_PACKET`, which is rejected; and two more
 // bytes.
 const DATAGRAM: [u8; 42] = [
     17, 0, 0, 0, 1, 0, 2, 0, 7, 0, 0, 0, 9, 0, 0, 0, 0xff, 0, 0, 0, 18, 0, 0, 0, 20, 0, 0, 0, 8, 0,
