@@ -38,8 +38,8 @@ reply_text v = let found = λ (k : ℕ). first_of (content unix k) v.nlas in
     -- UNIX_DIAG_PEER, UNIX_DIAG_NAME, UNIX_DIAG_ICONS
     ++ or_none decimal (found UNIX_DIAG_PEER) ∷ or_none name_word (found UNIX_DIAG_NAME)
     ∷ or_none comma_list (found UNIX_DIAG_ICONS)
-    -- UNIX_DIAG_SHUTDOWN; the two queue lengths of UNIX_DIAG_RQLEN if the socket is listening, and
-    -- the same if it is not
+    -- UNIX_DIAG_SHUTDOWN; then twice the two queue lengths of UNIX_DIAG_RQLEN, if the socket is
+    -- listening and if it is not
     ∷ map (or_none decimal) (found UNIX_DIAG_SHUTDOWN
     ∷ both (listening_queue_of v) ++ both (other_queue_of v)
     -- two fields of UNIX_DIAG_MEMINFO: `SK_MEMINFO_SNDBUF` and `SK_MEMINFO_WMEM_QUEUED`

@@ -98,8 +98,8 @@ pub fn equal_link_errors(v: &LinkError, w: &LinkError) -> bool
     v == w
 }
 
-/// Returns the canonical bytes of the first attribute, of any family. Attributes that differ only
-/// in padding and in what follows have the same canonical bytes.
+/// Returns the canonical form of the first attribute, of any family. Two attributes have the same
+/// canonical form if and only if they differ only in their padding and the bytes after it.
 pub fn attribute_key(alloc: Global, attribute: &[u8]) -> Result<Vec<u8>, CanonError>
     ensures written { IfOk result (λ key.
         (a : Attribute) × (first_attribute_codec []).reads attribute.now tt a

@@ -1,4 +1,4 @@
-//! Replies that are stored under their canonical bytes, so that equivalent ones are stored once.
+//! Replies that are stored under their canonical form, so that equivalent ones are stored once.
 
 ghost use Rattle.std.specs.Prelude.{◌≡◌, ◌↔◌, ◌⊎◌, ℕ, List, IsTrue, OnOk, IfOk, IfErr};
 ghost use Rattle.netlink_packet_sock_diag.specs.Message.{message_codec};
