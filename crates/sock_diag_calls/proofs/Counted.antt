@@ -1,4 +1,4 @@
--- Attributes that are counted while they are walked over.
+-- Attributes that are counted while an iterator yields them.
 use Rattle.std.proofs.Common.{Result, Ok, ◌≡◌, ◌≢◌, ℕ, suc, ◌+◌, List, [], ◌∷◌, ◌++◌, length, inl}
 use Rattle.std.proofs.Common.{inr, refl, ap, ◌∙◌}
 use Rattle.std.specs.List.{AllZip}
@@ -9,11 +9,11 @@ use Rattle.netlink_core.specs.Attribute.{AttributeFault}
 use Rattle.netlink_core.proofs.Walking.{Continues, walk_begins, walk_goes_on, walk_ends}
 use Rattle.netlink_core.proofs.Walking.{walk_is_cut_off}
 
--- each attribute is taken as it is
+-- parses an attribute as itself, so that only the framing is checked
 abbrev pub itself : Attribute → Result Attribute DecodeError
 itself a = Ok a
 
--- what was counted goes on with what is left
+-- `count` attributes are before the bytes that are left
 pub record Counted (bytes rest : List ℕ) (count : ℕ) : Type 0 where
   pub so_far : List Attribute
   pub walk : Continues itself bytes so_far rest
@@ -37,7 +37,7 @@ same_length [] (y ∷ ys) h = absurd h
 same_length (x ∷ xs) [] h = absurd h
 same_length (x ∷ xs) (y ∷ ys) h = ap (λ (n : ℕ). suc n) (same_length xs ys h.1)
 
--- where nothing is left all were counted
+-- if nothing is left, all attributes were counted
 pub count_ends : (bytes rest : List ℕ) (count : ℕ) → Counted bytes rest count → rest ≡ []
     → (xs : List Attribute) × Cut bytes xs [] × (length xs ≡ count)
 count_ends bytes rest count c none =
@@ -60,12 +60,12 @@ framing_fault bytes e (xs, (rest, cut, some, fault), good) = (
   ),
 )
 
--- a fault stands behind those that were counted
+-- a framing error follows the attributes that were counted
 pub count_is_cut_off : (bytes rest : List ℕ) (count : ℕ) (e : DecodeError)
     → Counted bytes rest count → rest ≢ [] → IsFramingFault rest e → (xs : List Attribute)
     × CutOff IsFramingFault bytes xs e
 count_is_cut_off bytes rest count e c some f =
     framing_fault bytes e (walk_is_cut_off itself bytes rest c.so_far e c.walk some f)
 
--- what the loop keeps
+-- the steps of the loop invariant
 pub ruleset counting = (count_begins, count_goes_on)

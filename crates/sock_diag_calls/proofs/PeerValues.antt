@@ -1,4 +1,4 @@
--- What an attribute decodes to, type by type of its set.
+-- An attribute of each type in turn, and what it decodes to.
 use Rattle.std.proofs.Common.{Some, Result, Ok, Err, ◌≡◌, ◌⊎◌, inl, inr, ℕ, List, length}
 use Rattle.std.proofs.lemmas.Bool.{cases_eq, eq-eqb, ne_eqb}
 use Rattle.byteorder.specs.Endian.{little_number}
@@ -9,7 +9,7 @@ use Rattle.netlink_core.specs.Faults.{map_ok}
 use Rattle.netlink_core.specs.Parse.{exact_number}
 use Rattle.sock_diag_attributes.specs.UnixAttributes.{unix}
 
--- What an attribute of the first type decodes to, and what is left to the later types.
+-- an attribute of the first type decodes to a value on the left, and any other on the right
 module _ {A B : Type 0} where
   abbrev one : A → A ⊎ B
   one x = inl x
@@ -17,7 +17,7 @@ module _ {A B : Type 0} where
   abbrev other : B → A ⊎ B
   other y = inr y
 
-  -- a value of the type was read by it, and by no other
+  -- a value on the left was parsed by the first type, and a value on the right was not
   was_one : (read : Result A DecodeError) (x : A) → map_ok one read ≡ Ok (one x) → read ≡ Ok x
   was_one (Ok u) x h = cc
   was_one (Err e) x h = absurd cc
@@ -26,7 +26,7 @@ module _ {A B : Type 0} where
   not_one (Ok u) y h = cc
   not_one (Err e) y h = cc
 
-  -- what is left to the later types was read by them
+  -- a value on the right was parsed by the later types, and a value on the left was not
   was_other : (read : Result B DecodeError) (y : B) → map_ok other read ≡ Ok (other y)
       → read ≡ Ok y
   was_other (Ok u) y h = cc
@@ -36,7 +36,7 @@ module _ {A B : Type 0} where
   not_other (Ok u) x h = cc
   not_other (Err e) x h = cc
 
--- a number of so many bytes
+-- a number has exactly `width` bytes, and is little-endian
 number_there : (k width n : ℕ) (value : List ℕ) → exact_number (Some k) width value ≡ Ok n
     → (length value ≡ width) × (n ≡ little_number width value)
 number_there k width n value h = elim (cases_eq (length value) width) [
@@ -48,7 +48,7 @@ number_there k width n value h = elim (cases_eq (length value) width) [
   | inr differs ↦ absurd (let refused = rw (ne_eqb (length value) width differs) at h in cc)
 ]
 
--- an attribute that decodes to a peer is of the type 2, and its value is the peer's number
+-- an attribute that decodes to a peer has type 2, and its value is the inode of the peer
 pub peer_value : (a : Attribute) (n : ℕ) → decodes unix a ≡ Ok (of_type unix 2 n)
     → (attribute_type a ≡ 2)
     × (length a.value ≡ 4) × (n ≡ little_number 4 a.value)

@@ -1,4 +1,4 @@
-//! The name in a reply about a UNIX socket, by `sock_diag_replies`.
+//! The name in a reply about a UNIX socket, with `sock_diag_replies`.
 
 ghost use Rattle.std.specs.Prelude.{◌≡◌, ◌↔◌, Some, IsTrue, IfOk, IfErr};
 ghost use Rattle.netlink_core.specs.AttributeSet.{content};
@@ -13,7 +13,7 @@ use netlink_core::DecodeError;
 use sock_diag_replies::unix::UnixResponseView;
 use sock_diag_replies::unix::nlas::NameView;
 
-/// Whether a reply about a UNIX socket tells that it is bound to this path.
+/// Returns whether a reply about a UNIX socket has this path as the name of the socket.
 pub fn is_bound_to(reply: &[u8], path: &[u8]) -> Result<bool, DecodeError>
     ensures value { IfOk result (λ bound.
         (v : ValueOf unix_response_spec) × (response_codec unix_response_spec).reads reply.now

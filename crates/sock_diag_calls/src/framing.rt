@@ -1,12 +1,11 @@
-//! A walk over attributes, by `netlink_core`.
+//! Iterating over attributes, with `netlink_core`.
 
 ghost use Rattle.std.specs.Prelude.{◌≡◌, List, [], length, IfOk, IfErr};
 ghost use Rattle.netlink_core.specs.Attribute.{Attribute, Cut, CutOff, IsFramingFault};
 
 use netlink_core::{DecodeError, NlasIterator};
 
-/// How many attributes stand in the bytes, one after the other and nothing else, or the first fault
-/// of their framing.
+/// Counts the attributes that the bytes consist of, or returns the first framing error.
 #[tactic(auto, using(crate::proofs::Counted::counting))]
 pub fn count_attributes(bytes: &[u8]) -> Result<usize, DecodeError>
     ensures count { IfOk result (λ count. (attributes : List Attribute)

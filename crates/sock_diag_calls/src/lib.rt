@@ -1,5 +1,5 @@
-//! The callers that the pages CALLING.md of the five libraries show, one module for each page, and
-//! two for that of `netlink_core`.
+//! The examples in the pages CALLING.md of five libraries: one module for each page, and two for
+//! the page of `netlink_core`.
 #![tactic(auto)]
 
 pub mod bound_sockets;

@@ -1,10 +1,10 @@
-//! A request, by `sock_diag_records`.
+//! A request, with `sock_diag_records`.
 
 ghost use Rattle.std.specs.Prelude.{◌≡◌, ◌∷◌, ◌++◌, [], replicate};
 
 use sock_diag_records::unix::{ShowFlags, StateFlags, UnixRequest, UnixRequestBuffer};
 
-/// The bytes of the request for all UNIX sockets that listen, with their names.
+/// Returns the request for the names of all listening UNIX sockets, without a netlink header.
 pub fn listening_sockets() -> [u8; 24]
     ensures { result ≡ (1 ∷ 0 ∷ 0 ∷ 0 ∷ []) ++ (0 ∷ 4 ∷ 0 ∷ 0 ∷ []) ++ (0 ∷ 0 ∷ 0 ∷ 0 ∷ [])
         ++ (1 ∷ 0 ∷ 0 ∷ 0 ∷ []) ++ replicate 8 255 }

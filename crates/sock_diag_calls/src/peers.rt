@@ -1,4 +1,4 @@
-//! An attribute of a reply, by `sock_diag_attributes`.
+//! An attribute of a reply, with `sock_diag_attributes`.
 
 ghost use Rattle.std.specs.Prelude.{◌≡◌, length, SomeIff};
 ghost use Rattle.byteorder.specs.Endian.{little_number};
@@ -8,8 +8,8 @@ ghost use Rattle.netlink_core.specs.Walk.{attribute_of};
 use netlink_core::NlaBuffer;
 use sock_diag_attributes::unix::nlas::NlaView;
 
-/// The inode of the peer, where an attribute of a UNIX socket's reply is `UNIX_DIAG_PEER` and has
-/// four bytes.
+/// Returns the inode of the peer, if the attribute of a reply about a UNIX socket is
+/// `UNIX_DIAG_PEER` and has four bytes.
 pub fn peer(nla: &NlaBuffer<'_>) -> Option<u32>
     ensures { SomeIff result
         ((attribute_type (attribute_of nla.now) ≡ 2) × (length (attribute_of nla.now).value ≡ 4))

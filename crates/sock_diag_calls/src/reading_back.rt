@@ -1,4 +1,4 @@
-//! A value of any type, written and read again, by `netlink_core`.
+//! Serializing and parsing a value of any type, with `netlink_core`.
 
 ghost use Rattle.std.specs.Prelude.{◌≡◌, IfOk, IfErr};
 ghost use Rattle.netlink_core.specs.declared.fault.DecodeError.TheVariants.{Memory};
@@ -6,8 +6,8 @@ ghost use Rattle.netlink_core.specs.declared.fault.DecodeError.TheVariants.{Memo
 use netlink_core::{DecodeError, Wire};
 use std::alloc::Global;
 
-/// A copy of a writable value in normal form: what is read from the bytes that it is written as. It
-/// fails only for want of memory.
+/// Copies a writable value in normal form, by serializing and parsing it. Fails only if memory runs
+/// out.
 pub fn copy_by_bytes<T: Wire + Drop>(
     alloc: Global,
     value: &T,

@@ -1,4 +1,4 @@
--- What a line asks for, and that it has one answer.
+-- The request in a line, and that a line has one answer.
 use Rattle.std.proofs.Common.{◌≡◌, ◌≢◌, ◌∙◌, ◌⊎◌, inl, inr, ℕ, List, [], ◌∷◌, ◌++◌, length, codes}
 use Rattle.std.proofs.Common.{get_or, refl, sym, ap, arith}
 use Rattle.std.specs.List.{AllByRecursion, join_with_byte}
@@ -40,12 +40,12 @@ abbrev names : List Name
 names = UnixRequest ∷ UnixResponse ∷ InetRequest ∷ InetResponse ∷ SocketId4 ∷ SocketId6 ∷ Message
     ∷ NetlinkMessage ∷ UnixView ∷ []
 
--- the name that a word is, where it is one's
+-- the name that is spelled in this way, if there is one
 abbrev name_of : List ℕ → Name
 name_of word =
     get_or names (position_or_len (λ name. bytes_eq word (entry_of name).0) names) UnixView
 
--- each name is found by its word, which ends at the first space
+-- each name is found by its spelling, which ends at the first space
 spelled : (name : Name) → (name_of (entry_of name).0 ≡ name)
     × ((text : List ℕ) → slice_split is_space ((entry_of name).0 ++ 32 ∷ text)
     ≡ (entry_of name).0 ∷ slice_split is_space text)
@@ -59,7 +59,7 @@ spelled Message = (refl, λ text. refl)
 spelled NetlinkMessage = (refl, λ text. refl)
 spelled UnixView = (refl, λ text. refl)
 
--- names of one word are one
+-- different names have different spellings
 one_name : (name other : Name) → (entry_of name).0 ≡ (entry_of other).0 → name ≡ other
 one_name name other e = sym (spelled name).0 ∙ ap name_of e ∙ (spelled other).0
 
@@ -68,7 +68,7 @@ not_dump name e =
     let is : name ≡ UnixView = sym (spelled name).0 ∙ ap name_of e in
     let same = rw is at e in omega (arith, ap length same)
 
--- a word is a name's, or none's
+-- a word is the spelling of a name, or of none
 name_or_not : (word : List ℕ) → ((name : Name) × (word ≡ (entry_of name).0))
     ⊎ ¬ ((name : Name) × (word ≡ (entry_of name).0))
 name_or_not word = elim (same_or_not word (entry_of (name_of word)).0) [
@@ -76,9 +76,9 @@ name_or_not word = elim (same_or_not word (entry_of (name_of word)).0) [
   | inr other ↦ inr (λ known. other (rw (known.1, (spelled known.0).0)))
 ]
 
--- ---- a word before the first space
+-- ---- the word before the first space
 
--- the line is a word, a space and a text, and the word has no space; or there is none in the line
+-- the line is a word without a space, a space and a text; or it has no space
 first_space : (line : List ℕ) → ((word text : List ℕ) × (line ≡ word ++ 32 ∷ text)
     × (slice_split is_space line ≡ word ∷ slice_split is_space text))
     ⊎ (slice_split is_space line ≡ line ∷ [])
@@ -91,7 +91,8 @@ first_space line = elim (cases_lt (position_or_len is_space line) (length line))
       fails_before_first is_space line k d (omega (arith, past, below))))
 ]
 
--- a request of a line has the word before the first space, and is about the text behind it
+-- a request in the line starts with the word before the first space, and its fields are the text
+-- after it
 module _ (line word text : List ℕ)
     (cut : slice_split is_space line ≡ word ∷ slice_split is_space text) where
   asked_here : (name : List ℕ) (Q : List ℕ → Type 0)
@@ -103,7 +104,8 @@ module _ (line word text : List ℕ)
       let texts = simp (join_with_byte-slice_split 32) at (ap (join_with_byte 32) same) in
       (cc, rw texts q)
 
-  -- no name with a field, and no dump
+  -- if the text is neither a hex field of a name nor hex fields of a dump, the line is not a
+  -- request
   pub no_request : ((name : Name) (bytes : List ℕ) → word ≡ (entry_of name).0
       → ¬ IsHexField text bytes)
       → ((datagrams : List (List ℕ)) → word ≡ codes "dump" → ¬ AreHexFields text datagrams)
@@ -115,7 +117,7 @@ module _ (line word text : List ℕ)
         let here = asked_here (codes "dump") _ (λ t. refl) h in undumped datagrams here.0 here.1;
   }
 
--- nor is there one without a space
+-- a line without a space is not a request
 no_space : (line : List ℕ) → slice_split is_space line ≡ line ∷ [] → IsNoRequest line
 no_space line none = record {
   unnamed = λ name bytes h. apart _ h.0 (ap (slice_split is_space) h.1 ∙ (spelled name).1 h.0);
@@ -126,9 +128,9 @@ no_space line none = record {
     apart word text e =
         omega (arith, length-slice_split is_space text, ap length (sym none ∙ e))
 
--- ---- what answers a line
+-- ---- the answer to a line
 
--- what answers the name and bytes of a line answers the line
+-- the answer to the name and the bytes of a line answers the line
 field_answers : (line : List ℕ) (name : Name) (bytes text : List ℕ) → IsRequest line name bytes
     → IsAnswerAs (entry_of name).1 bytes text → IsAnswerOf line text
 field_answers line name bytes text (t, e, field) tells =
@@ -142,7 +144,7 @@ field_answers line name bytes text (t, e, field) tells =
       other = λ unnamed undumped. absurd (unnamed name bytes (t, e, field));
     }
 
--- what answers its datagrams does
+-- the answer to the datagrams of a line answers the line
 dump_answers : (line : List ℕ) (datagrams : List (List ℕ)) (text : List ℕ)
     → IsDumpRequest line datagrams → IsDumpAnswer datagrams text → IsAnswerOf line text
 dump_answers line datagrams text (t, e, fields) tells =
@@ -156,7 +158,7 @@ dump_answers line datagrams text (t, e, fields) tells =
       other = λ unnamed undumped. absurd (undumped datagrams (t, e, fields));
     }
 
--- and `bad line` answers one of another form
+-- `bad line` answers a line that is not a request
 bad_answers : (line text : List ℕ) → IsNoRequest line → text ≡ codes "bad line"
     → IsAnswerOf line text
 bad_answers line text none e = record {
@@ -170,7 +172,7 @@ pub datagrams_in_range : (line : List ℕ) (datagrams : List (List ℕ))
 datagrams_in_range line datagrams dump =
     fields_in_range (slice_split is_space dump.0) datagrams dump.2
 
--- the line has this answer, and no other
+-- the line has exactly one answer
 abbrev TheAnswer : List ℕ → Type 0
 TheAnswer line = (text : List ℕ) × IsAnswerOf line text
     × ((other : List ℕ) → IsAnswerOf line other → other ≡ text)
@@ -221,17 +223,17 @@ pub answer_of-is : (line : List ℕ) → IsAnswerOf line (answer_of line)
 unfolding answer_of
 answer_of-is line = (the_answer line).1
 
--- each line has one answer
+-- each line has at most one answer
 pub one_answer : (line a b : List ℕ) → IsAnswerOf line a → IsAnswerOf line b → a ≡ b
 one_answer line a b h k = (the_answer line).2 a h ∙ sym ((the_answer line).2 b k)
 
--- any function that gives each line an answer is this one
+-- any function that returns an answer to each line is this one
 pub one_function : (f : List ℕ → List ℕ) → ((line : List ℕ) → IsAnswerOf line (f line))
     → answer_of ≡ f
 one_function f h = λ i line. one_answer line (answer_of line) (f line) (answer_of-is line) (h line)
     i
 
--- what answers that which a line was read as answers the line
+-- the answer to the request in a line answers the line
 pub read_answer : (line : List ℕ) (asked : Asked) (bytes text : List ℕ) → IsReadAs line asked bytes
     → IsAnswerTo asked bytes text → IsAnswerOf line text
 read_answer line (Field name) bytes text asked tells =
@@ -242,10 +244,10 @@ read_answer line (Dump dump) bytes text (datagrams, asked, read) tells =
     tells)
 read_answer line Nothing bytes text none e = bad_answers line text none e
 
--- ---- answers of two lines
+-- ---- the answers to two lines
 
--- two fields of one name whose values can be written have one answer where they are idle, and but
--- for `unixview` nowhere else
+-- two inputs of one name with writable values have the same answer if they are equivalent (`idle`),
+-- and, except for `unixview`, only if they are
 pub answers_as_idle : (name : Name) (line other bytes bytes' text text' : List ℕ)
     → IsAnswerOf line text → IsAnswerOf other text' → IsRequest line name bytes
     → IsRequest other name bytes' → IsAccepted (entry_of name).1 bytes

@@ -1,4 +1,5 @@
--- One text answers bytes, and idle bytes are answered alike; where the text has all, no others are.
+-- Bytes have one answer. Equivalent (`idle`) bytes have the same answer, and only they, if the text
+-- shows the whole value.
 use Rattle.std.proofs.Common.{◌≡◌, ◌⊎◌, ◌∙◌, inl, inr, ℕ, List, codes, refl, sym}
 use Rattle.std.proofs.lemmas.List.{append_cancel_left}
 use Rattle.netlink_core.specs.Bytes.{IsBytes}
@@ -7,7 +8,7 @@ use Rattle.sock_diag_lines.specs.AnswerText.{IsAnswerAs, IsAnswerText, Subject}
 use Rattle.sock_diag_lines.specs.private.Text.{accepted, refused, unwritable}
 use Rattle.sock_diag_lines.proofs.SubjectLaws.{AreIdleAs, HasFullText, IsAccepted, LawsOf}
 
--- what answers values and faults answers what has these too
+-- an answer under some values and errors is an answer under more of them
 pub answers_more : {Value : Type 0} (fits : Value → Type 0) (text_of : Value → List ℕ)
     {reads more : Value → Type 0} {refuses others : DecodeError → Type 0} {text : List ℕ}
     → ((v : Value) → reads v → more v) → ((e : DecodeError) → refuses e → others e)
@@ -18,7 +19,7 @@ answers_more fits text_of r s (inr (inr (fault, h, e))) = inr (inr (fault, s fau
 
 module _ {Value : Type 0} (fits : Value → Type 0) (text_of : Value → List ℕ)
     (reads : Value → Type 0) (refuses : DecodeError → Type 0) where
-  -- a value or a fault is answered, where it is decided whether a value can be written
+  -- a value or an error has an answer, if writability is decidable
   pub has_text : ((v : Value) × reads v) ⊎ ((e : DecodeError) × refuses e)
       → ((v : Value) → fits v ⊎ ¬ fits v)
       → (text : List ℕ) × IsAnswerText reads refuses fits text_of text
@@ -28,7 +29,7 @@ module _ {Value : Type 0} (fits : Value → Type 0) (text_of : Value → List �
   ]
   has_text (inr (e, r)) decide = (refused e, inr (inr (e, r, refl)))
 
-  -- where there is one value or one fault, not both, one text answers it
+  -- if there is at most one value or error, there is at most one answer
   module _ (one : (v w : Value) → reads v → reads w → v ≡ w)
       (apart : (v : Value) (e : DecodeError) → reads v → refuses e → ⊥)
       (fault : (e f : DecodeError) → refuses e → refuses f → e ≡ f) where
@@ -51,18 +52,18 @@ module _ (S : Subject) (laws : LawsOf S) where
   one_value b v w h r s = (laws.same_value b b v w h h r s).1
       ((laws.same_value b b v v h h r r).0 refl)
 
-  -- bytes have a text
+  -- bytes have an answer
   pub some_answer : (b : List ℕ) → IsBytes b → (text : List ℕ) × IsAnswerAs S b text
   some_answer b h = has_text S.1.fits S.3 (S.1.reads b S.2)
       (S.1.refuses b S.2) (laws.answered b h) laws.fits_or_not
 
-  -- and no other
+  -- bytes have at most one answer
   pub same_answer : (b x y : List ℕ) → IsBytes b → IsAnswerAs S b x → IsAnswerAs S b y → x ≡ y
   same_answer b x y h = one_text S.1.fits S.3 (S.1.reads b S.2)
       (S.1.refuses b S.2) (λ v w. one_value b v w h) (laws.one_answer b)
       (laws.one_fault b) x y
 
-  -- of two fields whose values can be written
+  -- two inputs with writable values
   module _ (b c x y : List ℕ) (hb : IsBytes b) (hc : IsBytes c) (tells : IsAnswerAs S b x)
       (also : IsAnswerAs S c y) (ok : IsAccepted S b) (ok' : IsAccepted S c) where
     shown : x ≡ accepted (S.3 ok.0)
@@ -71,7 +72,7 @@ module _ (S : Subject) (laws : LawsOf S) where
     shown' : y ≡ accepted (S.3 ok'.0)
     shown' = same_answer c y _ hc also (inl (ok'.0, ok'.1, ok'.2, refl))
 
-    -- idle ones are answered alike, and where the text has all, no others
+    -- equivalent inputs have the same answer, and only they, if the text shows the whole value
     pub texts_as_idle : (HasFullText S → x ≡ y → AreIdleAs S b c) × (AreIdleAs S b c → x ≡ y)
     texts_as_idle = let same = laws.same_value b c ok.0 ok'.0 hb hc ok.1 ok'.1 in (
       λ full e. same.0 (full b c ok.0 ok'.0 hb hc ok.1 ok'.1 ok.2 ok'.2

@@ -1,4 +1,4 @@
--- The text of a type whose reader and writer keep the laws; its written bytes have all.
+-- Texts under a codec that has the codec laws: the canonical form shows the whole value.
 use Rattle.std.proofs.Common.{◌≡◌, ◌⊎◌, ℕ, List, refl}
 use Rattle.netlink_core.specs.Bytes.{IsBytes}
 use Rattle.netlink_core.specs.Codec.{Codec, KeepsLaws}
@@ -7,7 +7,7 @@ use Rattle.sock_diag_lines.specs.AnswerText.{subject}
 use Rattle.sock_diag_lines.proofs.SubjectLaws.{HasFullText, SubjectLaws}
 
 module _ {Param : Type 0} (C : Codec Param) (laws : KeepsLaws C) (param : Param) where
-  -- values that were read and are written as the same bytes are equal
+  -- parsed values that serialize to the same bytes are equal
   pub same_written : (b c : List ℕ) (v w : C.Value) → IsBytes b → IsBytes c → C.reads b param v
       → C.reads c param w → C.fits v → C.fits w → C.written v ≡ C.written w → v ≡ w
   same_written b c v w hb hc r s f g e =
@@ -18,7 +18,7 @@ module _ {Param : Type 0} (C : Codec Param) (laws : KeepsLaws C) (param : Param)
       (laws.same_value _ _ param v w h h back (laws.reads_back param w m.0 m.1 g)).1
       ((laws.same_value _ _ param v v h h back back).0 refl)
 
-  -- the text of the values of a type that keeps the laws
+  -- the subject laws of a codec that has the codec laws
   pub text_laws : (fits : C.Value → Type 0) → ((v : C.Value) → fits v ⊎ ¬ fits v)
       → SubjectLaws (λ b v. C.reads b param v) (λ b e. C.refuses b param e) fits (C.idle param)
   text_laws fits fits_or_not = record {
@@ -29,7 +29,7 @@ module _ {Param : Type 0} (C : Codec Param) (laws : KeepsLaws C) (param : Param)
     fits_or_not = fits_or_not;
   }
 
-  -- the written bytes show all of a value
+  -- the canonical form shows the whole value
   pub canonical_has_full_text : HasFullText (subject C param)
   canonical_has_full_text b c v w hb hc r s f g e = same_written b c v w hb hc r s f g
       (field_of-same (C.written v) (C.written w)

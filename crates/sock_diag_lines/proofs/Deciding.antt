@@ -1,4 +1,4 @@
--- Whether a reply or a message can be written is decided.
+-- It is decidable whether a reply or a message is writable.
 use Rattle.std.proofs.Common.{◌⊎◌, inl, inr, ℕ, ◌+◌, ◌≤◌, List, [], ◌∷◌, length, map, arith}
 use Rattle.std.specs.List.{AllByRecursion}
 use Rattle.std.proofs.Common.{◌≡◌, Bool, true, false, Decides, refl}
@@ -24,7 +24,7 @@ or_not false d = inr (λ p. absurd (cc (d.1 p)))
 at_most : (m n : ℕ) → (m ≤ n) ⊎ ¬ (m ≤ n)
 at_most m n = grind arith
 
--- whether two texts are one is decided
+-- equality of byte strings is decidable
 pub same_or_not : (x y : List ℕ) → (x ≡ y) ⊎ ¬ (x ≡ y)
 same_or_not x y = or_not (bytes_eq x y) (bytes_eq-Decides x y)
 
@@ -33,7 +33,7 @@ both_or_not (inl p) (inl q) = inl (p, q)
 both_or_not (inl p) (inr fails) = inr (λ h. fails h.1)
 both_or_not (inr fails) q = inr (λ h. fails h.0)
 
--- whether something holds of each is decided where it is decided of one
+-- if a property of one element is decidable, so is the property of all elements
 pub each_or_not : {X : Type 0} (P : X → Type 0) → ((x : X) → P x ⊎ ¬ P x) → (xs : List X)
     → AllByRecursion P xs ⊎ ¬ AllByRecursion P xs
 each_or_not P decide [] = inl tt

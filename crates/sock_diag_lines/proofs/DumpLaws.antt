@@ -1,4 +1,4 @@
--- The dump over datagrams: there is one, and how it grows by a datagram.
+-- There is one dump over datagrams, and how it grows by a datagram.
 use Rattle.std.proofs.Common.{◌≡◌, ◌≢◌, ◌⊎◌, inl, ℕ, List, [], ◌∷◌, ◌++◌, Option, Some, None}
 use Rattle.std.proofs.Common.{Result, Ok}
 use Rattle.std.proofs.lemmas.List.{append-nil}
@@ -30,13 +30,13 @@ pub some_items : (b : List ℕ) → IsBytes b → (items : List (Result (Payload
     × ItemsAre (ItemIs message_codec) b items
 some_items = items_of message_codec message_laws.answered
 
--- and no others
+-- each datagram has at most one list of items
 one_items : (b : List ℕ) → IsBytes b → (xs ys : List (Result (Payload Message) DecodeError))
     → ItemsAre (ItemIs message_codec) b xs → ItemsAre (ItemIs message_codec) b ys → xs ≡ ys
 one_items = one_list message_codec (one_value (entry_of NetlinkMessage).1 envelope_laws)
     envelope_laws.one_answer envelope_laws.one_fault
 
--- datagrams have one dump
+-- datagrams have at most one dump
 one_of : (datagrams : List (List ℕ)) → AllByRecursion IsBytes datagrams → (d e : DumpOutcome)
     → IsDumpOf datagrams d → IsDumpOf datagrams e → d ≡ e
 one_of datagrams in_range d e dump also =
@@ -44,9 +44,9 @@ one_of datagrams in_range d e dump also =
     also in
     λ i. (same.0 i, same.1 i)
 
--- ---- one text
+-- ---- one answer
 
--- hex fields stand for bytes
+-- the bytes of hex fields are in range
 pub fields_in_range : (fields datagrams : List (List ℕ)) → AllZip IsHexField fields datagrams
     → AllByRecursion IsBytes datagrams
 fields_in_range [] [] each = tt
@@ -55,7 +55,7 @@ fields_in_range (f ∷ fields) [] each = absurd each
 fields_in_range (f ∷ fields) (d ∷ datagrams) each =
     (IsBytes-field f d each.0, fields_in_range fields datagrams each.1)
 
--- a text answers datagrams
+-- datagrams have an answer
 pub has_dump_text : (datagrams : List (List ℕ)) → AllByRecursion IsBytes datagrams → (text : List ℕ)
     × IsDumpAnswer datagrams text
 has_dump_text datagrams in_range =
@@ -65,14 +65,14 @@ has_dump_text datagrams in_range =
     (inl ((dump.0, dump.1), (parts.0, parts.1, dump.2)))
     (λ d. each_or_not _ message_fits_or_not d.0)
 
--- and no other
+-- datagrams have at most one answer
 pub one_dump_text : (datagrams : List (List ℕ)) → AllByRecursion IsBytes datagrams → (x y : List ℕ)
     → IsDumpAnswer datagrams x → IsDumpAnswer datagrams y → x ≡ y
 one_dump_text datagrams in_range = one_text IsWritable dump_text (IsDumpOf datagrams) (λ fault. ⊥)
     (one_of datagrams in_range) (λ d fault is never. never)
     (λ fault other never also. absurd never)
 
--- what answers datagrams answers others with the same items
+-- datagrams with the same concatenated items have the same answer
 pub answers_same_items : (datagrams others : List (List ℕ))
     (xs ys : List (List (Result (Payload Message) DecodeError)))
     → AllByRecursion IsBytes datagrams → AllZip (ItemsAre (ItemIs message_codec)) datagrams xs
@@ -82,7 +82,7 @@ answers_same_items datagrams others xs ys in_range each also same text =
     answers_more IsWritable dump_text (λ d. same_dump (ItemIs message_codec) one_items datagrams
     others xs ys in_range each also same [] d.0 d.1) (λ fault never. never)
 
--- and another split
+-- another split of the same bytes has the same answer
 pub answers_split : (datagrams others : List (List ℕ)) → AllByRecursion IsBytes others
     → AreSplit datagrams → AreSplit others → concat datagrams ≡ concat others
     → (text : List ℕ) → IsDumpAnswer datagrams text → IsDumpAnswer others text
@@ -92,9 +92,9 @@ answers_split datagrams others in_range split cut same text =
     (rw same at (dump_of_split (ItemIs message_codec) datagrams split [] d.0 d.1 is)))
     (λ fault never. never)
 
--- ---- one datagram more
+-- ---- one more datagram
 
--- a further datagram goes on with a dump that is still read, and leaves another as it is
+-- one more datagram continues a dump that is being read, and leaves any other unchanged
 pub one_more : (datagrams : List (List ℕ)) (datagram : List ℕ) (old new : DumpOutcome)
     (items : List (Result (Payload Message) DecodeError))
     → ItemsAre (ItemIs message_codec) datagram items → IsDumpOf datagrams old
@@ -110,7 +110,7 @@ one_more datagrams datagram old new items are (parts, each, dump) next =
           (joined [] old.0 new.0 old.1 new.1 (concatenation parts) items dump next),
     )
 
--- one that has ended is no more read
+-- a dump that has ended is not being read
 pub over_at : (state : Standing) (fault : Option DecodeError) → state ≢ unended
     → ended_with state fault ≢ Ok unended
 over_at state None over = λ e. over (cc)

@@ -1,4 +1,4 @@
--- The text of netlink messages, which is all of them.
+-- The text of a netlink message shows the whole message.
 use Rattle.std.proofs.Common.{◌≡◌, ℕ, ◌<◌, ◌^◌, List, decimal, sym, subst, arith}
 use Rattle.std.proofs.lemmas.Fmt.{decimal_injective}
 use Rattle.netlink_core.specs.Bytes.{IsBytes}
@@ -18,7 +18,7 @@ use Rattle.sock_diag_lines.specs.Answer.{entry_of}
 use Rattle.sock_diag_lines.specs.declared.answers.Name.TheVariants.{NetlinkMessage}
 use Rattle.sock_diag_lines.proofs.SubjectLaws.{LawsOf, HasFullText}
 
--- ---- words
+-- ---- numbers
 
 word-same : (m n : ℕ) (rest other : List ℕ) → m < 2 ^ 32 → n < 2 ^ 32 → word m rest ≡ word n other
     → (m ≡ n) × (rest ≡ other)
@@ -29,7 +29,7 @@ word-same m n rest other hm hn e =
 
 -- ---- payloads
 
--- what is written of a payload that was read is bytes
+-- a parsed payload serializes to bytes
 payload_written : (t : ℕ) (x : List ℕ) (p : Payload Message) → IsBytes x
     → PayloadIs message_codec.reads x t p → IsBytes (payload_bytes message_codec.written p)
 payload_written t x Noop hx r = λ i. omega arith
@@ -41,7 +41,7 @@ payload_written t x (InnerMessage m) hx r =
 
 -- ---- messages
 
--- the fields of the header and the written payload show all of a message
+-- the header fields and the serialized payload show the whole message
 pub envelope_has_full_text : HasFullText (entry_of NetlinkMessage).1
 envelope_has_full_text b c v w hb hc r s f g e =
     let h = r.0.1 in

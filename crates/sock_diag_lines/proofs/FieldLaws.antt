@@ -1,4 +1,4 @@
--- Hex fields and decimal words tell what they were made of.
+-- Hex fields and decimal numbers determine what they show.
 use Rattle.std.proofs.Common.{◌≡◌, ◌==◌, inl, inr, ℕ, ◌<◌, ◌^◌, true, List, [], ◌∷◌, ◌++◌, length}
 use Rattle.std.proofs.Common.{decimal, refl, sym, ap₂, subst, arith}
 use Rattle.std.specs.Str.{all_ascii_digits}
@@ -10,24 +10,24 @@ use Rattle.netlink_core.specs.Bytes.{IsBytes}
 use Rattle.sock_diag_lines.specs.HexField.{IsHexField, field_of}
 use Rattle.sock_diag_lines.proofs.FieldLists.{one_field}
 
--- what a field stands for is bytes
+-- the contents of a hex field are bytes
 pub IsBytes-field : (field content : List ℕ) → IsHexField field content → IsBytes content
 IsBytes-field field content (inl dash) = λ i. rw dash.1 (omega arith)
 IsBytes-field field content (inr digits) = (decode_of-ok field content digits.1).3
 
--- the field of bytes stands for them
+-- the hex field of bytes has these bytes
 field_stands : (x : List ℕ) → IsBytes x → IsHexField (field_of x) x
 field_stands [] h = inl (refl, refl)
 field_stands (b ∷ x) h =
     let some = false_from_ne_true (length (b ∷ x) == 0) (λ e. omega (arith, eqb-true _ 0 e)) in
     rw some (inr (omega arith, decode_of-encode_lower (b ∷ x) h))
 
--- equal fields stand for equal bytes
+-- equal hex fields have equal bytes
 pub field_of-same : (x y : List ℕ) → IsBytes x → IsBytes y → field_of x ≡ field_of y → x ≡ y
 field_of-same x y hx hy e = one_field (field_of x) x y (field_stands x hx)
     (subst (λ (f : List ℕ). IsHexField f y) (sym e) (field_stands y hy))
 
--- a word of digits before a space, and what follows it
+-- digits before a space, and the rest after it, are determined by the text
 pub word_and_rest : (x y rest other : List ℕ) → all_ascii_digits x ≡ true
     → all_ascii_digits y ≡ true → x ++ 32 ∷ rest ≡ y ++ 32 ∷ other → (x ≡ y) × (rest ≡ other)
 word_and_rest [] [] rest other hx hy e = (refl, (cc))
@@ -42,6 +42,6 @@ word_and_rest (c ∷ x) (d ∷ y) rest other hx hy e =
     (tells_all_ascii_digits.parts d y hy).1 later in
     (ap₂ (λ (z : ℕ) (zs : List ℕ). z ∷ zs) same both.0, both.1)
 
--- a number is a word of digits
+-- a decimal number consists of digits
 pub decimal_digits : (n : ℕ) → n < 2 ^ 64 → all_ascii_digits (decimal n) ≡ true
 decimal_digits n h = digits_decimal (numerals_by_value _ tells_all_ascii_digits) n h

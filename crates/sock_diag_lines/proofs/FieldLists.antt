@@ -1,4 +1,4 @@
--- What bytes a field and a row of fields stand for.
+-- The bytes of one and of several hex fields.
 use Rattle.std.proofs.Common.{◌≡◌, ◌≢◌, ◌==◌, ◌⊎◌, inl, inr, ℕ, ◌<◌, true, List, [], ◌∷◌, length}
 use Rattle.std.proofs.Common.{codes, Result, Ok, Err, refl, sym, ap, ap₂, ◌∙◌, arith}
 use Rattle.std.specs.List.{AllByRecursion, AllZip}
@@ -9,16 +9,16 @@ use Rattle.hex.specs.declared.error.FromHexError.{FromHexError}
 use Rattle.sock_diag_lines.specs.HexField.{IsHexField}
 use Rattle.sock_diag_lines.proofs.Deciding.{each_or_not, same_or_not}
 
--- the field stands for bytes
+-- the field is a hex field
 abbrev pub HasBytes : List ℕ → Type 0
 HasBytes field = (bytes : List ℕ) × IsHexField field bytes
 
--- digits are not `-`
+-- `-` has no digits
 no_digits : (field bytes : List ℕ) → field ≡ codes "-" → decode_of field ≡ Ok bytes → ⊥
 no_digits field bytes dash read =
     omega (arith, (decode_of-ok field bytes read).0, ap length dash)
 
--- and not empty
+-- an empty field is not a hex field
 pub no_field : (field bytes : List ℕ) → (length field == 0) ≡ true → IsHexField field bytes → ⊥
 no_field field bytes empty (inl dash) =
     omega (arith, ap length dash.0, eqb-true (length field) 0 empty)
@@ -50,7 +50,7 @@ field_or_not field = elim (same_or_not field (codes "-")) [
         omega (arith, d.0, ap length (decode_of-same field [] has.0 e d.1)))
     by_digits (Err x) e other = inr (λ has. let d = digits has.0 other has.1 in cc (e, d.1))
 
--- whether fields stand for the bytes of a row
+-- several fields are hex fields if each one is, and only then; whether they are is decidable
 pub each_has_bytes : (fields row : List (List ℕ)) → AllZip IsHexField fields row
     → AllByRecursion HasBytes fields
 each_has_bytes [] row each = tt
@@ -69,7 +69,7 @@ row_or_not fields = elim (each_or_not HasBytes field_or_not fields) [
   | inr none ↦ inr (λ all. none (each_has_bytes fields all.0 all.1))
 ]
 
--- and for one row
+-- several hex fields have one list of byte strings
 pub one_list_of_bytes : (fields row other : List (List ℕ)) → AllZip IsHexField fields row
     → AllZip IsHexField fields other → row ≡ other
 one_list_of_bytes [] [] [] h k = refl

@@ -1,4 +1,4 @@
--- The laws of what the bytes of each name are read as.
+-- The subject laws of each name.
 use Rattle.std.proofs.Common.{◌≢◌, ◌⊎◌, inl, refl}
 use Rattle.std.specs.Prelude.{⊤}
 use Rattle.sock_diag_records.specs.UnixRequest.{unix_request}
@@ -29,14 +29,14 @@ use Rattle.sock_diag_lines.proofs.Deciding.{message_fits_or_not, reply_fits_or_n
 use Rattle.sock_diag_lines.proofs.EnvelopeLaws.{envelope_laws, envelope_has_full_text}
 use Rattle.sock_diag_lines.proofs.SubjectLaws.{LawsOf, HasFullText}
 
--- what is read as a codec says, and shown as it is written back
+-- the laws of a subject that shows the canonical form
 shown : {Param P : Type 0} (C : Codec Param) → KeepsLaws C → (param : Param)
     → ((v : C.Value) → C.fits v ⊎ ¬ C.fits v)
     → LawsOf (subject C param) × (P → HasFullText (subject C param))
 shown C laws param fits_or_not =
     (text_laws C laws param C.fits fits_or_not, λ p. canonical_has_full_text C laws param)
 
--- the laws of each, and all names but `unixview` show all
+-- the laws of each name; every name except `unixview` shows the whole value
 pub laws_of : (name : Name)
     → LawsOf (entry_of name).1 × (name ≢ UnixView → HasFullText (entry_of name).1)
 laws_of UnixRequest = shown (record_codec unix_request)

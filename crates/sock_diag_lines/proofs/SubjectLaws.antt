@@ -1,37 +1,37 @@
--- What is proved of a subject.
+-- The laws of a subject.
 use Rattle.std.proofs.Common.{◌≡◌, ◌↔◌, ◌⊎◌, ℕ, List}
 use Rattle.netlink_core.specs.Bytes.{IsBytes}
 use Rattle.netlink_core.specs.declared.fault.DecodeError.{DecodeError}
 use Rattle.sock_diag_lines.specs.AnswerText.{Subject}
 
--- what is proved of what is read
+-- the laws of how bytes are parsed
 pub record SubjectLaws {Value : Type 0} (reads : List ℕ → Value → Type 0)
     (refuses : List ℕ → DecodeError → Type 0) (fits : Value → Type 0)
     (idle : List ℕ → List ℕ → Type 0) : Type 0 where
-  -- bytes have one value or one fault, not both
+  -- bytes have a value or an error, not both, and one error at most
   pub answered : (b : List ℕ) → IsBytes b → ((v : Value) × reads b v)
       ⊎ ((e : DecodeError) × refuses b e)
   pub one_answer : (b : List ℕ) (v : Value) (e : DecodeError) → reads b v → refuses b e → ⊥
   pub one_fault : (b : List ℕ) (e f : DecodeError) → refuses b e → refuses b f → e ≡ f
-  -- two strings have equal values exactly where they are idle
+  -- two accepted inputs have equal values if and only if they are equivalent (`idle`)
   pub same_value : (b c : List ℕ) (v w : Value) → IsBytes b → IsBytes c → reads b v → reads c w
       → ((v ≡ w) ↔ idle b c)
-  -- whether a value can be written is decided
+  -- it is decidable whether a value is writable
   pub fits_or_not : (v : Value) → fits v ⊎ ¬ fits v
 
 abbrev pub LawsOf : Subject → Type 0
 LawsOf (_, C, p, text_of) =
     SubjectLaws (λ b v. C.reads b p v) (λ b e. C.refuses b p e) C.fits (C.idle p)
 
--- values that can be written and show the same are equal
+-- the text shows the whole value: writable values with equal texts are equal
 abbrev pub HasFullText : Subject → Type 0
 HasFullText (_, C, p, text_of) = (b c : List ℕ) (v w : C.Value) → IsBytes b → IsBytes c
     → C.reads b p v → C.reads c p w → C.fits v → C.fits w → text_of v ≡ text_of w → v ≡ w
 
--- the bytes have a value that can be written
+-- the bytes have a writable value
 abbrev pub IsAccepted : Subject → List ℕ → Type 0
 IsAccepted (_, C, p, text_of) b = (v : C.Value) × C.reads b p v × C.fits v
 
--- they differ in idle details alone
+-- the bytes are equivalent: they differ only in ignored bits
 abbrev pub AreIdleAs : Subject → List ℕ → List ℕ → Type 0
 AreIdleAs (_, C, p, text_of) b c = C.idle p b c

@@ -1,4 +1,5 @@
--- How the words of a reply come together, and what is left of its numbers.
+-- The values of a reply, appended one at a time, are the joined values; and the numbers that are
+-- left of a list.
 use Rattle.std.proofs.Common.{◌≡◌, ◌+◌, ℕ, suc, List, ◌∷◌, ◌++◌, [], drop, Some, slice_get}
 use Rattle.std.proofs.Common.{refl, ap, ◌∙◌, add-one, append_assoc}
 use Rattle.std.specs.List.{join_with_byte}
@@ -9,7 +10,7 @@ pub left_at : (xs : List ℕ) (i x : ℕ) → slice_get xs i ≡ Some x → drop
 left_at xs i x h = rw add-one (drop-cons xs i 0 (slice_get_within xs i x h)
     ∙ ap (λ y. y ∷ drop (suc i) xs) (get_or_from_slice_get xs i x 0 h))
 
--- a text with words behind it, each behind a space
+-- a text followed by words, each after a space
 abbrev pub with_words : List ℕ → List (List ℕ) → List ℕ
 with_words text [] = text
 with_words text (word ∷ words) = with_words (text ++ 32 ∷ word) words

@@ -1,4 +1,5 @@
--- The answer to a line: a name, one space and a hex field, a dump over datagrams, or anything else.
+-- The answer to a line. A line is a name, one space and a hex field; or a dump over datagrams; or
+-- anything else.
 use Rattle.std.specs.Prelude.{◌≡◌, ◌&&◌, ◌∷◌, ℕ, Bool, List, ◌++◌, codes, eqb, not, ⊤}
 use Rattle.std.specs.List.{starts_with}
 use Rattle.sock_diag_records.specs.UnixRequest.{unix_request}
@@ -21,8 +22,10 @@ use Rattle.sock_diag_lines.specs.declared.answers.Name.TheVariants.{InetRequest,
 use Rattle.sock_diag_lines.specs.declared.answers.Name.TheVariants.{SocketId4, SocketId6, Message}
 use Rattle.sock_diag_lines.specs.declared.answers.Name.TheVariants.{NetlinkMessage, UnixView}
 
--- How each name is spelled, and what its bytes are read as; the socket identities under AF_INET, 2,
--- and AF_INET6, 10, and a message under the type 20, SOCK_DIAG_BY_FAMILY.
+-- The spelling of each name, the codec of its bytes with its parameter, and the text of a value.
+-- The parameter of a socket id is the address family, AF_INET (2) or AF_INET6 (10). The parameter
+-- of a message is its type, SOCK_DIAG_BY_FAMILY (20). The text is the canonical form in hex, except
+-- for the last two names.
 abbrev pub entry_of : Name → List ℕ × Subject
 entry_of UnixRequest = (codes "unixreq", subject (record_codec unix_request) tt)
 entry_of UnixResponse = (codes "unix", subject (response_codec unix_response_spec) tt)
@@ -31,24 +34,28 @@ entry_of InetResponse = (codes "inet", subject (response_codec inet_response_spe
 entry_of SocketId4 = (codes "sockid4", subject (record_codec socket_id) 2)
 entry_of SocketId6 = (codes "sockid6", subject (record_codec socket_id) 10)
 entry_of Message = (codes "message", subject message_codec 20)
--- the fields of the header as they were read, and the written bytes of the payload
+-- the fields of the header as they were parsed, and the serialized payload
 entry_of NetlinkMessage = (codes "netlink", (_, envelope_codec message_codec, tt, envelope_text))
--- thirteen words of a reply about a UNIX socket, whether or not it can be written
+-- thirteen values of a reply about a UNIX socket; never `unwritable`, since each value counts as
+-- writable (`fits`)
 entry_of UnixView = let replies = record (response_codec unix_response_spec) { fits = λ v. ⊤ } in
     (codes "unixview", (_, replies, tt, reply_text))
 
--- the line is a name, one space and a hex field of these bytes
+-- the line is this name, one space and a hex field of these bytes
 abbrev pub IsRequest : List ℕ → Name → List ℕ → Type 0
 IsRequest line name b = (hex : List ℕ) × (line ≡ (entry_of name).0 ++ 32 ∷ hex) × IsHexField hex b
 
--- The text answers the line: it answers the bytes of its name, or of its dump, and is `bad line`
--- where the line is no name with a hex field, and no dump.
+-- The text answers the line. If the line is a name and a hex field, it answers the bytes. If it is
+-- a dump over datagrams, it answers the dump. Else it is `bad line`.
 pub record IsAnswerOf (line text : List ℕ) : Type 0 where
+  -- if the line is a name and a hex field
   pub asked : (n : Name) (b : List ℕ) → IsRequest line n b → IsAnswerAs (entry_of n).1 b text
+  -- if the line is a dump over datagrams
   pub dumped : (given : List (List ℕ)) → IsDumpRequest line given → IsDumpAnswer given text
+  -- if the line is neither
   pub other : ((name : Name) (b : List ℕ) → ¬ IsRequest line name b)
       → ((datagrams : List (List ℕ)) → ¬ IsDumpRequest line datagrams) → text ≡ codes "bad line"
 
--- the answer is `ok`, and not a dump that failed
+-- the answer starts with `ok `, and it is not a dump that failed
 abbrev pub is_good : List ℕ → Bool
 is_good text = starts_with eqb text (codes "ok ") && not (starts_with eqb text (codes "ok failed"))

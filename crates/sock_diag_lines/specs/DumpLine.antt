@@ -1,4 +1,4 @@
--- A line that asks for the dump over some datagrams, and the text of it.
+-- A line with the datagrams of a dump, and the answer to it.
 use Rattle.std.specs.Prelude.{◌≡◌, ◌==◌, ℕ, List, [], ◌∷◌, ◌++◌, length, codes, decimal, Result, Ok}
 use Rattle.std.specs.Prelude.{Err}
 use Rattle.std.specs.List.{AllByRecursion, AllZip, flat_map, slice_split}
@@ -12,12 +12,14 @@ use Rattle.netlink_packet_sock_diag.specs.Message.{Message, message_codec}
 use Rattle.sock_diag_lines.specs.HexField.{IsHexField, field_of}
 use Rattle.sock_diag_lines.specs.AnswerText.{IsAnswerText}
 
--- the line is `dump`, a space, and hex fields of these datagrams with one space, 32, between
+-- the line is `dump`, a space, and one or more hex fields separated by one space, 32, whose bytes
+-- are these datagrams
 abbrev pub IsDumpRequest : List ℕ → List (List ℕ) → Type 0
 IsDumpRequest line datagrams = (fields : List ℕ) × (line ≡ codes "dump" ++ 32 ∷ fields)
     × AllZip IsHexField (slice_split (λ c. c == 32) fields) datagrams
 
--- the word for the state, or `failed:` and the number of the fault
+-- The name of the state, or `failed:` and the code of the error. No dump ends with
+-- `Ok (Failed, _)`.
 abbrev pub end_word : Result Standing DecodeError → List ℕ
 end_word (Ok (Reading, number)) = codes "reading"
 end_word (Ok (Done, number)) = codes "done"
@@ -26,14 +28,14 @@ end_word (Ok (Overrun, number)) = codes "overrun"
 end_word (Ok (Failed, number)) = codes "failed"
 end_word (Err fault) = codes "failed:" ++ decimal (number_of fault)
 
--- of a dump's messages and its end: how it ends, a space, how many messages it keeps, and a space
--- and a hex field for each of them
+-- dump_text (messages, end): the state, a space, and the number of messages; then a space and a hex
+-- field for each message
 abbrev pub dump_text : List Message × Result Standing DecodeError → List ℕ
 dump_text dump = end_word dump.1 ++ 32 ∷ decimal (length dump.0)
     ++ flat_map (λ message. 32 ∷ field_of (message_codec.written message)) dump.0
 
--- The text answers the dump over the datagrams, which is never refused. It can be written where
--- each message that it keeps can be.
+-- The text answers the dump over the datagrams. It is never `refused`, and it is `unwritable`
+-- unless each message of the dump is writable.
 abbrev pub IsDumpAnswer : List (List ℕ) → List ℕ → Type 0
 IsDumpAnswer given = IsAnswerText (λ d. DatagramsDump (ItemIs message_codec) [] given d.0 d.1)
     (λ e. ⊥) (λ d. AllByRecursion message_codec.fits d.0) dump_text

@@ -1,5 +1,4 @@
--- The text of a netlink message: the five fields of its header in decimal, and its payload's
--- bytes as a hex field.
+-- The text of a netlink message: the five fields of its header in decimal, and its payload in hex.
 use Rattle.std.specs.Prelude.{ℕ, List, [], ◌∷◌, ◌++◌, map, decimal}
 use Rattle.std.specs.List.{join_with_byte}
 use Rattle.netlink_core.specs.Envelope.{Envelope, payload_bytes}
@@ -7,8 +6,8 @@ use Rattle.netlink_core.specs.Header.{header_values}
 use Rattle.netlink_packet_sock_diag.specs.Message.{Message, message_codec}
 use Rattle.sock_diag_lines.specs.HexField.{field_of}
 
--- length, type, flags, sequence number and port number as they were read, and the payload as it is
--- written, with one space, 32, between
+-- `nlmsg_len`, `nlmsg_type`, `nlmsg_flags`, `nlmsg_seq` and `nlmsg_pid` as they were parsed, and
+-- the serialized payload as a hex field, separated by one space, 32
 abbrev pub envelope_text : Envelope Message → List ℕ
 envelope_text e = join_with_byte 32 (map decimal (header_values e.header)
     ++ field_of (payload_bytes message_codec.written e.payload) ∷ [])

@@ -1,4 +1,4 @@
--- Definitions that only the contracts of private functions need.
+-- Definitions that only the contracts of private functions use.
 pub mod Text
 pub mod View
 pub mod ReadDump

@@ -32,51 +32,53 @@ use netlink_packet_sock_diag::unix::{UnixRequest, UnixResponse};
 use netlink_packet_sock_diag::{MessageView, PayloadView, SockDiagMessage, SockDiagView};
 use std::alloc::{AllocError, Global};
 
-/// The name at the start of a line, which says what the bytes are.
+/// The name at the start of a line, which selects the codec of the bytes.
 #[derive(Clone, Copy, Debug, PartialEq, Eq)]
 pub(crate) enum Name {
     UnixRequest,
     UnixResponse,
     InetRequest,
     InetResponse,
-    /// A socket's identity with IPv4 addresses.
+    /// A socket id with IPv4 addresses.
     SocketId4,
-    /// A socket's identity with IPv6 addresses.
+    /// A socket id with IPv6 addresses.
     SocketId6,
     /// A message of sock_diag(7) without its netlink header.
     Message,
-    /// The same with its netlink header.
+    /// A whole netlink message.
     NetlinkMessage,
-    /// A reply about a UNIX socket, which is looked at in place.
+    /// A reply about a UNIX socket, of which the values are shown.
     UnixView,
 }
 
-/// What a line asks for.
+/// The request in a line.
 #[derive(Drop)]
 pub(crate) enum Asked {
-    /// What the bytes of its field are, under its name.
+    /// The bytes of the line's field, under its name.
     Field(Name),
-    /// The dump over its datagrams.
+    /// A dump over the line's datagrams.
     Dump(ReadDump),
-    /// Nothing: the line is of another form.
+    /// The line has another form.
     Nothing,
 }
 
-/// The word before the datagrams of a dump.
+/// Name of a line that contains the datagrams of a dump.
 const DUMP: &[u8] = b"dump";
 
 /// The answer to a line of another form.
 const BAD_LINE: &[u8] = b"bad line";
 
-/// The answer to a line, without its line feed: `ok` and the text of the value that was read,
-/// `unwritable`, `refused` and the number of the first fault, or `bad line`. Shown are the bytes
-/// written back, for `netlink` behind the five fields of the header, and for `unixview` thirteen
-/// words.
+/// Returns the answer to a line, without a line feed. It is `ok` and the text of the parsed value;
+/// or `unwritable`; or `refused` and the code of the first decode error; or `bad line`. The text is
+/// the canonical form in hex. For `netlink` it is the five fields of the header and the serialized
+/// payload. For `unixview` it is thirteen values of the reply. For `dump` it is the state of the
+/// dump, the number of its messages and each serialized message.
 pub fn answer(alloc: Global, line: &[u8]) -> Result<Vec<u8>, AllocError>
     ensures answers { IfOk result (λ text. IsAnswerOf line.now text.items) }
 
-    // Two fields of one name whose values can be written have one answer exactly where they differ
-    // in idle details alone. Only `unixview` shows less than that. `C` is the codec of the name.
+    // Two inputs of one name other than `unixview`, both with writable values, have the same answer
+    // if and only if they are equivalent (`idle`). `C` is the codec of the name. `unixview` does
+    // not show the whole value.
     ensures same { IfOk result (λ text. (name : Name) → name ≢ UnixView
         → let C = (entry_of name).1.1 in let param = (entry_of name).1.2 in
         (other bytes bytes' text' : List ℕ) (value value' : C.Value)
@@ -84,7 +86,7 @@ pub fn answer(alloc: Global, line: &[u8]) -> Result<Vec<u8>, AllocError>
         → C.reads bytes param value → C.fits value
         → C.reads bytes' param value' → C.fits value'
         → IsAnswerOf other text' → ((text.items ≡ text') ↔ C.idle param bytes bytes')) }
-    // Two fields of any name that differ in idle details alone have one answer.
+    // Two equivalent inputs of any name, both with writable values, have the same answer.
     ensures alike { IfOk result (λ text. (name : Name)
         → let C = (entry_of name).1.1 in let param = (entry_of name).1.2 in
         (other bytes bytes' text' : List ℕ) (value value' : C.Value)
@@ -92,7 +94,7 @@ pub fn answer(alloc: Global, line: &[u8]) -> Result<Vec<u8>, AllocError>
         → C.reads bytes param value → C.fits value
         → C.reads bytes' param value' → C.fits value'
         → IsAnswerOf other text' → C.idle param bytes bytes' → text.items ≡ text') }
-    // Two dumps whose datagrams have the same items in a row have one answer.
+    // Two dumps have the same answer if the concatenated items of their datagrams are equal.
     ensures dumps { IfOk result
         (λ text. (other text' : List ℕ) (datagrams datagrams' : List (List ℕ))
         (items items' : List (List (Result (Payload Message) DecodeError)))
@@ -101,8 +103,8 @@ pub fn answer(alloc: Global, line: &[u8]) -> Result<Vec<u8>, AllocError>
         → AllZip (ItemsAre (ItemIs message_codec)) datagrams' items'
         → flat_map (λ one. one) items ≡ flat_map (λ one. one) items'
         → IsAnswerOf other text' → text.items ≡ text') }
-    // So have two dumps of the same bytes, of which each datagram but the last is whole messages
-    // with all padding.
+    // Two dumps of the same concatenated bytes have the same answer, if each of their datagrams
+    // except the last consists of complete messages with all their padding.
     ensures split { IfOk result
         (λ text. (other text' : List ℕ) (datagrams datagrams' : List (List ℕ))
         → IsDumpRequest line.now datagrams → IsDumpRequest other datagrams'
@@ -115,15 +117,15 @@ pub fn answer(alloc: Global, line: &[u8]) -> Result<Vec<u8>, AllocError>
     Ok(text)
 }
 
-/// Each line has one answer. It does nothing: its contract is the law.
+/// Each line has exactly one answer. Proof only: the contract states the property.
 pub fn each_line_has_one_answer()
     ensures some { (answer : List ℕ → List ℕ) × ((line : List ℕ) → IsAnswerOf line (answer line)) }
     ensures one { (line text other : List ℕ) → IsAnswerOf line text → IsAnswerOf line other
         → text ≡ other }
 {}
 
-/// Adds the answer to a line to the text. Where memory runs out the text may have a part of it.
-/// `bytes` is room for the bytes of the field.
+/// Appends the answer to a line to the text. If memory runs out, a part of the answer may have been
+/// appended. `bytes` is a buffer for the bytes of the field.
 pub(crate) fn push_answer(
     alloc: Global,
     bytes: &mut Vec<u8>,
@@ -136,7 +138,7 @@ pub(crate) fn push_answer(
     push_answer_text(alloc, text, asked, bytes.as_slice())
 }
 
-/// What a line asks for. The bytes of its last field are put in place of what `bytes` held.
+/// Parses a line. `bytes` is replaced by the bytes of the line's last field.
 pub(crate) fn read_request(
     alloc: Global,
     bytes: &mut Vec<u8>,
@@ -160,7 +162,7 @@ pub(crate) fn read_request(
     }
 }
 
-/// What a line asks for whose name is `dump`, by the text behind the space.
+/// Parses a line whose name is `dump`, given the text after the space.
 fn read_dump_request(alloc: Global, bytes: &mut Vec<u8>, fields: &[u8]) -> Result<Asked, AllocError>
     ensures { IfOk result (λ asked. IsReadAs (codes "dump" ++ 32 ∷ fields.now) asked
         bytes.new.items) }
@@ -171,7 +173,7 @@ fn read_dump_request(alloc: Global, bytes: &mut Vec<u8>, fields: &[u8]) -> Resul
     }
 }
 
-/// Adds the answer to what a line asks for, which may be about the bytes of its field.
+/// Appends the answer to the request. `bytes` are the bytes of its field.
 pub(crate) fn push_answer_text(
     alloc: Global,
     text: &mut Vec<u8>,
@@ -187,7 +189,7 @@ pub(crate) fn push_answer_text(
     }
 }
 
-/// Adds the answer to a name and the bytes of its field.
+/// Appends the answer to a name and the bytes of its field.
 fn push_named(alloc: Global, text: &mut Vec<u8>, name: Name, bytes: &[u8]) -> Result<(), AllocError>
     ensures { OnOk result (Adds text.old.items text.new.items
         (IsAnswerAs (entry_of name).1 bytes.now)) }
@@ -207,7 +209,7 @@ fn push_named(alloc: Global, text: &mut Vec<u8>, name: Name, bytes: &[u8]) -> Re
     }
 }
 
-/// Adds `ok` and the canonical form, `unwritable`, or `refused` and the number of the fault.
+/// Appends `ok` and the canonical form, `unwritable`, or `refused` and the code of the error.
 fn push_canonical<T: Wire + Drop>(
     alloc: Global,
     text: &mut Vec<u8>,
@@ -226,8 +228,8 @@ fn push_canonical<T: Wire + Drop>(
     }
 }
 
-/// Adds `ok` and the text of a netlink message, `unwritable`, or `refused` and the number of
-/// the fault.
+/// Appends `ok` and the text of a netlink message, `unwritable`, or `refused` and the code of the
+/// error.
 fn push_netlink_message(alloc: Global, text: &mut Vec<u8>, bytes: &[u8]) -> Result<(), AllocError>
     ensures { OnOk result (Adds text.old.items text.new.items
         (IsAnswerAs (entry_of NetlinkMessage).1 bytes.now)) }
@@ -238,7 +240,7 @@ fn push_netlink_message(alloc: Global, text: &mut Vec<u8>, bytes: &[u8]) -> Resu
     }
 }
 
-/// Adds `ok`, the five fields of the header and the payload as it is written back, or `unwritable`.
+/// Appends `ok`, the five fields of the header and the serialized payload, or `unwritable`.
 fn push_envelope_text(
     alloc: Global,
     text: &mut Vec<u8>,
@@ -260,7 +262,7 @@ fn push_envelope_text(
     }
 }
 
-/// Adds `ok`, the five fields of a header and an inner message as it is written back.
+/// Appends `ok`, the five fields of a header and a serialized inner message.
 fn push_inner(
     alloc: Global,
     text: &mut Vec<u8>,
@@ -279,7 +281,7 @@ fn push_inner(
     push_envelope(text, header, &bytes)
 }
 
-/// Adds `ok`, the five fields of a header and a payload.
+/// Appends `ok`, the five fields of a header and a payload.
 fn push_envelope(
     text: &mut Vec<u8>,
     header: &NetlinkHeader,
@@ -298,7 +300,7 @@ fn push_envelope(
     push_field(text, payload)
 }
 
-/// Adds a number in decimal and a space to the text.
+/// Appends a number in decimal and a space.
 fn push_word(text: &mut Vec<u8>, number: u32) -> Result<(), AllocError>
     ensures { OnOk result (text.new.items ≡ text.old.items ++ (decimal number ++ 32 ∷ [])) }
 {
@@ -306,7 +308,7 @@ fn push_word(text: &mut Vec<u8>, number: u32) -> Result<(), AllocError>
     Ok(text.push(b' ')?)
 }
 
-/// The name that a word is.
+/// Returns the name that is spelled in this way, or `None`.
 fn find_name(word: &[u8]) -> Option<Name>
     ensures { MatchOption result ((name : Name) → word.now ≢ (entry_of name).0)
         (λ name. word.now ≡ (entry_of name).0) }

@@ -1,4 +1,4 @@
-//! What the arguments of a program that answers lines ask for.
+//! The command line of a program that answers lines.
 
 ghost use Rattle.std.specs.Prelude.{◌≡◌, ◌↔◌, ◌∷◌, [], codes, map, string_bytes};
 ghost use Rattle.std.proofs.Common.{rules};
@@ -29,16 +29,16 @@ ignored.
 Exit status: 0 at the end of input; 1 if reading or writing failed or memory
 ran out, with the reason on standard error.";
 
-/// What the command line asks for.
+/// What the command line requests.
 #[derive(Clone, Copy, Debug, PartialEq, Eq)]
 pub enum Choice {
-    /// To answer the lines of standard input.
+    /// Answer the lines of standard input.
     Answer,
-    /// The same, with status 3 if an answer is not `ok` or a dump failed.
+    /// Answer lines, with exit status 3 if an answer is not `ok` or a dump failed.
     Strict,
-    /// To print the help text.
+    /// Print the help text.
     Help,
-    /// To print the version.
+    /// Print the version.
     Version,
 }
 
@@ -46,7 +46,7 @@ impl Exact for Choice {
     ghost exact = { Prim.search rules };
 }
 
-/// Returns what the command line asks for, by the arguments after the program's name: `Answer`
+/// Returns what the command line requests, given the arguments after the program's name: `Answer`
 /// unless there is exactly one argument and it is a known option.
 pub fn choose(arguments: &[String]) -> Choice
     ensures strict { (result ≡ Strict) ↔ (map string_bytes arguments.now ≡ codes "--strict" ∷ []) }

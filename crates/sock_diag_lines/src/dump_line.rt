@@ -1,4 +1,4 @@
-//! The answer to a line that asks for the dump over some datagrams.
+//! The answer to a line that contains the datagrams of a dump.
 
 ghost use Rattle.std.specs.Prelude.{◌≡◌, ◌↔◌, ◌++◌, ℕ, ℤ, List, Option, map, IsTrue, IfOk, OnOk};
 ghost use Rattle.std.specs.Prelude.{MatchBool, MatchOption, Ok};
@@ -19,16 +19,16 @@ use netlink_core::{DecodeError, Emitable};
 use netlink_packet_sock_diag::{DumpError, DumpReader, DumpState, SockDiagMessage};
 use std::alloc::{AllocError, Global};
 
-/// A dump whose datagrams were read.
+/// A dump after its datagrams were read.
 #[derive(Drop)]
 pub(crate) struct ReadDump {
     reader: DumpReader,
-    /// The fault at which it failed.
+    /// The decode error that ended the dump, if any.
     fault: Option<DecodeError>,
 }
 
-/// The dump over the datagrams that hex fields stand for, with one space between the fields. None
-/// where one is no hex field. `bytes` is room for the bytes of a field.
+/// Reads the dump over the datagrams in hex fields that are separated by one space. Returns `None`
+/// if one of them is not a hex field. `bytes` is a buffer for the bytes of a field.
 pub(crate) fn read_dump(
     alloc: Global,
     bytes: &mut Vec<u8>,
@@ -57,7 +57,7 @@ pub(crate) fn read_dump(
     }
 }
 
-/// Takes the datagram that a hex field stands for, and answers whether it is one.
+/// Feeds the datagram in a hex field. Returns whether the field is a hex field.
 fn take_field(dump: &mut ReadDump, bytes: &mut Vec<u8>, field: &[u8]) -> Result<bool, AllocError>
     ensures { IfOk result (λ is_field. MatchBool is_field
         ((datagram : List ℕ) × IsHexField field.now datagram
@@ -71,7 +71,7 @@ fn take_field(dump: &mut ReadDump, bytes: &mut Vec<u8>, field: &[u8]) -> Result<
     Ok(true)
 }
 
-/// Feeds a datagram. A dump that has ended stays as it is.
+/// Feeds a datagram. A dump that has ended is unchanged.
 fn take_datagram(dump: &mut ReadDump, datagram: &[u8]) -> Result<(), AllocError>
     ensures { OnOk result (TakesDatagram dump.old datagram.now dump.new) }
 {
@@ -88,7 +88,7 @@ fn take_datagram(dump: &mut ReadDump, datagram: &[u8]) -> Result<(), AllocError>
     }
 }
 
-/// Adds `ok`, how the dump ended, the number of its messages and the bytes of each, or
+/// Appends `ok`, the state of the dump, the number of its messages and the bytes of each, or
 /// `unwritable`.
 pub(crate) fn push_dump(
     alloc: Global,
@@ -109,7 +109,7 @@ pub(crate) fn push_dump(
     push_messages(alloc, text, messages)
 }
 
-/// Adds the word for the state, or `failed:` and the number of the fault.
+/// Appends the name of the state, or `failed:` and the code of the error.
 fn push_end(text: &mut Vec<u8>, dump: &ReadDump) -> Result<(), AllocError>
     ensures { OnOk result (text.new.items ≡ text.old.items ++ end_word (end_of dump.now)) }
 {
@@ -120,7 +120,7 @@ fn push_end(text: &mut Vec<u8>, dump: &ReadDump) -> Result<(), AllocError>
     push_number(text, fault.number().into())
 }
 
-/// The word for a state.
+/// Returns the name of a state.
 fn state_word(state: DumpState) -> &'static [u8]
     ensures { (number : Option ℤ) → result.now ≡ end_word (Ok (state, number)) }
 {
@@ -133,7 +133,7 @@ fn state_word(state: DumpState) -> &'static [u8]
     }
 }
 
-/// Whether each message can be written.
+/// Returns whether each message is writable.
 fn are_writable(messages: &[SockDiagMessage]) -> bool
     ensures { IsTrue result ↔ AllByRecursion message_codec.fits (map message_model messages.now) }
 {
@@ -145,7 +145,7 @@ fn are_writable(messages: &[SockDiagMessage]) -> bool
     true
 }
 
-/// Adds a space and the bytes as a hex field, for each message.
+/// Appends a space and the bytes as a hex field, for each message.
 fn push_messages(
     alloc: Global,
     text: &mut Vec<u8>,
@@ -161,7 +161,7 @@ fn push_messages(
     Ok(())
 }
 
-/// Adds a space and the bytes of a message as a hex field.
+/// Appends a space and the bytes of a message as a hex field.
 fn push_message(
     alloc: Global,
     text: &mut Vec<u8>,

@@ -8,7 +8,7 @@ ghost use Rattle.sock_diag_lines.specs.private.Text.{IsFirstSpace, is_space};
 use memchr::memchr;
 use std::alloc::AllocError;
 
-/// The place of the first space.
+/// Returns the offset of the first space.
 pub(crate) fn find_space(line: &[u8]) -> Option<usize>
     ensures { MatchOption result (slice_split is_space line.now ≡ line.now ∷ [])
         (IsFirstSpace line.now) }
@@ -16,8 +16,8 @@ pub(crate) fn find_space(line: &[u8]) -> Option<usize>
     memchr(b' ', line)
 }
 
-/// Puts the bytes that a hex field stands for in place of what `bytes` held, and answers whether it
-/// is one.
+/// Parses a hex field, and replaces the contents of `bytes` by its bytes. Returns whether it is a
+/// hex field.
 #[tactic(auto, using(crate::proofs::FieldLists::no_field))]
 pub(crate) fn read_field(bytes: &mut Vec<u8>, field: &[u8]) -> Result<bool, AllocError>
     ensures { IfOk result (λ is_field. MatchBool is_field (IsHexField field.now bytes.new.items)

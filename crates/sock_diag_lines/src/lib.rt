@@ -1,5 +1,5 @@
-//! Reads lines that name a message of the sock_diag protocol and give its bytes in hex, and writes
-//! one answer line for each of them.
+//! The line protocol of `sockdiag`: each input line has a name and the bytes of a message of
+//! sock_diag(7) in hex, and is answered by one line.
 #![tactic(auto)]
 
 ghost use Rattle.std.specs.Prelude.{◌≡◌, ◌≢◌, ◌&&◌, ◌++◌, ◌∷◌, [], if◌then◌else◌, not};
@@ -28,7 +28,7 @@ use std::process::ExitCode;
 use stream::answer_and_report;
 pub use stream::run;
 
-/// The version, that of the repository's file `VERSION`.
+/// The version, as in the file `VERSION` of the repository.
 pub const VERSION: &str = "0.11.0";
 
 /// Does what `run` does, writes one line on `errors` that names the failure if there is one, and
@@ -49,8 +49,8 @@ pub fn run_to_status<R: Read, W: Write, E: Write>(
         (answer_lines answer (with_rest whole rest))) }
     ensures silent { exit_status result ≢ 1
         → Keeps (E.contents errors.old) (E.contents errors.new) }
-    // How the run ended, and whether each answer is good. After a failure `errors` has the line
-    // that names it, or a prefix of that line if a write failed there too.
+    // The outcome of the run, and whether each answer is good. After a failure `errors` has the
+    // line that names it, or a prefix of that line if a write failed there too.
     ensures answered { (answer : List ℕ → List ℕ)
         → ((line : List ℕ) → IsAnswerOf line (answer line))
         → (outcome : Result Bool RunError)

@@ -1,4 +1,4 @@
-//! Answers the lines of a reader on a writer, by the line protocol.
+//! Reads lines, and writes their answers.
 ghost use Rattle.std.specs.Prelude.{◌≡◌, ℕ, Bool, List, ◌++◌, Result, Ok, Err, OnOk, IfErr, IfSome};
 ghost use Rattle.std.specs.Prelude.{MatchResult};
 ghost use Rattle.std.specs.Io.KnownBytes.{Appends, IsAtEnd, Keeps};
@@ -16,7 +16,7 @@ use std::alloc::{AllocError, Global};
 use std::io::{Read, Write};
 use std::marker::Brand;
 
-/// The line protocol.
+/// The line protocol of `sockdiag`.
 struct Protocol;
 
 impl LineAnswers for Protocol {
@@ -44,17 +44,19 @@ impl LineAnswers for Protocol {
     }
 }
 
-/// Whether an answer is a good one: `ok`, and not a dump that failed.
+/// Returns whether an answer is good: it starts with `ok`, and it is not a dump that failed.
 fn is_good(answer: &[u8]) -> bool
     ensures { result ≡ is_good answer.now }
 {
     answer.starts_with(OK) && !answer.starts_with(b"ok failed")
 }
 
-/// Writes the answer line of each line of `input`, and flushes. Before each read, the answers to
-/// all whole lines that were read stand on `output`. No call that failed is made again.
+/// Answers each line of `input` with one line on `output`, and flushes. Before each read, the
+/// answers to all complete lines that were read have been written to `output`. A call that failed
+/// is not repeated.
 pub fn run<R: Read, W: Write>(alloc: Global, input: &mut R, output: &mut W) -> Result<(), RunError>
-    // All is read, and the answers to all lines that the reader told at the start are written.
+    // If the run succeeds, all input was read. The answers to all its lines are written, if the
+    // bytes of the reader were known at the start.
     ensures ended { OnOk result (IsAtEnd (R.remaining input.new)) }
     ensures complete { OnOk result (IfSome (R.remaining input.old) (λ text.
         (answer : List ℕ → List ℕ) (whole : List (List ℕ)) (rest : List ℕ)
@@ -62,7 +64,7 @@ pub fn run<R: Read, W: Write>(alloc: Global, input: &mut R, output: &mut W) -> R
         → Appends (W.contents output.old) (W.contents output.new)
         (answer_lines answer (with_rest whole rest)))) }
 
-    // What was read and written, for each way to end.
+    // The bytes that were read and written, for each outcome.
     ensures answered { (answer : List ℕ → List ℕ)
         → ((line : List ℕ) → IsAnswerOf line (answer line))
         → (outcome : Result Bool RunError)
@@ -74,15 +76,16 @@ pub fn run<R: Read, W: Write>(alloc: Global, input: &mut R, output: &mut W) -> R
     Ok(())
 }
 
-/// Writes the answer line of each line of `input`, flushes, and returns whether each answer is a
-/// good one: `ok`, and not a dump that failed. Before each read, the answers to all whole lines
-/// that were read stand on `output`. No call that failed is made again.
+/// Answers each line of `input` with one line on `output`, flushes, and returns whether each answer
+/// is good. Before each read, the answers to all complete lines that were read have been written to
+/// `output`. A call that failed is not repeated.
 fn answer_all<R: Read, W: Write>(
     alloc: Global,
     input: &mut R,
     output: &mut W,
 ) -> Result<bool, RunError>
-    // All is read, and the answers to all lines that the reader told at the start are written.
+    // If the run succeeds, all input was read. The answers to all its lines are written, if the
+    // bytes of the reader were known at the start.
     ensures ended { OnOk result (IsAtEnd (R.remaining input.new)) }
     ensures complete { OnOk result (IfSome (R.remaining input.old) (λ text.
         (answer : List ℕ → List ℕ) (whole : List (List ℕ)) (rest : List ℕ)
@@ -90,7 +93,7 @@ fn answer_all<R: Read, W: Write>(
         → Appends (W.contents output.old) (W.contents output.new)
         (answer_lines answer (with_rest whole rest)))) }
 
-    // What was read and written, for each way to end.
+    // The bytes that were read and written, for each outcome.
     ensures answered { (answer : List ℕ → List ℕ)
         → ((line : List ℕ) → IsAnswerOf line (answer line))
         → Answers answer (R.remaining input.old) (R.remaining input.new)

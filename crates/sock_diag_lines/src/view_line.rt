@@ -1,4 +1,5 @@
-//! The answer to a line that looks at a reply about a UNIX socket without a copy of it.
+//! The answer to a line that shows the values of a reply about a UNIX socket. The reply is
+//! borrowed.
 
 ghost use Rattle.std.specs.Prelude.{◌≡◌, ◌∷◌, ◌++◌, decimal, OnOk};
 ghost use Rattle.sock_diag_replies.specs.ViewModel.{view_model};
@@ -15,8 +16,7 @@ use crate::words::{
 use netlink_packet_sock_diag::unix::{UnixResponseHeader, UnixResponseView};
 use std::alloc::AllocError;
 
-/// Adds `ok` and thirteen words of a reply that is read in place, or `refused` and the number of
-/// the fault.
+/// Appends `ok` and thirteen values of the reply, or `refused` and the code of the error.
 pub(crate) fn push_view(text: &mut Vec<u8>, bytes: &[u8]) -> Result<(), AllocError>
     ensures { OnOk result (Adds text.old.items text.new.items
         (IsAnswerAs (entry_of UnixView).1 bytes.now)) }
@@ -27,7 +27,7 @@ pub(crate) fn push_view(text: &mut Vec<u8>, bytes: &[u8]) -> Result<(), AllocErr
     }
 }
 
-/// Adds `ok` and the words of a reply.
+/// Appends `ok` and the values of a reply.
 fn push_reply(text: &mut Vec<u8>, view: &UnixResponseView<'_>) -> Result<(), AllocError>
     ensures { OnOk result (text.new.items ≡ text.old.items
         ++ accepted (reply_text (view_model view.now))) }
@@ -39,8 +39,7 @@ fn push_reply(text: &mut Vec<u8>, view: &UnixResponseView<'_>) -> Result<(), All
     push_memory(text, view)
 }
 
-/// Adds the words for the peer, the name, the pending connections and the directions that are shut
-/// down.
+/// Appends the peer, the name, the pending connections and the directions that are shut down.
 fn push_details(text: &mut Vec<u8>, view: &UnixResponseView<'_>) -> Result<(), AllocError>
     ensures { OnOk result (text.new.items ≡ with_details text.old.items (view_model view.now)) }
 {
@@ -50,7 +49,8 @@ fn push_details(text: &mut Vec<u8>, view: &UnixResponseView<'_>) -> Result<(), A
     push_number_word(text, widened(view.shutdown_state()))
 }
 
-/// Adds the words for the queues of a listening socket, and for those of any other.
+/// Appends the queue lengths: two values of a listening socket, then two values of any other
+/// socket.
 fn push_queues(text: &mut Vec<u8>, view: &UnixResponseView<'_>) -> Result<(), AllocError>
     ensures { OnOk result (text.new.items ≡ with_queues text.old.items (view_model view.now)) }
 {
@@ -60,7 +60,7 @@ fn push_queues(text: &mut Vec<u8>, view: &UnixResponseView<'_>) -> Result<(), Al
     push_number_word(text, view.send_queue_size())
 }
 
-/// Adds the words for the memory.
+/// Appends the memory values.
 fn push_memory(text: &mut Vec<u8>, view: &UnixResponseView<'_>) -> Result<(), AllocError>
     ensures { OnOk result (text.new.items ≡ with_memory text.old.items (view_model view.now)) }
 {
@@ -68,7 +68,7 @@ fn push_memory(text: &mut Vec<u8>, view: &UnixResponseView<'_>) -> Result<(), Al
     push_number_word(text, view.memory_used_for_outgoing_data())
 }
 
-/// Adds the kind, the state and the inode.
+/// Appends the kind, the state and the inode.
 fn push_header(text: &mut Vec<u8>, header: &UnixResponseHeader) -> Result<(), AllocError>
     ensures { OnOk result (text.new.items ≡ text.old.items
         ++ decimal header.now.kind ++ 32 ∷ decimal header.now.state ++ 32
@@ -79,7 +79,7 @@ fn push_header(text: &mut Vec<u8>, header: &UnixResponseHeader) -> Result<(), Al
     push_number_word(text, Some(header.inode))
 }
 
-/// The same number, where there is one.
+/// Widens a byte, if there is one.
 fn widened(byte: Option<u8>) -> Option<u32>
     ensures { result ≡ byte }
 {

@@ -1,4 +1,4 @@
-//! The words that answers are made of. None takes memory but the text itself.
+//! The parts of answers. Nothing but the text is allocated.
 
 ghost use Rattle.std.specs.Prelude.{◌≡◌, ◌≢◌, ◌∷◌, ◌++◌, decimal, OnOk, option_map};
 ghost use Rattle.hex.specs.Hex.{encode_lower};
@@ -14,16 +14,16 @@ use netlink_packet_sock_diag::unix::nlas::{NameView, NumbersView};
 use std::alloc::AllocError;
 use std::io::Write;
 
-/// What stands before the text of a value.
+/// Start of an answer with the text of a value.
 pub(crate) const OK: &[u8] = b"ok ";
 
-/// The answer to bytes whose value can't be written.
+/// The answer to bytes whose value is not writable.
 pub(crate) const UNWRITABLE: &[u8] = b"unwritable";
 
-/// The word for what a reply does not tell, behind a space.
+/// A value that a reply does not contain, after a space.
 const NONE: &[u8] = b" none";
 
-/// Adds a number in decimal.
+/// Appends a number in decimal.
 pub(crate) fn push_number(text: &mut Vec<u8>, number: u64) -> Result<(), AllocError>
     ensures { OnOk result (text.new.items ≡ text.old.items ++ decimal number) }
 {
@@ -33,7 +33,7 @@ pub(crate) fn push_number(text: &mut Vec<u8>, number: u64) -> Result<(), AllocEr
     }
 }
 
-/// Adds the hex field of some bytes.
+/// Appends bytes as a hex field.
 pub(crate) fn push_field(text: &mut Vec<u8>, bytes: &[u8]) -> Result<(), AllocError>
     ensures { OnOk result (text.new.items ≡ text.old.items ++ field_of bytes.now) }
 {
@@ -43,7 +43,7 @@ pub(crate) fn push_field(text: &mut Vec<u8>, bytes: &[u8]) -> Result<(), AllocEr
     push_digits(text, bytes)
 }
 
-/// Adds two digits for each byte.
+/// Appends two hex digits for each byte.
 fn push_digits(text: &mut Vec<u8>, bytes: &[u8]) -> Result<(), AllocError>
     ensures { OnOk result (text.new.items ≡ text.old.items ++ encode_lower bytes.now) }
 {
@@ -61,7 +61,7 @@ fn push_digits(text: &mut Vec<u8>, bytes: &[u8]) -> Result<(), AllocError>
     }
 }
 
-/// Adds `ok` and the hex field of some bytes.
+/// Appends `ok` and bytes as a hex field.
 pub(crate) fn push_accepted(text: &mut Vec<u8>, written: &[u8]) -> Result<(), AllocError>
     ensures { OnOk result (text.new.items ≡ text.old.items ++ accepted (field_of written.now)) }
 {
@@ -69,7 +69,8 @@ pub(crate) fn push_accepted(text: &mut Vec<u8>, written: &[u8]) -> Result<(), Al
     push_field(text, written)
 }
 
-/// Adds `refused` and the number of a fault. Want of memory is none, and is handed on.
+/// Appends `refused` and the code of a decode error. Returns an `Err` if the error is `Memory`,
+/// which is not an error of the bytes.
 pub(crate) fn push_refused(text: &mut Vec<u8>, fault: &DecodeError) -> Result<(), AllocError>
     ensures { OnOk result ((fault.now ≢ Memory)
         × (text.new.items ≡ text.old.items ++ refused fault.now)) }
@@ -83,7 +84,7 @@ pub(crate) fn push_refused(text: &mut Vec<u8>, fault: &DecodeError) -> Result<()
     }
 }
 
-/// Adds a space and a number, or `none`.
+/// Appends a space and a number, or ` none`.
 pub(crate) fn push_number_word(text: &mut Vec<u8>, number: Option<u32>) -> Result<(), AllocError>
     ensures { OnOk result (text.new.items ≡ text.old.items ++ 32 ∷ or_none decimal number) }
 {
@@ -94,7 +95,7 @@ pub(crate) fn push_number_word(text: &mut Vec<u8>, number: Option<u32>) -> Resul
     push_number(text, number.into())
 }
 
-/// Adds a space, the sort of a name and its bytes as a hex field, or `none`.
+/// Appends a space, the kind of a name and its bytes as a hex field, or ` none`.
 pub(crate) fn push_name_word(
     text: &mut Vec<u8>,
     name: Option<NameView<'_>>,
@@ -115,7 +116,7 @@ pub(crate) fn push_name_word(
     }
 }
 
-/// Adds a space and numbers with commas between, or `none`.
+/// Appends a space and numbers separated by commas, or ` none`.
 pub(crate) fn push_numbers_word(
     text: &mut Vec<u8>,
     numbers: Option<NumbersView<'_>>,
@@ -130,7 +131,7 @@ pub(crate) fn push_numbers_word(
     push_numbers(text, numbers)
 }
 
-/// Adds numbers with commas between, or `-` for none.
+/// Appends numbers separated by commas, or `-` for an empty list.
 fn push_numbers(text: &mut Vec<u8>, numbers: NumbersView<'_>) -> Result<(), AllocError>
     ensures { OnOk result (text.new.items ≡ text.old.items
         ++ comma_list (numbers_view_model numbers.entry)) }

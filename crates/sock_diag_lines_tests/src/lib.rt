@@ -1,4 +1,4 @@
-//! Tests of the lines.
+//! Tests of the line protocol.
 #![tactic(auto)]
 
 #[cfg(test)]

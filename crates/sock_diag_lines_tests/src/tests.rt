@@ -13,13 +13,14 @@ const OUTPUT: &str = "ok 01000000020400003412000004000000ffffffffffffffff\n\
 ok 0100000002040000341200003f000000ffffffffffffffff\n\
 refused 2\n";
 
-/// Sizes over 300, up to 512 KiB, or 1 MiB in digits. Tests of sizes also have each size up to 300.
+/// Sizes above 300, up to 512 KiB, which is 1 MiB in hex digits. Tests also use each size up to
+/// 300.
 const LARGE: [usize; 14] = [
     512, 1_000, 1_024, 2_048, 4_096, 8_192, 10_000, 16_384, 32_768, 65_536, 100_000, 131_072,
     262_144, 524_288,
 ];
 
-/// A front, a piece, how often it stands in a row, and a back.
+/// A prefix, a part, how often the part is repeated, and a suffix.
 type Repeated = (&'static str, &'static str, usize, &'static str);
 
 fn repeated(rt: &impl Abort, alloc: Global, text: Repeated) -> String {

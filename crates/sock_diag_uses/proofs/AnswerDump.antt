@@ -1,4 +1,4 @@
--- An answer of the kernel for tests, read as a dump.
+-- The dump over an answer of the kernel for tests.
 use Rattle.std.proofs.Common.{◌≡◌, ◌↔◌, ℕ, ◌+◌, ◌%◌, ◌^◌, ◌<◌, ◌≤◌, inl, inr, List, [], ◌∷◌, ◌++◌}
 use Rattle.std.proofs.Common.{length, refl, sym, ap, subst, ◌∙◌, append_assoc, arith}
 use Rattle.std.specs.Prelude.{map, None, Ok}
@@ -28,19 +28,19 @@ use Rattle.sock_diag_uses.specs.TestKernel.{message_under, reply_under}
 abbrev sent : ValueOf unix_response_spec → Message
 sent reply = message_of unix_response reply
 
--- no padding stands behind a message whose length is a multiple of four
+-- a message whose length is a multiple of four has no padding
 no_fill : (message : List ℕ) → length message % 4 ≡ 0 → 0 ≡ fill (length message)
 no_fill message even = rw even refl
 
--- ---- messages one after the other
+-- ---- concatenated messages
 
--- a message that is carried whole
+-- a complete message without padding, and its item
 pub record Carries (message : List ℕ) (item : Item Message) : Type 0 where
   pub whole : IsOfOwnLength message
   pub even : length message % 4 ≡ 0
   pub is : ItemIs message_codec message item
 
--- it is cut into itself alone
+-- it is split into itself
 alone : (message : List ℕ) → IsOfOwnLength message → length message % 4 ≡ 0
     → CutIntoMessages message (message ∷ []) None
 alone message whole even =
@@ -53,13 +53,13 @@ alone message whole even =
     } in
     ([], starts, refl)
 
--- it has its item alone
+-- its bytes have one item
 pub one_item : (message : List ℕ) (item : Item Message)
     → Carries message item → ItemsAre (ItemIs message_codec) message (item ∷ [])
 one_item message item c =
     (message ∷ [], None, item ∷ [], alone message c.whole c.even, (c.is, tt), refl)
 
--- and those of messages stand in a row
+-- the items of concatenated messages are the concatenated items
 pub items_of_all : ((front back : List ℕ) (messages : List (List ℕ))
     (xs ys : List (Item Message)) → CutIntoMessages front messages None × (length front % 4 ≡ 0)
     → ItemsAre (ItemIs message_codec) front xs → ItemsAre (ItemIs message_codec) back ys
@@ -97,7 +97,7 @@ header_in_range : (n : ℕ) (payload : Payload Message) → n < 2 ^ 32
 header_in_range n carried small short kind =
     (omega arith, (kind, (omega arith, (small, (omega arith, tt)))))
 
--- it is as long as its length word says
+-- the length field is the length of the message
 whole_message : (n : ℕ) (payload : Payload Message)
     → 16 + length (payload_bytes message_codec.written payload) ≤ 4294967295
     → IsOfOwnLength (message_under n payload)
@@ -110,7 +110,7 @@ whole_message n payload short =
     (omega arith) in
     (omega arith, word ∙ omega arith)
 
--- and a multiple of four, where its payload is
+-- the length of a message is a multiple of four if the length of its payload is
 even_message : (n : ℕ) (payload : Payload Message)
     → length (payload_bytes message_codec.written payload) % 4 ≡ 0
     → length (message_under n payload) % 4 ≡ 0

@@ -1,4 +1,4 @@
--- The listening sockets in front of the first end of a datagram's items are counted.
+-- The listening sockets before the first end of a dump in a datagram.
 use Rattle.std.proofs.Common.{◌≡◌, ◌≢◌, ℕ, ◌+◌, ◌*◌, ◌≤◌, ◌⊎◌, inl, inr, List, [], ◌∷◌, ◌++◌}
 use Rattle.std.proofs.Common.{length, refl, sym, ap, subst, ◌∙◌, arith, add-zero, length-append}
 use Rattle.std.specs.Prelude.{Bool, true, false, count_by, cond, Option, Some, None, Result, Ok}
@@ -23,13 +23,13 @@ use Rattle.netlink_core.specs.Faults.{map_ok}
 use Rattle.netlink_packet_sock_diag.specs.PayloadViewModel.{payload_view_model}
 use Rattle.sock_diag_uses.specs.Readme.{EndsWith, IsCounted, listens}
 
--- so many were counted in front of what is left
+-- `count` listening sockets are before the bytes that are left
 pub record Counting (datagram left : List ℕ) (count : ℕ) : Type 0 where
   pub passed : List (Item Message)
   pub walk : Following (ItemIs message_codec) datagram passed left
   pub go_on : AllByRecursion (λ item. end_of item ≡ None) passed
   pub counted : count ≡ count_by listens passed
-  -- each message has sixteen bytes
+  -- each message has at least sixteen bytes
   pub short : 16 * count + length left ≤ length datagram
 
 pub counting_begins : (datagram : List ℕ) → Counting datagram datagram 0
@@ -41,14 +41,14 @@ counting_begins datagram = record {
   short = omega arith;
 }
 
--- a message is taken off, or what is no message
+-- a step of the iterator: it takes a message, or an error because the bytes left are not a message
 pub data Step (left : List ℕ) (item : Item Message) (later : List ℕ) : Type 0 where
   message : (bytes : List ℕ) → StartsWithMessage left bytes later → ItemIs message_codec bytes item
       → Step left item later
   no_message : (e : DecodeError) → item ≡ Err e → left ≢ [] → IsEnvelopeFault left e
       → Step left item later
 
--- so it is by the walk
+-- an item of the iterator is a step
 pub step_of : (old new : DumpViews) (item : Result PayloadView DecodeError)
     → GivesView old (Some item) new
     → Step (datagram_left old.messages) (map_ok payload_view_model item)
@@ -75,7 +75,7 @@ at_most_one : (b : Bool) → cond b 1 0 ≤ 1
 at_most_one true = omega arith
 at_most_one false = omega arith
 
--- it goes on behind an item that is no end
+-- the count after an item that does not end the dump
 pub counts_on : (datagram left later : List ℕ) (count : ℕ) (item : Item Message)
     → Counting datagram left count → Step left item later → end_of item ≡ None
     → Counting datagram later (count + cond (listens item) 1 0)
@@ -89,7 +89,7 @@ counts_on datagram left later count item c (message bytes s is) plain = record {
 counts_on datagram left later count item c (no_message e is some fault) plain =
     let no : Some (Err e) ≡ None = sym (ap end_of is) ∙ plain in cc
 
--- and the item is one that counts, or not
+-- the item is counted, or not
 pub counts_one : (datagram left later : List ℕ) (count : ℕ) (item : Item Message)
     → Counting datagram left count → Step left item later → end_of item ≡ None → listens item ≡ true
     → Counting datagram later (count + 1)
@@ -106,7 +106,7 @@ counts_none datagram left later count item c step plain is =
     (subst (λ b. Counting datagram later (count + cond b 1 0)) is
     (counts_on datagram left later count item c step plain))
 
--- it ends at an item that is one
+-- the count is returned at an item that ends the dump
 pub counts_to : (datagram left later : List ℕ) (count : ℕ) (item : Item Message)
     (answer : Result (Option ℕ) DecodeError) → IsBytes datagram → Counting datagram left count
     → Step left item later
@@ -133,7 +133,7 @@ counts_to datagram left later count item answer in_range c (no_message e is some
       ends = subst (λ n. EndsWith n (item ∷ []) answer) c.counted (ends []);
     }
 
--- or where nothing is left
+-- the count is returned if nothing is left
 pub counts_all : (datagram left : List ℕ) (count : ℕ) → Counting datagram left count → left ≡ []
     → IsCounted datagram (Ok (Some count))
 counts_all datagram left count c none = record {

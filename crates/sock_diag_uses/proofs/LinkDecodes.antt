@@ -1,4 +1,4 @@
--- What the attributes of a message about an interface decode to, one after the other.
+-- The attributes of a message about an interface, decoded in order.
 use Rattle.std.proofs.Common.{◌≡◌, ◌≢◌, ◌==◌, ℕ, List, [], ◌∷◌, ◌++◌, Bool, true, false, length}
 use Rattle.std.proofs.Common.{Option, Some, None, Result, Ok, Err, if◌then◌else◌, refl, subst, ap}
 use Rattle.std.proofs.Common.{◌∙◌}
@@ -21,19 +21,19 @@ last_pushed : {A : Type 0} (o : Option A) (xs : List A) (y : A) → last_or o (x
 last_pushed o [] y = refl
 last_pushed o (x ∷ xs) y = last_pushed (Some x) xs y
 
--- what is told last counts
+-- the last value counts
 pub last_found : {A B : Type 0} (found : A → Option B) (xs : List A) (x : A) (y : B)
     → found x ≡ Some y
     → last_or None (filter_map found (xs ++ x ∷ [])) ≡ Some y
 last_found found xs x y e = ap (last_or None) (one_more found xs x y e)
     ∙ last_pushed None (filter_map found xs) y
 
--- and where nothing is told that in front does
+-- an element without a value leaves the last value unchanged
 pub none_found : {A B : Type 0} (found : A → Option B) (xs : List A) (x : A) → found x ≡ None
     → last_or None (filter_map found (xs ++ x ∷ [])) ≡ last_or None (filter_map found xs)
 none_found found xs x e = ap (last_or None) (none_more found xs x e)
 
--- ---- what an attribute tells
+-- ---- an attribute
 
 pub decodes_name : (a : Attribute) (name : List ℕ) → attribute_type a ≡ 3
     → text_in a.value ≡ Ok name
@@ -64,9 +64,9 @@ decodes_other a not_name not_mtu = rw (
 )
     refl
 
--- ---- where memory is wanted
+-- ---- allocation failures
 
--- a name behind an attribute that tells something
+-- a name after an attribute that decodes
 pub later_name : (bytes rest : List ℕ) (a : Attribute) (t : LinkAttribute) → StartsWith bytes a rest
     → decodes_link a ≡ Ok t → HasName rest → HasName bytes
 later_name bytes rest a t s tells w = (
@@ -79,7 +79,7 @@ named : {E : Type 0} (r : Result (List ℕ) E) → IsOk r → (name : List ℕ) 
 named (Ok name) ok = (name, refl)
 named (Err e) ok = absurd cc
 
--- a name here
+-- a name at the start
 pub name_here : (rest after : List ℕ) (a : Attribute) → StartsWith rest a after
     → attribute_type a ≡ 3
     → IsOk (text_in a.value) → HasName rest
@@ -95,7 +95,7 @@ name_here rest after a s kind ok =
       tt,
     )
 
--- no fault of an attribute's frame or of a number is want of memory
+-- neither a framing error nor the error of a number is `Memory`
 pub frame_named : (rest : List ℕ) (e : DecodeError) → IsFramingFault rest e → e ≢ Memory
 frame_named rest e fault memory = subst (IsFramingFault rest) memory fault
 

@@ -1,15 +1,15 @@
--- What one more element adds to what is made of a list.
+-- The values in a list after one more element.
 use Rattle.std.proofs.Common.{◌≡◌, List, [], ◌∷◌, ◌++◌, Option, Some, None, refl, ◌∙◌}
 use Rattle.std.specs.List.{filter_map}
 use Rattle.std.proofs.lemmas.List.{append-nil}
 use Rattle.std.proofs.lemmas.List.Elements.{filter_map-append}
 
--- what is made of it
+-- an element with a value appends it
 pub one_more : {A B : Type 0} (made : A → Option B) (xs : List A) (x : A) (y : B) → made x ≡ Some y
     → filter_map made (xs ++ x ∷ []) ≡ filter_map made xs ++ y ∷ []
 one_more made xs x y e = filter_map-append made xs (x ∷ []) ∙ rw e refl
 
--- or nothing
+-- an element without a value appends nothing
 pub none_more : {A B : Type 0} (made : A → Option B) (xs : List A) (x : A) → made x ≡ None
     → filter_map made (xs ++ x ∷ []) ≡ filter_map made xs
 none_more made xs x e = filter_map-append made xs (x ∷ []) ∙ rw e (append-nil (filter_map made xs))

@@ -1,4 +1,4 @@
--- The request for all TCP sockets that listen.
+-- The request for all listening TCP sockets.
 use Rattle.std.specs.Prelude.{ℕ, replicate}
 use Rattle.netlink_core.specs.Envelope.{Envelope}
 use Rattle.netlink_core.specs.declared.message.NetlinkPayload.TheVariants.{InnerMessage}
@@ -9,18 +9,19 @@ use Rattle.sock_diag_records.specs.ResponseKind.{inet_request}
 use Rattle.sock_diag_uses.specs.declared.listening_tcp.Family.{Family}
 use Rattle.sock_diag_uses.specs.declared.listening_tcp.Family.TheVariants.{Inet, Inet6}
 
--- AF_INET and AF_INET6
+-- AF_INET is 2, and AF_INET6 is 10
 abbrev pub family_number : Family → ℕ
 family_number Inet = 2
 family_number Inet6 = 10
 
--- the address that tells none
+-- the address of all zeros
 abbrev pub no_address : Family → IpAddr
 no_address Inet = V4 record { octets = replicate 4 0 }
 no_address Inet6 = V6 record { segments = replicate 8 0 }
 
--- A dump (flags 0x301) under the type 20, of TCP (6) and the state LISTEN (bit 10) alone. Of the
--- socket's identity nothing is told.
+-- A netlink message with `struct inet_diag_req_v2`: type SOCK_DIAG_BY_FAMILY (20), flags
+-- NLM_F_REQUEST | NLM_F_DUMP (0x301), protocol IPPROTO_TCP (6), only the state TCP_LISTEN (bit 10).
+-- The socket id is all zeros.
 abbrev pub listening_request : Family → ℕ → Envelope Message
 listening_request family sequence_number = record {
   header = record {

@@ -12,14 +12,15 @@ use Rattle.sock_diag_records.specs.ResponseKind.{unix_response}
 use Rattle.sock_diag_uses.specs.declared.lister.Line.{Line}
 use Rattle.sock_diag_uses.specs.declared.lister.Line.TheVariants.{Socket, End, Failure, Refused}
 
--- the socket that a reply is about
+-- the line of a message: the state and the inode of a reply; none for a request
 abbrev pub socket_of : Message → Option Line
 socket_of (message_of inet_request v) = None
 socket_of (message_of inet_response v) = Some (Socket v.header.state v.header.inode)
 socket_of (message_of unix_request v) = None
 socket_of (message_of unix_response v) = Some (Socket v.header.state v.header.inode)
 
--- the line of what a message carries, or of its fault
+-- The line of an item, if it has one: the state and the inode of a reply, the end of the dump, a
+-- failure that the kernel reports, or a decode error. NLMSG_NOOP has no line.
 abbrev pub line_of : Result (Payload Message) DecodeError → Option Line
 line_of (Ok (InnerMessage message)) = socket_of message
 line_of (Ok (Done given)) = Some End
@@ -30,6 +31,8 @@ line_of (Err e) = Some (Refused e)
 
 -- the lines of a datagram's items, in order
 pub record AreLinesOf (datagram : List ℕ) (lines : List Line) : Type 0 where
+  -- the messages of the datagram, each with its payload or its decode error
   pub items : List (Result (Payload Message) DecodeError)
   pub are : ItemsAre (ItemIs message_codec) datagram items
+  -- the lines of the items that have one
   pub found : lines ≡ filter_map line_of items

@@ -1,4 +1,4 @@
--- What the examples of the README tell.
+-- What the examples of the README return.
 use Rattle.std.specs.Prelude.{◌≡◌, ◌==◌, Bool, false, ℕ, List, [], ◌∷◌, ◌++◌, count_by}
 use Rattle.std.specs.Prelude.{Option, Some, None, Result, Ok, Err}
 use Rattle.std.specs.Borrow.{Bor}
@@ -50,8 +50,10 @@ abbrev pub listens : Item Message → Bool
 listens (Ok (InnerMessage (message_of unix_response v))) = v.header.state == TCP_LISTEN
 listens _ = false
 
--- What is answered where so many were counted and these items are left. Nothing is, or the first of
--- them ends the dump: well, by a number 0 in front; or with a failure, or with a fault.
+-- EndsWith count items answer: `count` listening sockets precede these items. If no items are left,
+-- the answer is the count. Else the first item ends the dump: NLMSG_DONE has the answer
+-- `Some(count)` if it starts with four zero bytes, else `None`; NLMSG_ERROR and NLMSG_OVERRUN have
+-- `None`; and a decode error is returned.
 abbrev pub EndsWith : ℕ → List (Item Message) → Result (Option ℕ) DecodeError → Type 0
 EndsWith count [] answer = answer ≡ Ok (Some count)
 EndsWith count (Ok (Done status) ∷ later) answer =
@@ -61,10 +63,14 @@ EndsWith count (Ok (Overrun status) ∷ later) answer = answer ≡ Ok None
 EndsWith count (Err e ∷ later) answer = answer ≡ Err e
 EndsWith count (_ ∷ later) answer = ⊥
 
--- counted are the listening sockets in front of the first end of the datagram's items
+-- the number of replies about listening sockets before the first item of the datagram that ends the
+-- dump
 pub record IsCounted (datagram : List ℕ) (answer : Result (Option ℕ) DecodeError) : Type 0 where
+  -- the items before the first one that ends the dump
   pub passed : List (Item Message)
+  -- the item that ends the dump, if any, and all items after it
   pub later : List (Item Message)
   pub are : ItemsAre (ItemIs message_codec) datagram (passed ++ later)
   pub go_on : AllByRecursion (λ item. end_of item ≡ None) passed
+  -- the answer, given the number of replies about listening sockets in `passed`
   pub ends : EndsWith (count_by listens passed) later answer

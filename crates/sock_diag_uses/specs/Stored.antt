@@ -5,8 +5,10 @@ use Rattle.netlink_core.specs.Canonical.{GivesUp}
 use Rattle.netlink_core.specs.declared.canon.CanonError.{CanonError}
 use Rattle.netlink_packet_sock_diag.specs.Message.{Message, message_codec}
 
--- the bytes parse as a message under the type 20, and the key is what it is serialized to
+-- the bytes parse as a message of type 20, SOCK_DIAG_BY_FAMILY, and the key is what the message
+-- serializes to
 pub record IsKey (reply key : List ℕ) : Type 0 where
+  -- each number is below 256
   pub in_range : IsBytes reply
   pub message : Message
   pub is : message_codec.reads reply 20 message

@@ -1,4 +1,5 @@
-//! Callers of the crates of sock_diag(7), each with its contract, and the examples of the README.
+//! Example callers of the crates of sock_diag(7), with their contracts, and the examples of the
+//! README.
 #![tactic(auto)]
 
 pub mod laws;

@@ -1,4 +1,4 @@
-//! The name and the MTU of a network interface, after rtnetlink(7): the attributes of another
+//! The name and the MTU of a network interface, rtnetlink(7): an example of attributes of another
 //! netlink family.
 
 ghost use Rattle.std.specs.Prelude.{◌≡◌, ◌≤◌, ◌↔◌, ℕ, List, [], None, length, drop, IfOk, IfErr};
@@ -29,9 +29,10 @@ const HEADER: usize = 16;
 /// Name and MTU of an interface, from a message of type `RTM_NEWLINK`.
 #[derive(Debug, Drop, PartialEq, Eq)]
 pub struct Link {
-    /// Name (`IFLA_IFNAME`). Of several the last counts, as for the kernel.
+    /// Name (`IFLA_IFNAME`), without a terminating NUL. If there are several, the last one counts,
+    /// as for the kernel.
     pub name: Option<String>,
-    /// Maximum length of a packet in bytes (`IFLA_MTU`). Of several the last counts.
+    /// Maximum length of a packet in bytes (`IFLA_MTU`). If there are several, the last one counts.
     pub mtu: Option<u32>,
 }
 
@@ -97,8 +98,8 @@ pub fn equal_link_errors(v: &LinkError, w: &LinkError) -> bool
     v == w
 }
 
-/// Returns the canonical bytes of the first attribute, of any family. Attributes that differ only
-/// in padding and in what follows have the same canonical bytes.
+/// Returns the canonical form of the first attribute, of any family. Two attributes have the same
+/// canonical form if and only if they differ only in their padding and the bytes after it.
 pub fn attribute_key(alloc: Global, attribute: &[u8]) -> Result<Vec<u8>, CanonError>
     ensures written { IfOk result (λ key.
         (a : Attribute) × (first_attribute_codec []).reads attribute.now tt a

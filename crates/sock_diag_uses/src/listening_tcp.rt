@@ -1,4 +1,4 @@
-//! The request for all TCP sockets that listen.
+//! The request for all listening TCP sockets.
 
 ghost use Rattle.std.proofs.Common.{rules};
 ghost use Rattle.std.specs.Prelude.{◌≡◌, [], ◌∷◌, ◌++◌, replicate};
@@ -65,8 +65,8 @@ pub fn listening_tcp(family: Family, sequence_number: u32) -> NetlinkMessage<Soc
 pub fn listening_tcp_bytes(family: Family, sequence_number: u32) -> [u8; REQUEST_LENGTH]
     ensures written { result ≡ (envelope_codec message_codec).written
         (listening_request family sequence_number) }
-    // Length 72, type 20, flags 0x301, the sequence number and port 0; the family, protocol 6, no
-    // extensions, a pad, the state LISTEN; and the identity of no socket.
+    // Length 72, type 20, flags 0x301, the sequence number, port id 0; the family, protocol 6, no
+    // extensions, a pad byte, the state LISTEN (bit 10); a socket id of 48 zeros.
     ensures bytes { result ≡ (72 ∷ 0 ∷ 0 ∷ 0 ∷ 20 ∷ 0 ∷ 1 ∷ 3 ∷ [])
         ++ (little_bytes 4 sequence_number ++ (0 ∷ 0 ∷ 0 ∷ 0 ∷ family_number family ∷ 6 ∷ 0 ∷ 0 ∷ 0
         ∷ 4 ∷ 0 ∷ 0 ∷ replicate 48 0)) }

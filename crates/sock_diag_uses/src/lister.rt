@@ -1,4 +1,4 @@
-//! A listing of the messages of a dump's datagram.
+//! A listing of the messages in a datagram of a dump.
 
 ghost use Rattle.std.specs.Prelude.{◌≡◌, ◌↔◌, List, Result, Some, IfOk, IsTrue, map};
 ghost use Rattle.std.specs.Iterator.{Drains};
@@ -29,12 +29,12 @@ pub enum Line {
     End,
     /// The kernel reports an error, or that data was lost.
     Failure,
-    /// A message is invalid, or the remaining bytes are no message.
+    /// A message is invalid, or the remaining bytes are not a message.
     Refused(DecodeError),
 }
 
 /// Returns the lines of a datagram, in order: one for each message except `NLMSG_NOOP`, and one for
-/// remaining bytes that are no message.
+/// remaining bytes that are not a message.
 pub fn list(alloc: Global, datagram: &[u8]) -> Result<Vec<Line>, AllocError>
     ensures { IfOk result (λ lines. AreLinesOf datagram.now lines.items) }
 {
@@ -49,7 +49,7 @@ pub fn equal_lines(v: &Line, w: &Line) -> bool
     v == w
 }
 
-// Returns the lines of the items of a walk.
+// Returns the lines of the items of an iterator.
 fn lines_of(alloc: Global, views: DumpViews<'_>) -> Result<Vec<Line>, AllocError>
     ensures { IfOk result (λ lines. (given : List (Result PayloadView Fault))
         × Drains GivesView views.entry given

@@ -1,4 +1,5 @@
-//! A kernel for tests: it answers a request for UNIX sockets with given replies, as one datagram.
+//! A kernel for tests: it answers a request for UNIX sockets with the caller's replies, as one
+//! datagram.
 
 ghost use Rattle.std.specs.Prelude.{◌≡◌, ◌↔◌, ◌++◌, ℕ, List, map, IsTrue, OnOk, IfOk, IfErr};
 ghost use Rattle.std.specs.Prelude.{vec_items};
@@ -22,7 +23,7 @@ use netlink_packet_sock_diag::unix::{UnixRequest, UnixResponse};
 use netlink_packet_sock_diag::{SockDiagMessage, laws};
 use std::alloc::{AllocError, AllocFailed, Global};
 
-/// The flag of a header that says that the message is one of several, `NLM_F_MULTI` of netlink(7).
+/// Flag of a message that is one of several (`NLM_F_MULTI` of netlink(7)).
 pub const NLM_F_MULTI: u16 = 2;
 
 /// Error of [`answer`].
@@ -96,8 +97,8 @@ pub fn answer(
     Ok(datagram)
 }
 
-/// States that the dump over an answer is complete and has the given replies, if each is as parsers
-/// return it and can be serialized. Proof only: the contract states the property.
+/// The dump over an answer is complete and has the caller's replies, if each is in normal form and
+/// can be serialized. Proof only: the contract states the property.
 pub fn answer_is_a_whole_dump()
     ensures { (request : List ℕ) (replies : List (ValueOf unix_response_spec)) (datagram : List ℕ)
         → IsAnswer request replies datagram
@@ -108,7 +109,7 @@ pub fn answer_is_a_whole_dump()
     laws::reply_lengths_are_multiples_of_four();
 }
 
-// Adds a message for each reply.
+// Appends a message for each reply.
 fn push_replies(
     alloc: Global,
     datagram: &mut Vec<u8>,
@@ -126,7 +127,7 @@ fn push_replies(
     Ok(())
 }
 
-// Adds the message of a reply.
+// Appends the message of a reply.
 fn push_reply(
     alloc: Global,
     datagram: &mut Vec<u8>,
@@ -149,7 +150,7 @@ fn push_reply(
     )
 }
 
-// Adds a message with this payload, and the header's length and type after it.
+// Appends a message with this payload, and with its length and its type in the header.
 #[tactic(auto, unfolding(crate::specs::TestKernel::message_under))]
 fn push_message(
     alloc: Global,

@@ -1,4 +1,5 @@
-//! The tests of `sock_diag_uses` and `sock_diag_calls`: of what takes memory or has no contract.
+//! Tests of `sock_diag_uses` and `sock_diag_calls`, for functions that allocate or have no
+//! contract.
 #![tactic(auto)]
 
 mod ported;

@@ -1,4 +1,4 @@
-//! A loop over a dump with memory of its own, as programs over the Rust crate have it:
+//! A loop over a dump with owned messages, as in programs that use the Rust crate.
 //! docs/DIFFERENCES.md shows both.
 
 use netlink_core::{DecodeError, MessageStrings, NetlinkMessage, NetlinkPayload};
@@ -7,7 +7,7 @@ use netlink_packet_sock_diag::unix::UnixResponse;
 use netlink_packet_sock_diag::unix::nlas::{Nla, UnixDiagName};
 use std::alloc::{AllocError, Global};
 
-/// Adds the paths in the replies of a datagram, and says whether the dump has ended.
+/// Appends the paths in the replies of a datagram, and returns whether it has an `NLMSG_DONE`.
 pub fn add_paths(
     alloc: Global,
     datagram: &[u8],

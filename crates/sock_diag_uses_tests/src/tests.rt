@@ -14,38 +14,38 @@ use std::fmt::Debug;
 use std::process::Abort;
 use std::test::Fail;
 
-// The reply about a listening UNIX socket, without attributes.
+// A reply about a listening UNIX socket, without attributes.
 const LISTENING: [u8; 16] = [1, 1, 10, 0, 0x0e, 0x4f, 0, 0, 0xa0, 2, 0, 0, 0, 0, 0, 0];
 
-// The reply about a socket at /run/x. No reader looks at the byte at 3 and at the padding.
+// A reply about a socket at /run/x. The byte at offset 3 and the padding are ignored.
 const NAMED: &[u8] = b"\x01\x01\x0a\x07\x0e\x4f\0\0\xa0\x02\0\0\0\0\0\0\x0b\0\0\0/run/x\0\x09";
 
-// That reply as it is written.
+// The canonical form of that reply.
 const WRITTEN: &[u8] = b"\x01\x01\x0a\0\x0e\x4f\0\0\xa0\x02\0\0\0\0\0\0\x0b\0\0\0/run/x\0\0";
 
-// And in a message that answers the request below.
+// The canonical form in a message that answers the request below.
 const MESSAGE: &[u8] = b"\x2c\0\0\0\x14\0\x02\0\x07\0\0\0\0\0\0\0\
 \x01\x01\x0a\0\x0e\x4f\0\0\xa0\x02\0\0\0\0\0\0\x0b\0\0\0/run/x\0\0";
 
-// A listening socket in a message of its own, and the end of a dump.
+// A message with a reply about a listening socket, and the end of a dump.
 const DUMP: [u8; 52] = [
     32, 0, 0, 0, 20, 0, 2, 0, 7, 0, 0, 0, 0, 0, 0, 0, 1, 1, 10, 0, 0x0e, 0x4f, 0, 0, 0xa0, 2, 0, 0,
     0, 0, 0, 0, 20, 0, 0, 0, 3, 0, 2, 0, 7, 0, 0, 0, 0, 0, 0, 0, 0, 0, 0, 0,
 ];
 
-// An error that the kernel reports, ENOENT, and lost data.
+// An error that the kernel reports, ENOENT, and a message that reports lost data.
 const FAILURES: [u8; 40] = [
     20, 0, 0, 0, 2, 0, 0, 0, 7, 0, 0, 0, 0, 0, 0, 0, 0xfe, 0xff, 0xff, 0xff, 20, 0, 0, 0, 4, 0, 0,
     0, 7, 0, 0, 0, 0, 0, 0, 0, 0, 0, 0, 0,
 ];
 
-// What rtnetlink(7) tells of eth0, an ethernet device: name, an attribute of kind 13, MTU.
+// A message of rtnetlink(7) about eth0, an Ethernet device: name, an attribute of type 13, MTU.
 const ETH0: [u8; 44] = [
     0, 0, 1, 0, 2, 0, 0, 0, 0x43, 0x10, 1, 0, 0, 0, 0, 0, 9, 0, 3, 0, 0x65, 0x74, 0x68, 0x30, 0, 0,
     0, 0, 8, 0, 13, 0, 0xe8, 3, 0, 0, 8, 0, 4, 0, 0xdc, 5, 0, 0,
 ];
 
-// A request for all UNIX sockets with their names, under the sequence number 7.
+// A request for all UNIX sockets with their names, with sequence number 7.
 const REQUEST: [u8; 40] = [
     40, 0, 0, 0, 20, 0, 1, 3, 7, 0, 0, 0, 0, 0, 0, 0, 1, 0, 0, 0, 2, 4, 0, 0, 0, 0, 0, 0, 1, 0, 0,
     0, 0, 0, 0, 0, 0, 0, 0, 0,
@@ -123,7 +123,7 @@ fn links_have_their_name_and_their_mtu(rt: HostRuntime) -> Result<(), Fail> {
     Ok(())
 }
 
-/// Asserts that replies are answered in as many messages, followed by the end of the dump.
+/// Asserts that `count` replies are answered by `count` messages and the end of the dump.
 fn answers(rt: &impl Abort, alloc: Global, count: usize) -> Result<(), Fail> {
     let mut replies = Vec::new(alloc);
     for _ in 0..count {
@@ -176,10 +176,10 @@ fn values_are_made_and_copied(rt: HostRuntime) -> Result<(), Fail> {
     Ok(())
 }
 
-/// Numbers of attributes and of messages over 300. Tests also have each up to 300.
+/// Counts of attributes and of messages above 300. Tests also use each count up to 300.
 const COUNTS: [usize; 7] = [512, 1_000, 1_024, 2_048, 4_096, 8_192, 10_000];
 
-/// Asserts that a number of equal attributes or messages is read, listed and answered.
+/// Asserts that `count` equal attributes or messages are parsed, listed and answered.
 fn has_room_for_many(rt: &impl Abort, alloc: Global, count: usize) -> Result<(), Fail> {
     answers(rt, alloc, count)?;
     assert!(rt; list(alloc, &MESSAGE.repeat(alloc, count)?)?.len() == count);
@@ -202,13 +202,13 @@ fn many_replies_and_attributes(rt: HostRuntime) -> Result<(), Fail> {
     Ok(())
 }
 
-/// Lengths of names over 300. Tests also have each up to 300. With its NUL the last one is the
-/// longest value of an attribute.
+/// Lengths of names above 300. Tests also use each length up to 300. With its NUL the last one is
+/// the longest value of an attribute.
 const SIZES: [u16; 10] = [
     512, 1_000, 1_024, 2_048, 4_096, 8_192, 10_000, 16_384, 32_768, 65_530,
 ];
 
-/// Returns bytes followed by an attribute whose value is a name of this length and a NUL.
+/// Returns the bytes, followed by an attribute whose value is a name of this length and a NUL.
 fn with_name(alloc: Global, bytes: &[u8], kind: u8, size: u16) -> Result<Vec<u8>, Fail> {
     let [low, high] = size.saturating_add(5).to_le_bytes();
     let mut named = Vec::from_slice(alloc, bytes)?;
@@ -218,7 +218,7 @@ fn with_name(alloc: Global, bytes: &[u8], kind: u8, size: u16) -> Result<Vec<u8>
     Ok(named)
 }
 
-/// Asserts that a name of this length is read, stored and listed.
+/// Asserts that a name of this length is parsed, stored and listed.
 fn has_room(rt: &impl Abort, alloc: Global, size: u16) -> Result<(), Fail> {
     let named = with_name(alloc, &[], 3, size)?;
     let length = attribute_key(alloc, &named).ok().ok_or("no key")?.len();
@@ -234,7 +234,7 @@ fn has_room(rt: &impl Abort, alloc: Global, size: u16) -> Result<(), Fail> {
     Ok(())
 }
 
-/// Asserts that a reply with a path of this length is made and answered.
+/// Asserts that a reply with a path of this length is built and answered.
 fn has_room_for_path(rt: &impl Abort, alloc: Global, size: u16) -> Result<(), Fail> {
     let path = vec![in alloc; b'a'; usize::from(size)]?;
     let answered = answer(alloc, &REQUEST, &[listener(alloc, 7, &path)?]);
@@ -243,7 +243,7 @@ fn has_room_for_path(rt: &impl Abort, alloc: Global, size: u16) -> Result<(), Fa
     Ok(())
 }
 
-/// Asserts that an attribute with a value of this length is copied.
+/// Asserts that an attribute with a value of this length is copied, if it is writable.
 fn has_room_for_copy(rt: &impl Abort, alloc: Global, size: u16) -> Result<(), Fail> {
     let nla = DefaultNla::new(7, vec![in alloc; 1; usize::from(size)]?);
     if nla.is_writable() {

@@ -1,5 +1,5 @@
-//! Reads lines that name a message of the sock_diag protocol and give its bytes in hex, and writes
-//! one answer line for each of them.
+//! The program `sockdiag`: each input line has a name and the bytes of a message of sock_diag(7) in
+//! hex, and is answered by one line.
 #![tactic(auto)]
 
 use sock_diag_lines::{Choice, HELP, VERSION, choose, run_to_status};
@@ -18,12 +18,12 @@ fn main(rt: HostRuntime) -> ExitCode {
     }
 }
 
-/// Returns what the command line asks for.
+/// Returns what the command line requests.
 fn read_choice(rt: &HostRuntime) -> Result<Choice, AllocError> {
     let mut arguments = match env::args(rt) {
         Ok(arguments) => arguments,
         Err(error) if error.kind() == ErrorKind::OutOfMemory => return Err(AllocError),
-        // An argument is not valid UTF-8, so the command line is none that `choose` knows.
+        // An argument is not valid UTF-8, so it is not a known option.
         Err(_) => return Ok(Choice::Answer),
     };
     let _program = arguments.next();

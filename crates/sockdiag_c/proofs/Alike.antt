@@ -1,4 +1,4 @@
--- What was written of a reply is the one string for all that are idle with it.
+-- The bytes that are written for a reply are the canonical form of all equivalent replies.
 use Rattle.std.proofs.Common.{◌≡◌, ℕ, inl, inr, List, refl}
 use Rattle.std.proofs.Common.{arith}
 use Rattle.std.specs.Prelude.{◌↔◌}
@@ -10,20 +10,21 @@ use Rattle.sockdiag_c.specs.declared.rewriting.Outcome.{Outcome}
 use Rattle.sockdiag_c.specs.Rewriting.{IsCanonical, Writes}
 
 module _ {Param : Type 0} (C : Codec Param) (laws : KeepsLaws C) where
-  -- a string has one value
+  -- an accepted input has one value
   one_value : (b : List ℕ) (p : Param) (v w : C.Value) → IsBytes b → C.reads b p v → C.reads b p w
       → v ≡ w
   one_value b p v w tb r s =
       (laws.same_value b b p v w tb tb r s).1 ((laws.same_value b b p v v tb tb r r).0 refl)
 
-  -- strings with values that can be written are written alike exactly where they are idle
+  -- two accepted inputs with writable values serialize to the same bytes if and only if they are
+  -- equivalent (`idle`)
   written_alike : (b c : List ℕ) (p : Param) (v w : C.Value) → IsBytes b → IsBytes c → C.reads b p v
       → C.reads c p w → C.fits v → C.fits w
       → ((C.written v ≡ C.written w) ↔ C.idle p b c)
   written_alike b c p v w tb tc r s fv fw =
       grind (arith, one_value)
 
--- what was written of the value of a reply is its canonical form
+-- the bytes that are written for the value of a reply are its canonical form
 pub canonical_where_written : (R : ResponseSpec) → KeepsLaws (response_codec R)
     → (payload old new : List ℕ) (v : ValueOf R) (outcome : Outcome) (answer : ℕ) → IsBytes payload
     → (response_codec R).reads payload tt v

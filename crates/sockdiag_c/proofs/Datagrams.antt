@@ -1,4 +1,4 @@
--- Steps over a datagram that is cut into messages.
+-- Steps over a datagram that is split into messages.
 use Rattle.std.proofs.lemmas.Grind.{common_steps}
 use Rattle.std.proofs.Common.{arith}
 use Rattle.std.proofs.Common.{◌≡◌, ℕ, inl, inr, List, [], ◌∷◌, subst, sym}
@@ -16,7 +16,7 @@ use Rattle.sockdiag_c.specs.declared.walks.Cursor.{Cursor}
 use Rattle.sockdiag_c.specs.declared.walks.MessagePart.{MessagePart}
 use Rattle.sockdiag_c.specs.Walks.{IsMessageAt, NextMessage, left_of}
 
--- what a step over a message leaves is cut, and so all that was left before it
+-- the bytes left by a step are split into messages, and so are the bytes before the step
 cut_with_step : (bytes : List ℕ) (old new : Cursor) (now : MessagePart) (answer : ℕ)
     → IsBytes (left_of bytes old) → IsMessageAt bytes old new now answer
     → (message : List ℕ) × (later : List (List ℕ)) × (end : Option DecodeError)
@@ -27,7 +27,7 @@ cut_with_step bytes old new now answer in_range s =
     (rest_in_range (left_of bytes old) s.0.0 (left_of bytes new) s.0.1 in_range)).1 in
     (s.0.0, items.0, items.1, items.3, (left_of bytes new, s.0.1, items.3))
 
--- a step tells the first message, and leaves what the others are cut from
+-- a step returns the first message, and leaves the others
 pub step_at_message : (bytes : List ℕ) (old new : Cursor) (was now : MessagePart) (answer : ℕ)
     (message : List ℕ) (later : List (List ℕ)) (end : Option DecodeError)
     → IsBytes (left_of bytes old)
@@ -49,7 +49,7 @@ step_at_message bytes old new was now answer message later end in_range h (inr (
 step_at_message bytes old new was now answer message later end in_range h (inr (inr fails)) =
     grind (arith, common_steps, one_cut_into_messages)
 
--- where no message is left, the walk ends
+-- if no message is left, the iteration ends
 pub step_at_no_message : (bytes : List ℕ) (old new : Cursor) (was now : MessagePart) (answer : ℕ)
     → IsBytes (left_of bytes old)
     → CutIntoMessages (left_of bytes old) [] None → NextMessage bytes old new was now answer
@@ -61,7 +61,7 @@ step_at_no_message bytes old new was now answer in_range h k =
       one_cut_into_messages (left_of bytes old),
     )
 
--- where the fault stands, the walk fails
+-- at a framing error, the iteration fails
 pub step_at_fault : (bytes : List ℕ) (old new : Cursor) (was now : MessagePart) (answer : ℕ)
     (e : DecodeError) → IsBytes (left_of bytes old)
     → CutIntoMessages (left_of bytes old) [] (Some e) → NextMessage bytes old new was now answer

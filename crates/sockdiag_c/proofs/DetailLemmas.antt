@@ -1,4 +1,4 @@
--- What is told of attributes, one after the other.
+-- The contents of a reply after one more attribute.
 use Rattle.std.proofs.Common.{arith}
 use Rattle.std.proofs.Common.{◌≡◌, ℕ, List, [], ◌∷◌, ◌++◌, Option}
 use Rattle.std.proofs.Common.{slice_get}
@@ -31,7 +31,7 @@ as_prefix o p now later e =
     grind arith
 
 module _ {A B : Type 0} where
-  -- the first content of a list with one more
+  -- the first content of a list with one more element
   pub first_more : (describes : A → Option B) (xs : List A) (x : A)
       → first_of describes (xs ++ x ∷ []) ≡ first_of_two (first_of describes xs) (describes x)
   first_more describes [] x = alone (describes x)
@@ -47,7 +47,7 @@ number_more : (o p : Option ℕ) → number_of (first_of_two o p) ≡ next_numbe
 number_more o p =
     grind arith
 
--- a number that is told of one attribute more
+-- a number after one more attribute
 first_number_more : (F : AttributeSet) (k : ℕ) (part : ValueAt F k
     → ℕ) (vs : List (AttributeValue F)) (v : AttributeValue F)
     → next_number (first_number F k part vs) (option_map part (content F k v))
@@ -55,7 +55,7 @@ first_number_more : (F : AttributeSet) (k : ℕ) (part : ValueAt F k
 first_number_more F k part vs v =
     grind (arith, first_more, number_more)
 
--- the numbers of a UNIX socket
+-- the numbers of a UNIX socket after one more attribute
 unix_numbers : (h : UnixHeader) (now later : Text) (vs : List (AttributeValue unix))
     (v : AttributeValue unix)
     → unix_with later (unix_details_of h now vs) v ≡ unix_details_of h later (vs ++ v ∷ [])
@@ -82,7 +82,7 @@ unix_more h d e vs v numbers name (was, was_named) =
       first_more named vs v,
     )
 
--- and of an internet socket
+-- the numbers of an internet socket after one more attribute
 inet_numbers : (h : InetHeader) (now later : Text) (vs : List (AttributeValue inet))
     (v : AttributeValue inet)
     → inet_with later (inet_details_of h now vs) v ≡ inet_details_of h later (vs ++ v ∷ [])

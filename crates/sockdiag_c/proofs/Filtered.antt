@@ -1,4 +1,4 @@
--- Requests with attributes behind them, as they are checked and written.
+-- Requests with attributes of the caller: the check and the bytes.
 use Rattle.std.proofs.Common.{◌≡◌, ℕ, ◌+◌, ◌<◌, ◌≤◌, List, length, refl}
 use Rattle.std.proofs.Common.{[], Result, Ok, arith}
 use Rattle.std.proofs.lemmas.Bool.{lt-ltb, le-ltb}
@@ -14,7 +14,7 @@ use Rattle.sockdiag_c.specs.Requests.{protocol_attribute, with_padding}
 
 -- ---- the check
 
--- an attribute says itself
+-- parses an attribute as itself, so that only the framing is checked
 abbrev pub itself : Attribute → Result Attribute DecodeError
 itself a = Ok a
 
@@ -22,7 +22,7 @@ pub are_whole : (bytes : List ℕ) (values : List Attribute) → AttributesMean 
     → (given : List Attribute) × Cut bytes given []
 are_whole bytes values means = (means.0, means.1)
 
--- so each fault is one of the framing
+-- each error is a framing error
 pub are_cut_off : (bytes : List ℕ) (e : DecodeError) → AttributeFault itself bytes e
     → AreCutOff bytes e
 are_cut_off bytes e (given, (rest, cut, some, fault), read) =
@@ -30,7 +30,7 @@ are_cut_off bytes e (given, (rest, cut, some, fault), read) =
 
 -- ---- lengths
 
--- a protocol of one byte takes no bytes, and any other eight
+-- a protocol below 256 needs no attribute, and any other one of eight bytes
 pub no_bytes : (p : ℕ) → p < 256 → length (protocol_attribute p) ≡ 0
 no_bytes p low = rw (lt-ltb p 256 low) refl
 

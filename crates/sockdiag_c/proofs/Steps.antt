@@ -1,4 +1,4 @@
--- Steps of walks, by the place of a cursor.
+-- Steps of iterations, by the offset in a cursor.
 use Rattle.std.proofs.Common.{◌≡◌, ℕ, ◌+◌, ◌-◌, ◌⊎◌, inl, inr, List, [], ◌∷◌, ◌++◌}
 use Rattle.std.proofs.Common.{length, take, drop, refl, sym, arith}
 use Rattle.std.proofs.lemmas.List.{drop-drop, take_at}
@@ -18,7 +18,7 @@ use Rattle.sockdiag_c.specs.declared.walks.Cursor.{Cursor}
 use Rattle.sockdiag_c.specs.declared.walks.MessagePart.{MessagePart}
 use Rattle.sockdiag_c.specs.Walks.{Carries, NextAttribute, attribute_in, header_in, left_of}
 
--- the attribute at a place is the one whose value stands behind the two words there
+-- the value of the attribute at an offset is four bytes after the offset
 attribute_read : (bytes rest : List ℕ) (place : ℕ) (a : Attribute)
     → StartsWith (drop place bytes) a rest
     → a ≡ attribute_in bytes
@@ -26,7 +26,7 @@ attribute_read : (bytes rest : List ℕ) (place : ℕ) (a : Attribute)
 attribute_read bytes rest place a s =
     grind (arith, drop-drop 4 place bytes, take_at a.value (s.padding ++ rest) (length a.value))
 
--- a step over an attribute, to the place behind its padding
+-- a step over an attribute, to the offset after its padding
 pub attribute_passed : (bytes rest : List ℕ) (place end : ℕ) (a : Attribute)
     → StartsWith (drop place bytes) a rest → end ≡ 4 + length a.value + fill (4 + length a.value)
     → StartsWith (drop place bytes)
@@ -45,7 +45,7 @@ attribute_passed bytes rest place end a s end-is =
       drop-drop end place bytes,
     )
 
--- the part of a message that its header tells, at a place
+-- the output struct for a message with this header at an offset
 abbrev pub part_of : ℕ → NetlinkHeader → MessagePart
 part_of place h = record {
   offset = place + 16;
@@ -56,19 +56,19 @@ part_of place h = record {
   port_number = h.port_number;
 }
 
--- the header that is told is the one that was read
+-- the header of the output struct is the header that was parsed
 header_read : (bytes : List ℕ) (place : ℕ) (h : NetlinkHeader) → HasHeader bytes h
     → h ≡ header_in (part_of place h)
 header_read bytes place h head =
     grind arith
 
--- the header that is told stands at a place
+-- the bytes start with the header of the output struct
 pub header_is_framed : (bytes : List ℕ) (place : ℕ) (h : NetlinkHeader) → HasHeader bytes h
     → HasHeader bytes (header_in (part_of place h))
 header_is_framed bytes place h head =
     grind (arith, header_read bytes place h head)
 
--- a step over a message, to the place behind its padding
+-- a step over a message, to the offset after its padding
 pub message_passed : (bytes : List ℕ) (place end : ℕ) (h : NetlinkHeader)
     → HasHeader (drop place bytes) h → end ≡ h.length + fill h.length
     → StartsWithMessage (drop place bytes) (take h.length (drop place bytes))
@@ -81,7 +81,7 @@ message_passed bytes place end h head end-is =
       drop-drop end place bytes,
     )
 
--- what is kept as it came is carried, and so is nothing
+-- the payload of a control message, types 1 to 4, is accepted
 pub kept_is_carried : (payload : List ℕ) (t : ℕ) → (t ≡ 1) ⊎ ((t ≡ 2) ⊎ ((t ≡ 3) ⊎ (t ≡ 4)))
     → Carries payload t 1
 kept_is_carried payload t (inl one) = inl (refl, (Noop, one))
@@ -89,9 +89,9 @@ kept_is_carried payload t (inr (inl two)) = inl (refl, (Error payload, (two, ref
 kept_is_carried payload t (inr (inr (inl three))) = inl (refl, (Done payload, (three, refl)))
 kept_is_carried payload t (inr (inr (inr four))) = inl (refl, (Overrun payload, (four, refl)))
 
--- ---- steps over bytes that are cut into attributes
+-- ---- steps over bytes that are split into attributes
 
--- a step tells the first attribute
+-- a step returns the first attribute
 pub step_at_attribute : (bytes : List ℕ) (old new : Cursor) (was now : AttributePart) (answer : ℕ)
     (first : Attribute) (later : List Attribute)
     → Cut (left_of bytes old) (first ∷ later) [] → NextAttribute bytes old new was now answer
@@ -105,7 +105,7 @@ step_at_attribute bytes old new was now answer first later h k =
       prefix_of_start (left_of bytes old) h.0 first h.1,
     )
 
--- where none is left, the walk ends
+-- if no attribute is left, the iteration ends
 pub step_at_end : (bytes : List ℕ) (old new : Cursor) (was now : AttributePart) (answer : ℕ)
     → Cut (left_of bytes old) [] [] → NextAttribute bytes old new was now answer → answer ≡ 0
 step_at_end bytes old new was now answer none h =

@@ -1,4 +1,4 @@
--- The first value of a kind among the attributes that bytes are cut into.
+-- The first value of a kind among the attributes that bytes are split into.
 use Rattle.std.proofs.lemmas.Grind.{common_steps}
 use Rattle.std.proofs.Common.{◌≡◌, ◌≢◌, ◌∙◌, ℕ, List, [], ◌∷◌, refl, sym, ap, subst, unwrap_or}
 use Rattle.std.proofs.Common.{Option, rules}
@@ -14,22 +14,22 @@ use Rattle.netlink_core.proofs.Walking.{StartsWith-some, prefix_of_start}
 use Rattle.sock_diag_replies.specs.UnixGetters.{first_of}
 use Rattle.sockdiag_c.specs.TcpInfo.{StandIn, filled, value_of}
 
--- the bytes of a value that there is room for, and zeros behind them
+-- the value, truncated to n bytes or followed by zeros
 pub filled_is : (n : ℕ) (value : List ℕ) (found left : ℕ) → found ≡ min (length value) n
     → left + found ≡ n → take found value ++ replicate left 0 ≡ filled n value
 filled_is n value found left is all =
     grind (arith, cases_lt n (length value), take_all found value, take_all n value)
 
--- ---- the attributes that stand in bytes
+-- ---- the attributes in bytes
 
--- the first begins the bytes, and the others stand behind it
+-- the first attribute is at the start of the bytes, and the others follow it
 first_stands : (bytes : List ℕ) (a : Attribute) (more : List Attribute) → StandIn bytes (a ∷ more)
     → (rest : List ℕ) × StartsWith bytes a rest × StandIn rest more
 first_stands bytes a more (inl cut) = (cut.0, cut.1, inl cut.2)
 first_stands bytes a more (inr (e, (left, cut, some, fault))) =
     (cut.0, cut.1, inr (e, (left, cut.2, some, fault)))
 
--- where an attribute begins the bytes, it is the first of them
+-- an attribute at the start of the bytes is the first of them
 stands_first : (bytes rest : List ℕ) (a : Attribute) → StartsWith bytes a rest
     → (attributes : List Attribute) → StandIn bytes attributes
     → (more : List Attribute) × (attributes ≡ a ∷ more) × StandIn rest more
@@ -45,9 +45,9 @@ stands_first bytes rest a start (b ∷ more) stand =
     let same = one_start bytes first.0 rest b a first.1 start in
     (more, λ i. same.0 i ∷ more, subst (λ (t : List ℕ). StandIn t more) same.1 first.2)
 
--- ---- the walk
+-- ---- the iteration
 
--- what is found among all attributes is what is found among those that are left
+-- the first value of type k is in the attributes that are left
 pub record FoundBehind (k : ℕ) (bytes rest : List ℕ) : Type 0 where
   pub behind : (attributes : List Attribute) → StandIn bytes attributes → (later : List Attribute)
       × StandIn rest later × (first_of (value_of k) attributes ≡ first_of (value_of k) later)
@@ -56,7 +56,7 @@ skipped : (k : ℕ) (a : Attribute) (more : List Attribute) → attribute_type a
     → first_of (value_of k) (a ∷ more) ≡ first_of (value_of k) more
 skipped k a more other = rw (ne_eqb (attribute_type a) k other) refl
 
--- an attribute of another type is passed
+-- an attribute of another type is skipped
 pub found_goes_on : (k : ℕ) (bytes rest after : List ℕ) (a : Attribute) → StartsWith rest a after
     → FoundBehind k bytes rest → attribute_type a ≢ k → FoundBehind k bytes after
 found_goes_on k bytes rest after a start found other = record {
@@ -69,11 +69,11 @@ found_goes_on k bytes rest after a start found other = record {
       );
 }
 
--- what was found is the value, or there is none
+-- the value that is found, or no bytes if there is none
 abbrev value_in : ℕ → List Attribute → List ℕ
 value_in k attributes = unwrap_or (first_of (value_of k) attributes) []
 
--- one of the kind is found
+-- the first attribute has the type, and its value is found
 first_value_is : (k : ℕ) (a : Attribute) (more : List Attribute) → attribute_type a ≡ k
     → a.value ≡ value_in k (a ∷ more)
 first_value_is k a more is = rw is (search rules)
@@ -87,7 +87,7 @@ found_here k bytes rest after a start found is attributes stand =
     first_value_is k a first.0 is ∙ ap (value_in k) (sym first.1)
     ∙ ap (λ (o : Option (List ℕ)). unwrap_or o []) (sym f.2)
 
--- where no attribute begins what is left, none is found
+-- if no attribute is left, no value is found
 found_none : (k : ℕ) (bytes rest : List ℕ) → FoundBehind k bytes rest
     → ((a : Attribute) (after : List ℕ) → StartsWith rest a after → ⊥)
     → (attributes : List Attribute) → StandIn bytes attributes → [] ≡ value_in k attributes

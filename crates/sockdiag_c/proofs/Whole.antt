@@ -1,4 +1,4 @@
--- Requests for internet sockets, as they are written.
+-- The bytes of requests for internet sockets.
 use Rattle.std.proofs.Common.{◌≡◌, ℕ, ◌+◌, ◌<◌, ◌≤◌, List, [], ◌∷◌, ◌++◌, length, arith}
 use Rattle.std.proofs.Common.{refl}
 use Rattle.std.proofs.lemmas.Bool.{lt-ltb, le-ltb}
@@ -12,7 +12,7 @@ use Rattle.sockdiag_c.specs.declared.requests.InetRequest.{InetRequest}
 use Rattle.sockdiag_c.specs.Requests.{WritesWhole, header_of, inet_message, inet_request_of}
 use Rattle.sockdiag_c.specs.Requests.{protocol_attribute}
 
--- a protocol of one byte is told by the record alone
+-- a protocol below 256 needs no attribute
 pub no_attribute : (p : ℕ) → p < 256 → [] ≡ protocol_attribute p
 no_attribute p low = rw (lt-ltb p 256 low) refl
 
@@ -20,7 +20,7 @@ pub an_attribute : (p : ℕ) (word : List ℕ) → 256 ≤ p → word ≡ little
     → 8 ∷ 0 ∷ 3 ∷ 0 ∷ word ≡ protocol_attribute p
 an_attribute p word high is = rw (le-ltb p 256 high, is) refl
 
--- header, record and attribute are the message
+-- the message is the header, the record and the attribute
 pub message_written : (t : ℕ) (r : InetRequest) (it : inet.InetRequest)
     (attribute old new : List ℕ) (answer : ℕ)
     → it ≡ inet_request_of r → attribute ≡ protocol_attribute r.protocol

@@ -1,4 +1,4 @@
--- What C is told of the headers of replies.
+-- The headers of replies, as C structs.
 use Rattle.std.specs.Prelude.{ℕ, List}
 use Rattle.std.specs.declared.net.ip_addr.IpAddr.{IpAddr}
 use Rattle.netlink_core.specs.Table.{bytes_of}
@@ -14,16 +14,19 @@ use Rattle.sockdiag_c.specs.declared.headers.InetHeader.{InetHeader}
 use Rattle.sockdiag_c.specs.declared.headers.Reply.{Reply}
 use Rattle.sockdiag_c.specs.declared.headers.UnixHeader.{UnixHeader}
 
--- each field by its name
+-- `struct sockdiag_unix_header` from `struct unix_diag_msg`: each field is the field with the same
+-- name
 abbrev pub unix_header_of : UnixResponseHeader → UnixHeader
 unix_header_of h = record { kind = h.kind; state = h.state; inode = h.inode; cookie = h.cookie }
 
--- the sixteen bytes of an address in a socket's identity
+-- the 16 bytes of an address field, in network byte order: 4 bytes and 12 zeros for IPv4, 16 bytes
+-- for IPv6
 abbrev pub address_bytes : IpAddr → List ℕ
 address_bytes ip = bytes_of (address_fields 0 (address_data ip).0) (address_values ip)
 
--- each field by its name; of the timer its byte, and its count and its milliseconds or else zeros;
--- of an address its octets, and zeros behind four of them
+-- `struct sockdiag_inet_header` from `struct inet_diag_msg`: each field is the field with the same
+-- name, except for `timer`, `retransmits` and `expires`. They are the code of the timer, its number
+-- of retransmissions and its milliseconds, each 0 if the timer does not have it.
 abbrev pub inet_header_of : InetResponseHeader → InetHeader
 inet_header_of h = record {
   family = h.family;
@@ -43,8 +46,8 @@ inet_header_of h = record {
   inode = h.inode;
 }
 
--- which kind of reply it is, and its header. A request is never read, and of the header of the
--- other kind nothing is told.
+-- `struct sockdiag_reply`: the kind and the header of a reply; the header of the other kind is
+-- unchanged. The last two lines never apply, since a message is never parsed as a request.
 abbrev pub reply_of : Reply → Message → Reply
 reply_of old (message_of unix_response v) =
     record old { kind = 1; unix_header = unix_header_of v.header }

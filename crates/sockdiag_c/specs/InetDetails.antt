@@ -1,4 +1,4 @@
--- What C is told of an IPv4 or IPv6 socket.
+-- The contents of a reply about an IPv4 or IPv6 socket: `struct sockdiag_inet_details`.
 use Rattle.std.specs.Prelude.{◌≡◌, ℕ, if◌then◌else◌, Bool, List, Option, option_map}
 use Rattle.netlink_core.specs.AttributeSet.{AttributeValue, content}
 use Rattle.sock_diag_attributes.specs.InetAttributes.{inet}
@@ -18,11 +18,13 @@ use Rattle.sockdiag_c.specs.declared.inet_details.InetDetails.{InetDetails}
 use Rattle.sockdiag_c.specs.Details.{text_of, first_number}
 use Rattle.sockdiag_c.specs.Headers.{inet_header_of}
 
--- the algorithm of congestion control, where one is said: a text of the kind 1
+-- the name in an INET_DIAG_CONG as a text of kind 1, SOCKDIAG_TEXT; None for attributes of other
+-- types
 abbrev pub controlled : AttributeValue inet → Option (ℕ × List ℕ)
 controlled v = option_map (λ (t : List ℕ). (1, t)) (content inet INET_DIAG_CONG v)
 
--- behind a header and an algorithm, each number of the first value of its type
+-- the struct with this header and this congestion text; each number is from the first attribute of
+-- its type
 abbrev pub inet_details_of : InetHeader → Text → List (AttributeValue inet) → InetDetails
 inet_details_of header congestion vs = record {
   header = header;
@@ -36,11 +38,12 @@ inet_details_of header congestion vs = record {
   class_id = first_number inet INET_DIAG_CLASS_ID (λ (n : ℕ). n) vs;
 }
 
--- this header and these attributes are told, and nothing else
+-- HasInetDetails header d vs: the struct has this header, each number of the attributes, and the
+-- text of the first INET_DIAG_CONG, if any
 abbrev pub HasInetDetails : InetHeader → InetDetails → List (AttributeValue inet) → Type 0
 HasInetDetails header d vs =
     (d ≡ inet_details_of header d.congestion vs) × (text_of d.congestion ≡ first_of controlled vs)
 
--- all of the reply is told
+-- the struct has the header and the attributes of the reply
 abbrev pub IsInetDetailsOf : ValueOf inet_response_spec → InetDetails → Type 0
 IsInetDetailsOf v d = HasInetDetails (inet_header_of v.header) d v.nlas

@@ -1,4 +1,4 @@
--- What C is told of a netlink socket.
+-- The contents of a reply about a netlink socket: `struct sockdiag_netlink_details`.
 use Rattle.std.specs.Prelude.{◌≡◌, List, [], ◌∷◌, Option, IsOkAnd}
 use Rattle.std.specs.Result.{result_err}
 use Rattle.netlink_core.specs.Response.{ValueOf}
@@ -9,7 +9,8 @@ use Rattle.sockdiag_c.specs.Details.{number_of, text_of}
 use Rattle.sockdiag_c.specs.FamilyValues.{bytes_of, memory, memory_of, read_of, word}
 use Rattle.sockdiag_c.specs.declared.netlink_details.NetlinkDetails.{NetlinkDetails}
 
--- the header, and of each kind the first value
+-- The header, and the first value of each kind: NETLINK_DIAG_MEMINFO 0, NETLINK_DIAG_GROUPS 1,
+-- NETLINK_DIAG_FLAGS 4. A value of kind 0 or 4 parses, if there is one.
 abbrev pub IsNetlinkDetailsOf : ValueOf (whole_reply netlink_header) → NetlinkDetails → Type 0
 IsNetlinkDetailsOf v d =
     (d.header ≡ v.header)
@@ -17,6 +18,6 @@ IsNetlinkDetailsOf v d =
     × (text_of d.groups ≡ bytes_of 1 v.nlas)
     × IsOkAnd (read_of word 4 v.nlas) (λ o. d.flags ≡ number_of o)
 
--- the faults of its values, in their order
+-- the errors of its values, in the order in which they are reported
 abbrev pub netlink_faults : ValueOf (whole_reply netlink_header) → List (Option DecodeError)
 netlink_faults v = result_err (read_of memory 0 v.nlas) ∷ result_err (read_of word 4 v.nlas) ∷ []

@@ -1,4 +1,4 @@
--- What C is told of a packet socket.
+-- The contents of a reply about a packet socket: `struct sockdiag_packet_details`.
 use Rattle.std.specs.Prelude.{◌≡◌, List, [], ◌∷◌, Option, IsOkAnd}
 use Rattle.std.specs.Result.{result_err}
 use Rattle.netlink_core.specs.Response.{ValueOf}
@@ -11,7 +11,11 @@ use Rattle.sockdiag_c.specs.Details.{number_of, text_of}
 use Rattle.sockdiag_c.specs.FamilyValues.{bytes_of, memory, memory_of, read_of, word}
 use Rattle.sockdiag_c.specs.declared.packet_details.PacketDetails.{PacketDetails}
 
--- the header, and of each kind the first value; a record that isn't told is as it was
+-- The header, and the first value of each kind: PACKET_DIAG_INFO 0, PACKET_DIAG_MCLIST 1,
+-- PACKET_DIAG_RX_RING 2, PACKET_DIAG_TX_RING 3, PACKET_DIAG_FANOUT 4, PACKET_DIAG_UID 5,
+-- PACKET_DIAG_MEMINFO 6, PACKET_DIAG_FILTER 7. A value of kind 0 or 2 to 6 parses, if there is one.
+-- `has_info` and the like are 1 if the record is present; else they are 0 and the record is
+-- unchanged from `old`.
 abbrev pub IsPacketDetailsOf : PacketDetails → ValueOf (whole_reply packet_header) → PacketDetails
     → Type 0
 IsPacketDetailsOf old v d =
@@ -27,7 +31,7 @@ IsPacketDetailsOf old v d =
     × IsOkAnd (read_of memory 6 v.nlas) (λ o. d.memory ≡ memory_of o)
     × (text_of d.filter ≡ bytes_of 7 v.nlas)
 
--- the faults of its values, in their order
+-- the errors of its values, in the order in which they are reported
 abbrev pub packet_faults : ValueOf (whole_reply packet_header) → List (Option DecodeError)
 packet_faults v =
     result_err (read_of packet_info 0 v.nlas) ∷ result_err (read_of (packet_ring 2) 2 v.nlas)

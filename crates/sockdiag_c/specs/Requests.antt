@@ -1,4 +1,4 @@
--- The requests that C asks to be written.
+-- The bytes of requests for UNIX and internet sockets.
 use Rattle.std.specs.Prelude.{◌≡◌, ℕ, ◌+◌, ◌%◌, ◌<◌, ◌≤◌, ◌==◌, nat_lt, if◌then◌else◌, List, []}
 use Rattle.std.specs.Prelude.{◌∷◌, ◌++◌, ◌⊎◌, length, drop, replicate, slice_index}
 use Rattle.byteorder.specs.Endian.{little_bytes}
@@ -18,7 +18,7 @@ use Rattle.sockdiag_c.specs.declared.requests.InetRequest.{InetRequest}
 use Rattle.sockdiag_c.specs.declared.requests.RequestHeader.{RequestHeader}
 use Rattle.sockdiag_c.specs.declared.requests.UnixRequest.{UnixRequest}
 
--- the header of a message that has so many bytes with it, under a type
+-- header_of len t h: `struct nlmsghdr` of a message of `len` bytes, header included, and of type t
 abbrev pub header_of : ℕ → ℕ → RequestHeader → NetlinkHeader
 header_of len t h = record {
   length = len;
@@ -28,7 +28,8 @@ header_of len t h = record {
   port_number = h.port_number;
 }
 
--- the record that is asked for, each field by its name
+-- `struct unix_diag_req` from `struct sockdiag_unix_request`: each field is the field with the same
+-- name
 abbrev pub unix_request_of : UnixRequest → unix.UnixRequest
 unix_request_of r = record {
   state_flags = record { 0 = r.states };
@@ -37,7 +38,8 @@ unix_request_of r = record {
   cookie = r.cookie;
 }
 
--- the address in sixteen bytes: under AF_INET, 2, the first four octets, and else eight segments
+-- address_under family octets: for AF_INET, 2, the IPv4 address of the first four octets; else the
+-- IPv6 address of the sixteen octets
 abbrev pub address_under : ℕ → List ℕ → IpAddr
 address_under family octets =
     if family == 2 then V4 record {
@@ -46,8 +48,8 @@ address_under family octets =
     }
     else V6 record { segments = segments_of octets }
 
--- the record that is asked for, each field by its name, its addresses of the family's version, and
--- of the protocol the low byte
+-- `struct inet_diag_req_v2` from `struct sockdiag_inet_request`: each field is the field with the
+-- same name; the addresses are of the IP version of the family, and the protocol is its low byte
 abbrev pub inet_request_of : InetRequest → inet.InetRequest
 inet_request_of r = record {
   family = r.family;
@@ -64,48 +66,54 @@ inet_request_of r = record {
   };
 }
 
--- a protocol above 255 is told by the attribute of type 3, INET_DIAG_REQ_PROTOCOL
+-- INET_DIAG_REQ_PROTOCOL, 3, with the protocol as a little-endian `__u32`, if it is above 255; else
+-- no bytes
 abbrev pub protocol_attribute : ℕ → List ℕ
 protocol_attribute p =
     if nat_lt p 256 then [] else written record { type_word = 3; value = little_bytes 4 p }
 
--- the messages under a type: SOCK_DIAG_BY_FAMILY is 20, and SOCK_DESTROY 21
+-- the netlink message of 40 bytes with type t of a UNIX request: 20 is SOCK_DIAG_BY_FAMILY, and 21
+-- is SOCK_DESTROY
 abbrev pub unix_message : ℕ → UnixRequest → List ℕ
 unix_message t r = header_bytes (header_of 40 t r.header) ++ bytes unix_request (unix_request_of r)
 
+-- the netlink message with type t of an internet request: 72 bytes, and 8 more if it has the
+-- attribute
 abbrev pub inet_message : ℕ → InetRequest → List ℕ
 inet_message t r =
     header_bytes (header_of (72 + length (protocol_attribute r.protocol)) t r.header)
     ++ bytes inet_request (inet_request_of r) ++ protocol_attribute r.protocol
 
--- Where there is room for so many bytes, all of them stand at the start of the buffer, the rest is
--- as it was, and the answer is how many they are. Else nothing is written.
+-- WritesWhole len all old new answer: `all` are `len` bytes; `old` and `new` are the buffer before
+-- and after the call. If the buffer has at least `len` bytes, `all` is written at its start, the
+-- rest is unchanged, and the return value is `len`. Else nothing is written, and the return value
+-- is 0.
 abbrev pub WritesWhole : ℕ → List ℕ → List ℕ → List ℕ → ℕ → Type 0
 WritesWhole len all old new answer =
     (len ≤ length old → (answer ≡ len) × (new ≡ all ++ drop len old))
     × (length old < len → (answer ≡ 0) × (new ≡ old))
 
--- ---- requests with attributes of the caller's
+-- ---- requests with attributes of the caller
 
--- zeros up to a multiple of four
+-- the attributes, followed by zeros up to a multiple of 4
 abbrev pub with_padding : List ℕ → List ℕ
 with_padding attributes = attributes ++ replicate (fill (length attributes)) 0
 
--- what stands behind the record: the protocol where it is above 255, and the attributes
+-- the bytes after the record: the attribute with the protocol, if any, and the caller's attributes
 abbrev pub behind_record : InetRequest → List ℕ → List ℕ
 behind_record r attributes = protocol_attribute r.protocol ++ with_padding attributes
 
--- a request under the type 20, and the attributes
+-- a request of type 20, SOCK_DIAG_BY_FAMILY, with the caller's attributes
 abbrev pub filtered_message : InetRequest → List ℕ → List ℕ
 filtered_message r attributes =
     header_bytes (header_of (72 + length (behind_record r attributes)) 20 r.header)
     ++ bytes inet_request (inet_request_of r) ++ behind_record r attributes
 
--- the family is AF_INET, 2, or AF_INET6, 10, and a word of 32 bits counts the whole
+-- the family is AF_INET, 2, or AF_INET6, 10, and the length of the message fits `nlmsg_len`
 abbrev pub HasRoomForLength : InetRequest → List ℕ → Type 0
 HasRoomForLength r attributes =
     ((r.family ≡ 2) ⊎ (r.family ≡ 10)) × (72 + length (behind_record r attributes) ≤ 4294967295)
 
--- some attributes come first, and then the fault of the framing
+-- attributes come first, if any; then bytes are left that are not an attribute, for the reason e
 abbrev pub AreCutOff : List ℕ → DecodeError → Type 0
 AreCutOff bytes e = (given : List Attribute) × CutOff IsFramingFault bytes given e

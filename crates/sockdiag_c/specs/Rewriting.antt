@@ -1,4 +1,4 @@
--- Replies that are written in canonical form.
+-- The canonical form of replies, written to a buffer.
 use Rattle.std.specs.Prelude.{◌≡◌, ℕ, ◌<◌, ◌≤◌, ◌↔◌, ◌⊎◌, List, ◌++◌, length, take, drop}
 use Rattle.netlink_core.specs.Bytes.{IsBytes}
 use Rattle.netlink_core.specs.declared.fault.DecodeError.{DecodeError}
@@ -6,16 +6,19 @@ use Rattle.netlink_core.specs.Faults.{number_of}
 use Rattle.netlink_core.specs.Response.{ResponseSpec, ValueOf, response_bytes, response_codec}
 use Rattle.sockdiag_c.specs.declared.rewriting.Outcome.{Outcome}
 
--- a fault by its number, or 0, and how many bytes are needed
+-- `struct sockdiag_outcome`: the code of an error or 0, and the number of bytes to write
 abbrev pub outcome_of : ℕ → ℕ → Outcome
 outcome_of fault needed = record { fault = fault; needed = needed }
 
--- nothing is written
+-- the return value is 0 and the buffer is unchanged
 abbrev pub StaysAsItWas : List ℕ → List ℕ → ℕ → Type 0
 StaysAsItWas old new answer = (answer ≡ 0) × (new ≡ old)
 
--- The bytes stand at the start of the buffer, and the rest is as it was; or there is no room for so
--- many; or the value can't be written.
+-- Writes fits bytes old new outcome answer: `old` and `new` are the buffer before and after the
+-- call. Either the value is writable (`fits`) and the buffer is long enough: the bytes are written
+-- at its start, the rest is unchanged, and the return value is their number. Or the value is
+-- writable and the buffer is too short; `outcome.needed` is the number of bytes. Or the value is
+-- not writable.
 abbrev pub Writes : Type 0 → List ℕ → List ℕ → List ℕ → Outcome → ℕ → Type 0
 Writes fits bytes old new outcome answer =
     (fits × (length bytes ≤ length old) × (outcome ≡ outcome_of 0 (length bytes))
@@ -24,7 +27,9 @@ Writes fits bytes old new outcome answer =
     × StaysAsItWas old new answer)
     ⊎ (¬ fits × (outcome ≡ outcome_of 0 0) × StaysAsItWas old new answer))
 
--- The value that belongs to the bytes is written so. Or they are refused, with the first fault.
+-- Rewrites reads refuses fits bytes old new outcome answer: either the input has a value, and
+-- Writes holds for it; or the input is rejected with the error e, whose code is in the outcome, and
+-- nothing is written
 abbrev pub Rewrites : {V : Type 0} → (V → Type 0) → (DecodeError → Type 0) → (V → Type 0)
     → (V → List ℕ) → List ℕ → List ℕ → Outcome → ℕ → Type 0
 Rewrites {V} reads refuses fits bytes old new outcome answer =
@@ -32,8 +37,8 @@ Rewrites {V} reads refuses fits bytes old new outcome answer =
     ⊎ ((e : DecodeError) × refuses e × (outcome ≡ outcome_of (number_of e) 0)
     × StaysAsItWas old new answer)
 
--- Where something was written, it is the one string for all strings that are idle with these bytes:
--- of the strings with a value that can be written, exactly the idle ones are written so.
+-- If anything was written, it is the canonical form of the payload: an accepted input with a
+-- writable value serializes to these bytes if and only if it is equivalent (`idle`) to the payload.
 abbrev pub IsCanonical : ResponseSpec → List ℕ → List ℕ → ℕ → Type 0
 IsCanonical R payload new answer =
     0 < answer → (d : List ℕ) (w : ValueOf R) → IsBytes d → (response_codec R).reads d tt w

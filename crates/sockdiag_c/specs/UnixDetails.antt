@@ -1,4 +1,4 @@
--- What C is told of a UNIX socket.
+-- The contents of a reply about a UNIX socket: `struct sockdiag_unix_details`.
 use Rattle.std.specs.Prelude.{◌≡◌, ℕ, List, [], Option, option_map, unwrap_or}
 use Rattle.netlink_core.specs.AttributeSet.{AttributeValue, content}
 use Rattle.sock_diag_values.specs.declared.unix.mem_info.MemInfo.{MemInfo}
@@ -21,20 +21,20 @@ use Rattle.sockdiag_c.specs.declared.unix_details.UnixDetails.{UnixDetails}
 use Rattle.sockdiag_c.specs.Details.{text_of, first_number}
 use Rattle.sockdiag_c.specs.Headers.{unix_header_of}
 
--- a path is of the kind 1, and an abstract name of the kind 2
+-- a pathname has kind 1, SOCKDIAG_TEXT, and an abstract name kind 2, SOCKDIAG_ABSTRACT
 abbrev pub name_parts : SocketName (List ℕ) → ℕ × List ℕ
 name_parts (Pathname path) = (1, path)
 name_parts (Abstract address) = (2, address)
 
--- the name, where one is said
+-- the name in a UNIX_DIAG_NAME; None for attributes of other types
 abbrev pub named : AttributeValue unix → Option (ℕ × List ℕ)
 named v = option_map name_parts (content unix UNIX_DIAG_NAME v)
 
--- the inodes that wait to be accepted: those of the first list
+-- the inodes in the first UNIX_DIAG_ICONS, or none
 abbrev pub pending : List (AttributeValue unix) → List ℕ
 pending vs = unwrap_or (first_of (content unix UNIX_DIAG_ICONS) vs) []
 
--- behind a header and a name, each number of the first value of its type
+-- the struct with this header and this name; each number is from the first attribute of its type
 abbrev pub unix_details_of : UnixHeader → Text → List (AttributeValue unix) → UnixDetails
 unix_details_of header name vs = record {
   header = header;
@@ -50,11 +50,12 @@ unix_details_of header name vs = record {
   shutdown = first_number unix UNIX_DIAG_SHUTDOWN (λ (n : ℕ). n) vs;
 }
 
--- this header and these attributes are told, and nothing else
+-- HasUnixDetails header d vs: the struct has this header, each number of the attributes, and the
+-- name in the first UNIX_DIAG_NAME, if any
 abbrev pub HasUnixDetails : UnixHeader → UnixDetails → List (AttributeValue unix) → Type 0
 HasUnixDetails header d vs =
     (d ≡ unix_details_of header d.name vs) × (text_of d.name ≡ first_of named vs)
 
--- all of the reply is told
+-- the struct has the header and the attributes of the reply
 abbrev pub IsUnixDetailsOf : ValueOf unix_response_spec → UnixDetails → Type 0
 IsUnixDetailsOf v d = HasUnixDetails (unix_header_of v.header) d v.nlas

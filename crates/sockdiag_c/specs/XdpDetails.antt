@@ -1,4 +1,4 @@
--- What C is told of an XDP socket.
+-- The contents of a reply about an XDP socket: `struct sockdiag_xdp_details`.
 use Rattle.std.specs.Prelude.{◌≡◌, List, [], ◌∷◌, Option, IsOkAnd}
 use Rattle.std.specs.Result.{result_err}
 use Rattle.netlink_core.specs.Response.{ValueOf}
@@ -11,7 +11,10 @@ use Rattle.sockdiag_c.specs.Details.{number_of}
 use Rattle.sockdiag_c.specs.FamilyValues.{memory, memory_of, read_of, word}
 use Rattle.sockdiag_c.specs.declared.xdp_details.XdpDetails.{XdpDetails}
 
--- the header, and of each kind the first value; a record that isn't told is as it was
+-- The header, and the first value of each kind: XDP_DIAG_INFO 1, XDP_DIAG_UID 2, XDP_DIAG_RX_RING
+-- 3, XDP_DIAG_TX_RING 4, XDP_DIAG_UMEM 5, XDP_DIAG_UMEM_FILL_RING 6, XDP_DIAG_UMEM_COMPLETION_RING
+-- 7, XDP_DIAG_MEMINFO 8, XDP_DIAG_STATS 9. Each value parses, if there is one. `has_info` and the
+-- like are 1 if the record is present; else they are 0 and the record is unchanged from `old`.
 abbrev pub IsXdpDetailsOf : XdpDetails → ValueOf (whole_reply xdp_header) → XdpDetails → Type 0
 IsXdpDetailsOf old v d =
     (d.header ≡ v.header)
@@ -26,7 +29,7 @@ IsXdpDetailsOf old v d =
     × IsOkAnd (read_of xdp_statistics 9 v.nlas)
     (λ o. AnswersItem o old.statistics d.statistics d.has_statistics)
 
--- the faults of its values, in their order
+-- the errors of its values, in the order in which they are reported
 abbrev pub xdp_faults : ValueOf (whole_reply xdp_header) → List (Option DecodeError)
 xdp_faults v =
     result_err (read_of xdp_info 1 v.nlas) ∷ result_err (read_of word 2 v.nlas)

@@ -1,4 +1,4 @@
-//! Checks of replies in place.
+//! Checks of borrowed replies.
 
 ghost use Rattle.netlink_core.specs.Response.{response_codec};
 ghost use Rattle.sock_diag_replies.specs.InetResponseSpec.{inet_response_spec};
@@ -12,12 +12,11 @@ use netlink_packet_sock_diag::SockDiagView;
 use netlink_packet_sock_diag::inet::InetResponseView;
 use netlink_packet_sock_diag::unix::UnixResponseView;
 
-/// The answer of a check that accepts the bytes.
+/// Return value of a check that accepts the bytes.
 pub(crate) const OK: u32 = 0;
 
-/// Checks the whole of a reply about a UNIX socket, the payload of its message, and tells its
-/// header. The answer is 0, or the number of the first fault, and then the header is left as it
-/// was.
+/// Checks a whole reply about a UNIX socket, and returns its header. The bytes are the payload of
+/// the netlink message. Returns 0, or the code of the first error; then the header is unchanged.
 #[unsafe(no_mangle)]
 pub extern "C" fn sockdiag_check_unix_reply(payload: &[u8], header: &mut UnixHeader) -> u32
     ensures { Answers ((response_codec unix_response_spec).reads payload.now tt)
@@ -33,7 +32,9 @@ pub extern "C" fn sockdiag_check_unix_reply(payload: &[u8], header: &mut UnixHea
     }
 }
 
-/// The same of a reply about an IPv4 or IPv6 socket.
+/// Checks a whole reply about an IPv4 or IPv6 socket, and returns its header. The bytes are the
+/// payload of the netlink message. Returns 0, or the code of the first error; then the header is
+/// unchanged.
 #[unsafe(no_mangle)]
 pub extern "C" fn sockdiag_check_inet_reply(payload: &[u8], header: &mut InetHeader) -> u32
     ensures { Answers ((response_codec inet_response_spec).reads payload.now tt)
@@ -49,9 +50,9 @@ pub extern "C" fn sockdiag_check_inet_reply(payload: &[u8], header: &mut InetHea
     }
 }
 
-/// Checks the whole of the payload of a message under the message's type, and tells which reply it
-/// is and its header. The answer is 0, or the number of the first fault, and then the reply is left
-/// as it was.
+/// Checks the whole payload of a message of this type, and returns the kind of reply and its
+/// header. The header of the other kind is unchanged. Returns 0, or the code of the first error;
+/// then the reply is unchanged.
 #[unsafe(no_mangle)]
 pub extern "C" fn sockdiag_check_message(
     payload: &[u8],

@@ -1,4 +1,4 @@
-//! What C is told of a reply, and the walk that checks it and tells it.
+//! The contents of a reply, returned to C while the reply is checked, in one pass.
 
 ghost use Rattle.std.specs.Prelude.{◌≡◌, ◌≢◌, List, [], ◌∷◌, ◌++◌, drop, Ok, Err, IfOk};
 ghost use Rattle.std.specs.Prelude.{IfErr, None, OnOk, Some};
@@ -19,44 +19,44 @@ use crate::inet_details::InetDetails;
 use crate::unix_details::UnixDetails;
 use netlink_core::{DecodeError, NlaBuffer, NlasIterator};
 
-/// A number that a reply may tell: `struct sockdiag_number` of `include/sockdiag.h`.
+/// A number that a reply may contain: `struct sockdiag_number` of `include/sockdiag.h`.
 #[repr(C)]
 #[derive(Clone, Copy)]
 pub struct Number {
-    /// 1 where it is told, else 0.
+    /// 1 if the reply contains the number, else 0.
     pub is_told: u32,
     /// The number, or 0.
     pub value: u32,
 }
 
-/// A text that a reply may tell: `struct sockdiag_text` of `include/sockdiag.h`.
+/// A text that a reply may contain: `struct sockdiag_text` of `include/sockdiag.h`.
 #[repr(C)]
 #[derive(Clone, Copy)]
 pub struct Text<'a> {
-    /// What the text is: 0 none is told, 1 a pathname or the name of an algorithm, 2 what stands
-    /// behind the zero of an abstract name, 3 bytes that are no text.
+    /// Kind of the text. 0: the reply contains no such text. 1: a pathname, or the name of a
+    /// congestion control algorithm. 2: an abstract name. 3: bytes that are not text.
     pub kind: u32,
-    /// The text, without the zero that tells its end or its kind.
+    /// The text, without the NUL that ends a text or precedes an abstract name.
     pub bytes: &'a [u8],
 }
 
-/// The kind of a pathname, and of the name of an algorithm.
+/// Kind of a pathname, and of the name of a congestion control algorithm.
 pub(crate) const TEXT: u32 = 1;
 
-/// The kind of an abstract name.
+/// Kind of an abstract name.
 pub(crate) const ABSTRACT: u32 = 2;
 
-/// The kind of bytes that are no text.
+/// Kind of bytes that are not text.
 pub(crate) const BYTES: u32 = 3;
 
-/// That no number is told.
+/// The number of a reply that contains none.
 pub(crate) const NO_NUMBER: Number = Number {
     is_told: 0,
     value: 0,
 };
 
 impl Number {
-    /// Tells the number, where none is told yet.
+    /// Sets the number, unless it is set already.
     pub(crate) fn set(&mut self, value: u32)
         ensures { self.new ≡ next_number self.old (Some value) }
     {
@@ -67,7 +67,7 @@ impl Number {
 }
 
 impl<'a> Text<'a> {
-    /// That no text is told.
+    /// Returns the text of a reply that contains none.
     pub(crate) fn none() -> Text<'a>
         ensures { text_of result ≡ None }
     {
@@ -77,7 +77,7 @@ impl<'a> Text<'a> {
         }
     }
 
-    /// Tells the text, where none is told yet.
+    /// Sets the text, unless it is set already.
     pub(crate) fn set(&mut self, kind: u32, bytes: &'a [u8])
         requires { kind ≢ 0 }
         ensures { text_of self.new
@@ -89,23 +89,25 @@ impl<'a> Text<'a> {
     }
 }
 
-/// What C is told of the replies of one family.
+/// The contents of replies about the sockets of one family, as a C struct.
 pub(crate) trait KeepsDetails<'a>: Copy {
-    // The replies, and whether the value tells what this header and these attributes say, and
-    // nothing else.
+    // The layout of the reply; and whether the struct holds the contents of this header and these
+    // attributes, and nothing else.
     ghost reply: { ResponseSpec };
 
     ghost describes: { reply.header.Value → Self → List (AttributeValue reply.attribute_set)
         → Type 0 };
 
-    /// Tells the header, before the bytes behind it, or why it is refused.
+    /// Parses the header. Returns the struct with the header and without attributes, and the bytes
+    /// after the header.
     fn tell_header(payload: &'a [u8]) -> Result<(Self, &'a [u8]), DecodeError>
         ensures value { IfOk result (λ parts. (h : reply.header.Value)
             × (reply.header.reads tt payload.entry.now ≡ Ok h) × describes h parts.0 []) }
         ensures rest { IfOk result (λ parts. parts.1.now ≡ drop reply.size payload.entry.now) }
         ensures fault { IfErr result (λ e. reply.header.reads tt payload.entry.now ≡ Err e) };
 
-    /// Tells what the attribute says too, or why it is refused.
+    /// Parses the attribute, and sets its fields unless an earlier attribute of its kind has set
+    /// them.
     fn set_detail(&mut self, nla: &NlaBuffer<'a>) -> Result<(), DecodeError>
         ensures value { OnOk result ((v : AttributeValue reply.attribute_set)
             × (decodes reply.attribute_set (attribute_of nla.now) ≡ Ok v)
@@ -115,9 +117,9 @@ pub(crate) trait KeepsDetails<'a>: Copy {
             decodes reply.attribute_set (attribute_of nla.now) ≡ Err e) };
 }
 
-/// Checks the whole of a reply about a UNIX socket, the payload of its message, and tells all of
-/// it, in one walk. The answer is 0, or the number of the first fault, and then the details are
-/// left as they were. Of several attributes of a kind the first counts.
+/// Checks a whole reply about a UNIX socket, and returns its contents, in one pass. The bytes are
+/// the payload of the netlink message. Returns 0, or the code of the first error; then the details
+/// are unchanged. If the reply has several attributes of a kind, the first one counts.
 #[unsafe(no_mangle)]
 pub extern "C" fn sockdiag_unix_get_details<'a>(
     payload: &'a [u8],
@@ -131,10 +133,10 @@ pub extern "C" fn sockdiag_unix_get_details<'a>(
     tell_reply(payload, details)
 }
 
-/// Checks the whole of a reply about an IPv4 or IPv6 socket, the payload of its message, and tells
-/// its header and the attributes that are texts or one number, in one walk. The answer is 0, or the
-/// number of the first fault, and then the details are left as they were. Of several attributes of
-/// a kind the first counts.
+/// Checks a whole reply about an IPv4 or IPv6 socket, and returns its header and the attributes
+/// that are a text or a number, in one pass. The bytes are the payload of the netlink message.
+/// Returns 0, or the code of the first error; then the details are unchanged. If the reply has
+/// several attributes of a kind, the first one counts.
 #[unsafe(no_mangle)]
 pub extern "C" fn sockdiag_inet_get_details<'a>(
     payload: &'a [u8],
@@ -148,7 +150,8 @@ pub extern "C" fn sockdiag_inet_get_details<'a>(
     tell_reply(payload, details)
 }
 
-// Tells the whole of the reply, or answers the number of the first fault.
+// Stores the contents of the reply in the details. Returns 0, or the code of the first error; then
+// the details are unchanged.
 fn tell_reply<'a, T: KeepsDetails<'a>>(payload: &'a [u8], details: &mut T) -> u32
     ensures { AnswersBy ((response_codec T.reply).reads payload.entry.now tt)
         ((response_codec T.reply).refuses payload.entry.now tt)
@@ -163,7 +166,7 @@ fn tell_reply<'a, T: KeepsDetails<'a>>(payload: &'a [u8], details: &mut T) -> u3
     }
 }
 
-// What the reply tells, or the first fault.
+// Parses the reply, and returns its contents or the first error.
 fn read_details<'a, T: KeepsDetails<'a>>(payload: &'a [u8]) -> Result<T, DecodeError>
     ensures value { IfOk result (λ details. (v : ValueOf T.reply)
         × (response_codec T.reply).reads payload.entry.now tt v
@@ -175,7 +178,7 @@ fn read_details<'a, T: KeepsDetails<'a>>(payload: &'a [u8]) -> Result<T, DecodeE
     Ok(details)
 }
 
-// Sets what each attribute decodes to, or returns the first fault.
+// Parses each attribute and sets its fields, or returns the first error.
 fn set_details<'a, T: KeepsDetails<'a>>(bytes: &'a [u8], details: &mut T) -> Result<(), DecodeError>
     ensures value { OnOk result ((vs : List (AttributeValue T.reply.attribute_set))
         × AttributesMean (decodes T.reply.attribute_set) bytes.entry.now vs

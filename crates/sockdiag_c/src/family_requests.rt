@@ -1,4 +1,4 @@
-//! Requests for netlink, packet, XDP and vsock sockets, written as whole netlink messages.
+//! Requests for netlink, packet, XDP and vsock sockets, serialized as whole netlink messages.
 
 ghost use Rattle.std.specs.Prelude.{◌≡◌, ◌≢◌, ◌⊎◌};
 ghost use Rattle.sockdiag_c.specs.FamilyRequests.{show_message, show_request_of, vsock_message};
@@ -10,40 +10,44 @@ use netlink_packet_sock_diag::{AF_NETLINK, AF_PACKET};
 use sock_diag_families::vsock;
 use sock_diag_families::xdp::AF_XDP;
 
-/// The request for netlink, packet or XDP sockets: `struct sockdiag_show_request` of
+/// A request for netlink, packet or XDP sockets: `struct sockdiag_show_request` of
 /// `include/sockdiag.h`.
 #[repr(C)]
 #[derive(Clone, Copy)]
 pub struct ShowRequest {
-    /// What the netlink header tells.
+    /// Fields of the netlink header.
     pub header: RequestHeader,
-    /// `AF_NETLINK`, `AF_PACKET` or `AF_XDP`.
+    /// `AF_NETLINK`, `AF_PACKET` or `AF_XDP` (`sdiag_family`).
     pub family: u8,
-    /// The protocol of netlink sockets, else 0.
+    /// Protocol of netlink sockets (`sdiag_protocol`), one of `NETLINK_..` or `NDIAG_PROTO_ALL`. 0
+    /// for other families.
     pub protocol: u8,
-    /// The inode of a single socket. Linux lists sockets alone, and doesn't look at it.
+    /// Inode, to request a single socket (`ndiag_ino`, `pdiag_ino`, `xdiag_ino`). Linux only lists
+    /// these sockets, and ignores it.
     pub inode: u32,
-    /// Which attributes the replies shall have: a set of the family's `.._SHOW_..` flags.
+    /// Attributes that the replies shall have, a set of `NDIAG_SHOW_..`, `PACKET_SHOW_..` or
+    /// `XDP_SHOW_..` (`ndiag_show`, `pdiag_show`, `xdiag_show`).
     pub show: u32,
-    /// What tells a single socket from others of its inode. Linux doesn't look at it.
+    /// Cookie that distinguishes sockets with the same inode (`ndiag_cookie`, `pdiag_cookie`,
+    /// `xdiag_cookie`), to request a single socket. Linux ignores it.
     pub cookie: u64,
 }
 
-/// The request for vsock sockets: `struct sockdiag_vsock_request` of `include/sockdiag.h`.
+/// A request for vsock sockets: `struct sockdiag_vsock_request` of `include/sockdiag.h`.
 #[repr(C)]
 #[derive(Clone, Copy)]
 pub struct VsockRequest {
-    /// What the netlink header tells.
+    /// Fields of the netlink header.
     pub header: RequestHeader,
-    /// Which states are asked for: a set, in which the bit of a state is that of its number.
+    /// States to include, with the bit `1 << TCP_LISTEN` for `TCP_LISTEN` (`vdiag_states`).
     pub states: u32,
-    /// What tells a socket from others. Linux doesn't look at it.
+    /// Cookie that distinguishes sockets (`vdiag_cookie`). Linux ignores it.
     pub cookie: u64,
 }
 
 /// Writes a request for netlink, packet or XDP sockets, a netlink message of 36 bytes, at the start
-/// of the buffer. It answers 36, or 0 where the buffer is shorter or the family is none of
-/// `AF_NETLINK`, `AF_PACKET` and `AF_XDP`, and then nothing is written.
+/// of the buffer. Returns 36. Returns 0 if the buffer is shorter, or if the family is none of
+/// `AF_NETLINK`, `AF_PACKET` and `AF_XDP`; then nothing is written.
 #[unsafe(no_mangle)]
 pub extern "C" fn sockdiag_write_show_request(request: &ShowRequest, buffer: &mut [u8]) -> usize
     ensures written { (request.now.family ≡ 16) ⊎ ((request.now.family ≡ 17)
@@ -61,7 +65,7 @@ pub extern "C" fn sockdiag_write_show_request(request: &ShowRequest, buffer: &mu
 }
 
 /// Writes a request for vsock sockets, a netlink message of 40 bytes, at the start of the buffer.
-/// It answers 40, or 0 where the buffer is shorter, and then nothing is written.
+/// Returns 40, or 0 if the buffer is shorter; then nothing is written.
 #[unsafe(no_mangle)]
 pub extern "C" fn sockdiag_write_vsock_request(request: &VsockRequest, buffer: &mut [u8]) -> usize
     ensures { WritesWhole 40 (vsock_message request.now) buffer.old buffer.new result }

@@ -1,4 +1,4 @@
-//! What C is told of the attributes of netlink, packet and XDP sockets.
+//! Attributes of netlink, packet and XDP sockets, as C structs.
 
 ghost use Rattle.std.specs.Prelude.{◌≡◌, None, Ok, option_map};
 ghost use Rattle.std.specs.Result.{result_err};
@@ -12,33 +12,33 @@ use crate::walks::{END, ITEM};
 use netlink_core::DecodeError;
 use sock_diag_values::inet::MemInfo;
 
-/// The memory of a netlink, packet or XDP socket: `struct sockdiag_memory` of
-/// `include/sockdiag.h`.
+/// Memory of a netlink, packet or XDP socket: `struct sockdiag_memory` of `include/sockdiag.h`.
 #[repr(C)]
 #[derive(Clone, Copy)]
 pub struct Memory {
-    /// The memory that the receive queue takes now, `SK_MEMINFO_RMEM_ALLOC`, in bytes.
+    /// Memory in use by the receive queue, in bytes (`SK_MEMINFO_RMEM_ALLOC`, at 0).
     pub receive_queue: Number,
-    /// The most that the receive queue may take, `SK_MEMINFO_RCVBUF`, in bytes.
+    /// Receive buffer limit in bytes (`SK_MEMINFO_RCVBUF`, at 4).
     pub receive_queue_max: Number,
-    /// The memory of packets that were handed down the network stack, `SK_MEMINFO_WMEM_ALLOC`, in
-    /// bytes.
+    /// Memory of packets committed to the device queue, in bytes (`SK_MEMINFO_WMEM_ALLOC`, at 8).
     pub bottom_send_queues: Number,
-    /// The most that the send queue may take, `SK_MEMINFO_SNDBUF`, in bytes.
+    /// Send buffer limit in bytes (`SK_MEMINFO_SNDBUF`, at 12).
     pub send_queue_max: Number,
-    /// The memory that the socket holds and does not use, `SK_MEMINFO_FWD_ALLOC`, in bytes.
+    /// Memory that is allocated to the socket and not in use, in bytes (`SK_MEMINFO_FWD_ALLOC`, at
+    /// 16).
     pub cache: Number,
-    /// The memory that the send queue takes now, `SK_MEMINFO_WMEM_QUEUED`, in bytes.
+    /// Memory in use by the send queue, in bytes (`SK_MEMINFO_WMEM_QUEUED`, at 20).
     pub send_queue: Number,
-    /// The memory of the socket's options, `SK_MEMINFO_OPTMEM`, in bytes.
+    /// Memory of the socket options, in bytes (`SK_MEMINFO_OPTMEM`, at 24).
     pub options: Number,
-    /// The memory of packets that wait while the socket is locked, `SK_MEMINFO_BACKLOG`, in bytes.
+    /// Memory of packets that wait while the socket is locked, in bytes (`SK_MEMINFO_BACKLOG`, at
+    /// 28).
     pub backlog_queue_length: Number,
-    /// How many packets were dropped, `SK_MEMINFO_DROPS`.
+    /// Number of dropped packets (`SK_MEMINFO_DROPS`, at 32).
     pub drops: Number,
 }
 
-/// That no memory is told.
+/// The memory of a reply that contains none.
 const NO_MEMORY: Memory = Memory {
     receive_queue: NO_NUMBER,
     receive_queue_max: NO_NUMBER,
@@ -95,7 +95,8 @@ impl From<Option<MemInfo>> for Memory {
     }
 }
 
-/// Tells the record, where there is one. The answer is 1, or 0 and then the place is as it was.
+/// Stores the record, if there is one. Returns 1, or 0 if there is none; then the target is
+/// unchanged.
 pub(crate) fn tell<T: Copy>(found: Option<T>, place: &mut T) -> u32
     ensures { AnswersItem found place.old place.new result }
 {
@@ -108,14 +109,15 @@ pub(crate) fn tell<T: Copy>(found: Option<T>, place: &mut T) -> u32
     }
 }
 
-/// The first fault of the values of a reply, where one is refused.
+/// The first error of the values of a reply, if any.
 #[derive(Drop)]
 pub(crate) struct Faults {
     pub(crate) first: Option<DecodeError>,
 }
 
 impl Faults {
-    /// The value that was read. Where it is refused, and none was before, its fault is kept.
+    /// Returns the value. If the value is rejected, returns `None` and keeps the error, unless
+    /// there was an earlier one.
     pub(crate) fn keep<T>(&mut self, found: Result<Option<T>, DecodeError>) -> Option<T>
         ensures first { self.new.first ≡ first_of_two self.old.first (result_err found) }
         ensures value { self.new.first ≡ None → found ≡ Ok result }

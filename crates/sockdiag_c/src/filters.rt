@@ -1,4 +1,4 @@
-//! Requests with attributes of the caller's behind them, as the bytecode of a filter is one.
+//! Requests followed by attributes of the caller, such as the bytecode of a filter.
 
 ghost use Rattle.std.specs.Prelude.{◌≡◌, ◌+◌, ◌≤◌, ◌⊎◌, ◌++◌, List, [], length, drop, OnOk, IfErr};
 ghost use Rattle.netlink_core.specs.Attribute.{Attribute, Cut, fill};
@@ -16,12 +16,16 @@ use byteorder::{ByteOrder, LittleEndian};
 use netlink_core::{DecodeError, Emitable, NlasIterator, padded};
 use netlink_packet_sock_diag::constants::{AF_INET, AF_INET6, SOCK_DIAG_BY_FAMILY};
 
-/// Writes a request for IPv4 or IPv6 sockets as `sockdiag_write_inet_request` does, and behind it
-/// the attributes with zeros up to a multiple of 4: the bytecode of a filter is one,
-/// `INET_DIAG_REQ_BYTECODE`. It answers how many bytes were written, or 0, and then nothing is
-/// written: the attributes are refused with the first fault of their framing, or the family is
-/// neither `AF_INET` nor `AF_INET6`, or the whole has more than 4,294,967,295 bytes, or the buffer
-/// is shorter than is needed. Values of attributes are not looked at.
+/// Writes a request for IPv4 or IPv6 sockets as `sockdiag_write_inet_request` does, followed by the
+/// attributes and zeros up to a multiple of 4. Such an attribute is the bytecode of a filter,
+/// `INET_DIAG_REQ_BYTECODE`. The framing of the attributes is checked, and their values are not.
+///
+/// Returns the number of bytes that were written. Returns 0 if nothing was written, for one of four
+/// reasons:
+/// - The framing of the attributes is invalid; the outcome has the code of the first error.
+/// - The family is neither `AF_INET` nor `AF_INET6`.
+/// - The whole has more than 4,294,967,295 bytes.
+/// - The buffer is shorter than needed.
 #[unsafe(no_mangle)]
 pub extern "C" fn sockdiag_write_inet_request_with_attributes(
     request: &InetRequest,
@@ -47,7 +51,7 @@ pub extern "C" fn sockdiag_write_inet_request_with_attributes(
     }
 }
 
-// Whether the bytes are cut into attributes, or the first fault of their framing.
+// Checks that the bytes are a sequence of attributes, or returns the first framing error.
 fn check_framing(bytes: &[u8]) -> Result<(), DecodeError>
     ensures whole { OnOk result ((given : List Attribute) × Cut bytes.now given []) }
     ensures fault { IfErr result (AreCutOff bytes.now) }
@@ -58,7 +62,7 @@ fn check_framing(bytes: &[u8]) -> Result<(), DecodeError>
     Ok(())
 }
 
-// A request, and the attributes behind it.
+// A request, followed by attributes.
 #[derive(Drop)]
 struct FilteredRequest<'a> {
     request: &'a InetRequest,
@@ -91,7 +95,8 @@ impl Emitable for FilteredRequest<'_> {
     }
 }
 
-// How many bytes a request for IPv4 or IPv6 sockets has in front of further attributes.
+// Returns the length of a request for IPv4 or IPv6 sockets in bytes, without the caller's
+// attributes.
 fn front_len(protocol: u32) -> usize
     ensures all { result ≡ 72 + length (protocol_attribute protocol) }
     ensures few { result ≤ 80 }
@@ -102,7 +107,7 @@ fn front_len(protocol: u32) -> usize
     80
 }
 
-// Writes the request over its bytes, as a part of a message of so many.
+// Writes the request as the start of a message of `len` bytes.
 fn write_front(len: u32, request: &InetRequest, front: &mut [u8])
     requires family { (request.now.family ≡ 2) ⊎ (request.now.family ≡ 10) }
     requires whole { length front.old ≡ 72 + length (protocol_attribute request.now.protocol) }
@@ -111,11 +116,11 @@ fn write_front(len: u32, request: &InetRequest, front: &mut [u8])
         ++ protocol_attribute request.now.protocol }
 {
     write_inet(SOCK_DIAG_BY_FAMILY, request, front);
-    // Its own length stands in front.
+    // `write_inet` has written the length of the request alone.
     LittleEndian::write_u32(front, len);
 }
 
-// Writes the attributes at the start of the buffer, and zeros up to a multiple of 4.
+// Writes the attributes at the start of the buffer, followed by zeros up to a multiple of 4.
 fn write_padded(attributes: &[u8], buffer: &mut [u8])
     requires small { length attributes.now ≤ 4294967295 }
     requires room { length attributes.now + fill (length attributes.now) ≤ length buffer.old }

@@ -1,4 +1,4 @@
-//! The headers of replies, as C sees them.
+//! The headers of replies, as C structs.
 
 ghost use Rattle.std.specs.Prelude.{◌≡◌};
 ghost use Rattle.sock_diag_records.specs.Timer.{timer_data, milliseconds};
@@ -10,75 +10,79 @@ use netlink_packet_sock_diag::unix::UnixResponseHeader;
 use std::net::IpAddr;
 use std::time::Duration;
 
-/// The header of a reply about a UNIX socket: `struct sockdiag_unix_header` of
-/// `include/sockdiag.h`.
+/// Header of a reply about a UNIX socket: `struct sockdiag_unix_header` of `include/sockdiag.h`.
 #[repr(C)]
 #[derive(Clone, Copy)]
 pub struct UnixHeader {
-    /// The type of the socket, one of `SOCK_..`.
+    /// Type of the socket, one of `SOCK_..` (`udiag_type`, at 1).
     pub kind: u8,
-    /// The state, `TCP_ESTABLISHED` or `TCP_LISTEN`.
+    /// State (`udiag_state`, at 2): `TCP_ESTABLISHED`, `TCP_LISTEN`, or `TCP_CLOSE` (7) if the
+    /// socket is not connected.
     pub state: u8,
-    /// The inode of the socket.
+    /// Inode of the socket (`udiag_ino`, at 4).
     pub inode: u32,
-    /// What tells the socket from others of its inode.
+    /// Cookie that distinguishes sockets with the same inode (`udiag_cookie`, at 8).
     pub cookie: [u8; 8],
 }
 
-/// The header of a reply about an IPv4 or IPv6 socket: `struct sockdiag_inet_header` of
+/// Header of a reply about an IPv4 or IPv6 socket: `struct sockdiag_inet_header` of
 /// `include/sockdiag.h`.
 #[repr(C)]
 #[derive(Clone, Copy)]
 pub struct InetHeader {
-    /// `AF_INET` or `AF_INET6`.
+    /// `AF_INET` or `AF_INET6` (`idiag_family`, at 0).
     pub family: u8,
-    /// The state, one of `TCP_ESTABLISHED` to `TCP_CLOSING`.
+    /// State, one of `TCP_ESTABLISHED` to `TCP_CLOSING` (`idiag_state`, at 1).
     pub state: u8,
-    /// The timer that runs, from 1 to 4, or 0 for none.
+    /// Timer (`idiag_timer`, at 2): 1 retransmission, 2 keepalive, 3 TIME_WAIT, 4 zero-window
+    /// probe, 0 none. Any other value in the message is returned as 0.
     pub timer: u8,
-    /// How often a segment was sent again, under the timer 1, or 0.
+    /// Number of retransmissions if the timer is 1, else 0 (`idiag_retrans`, at 3).
     pub retransmits: u8,
-    /// The milliseconds until the timer ends, under the timers 1, 2 and 4, or 0.
+    /// Milliseconds until the timer expires if the timer is 1, 2 or 4, else 0 (`idiag_expires`, at
+    /// 52).
     pub expires: u32,
-    /// The port of this end.
+    /// Local port (`idiag_sport`, at 4).
     pub source_port: u16,
-    /// The port of the other end.
+    /// Remote port (`idiag_dport`, at 6).
     pub destination_port: u16,
-    /// The address of this end, high octet first: under `AF_INET` four octets and twelve zeros.
+    /// Local address in network byte order (`idiag_src`, at 8). For `AF_INET`, four bytes followed
+    /// by twelve zeros.
     pub source_address: [u8; 16],
-    /// The address of the other end, likewise.
+    /// Remote address, in the same format (`idiag_dst`, at 24).
     pub destination_address: [u8; 16],
-    /// The number of the interface that the socket is bound to, or 0.
+    /// Index of the interface that the socket is bound to, or 0 (`idiag_if`, at 40).
     pub interface_id: u32,
-    /// What tells the socket from others with its addresses and ports.
+    /// Cookie that distinguishes sockets with the same addresses and ports (`idiag_cookie`, at 44).
     pub cookie: [u8; 8],
-    /// How many connections are pending on a listening socket, or how many bytes wait to be read.
+    /// Number of pending connections of a listening TCP socket, else bytes that have not been read
+    /// (`idiag_rqueue`, at 56).
     pub recv_queue: u32,
-    /// The limit of pending connections of a listening socket, or the room for what is sent, in
-    /// bytes.
+    /// Limit of pending connections (backlog) of a listening TCP socket, else bytes in the send
+    /// queue: for TCP, those that are not yet acknowledged (`idiag_wqueue`, at 60).
     pub send_queue: u32,
-    /// The user that the socket belongs to.
+    /// User id of the owner (`idiag_uid`, at 64).
     pub uid: u32,
-    /// The inode of the socket.
+    /// Inode of the socket (`idiag_inode`, at 68).
     pub inode: u32,
 }
 
-/// A reply of either kind: `struct sockdiag_reply` of `include/sockdiag.h`.
+/// A reply about a UNIX, IPv4 or IPv6 socket: `struct sockdiag_reply` of `include/sockdiag.h`.
 #[repr(C)]
 #[derive(Clone, Copy)]
 pub struct Reply {
-    /// 1 for a UNIX socket, 2 for an IPv4 or IPv6 socket: which of the two headers is told.
+    /// Which of the two headers is set: 1 for a UNIX socket, 2 for an IPv4 or IPv6 socket.
     pub kind: u32,
-    /// The header of a reply about a UNIX socket.
+    /// Header of a reply about a UNIX socket.
     pub unix_header: UnixHeader,
-    /// The header of a reply about an IPv4 or IPv6 socket.
+    /// Header of a reply about an IPv4 or IPv6 socket.
     pub inet_header: InetHeader,
 }
 
-/// The kind of a reply about a UNIX socket.
+/// Kind of a reply about a UNIX socket.
 pub(crate) const UNIX: u32 = 1;
 
-/// The kind of a reply about an IPv4 or IPv6 socket.
+/// Kind of a reply about an IPv4 or IPv6 socket.
 pub(crate) const INET: u32 = 2;
 
 impl From<UnixResponseHeader> for UnixHeader {
@@ -135,7 +139,7 @@ impl From<InetResponseHeader> for InetHeader {
     }
 }
 
-// The byte of a timer, and its count and its milliseconds or else zeros.
+// Returns `idiag_timer`, `idiag_retrans` and `idiag_expires` of a timer; 0 for each that it lacks.
 fn timer_numbers(timer: &Option<Timer>) -> (u8, u8, u32)
     ensures byte { result.0 ≡ (timer_data timer.now).0 }
     ensures retransmits { result.1 ≡ (timer_data timer.now).1 }
@@ -150,14 +154,15 @@ fn timer_numbers(timer: &Option<Timer>) -> (u8, u8, u32)
     }
 }
 
-// The whole milliseconds of a duration, in 32 bits.
+// Returns the whole milliseconds of a duration, modulo 2^32.
 fn whole_milliseconds(time: Duration) -> u32
     ensures { result ≡ milliseconds time }
 {
     (time.as_millis() % 0x1_0000_0000) as u32
 }
 
-// The octets of an address, and zeros behind four of them.
+// Returns the 16 bytes of an address field, in network byte order. An IPv4 address is followed by
+// twelve zeros.
 fn address_octets(address: IpAddr) -> [u8; 16]
     ensures { result ≡ address_bytes address }
 {

@@ -1,5 +1,5 @@
-//! All that is told of an IPv4 or IPv6 socket but its memory and its TCP connection, in one struct
-//! of C.
+//! The contents of a reply about an IPv4 or IPv6 socket as a C struct, except for memory and
+//! `tcp_info`.
 
 ghost use Rattle.std.specs.Prelude.{◌≡◌};
 ghost use Rattle.sock_diag_attributes.specs.InetModel.{nla_view_model};
@@ -16,32 +16,34 @@ use netlink_core::{DecodeError, NlaBuffer};
 use netlink_packet_sock_diag::inet::InetResponseHeader;
 use netlink_packet_sock_diag::inet::nlas::NlaView;
 
-/// What is told of an IPv4 or IPv6 socket: `struct sockdiag_inet_details` of `include/sockdiag.h`.
+/// The contents of a reply about an IPv4 or IPv6 socket: `struct sockdiag_inet_details` of
+/// `include/sockdiag.h`.
 #[repr(C)]
 #[derive(Clone, Copy)]
 pub struct InetDetails<'a> {
     /// The header.
     pub header: InetHeader,
-    /// The name of the algorithm of congestion control, `INET_DIAG_CONG`.
+    /// Name of the congestion control algorithm (`INET_DIAG_CONG`).
     pub congestion: Text<'a>,
-    /// The type of service, `INET_DIAG_TOS`.
+    /// Type of service (`INET_DIAG_TOS`).
     pub tos: Number,
-    /// The traffic class of an IPv6 socket, `INET_DIAG_TCLASS`.
+    /// Traffic class of an IPv6 socket (`INET_DIAG_TCLASS`).
     pub tclass: Number,
-    /// Which directions are shut down, `INET_DIAG_SHUTDOWN`.
+    /// Directions that are shut down: 1 for receiving, 2 for sending, 3 for both
+    /// (`INET_DIAG_SHUTDOWN`).
     pub shutdown: Number,
-    /// The protocol, `INET_DIAG_PROTOCOL`.
+    /// Protocol, one of `IPPROTO_..` (`INET_DIAG_PROTOCOL`).
     pub protocol: Number,
-    /// Whether the socket is for IPv6 alone: 1 or 0, `INET_DIAG_SKV6ONLY`.
+    /// 1 if the socket is for IPv6 only, else 0 (`INET_DIAG_SKV6ONLY`).
     pub v6only: Number,
-    /// The mark of the socket, `INET_DIAG_MARK`.
+    /// Mark of the socket, `SO_MARK` (`INET_DIAG_MARK`).
     pub mark: Number,
-    /// The class of the socket's packets for traffic control, `INET_DIAG_CLASS_ID`.
+    /// Traffic control class of the socket's packets (`INET_DIAG_CLASS_ID`).
     pub class_id: Number,
 }
 
 impl<'a> InetDetails<'a> {
-    // Tells what the attribute says, where nothing of its kind is told yet.
+    // Sets the field of the attribute, unless an earlier attribute of its kind has set it.
     fn set(&mut self, nla: NlaView<'a>)
         ensures numbers { self.new ≡ inet_with self.new.congestion self.old
             (nla_view_model nla.entry) }

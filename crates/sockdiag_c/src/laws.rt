@@ -1,4 +1,4 @@
-//! Laws of the walks. The functions do nothing: their contracts are the laws.
+//! Properties of iterations. Proof only: each contract states a property.
 
 ghost use Rattle.std.specs.Prelude.{◌≡◌, ℕ, List, [], ◌∷◌, Option, Some, None};
 ghost use Rattle.netlink_core.specs.Attribute.{Attribute, Cut};
@@ -12,9 +12,9 @@ ghost use Rattle.sockdiag_c.specs.declared.walks.MessagePart.{MessagePart};
 ghost use Rattle.sockdiag_c.specs.Walks.{IsMessageAt, NextAttribute, NextMessage, attribute_in};
 ghost use Rattle.sockdiag_c.specs.Walks.{left_of};
 
-/// Where what is left is cut into attributes, as it is behind the header of each reply that a check
-/// accepts, a step tells the first of them and leaves what the others are cut from; where no
-/// attribute is left, the walk ends.
+/// If the remaining bytes are a sequence of attributes, a step returns the first attribute and
+/// leaves the others. If no attribute remains, the iteration ends. The bytes after the header of
+/// every accepted reply are such a sequence.
 pub fn a_step_passes_the_first_attribute()
     ensures next { (bytes : List ℕ) (old new : Cursor) (was now : AttributePart) (answer : ℕ)
         (first : Attribute) (later : List Attribute)
@@ -24,9 +24,8 @@ pub fn a_step_passes_the_first_attribute()
         → Cut (left_of bytes old) [] [] → NextAttribute bytes old new was now answer → answer ≡ 0 }
 {}
 
-/// Where what is left is cut into messages, a step tells the first of them and leaves what the
-/// others are cut from; where no message is left, the walk ends, or fails with the fault that
-/// stands there.
+/// If messages remain, a step returns the first message and leaves the others. If no message
+/// remains, the iteration ends, or fails with the framing error of the remaining bytes.
 pub fn a_step_passes_the_first_message()
     ensures next { (bytes : List ℕ) (old new : Cursor) (was now : MessagePart) (answer : ℕ)
         (message : List ℕ) (later : List (List ℕ)) (end : Option DecodeError)

@@ -1,5 +1,5 @@
-//! The sizes of the structs that C shares, where its rules put each field at the same place
-//! (`tests/c_header.py`).
+//! The sizes of the structs that are shared with C. `tests/c_header.py` compares them, and the
+//! offset of each field, with the C ABI.
 
 use crate::details::{Number, Text};
 use crate::family_requests::{ShowRequest, VsockRequest};

@@ -1,7 +1,7 @@
-//! The calls of `include/sockdiag.h`: messages of sock_diag(7) for C, in memory that C owns.
+//! The functions of `include/sockdiag.h`: messages of sock_diag(7) for C, in memory that C owns.
 //!
-//! Each calls a function of the crates below, and says of it again what is promised. None takes
-//! memory.
+//! Each calls functions of other crates, and its contract states its promise in terms of the C
+//! structs. None of them allocates.
 #![tactic(auto)]
 
 mod check;

@@ -1,4 +1,4 @@
-//! All that is told of a netlink socket, in one struct of C.
+//! The contents of a reply about a netlink socket, as a C struct.
 
 ghost use Rattle.std.specs.Prelude.{◌≡◌, IfOk, IfErr};
 ghost use Rattle.netlink_core.specs.Response.{ValueOf, response_codec};
@@ -15,26 +15,27 @@ use netlink_core::DecodeError;
 use sock_diag_any::netlink::{self, NetlinkResponseView};
 use sock_diag_families::netlink::NetlinkResponseHeader;
 
-/// All that is told of a netlink socket: `struct sockdiag_netlink_details` of
+/// The contents of a reply about a netlink socket: `struct sockdiag_netlink_details` of
 /// `include/sockdiag.h`.
 #[repr(C)]
 #[derive(Clone, Copy)]
 pub struct NetlinkDetails<'a> {
     /// The header.
     pub header: NetlinkResponseHeader,
-    /// The memory, `NETLINK_DIAG_MEMINFO`.
+    /// Socket memory (`NETLINK_DIAG_MEMINFO`, type 0).
     pub memory: Memory,
-    /// The groups that the socket is a member of, `NETLINK_DIAG_GROUPS`: a bit for each, that of
-    /// group 1 the lowest of the first byte.
+    /// Groups that the socket is a member of, one bit each; group 1 is the lowest bit of the first
+    /// byte (`NETLINK_DIAG_GROUPS`, type 1).
     pub groups: Text<'a>,
-    /// The bits `NDIAG_FLAG_..`, `NETLINK_DIAG_FLAGS`.
+    /// The bits `NDIAG_FLAG_..` (`NETLINK_DIAG_FLAGS`, type 4).
     pub flags: Number,
 }
 
-/// Checks the whole of a reply about a netlink socket, the payload of its message, and tells all of
-/// it. The answer is 0, or the number of the first fault, and then the details are left as they
-/// were. Of several attributes of a kind the first counts. Values are looked at behind the framing
-/// of all attributes, in the order of their kinds.
+/// Checks a whole reply about a netlink socket, and returns its contents. The bytes are the payload
+/// of the netlink message. Returns 0, or the code of the first error; then the details are
+/// unchanged. If the reply has several attributes of a kind, the first one counts. The framing of
+/// all attributes is checked before their values, and values are checked in the order of their
+/// kinds.
 #[unsafe(no_mangle)]
 pub extern "C" fn sockdiag_netlink_get_details<'a>(
     payload: &'a [u8],
@@ -55,7 +56,7 @@ pub extern "C" fn sockdiag_netlink_get_details<'a>(
     }
 }
 
-// What the reply tells, or the first fault.
+// Parses the reply, and returns its contents or the first error.
 fn read<'a>(payload: &'a [u8]) -> Result<NetlinkDetails<'a>, DecodeError>
     ensures value { IfOk result (λ found. (v : ValueOf (whole_reply netlink_header))
         × (response_codec (whole_reply netlink_header)).reads payload.entry.now tt v

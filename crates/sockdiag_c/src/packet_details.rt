@@ -1,4 +1,4 @@
-//! All that is told of a packet socket, in one struct of C.
+//! The contents of a reply about a packet socket, as a C struct.
 
 ghost use Rattle.std.specs.Prelude.{◌≡◌, IfOk, IfErr};
 ghost use Rattle.netlink_core.specs.Response.{ValueOf, response_codec};
@@ -15,40 +15,42 @@ use netlink_core::DecodeError;
 use sock_diag_any::packet::{self, PacketResponseView};
 use sock_diag_families::packet::{PacketInfo, PacketResponseHeader, PacketRing};
 
-/// All that is told of a packet socket: `struct sockdiag_packet_details` of
+/// The contents of a reply about a packet socket: `struct sockdiag_packet_details` of
 /// `include/sockdiag.h`.
 #[repr(C)]
 #[derive(Clone, Copy)]
 pub struct PacketDetails<'a> {
     /// The header.
     pub header: PacketResponseHeader,
-    /// 1 where it is told what the socket is set to, else 0.
+    /// 1 if `info` is set, else 0.
     pub has_info: u32,
-    /// What the socket is set to, `PACKET_DIAG_INFO`.
+    /// Settings of the socket (`PACKET_DIAG_INFO`, type 0).
     pub info: PacketInfo,
-    /// The addresses that the socket receives beside its interface's, `PACKET_DIAG_MCLIST`: 44
-    /// bytes each, `struct packet_diag_mclist`.
+    /// Addresses that the socket receives in addition to its interface's, 44 bytes each,
+    /// `struct packet_diag_mclist` (`PACKET_DIAG_MCLIST`, type 1).
     pub addresses: Text<'a>,
-    /// 1 where the ring for what is received is told, else 0.
+    /// 1 if `receive_ring` is set, else 0.
     pub has_receive_ring: u32,
-    /// The ring for what is received, `PACKET_DIAG_RX_RING`.
+    /// Receive ring (`PACKET_DIAG_RX_RING`, type 2).
     pub receive_ring: PacketRing,
-    /// 1 where the ring for what is sent is told, else 0.
+    /// 1 if `send_ring` is set, else 0.
     pub has_send_ring: u32,
-    /// The ring for what is sent, `PACKET_DIAG_TX_RING`.
+    /// Transmit ring (`PACKET_DIAG_TX_RING`, type 3).
     pub send_ring: PacketRing,
-    /// The number of the fanout, and its way in the high 16 bits, `PACKET_DIAG_FANOUT`.
+    /// Id of the fanout group in the low 16 bits, mode in the high 16 bits (`PACKET_DIAG_FANOUT`,
+    /// type 4).
     pub fanout: Number,
-    /// The user who owns the socket, `PACKET_DIAG_UID`.
+    /// User id of the owner (`PACKET_DIAG_UID`, type 5).
     pub owner: Number,
-    /// The memory, `PACKET_DIAG_MEMINFO`.
+    /// Socket memory (`PACKET_DIAG_MEMINFO`, type 6).
     pub memory: Memory,
-    /// The steps of the filter, `PACKET_DIAG_FILTER`: 8 bytes each, `struct sock_filter`.
+    /// Instructions of the socket filter, 8 bytes each, `struct sock_filter` (`PACKET_DIAG_FILTER`,
+    /// type 7).
     pub filter: Text<'a>,
 }
 
-/// Checks the whole of a reply about a packet socket, and tells all of it, as
-/// `sockdiag_netlink_get_details` does. A record that isn't told is left as it was.
+/// Checks a whole reply about a packet socket, and returns its contents, as
+/// `sockdiag_netlink_get_details` does. A record that the reply does not contain is unchanged.
 #[unsafe(no_mangle)]
 pub extern "C" fn sockdiag_packet_get_details<'a>(
     payload: &'a [u8],
@@ -69,7 +71,7 @@ pub extern "C" fn sockdiag_packet_get_details<'a>(
     }
 }
 
-// What the reply tells, over what stood there, or the first fault.
+// Parses the reply over the old details, and returns its contents or the first error.
 fn read<'a>(payload: &'a [u8], old: &PacketDetails<'a>) -> Result<PacketDetails<'a>, DecodeError>
     ensures value { IfOk result (λ found. (v : ValueOf (whole_reply packet_header))
         × (response_codec (whole_reply packet_header)).reads payload.entry.now tt v

@@ -10,9 +10,9 @@ ghost use Rattle.sockdiag_c.specs.UnixDetails.{pending};
 use crate::walks::{END, ITEM};
 use netlink_packet_sock_diag::unix::UnixResponseView;
 
-/// Tells the inode of a connection that waits to be accepted, by its place among the inodes of the
-/// first `UNIX_DIAG_ICONS`, the first one at 0. The answer is 1, or 0 where there is none or the
-/// reply is refused, and then the inode is left as it was.
+/// Stores the inode of the connection at this index of the first `UNIX_DIAG_ICONS`. The first
+/// connection has index 0. Returns 1. Returns 0 if the reply is rejected or has fewer connections;
+/// then the inode is unchanged.
 #[unsafe(no_mangle)]
 pub extern "C" fn sockdiag_unix_get_pending(payload: &[u8], index: usize, inode: &mut u32) -> u32
     ensures { ((v : ValueOf unix_response_spec)

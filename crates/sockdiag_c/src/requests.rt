@@ -1,4 +1,4 @@
-//! Requests, written as whole netlink messages.
+//! Requests, serialized as whole netlink messages.
 
 ghost use Rattle.std.specs.Prelude.{◌≡◌, ◌≢◌, ◌+◌, ◌<◌, ◌≤◌, ◌⊎◌, ◌++◌, length, drop};
 ghost use Rattle.netlink_core.specs.Attribute.{written};
@@ -18,70 +18,73 @@ use netlink_packet_sock_diag::inet::{self, ExtensionFlags, SocketId};
 use netlink_packet_sock_diag::unix::{self, ShowFlags};
 use std::net::{IpAddr, Ipv4Addr, Ipv6Addr};
 
-/// What the netlink header of a request tells, but its length and its type:
+/// Fields of the netlink header of a request, without its length and type:
 /// `struct sockdiag_request_header` of `include/sockdiag.h`.
 #[repr(C)]
 #[derive(Clone, Copy)]
 pub struct RequestHeader {
-    /// The `NLM_F_` flags: `NLM_F_REQUEST`, and `NLM_F_DUMP` where all sockets are asked for.
+    /// `NLM_F_REQUEST`, and `NLM_F_DUMP` to request all sockets (`nlmsg_flags`).
     pub flags: u16,
-    /// The sender's number for the request, which its replies repeat.
+    /// Sequence number of the sender, which the replies repeat (`nlmsg_seq`).
     pub sequence_number: u32,
-    /// The port of the sender, or 0.
+    /// Port id of the sender, or 0 (`nlmsg_pid`).
     pub port_number: u32,
 }
 
-/// The request for UNIX sockets: `struct sockdiag_unix_request` of `include/sockdiag.h`.
+/// A request for UNIX sockets: `struct sockdiag_unix_request` of `include/sockdiag.h`.
 #[repr(C)]
 #[derive(Clone, Copy)]
 pub struct UnixRequest {
-    /// What the netlink header tells.
+    /// Fields of the netlink header.
     pub header: RequestHeader,
-    /// Which states are asked for: a set, in which the bit of a state is that of its number.
+    /// States to include, with the bit `1 << TCP_LISTEN` for `TCP_LISTEN` (`udiag_states`).
     pub states: u32,
-    /// The inode of a single socket.
+    /// Inode, to request a single socket (`udiag_ino`).
     pub inode: u32,
-    /// Which attributes the replies shall have, a set of `UDIAG_SHOW_` flags.
+    /// Attributes that the replies shall have, a set of `UDIAG_SHOW_..` (`udiag_show`).
     pub show: u32,
-    /// What tells a single socket from others of its inode.
+    /// Cookie that distinguishes sockets with the same inode, to request a single socket
+    /// (`udiag_cookie`).
     pub cookie: [u8; 8],
 }
 
-/// The request for IPv4 or IPv6 sockets: `struct sockdiag_inet_request` of `include/sockdiag.h`.
+/// A request for IPv4 or IPv6 sockets: `struct sockdiag_inet_request` of `include/sockdiag.h`.
 #[repr(C)]
 #[derive(Clone, Copy)]
 pub struct InetRequest {
-    /// What the netlink header tells.
+    /// Fields of the netlink header.
     pub header: RequestHeader,
-    /// `AF_INET` or `AF_INET6`.
+    /// `AF_INET` or `AF_INET6` (`sdiag_family`).
     pub family: u8,
-    /// Which attributes the replies shall have: a set, in which the bit of a kind is that of its
-    /// number less one.
+    /// Attributes that the replies shall have, with the bit `1 << (kind - 1)` for each kind
+    /// (`idiag_ext`).
     pub extensions: u8,
-    /// The protocol, one of `IPPROTO_..`. One above 255, such as `IPPROTO_MPTCP`, is told by an
-    /// attribute, and its low byte by the record: that of `IPPROTO_MPTCP` is `IPPROTO_TCP`.
+    /// Protocol, one of `IPPROTO_..`. The low byte is written to the record (`sdiag_protocol`). A
+    /// protocol above 255, such as `IPPROTO_MPTCP`, is also written as an attribute
+    /// `INET_DIAG_REQ_PROTOCOL`. The low byte of `IPPROTO_MPTCP` is `IPPROTO_TCP`.
     pub protocol: u32,
-    /// Which states are asked for: a set, in which the bit of a state is that of its number.
+    /// States to include, with the bit `1 << TCP_LISTEN` for `TCP_LISTEN` (`idiag_states`).
     pub states: u32,
-    /// The port of this end.
+    /// Local port (`idiag_sport`).
     pub source_port: u16,
-    /// The port of the other end.
+    /// Remote port (`idiag_dport`).
     pub destination_port: u16,
-    /// The address of this end, high octet first: under `AF_INET` the first four octets.
+    /// Local address in network byte order (`idiag_src`). For `AF_INET`, the first four bytes.
     pub source_address: [u8; 16],
-    /// The address of the other end, likewise.
+    /// Remote address, in the same format (`idiag_dst`).
     pub destination_address: [u8; 16],
-    /// The number of the interface that the socket is bound to, or 0.
+    /// Index of the interface that the socket is bound to, or 0 (`idiag_if`).
     pub interface_id: u32,
-    /// What tells the socket from others with its addresses and ports.
+    /// Cookie that distinguishes sockets with the same addresses and ports (`idiag_cookie`). Eight
+    /// bytes 0xff are `INET_DIAG_NOCOOKIE`.
     pub cookie: [u8; 8],
 }
 
-/// The kind of the attribute of a request that tells the protocol, `INET_DIAG_REQ_PROTOCOL`.
+/// Type of the attribute that contains a protocol, `INET_DIAG_REQ_PROTOCOL`.
 const PROTOCOL: u8 = 3;
 
-/// Writes a request for UNIX sockets, a netlink message of 40 bytes, at the start of the buffer. It
-/// answers 40, or 0 where the buffer is shorter, and then nothing is written.
+/// Writes a request for UNIX sockets, a netlink message of 40 bytes, at the start of the buffer.
+/// Returns 40, or 0 if the buffer is shorter; then nothing is written.
 #[unsafe(no_mangle)]
 pub extern "C" fn sockdiag_write_unix_request(request: &UnixRequest, buffer: &mut [u8]) -> usize
     ensures { WritesWhole 40 (unix_message 20 request.now) buffer.old buffer.new result }
@@ -89,7 +92,8 @@ pub extern "C" fn sockdiag_write_unix_request(request: &UnixRequest, buffer: &mu
     write_unix(SOCK_DIAG_BY_FAMILY, request, buffer)
 }
 
-/// The same, of the request to close the UNIX socket of the inode and the cookie.
+/// Writes the same request with the type `SOCK_DESTROY`, which requests the kernel to close the
+/// UNIX socket with the inode and the cookie. Linux returns `EOPNOTSUPP`.
 #[unsafe(no_mangle)]
 pub extern "C" fn sockdiag_write_unix_destroy(request: &UnixRequest, buffer: &mut [u8]) -> usize
     ensures { WritesWhole 40 (unix_message 21 request.now) buffer.old buffer.new result }
@@ -97,10 +101,10 @@ pub extern "C" fn sockdiag_write_unix_destroy(request: &UnixRequest, buffer: &mu
     write_unix(SOCK_DESTROY, request, buffer)
 }
 
-/// Writes a request for IPv4 or IPv6 sockets, a netlink message of 72 bytes, or of 80 where the
-/// protocol is above 255, at the start of the buffer. It answers how many bytes were written, or 0
-/// where the buffer is shorter or the family is neither `AF_INET` nor `AF_INET6`, and then nothing
-/// is written.
+/// Writes a request for IPv4 or IPv6 sockets at the start of the buffer. It is a netlink message of
+/// 72 bytes, or of 80 if the protocol is above 255. Returns the number of bytes that were written.
+/// Returns 0 if the buffer is shorter, or if the family is neither `AF_INET` nor `AF_INET6`; then
+/// nothing is written.
 #[unsafe(no_mangle)]
 pub extern "C" fn sockdiag_write_inet_request(request: &InetRequest, buffer: &mut [u8]) -> usize
     ensures written { (request.now.family ≡ 2) ⊎ (request.now.family ≡ 10)
@@ -112,7 +116,8 @@ pub extern "C" fn sockdiag_write_inet_request(request: &InetRequest, buffer: &mu
     write_inet(SOCK_DIAG_BY_FAMILY, request, buffer)
 }
 
-/// The same, of the request to close the sockets that the request tells.
+/// Writes the same request with the type `SOCK_DESTROY`, which requests the kernel to close the
+/// selected sockets.
 #[unsafe(no_mangle)]
 pub extern "C" fn sockdiag_write_inet_destroy(request: &InetRequest, buffer: &mut [u8]) -> usize
     ensures written { (request.now.family ≡ 2) ⊎ (request.now.family ≡ 10)
@@ -124,7 +129,7 @@ pub extern "C" fn sockdiag_write_inet_destroy(request: &InetRequest, buffer: &mu
     write_inet(SOCK_DESTROY, request, buffer)
 }
 
-// Writes a request for UNIX sockets under the type.
+// Writes a request for UNIX sockets with this message type.
 fn write_unix(message_type: u16, request: &UnixRequest, buffer: &mut [u8]) -> usize
     ensures { WritesWhole 40 (unix_message message_type request.now) buffer.old buffer.new result }
 {
@@ -138,7 +143,7 @@ fn write_unix(message_type: u16, request: &UnixRequest, buffer: &mut [u8]) -> us
     write_message(message_type, &request.header, &record, &[], buffer)
 }
 
-// Writes a request for IPv4 or IPv6 sockets under the type.
+// Writes a request for IPv4 or IPv6 sockets with this message type.
 pub(crate) fn write_inet(message_type: u16, request: &InetRequest, buffer: &mut [u8]) -> usize
     ensures written { (request.now.family ≡ 2) ⊎ (request.now.family ≡ 10)
         → WritesWhole (72 + length (protocol_attribute request.now.protocol))
@@ -158,7 +163,7 @@ pub(crate) fn write_inet(message_type: u16, request: &InetRequest, buffer: &mut 
     write_message(message_type, &request.header, &record, &attribute, buffer)
 }
 
-// The record of a request for IPv4 or IPv6 sockets.
+// Returns the record of a request for IPv4 or IPv6 sockets, `struct inet_diag_req_v2`.
 fn inet_record(request: &InetRequest) -> inet::InetRequest
     ensures { result ≡ inet_request_of request.now }
 {
@@ -180,7 +185,7 @@ fn inet_record(request: &InetRequest) -> inet::InetRequest
     }
 }
 
-// The address in the octets, of the family's version.
+// Returns the address in the bytes, of the IP version of the family: IPv4 for `AF_INET`, else IPv6.
 fn address_in(family: u8, octets: &[u8; 16]) -> IpAddr
     ensures { result ≡ address_under family octets.now }
 {
@@ -190,7 +195,8 @@ fn address_in(family: u8, octets: &[u8; 16]) -> IpAddr
     IpAddr::V6(Ipv6Addr::from_octets(*octets))
 }
 
-// Writes a record and attributes behind a netlink header, where there is room for them.
+// Writes a netlink header, the record and the attributes, if the buffer is long enough. Returns the
+// number of bytes that were written, or 0.
 pub(crate) fn write_message<R: Emitable>(
     message_type: u16,
     header: &RequestHeader,
@@ -218,7 +224,7 @@ pub(crate) fn write_message<R: Emitable>(
     len
 }
 
-// Writes a netlink header over sixteen bytes of any content.
+// Writes a netlink header to sixteen bytes, whatever they contain.
 fn write_header(len: u32, message_type: u16, header: &RequestHeader, row: &mut [u8])
     requires { length row.old ≡ 16 }
     ensures { row.new ≡ header_bytes (header_of len message_type header.now) }

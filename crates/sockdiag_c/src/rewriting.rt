@@ -1,4 +1,5 @@
-//! The canonical form of replies: one string for all strings that differ in idle details alone.
+//! The canonical form of replies. Equivalent (`idle`) replies, which differ only in ignored bits,
+//! have the same canonical form.
 
 ghost use Rattle.std.specs.Prelude.{◌≡◌};
 ghost use Rattle.netlink_core.specs.Faults.{number_of};
@@ -12,20 +13,20 @@ use netlink_packet_sock_diag::inet::InetResponseHeader;
 use netlink_packet_sock_diag::unix::UnixResponseHeader;
 use netlink_packet_sock_diag::{ReplyHeader, ReplyView};
 
-/// What became of bytes that were given to be written: `struct sockdiag_outcome` of
-/// `include/sockdiag.h`.
+/// Outcome of a call that writes bytes: `struct sockdiag_outcome` of `include/sockdiag.h`.
 #[repr(C)]
 #[derive(Clone, Copy)]
 pub struct Outcome {
-    /// The number of the first fault where they are refused, else 0.
+    /// Code of the first error if the caller's bytes are rejected, else 0.
     pub fault: u32,
-    /// How many bytes are to be written, or 0 where the given ones are refused or can't be written.
+    /// Number of bytes to write; 0 if the caller's bytes are rejected, or cannot be serialized.
     pub needed: usize,
 }
 
-/// Writes the canonical form of a reply about a UNIX socket, the payload of its message, at the
-/// start of the buffer. It answers how many bytes were written, or 0, and then nothing is written:
-/// the reply is refused, or it can't be written, or the buffer is shorter than is needed.
+/// Writes the canonical form of a reply about a UNIX socket at the start of the buffer. The reply
+/// is the payload of a netlink message. Returns the number of bytes that were written. Returns 0 if
+/// the reply is rejected, if it cannot be serialized, or if the buffer is shorter than needed; then
+/// nothing is written.
 #[unsafe(no_mangle)]
 pub extern "C" fn sockdiag_rewrite_unix_reply(
     payload: &[u8],
@@ -42,7 +43,8 @@ pub extern "C" fn sockdiag_rewrite_unix_reply(
     rewrite::<UnixResponseHeader>(payload, buffer, outcome)
 }
 
-/// The same of a reply about an IPv4 or IPv6 socket.
+/// Writes the canonical form of a reply about an IPv4 or IPv6 socket, as
+/// `sockdiag_rewrite_unix_reply` does.
 #[unsafe(no_mangle)]
 pub extern "C" fn sockdiag_rewrite_inet_reply(
     payload: &[u8],
@@ -59,7 +61,7 @@ pub extern "C" fn sockdiag_rewrite_inet_reply(
     rewrite::<InetResponseHeader>(payload, buffer, outcome)
 }
 
-// Writes the canonical form of a reply with this header.
+// Writes the canonical form of a reply with this kind of header.
 fn rewrite<H: ReplyHeader>(payload: &[u8], buffer: &mut [u8], outcome: &mut Outcome) -> usize
     ensures rewrites { Rewrites ((response_codec H.reply).reads payload.now tt)
         ((response_codec H.reply).refuses payload.now tt)
@@ -74,7 +76,7 @@ fn rewrite<H: ReplyHeader>(payload: &[u8], buffer: &mut [u8], outcome: &mut Outc
     }
 }
 
-// Writes the value, where it can be written and there is room for it.
+// Serializes the value, if it is writable and the buffer is long enough.
 pub(crate) fn write_value<V: Emitable>(value: &V, buffer: &mut [u8], outcome: &mut Outcome) -> usize
     ensures { Writes (V.writable value.now) (V.bytes value.now) buffer.old buffer.new outcome.new
         result }
@@ -94,7 +96,7 @@ pub(crate) fn write_value<V: Emitable>(value: &V, buffer: &mut [u8], outcome: &m
     needed
 }
 
-// Tells the fault. Nothing is written.
+// Stores the code of the error in the outcome. Returns 0, since nothing is written.
 pub(crate) fn refuse(fault: &DecodeError, outcome: &mut Outcome) -> usize
     ensures outcome { outcome.new ≡ outcome_of (number_of fault.now) 0 }
     ensures none { result ≡ 0 }

@@ -1,4 +1,5 @@
-//! What is told of a TCP connection, and of the memory of an internet socket.
+//! The values of `INET_DIAG_INFO` and `INET_DIAG_SKMEMINFO`: the state of a TCP connection, and the
+//! memory of an internet socket.
 
 ghost use Rattle.std.specs.Prelude.{◌≡◌, List, [], drop, length, unwrap_or};
 ghost use Rattle.netlink_core.specs.Attribute.{Attribute};
@@ -8,15 +9,16 @@ ghost use Rattle.sockdiag_c.specs.TcpInfo.{StandIn, filled, value_of};
 use netlink_core::NlasIterator;
 use netlink_packet_sock_diag::constants::{INET_DIAG_INFO, INET_DIAG_SKMEMINFO};
 
-/// How many bytes stand in front of the attributes of a reply about an IPv4 or IPv6 socket.
+/// Offset of the attributes in a reply about an IPv4 or IPv6 socket: the size of
+/// `struct inet_diag_msg`.
 const ATTRIBUTES: usize = 72;
 
-/// Tells what is known of the TCP connection, the bytes of the first `INET_DIAG_INFO` behind the
-/// header of the payload, and zeros behind them. What has more bytes is cut. The answer is how many
-/// bytes the value has, 0 where there is none.
+/// Copies the value of the first `INET_DIAG_INFO` after the header, at most 232 bytes
+/// (`struct tcp_info`). The remaining bytes are set to 0. Returns the length of the value in bytes,
+/// or 0 if there is none.
 ///
-/// The values are not checked, so that a value is told too that is shorter than this kernel's.
-/// Behind a fault of the framing nothing is looked for.
+/// The values of attributes are not checked, so a value that is shorter or longer than 232 bytes is
+/// returned too. Attributes after a framing error are not found.
 #[unsafe(no_mangle)]
 pub extern "C" fn sockdiag_inet_get_tcp_info(payload: &[u8], info: &mut [u8; 232]) -> usize
     ensures { (attributes : List Attribute) → StandIn (drop 72 payload.now) attributes
@@ -28,8 +30,8 @@ pub extern "C" fn sockdiag_inet_get_tcp_info(payload: &[u8], info: &mut [u8; 232
     value.len()
 }
 
-/// The same of the memory, of the first `INET_DIAG_SKMEMINFO`: nine words `SK_MEMINFO_..`, of which
-/// older kernels tell seven or eight.
+/// Copies the value of the first `INET_DIAG_SKMEMINFO` in the same way, at most 36 bytes: nine
+/// fields `SK_MEMINFO_..`, of which older kernels send seven or eight.
 #[unsafe(no_mangle)]
 pub extern "C" fn sockdiag_inet_get_memory(payload: &[u8], memory: &mut [u8; 36]) -> usize
     ensures { (attributes : List Attribute) → StandIn (drop 72 payload.now) attributes
@@ -41,7 +43,7 @@ pub extern "C" fn sockdiag_inet_get_memory(payload: &[u8], memory: &mut [u8; 36]
     value.len()
 }
 
-// What stands behind the header of a reply about an IPv4 or IPv6 socket.
+// Returns the bytes after the header of a reply about an IPv4 or IPv6 socket.
 fn behind_header(payload: &[u8]) -> &[u8]
     ensures { result.now ≡ drop 72 payload.entry.now }
 {
@@ -51,7 +53,7 @@ fn behind_header(payload: &[u8]) -> &[u8]
     &payload[ATTRIBUTES..]
 }
 
-// The first value of the kind, or no bytes where there is none.
+// Returns the value of the first attribute of the kind, or no bytes if there is none.
 fn first_value(bytes: &[u8], kind: u16) -> &[u8]
     ensures { (attributes : List Attribute) → StandIn bytes.entry.now attributes
         → result.now ≡ unwrap_or (first_of (value_of kind) attributes) [] }
@@ -69,7 +71,7 @@ fn first_value(bytes: &[u8], kind: u16) -> &[u8]
     &[]
 }
 
-// The bytes of the value, and zeros behind them.
+// Copies the value, truncated to `N` bytes or followed by zeros.
 fn fill<const N: usize>(value: &[u8], found: &mut [u8; N])
     ensures { found.new ≡ filled N value.now }
 {

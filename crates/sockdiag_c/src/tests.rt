@@ -1,6 +1,5 @@
-//! Calls of the library by value. The bytes are worked out by hand from the layouts of sock_diag(7)
-//! and netlink(7).
-//! `tests/c_face.c` makes the same calls and all others from C.
+//! Tests of the C functions from Rattle. The bytes are derived by hand from the layouts of
+//! sock_diag(7) and netlink(7). `tests/c_face.c` makes the same calls and all others from C.
 
 use crate::check::sockdiag_check_message;
 use crate::details::Text;
@@ -13,14 +12,14 @@ use crate::rewriting::{Outcome, sockdiag_rewrite_inet_reply, sockdiag_rewrite_un
 use crate::walks::{Cursor, MessagePart, sockdiag_next_message};
 use std::process::Abort;
 
-// A stream that listens, inode 0x11223344, with the name "/a" and its peer. The bytes at 3 and 23
-// are idle.
+// A listening stream socket with inode 0x11223344, the name "/a" and a peer. The bytes at offsets 3
+// and 23 are ignored.
 const UNIX_REPLY: [u8; 32] = [
     1, 1, 10, 0xee, 0x44, 0x33, 0x22, 0x11, 1, 2, 3, 4, 5, 6, 7, 8, 7, 0, 0, 0, b'/', b'a', 0,
     0xff, 8, 0, 2, 0, 0x78, 0x56, 0x34, 0x12,
 ];
 
-// From 127.0.0.1 port 80 to 10.0.0.2 port 49152, the timer 1 with 3 retransmits and 200
+// From 127.0.0.1 port 80 to 10.0.0.2 port 49152, with timer 1, 3 retransmissions and 200
 // milliseconds.
 const INET_REPLY: [u8; 72] = [
     2, 1, 1, 3, 0, 80, 0xc0, 0, 127, 0, 0, 1, 9, 9, 9, 9, 9, 9, 9, 9, 9, 9, 9, 9, 10, 0, 0, 2, 9,
@@ -28,13 +27,14 @@ const INET_REPLY: [u8; 72] = [
     2, 0, 0, 0, 0xe8, 3, 0, 0, 0x39, 0x30, 0, 0,
 ];
 
-// A message of nothing with one byte, one of another family that is refused, and then two bytes.
+// An `NLMSG_NOOP` with one byte; a message of family `AF_PACKET`, which is rejected; and two more
+// bytes.
 const DATAGRAM: [u8; 42] = [
     17, 0, 0, 0, 1, 0, 2, 0, 7, 0, 0, 0, 9, 0, 0, 0, 0xff, 0, 0, 0, 18, 0, 0, 0, 20, 0, 0, 0, 8, 0,
     0, 0, 0, 0, 0, 0, 17, 0, 0, 0, 5, 5,
 ];
 
-// The values are those that stand in the bytes.
+// The values are those in the bytes.
 #[test]
 fn replies_in_messages(rt: HostRuntime) {
     let mut reply = Reply {
@@ -84,7 +84,8 @@ fn replies_in_messages(rt: HostRuntime) {
     assert!(rt; (inet.uid, inet.inode) == (1000, 12345));
 }
 
-// Where a walk is, what it answers there, where it is then, and where a payload stands.
+// For each place of the cursor: the return value, the next place, and the offset and the length of
+// the payload.
 #[test]
 fn walks_over_messages(rt: HostRuntime) {
     let mut part = MessagePart {

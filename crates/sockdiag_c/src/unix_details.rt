@@ -1,4 +1,4 @@
-//! All that is told of a UNIX socket, in one struct of C.
+//! The contents of a reply about a UNIX socket, as a C struct.
 
 ghost use Rattle.std.specs.Prelude.{◌≡◌};
 ghost use Rattle.sock_diag_attributes.specs.UnixModel.{nla_view_model};
@@ -15,38 +15,43 @@ use netlink_core::{DecodeError, NlaBuffer};
 use netlink_packet_sock_diag::unix::UnixResponseHeader;
 use netlink_packet_sock_diag::unix::nlas::{NameView, NlaView};
 
-/// All that is told of a UNIX socket: `struct sockdiag_unix_details` of `include/sockdiag.h`.
+/// The contents of a reply about a UNIX socket: `struct sockdiag_unix_details` of
+/// `include/sockdiag.h`.
 #[repr(C)]
 #[derive(Clone, Copy)]
 pub struct UnixDetails<'a> {
     /// The header.
     pub header: UnixHeader,
-    /// The name that the socket is bound to, `UNIX_DIAG_NAME`.
+    /// Name that the socket is bound to (`UNIX_DIAG_NAME`).
     pub name: Text<'a>,
-    /// The inode of the file that the socket is bound to, `UNIX_DIAG_VFS`.
+    /// Inode of the file that the socket is bound to (`udiag_vfs_ino` of `UNIX_DIAG_VFS`).
     pub file_inode: Number,
-    /// The device that the file is on, as the kernel puts a major and a minor number together.
+    /// Device of that file, the major and minor number combined (`udiag_vfs_dev` of
+    /// `UNIX_DIAG_VFS`).
     pub file_device: Number,
-    /// The inode of the peer, `UNIX_DIAG_PEER`.
+    /// Inode of the peer (`UNIX_DIAG_PEER`).
     pub peer: Number,
-    /// How many connections wait to be accepted on a listening socket, or how many bytes wait to be
-    /// read, `UNIX_DIAG_RQLEN`.
+    /// Number of connections that wait to be accepted on a listening socket, else number of bytes
+    /// that have not been read (`udiag_rqueue` of `UNIX_DIAG_RQLEN`).
     pub recv_queue: Number,
-    /// How many connections may wait on a listening socket, or how many bytes of memory are taken
-    /// by what was sent and is not yet read.
+    /// Limit of these connections for a listening socket, else bytes of memory in use by data that
+    /// was sent and has not been read (`udiag_wqueue` of `UNIX_DIAG_RQLEN`).
     pub send_queue: Number,
-    /// The size of the receive buffer in bytes, `UNIX_DIAG_MEMINFO`.
+    /// Size of the receive buffer in bytes (`SK_MEMINFO_RCVBUF` of `UNIX_DIAG_MEMINFO`).
     pub receive_buffer: Number,
-    /// The size of the send buffer in bytes, which bounds a datagram.
+    /// Size of the send buffer in bytes, the limit of a datagram (`SK_MEMINFO_SNDBUF` of
+    /// `UNIX_DIAG_MEMINFO`).
     pub send_buffer: Number,
-    /// The memory of what is queued to be sent, in bytes: Linux tells 0.
+    /// Memory of data queued for sending, in bytes (`SK_MEMINFO_WMEM_QUEUED` of
+    /// `UNIX_DIAG_MEMINFO`). Linux sends 0.
     pub queued: Number,
-    /// Which directions are shut down, `UNIX_DIAG_SHUTDOWN`.
+    /// Directions that are shut down: 1 for receiving, 2 for sending, 3 for both
+    /// (`UNIX_DIAG_SHUTDOWN`).
     pub shutdown: Number,
 }
 
 impl<'a> UnixDetails<'a> {
-    // Tells what the attribute says, where nothing of its kind is told yet.
+    // Sets the fields of the attribute, unless an earlier attribute of its kind has set them.
     fn set(&mut self, nla: NlaView<'a>)
         ensures numbers { self.new ≡ unix_with self.new.name self.old (nla_view_model nla.entry) }
         ensures name { text_of self.new.name

@@ -1,4 +1,4 @@
-//! All that is told of a vsock socket: its header.
+//! The contents of a reply about a vsock socket: its header.
 
 ghost use Rattle.netlink_core.specs.Response.{response_codec};
 ghost use Rattle.sock_diag_families.specs.VsockResponseHeader.{vsock_header};
@@ -9,9 +9,9 @@ use crate::check::OK;
 use sock_diag_any::vsock::VsockResponseView;
 use sock_diag_families::vsock::VsockResponseHeader;
 
-/// Checks the whole of a reply about a vsock socket, the payload of its message, and tells all of
-/// it: its header, since no attributes follow. The answer is 0, or the number of the first fault,
-/// and then the header is left as it was.
+/// Checks a whole reply about a vsock socket, and returns its header. Linux sends no attributes; if
+/// there are any, only their framing is checked. The bytes are the payload of the netlink message.
+/// Returns 0, or the code of the first error; then the header is unchanged.
 #[unsafe(no_mangle)]
 pub extern "C" fn sockdiag_vsock_get_details(
     payload: &[u8],

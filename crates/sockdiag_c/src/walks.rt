@@ -1,4 +1,4 @@
-//! Walks over the attributes of a reply and over the messages of a datagram, in place.
+//! Iteration over the attributes of a reply and the messages of a datagram, without copying.
 
 ghost use Rattle.std.specs.Prelude.{◌≡◌, ◌+◌, ◌<◌, ◌^◌, ◌⊎◌, OnOk, IfErr};
 ghost use Rattle.netlink_core.specs.Envelope.{leading_number};
@@ -13,57 +13,56 @@ use netlink_core::{
 };
 use netlink_packet_sock_diag::SockDiagView;
 
-/// The answer of a walk that has ended.
+/// Return value of an iteration at its end.
 pub(crate) const END: u32 = 0;
 
-/// The answer of a walk that tells an item. It is no fault's number here: want of memory doesn't
-/// occur.
+/// Return value of an iteration that returns an item. It is not the code of an error here: code 1
+/// is an allocation failure, which cannot happen.
 pub(crate) const ITEM: u32 = 1;
 
-/// How far a walk is: `struct sockdiag_cursor` of `include/sockdiag.h`.
+/// State of an iteration: `struct sockdiag_cursor` of `include/sockdiag.h`.
 #[repr(C)]
 #[derive(Clone, Copy)]
 pub struct Cursor {
-    /// Where the next item stands. A place at the end of the bytes or behind it says that none is
-    /// left.
+    /// Offset of the next item. No items are left if it is at or after the end of the bytes.
     pub place: usize,
 }
 
-/// An attribute, by where its value stands: `struct sockdiag_attribute` of `include/sockdiag.h`.
+/// An attribute, with the offset of its value: `struct sockdiag_attribute` of `include/sockdiag.h`.
 #[repr(C)]
 #[derive(Clone, Copy)]
 pub struct AttributePart {
-    /// Where the value begins.
+    /// Offset of the value.
     pub offset: usize,
-    /// How many bytes the value has, without padding.
+    /// Length of the value in bytes, without padding.
     pub length: usize,
-    /// The type word, with its two flag bits.
+    /// Type field (`nla_type`), with its two flag bits.
     pub type_word: u16,
 }
 
-/// A message, by where its payload stands, with what its header tells: `struct sockdiag_message` of
-/// `include/sockdiag.h`.
+/// A message, with the offset of its payload and the fields of its header:
+/// `struct sockdiag_message` of `include/sockdiag.h`.
 #[repr(C)]
 #[derive(Clone, Copy)]
 pub struct MessagePart {
-    /// Where the payload begins.
+    /// Offset of the payload.
     pub offset: usize,
-    /// How many bytes the payload has, without padding: those that the length word counts, without
-    /// the header's.
+    /// Length of the payload in bytes, without padding: the length field (`nlmsg_len`) minus the 16
+    /// bytes of the header.
     pub length: usize,
-    /// What the payload is: one of the `NLMSG_` types, or `SOCK_DIAG_BY_FAMILY` for a reply.
+    /// Message type (`nlmsg_type`): one of `NLMSG_..`, or `SOCK_DIAG_BY_FAMILY` for a reply.
     pub message_type: u16,
-    /// The `NLM_F_` flags.
+    /// The flags `NLM_F_..` (`nlmsg_flags`).
     pub flags: u16,
-    /// The sender's number for the message, which a reply repeats.
+    /// Sequence number; a reply repeats the number of its request (`nlmsg_seq`).
     pub sequence_number: u32,
-    /// The port of the sender, 0 for the kernel.
+    /// Port id of the sender, 0 for the kernel (`nlmsg_pid`).
     pub port_number: u32,
 }
 
-/// Tells the attribute at the cursor's place, and moves the cursor behind it. The answer is 1; 0
-/// where no bytes are left, and then nothing is told; or the number of the framing fault there, and
-/// then nothing is told, and nothing is left.
+/// Stores the attribute at the cursor, and advances the cursor past it and its padding. Returns 1;
+/// or 0 if no bytes are left, and then nothing is written; or the code of the framing error there,
+/// and then the attribute is unchanged and nothing is left. The value is not checked.
 #[unsafe(no_mangle)]
 pub extern "C" fn sockdiag_next_attribute(
     bytes: &[u8],
@@ -93,10 +92,13 @@ pub extern "C" fn sockdiag_next_attribute(
     }
 }
 
-/// Tells the message at the cursor's place, and moves the cursor behind it. The answer is 1 where
-/// the message carries what its type says; 0 where no bytes are left, and then nothing is told; the
-/// number of the first fault of its payload, and then the walk may go on; or the number of the
-/// framing fault there, and then nothing is told, and nothing is left.
+/// Stores the message at the cursor, and advances the cursor past it and its padding. Returns one
+/// of:
+/// - 1 if the message has one of the four `NLMSG_..` types, or its payload is accepted;
+/// - 0 if no bytes are left, and then nothing is written;
+/// - the code of the first error of the payload; the message is set, and the iteration may
+///   continue;
+/// - the code of the framing error there, and then the message is unchanged and nothing is left.
 #[unsafe(no_mangle)]
 pub extern "C" fn sockdiag_next_message(
     datagram: &[u8],
@@ -114,7 +116,7 @@ pub extern "C" fn sockdiag_next_message(
     }
 }
 
-/// The same without a look at the payload: the answer is 1 where a message is told.
+/// Does the same without a check of the payload: returns 1 for a message of any type.
 #[unsafe(no_mangle)]
 pub extern "C" fn sockdiag_next_envelope(
     datagram: &[u8],
@@ -129,8 +131,8 @@ pub extern "C" fn sockdiag_next_envelope(
     }
 }
 
-// Tells the message at the cursor's place, and moves the cursor behind it. Where no message is
-// told, it answers what the walk does.
+// Stores the message at the cursor, and advances the cursor past it and its padding. Returns as an
+// `Err` 0 at the end of the bytes, or the code of the framing error.
 #[inline(always)]
 fn take_message(datagram: &[u8], cursor: &mut Cursor, message: &mut MessagePart) -> Result<(), u32>
     ensures found { OnOk result (IsFramed datagram.now cursor.old cursor.new message.new) }
@@ -164,9 +166,9 @@ fn take_message(datagram: &[u8], cursor: &mut Cursor, message: &mut MessagePart)
     }
 }
 
-/// Tells the number that the payload of `NLMSG_ERROR` or `NLMSG_DONE` begins with: 0, or an errno
-/// with a minus sign. The answer is 1, or 0 where the payload has fewer than four bytes, and then
-/// the number is left as it was.
+/// Stores the error number at the start of the payload of an `NLMSG_ERROR` or `NLMSG_DONE`: 0 for
+/// success, else `-errno`. Returns 1; or 0 if the payload has fewer than four bytes, and then the
+/// number is unchanged.
 #[unsafe(no_mangle)]
 pub extern "C" fn sockdiag_get_error_number(payload: &[u8], number: &mut i32) -> u32
     ensures { AnswersItem (leading_number payload.now) number.old number.new result }
@@ -180,8 +182,7 @@ pub extern "C" fn sockdiag_get_error_number(payload: &[u8], number: &mut i32) ->
     }
 }
 
-// Whether the payload carries what its type says: the answer is 1, or the number of the first
-// fault.
+// Checks the payload by its message type. Returns 1, or the code of the first error.
 fn check_payload(payload: &[u8], message_type: u16) -> u32
     ensures { Carries payload.now message_type result }
 {

@@ -1,4 +1,4 @@
-//! All that is told of an XDP socket, in one struct of C.
+//! The contents of a reply about an XDP socket, as a C struct.
 
 ghost use Rattle.std.specs.Prelude.{◌≡◌, IfOk, IfErr};
 ghost use Rattle.netlink_core.specs.Response.{ValueOf, response_codec};
@@ -19,40 +19,43 @@ use sock_diag_families::xdp::{
     XdpStatistics, XdpUmem,
 };
 
-/// All that is told of an XDP socket: `struct sockdiag_xdp_details` of `include/sockdiag.h`.
+/// The contents of a reply about an XDP socket: `struct sockdiag_xdp_details` of
+/// `include/sockdiag.h`.
 #[repr(C)]
 #[derive(Clone, Copy)]
 pub struct XdpDetails {
     /// The header.
     pub header: XdpResponseHeader,
-    /// 1 where it is told where the socket is bound, else 0.
+    /// 1 if `info` is set, else 0.
     pub has_info: u32,
-    /// Where the socket is bound, `XDP_DIAG_INFO`.
+    /// Interface and queue that the socket is bound to (`XDP_DIAG_INFO`, type 1).
     pub info: XdpInfo,
-    /// The user who owns the socket, `XDP_DIAG_UID`.
+    /// User id of the owner (`XDP_DIAG_UID`, type 2).
     pub owner: Number,
-    /// How many entries the ring for what is received has, `XDP_DIAG_RX_RING`.
+    /// Number of entries of the receive ring (`XDP_DIAG_RX_RING`, type 3).
     pub receive_ring: Number,
-    /// How many the ring for what is sent has, `XDP_DIAG_TX_RING`.
+    /// Number of entries of the transmit ring (`XDP_DIAG_TX_RING`, type 4).
     pub send_ring: Number,
-    /// 1 where the memory that the socket shares is told, else 0.
+    /// 1 if `umem` is set, else 0.
     pub has_umem: u32,
-    /// The memory that the socket shares, `XDP_DIAG_UMEM`.
+    /// Memory that the socket shares with the application (`XDP_DIAG_UMEM`, type 5).
     pub umem: XdpUmem,
-    /// How many entries the ring has that gives frames to the kernel, `XDP_DIAG_UMEM_FILL_RING`.
+    /// Number of entries of the ring that passes frames to the kernel (`XDP_DIAG_UMEM_FILL_RING`,
+    /// type 6).
     pub fill_ring: Number,
-    /// How many the ring has that gives them back, `XDP_DIAG_UMEM_COMPLETION_RING`.
+    /// Number of entries of the ring that returns frames from the kernel
+    /// (`XDP_DIAG_UMEM_COMPLETION_RING`, type 7).
     pub completion_ring: Number,
-    /// The memory, `XDP_DIAG_MEMINFO`.
+    /// Socket memory (`XDP_DIAG_MEMINFO`, type 8).
     pub memory: Memory,
-    /// 1 where it is told what the socket counted, else 0.
+    /// 1 if `statistics` is set, else 0.
     pub has_statistics: u32,
-    /// What the socket counted, `XDP_DIAG_STATS`.
+    /// Counters of the socket (`XDP_DIAG_STATS`, type 9).
     pub statistics: XdpStatistics,
 }
 
-/// Checks the whole of a reply about an XDP socket, and tells all of it, as
-/// `sockdiag_netlink_get_details` does. A record that isn't told is left as it was.
+/// Checks a whole reply about an XDP socket, and returns its contents, as
+/// `sockdiag_netlink_get_details` does. A record that the reply does not contain is unchanged.
 #[unsafe(no_mangle)]
 pub extern "C" fn sockdiag_xdp_get_details(payload: &[u8], details: &mut XdpDetails) -> u32
     ensures { AnswersBy ((response_codec (whole_reply xdp_header)).reads payload.now tt)
@@ -70,7 +73,7 @@ pub extern "C" fn sockdiag_xdp_get_details(payload: &[u8], details: &mut XdpDeta
     }
 }
 
-// What the reply tells, over what stood there, or the first fault.
+// Parses the reply over the old details, and returns its contents or the first error.
 fn read(payload: &[u8], old: &XdpDetails) -> Result<XdpDetails, DecodeError>
     ensures value { IfOk result (λ found. (v : ValueOf (whole_reply xdp_header))
         × (response_codec (whole_reply xdp_header)).reads payload.now tt v

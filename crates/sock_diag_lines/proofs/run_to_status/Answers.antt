@@ -8,7 +8,7 @@ use Rattle.line_server.specs.declared.stream.RunError.{RunError}
 use Rattle.line_server.specs.declared.stream.RunError.TheVariants.{Read, Write, Memory}
 use Rattle.sock_diag_lines.proofs.run_to_status.Goals as goal
 
--- the line is that of the failure
+-- the line names the failure
 reported_as : (contents contents' : Option (List ℕ)) (failed : Type 0)
     (outcome : Result Bool RunError)
     → IfErr outcome (λ e. SendsOrFails contents contents' failed (failure_line e))

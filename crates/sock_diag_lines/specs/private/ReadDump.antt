@@ -1,4 +1,4 @@
--- The model of a dump that the program reads, how it grows, and the words of its answer.
+-- The model of a dump that the program reads, how it grows, and the parts of its answer.
 use Rattle.std.specs.Prelude.{◌≡◌, ◌==◌, ℕ, List, [], ◌∷◌, ◌++◌, Option, Some, None, Result, Ok}
 use Rattle.std.specs.Prelude.{Err}
 use Rattle.netlink_core.specs.declared.fault.DecodeError.{DecodeError}
@@ -15,7 +15,7 @@ use Rattle.sock_diag_lines.specs.HexField.{IsHexField, field_of}
 abbrev pub AreHexFields : List ℕ → List (List ℕ) → Type 0
 AreHexFields text datagrams = AllZip IsHexField (slice_split (λ c. c == 32) text) datagrams
 
--- the messages that a dump keeps, and how it ends
+-- the messages of a dump, and its end
 abbrev pub DumpOutcome : Type 0
 DumpOutcome = List Message × Result Standing DecodeError
 
@@ -23,7 +23,7 @@ DumpOutcome = List Message × Result Standing DecodeError
 abbrev pub IsDumpOf : List (List ℕ) → DumpOutcome → Type 0
 IsDumpOf datagrams dump = DatagramsDump (ItemIs message_codec) [] datagrams dump.0 dump.1
 
--- each message that it keeps can be written
+-- each message of the dump is writable
 abbrev pub IsWritable : DumpOutcome → Type 0
 IsWritable dump = AllByRecursion message_codec.fits dump.0
 
@@ -31,25 +31,25 @@ IsWritable dump = AllByRecursion message_codec.fits dump.0
 abbrev pub message_text : Message → List ℕ
 message_text message = 32 ∷ field_of (message_codec.written message)
 
--- the fault at which it failed, or else how it stands
+-- the error that ended the dump, or else its state
 abbrev pub ended_with : Standing → Option DecodeError → Result Standing DecodeError
 ended_with state None = Ok state
 ended_with state (Some fault) = Err fault
 
--- how it ends
+-- the end of the dump
 abbrev pub end_of : ReadDump → Result Standing DecodeError
 end_of dump = ended_with (end_so_far (reader_progress dump.reader)) dump.fault
 
--- the answer to it
+-- the messages and the end of the dump
 abbrev pub dump_outcome : ReadDump → DumpOutcome
 dump_outcome dump = ((reader_progress dump.reader).messages, end_of dump)
 
--- it is the dump over these datagrams, and has no fault while it is read
+-- it is the dump over these datagrams, and it has no error while it is being read
 pub record IsReadDump (datagrams : List (List ℕ)) (dump : ReadDump) : Type 0 where
   pub is : IsDumpOf datagrams (dump_outcome dump)
   pub faultless : IsReading (reader_progress dump.reader) → dump.fault ≡ None
 
--- whatever datagrams were read, this one was read behind them
+-- TakesDatagram old datagram new: after any datagrams that were read into `old`, this one was read
 abbrev pub TakesDatagram : ReadDump → List ℕ → ReadDump → Type 0
 TakesDatagram old datagram new = (datagrams : List (List ℕ)) → IsReadDump datagrams old
     → IsReadDump (datagrams ++ datagram ∷ []) new

@@ -3,7 +3,7 @@ use Rattle.std.specs.Prelude.{ℕ, List, [], ◌∷◌, ◌++◌, codes}
 use Rattle.line_server.specs.declared.stream.RunError.{RunError}
 use Rattle.line_server.specs.declared.stream.RunError.TheVariants.{Read, Write, Memory}
 
--- the line that names a failure
+-- the line that names a failure, with a line feed, 10
 abbrev pub failure_line : RunError → List ℕ
 failure_line Read = codes "sockdiag: reading failed" ++ 10 ∷ []
 failure_line Write = codes "sockdiag: writing failed" ++ 10 ∷ []

@@ -1,4 +1,4 @@
--- A text with words of a reply behind it, each behind a space, 32.
+-- A text after some values of a reply were appended, each after a space, 32.
 use Rattle.std.specs.Prelude.{List, ℕ, ◌∷◌, ◌++◌, decimal, option_map}
 use Rattle.netlink_core.specs.AttributeSet.{content}
 use Rattle.sock_diag_attributes.specs.UnixAttributes.{unix}
@@ -11,7 +11,7 @@ use Rattle.sock_diag_replies.specs.UnixGetters.{first_of, listening_queue_of, ot
 use Rattle.sock_diag_replies.specs.UnixResponseSpec.{unix_response_spec}
 use Rattle.sock_diag_lines.specs.ViewLine.{comma_list, name_word, or_none}
 
--- the peer, the name, the pending connections, and which directions are shut down
+-- the peer, the name, the pending connections, and the directions that are shut down
 abbrev pub with_details : List ℕ → ValueOf unix_response_spec → List ℕ
 with_details text v =
     let found = λ (k : ℕ). first_of (content unix k) v.nlas in
@@ -20,7 +20,7 @@ with_details text v =
     ++ 32 ∷ or_none comma_list (found UNIX_DIAG_ICONS)
     ++ 32 ∷ or_none decimal (found UNIX_DIAG_SHUTDOWN)
 
--- the queues of a listening socket, and those of any other
+-- the queue lengths: two values of a listening socket, then two values of any other socket
 abbrev pub with_queues : List ℕ → ValueOf unix_response_spec → List ℕ
 with_queues text v =
     text ++ 32 ∷ or_none decimal (option_map (λ queue. queue.0) (listening_queue_of v))
@@ -28,7 +28,7 @@ with_queues text v =
     ++ 32 ∷ or_none decimal (option_map (λ queue. queue.0) (other_queue_of v))
     ++ 32 ∷ or_none decimal (option_map (λ queue. queue.1) (other_queue_of v))
 
--- the memory
+-- the memory values
 abbrev pub with_memory : List ℕ → ValueOf unix_response_spec → List ℕ
 with_memory text v = let memory = first_of (content unix UNIX_DIAG_MEMINFO) v.nlas in
     text ++ 32 ∷ or_none decimal (option_map (λ info. info.max_datagram_size) memory)

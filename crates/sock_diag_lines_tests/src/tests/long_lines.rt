@@ -1,4 +1,4 @@
-//! Answers to lines that are too long to be stored, or are no text.
+//! Answers to long lines, to lines whose values are not writable, and to lines that are not text.
 
 use super::{LARGE, Repeated, repeated};
 use sock_diag_lines::answer;
@@ -13,33 +13,34 @@ fn answers(rt: &impl Abort, alloc: Global, line: &[u8], want: &[u8]) {
 const INET_HEADER: &str = "02010200eb1401bbc0a8b23c000000000000000000000000acd917830000000000000000\
 00000000000000005203000000000000806000000000000000000000e8030000a8da2900";
 
-/// A reply about a TCP connection, as far as the letters of its congestion algorithm.
+/// A reply about a TCP connection, up to the letters of its congestion control algorithm.
 const INET: &str = "inet 02010200eb1401bbc0a8b23c000000000000000000000000acd9178300000000000000000\
 0000000000000005203000000000000806000000000000000000000e8030000a8da2900ffff0400";
 
-/// A netlink message of 65,623 bytes with the same reply.
+/// A netlink message of 65,623 bytes with the same reply, up to these letters.
 const NETLINK: &str = "netlink 5700010014000000000000000000000002010200eb1401bbc0a8b23c00000000000\
 0000000000000acd91783000000000000000000000000000000005203000000000000806000000000000000000000e8030\
 000a8da2900ffff0400";
 
-/// A reply about a listening UNIX socket, and in the next datagram the same message.
+/// A reply about a listening UNIX socket, and in the next datagram the same message, up to these
+/// letters.
 const DUMP: &str = "dump 2000000014000200070000000000000001010a000e4f0000a002000000000000 57000100\
 14000200070000000000000002010200eb1401bbc0a8b23c000000000000000000000000acd91783000000000000000000\
 000000000000005203000000000000806000000000000000000000e8030000a8da2900ffff0400";
 
-/// The end of a dump, in a datagram of its own.
+/// The end of a dump, in a separate datagram.
 const END: &str = " 1400000003000200070000000000000000000000";
 
-/// A reply about a UNIX socket, as far as the bytes of its longest attribute.
+/// A reply about a UNIX socket, up to the bytes of its longest attribute.
 const UNIX: &str = "unix 01010a000e4f0000a002000000000000ffff0700";
 
 const UNIX_WRITTEN: &str = "ok 01010a000e4f0000a002000000000000ffff0700";
 
 const UNWRITABLE: Repeated = ("unwritable", "", 0, "");
 
-/// A congestion algorithm of 65,531 letters is read and has no room for its end zero. A message and
-/// a dump are as unwritable as their reply. The longest attribute of an unknown kind is written
-/// with its padding.
+/// The name of a congestion control algorithm of 65,531 letters is accepted, and has no space for
+/// its terminating NUL. A message or a dump with such a reply is not writable either. The longest
+/// attribute of an unknown type is serialized with its padding.
 const LONG: [(Repeated, Repeated); 5] = [
     ((INET, "61", 65_531, ""), UNWRITABLE),
     ((NETLINK, "61", 65_531, ""), UNWRITABLE),
@@ -64,11 +65,11 @@ fn answers_bytes_that_are_no_text(rt: HostRuntime) {
     }
 }
 
-/// A name, and the space that follows it.
+/// Names, each with the space that follows it.
 const WORDS: &str = "unixreq |inetreq |sockid4 |unix |inet |message |netlink |unixview |dump ";
 
-/// Checks that a field of each size is answered if there is memory. With two digits a byte, the
-/// longest line has 1 MiB.
+/// Checks that a field of each size is answered if there is memory. With two digits for each byte,
+/// the longest line has 1 MiB.
 #[test]
 fn lines_of_each_size(rt: HostRuntime) {
     let alloc = rt.alloc();
@@ -84,7 +85,7 @@ fn lines_of_each_size(rt: HostRuntime) {
     }
 }
 
-/// Asserts that the answer to a line of these parts begins with `ok`.
+/// Asserts that the answer to a line of these parts starts with `ok`.
 fn accepts(rt: &impl Abort, alloc: Global, parts: &[&str]) {
     let line = parts.concat(alloc).expect(rt, "memory");
     let text = answer(alloc, line.as_bytes()).expect(rt, "memory");
@@ -94,27 +95,28 @@ fn accepts(rt: &impl Abort, alloc: Global, parts: &[&str]) {
 /// The header of a reply about a UNIX socket.
 const SOCKET: &str = "01010100b77c00002200000000000000";
 
-/// An attribute of 8 bytes that is valid in a reply about a UNIX and an internet socket.
+/// An attribute of 8 bytes that is valid in a reply about a UNIX socket and in one about an
+/// internet socket.
 const ATTRIBUTE: &str = "0500060002000000";
 
 /// A netlink message with a reply about a UNIX socket.
 const REPLY: &str = "2000000014000200070000000000000001010a000e4f0000a002000000000000";
 
-/// The same message, in a datagram of its own.
+/// The same message, in a separate datagram.
 const NEXT_REPLY: &str = " 2000000014000200070000000000000001010a000e4f0000a002000000000000";
 
-/// Numbers of attributes or messages over 300.
+/// Counts of attributes or messages above 300.
 const COUNTS: [usize; 9] = [
     512, 1_000, 1_024, 2_048, 4_096, 8_192, 10_000, 16_384, 32_768,
 ];
 
-/// Asserts that the answer to a number of equal items, after a header, begins with `ok`.
+/// Asserts that the answer to a header and `count` equal items starts with `ok`.
 fn accepts_items(rt: &impl Abort, alloc: Global, header: &str, item: &str, count: usize) {
     let items = item.repeat(alloc, count).expect(rt, "memory");
     accepts(rt, alloc, &[header, items.as_str()]);
 }
 
-/// Checks replies with each number of attributes, and dumps with each number of messages and of
+/// Checks replies with each count of attributes, and dumps with each count of messages and of
 /// datagrams.
 #[test]
 fn lists_of_each_size(rt: HostRuntime) {
@@ -148,7 +150,7 @@ fn payloads_of_each_size(rt: HostRuntime) {
 /// Sizes of names over 300, up to the longest.
 const NAMES: [usize; 7] = [512, 1_000, 1_024, 4_096, 10_000, 32_768, 65_530];
 
-/// Asserts that the answers to a name of a number of letters begin with `ok`.
+/// Asserts that the answers to a name of `size` letters start with `ok`.
 fn accepts_name(rt: &impl Abort, alloc: Global, size: usize) {
     let length = size.saturating_add(5).swap_bytes() >> 48;
     let header = format!(in alloc; "{SOCKET}{length:04x}0000").expect(rt, "memory");

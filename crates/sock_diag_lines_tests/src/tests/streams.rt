@@ -1,4 +1,5 @@
-//! Runs over readers and writers that move few bytes a call, fail at a call, or go on for long.
+//! Runs over readers and writers that move few bytes in each call, that fail at a call, or that
+//! continue for long.
 
 use super::{INPUT, LARGE, OUTPUT, Repeated, repeated};
 use sock_diag_lines::{RunError, answer, run, run_to_status};
@@ -8,10 +9,10 @@ use std::io;
 use std::io::{ErrorKind, Read, Write};
 use std::process::Abort;
 
-/// The number of a call that does not come.
+/// The index of a call that is never made.
 const NEVER: usize = usize::MAX;
 
-/// Stands for the flush among the numbers of calls.
+/// Denotes the flush among the indices of calls.
 const FLUSH: usize = usize::MAX - 1;
 
 /// The errors of calls that fail.
@@ -39,13 +40,13 @@ struct Pace {
     most: usize,
     /// Growth of this limit after each call.
     growth: usize,
-    /// Number of the call that fails.
+    /// Index of the call that fails.
     fails_at: usize,
     /// Index of its error in [`ERRORS`].
     error: usize,
 }
 
-/// Returns the pace of a stream that never fails, with a limit of the bytes that a call moves.
+/// Returns the pace of a stream that never fails and moves at most `most` bytes in a call.
 fn steady(most: usize) -> Pace {
     Pace {
         most,
@@ -55,7 +56,7 @@ fn steady(most: usize) -> Pace {
     }
 }
 
-/// Returns the pace of a stream of which one call fails.
+/// Returns the pace of a stream with one call that fails.
 fn failing(most: usize, fails_at: usize, error: usize) -> Pace {
     Pace {
         fails_at,
@@ -74,16 +75,17 @@ fn line_count(text: &[u8]) -> usize {
     text.iter().filter(|byte| **byte == b'\n').count()
 }
 
-/// How many bytes the first answers have, by how many they are.
+/// Lengths of the first 0, 1, 2 and 3 answers in bytes.
 const ENDS: [usize; 4] = [0, 52, 104, 114];
 
-/// Gives its bytes at a pace, and notes where an answer that was due had not come.
+/// A reader that returns its bytes at a pace, and records whether an answer that was due had not
+/// been written.
 #[derive(Drop)]
 struct PacedReader<'a> {
     rest: &'a [u8],
     pace: Pace,
     calls: usize,
-    /// How many bytes the last call asked for.
+    /// Number of bytes that the last call requested.
     asked: usize,
     lines: usize,
     answered: &'a Cell<usize>,
@@ -125,7 +127,7 @@ impl Read for PacedReader<'_> {
     }
 }
 
-/// Takes bytes at a pace, and counts the lines.
+/// A writer that accepts bytes at a pace, and counts the lines.
 #[derive(Drop)]
 struct PacedWriter<'a> {
     taken: Vec<u8>,
@@ -172,14 +174,15 @@ impl Write for PacedWriter<'_> {
     }
 }
 
-/// Whether the call that fails came last, where one does.
+/// Returns whether the call that fails, if any, was the last one.
 fn ended_at(calls: usize, fails_at: usize) -> bool {
     fails_at >= FLUSH || calls == fails_at.saturating_add(1)
 }
 
-/// A run ends so and has written so much. Before each read all answers that are due are written. A
-/// read asks for 8 KiB. No call that failed is made again. Where a write takes all, there is one
-/// for each read, and one more at most. One flush comes, where nothing has failed.
+/// Asserts that a run has this outcome, and has written these bytes. Before each read, all answers
+/// that are due have been written. A read requests 8 KiB. A call that failed is not repeated. If a
+/// write accepts everything, there is at most one write more than there are reads. There is one
+/// flush, unless a read or a write failed.
 fn ends(
     rt: &impl Abort,
     alloc: Global,
@@ -230,7 +233,8 @@ fn each_write_fails(rt: HostRuntime) {
     }
 }
 
-/// A flush fails, a write takes no bytes, and a last line has no line feed.
+/// Checks that a flush fails, that a write accepts no bytes, and that the last line lacks its line
+/// feed.
 #[test]
 fn ends_of_a_run(rt: HostRuntime) {
     let unended = INPUT.strip_suffix('\n').unwrap_or("");
@@ -269,7 +273,8 @@ fn each_error_of_a_stream(rt: HostRuntime) {
     }
 }
 
-/// The whole answer comes, whether reads, writes or both move at most so many bytes a call.
+/// Asserts that all answers are written if reads, writes or both move at most `most` bytes in a
+/// call.
 fn answers_in_pieces(rt: &impl Abort, alloc: Global, text: &[u8], written: &[u8], most: usize) {
     for (read, write) in [(most, NEVER), (NEVER, most), (most, most)] {
         let paces = (steady(read), steady(write));
@@ -277,11 +282,11 @@ fn answers_in_pieces(rt: &impl Abort, alloc: Global, text: &[u8], written: &[u8]
     }
 }
 
-/// A netlink message that ends a dump and carries 70,000 bytes, as far as these bytes.
+/// The start of a netlink message that ends a dump and has 70,000 more bytes.
 const DONE: &str = "netlink 80110100030000000000000000000000";
 
-/// The shortest lines, which have the longest answers for their length, a line that is longer than
-/// the memory that is kept, and one with a long answer.
+/// The shortest lines, which have the longest answers for their length; a line that is longer than
+/// the buffer that a run retains; and a line with a long answer.
 const LONG: [(Repeated, Repeated); 3] = [
     (("", "\n", 9_000, ""), ("", "bad line\n", 9_000, "bad line")),
     (("unixreq ", "00", 70_000, ""), ("ok 01", "00", 23, "")),
@@ -291,7 +296,7 @@ const LONG: [(Repeated, Repeated); 3] = [
     ),
 ];
 
-/// Many lines, one that may be longer than any read, and three lines behind it.
+/// Returns many lines, one that may be longer than any read, and three more lines.
 fn among_lines(rt: &impl Abort, alloc: Global, lines: &str, long: Repeated) -> String {
     let many = lines.repeat(alloc, 100).expect(rt, "memory");
     let long = repeated(rt, alloc, long);
@@ -341,7 +346,7 @@ fn longest_lines(rt: HostRuntime) {
     }
 }
 
-/// Asserts that a number of equal texts are answered by equal texts, at these paces.
+/// Asserts that `times` equal texts are answered by equal texts, at these paces.
 fn answers_many(
     rt: &impl Abort,
     alloc: Global,
@@ -414,7 +419,7 @@ fn each_byte_is_read(rt: HostRuntime) {
     }
 }
 
-/// A run tells so on its errors why it failed, and nothing else.
+/// Asserts that a run writes to `errors` why it failed, and nothing else.
 fn tells(rt: &impl Abort, alloc: Global, read_fails: usize, write_fails: usize, want: &str) {
     let answered = Cell::new(0);
     let (mut reads, mut writes) = (steady(1), steady(1));

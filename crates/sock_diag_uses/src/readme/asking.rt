@@ -1,4 +1,4 @@
-//! A request is built.
+//! Building a request.
 
 ghost use Rattle.std.specs.Prelude.{◌≡◌, [], ◌∷◌, ◌++◌, replicate};
 
@@ -6,7 +6,7 @@ use netlink_core::{NLM_F_DUMP, NLM_F_REQUEST, NetlinkHeader, NetlinkMessage};
 use netlink_packet_sock_diag::SockDiagMessage;
 use netlink_packet_sock_diag::unix::{ShowFlags, StateFlags, UnixRequest};
 
-/// The request for the names of all UNIX sockets that listen: a netlink message of 40 bytes.
+/// Returns the request for the names of all listening UNIX sockets: a netlink message of 40 bytes.
 pub fn request() -> [u8; 40]
     ensures { result ≡ (40 ∷ 0 ∷ 0 ∷ 0 ∷ 20 ∷ 0 ∷ 1 ∷ 3 ∷ replicate 8 0)
         ++ ((1 ∷ 0 ∷ 0 ∷ 0 ∷ 0 ∷ 4 ∷ 0 ∷ 0 ∷ 0 ∷ 0 ∷ 0 ∷ 0 ∷ 1 ∷ 0 ∷ 0 ∷ 0 ∷ [])

@@ -1,4 +1,4 @@
-//! Borrowed replies are compared and rewritten.
+//! Comparing and rewriting borrowed replies.
 
 ghost use Rattle.std.specs.Prelude.{◌≡◌, ◌↔◌, ◌⊎◌, ◌<◌, ◌++◌, length, drop, IsTrue, IfOk, IfErr};
 ghost use Rattle.std.specs.Prelude.{MatchOption, OnOk};
@@ -9,8 +9,8 @@ ghost use Rattle.sock_diag_uses.specs.Readme.{IsUnixReply};
 use netlink_core::{DecodeError, Emitable};
 use netlink_packet_sock_diag::unix::UnixResponseView;
 
-/// Returns whether two replies have the same header and the same attributes, whatever their
-/// padding.
+/// Returns whether two replies have the same header and the same attributes, except for ignored
+/// bits such as padding.
 pub fn tell_the_same(one: &[u8], other: &[u8]) -> Result<bool, DecodeError>
     ensures value { IfOk result (λ same.
         IsTrue same ↔ (response_codec unix_response_spec).idle tt one.now
@@ -22,8 +22,8 @@ pub fn tell_the_same(one: &[u8], other: &[u8]) -> Result<bool, DecodeError>
     Ok(UnixResponseView::parse(one)? == UnixResponseView::parse(other)?)
 }
 
-/// Serializes a reply in canonical form at the start of a buffer, and returns the number of bytes,
-/// or `None` if it can't be serialized or the buffer is shorter.
+/// Serializes the canonical form of a reply at the start of a buffer. Returns the number of bytes,
+/// or `None` if the reply can't be serialized or the buffer is too short.
 pub fn rewrite(bytes: &[u8], buffer: &mut [u8]) -> Result<Option<usize>, DecodeError>
     ensures value { IfOk result (λ written. (v : ValueOf unix_response_spec)
         × (response_codec unix_response_spec).reads bytes.now tt v

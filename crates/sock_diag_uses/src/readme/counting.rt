@@ -1,4 +1,4 @@
-//! The messages of a dump's datagram, borrowed one by one.
+//! Iterating over the messages in a datagram of a dump. The messages are borrowed.
 
 ghost use Rattle.sock_diag_uses.specs.Readme.{IsCounted};
 
@@ -6,8 +6,8 @@ use netlink_core::DecodeError;
 use netlink_packet_sock_diag::constants::TCP_LISTEN;
 use netlink_packet_sock_diag::{DumpViews, PayloadView, SockDiagView};
 
-/// Returns how many replies of a datagram are about listening UNIX sockets, or `None` if the kernel
-/// reports that its dump failed or that data was lost.
+/// Returns the number of replies about listening UNIX sockets in a datagram, or `None` if the
+/// kernel reports that its dump failed or that data was lost.
 pub fn listening(datagram: &[u8]) -> Result<Option<usize>, DecodeError>
     ensures { IsCounted datagram.now result }
 {
@@ -21,7 +21,7 @@ pub fn listening(datagram: &[u8]) -> Result<Option<usize>, DecodeError>
             }
             PayloadView::InnerMessage(SockDiagView::InetResponse(_)) => {}
             PayloadView::Noop => {}
-            // An end begins with a number, 0 where all went well and else -errno.
+            // `NLMSG_DONE` starts with an error number: 0 for success, else `-errno`.
             PayloadView::Done(status) => return Ok(status.starts_with(&[0; 4]).then_some(count)),
             PayloadView::Error(_) => return Ok(None),
             PayloadView::Overrun(_) => return Ok(None),

@@ -1,4 +1,4 @@
-//! A reply is read in place.
+//! Parsing a borrowed reply.
 
 ghost use Rattle.std.specs.Prelude.{◌≡◌, IfOk, IfErr};
 ghost use Rattle.netlink_packet_sock_diag.specs.Message.{Message, message_codec};
@@ -8,7 +8,7 @@ use netlink_core::DecodeError;
 use netlink_packet_sock_diag::SockDiagView;
 use netlink_packet_sock_diag::unix::nlas::NameView;
 
-/// The path that a UNIX socket is bound to, where the payload of a message of this type tells one.
+/// Returns the path that a UNIX socket is bound to, if the payload of this message type has one.
 pub fn path<'a>(payload: &'a [u8], message_type: u16) -> Result<Option<&'a [u8]>, DecodeError>
     ensures value { IfOk result (λ path. (m : Message)
         × message_codec.reads payload.entry.now message_type m

@@ -1,4 +1,4 @@
-//! A reply is made of its fields.
+//! Building a reply.
 
 ghost use Rattle.std.specs.Prelude.{◌≡◌, [], ◌∷◌, replicate, IfOk};
 ghost use Rattle.netlink_core.specs.AttributeSet.{of_type};
@@ -13,7 +13,7 @@ use netlink_packet_sock_diag::unix::{UnixResponse, UnixResponseHeader};
 use smallvec::SmallVec;
 use std::alloc::{AllocError, Global};
 
-/// Returns the reply about a stream socket that listens at a path.
+/// Returns a reply about a stream socket that listens at a path.
 pub fn listener(alloc: Global, inode: u32, path: &[u8]) -> Result<UnixResponse, AllocError>
     ensures header { IfOk result
         (λ reply. reply.header ≡ record {

@@ -1,4 +1,4 @@
--- What C is told once one more attribute of an IPv4 or IPv6 socket says something.
+-- The contents of a reply about an IPv4 or IPv6 socket after one more attribute.
 use Rattle.std.specs.Prelude.{ℕ, if◌then◌else◌, Bool}
 use Rattle.netlink_core.specs.AttributeSet.{AttributeValue}
 use Rattle.sock_diag_attributes.specs.InetAttributes.{inet}
@@ -6,7 +6,8 @@ use Rattle.sockdiag_c.specs.declared.details.Text.{Text}
 use Rattle.sockdiag_c.specs.declared.inet_details.InetDetails.{InetDetails}
 use Rattle.sockdiag_c.specs.private.FirstNumber.{next}
 
--- each number, where none was told before; the algorithm is given
+-- inet_with congestion d v: each number of the attribute v is set unless it was present; the
+-- congestion text is the argument
 abbrev pub inet_with : Text → InetDetails → AttributeValue inet → InetDetails
 inet_with congestion d v = record {
   header = d.header;

@@ -1,4 +1,4 @@
--- What C is told once one more attribute of a UNIX socket says something.
+-- The contents of a reply about a UNIX socket after one more attribute.
 use Rattle.std.specs.Prelude.{ℕ}
 use Rattle.netlink_core.specs.AttributeSet.{AttributeValue}
 use Rattle.sock_diag_values.specs.declared.unix.mem_info.MemInfo.{MemInfo}
@@ -8,7 +8,8 @@ use Rattle.sockdiag_c.specs.declared.details.Text.{Text}
 use Rattle.sockdiag_c.specs.declared.unix_details.UnixDetails.{UnixDetails}
 use Rattle.sockdiag_c.specs.private.FirstNumber.{next}
 
--- each number, where none was told before; the name is given
+-- unix_with name d v: each number of the attribute v is set unless it was present; the name is the
+-- argument
 abbrev pub unix_with : Text → UnixDetails → AttributeValue unix → UnixDetails
 unix_with name d v = record {
   header = d.header;

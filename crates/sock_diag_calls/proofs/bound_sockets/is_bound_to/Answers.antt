@@ -17,7 +17,7 @@ lent_name name = name_of (λ (b : Bor (List ℕ)). b.now) name
 one_name : (x y : SocketName (List ℕ)) → Some x ≡ Some y → x ≡ y
 one_name x y e = cc
 
--- a name that may be there is that path where it is there and says the same
+-- the name, if any, equals the path by `==` if and only if it is this pathname
 names_path : (test : Lent → Lent → Bool)
     → ((v w : Lent) → IsTrue (test v w) ↔ (lent_name v ≡ lent_name w))
     → (name : Option Lent) (path : Bor (List ℕ))

@@ -3,7 +3,7 @@ use Rattle.netlink_core.specs.Walk.{bytes_left}
 use Rattle.sock_diag_calls.proofs.Counted.{Counted}
 use Rattle.sock_diag_calls.proofs.framing.count_attributes.Given as goal
 
--- what was counted goes on with what is left, and each item may be counted
+-- `count` attributes are before the bytes that are left, and the count does not overflow
 abbrev pub invariant-loop-item : goal.invariant-loop-item
 invariant-loop-item l = record {
   counted : Counted l.bytes (bytes_left l.item-iterator) l.count;

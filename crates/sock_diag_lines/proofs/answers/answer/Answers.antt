@@ -5,7 +5,7 @@ use Rattle.sock_diag_lines.proofs.AnswerLemmas.{answers_as_idle, datagrams_in_ra
 use Rattle.sock_diag_lines.proofs.DumpLaws.{answers_same_items, answers_split, one_dump_text}
 use Rattle.sock_diag_lines.proofs.answers.answer.Goals as goal
 
--- what was added to an empty text is the whole of it
+-- what was appended to an empty text is the whole text
 whole : (line old new : List ℕ) → old ≡ [] → Adds old new (IsAnswerOf line) → IsAnswerOf line new
 whole line old new none (more, e, is) = rw (e, none) is
 

@@ -5,7 +5,7 @@ use Rattle.netlink_packet_sock_diag.specs.MessageModel.{message_model}
 use Rattle.sock_diag_lines.specs.private.ReadDump.{message_text}
 use Rattle.sock_diag_lines.proofs.dump_line.push_messages.Given as goal
 
--- what was added and what is left to be added make the whole
+-- what was appended and what is left to append are the whole
 abbrev pub invariant-loop-message : goal.invariant-loop-message
 invariant-loop-message l = record {
   fits : AllByRecursion message_codec.fits (map message_model (drop l.message-index l.messages));

@@ -5,12 +5,13 @@ use Rattle.sock_diag_lines.specs.private.Text.{is_space}
 use Rattle.sock_diag_lines.proofs.FieldLists.{HasBytes}
 use Rattle.sock_diag_lines.proofs.dump_line.read_dump.Given as goal
 
--- the dump over the datagrams of the fields before the rest
+-- the dump over the datagrams of the fields before `rest`
 abbrev pub invariant-fields : goal.invariant-fields
 invariant-fields l = record {
   datagrams : List (List ℕ);
   read : IsReadDump datagrams l.dump;
-  -- with those of the rest they are those of all fields, which have none where the rest has none
+  -- these datagrams, followed by the datagrams of `rest`, are the datagrams of all fields; if all
+  -- fields are hex fields, so are the fields of `rest`
   before : (more : List (List ℕ)) → AreHexFields l.rest more
       → AreHexFields l.fields (datagrams ++ more);
   behind : (all : List (List ℕ)) → AreHexFields l.fields all

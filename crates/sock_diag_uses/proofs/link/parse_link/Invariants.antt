@@ -6,7 +6,7 @@ use Rattle.sock_diag_uses.specs.Link.{HasName, LinkAttribute, decodes_link, mtu_
 use Rattle.sock_diag_uses.specs.Link.{text_of}
 use Rattle.sock_diag_uses.proofs.link.parse_link.Given as goal
 
--- what was told so far, of which the last counts
+-- the name and the MTU of the attributes so far; the last one of each counts
 abbrev pub invariant-loop-item : goal.invariant-loop-item
 invariant-loop-item l = record {
   found : List LinkAttribute;

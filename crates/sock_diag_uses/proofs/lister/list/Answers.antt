@@ -12,7 +12,7 @@ use Rattle.netlink_packet_sock_diag.specs.PayloadViewModel.{payload_view_model}
 use Rattle.sock_diag_uses.specs.Lister.{AreLinesOf, line_of}
 use Rattle.sock_diag_uses.proofs.lister.list.Goals as goal
 
--- what follows from the value of an answer
+-- a consequence of the value of a result
 on_ok : {A E : Type 0} (P Q : A → Type 0) (r : Result A E) → ((v : A) → P v → Q v) → IfOk r P
     → IfOk r Q
 on_ok P Q (Ok v) follows h = follows v h

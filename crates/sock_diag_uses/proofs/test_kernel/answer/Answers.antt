@@ -9,7 +9,7 @@ returns-then-header-ne-SOCK_DIAG_BY_FAMILY-clause-refused c =
     other_type c.in_ok-header.header c.in_ok-header.ensures c.if-header-ne-SOCK_DIAG_BY_FAMILY.true
     refl
 
--- a request is read without memory, so its reader names a fault
+-- a request is parsed without allocating, so its error is not `Memory`
 pub returns-in_err-_asked-clause-refused : goal.returns-in_err-_asked-clause-refused
 returns-in_err-_asked-clause-refused c =
     let p = err_from_is_err_and c.from_residual-in_err-_asked.result

@@ -9,14 +9,14 @@ use Rattle.sock_diag_uses.specs.declared.test_kernel.AnswerError.TheVariants.{Re
 use Rattle.sock_diag_uses.specs.declared.test_kernel.AnswerError.TheVariants.{Memory}
 use Rattle.sock_diag_uses.proofs.test_kernel.push_replies.Goals as goal
 
--- what holds of all that is made of a list holds of what is made of one element
+-- a property of all elements holds of one
 holds_at : {A B : Type 0} (P : B → Type 0) (made : A → B) (xs : List A) (i : ℕ) (x : A)
     → slice_get xs i ≡ Some x → AllByRecursion P (map made xs) → P (made x)
 holds_at P made [] i x e all = absurd cc
 holds_at P made (y ∷ xs) zero x e all = let same : y ≡ x = cc in subst (λ z. P (made z)) same all.0
 holds_at P made (y ∷ xs) (suc i) x e all = holds_at P made xs i x e all.1
 
--- where one of the messages fails for its length, not all can be written
+-- if the message of one reply is too long, not all are writable
 of_one : {One All : Type 0} (e : AnswerError) → (All → One) → FailsFor (¬ One) e
     → FailsFor (¬ All) e
 of_one (Request fault) each none = none

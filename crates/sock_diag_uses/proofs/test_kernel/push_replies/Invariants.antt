@@ -4,7 +4,7 @@ use Rattle.sock_diag_uses.specs.UnixResponseModel.{unix_response_model}
 use Rattle.sock_diag_uses.specs.TestKernel.{reply_under}
 use Rattle.sock_diag_uses.proofs.test_kernel.push_replies.Given as goal
 
--- what was added and what is left to be added make the whole
+-- what was appended and what is left to append are the whole
 abbrev pub invariant-loop-reply : goal.invariant-loop-reply
 invariant-loop-reply l =
     l.datagram.items ++ flat_map (reply_under l.sequence_number)

@@ -4,7 +4,7 @@ use Rattle.netlink_core.specs.Walk.{bytes_left}
 use Rattle.netlink_core.proofs.Walking.{Continues}
 use Rattle.sockdiag_c.proofs.details.set_details.Given as goal
 
--- all is told of what was read, which goes on with what is left
+-- the details hold the attributes parsed so far, and the others are left
 abbrev pub invariant-loop-item : goal.invariant-loop-item
 invariant-loop-item g l = record {
   so_far : List (AttributeValue g.T.KeepsDetails.reply.attribute_set);

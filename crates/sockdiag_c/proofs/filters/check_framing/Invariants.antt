@@ -5,7 +5,7 @@ use Rattle.netlink_core.proofs.Walking.{Continues}
 use Rattle.sockdiag_c.proofs.Filtered.{itself}
 use Rattle.sockdiag_c.proofs.filters.check_framing.Given as goal
 
--- what was passed goes on with what is left
+-- the bytes are split into the attributes seen so far and the bytes left
 abbrev pub invariant-loop-item : goal.invariant-loop-item
 invariant-loop-item l = record {
   so_far : List Attribute;

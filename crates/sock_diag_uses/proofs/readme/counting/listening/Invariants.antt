@@ -2,6 +2,6 @@ use Rattle.netlink_core.specs.DatagramWalk.{datagram_left}
 use Rattle.sock_diag_uses.proofs.CountingListeners.{Counting}
 use Rattle.sock_diag_uses.proofs.readme.counting.listening.Given as goal
 
--- so many were counted in front of what is left
+-- `count` listening sockets are before the bytes that are left
 abbrev pub invariant-loop-item : goal.invariant-loop-item
 invariant-loop-item l = Counting l.datagram (datagram_left l.item-iterator.messages) l.count
