@@ -164,8 +164,8 @@ static void print_row(const struct family *family, size_t attributes)
     }
     double read = measure(family, bytes, length, NULL, 0);
     double both = measure(family, bytes, length, buffer, sizeof buffer);
-    printf("%-6s  %10zu  %5zu  %7.0f  %17.0f  %15lu\n", family->name, attributes, length, read, both,
-           taken);
+    printf("%-6s  %10zu  %5zu  %7.0f  %17.0f  %15lu\n", family->name, attributes, length, read,
+           both, taken);
     fflush(stdout);
 }
 
