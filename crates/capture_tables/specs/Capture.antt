@@ -38,8 +38,11 @@ unit_of magic = if magic == 0xa1b23c4d then Nanoseconds else Microseconds
 -- minor version at 6 and the snapshot length at 16 can be any. `bytes` are the header, and `h` is
 -- what is parsed from it: the byte order `h.order` and the unit `h.unit`.
 pub record IsFileHeader (bytes : List ℕ) (h : FileHeader) : Type 0 where
+  -- the magic number at 0
   pub magic : IsMagic (number_at h.order 4 0 bytes)
+  -- the major version at 4
   pub version : number_at h.order 2 4 bytes ≡ 2
+  -- the link type in the low 16 bits at 20
   pub link_type : number_at h.order 4 20 bytes % 65536 ≡ 253
   pub unit : h.unit ≡ unit_of (number_at h.order 4 0 bytes)
 
@@ -88,7 +91,9 @@ packet_header file header = record {
 -- fewer than the original length `header.whole_length` if the packet was truncated to the snapshot
 -- length.
 pub record Recorded : Type 0 where
+  -- the captured bytes, from the cooked header on
   pub bytes : List ℕ
+  -- the fields of the packet header
   pub header : PacketHeader
 
 -- a packet with these captured bytes and these header fields
@@ -100,8 +105,10 @@ recorded bytes header = record { bytes = bytes; header = header }
 -- `packet.header`.
 pub record IsRecord (file : FileHeader) (header : List ℕ) (packet : Recorded) : Type 0 where
   pub whole : length header ≡ 16
+  -- the captured length at 8
   pub length_word : number_at file.order 4 8 header ≡ length packet.bytes
   pub tells : packet.header ≡ packet_header file header
+  -- the limit of the reader, whatever the snapshot length in the file header
   pub within : length packet.bytes ≤ 262144
 
 -- ---- states of the input when reading stops

@@ -48,9 +48,13 @@ endpoint address interface port = host address ++ scope_text interface ++ 58 ∷
 -- The content of the first columns of a line: Netid, State, Recv-Q, Send-Q, Inode and Uid. `state`
 -- is the kernel's number. None means that the reply does not contain the value.
 pub record FirstColumns : Type 0 where
+  -- the column Netid
   pub kind : List ℕ
+  -- the column State, as the kernel numbers it
   pub state : ℕ
+  -- the column Recv-Q
   pub receive_queue : Option ℕ
+  -- the column Send-Q
   pub send_queue : Option ℕ
   pub inode : ℕ
   pub uid : Option ℕ

@@ -6,7 +6,9 @@ use Rattle.capture_tables.specs.Choice.{is_file}
 -- A capture that was listed: the name of the file, or None for standard input, and the exit status
 -- of the listing.
 pub record Listing : Type 0 where
+  -- the name of the file, or None for standard input
   pub name : Option (List ℕ)
+  -- the exit status of the listing
   pub status : ℕ
 
 -- a capture of this name that was listed with this status

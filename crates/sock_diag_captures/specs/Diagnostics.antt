@@ -144,7 +144,9 @@ end_line front packet message (Some fault) = message_line front packet message (
 -- the line about the bytes after the last message, if there are any.
 pub record DiagnosesMessages (front : List ℕ) (packet : ℕ) (datagram before after : List ℕ)
     : Type 0 where
+  -- the messages of the datagram, without the padding between them
   pub messages : List (List ℕ)
+  -- the error of the bytes after the last message, if there are any
   pub end : Option DecodeError
   pub cut : CutIntoMessages datagram messages end
   pub lines : after ≡ before ++ (lines_about front packet 1 messages

@@ -192,7 +192,9 @@ IsSockDiag packet = (16 ≤ length packet) × IsOfSockDiag packet
 -- and only if each message is plain and there is no such error.
 pub record Lists (o : Options) (asked : List Asked) (datagram before after : List ℕ)
     (is_clean : Bool) : Type 0 where
+  -- the messages of the datagram, without the padding between them
   pub messages : List (List ℕ)
+  -- the error of the bytes after the last message, if there are any
   pub end : Option DecodeError
   pub cut : CutIntoMessages datagram messages end
   pub lines : after ≡ before ++ flat_map (message_lines o asked) messages

@@ -16,7 +16,9 @@ use Rattle.sock_diag_captures.specs.declared.requests.Asked.{Asked}
 
 -- the lines of a packet, and whether it was listed without errors
 pub record ListedPacket : Type 0 where
+  -- the lines of the packet in the table
   pub lines : List ℕ
+  -- the packet was listed without errors
   pub whole : Bool
 
 -- the lines of a listed packet
@@ -54,17 +56,24 @@ ArePackets R bytes (packet ∷ later) =
 -- without errors.
 pub record IsTable (o : Options) (front bytes lines diagnostics : List ℕ) (is_whole : Bool)
     : Type 0 where
+  -- the byte order and the unit of timestamps in the file header
   pub file : FileHeader
+  -- the bytes of the file header
   pub header : List ℕ
+  -- the bytes of all packets with their packet headers
   pub records : List ℕ
+  -- the packets in `records`
   pub packets : List Recorded
+  -- the lines of each packet, and whether it was listed without errors
   pub listings : List ListedPacket
   pub parts : bytes ≡ header ++ records
   pub long : length header ≡ 24
   pub is_header : IsFileHeader header file
   pub are_packets : ArePackets (IsRecord file) records packets
+  -- no request precedes the first packet
   pub listed : AreListed o [] packets listings
   pub written : lines ≡ flat_map lines_of_packet listings
+  -- the first packet has the number 1
   pub diagnosed : AreDiagnosed front 1 packets diagnostics
   pub whole : IsTrue is_whole ↔ AllByRecursion IsWhole listings
 
@@ -78,14 +87,20 @@ module _ (o : Options) (left left' held held' : Option (List ℕ)) (heading fron
   -- bytes `more`. The heading and the lines of these packets were written, and their diagnostics
   -- reported.
   pub record Stands (file : FileHeader) (packets : ℕ) (more : List ℕ) : Type 0 where
+    -- the bytes of the file header and the packets
     pub bytes : List ℕ
+    -- the lines of the packets
     pub lines : List ℕ
+    -- the diagnostics of the packets
     pub diagnostics : List ℕ
     pub is_whole : Bool
     pub table : IsTable o front bytes lines diagnostics is_whole
     pub of_file : table.file ≡ file
+    -- the number of packets is `packets`
     pub counted : length table.packets ≡ packets
+    -- these bytes, and then `more`, were read
     pub read : Consumes left left' (bytes ++ more)
+    -- the heading and the lines were written
     pub appended : Appends held held' (heading ++ lines)
     pub reported : Reported diagnostics
 
@@ -122,11 +137,15 @@ module _ (o : Options) (left left' held held' : Option (List ℕ)) (heading fron
   -- its table was written, and its diagnostics were reported. `is_whole` is true if and only if
   -- each packet was listed without errors.
   pub record Finishes (is_whole : Bool) : Type 0 where
+    -- the bytes of the capture
     pub bytes : List ℕ
+    -- the lines of all packets
     pub lines : List ℕ
+    -- the diagnostics of all packets
     pub diagnostics : List ℕ
     pub table : IsTable o front bytes lines diagnostics is_whole
     pub read : Consumes left left' bytes
     pub ended : IsAtEnd left'
+    -- the heading and the lines were written
     pub appended : Appends held held' (heading ++ lines)
     pub reported : Reported diagnostics
