@@ -1,5 +1,6 @@
 #!/usr/bin/env python3
-"""Measures programs that answer lines: lines.py PROGRAM STORED [OTHER [FOLDER]], called by lines.sh."""
+"""Measures programs that answer lines: lines.py PROGRAM STORED [OTHER [FOLDER]], called by
+lines.sh."""
 import os
 import subprocess
 import sys
@@ -11,11 +12,13 @@ OUTPUTS = ("null", "file", "pipe")
 
 
 def requests(count):
-    return b"".join(b"unixreq 010000000204000034120000%02x000000ffffffffffffffff\n" % (i % 64) for i in range(count))
+    line = b"unixreq 010000000204000034120000%02x000000ffffffffffffffff\n"
+    return b"".join(line % (i % 64) for i in range(count))
 
 
 def inputs(stored):
-    """Yields the name and the bytes of each input: many lines, or one line of 100 million characters."""
+    """Yields the name and the bytes of each input: many lines, or one line of 100 million
+    characters."""
     lines = [line + b"\n" for line in open(stored, "rb").read().split(b"\n") if line]
     yield "unixreq, 10^4", requests(10**4)
     yield "unixreq, 10^5", requests(10**5)
@@ -50,7 +53,8 @@ def seconds(program, given, output, work):
 
 
 def peak(program, given):
-    """Returns the peak memory in KiB (`VmHWM`), which is read after all input was written and before it ends."""
+    """Returns the peak memory in KiB (`VmHWM`), which is read after all input was written and
+    before it ends."""
     run = subprocess.Popen([program], stdin=subprocess.PIPE, stdout=subprocess.DEVNULL)
     with open(given, "rb") as text:
         while piece := text.read(1 << 20):
@@ -67,8 +71,10 @@ def peak(program, given):
 def main(program, stored, other=None, folder=None):
     cases = list(inputs(stored))
     if folder:
-        cases += [(name, open(os.path.join(folder, name), "rb").read()) for name in sorted(os.listdir(folder))]
-    print(f"{'input':24} {'lines':>8} {'ns/line':>10} {'peak KiB':>9}  of longest" + ("   other's time: " + " ".join(OUTPUTS) if other else ""))
+        for name in sorted(os.listdir(folder)):
+            cases.append((name, open(os.path.join(folder, name), "rb").read()))
+    heading = f"{'input':24} {'lines':>8} {'ns/line':>10} {'peak KiB':>9}  of longest"
+    print(heading + ("   other's time: " + " ".join(OUTPUTS) if other else ""))
     with tempfile.TemporaryDirectory() as work:
         given = os.path.join(work, "in")
         for name, text in cases:
@@ -84,9 +90,12 @@ def main(program, stored, other=None, folder=None):
                     if other:
                         others[output].append(seconds(other, given, output, work))
             kib = peak(program, given)
-            line = f"{name:24} {count:8} {min(own['null']) / count * 1e9:10.0f} {kib:9}  {kib * 1024 / longest:9.2f}" if longest > 10**6 else f"{name:24} {count:8} {min(own['null']) / count * 1e9:10.0f} {kib:9}  {'-':>9}"
+            of_longest = f"{kib * 1024 / longest:9.2f}" if longest > 10**6 else f"{'-':>9}"
+            each = min(own["null"]) / count * 1e9
+            line = f"{name:24} {count:8} {each:10.0f} {kib:9}  {of_longest}"
             if other:
-                line += "   " + " ".join(f"{min(own[o]) / max(min(others[o]), 1e-9):.2f}" for o in OUTPUTS)
+                ratios = (min(own[o]) / max(min(others[o]), 1e-9) for o in OUTPUTS)
+                line += "   " + " ".join(f"{ratio:.2f}" for ratio in ratios)
             print(line, flush=True)
 
 

@@ -5,7 +5,8 @@
 set -eu
 cd "$(dirname "$0")/.."
 . bench/library.sh
-# The driver counts allocations: with --wrap the linker redirects the calls of these functions to it.
+# The driver counts allocations: with --wrap the linker redirects the calls of these functions to
+# it.
 cc -O2 -Wall -Wextra -Wl,--wrap=malloc,--wrap=calloc,--wrap=realloc -o "$made/replies" \
     bench/replies/driver.c "$library" "$kit_library"
 "$made/replies"

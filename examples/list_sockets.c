@@ -1,9 +1,10 @@
 /*
- * Lists the sockets of this machine: one line for each UNIX socket, and for each TCP, UDP and MPTCP socket over IPv4
- * and IPv6. If a port is given as the argument, lists only the TCP, UDP and MPTCP sockets with this local port.
+ * Lists the sockets of this machine: one line for each UNIX socket, and for each TCP, UDP and MPTCP
+ * socket over IPv4 and IPv6. If a port is given as the argument, lists only the TCP, UDP and MPTCP
+ * sockets with this local port.
  *
- * Each kind is requested from NETLINK_SOCK_DIAG by a dump request, as sock_diag(7) shows. Replies are parsed in the
- * buffer that recv(2) filled. The program is valid C99 and C++.
+ * Each kind is requested from NETLINK_SOCK_DIAG by a dump request, as sock_diag(7) shows. Replies
+ * are parsed in the buffer that recv(2) filled. The program is valid C99 and C++.
  */
 #include "sockdiag.h"
 
@@ -25,7 +26,8 @@
 #define WITH_INFO (1 << (2 - 1))
 #define WITH_CONGESTION (1 << (4 - 1))
 
-/* State of a dump. A dump ends with NLMSG_DONE. If it was interrupted or rejected, it ends with another NLMSG_ type. */
+/* State of a dump. A dump ends with NLMSG_DONE. If it was interrupted or rejected, it ends with
+ * another NLMSG_ type. */
 enum progress { GOES_ON, COMPLETE, FAILED };
 
 static int fail(const char *what) {
@@ -33,7 +35,8 @@ static int fail(const char *what) {
     return -1;
 }
 
-/* Prints a text. Bytes that are not printable are printed as dots, and an abstract name is printed after an @. */
+/* Prints a text. Bytes that are not printable are printed as dots, and an abstract name is printed
+ * after an @. */
 static void print_text(const struct sockdiag_text *text) {
     size_t place;
     if (text->kind == SOCKDIAG_ABSTRACT)
@@ -60,7 +63,8 @@ static uint32_t print_unix(const uint8_t *payload, size_t length) {
     print_number("peer", it.peer);
     print_number("received", it.recv_queue);
     print_number("sent", it.send_queue);
-    for (place = 0; sockdiag_unix_get_pending(payload, length, place, &pending) == SOCKDIAG_ITEM; place++)
+    for (place = 0; sockdiag_unix_get_pending(payload, length, place, &pending) == SOCKDIAG_ITEM;
+         place++)
         printf(" pending %u", pending);
     putchar('\n');
     return SOCKDIAG_OK;
@@ -78,8 +82,9 @@ static uint32_t print_inet(const char *protocol, const uint8_t *payload, size_t 
         return fault;
     inet_ntop(it.header.family, it.header.source_address, source, sizeof source);
     inet_ntop(it.header.family, it.header.destination_address, destination, sizeof destination);
-    printf("%s state %u %s %u %s %u uid %u inode %u ", protocol, it.header.state, source, it.header.source_port,
-           destination, it.header.destination_port, it.header.uid, it.header.inode);
+    printf("%s state %u %s %u %s %u uid %u inode %u ", protocol, it.header.state, source,
+           it.header.source_port, destination, it.header.destination_port, it.header.uid,
+           it.header.inode);
     print_text(&it.congestion);
     print_number("mark", it.mark);
     if (sockdiag_inet_get_tcp_info(payload, length, &info) != 0)
@@ -88,8 +93,8 @@ static uint32_t print_inet(const char *protocol, const uint8_t *payload, size_t 
     return SOCKDIAG_OK;
 }
 
-/* Returns the state that an NLMSG_ERROR or an NLMSG_DONE leads to, and prints its error. A kernel that lacks the
- * protocol sends ENOENT or EINVAL. */
+/* Returns the state that an NLMSG_ERROR or an NLMSG_DONE leads to, and prints its error. A kernel
+ * that lacks the protocol sends ENOENT or EINVAL. */
 static enum progress end(const char *protocol, const uint8_t *payload, size_t length) {
     int32_t number = 0;
     if (sockdiag_get_error_number(payload, length, &number) != SOCKDIAG_ITEM)
@@ -106,7 +111,8 @@ static enum progress print_datagram(const char *protocol, const uint8_t *datagra
     struct sockdiag_message message;
     uint32_t answer;
     memset(&message, 0, sizeof message);
-    while ((answer = sockdiag_next_envelope(datagram, length, &cursor, &message)) == SOCKDIAG_ITEM) {
+    while ((answer = sockdiag_next_envelope(datagram, length, &cursor, &message))
+           == SOCKDIAG_ITEM) {
         const uint8_t *payload = datagram + message.offset;
         uint32_t fault = SOCKDIAG_OK;
         if (message.message_type == NLMSG_DONE || message.message_type == NLMSG_ERROR)
@@ -120,7 +126,8 @@ static enum progress print_datagram(const char *protocol, const uint8_t *datagra
             fprintf(stderr, "%s: a reply is refused: %s\n", protocol, sockdiag_fault_text(fault));
     }
     if (answer != SOCKDIAG_END)
-        return fprintf(stderr, "%s: a datagram is refused: %s\n", protocol, sockdiag_fault_text(answer)), FAILED;
+        return fprintf(stderr, "%s: a datagram is refused: %s\n", protocol,
+                       sockdiag_fault_text(answer)), FAILED;
     return GOES_ON;
 }
 
@@ -133,7 +140,8 @@ static int list(int fd, const char *protocol, const uint8_t *request, size_t len
     struct sockaddr_nl kernel;
     memset(&kernel, 0, sizeof kernel);
     kernel.nl_family = AF_NETLINK;
-    if (sendto(fd, request, length, 0, (struct sockaddr *)&kernel, sizeof kernel) != (ssize_t)length)
+    if (sendto(fd, request, length, 0, (struct sockaddr *)&kernel, sizeof kernel)
+        != (ssize_t)length)
         return fail("sendto");
     for (;;) {
         enum progress progress;
@@ -166,8 +174,8 @@ struct port_filter {
     struct inet_diag_bc_op steps[4];
 };
 
-/* Returns the filter for a local port. An operation has the offset of the next operation if its test holds, and the
- * offset if not, which is past the end. */
+/* Returns the filter for a local port. An operation has the offset of the next operation if its
+ * test holds, and the offset if not, which is past the end. */
 static struct port_filter filter_of(uint16_t port) {
     const struct port_filter filter = {
         {sizeof(struct port_filter), INET_DIAG_REQ_BYTECODE},
@@ -177,7 +185,8 @@ static struct port_filter filter_of(uint16_t port) {
 }
 
 /* Lists the sockets of a protocol. If the port is not 0, lists only those with this local port. */
-static int list_inet(int fd, const char *name, uint32_t protocol, uint8_t extensions, uint16_t port) {
+static int list_inet(int fd, const char *name, uint32_t protocol, uint8_t extensions,
+                     uint16_t port) {
     static const uint8_t families[2] = {AF_INET, AF_INET6};
     const struct port_filter filter = filter_of(port);
     const size_t filter_length = port != 0 ? sizeof filter : 0;
@@ -194,8 +203,9 @@ static int list_inet(int fd, const char *name, uint32_t protocol, uint8_t extens
     for (place = 0; place < 2; place++) {
         size_t length;
         request.family = families[place];
-        length = sockdiag_write_inet_request_with_attributes(&request, (const uint8_t *)&filter, filter_length, bytes,
-                                                             sizeof bytes, &outcome);
+        length = sockdiag_write_inet_request_with_attributes(&request, (const uint8_t *)&filter,
+                                                             filter_length, bytes, sizeof bytes,
+                                                             &outcome);
         failed |= list(fd, name, bytes, length);
     }
     return failed;

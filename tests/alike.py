@@ -1,8 +1,9 @@
 #!/usr/bin/env python3
 """Fails, with status 1, if two files have more than MOST consecutive lines in common.
 
-Compares the code, specs, proofs, edits and scripts of the repository. Ignores blank lines and indentation. Lines that
-differ in a name are different lines. docs/DECISIONS.md lists the blocks that differ only in names.
+Compares the code, specs, proofs, edits and scripts of the repository. Ignores blank lines and
+indentation. Lines that differ in a name are different lines. docs/DECISIONS.md lists the blocks
+that differ only in names.
 """
 
 import sys

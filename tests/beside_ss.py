@@ -2,13 +2,16 @@
 """Compares the output of sslist with the output of ss(8) for the same netlink messages.
 
     tests/beside_ss.py                compares for each list of options in OPTIONS
-    tests/beside_ss.py OPTIONS ..     compares for these lists. A list is one argument, as in "-an --vsock"
+    tests/beside_ss.py OPTIONS ..     compares for these lists. A list is one argument, as in
+                                      "-an --vsock"
 
-The script creates sockets of many kinds. A library that is preloaded into ss records what ss sends and receives on
-AF_NETLINK as a capture, which sslist lists. sslist has to list each socket that ss shows, print the same value wherever
-both print one, and end with status 0. Differences are printed, and the exit status is 1 if there is one.
+The script creates sockets of many kinds. A library that is preloaded into ss records what ss sends
+and receives on AF_NETLINK as a capture, which sslist lists. sslist has to list each socket that ss
+shows, print the same value wherever both print one, and end with status 0. Differences are printed,
+and the exit status is 1 if there is one.
 
-It is not part of the gate. It needs gcc, iproute2 and the built sslist. As root it uses a new network namespace.
+It is not part of the gate. It needs gcc, iproute2 and the built sslist. As root it uses a new
+network namespace.
 """
 
 import ctypes
@@ -41,7 +44,8 @@ static void record(int fd, const struct iovec *parts, size_t count, ssize_t leng
     static int file = -1;
     int domain = 0, protocol = 0;
     socklen_t size = sizeof domain;
-    if (length <= 0 || getsockopt(fd, SOL_SOCKET, SO_DOMAIN, &domain, &size) || domain != AF_NETLINK)
+    if (length <= 0 || getsockopt(fd, SOL_SOCKET, SO_DOMAIN, &domain, &size)
+        || domain != AF_NETLINK)
         return;
     size = sizeof protocol;
     getsockopt(fd, SOL_SOCKET, SO_PROTOCOL, &protocol, &size);
@@ -90,7 +94,8 @@ INET, INET6, UNIX = socket.AF_INET, socket.AF_INET6, socket.AF_UNIX
 STREAM, DATAGRAM, PACKETS = socket.SOCK_STREAM, socket.SOCK_DGRAM, socket.SOCK_SEQPACKET
 MPTCP = 262
 NETLINK, PACKET = socket.AF_NETLINK, socket.AF_PACKET
-NETIDS = ["tcp", "udp", "mptcp", "u_str", "u_dgr", "u_seq", "nl", "p_raw", "p_dgr", "v_str", "v_dgr", "v_seq", "xdp"]
+NETIDS = ["tcp", "udp", "mptcp", "u_str", "u_dgr", "u_seq", "nl", "p_raw", "p_dgr", "v_str",
+    "v_dgr", "v_seq", "xdp"]
 # Names of values in sslist, if ss uses another name.
 OTHERWISE = {"bytes_sent": "sent", "bytes_received": "received"}
 # Values that ss prints in milliseconds with a fraction, and sslist in microseconds.
@@ -120,8 +125,8 @@ def pair(family, listener, protocol=0):
 
 
 def make_others():
-    """Returns packet and netlink sockets, which need root: among them one bound to an interface with PACKET_AUXDATA of
-    packet(7), one that is connected, and one in a multicast group."""
+    """Returns packet and netlink sockets, which need root: among them one bound to an interface
+    with PACKET_AUXDATA of packet(7), one that is connected, and one in a multicast group."""
     auxdata = [(263, 8, 1)]
     packets = [socket.socket(PACKET, socket.SOCK_RAW, socket.htons(3))]
     packets += [bound(PACKET, DATAGRAM, ("lo", 0x806), options=auxdata)]
@@ -134,7 +139,8 @@ def make_sockets(folder):
     """Returns sockets of many kinds and states. They stay open as long as they are referenced."""
     others = make_others() if os.geteuid() == 0 else []
     four = bound(INET, STREAM, ("127.0.0.1", 7001), 5)
-    six = bound(INET6, STREAM, ("::1", 7004), 9, options=[(socket.IPPROTO_IPV6, socket.IPV6_V6ONLY, 1)])
+    only_six = (socket.IPPROTO_IPV6, socket.IPV6_V6ONLY, 1)
+    six = bound(INET6, STREAM, ("::1", 7004), 9, options=[only_six])
     both = bound(INET6, STREAM, ("::", 7003), 9)
     named = bound(UNIX, STREAM, f"{folder}/stream", 5)
     packets = bound(UNIX, PACKETS, f"{folder}/packets", 7)
@@ -142,7 +148,8 @@ def make_sockets(folder):
     kept += [bound(INET, DATAGRAM, ("127.0.0.1", 8001)), bound(INET6, DATAGRAM, ("::", 8002))]
     kept += [bound(UNIX, STREAM, b"\0abstract", 8), bound(UNIX, DATAGRAM, f"{folder}/datagrams")]
     kept += [bound(UNIX, DATAGRAM, None), *socket.socketpair(), *socket.socketpair(UNIX, DATAGRAM)]
-    waiting, mapped, busy, half = pair(INET, four), socket.socket(), pair(INET6, six), pair(INET, four)
+    waiting, mapped = pair(INET, four), socket.socket()
+    busy, half = pair(INET6, six), pair(INET, four)
     mapped.connect(("127.0.0.1", 7003))
     waiting[0].sendall(b"x" * 1234)
     busy[1].setsockopt(socket.SOL_SOCKET, socket.SO_KEEPALIVE, 1)
@@ -180,14 +187,17 @@ def timer(milliseconds):
 
 
 def listed(capture):
-    """Returns the sockets that sslist lists, by key and in order, its standard error and its exit status."""
+    """Returns the sockets that sslist lists, by key and in order, its standard error and its exit
+    status."""
     run = subprocess.run([LISTER, capture], capture_output=True, check=False)
     sockets, last = {}, None
     for line in run.stdout.decode("ascii").splitlines()[1:]:
         if not line.startswith("\t"):
             netid, state, received, sent, inode, user, local, peer = line.split()
-            last = {"netid": netid, "state": state, "recv": received, "send": sent, "ino": inode, "uid": user, "words": []}
-            key = inode if netid in ("u_str", "u_dgr", "u_seq") else (re.sub(r"%\d+", "", local), peer)
+            last = {"netid": netid, "state": state, "recv": received, "send": sent, "ino": inode,
+                "uid": user, "words": []}
+            is_unix = netid in ("u_str", "u_dgr", "u_seq")
+            key = inode if is_unix else (re.sub(r"%\d+", "", local), peer)
             last["local"], last["peer"] = local, peer
             sockets.setdefault(key, []).append(last)
             continue
@@ -223,7 +233,8 @@ def shown(line):
 
 
 def values(words):
-    """Yields the name of each value that ss shows for a socket, and the value as sslist prints it. A flag has None."""
+    """Yields the name of each value that ss shows for a socket, and the value as sslist prints it.
+    A flag has None."""
     for word, following in zip(words, [*words[1:], ""]):
         name, colon, value = word.partition(":")
         if word in FLAGS:
@@ -248,7 +259,8 @@ def values(words):
         elif word.startswith("groups="):
             yield "groups", hex(int(word.removeprefix("groups="), 16))
         elif colon and re.fullmatch(r"0x[0-9a-f]+|\d+|[0-9a-f]+|\(\w+(,\w+)*\)", value):
-            yield OTHERWISE.get(name, name), int(value) if value.isdigit() and name != "sk" else value
+            is_number = value.isdigit() and name != "sk"
+            yield OTHERWISE.get(name, name), int(value) if is_number else value
 
 
 def differs(socket_, name, value):
@@ -271,8 +283,8 @@ def differs(socket_, name, value):
 
 
 def compare(option, folder, recorder):
-    """Compares both programs for a list of options, and prints the differences. Returns 0 if there is none and sslist
-    ended with status 0."""
+    """Compares both programs for a list of options, and prints the differences. Returns 0 if there
+    is none and sslist ended with status 0."""
     capture = f"{folder}/capture{option.replace(' ', '')}"
     environment = os.environ | {"LD_PRELOAD": recorder, "CAPTURE": capture}
     ss = ["ss", *option.split(), "-OH"]
@@ -296,8 +308,10 @@ def compare(option, folder, recorder):
             if result:
                 wrong += 1
                 print(f"{option}: {name} of {key} is {value}, sslist prints {ours.get(name)}")
-    print(f"{option}: {found} sockets, {compared} values compared, {wrong} differ, {missing} sockets missing,"
-          f" status {status}, not compared: {' '.join(sorted(uncompared)) or 'nothing'}", *errors.splitlines(), sep="\n  ")
+    print(f"{option}: {found} sockets, {compared} values compared, {wrong} differ,"
+          f" {missing} sockets missing, status {status},"
+          f" not compared: {' '.join(sorted(uncompared)) or 'nothing'}",
+          *errors.splitlines(), sep="\n  ")
     return wrong + missing + status
 
 
@@ -308,7 +322,8 @@ def main():
         subprocess.run(["ip", "link", "set", "lo", "up"], check=True)
     with tempfile.TemporaryDirectory() as folder:
         recorder = f"{folder}/recorder.so"
-        subprocess.run(["gcc", "-shared", "-fPIC", "-x", "c", "-", "-o", recorder], input=RECORDER.encode(), check=True)
+        words = ["gcc", "-shared", "-fPIC", "-x", "c", "-", "-o", recorder]
+        subprocess.run(words, input=RECORDER.encode(), check=True)
         kept = make_sockets(folder)
         wrong = sum(compare(option, folder, recorder) for option in sys.argv[1:] or OPTIONS)
         del kept

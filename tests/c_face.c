@@ -1,7 +1,8 @@
 /*
- * Calls the functions of include/sockdiag.h, except sockdiag_next_envelope, with input that they accept, and most of
- * them also with input that they reject. The bytes are worked out by hand from the layouts of sock_diag(7), netlink(7)
- * and the kernel's headers, or were sent by Linux. tests/c_face.sh builds and runs this program.
+ * Calls the functions of include/sockdiag.h, except sockdiag_next_envelope, with input that they
+ * accept, and most of them also with input that they reject. The bytes are worked out by hand from
+ * the layouts of sock_diag(7), netlink(7) and the kernel's headers, or were sent by Linux.
+ * tests/c_face.sh builds and runs this program.
  */
 #include "sockdiag.h"
 
@@ -17,9 +18,9 @@ static void check(int holds, const char *what) {
     }
 }
 
-/* A reply about a UNIX socket: type 1, state 10, inode 0x11223344, a pathname "/a" with its NUL and one byte of
- * padding, a peer, and an attribute of type 0x63 without a value. The padding and the byte at offset 3, which no
- * parser reads, are not zero. */
+/* A reply about a UNIX socket: type 1, state 10, inode 0x11223344, a pathname "/a" with its NUL
+ * and one byte of padding, a peer, and an attribute of type 0x63 without a value. The padding
+ * and the byte at offset 3, which no parser reads, are not zero. */
 static const uint8_t unix_reply[36] = {
     1, 1, 10, 0xee, 0x44, 0x33, 0x22, 0x11, 1, 2, 3, 4, 5, 6, 7, 8,
     7, 0, 0, 0, '/', 'a', 0, 0xff,
@@ -27,8 +28,9 @@ static const uint8_t unix_reply[36] = {
     4, 0, 0x63, 0,
 };
 
-/* The header of a reply about an IPv4 socket: state 1, timer 1 with 3 retransmissions and 200 milliseconds, from
- * 127.0.0.1 port 80 to 10.0.0.2 port 49152. Each address is followed by bytes that no parser reads. */
+/* The header of a reply about an IPv4 socket: state 1, timer 1 with 3 retransmissions and 200
+ * milliseconds, from 127.0.0.1 port 80 to 10.0.0.2 port 49152. Each address is followed by bytes
+ * that no parser reads. */
 static const uint8_t inet_reply[72] = {
     2, 1, 1, 3, 0, 80, 0xc0, 0,
     127, 0, 0, 1, 9, 9, 9, 9, 9, 9, 9, 9, 9, 9, 9, 9,
@@ -42,9 +44,12 @@ static void checks_unix(void) {
     struct sockdiag_unix_header header, before;
     memset(&header, 0xaa, sizeof header);
     before = header;
-    check(sockdiag_check_unix_reply(unix_reply, 15, &header) == SOCKDIAG_BUFFER_TOO_SMALL, "a cut header");
-    check(sockdiag_check_unix_reply(unix_reply, 22, &header) == SOCKDIAG_ATTRIBUTE_LENGTH_PAST, "a cut attribute");
-    check(sockdiag_check_unix_reply(unix_reply, 34, &header) == SOCKDIAG_ATTRIBUTE_HEADER_CUT, "a cut attribute's header");
+    check(sockdiag_check_unix_reply(unix_reply, 15, &header) == SOCKDIAG_BUFFER_TOO_SMALL,
+          "a cut header");
+    check(sockdiag_check_unix_reply(unix_reply, 22, &header) == SOCKDIAG_ATTRIBUTE_LENGTH_PAST,
+          "a cut attribute");
+    check(sockdiag_check_unix_reply(unix_reply, 34, &header) == SOCKDIAG_ATTRIBUTE_HEADER_CUT,
+          "a cut attribute's header");
     check(memcmp(&header, &before, sizeof header) == 0, "a header is told of a refused reply");
     check(sockdiag_check_unix_reply(unix_reply, sizeof unix_reply, &header) == 0, "a UNIX reply");
     check(header.kind == 1 && header.state == 10 && header.inode == 0x11223344, "a UNIX header");
@@ -56,17 +61,20 @@ static void checks_inet(void) {
     struct sockdiag_inet_header header;
     uint8_t other[72];
     memset(&header, 0, sizeof header);
-    check(sockdiag_check_inet_reply(inet_reply, 71, &header) == SOCKDIAG_BUFFER_TOO_SMALL, "a cut internet header");
+    check(sockdiag_check_inet_reply(inet_reply, 71, &header) == SOCKDIAG_BUFFER_TOO_SMALL,
+          "a cut internet header");
     memcpy(other, inet_reply, sizeof other);
     other[0] = 3;
-    check(sockdiag_check_inet_reply(other, 72, &header) == SOCKDIAG_UNSUPPORTED_FAMILY, "another family");
+    check(sockdiag_check_inet_reply(other, 72, &header) == SOCKDIAG_UNSUPPORTED_FAMILY,
+          "another family");
     check(sockdiag_check_inet_reply(inet_reply, 72, &header) == 0, "an internet reply");
     check(header.family == 2 && header.state == 1, "family and state");
     check(header.timer == 1 && header.retransmits == 3 && header.expires == 200, "timer");
     check(header.source_port == 80 && header.destination_port == 49152, "ports");
     check(memcmp(header.source_address, source, 16) == 0, "source address");
     check(memcmp(header.destination_address, destination, 16) == 0, "destination address");
-    check(header.interface_id == 4 && header.cookie[0] == 8 && header.cookie[7] == 1, "interface and cookie");
+    check(header.interface_id == 4 && header.cookie[0] == 8 && header.cookie[7] == 1,
+          "interface and cookie");
     check(header.recv_queue == 1 && header.send_queue == 2, "queues");
     check(header.uid == 1000 && header.inode == 12345, "user and inode");
 }
@@ -75,14 +83,19 @@ static void checks_messages(void) {
     static const uint8_t packet[2] = {17, 0};
     struct sockdiag_reply reply;
     memset(&reply, 0, sizeof reply);
-    check(sockdiag_check_message(unix_reply, 1, 20, &reply) == SOCKDIAG_MESSAGE_TOO_SHORT, "a short payload");
-    check(sockdiag_check_message(unix_reply, 36, 21, &reply) == SOCKDIAG_UNKNOWN_MESSAGE_TYPE, "another type");
-    check(sockdiag_check_message(packet, 2, 20, &reply) == SOCKDIAG_UNKNOWN_FAMILY, "a packet socket");
+    check(sockdiag_check_message(unix_reply, 1, 20, &reply) == SOCKDIAG_MESSAGE_TOO_SHORT,
+          "a short payload");
+    check(sockdiag_check_message(unix_reply, 36, 21, &reply) == SOCKDIAG_UNKNOWN_MESSAGE_TYPE,
+          "another type");
+    check(sockdiag_check_message(packet, 2, 20, &reply) == SOCKDIAG_UNKNOWN_FAMILY,
+          "a packet socket");
     check(reply.kind == 0, "a reply is told of a refused message");
     check(sockdiag_check_message(unix_reply, 36, 20, &reply) == 0, "a message");
-    check(reply.kind == SOCKDIAG_UNIX && reply.unix_header.inode == 0x11223344, "a message about a UNIX socket");
+    check(reply.kind == SOCKDIAG_UNIX && reply.unix_header.inode == 0x11223344,
+          "a message about a UNIX socket");
     check(sockdiag_check_message(inet_reply, 72, 20, &reply) == 0, "an internet message");
-    check(reply.kind == SOCKDIAG_INET && reply.inet_header.inode == 12345, "a message about an internet socket");
+    check(reply.kind == SOCKDIAG_INET && reply.inet_header.inode == 12345,
+          "a message about an internet socket");
     check(reply.unix_header.inode == 0x11223344, "the other header changes");
 }
 
@@ -100,16 +113,19 @@ static int is(struct sockdiag_number number, uint32_t value) {
 }
 
 static void tells_unix_details(void) {
-    static const char memory[36] = {0, 0, 0, 0, 9, 0, 0, 0, 0, 0, 0, 0, 10, 0, 0, 0, 0, 0, 0, 0, 11};
+    static const char memory[36] = {0, 0, 0, 0, 9, 0, 0, 0, 0, 0, 0,
+                                    0, 10, 0, 0, 0, 0, 0, 0, 0, 11};
     uint8_t bytes[256];
     struct sockdiag_unix_details details, none;
     uint32_t inode = 5;
     size_t end;
     memset(&details, 0, sizeof details);
-    check(sockdiag_unix_get_details(unix_reply, sizeof unix_reply, &details) == SOCKDIAG_OK, "details of a UNIX reply");
+    check(sockdiag_unix_get_details(unix_reply, sizeof unix_reply, &details) == SOCKDIAG_OK,
+          "details of a UNIX reply");
     check(details.header.kind == 1 && details.header.inode == 0x11223344, "a header in details");
     check(details.name.kind == SOCKDIAG_TEXT && details.name.length == 2, "a pathname");
-    check(details.name.bytes == unix_reply + 20 && is(details.peer, 0x12345678), "a pathname's place, and a peer");
+    check(details.name.bytes == unix_reply + 20 && is(details.peer, 0x12345678),
+          "a pathname's place, and a peer");
     check(details.shutdown.is_told == 0 && details.shutdown.value == 0, "a number that isn't told");
     memcpy(bytes, unix_reply, 16);
     end = put(bytes, 16, 0, "\0a\0b", 4);
@@ -120,19 +136,28 @@ static void tells_unix_details(void) {
     end = put(bytes, end, 5, memory, 36);
     end = put(bytes, end, 6, "\10", 1);
     end = put(bytes, end, 2, "\14\0\0\0", 4);
-    check(sockdiag_unix_get_details(bytes, end, &details) == SOCKDIAG_OK, "all details of a UNIX reply");
+    check(sockdiag_unix_get_details(bytes, end, &details) == SOCKDIAG_OK,
+          "all details of a UNIX reply");
     check(details.name.kind == SOCKDIAG_ABSTRACT && details.name.length == 3, "an abstract name");
     check(memcmp(details.name.bytes, "a\0b", 3) == 0, "an abstract name's bytes");
-    check(is(details.file_inode, 1) && is(details.file_device, 2) && is(details.peer, 3), "file and first peer");
-    check(is(details.recv_queue, 6) && is(details.send_queue, 7) && is(details.shutdown, 8), "queues and shutdown");
-    check(is(details.receive_buffer, 9) && is(details.send_buffer, 10) && is(details.queued, 11), "memory");
-    check(sockdiag_unix_get_pending(bytes, end, 2, &inode) == SOCKDIAG_END && inode == 5, "no third connection");
-    check(sockdiag_unix_get_pending(bytes, end, 1, &inode) == SOCKDIAG_ITEM && inode == 261, "a pending connection");
-    check(sockdiag_unix_get_pending(bytes, 15, 0, &inode) == SOCKDIAG_END, "a refused reply's connections");
+    check(is(details.file_inode, 1) && is(details.file_device, 2) && is(details.peer, 3),
+          "file and first peer");
+    check(is(details.recv_queue, 6) && is(details.send_queue, 7) && is(details.shutdown, 8),
+          "queues and shutdown");
+    check(is(details.receive_buffer, 9) && is(details.send_buffer, 10) && is(details.queued, 11),
+          "memory");
+    check(sockdiag_unix_get_pending(bytes, end, 2, &inode) == SOCKDIAG_END && inode == 5,
+          "no third connection");
+    check(sockdiag_unix_get_pending(bytes, end, 1, &inode) == SOCKDIAG_ITEM && inode == 261,
+          "a pending connection");
+    check(sockdiag_unix_get_pending(bytes, 15, 0, &inode) == SOCKDIAG_END,
+          "a refused reply's connections");
     none = details;
-    check(sockdiag_unix_get_details(bytes, 22, &details) == SOCKDIAG_ATTRIBUTE_LENGTH_PAST, "details of a cut reply");
+    check(sockdiag_unix_get_details(bytes, 22, &details) == SOCKDIAG_ATTRIBUTE_LENGTH_PAST,
+          "details of a cut reply");
     check(memcmp(&none, &details, sizeof none) == 0, "details are told of a refused reply");
-    check(sockdiag_unix_get_details(NULL, 0, &details) == SOCKDIAG_BUFFER_TOO_SMALL, "no bytes at a null pointer");
+    check(sockdiag_unix_get_details(NULL, 0, &details) == SOCKDIAG_BUFFER_TOO_SMALL,
+          "no bytes at a null pointer");
 }
 
 static void tells_inet_details(void) {
@@ -151,28 +176,39 @@ static void tells_inet_details(void) {
     end = put(bytes, end, 11, "\5", 1);
     end = put(bytes, end, 15, "\6\0\0\0", 4);
     end = put(bytes, end, 17, "\7\0\0\0", 4);
-    check(sockdiag_inet_get_details(bytes, end, &details) == SOCKDIAG_OK, "details of an internet reply");
-    check(details.header.inode == 12345 && details.congestion.kind == SOCKDIAG_TEXT, "header and algorithm");
-    check(details.congestion.length == 5 && memcmp(details.congestion.bytes, "cubic", 5) == 0, "cubic");
-    check(is(details.tos, 1) && is(details.tclass, 2) && is(details.shutdown, 3), "service, class and shutdown");
+    check(sockdiag_inet_get_details(bytes, end, &details) == SOCKDIAG_OK,
+          "details of an internet reply");
+    check(details.header.inode == 12345 && details.congestion.kind == SOCKDIAG_TEXT,
+          "header and algorithm");
+    check(details.congestion.length == 5 && memcmp(details.congestion.bytes, "cubic", 5) == 0,
+          "cubic");
+    check(is(details.tos, 1) && is(details.tclass, 2) && is(details.shutdown, 3),
+          "service, class and shutdown");
     check(is(details.protocol, 4) && is(details.v6only, 1), "protocol and IPv6 alone");
     check(is(details.mark, 6) && is(details.class_id, 7), "mark and class");
-    check(sockdiag_inet_get_tcp_info(bytes, end, &info) == 0 && info.state == 0, "no TCP connection");
+    check(sockdiag_inet_get_tcp_info(bytes, end, &info) == 0 && info.state == 0,
+          "no TCP connection");
     for (place = 0; place < sizeof value; place++)
         value[place] = (uint8_t)place;
     end = put(bytes, end, 2, (const char *)value, sizeof value);
     check(sockdiag_inet_get_details(bytes, end, &details) == SOCKDIAG_OK, "a TCP connection");
-    check(sockdiag_inet_get_tcp_info(bytes, end, &info) == 240 && memcmp(&info, value, sizeof info) == 0, "its bytes");
-    check(info.rtt == 0x47464544 && info.pacing_rate == 0x6f6e6d6c6b6a6968 && info.snd_wnd == 0xe7e6e5e4, "its fields");
+    check(sockdiag_inet_get_tcp_info(bytes, end, &info) == 240 &&
+          memcmp(&info, value, sizeof info) == 0, "its bytes");
+    check(info.rtt == 0x47464544 && info.pacing_rate == 0x6f6e6d6c6b6a6968 &&
+          info.snd_wnd == 0xe7e6e5e4, "its fields");
     check(sockdiag_inet_get_memory(bytes, end, &memory) == 0 && memory.drops == 0, "no memory");
     end = put(bytes, end, 7, (const char *)value, 32);
     check(sockdiag_inet_get_memory(bytes, end, &memory) == 32, "memory");
-    check(memory.receive_queue == 0x03020100 && memory.backlog_queue_length == 0x1f1e1d1c, "its words");
+    check(memory.receive_queue == 0x03020100 && memory.backlog_queue_length == 0x1f1e1d1c,
+          "its words");
     check(memory.drops == 0, "a word that isn't told");
     put(bytes, 72, 2, (const char *)value, 5);
-    check(sockdiag_inet_get_details(bytes, 84, &details) == SOCKDIAG_BUFFER_TOO_SMALL, "a short TCP connection");
-    check(sockdiag_inet_get_tcp_info(bytes, 84, &info) == 5 && info.backoff == 4 && info.rto == 0, "its five bytes");
-    check(sockdiag_inet_get_tcp_info(NULL, 0, &info) == 0 && info.backoff == 0, "nothing at a null pointer");
+    check(sockdiag_inet_get_details(bytes, 84, &details) == SOCKDIAG_BUFFER_TOO_SMALL,
+          "a short TCP connection");
+    check(sockdiag_inet_get_tcp_info(bytes, 84, &info) == 5 && info.backoff == 4 && info.rto == 0,
+          "its five bytes");
+    check(sockdiag_inet_get_tcp_info(NULL, 0, &info) == 0 && info.backoff == 0,
+          "nothing at a null pointer");
 }
 
 /* Converts hexadecimal digits to bytes, and returns how many bytes there are. */
@@ -196,22 +232,31 @@ static void tells_netlink_details(void) {
         bytes);
     memset(&details, 0xaa, sizeof details);
     check(sockdiag_netlink_get_details(bytes, end, &details) == SOCKDIAG_OK, "a netlink reply");
-    check(details.header.kind == 3 && details.header.protocol == 0 && details.header.state == 7, "a netlink header");
-    check(details.header.port == 6250 && details.header.inode == 87039 && details.header.cookie == 4097, "its numbers");
+    check(details.header.kind == 3 && details.header.protocol == 0 && details.header.state == 7,
+          "a netlink header");
+    check(details.header.port == 6250 && details.header.inode == 87039 &&
+          details.header.cookie == 4097, "its numbers");
     check(details.groups.kind == SOCKDIAG_BYTES && details.groups.length == 8, "groups");
-    check(details.groups.bytes == bytes + 32 && is(details.flags, 32), "where they stand, and flags");
-    check(is(details.memory.receive_queue_max, 212992) && is(details.memory.drops, 0), "memory of a netlink socket");
+    check(details.groups.bytes == bytes + 32 && is(details.flags, 32),
+          "where they stand, and flags");
+    check(is(details.memory.receive_queue_max, 212992) && is(details.memory.drops, 0),
+          "memory of a netlink socket");
     before = details;
-    check(sockdiag_netlink_get_details(bytes, 27, &details) == SOCKDIAG_BUFFER_TOO_SMALL, "a cut netlink header");
+    check(sockdiag_netlink_get_details(bytes, 27, &details) == SOCKDIAG_BUFFER_TOO_SMALL,
+          "a cut netlink header");
     bytes[end - 8] = 7;
-    check(sockdiag_netlink_get_details(bytes, end, &details) == SOCKDIAG_WRONG_LENGTH, "flags of three bytes");
-    check(memcmp(&details, &before, sizeof before) == 0, "details are told of a refused netlink reply");
-    check(sockdiag_netlink_get_details(bytes, 28, &details) == SOCKDIAG_OK && !details.flags.is_told, "no flags");
-    check(details.groups.kind == 0 && details.memory.options.is_told == 0, "neither groups nor memory");
+    check(sockdiag_netlink_get_details(bytes, end, &details) == SOCKDIAG_WRONG_LENGTH,
+          "flags of three bytes");
+    check(memcmp(&details, &before, sizeof before) == 0,
+          "details are told of a refused netlink reply");
+    check(sockdiag_netlink_get_details(bytes, 28, &details) == SOCKDIAG_OK &&
+          !details.flags.is_told, "no flags");
+    check(details.groups.kind == 0 && details.memory.options.is_told == 0,
+          "neither groups nor memory");
 }
 
-/* A reply that it sent about a socket for IPv4 packets of the loopback interface, with a ring, a filter and a
- * fanout. */
+/* A reply that it sent about a socket for IPv4 packets of the loopback interface, with a ring, a
+ * filter and a fanout. */
 static void tells_packet_details(void) {
     uint8_t bytes[256];
     struct sockdiag_packet_details details;
@@ -226,20 +271,24 @@ static void tells_packet_details(void) {
     check(sockdiag_packet_get_details(bytes, end, &details) == SOCKDIAG_OK, "a packet reply");
     check(details.header.kind == 3 && details.header.protocol == 0x800, "a packet header");
     check(details.header.inode == 87040 && details.header.cookie == 4099, "its numbers");
-    check(details.has_info == 1 && details.info.interface == 1 && details.info.flags == 1, "what it is set to");
+    check(details.has_info == 1 && details.info.interface == 1 && details.info.flags == 1,
+          "what it is set to");
     check(details.addresses.length == 44 && details.addresses.bytes[17] == 0xfb, "addresses");
     check(details.has_receive_ring == 1 && details.receive_ring.block_size == 4096, "a ring");
-    check(details.receive_ring.blocks == 2 && details.receive_ring.frames == 4, "its blocks and frames");
+    check(details.receive_ring.blocks == 2 && details.receive_ring.frames == 4,
+          "its blocks and frames");
     check(details.has_send_ring == 0 && details.send_ring.frames == 9, "a ring that isn't told");
-    check(is(details.owner, 0) && is(details.fanout, 7) && is(details.memory.options, 136), "owner, fanout and memory");
+    check(is(details.owner, 0) && is(details.fanout, 7) && is(details.memory.options, 136),
+          "owner, fanout and memory");
     check(details.filter.kind == SOCKDIAG_BYTES && details.filter.length == 8, "a filter");
     check(memcmp(details.filter.bytes, "\6\0\0\0\377\377\0", 8) == 0, "its step");
     bytes[16] = 23;
-    check(sockdiag_packet_get_details(bytes, 40, &details) == SOCKDIAG_BUFFER_TOO_SMALL, "a record of 19 bytes");
+    check(sockdiag_packet_get_details(bytes, 40, &details) == SOCKDIAG_BUFFER_TOO_SMALL,
+          "a record of 19 bytes");
 }
 
-/* A reply about a listening socket of the host at port 22, and one about a socket at queue 1 of interface 3, with
- * rings, memory and counters. */
+/* A reply about a listening socket of the host at port 22, and one about a socket at queue 1 of
+ * interface 3, with rings, memory and counters. */
 static void tells_vsock_and_xdp_details(void) {
     uint8_t bytes[256];
     struct sockdiag_vsock_header vsock;
@@ -247,10 +296,12 @@ static void tells_vsock_and_xdp_details(void) {
     size_t end = unhex("28010a000200000016000000ffffffffffffffff0a5000000500000000000000", bytes);
     memset(&vsock, 0, sizeof vsock);
     memset(&details, 0, sizeof details);
-    check(sockdiag_vsock_get_details(bytes, end - 1, &vsock) == SOCKDIAG_BUFFER_TOO_SMALL, "a cut vsock header");
+    check(sockdiag_vsock_get_details(bytes, end - 1, &vsock) == SOCKDIAG_BUFFER_TOO_SMALL,
+          "a cut vsock header");
     check(sockdiag_vsock_get_details(bytes, end, &vsock) == SOCKDIAG_OK, "a vsock reply");
     check(vsock.kind == 1 && vsock.state == 10 && vsock.shutdown == 0, "a vsock header");
-    check(vsock.source_context == 2 && vsock.source_port == 22 && vsock.destination_port == UINT32_MAX, "its ends");
+    check(vsock.source_context == 2 && vsock.source_port == 22 &&
+          vsock.destination_port == UINT32_MAX, "its ends");
     check(vsock.inode == 20490 && vsock.cookie == 5, "its inode and cookie");
     end = unhex(
         "2c0300000b00000006000000000000000c000100030000000100000008000200e803000008000300000800002c000500"
@@ -259,23 +310,33 @@ static void tells_vsock_and_xdp_details(void) {
         "00000000",
         bytes);
     check(sockdiag_xdp_get_details(bytes, end, &details) == SOCKDIAG_OK, "an XDP reply");
-    check(details.header.kind == 3 && details.header.inode == 11 && details.header.cookie == 6, "an XDP header");
-    check(details.has_info == 1 && details.info.interface == 3 && details.info.queue == 1, "where it is bound");
-    check(is(details.owner, 1000) && is(details.receive_ring, 2048) && !details.send_ring.is_told, "owner and rings");
-    check(details.has_umem == 1 && details.umem.size == 4194304 && details.umem.references == 1, "its shared memory");
-    check(is(details.fill_ring, 4096) && !details.completion_ring.is_told && !details.memory.cache.is_told, "its rings");
-    check(details.has_statistics == 1 && details.statistics.received_dropped == 1, "what it counted");
-    check(details.statistics.fill_ring_empty == 4 && details.statistics.send_ring_empty == 6, "its counts");
+    check(details.header.kind == 3 && details.header.inode == 11 && details.header.cookie == 6,
+          "an XDP header");
+    check(details.has_info == 1 && details.info.interface == 3 && details.info.queue == 1,
+          "where it is bound");
+    check(is(details.owner, 1000) && is(details.receive_ring, 2048) && !details.send_ring.is_told,
+          "owner and rings");
+    check(details.has_umem == 1 && details.umem.size == 4194304 && details.umem.references == 1,
+          "its shared memory");
+    check(is(details.fill_ring, 4096) && !details.completion_ring.is_told &&
+          !details.memory.cache.is_told, "its rings");
+    check(details.has_statistics == 1 && details.statistics.received_dropped == 1,
+          "what it counted");
+    check(details.statistics.fill_ring_empty == 4 && details.statistics.send_ring_empty == 6,
+          "its counts");
 }
 
 static void tells_numbers_in_words(void) {
     static const uint8_t refused[5] = {0xfe, 0xff, 0xff, 0xff, 9};
     int32_t number = 7;
     uint32_t fault;
-    check(sockdiag_get_error_number(refused, 3, &number) == SOCKDIAG_END && number == 7, "no errno");
-    check(sockdiag_get_error_number(refused, 5, &number) == SOCKDIAG_ITEM && number == -2, "ENOENT");
+    check(sockdiag_get_error_number(refused, 3, &number) == SOCKDIAG_END && number == 7,
+          "no errno");
+    check(sockdiag_get_error_number(refused, 5, &number) == SOCKDIAG_ITEM && number == -2,
+          "ENOENT");
     for (fault = SOCKDIAG_BUFFER_TOO_SMALL; fault <= SOCKDIAG_ENVELOPE_LENGTH_PAST; fault++)
-        check(strcmp(sockdiag_fault_text(fault), sockdiag_fault_text(fault + 1)) != 0, "a fault in words");
+        check(strcmp(sockdiag_fault_text(fault), sockdiag_fault_text(fault + 1)) != 0,
+              "a fault in words");
     check(strcmp(sockdiag_fault_text(19), "an unknown fault") == 0, "an unknown fault");
 }
 
@@ -283,22 +344,31 @@ static void walks_attributes(void) {
     struct sockdiag_cursor cursor = {SOCKDIAG_UNIX_ATTRIBUTES};
     struct sockdiag_attribute attribute = {0, 0, 0};
     check(sockdiag_next_attribute(unix_reply, 36, &cursor, &attribute) == 1, "the first attribute");
-    check(attribute.type_word == 0 && attribute.offset == 20 && attribute.length == 3 && cursor.place == 24, "a name");
-    check(sockdiag_next_attribute(unix_reply, 36, &cursor, &attribute) == 1, "the second attribute");
-    check(attribute.type_word == 2 && attribute.offset == 28 && attribute.length == 4 && cursor.place == 32, "a peer");
+    check(attribute.type_word == 0 && attribute.offset == 20 && attribute.length == 3 &&
+          cursor.place == 24, "a name");
+    check(sockdiag_next_attribute(unix_reply, 36, &cursor, &attribute) == 1,
+          "the second attribute");
+    check(attribute.type_word == 2 && attribute.offset == 28 && attribute.length == 4 &&
+          cursor.place == 32, "a peer");
     check(sockdiag_next_attribute(unix_reply, 36, &cursor, &attribute) == 1, "the third attribute");
-    check(attribute.type_word == 0x63 && attribute.length == 0 && cursor.place == 36, "an attribute without value");
-    check(sockdiag_next_attribute(unix_reply, 36, &cursor, &attribute) == 0, "the end of the attributes");
+    check(attribute.type_word == 0x63 && attribute.length == 0 && cursor.place == 36,
+          "an attribute without value");
+    check(sockdiag_next_attribute(unix_reply, 36, &cursor, &attribute) == 0,
+          "the end of the attributes");
     cursor.place = SIZE_MAX;
-    check(sockdiag_next_attribute(unix_reply, 36, &cursor, &attribute) == 0, "a place behind the end");
+    check(sockdiag_next_attribute(unix_reply, 36, &cursor, &attribute) == 0,
+          "a place behind the end");
     cursor.place = 24;
-    check(sockdiag_next_attribute(unix_reply, 31, &cursor, &attribute) == SOCKDIAG_ATTRIBUTE_LENGTH_PAST, "a cut value");
+    check(sockdiag_next_attribute(unix_reply, 31, &cursor, &attribute)
+              == SOCKDIAG_ATTRIBUTE_LENGTH_PAST,
+          "a cut value");
     check(attribute.type_word == 0x63, "an attribute is told at a fault");
-    check(sockdiag_next_attribute(unix_reply, 31, &cursor, &attribute) == 0, "a walk goes on behind a fault");
+    check(sockdiag_next_attribute(unix_reply, 31, &cursor, &attribute) == 0,
+          "a walk goes on behind a fault");
 }
 
-/* Writes four messages and two more bytes: a reply, an NLMSG_NOOP, a message whose payload is rejected, and the end
- * of a dump. */
+/* Writes four messages and two more bytes: a reply, an NLMSG_NOOP, a message whose payload is
+ * rejected, and the end of a dump. */
 static size_t make_datagram(uint8_t *bytes) {
     static const uint8_t headers[4][16] = {
         {52, 0, 0, 0, 20, 0, 2, 0, 7, 0, 0, 0, 9, 0, 0, 0},
@@ -322,18 +392,25 @@ static void walks_messages(void) {
     struct sockdiag_message message;
     memset(&message, 0, sizeof message);
     check(sockdiag_next_message(bytes, length, &cursor, &message) == 1, "a reply in a datagram");
-    check(message.message_type == 20 && message.offset == 16 && message.length == 36, "where a payload stands");
-    check(message.flags == 2 && message.sequence_number == 7 && message.port_number == 9, "what a header tells");
+    check(message.message_type == 20 && message.offset == 16 && message.length == 36,
+          "where a payload stands");
+    check(message.flags == 2 && message.sequence_number == 7 && message.port_number == 9,
+          "what a header tells");
     check(sockdiag_next_message(bytes, length, &cursor, &message) == 1, "a message of nothing");
     check(message.message_type == 1 && message.offset == 68 && message.length == 1, "nothing");
-    check(sockdiag_next_message(bytes, length, &cursor, &message) == SOCKDIAG_UNKNOWN_FAMILY, "a payload that is refused");
-    check(message.message_type == 20 && message.offset == 88 && message.length == 2, "a refused payload's place");
+    check(sockdiag_next_message(bytes, length, &cursor, &message) == SOCKDIAG_UNKNOWN_FAMILY,
+          "a payload that is refused");
+    check(message.message_type == 20 && message.offset == 88 && message.length == 2,
+          "a refused payload's place");
     check(sockdiag_next_message(bytes, length, &cursor, &message) == 1, "the end of a dump");
-    check(message.message_type == 3 && message.offset == 108 && message.length == 4, "the end's payload");
+    check(message.message_type == 3 && message.offset == 108 && message.length == 4,
+          "the end's payload");
     check(cursor.place == 112, "the place behind the end of the dump");
-    check(sockdiag_next_message(bytes, length, &cursor, &message) == SOCKDIAG_ENVELOPE_CUT, "two bytes that are left");
+    check(sockdiag_next_message(bytes, length, &cursor, &message) == SOCKDIAG_ENVELOPE_CUT,
+          "two bytes that are left");
     check(message.message_type == 3, "a message is told at a fault");
-    check(sockdiag_next_message(bytes, length, &cursor, &message) == 0, "a walk over messages ends");
+    check(sockdiag_next_message(bytes, length, &cursor, &message) == 0,
+          "a walk over messages ends");
 }
 
 static void writes_unix_request(void) {
@@ -352,7 +429,8 @@ static void writes_unix_request(void) {
     check(sockdiag_write_unix_request(&request, buffer, sizeof buffer) == 40, "a UNIX request");
     check(memcmp(buffer, want, 40) == 0, "a UNIX request's bytes");
     check(memcmp(buffer + 40, before + 40, 8) == 0, "what stands behind a request");
-    check(sockdiag_write_unix_destroy(&request, buffer, 40) == 40 && buffer[4] == 21, "a UNIX destroy");
+    check(sockdiag_write_unix_destroy(&request, buffer, 40) == 40 && buffer[4] == 21,
+          "a UNIX destroy");
     check(memcmp(buffer + 5, want + 5, 35) == 0, "a UNIX destroy's bytes");
 }
 
@@ -366,22 +444,27 @@ static void writes_inet_request(void) {
     };
     struct sockdiag_inet_request request = {
         {0x301, 6, 1}, 10, 0x41, 6, 0x400, 80, 8080,
-        {0xfe, 0x80, 0, 0, 0, 0, 0, 0, 0, 0, 0, 0, 0, 0, 0, 1}, {0, 0, 0, 0, 0, 0, 0, 0, 0, 0, 0, 0, 0, 0, 0, 2},
+        {0xfe, 0x80, 0, 0, 0, 0, 0, 0, 0, 0, 0, 0, 0, 0, 0, 1},
+        {0, 0, 0, 0, 0, 0, 0, 0, 0, 0, 0, 0, 0, 0, 0, 2},
         3, {8, 7, 6, 5, 4, 3, 2, 1},
     };
     static const uint8_t attribute[8] = {8, 0, 3, 0, 6, 1, 0, 0};
     uint8_t buffer[80];
-    check(sockdiag_write_inet_request(&request, buffer, 71) == 0, "a short buffer for an internet request");
+    check(sockdiag_write_inet_request(&request, buffer, 71) == 0,
+          "a short buffer for an internet request");
     check(sockdiag_write_inet_request(&request, buffer, 72) == 72, "an internet request");
     check(memcmp(buffer, want, 72) == 0, "an internet request's bytes");
     request.family = 2;
     check(sockdiag_write_inet_request(&request, buffer, 72) == 72, "an IPv4 request");
-    check(buffer[16] == 2 && buffer[28] == 0xfe && buffer[29] == 0x80 && buffer[43] == 0, "an IPv4 address and zeros");
-    check(sockdiag_write_inet_destroy(&request, buffer, 72) == 72 && buffer[4] == 21 && buffer[17] == 6, "a destroy");
+    check(buffer[16] == 2 && buffer[28] == 0xfe && buffer[29] == 0x80 && buffer[43] == 0,
+          "an IPv4 address and zeros");
+    check(sockdiag_write_inet_destroy(&request, buffer, 72) == 72 && buffer[4] == 21 &&
+          buffer[17] == 6, "a destroy");
     request.protocol = 262;
     check(sockdiag_write_inet_request(&request, buffer, 79) == 0, "a short buffer for a protocol");
     check(sockdiag_write_inet_request(&request, buffer, 80) == 80, "a request for MPTCP");
-    check(buffer[0] == 80 && buffer[4] == 20 && buffer[17] == 6 && memcmp(buffer + 72, attribute, 8) == 0, "its protocol");
+    check(buffer[0] == 80 && buffer[4] == 20 && buffer[17] == 6 &&
+          memcmp(buffer + 72, attribute, 8) == 0, "its protocol");
     request.family = 1;
     check(sockdiag_write_inet_request(&request, buffer, 72) == 0, "a request of another family");
 }
@@ -396,16 +479,22 @@ static void writes_family_requests(void) {
     struct sockdiag_vsock_request other = {{0x301, 5, 0}, 0x400, 9};
     uint8_t buffer[41];
     memset(buffer, 0xaa, sizeof buffer);
-    check(sockdiag_write_show_request(&request, buffer, 35) == 0 && buffer[0] == 0xaa, "a short buffer for a request");
+    check(sockdiag_write_show_request(&request, buffer, 35) == 0 && buffer[0] == 0xaa,
+          "a short buffer for a request");
     check(sockdiag_write_show_request(&request, buffer, 41) == 36, "a netlink request");
-    check(memcmp(buffer, want, 36) == 0 && buffer[36] == 0xaa, "its bytes, and what stands behind it");
+    check(memcmp(buffer, want, 36) == 0 && buffer[36] == 0xaa,
+          "its bytes, and what stands behind it");
     request.family = 44;
-    check(sockdiag_write_show_request(&request, buffer, 36) == 36 && buffer[16] == 44, "an XDP request");
+    check(sockdiag_write_show_request(&request, buffer, 36) == 36 && buffer[16] == 44,
+          "an XDP request");
     check(memcmp(buffer + 17, want + 17, 19) == 0, "its other bytes");
     request.family = 40;
-    check(sockdiag_write_show_request(&request, buffer, 36) == 0, "a vsock request of another form");
-    check(sockdiag_write_vsock_request(&other, buffer, 39) == 0, "a short buffer for a vsock request");
-    check(sockdiag_write_vsock_request(&other, buffer, 41) == 40 && buffer[0] == 40 && buffer[4] == 20, "a vsock request");
+    check(sockdiag_write_show_request(&request, buffer, 36) == 0,
+          "a vsock request of another form");
+    check(sockdiag_write_vsock_request(&other, buffer, 39) == 0,
+          "a short buffer for a vsock request");
+    check(sockdiag_write_vsock_request(&other, buffer, 41) == 40 && buffer[0] == 40 &&
+          buffer[4] == 20, "a vsock request");
     check(memcmp(buffer + 16, vsock, 24) == 0 && buffer[40] == 0xaa, "its record");
 }
 
@@ -418,18 +507,33 @@ static void writes_filtered_request(void) {
     memset(buffer, 0xaa, sizeof buffer);
     request.family = 10;
     request.protocol = 262;
-    check(sockdiag_write_inet_request(&request, plain, sizeof plain) == 80, "a request without attributes");
-    check(sockdiag_write_inet_request_with_attributes(&request, filter, 13, buffer, 95, &outcome) == 0, "a short buffer");
-    check(outcome.fault == 0 && outcome.needed == 96 && buffer[0] == 0xaa, "how many bytes a filtered request needs");
-    check(sockdiag_write_inet_request_with_attributes(&request, filter, 13, buffer, 100, &outcome) == 96, "a filter");
-    check(buffer[0] == 96 && memcmp(buffer + 1, plain + 1, 79) == 0, "the request in front of a filter");
-    check(memcmp(buffer + 80, filter, 13) == 0 && memcmp(buffer + 93, "\0\0\0\xaa", 4) == 0, "a filter and its padding");
-    check(sockdiag_write_inet_request_with_attributes(&request, filter, 11, buffer, 100, &outcome) == 0, "a cut filter");
-    check(outcome.fault == SOCKDIAG_ATTRIBUTE_HEADER_CUT && outcome.needed == 0, "why a filter is refused");
-    check(sockdiag_write_inet_request_with_attributes(&request, NULL, 0, buffer, 80, &outcome) == 80, "no attributes");
+    check(sockdiag_write_inet_request(&request, plain, sizeof plain) == 80,
+          "a request without attributes");
+    check(sockdiag_write_inet_request_with_attributes(&request, filter, 13, buffer, 95,
+                                                      &outcome) == 0,
+          "a short buffer");
+    check(outcome.fault == 0 && outcome.needed == 96 && buffer[0] == 0xaa,
+          "how many bytes a filtered request needs");
+    check(sockdiag_write_inet_request_with_attributes(&request, filter, 13, buffer, 100,
+                                                      &outcome) == 96,
+          "a filter");
+    check(buffer[0] == 96 && memcmp(buffer + 1, plain + 1, 79) == 0,
+          "the request in front of a filter");
+    check(memcmp(buffer + 80, filter, 13) == 0 && memcmp(buffer + 93, "\0\0\0\xaa", 4) == 0,
+          "a filter and its padding");
+    check(sockdiag_write_inet_request_with_attributes(&request, filter, 11, buffer, 100,
+                                                      &outcome) == 0,
+          "a cut filter");
+    check(outcome.fault == SOCKDIAG_ATTRIBUTE_HEADER_CUT && outcome.needed == 0,
+          "why a filter is refused");
+    check(sockdiag_write_inet_request_with_attributes(&request, NULL, 0, buffer, 80,
+                                                      &outcome) == 80,
+          "no attributes");
     check(memcmp(buffer, plain, 80) == 0, "a request with no attributes");
     request.family = 1;
-    check(sockdiag_write_inet_request_with_attributes(&request, filter, 13, buffer, 100, &outcome) == 0, "a family");
+    check(sockdiag_write_inet_request_with_attributes(&request, filter, 13, buffer, 100,
+                                                      &outcome) == 0,
+          "a family");
     check(outcome.fault == 0 && outcome.needed == 0, "another family can't be asked for");
 }
 
@@ -441,13 +545,16 @@ static void rewrites_unix_reply(void) {
     memcpy(want, unix_reply, sizeof want);
     want[3] = 0;
     want[23] = 0;
-    check(sockdiag_rewrite_unix_reply(unix_reply, 36, buffer, 35, &outcome) == 0, "a short buffer for a reply");
+    check(sockdiag_rewrite_unix_reply(unix_reply, 36, buffer, 35, &outcome) == 0,
+          "a short buffer for a reply");
     check(outcome.fault == 0 && outcome.needed == 36, "how many bytes are needed");
     check(buffer[0] == 0xaa && buffer[34] == 0xaa, "a short buffer gets a part");
-    check(sockdiag_rewrite_unix_reply(unix_reply, 36, buffer, 40, &outcome) == 36, "a canonical UNIX reply");
+    check(sockdiag_rewrite_unix_reply(unix_reply, 36, buffer, 40, &outcome) == 36,
+          "a canonical UNIX reply");
     check(outcome.fault == 0 && outcome.needed == 36 && memcmp(buffer, want, 36) == 0, "its bytes");
     check(buffer[36] == 0xaa, "what stands behind the canonical form");
-    check(sockdiag_rewrite_unix_reply(unix_reply, 15, buffer, 40, &outcome) == 0, "a refused UNIX reply");
+    check(sockdiag_rewrite_unix_reply(unix_reply, 15, buffer, 40, &outcome) == 0,
+          "a refused UNIX reply");
     check(outcome.fault == SOCKDIAG_BUFFER_TOO_SMALL && outcome.needed == 0, "why it is refused");
 }
 
@@ -457,9 +564,11 @@ static void rewrites_inet_reply(void) {
     memcpy(want, inet_reply, sizeof want);
     memset(want + 12, 0, 12);
     memset(want + 28, 0, 12);
-    check(sockdiag_rewrite_inet_reply(inet_reply, 72, buffer, 72, &outcome) == 72, "a canonical internet reply");
+    check(sockdiag_rewrite_inet_reply(inet_reply, 72, buffer, 72, &outcome) == 72,
+          "a canonical internet reply");
     check(memcmp(buffer, want, 72) == 0, "an internet reply's bytes");
-    check(sockdiag_rewrite_inet_reply(unix_reply, 36, buffer, 72, &outcome) == 0, "a refused internet reply");
+    check(sockdiag_rewrite_inet_reply(unix_reply, 36, buffer, 72, &outcome) == 0,
+          "a refused internet reply");
     check(outcome.fault == SOCKDIAG_BUFFER_TOO_SMALL, "why an internet reply is refused");
 }
 

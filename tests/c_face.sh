@@ -1,8 +1,9 @@
 #!/bin/sh
-# Builds the static library of include/sockdiag.h, and calls it from C: tests/c_face.c compares what the calls return.
-# Then installs the library, and lists the sockets of this machine by examples/list_sockets.c, if the kernel permits it.
-# Needs the kit's rt and a C compiler. tools/release runs this script. So does tests/c_header.py, which the gate runs,
-# if the library takes only seconds to build.
+# Builds the static library of include/sockdiag.h, and calls it from C: tests/c_face.c compares what
+# the calls return. Then installs the library, and lists the sockets of this machine by
+# examples/list_sockets.c, if the kernel permits it. Needs the kit's rt and a C compiler.
+# tools/release runs this script. So does tests/c_header.py, which the gate runs, if the library
+# takes only seconds to build.
 set -eu
 top=$(CDPATH='' cd -- "$(dirname -- "$0")/.." && pwd)
 work=$(mktemp -d)
@@ -26,8 +27,8 @@ build() {
 build c_face "$top/tests/c_face.c"
 "$work/c_face"
 
-# As an author of a program does: installs the library, and builds with the shared library that pkg-config finds.
-# Without pkg-config or make, builds with the static library.
+# As an author of a program does: installs the library, and builds with the shared library that
+# pkg-config finds. Without pkg-config or make, builds with the static library.
 "$top/tools/install" "$work/prefix" >/dev/null
 if command -v pkg-config >/dev/null && command -v make >/dev/null; then
     cp "$top/examples/Makefile" "$top/examples/list_sockets.c" "$work"

@@ -56,8 +56,8 @@ NUMBERS = {
 NOT_RETURNED = {"MEMORY"}
 PLAIN = {"usize": "size_t", "i32": "int32_t"}
 PLAIN.update({f"u{bits}": f"uint{bits}_t" for bits in (8, 16, 32, 64)})
-# Byte arrays that the header declares as a struct: by the type of the parameter, the struct, and the
-# record of another crate that has its fields.
+# Byte arrays that the header declares as a struct: by the type of the parameter, the struct, and
+# the record of another crate that has its fields.
 DECLARED_AS = {
     "&mut [u8; 232]": ("sockdiag_tcp_info", "TcpInfo", "sock_diag_values/src/inet/tcp_info.rt"),
     "&mut [u8; 36]": ("sockdiag_inet_memory", "MemInfo", "sock_diag_values/src/inet/mem_info.rt"),
@@ -193,7 +193,8 @@ def places():
 
 
 def declared():
-    """Yields each declaration and each constant that the header should have, from the Rattle source."""
+    """Yields each declaration and each constant that the header should have, from the Rattle
+    source."""
     text = source()
     found = structs_of(text)
     structs = {name: other for name, (other, _) in found.items()}

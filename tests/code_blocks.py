@@ -1,14 +1,15 @@
 #!/usr/bin/env python3
 """Checks that the code blocks of the pages are copies of code in the repository.
 
-- A `rust` or `antt` block has to occur, as consecutive whole lines, in a file under crates/*/src, crates/*/proofs or
-  crates/*/specs. Indentation and blank lines are ignored.
-- In a README.md a block may omit the contracts. There a `rust` block may also occur in an example, and a `c` block has
-  to. tests/c_header.py and tests/rust_face.sh compile the examples.
-- A `text` block in a CALLING.md quotes contracts below a line that names the file. Each quoted line has to occur in
-  that file, in the notation of these pages.
+- A `rust` or `antt` block has to occur, as consecutive whole lines, in a file under crates/*/src,
+  crates/*/proofs or crates/*/specs. Indentation and blank lines are ignored.
+- In a README.md a block may omit the contracts. There a `rust` block may also occur in an example,
+  and a `c` block has to. tests/c_header.py and tests/rust_face.sh compile the examples.
+- A `text` block in a CALLING.md quotes contracts below a line that names the file. Each quoted line
+  has to occur in that file, in the notation of these pages.
 
-Prints the file and the line of each block or quoted line that was not found. The exit status is 1 if there is one.
+Prints the file and the line of each block or quoted line that was not found. The exit status is 1
+if there is one.
 """
 
 import re
@@ -66,15 +67,16 @@ def occurs_in(block, source):
 
 
 def shortened(source):
-    """Returns the source as one line without comments, in the notation of the pages: S for *self, and S' for *self at
-    the return."""
+    """Returns the source as one line without comments, in the notation of the pages: S for *self,
+    and S' for *self at the return."""
     code = re.sub(r"(^|\s)//.*", " ", source, flags=re.MULTILINE)
     code = re.sub(r"\s+", " ", code).replace("( ", "(").replace(" )", ")").replace(",)", ")")
     return re.sub(r"\bself\.(now|old)\b", "S", re.sub(r"\bself\.new\b", "S'", code))
 
 
 def written_out(line):
-    """Returns a quoted line in the form of the shortened source, or the part of it that has to occur there."""
+    """Returns a quoted line in the form of the shortened source, or the part of it that has to
+    occur there."""
     clause = re.fullmatch(r"(requires|ensures)( \w+)?: (.*)", line)
     if clause:
         return f"{clause[1]}{clause[2] or ''} {{ {clause[3]} }}"
@@ -110,7 +112,8 @@ def main():
             if language == "text" and document.name == "CALLING.md":
                 gone = list(missing_quotes(document, number, lines))
                 found += not gone
-                missing += [(document, at, "quoted line is not in the file named above it") for at in gone]
+                text = "quoted line is not in the file named above it"
+                missing += [(document, at, text) for at in gone]
             elif language in ("rust", "antt", "c"):
                 likely = sources + shown + examples if document.name == "README.md" else sources
                 if block and any(occurs_in(block, source) for source in likely):

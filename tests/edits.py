@@ -68,7 +68,8 @@ def functions_of(crate):
             # The function ends at the next line that is not indented more, unless that line is part
             # of its head.
             head_continues = re.compile(rf"{head[1]}( |where\b|[){{])|$")
-            end = next((n for n in range(at + 1, len(rows)) if not head_continues.match(rows[n])), at)
+            later = range(at + 1, len(rows))
+            end = next((n for n in later if not head_continues.match(rows[n])), at)
             end = at if row.endswith(("}", ";")) else end
             text = "\n".join(rows[at : end + 1])
             found.append(Function(path, head[2], range(at + 1, end + 2), text))

@@ -1,9 +1,9 @@
 #!/usr/bin/env python3
 """Compares the layouts and the constants of the crates with the kernel's headers, by gcc.
 
-For each record of RECORDS the script parses its rows in specs/: an offset, a width and the member of
-the Rust struct. A C program prints the size of the kernel's struct, and the offset and the end of
-each of its members. The fields of `tcp_info`, the bits of `inet_diag_sockopt` and the public
+For each record of RECORDS the script parses its rows in specs/: an offset, a width and the member
+of the Rust struct. A C program prints the size of the kernel's struct, and the offset and the end
+of each of its members. The fields of `tcp_info`, the bits of `inet_diag_sockopt` and the public
 constants are compared in the same way. The headers of an older kernel may lack some of these: the
 last line but one of the output lists them.
 
@@ -40,8 +40,8 @@ SOCKET_ID = """source_port=id.idiag_sport destination_port=id.idiag_dport
     source_address=id.idiag_src destination_address=id.idiag_dst interface_id=id.idiag_if
     cookie=id.idiag_cookie"""
 # The layout of each record, its C struct, and for each member of the Rust struct its C members:
-# several separated by `+`, none if it is not compared. If the text is only `tcpi_`, then this is the
-# prefix of all C members.
+# several separated by `+`, none if it is not compared. If the text is only `tcpi_`, then this is
+# the prefix of all C members.
 RECORDS = [
     ("header_rows", "nlmsghdr", """length=nlmsg_len message_type=nlmsg_type flags=nlmsg_flags
         sequence_number=nlmsg_seq port_number=nlmsg_pid"""),

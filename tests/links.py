@@ -1,6 +1,6 @@
 #!/usr/bin/env python3
-"""Fails, with status 1, if a page has a broken link: to a file that does not exist, or to a heading that is not in
-its page. Also checks the paths in code marks."""
+"""Fails, with status 1, if a page has a broken link: to a file that does not exist, or to a heading
+that is not in its page. Also checks the paths in code marks."""
 
 import re
 import sys
@@ -15,13 +15,15 @@ ANY = re.compile(r"NAME|CRATE|try_it")
 
 
 def anchors(page):
-    """Returns the anchors of the page's headings: lower case, hyphens for spaces, without punctuation."""
+    """Returns the anchors of the page's headings: lower case, hyphens for spaces, without
+    punctuation."""
     heads = re.findall(r"^#+ (.*)$", page.read_text(encoding="utf-8"), re.MULTILINE)
     return {re.sub(r"[^\w\- ]", "", head.lower()).replace(" ", "-") for head in heads}
 
 
 def is_dead(page, link):
-    """Returns whether the target of a link is missing, a file or a heading. Links to the web are not checked."""
+    """Returns whether the target of a link is missing, a file or a heading. Links to the web are
+    not checked."""
     if re.match(r"\w+:", link):
         return False
     path, _, anchor = link.partition("#")

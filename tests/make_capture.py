@@ -1,5 +1,6 @@
 #!/usr/bin/env python3
-"""Writes a pcap capture of netlink datagrams to standard output, in the format that tcpdump writes for an nlmon device.
+"""Writes a pcap capture of netlink datagrams to standard output, in the format that tcpdump writes
+for an nlmon device.
 
     make_capture.py [--big] [--nanoseconds] FILE..
 
@@ -8,7 +9,8 @@ Each file is one datagram that a sock_diag(7) socket received. FILE:N selects it
   --big           writes the pcap headers in big-endian byte order
   --nanoseconds   writes the magic number of a capture with nanosecond timestamps
 
-The capture begins with a packet of another netlink protocol and a request for UNIX sockets. sslist skips both.
+The capture begins with a packet of another netlink protocol and a request for UNIX sockets. sslist
+skips both.
 """
 import struct
 import sys

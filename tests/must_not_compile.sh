@@ -1,7 +1,7 @@
 #!/bin/sh
-# Checks that a name borrowed from a view cannot outlive the bytes: a function that uses such a name must not compile.
-# The compiler rejects it before the prover runs, so it cannot be a must-fail edit. The script adds it to a copy of the
-# crates.
+# Checks that a name borrowed from a view cannot outlive the bytes: a function that uses such a name
+# must not compile. The compiler rejects it before the prover runs, so it cannot be a must-fail
+# edit. The script adds it to a copy of the crates.
 set -eu
 top=$(CDPATH='' cd -- "$(dirname -- "$0")/.." && pwd)
 work=$(mktemp -d)

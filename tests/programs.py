@@ -1,6 +1,7 @@
 #!/usr/bin/env python3
-"""tests/programs.py SOCKDIAG SSLIST: runs the two built programs at these paths with each form of arguments, and
-compares standard output, standard error and exit status. Prints the differences. The exit status is 1 if there is one.
+"""tests/programs.py SOCKDIAG SSLIST: runs the two built programs at these paths with each form of
+arguments, and compares standard output, standard error and exit status. Prints the differences. The
+exit status is 1 if there is one.
 """
 import os
 import re
@@ -17,8 +18,16 @@ CAPTURE = CRATES / "sslist/stdin"
 # The expected output of each program with --help.
 HELP = CRATES.parent / "tests/help"
 # The values of the first column for the sockets that an option selects.
-KINDS = {"-t": "tcp inet inet6", "-u": "udp inet inet6", "-M": "mptcp inet inet6", "-x": "unix u_str u_dgr u_seq"}
-KINDS |= {"-0": "p_raw p_dgr", "--family=netlink": "nl", "--vsock": "vsock v_str v_dgr v_seq", "--xdp": "xdp"}
+KINDS = {
+    "-t": "tcp inet inet6",
+    "-u": "udp inet inet6",
+    "-M": "mptcp inet inet6",
+    "-x": "unix u_str u_dgr u_seq",
+    "-0": "p_raw p_dgr",
+    "--family=netlink": "nl",
+    "--vsock": "vsock v_str v_dgr v_seq",
+    "--xdp": "xdp",
+}
 # A detail that one option shows and the others do not.
 DETAILS = {"-o": b" timer:", "-e": b" sk:", "-m": b" skmem:", "-i": b" cwnd:"}
 # An attribute of an unknown type, with the longest value whose length is a multiple of 4.
@@ -27,9 +36,11 @@ failures = []
 
 
 def run(program, arguments, given, to=subprocess.PIPE, **more):
-    """Returns the exit status, standard output and standard error of a run. Its input is bytes or a file descriptor."""
+    """Returns the exit status, standard output and standard error of a run. Its input is bytes or a
+    file descriptor."""
     more |= {"input": given} if isinstance(given, bytes) else {"stdin": given}
-    ended = subprocess.run([program, *arguments], stdout=to, stderr=subprocess.PIPE, timeout=60, **more)
+    words = [program, *arguments]
+    ended = subprocess.run(words, stdout=to, stderr=subprocess.PIPE, timeout=60, **more)
     return ended.returncode, ended.stdout or b"", ended.stderr
 
 
@@ -42,7 +53,8 @@ def check(program, arguments, given, status, output, errors=b"", to=subprocess.P
 
 
 def check_failed_writes(program, arguments, given, closed, full):
-    """Checks that runs with a pipe without a reader or a full device as output end with status 1 and these errors."""
+    """Checks that runs with a pipe without a reader or a full device as output end with status 1
+    and these errors."""
     read, pipe = os.pipe()
     os.close(read)
     for output, errors in [(pipe, closed), (os.open("/dev/full", os.O_WRONLY), full)]:
@@ -52,13 +64,16 @@ def check_failed_writes(program, arguments, given, closed, full):
 def test_sockdiag(program):
     lines, answers = ((CRATES / "sockdiag" / it).read_bytes() for it in ("stdin", "stdout"))
     line, answer = lines.splitlines(True)[0], answers.splitlines(True)[0]
-    for arguments in ([], ["-h"], [""], ["file"], [b"\xff"], ["--strict=1"], ["--strict"] * 2, ["--help", "x"]):
+    for arguments in (
+        [], ["-h"], [""], ["file"], [b"\xff"], ["--strict=1"], ["--strict"] * 2, ["--help", "x"],
+    ):
         check(program, arguments, lines, 0, answers)
     check(program, ["--help"], lines, 0, (HELP / "sockdiag").read_bytes())
     check(program, ["--version"], lines, 0, b"sockdiag " + VERSION)
     for text, printed, strict in [
-        (b"", b"", 0), (line, answer, 0), (lines, answers, 3), (line + b"unix 00", answer + b"refused 2\n", 3),
-        (b"\n", b"bad line\n", 3), (b"dump -", b"ok reading 0\n", 0), (b"dump 00", b"ok failed:16 0\n", 3),
+        (b"", b"", 0), (line, answer, 0), (lines, answers, 3),
+        (line + b"unix 00", answer + b"refused 2\n", 3), (b"\n", b"bad line\n", 3),
+        (b"dump -", b"ok reading 0\n", 0), (b"dump 00", b"ok failed:16 0\n", 3),
     ]:
         check(program, [], text, 0, printed)
         check(program, ["--strict"], text, strict, printed)
@@ -73,14 +88,16 @@ def test_sockdiag(program):
 
 def check_prompt_answers(program, lines, answers):
     """Writes each line only after the answer to the line before has been read."""
-    with subprocess.Popen([program], stdin=subprocess.PIPE, stdout=subprocess.PIPE, bufsize=0) as started:
+    pipes = {"stdin": subprocess.PIPE, "stdout": subprocess.PIPE}
+    with subprocess.Popen([program], bufsize=0, **pipes) as started:
         for line, answer in zip(lines, answers):
             started.stdin.write(line)
             read = b""
             while not read.endswith(b"\n") and select.select([started.stdout], [], [], 10)[0]:
                 read += started.stdout.read(1 << 16) or b"\n"
             if read != answer:
-                failures.append(f"{program}: {read[:60]} before the next line, expected {answer[:60]}")
+                failures.append(f"{program}: {read[:60]} before the next line, "
+                    f"expected {answer[:60]}")
                 break
         started.stdin.close()
 
@@ -88,13 +105,17 @@ def check_prompt_answers(program, lines, answers):
 def test_sslist(program):
     capture, table = CAPTURE.read_bytes(), (CRATES / "sslist/stdout").read_bytes()
     note, missing = b"sslist: .*packet 12, message 1: .*\n", b"sslist: /nowhere: .*\n"
-    unknown, no_text = b"sslist: unknown option %s; try sslist --help\n", b"sslist: an argument is not valid UTF-8\n"
+    unknown = b"sslist: unknown option %s; try sslist --help\n"
+    no_text = b"sslist: an argument is not valid UTF-8\n"
     for arguments, status, printed, errors in [
-        ([], 1, b"", b"sslist: .*\n"), ([b"\xff"], 2, b"", no_text), ([""], 1, b"", b"sslist: : .*\n"),
+        ([], 1, b"", b"sslist: .*\n"), ([b"\xff"], 2, b"", no_text),
+        ([""], 1, b"", b"sslist: : .*\n"),
         ([CAPTURE], 0, table, note), ([CAPTURE, CAPTURE], 0, table * 2, note * 2),
         (["/"], 1, b"", b"sslist: /: the input is a directory\n"),
-        ([CAPTURE, "/nowhere"], 1, table, note + missing), (["/nowhere", CAPTURE], 1, table, missing + note),
-        (["-q", CAPTURE], 2, b"", unknown % b"-q"), (["-t", "--no", "--help"], 2, b"", unknown % b"--no"),
+        ([CAPTURE, "/nowhere"], 1, table, note + missing),
+        (["/nowhere", CAPTURE], 1, table, missing + note),
+        (["-q", CAPTURE], 2, b"", unknown % b"-q"),
+        (["-t", "--no", "--help"], 2, b"", unknown % b"--no"),
         (["-"], 2, b"", unknown % b"-"), ([CAPTURE, "--version"], 0, b"sslist " + VERSION, b""),
         (["-t", "--help", "-q"], 0, (HELP / "sslist").read_bytes(), b""),
     ]:
@@ -126,44 +147,61 @@ def message(body, flags=0, kind=20):
 
 
 def packet(body, flags=0, kind=20, more=b""):
-    """Returns a packet of a capture: a netlink message of type `kind`, followed by the messages `more`."""
+    """Returns a packet of a capture: a netlink message of type `kind`, followed by the messages
+    `more`."""
     messages = message(body, flags, kind) + more
     length = (16 + len(messages)).to_bytes(4, "little")
     return bytes(8) + length + length + bytes.fromhex("00040338") + bytes(11) + b"\4" + messages
 
 
 def test_diagnostics(program):
-    """Compares the full standard error for errors that a kernel answers, and for inputs that are not captures."""
+    """Compares the full standard error for errors that a kernel answers, and for inputs that are
+    not captures."""
     file_header, heading = CAPTURE.read_bytes()[:24], run(program, [], CAPTURE.read_bytes()[:24])[1]
     errno = {n: (-n).to_bytes(4, "little", signed=True) for n in (2, 13, 22)}
-    packets = packet(errno[13], 0, 2, message(errno[22], 0, 2)) + packet(bytes(4), 16, 3) + packet(errno[2], 0, 3)
-    lines = ["packet 1, message 1: the kernel answers error 13", "packet 1, message 2: note: the kernel answers EINVAL",
-        "packet 2, message 1: the dump changed while it was taken", "packet 3, message 1: note: the kernel answers ENOENT",
+    packets = packet(errno[13], 0, 2, message(errno[22], 0, 2))
+    packets += packet(bytes(4), 16, 3) + packet(errno[2], 0, 3)
+    lines = [
+        "packet 1, message 1: the kernel answers error 13",
+        "packet 1, message 2: note: the kernel answers EINVAL",
+        "packet 2, message 1: the dump changed while it was taken",
+        "packet 3, message 1: note: the kernel answers ENOENT",
         "packet 4, message 1: UnixResponseHeader: buffer of 4 bytes, at least 16 needed",
-        "packet 4, message 2: message length 3 is under 16"]
+        "packet 4, message 2: message length 3 is under 16",
+    ]
     packets += packet([1, 1, 10, 0], 0, 20, b"\3" + bytes(19))
     expected = "".join(f"sslist: {line}\n" for line in lines).encode()
-    assert run(program, [], file_header + packets) == (1, heading, expected), run(program, [], file_header + packets)
+    got = run(program, [], file_header + packets)
+    assert got == (1, heading, expected), got
     notes = [packet(errno[n], 0, kind) for n in (2, 22) for kind in (2, 3)]
-    check(program, [], file_header + b"".join(notes), 0, heading, b"(sslist: packet [1-4], message 1: note: .*\n){4}")
+    errors = b"(sslist: packet [1-4], message 1: note: .*\n){4}"
+    check(program, [], file_header + b"".join(notes), 0, heading, errors)
     for given, text in [
-        (b"\1\2\x0a\xff" + bytes(20), b"no pcap capture: it begins with 01020aff"), (b"", b"the input is empty"),
-        (b"\x0a\x0d\x0d\x0a" + bytes(20), b"a pcapng capture, convert it: editcap -F pcap CAPTURE OTHER"),
+        (b"\1\2\x0a\xff" + bytes(20), b"no pcap capture: it begins with 01020aff"),
+        (b"", b"the input is empty"),
+        (
+            b"\x0a\x0d\x0d\x0a" + bytes(20),
+            b"a pcapng capture, convert it: editcap -F pcap CAPTURE OTHER",
+        ),
     ]:
         check(program, [], given, 1, b"", re.escape(b"sslist: " + text + b"\n"))
 
 
 def test_long_inputs(program):
-    """Lists a reply with long attributes, and a capture with more requests than the program retains."""
+    """Lists a reply with long attributes, and a capture with more requests than the program
+    retains."""
     file_header, reply = CAPTURE.read_bytes()[:24], bytes([1, 1, 10, 0, 7, *bytes(11)])
     status, table, errors = run(program, [], file_header + packet(reply))
     assert status == 0 and b"u_str LISTEN" in table, (status, table)
-    long = run(program, [], file_header + packet(reply + LONG_ATTRIBUTE * 3 + bytes([5, 0, 6, 0, 1, 0, 0, 0])))
+    attributes = LONG_ATTRIBUTE * 3 + bytes([5, 0, 6, 0, 1, 0, 0, 0])
+    long = run(program, [], file_header + packet(reply + attributes))
     assert long[0] == 0 and long[1].startswith(table.partition(b"\t")[0]), long
-    assert long[1].count(b"unknown:(200,65528)") == 3 and long[1].endswith(b" -->\n"), long[1][-200:]
+    assert long[1].count(b"unknown:(200,65528)") == 3, long[1][-200:]
+    assert long[1].endswith(b" -->\n"), long[1][-200:]
     for size in [*range(1, 300), 4_096, 65_000]:
         path = b"/" + b"a" * size
-        name = (5 + len(path)).to_bytes(2, "little") + bytes(2) + path + bytes(1 + -(5 + len(path)) % 4)
+        length = 5 + len(path)
+        name = length.to_bytes(2, "little") + bytes(2) + path + bytes(1 + -length % 4)
         shown = run(program, [], file_header + packet(reply + name))
         assert shown[0] == 0 and b" %s " % path in shown[1], (size, shown[0], shown[2])
     request = packet([2, 6, 0, 0, 0xFE, *bytes(51)], 0x301)
@@ -171,22 +209,28 @@ def test_long_inputs(program):
 
 
 def test_options(program):
-    """Lists the stored capture, followed by a UDP request, its reply, and a reply for each other family."""
-    bodies = [[2, 7, *bytes(70)], [16, *bytes(27)], [17, 3, *bytes(14)], [40, *bytes(31)], [44, *bytes(15)]]
-    capture = CAPTURE.read_bytes() + packet([2, 17, 0, 0, 0xFE, *bytes(51)], 0x301) + b"".join(map(packet, bodies))
+    """Lists the stored capture, followed by a UDP request, its reply, and a reply for each other
+    family."""
+    bodies = [[2, 7, *bytes(70)], [16, *bytes(27)], [17, 3, *bytes(14)], [40, *bytes(31)]]
+    bodies += [[44, *bytes(15)]]
+    request = packet([2, 17, 0, 0, 0xFE, *bytes(51)], 0x301)
+    capture = CAPTURE.read_bytes() + request + b"".join(map(packet, bodies))
     status, table, errors = run(program, [], capture)
     heading, *rows = table.replace(b"\n\t", b"").splitlines(True)
     with tempfile.NamedTemporaryFile() as file:
         file.write(capture)
         file.flush()
-        choices = [[it] for it in [*KINDS, *DETAILS, "-n", "-a", "-O", "--requests", "--utf8"]] + [["-t", "-x", "-oemi"]]
+        choices = [[it] for it in [*KINDS, *DETAILS, "-n", "-a", "-O", "--requests", "--utf8"]]
+        choices += [["-t", "-x", "-oemi"]]
         for arguments in choices:
             ended, listed, _ = run(program, arguments, capture)
             diagnostics = b"(sslist: .*packet 12, message 1: .*\n)?"
             check(program, [*arguments, file.name], b"", ended, listed, diagnostics)
-            check(program, [file.name, *arguments, file.name], b"", ended, listed * 2, diagnostics * 2)
+            twice = [file.name, *arguments, file.name]
+            check(program, twice, b"", ended, listed * 2, diagnostics * 2)
     for one, other in [(one, other) for one in KINDS for other in KINDS]:
-        chosen = [row for row in rows if row.split()[0].decode() in f"{KINDS[one]} {KINDS[other]}".split()]
+        kinds = f"{KINDS[one]} {KINDS[other]}".split()
+        chosen = [row for row in rows if row.split()[0].decode() in kinds]
         assert 0 < len(chosen) < len(rows), (one, other)
         check(program, ["-O", one, other], capture, status, heading + b"".join(chosen), errors)
     for arguments in (["-n"], ["-a"], ["-na"], ["-oemi"], ["-o", "-e", "-mi"]):
@@ -195,15 +239,18 @@ def test_options(program):
         shown = [it for it in DETAILS if DETAILS[it] in run(program, [option], capture)[1]]
         assert shown == [option], (shown, option)
     text = run(program, ["--requests"], capture)[1]
-    assert re.sub(rb"(?m)^-- .*\n", b"", text) == table and b"\n-- 0.000000 udp states:0xfe\n" in text, "--requests"
+    assert re.sub(rb"(?m)^-- .*\n", b"", text) == table, "--requests"
+    assert b"\n-- 0.000000 udp states:0xfe\n" in text, "--requests"
     named, printed = (it.replace(b"/listening", "/hörening".encode()) for it in (capture, table))
     check(program, ["--utf8"], named, status, printed, errors)
-    assert run(program, [], named)[1].split() == printed.replace("ö".encode(), b"\\xc3\\xb6").split(), "without --utf8"
+    escaped = printed.replace("ö".encode(), b"\\xc3\\xb6")
+    assert run(program, [], named)[1].split() == escaped.split(), "without --utf8"
 
 
 def test_refused_memory(program, arguments, given, status, output):
-    """Makes each allocation fail in turn. Either the run reports out of memory with status 1, and its output is a prefix
-    of the full output; or it can do without the memory, as for a buffer, and status and output are as always."""
+    """Makes each allocation fail in turn. Either the run reports out of memory with status 1, and
+    its output is a prefix of the full output; or it can do without the memory, as for a buffer, and
+    status and output are as always."""
     with tempfile.TemporaryDirectory() as folder:
         library = os.path.join(folder, "refuse.so")
         source = Path(__file__).with_name("refuse.c")
@@ -216,18 +263,20 @@ def test_refused_memory(program, arguments, given, status, output):
                     continue
                 return
             if ended != 1 or b"out of memory\n" not in errors or not output.startswith(printed):
-                failures.append(f"{program} {arguments}: allocation {first} fails: {ended} {errors}")
+                text = f"allocation {first} fails: {ended} {errors}"
+                failures.append(f"{program} {arguments}: {text}")
 
 
 if __name__ == "__main__":
-    test_sockdiag(os.path.abspath(sys.argv[1]))
-    test_sslist(os.path.abspath(sys.argv[2]))
-    test_options(os.path.abspath(sys.argv[2]))
-    test_diagnostics(os.path.abspath(sys.argv[2]))
-    test_long_inputs(os.path.abspath(sys.argv[2]))
-    test_unreadable_file(os.path.abspath(sys.argv[2]))
+    sockdiag, sslist = map(os.path.abspath, sys.argv[1:3])
+    test_sockdiag(sockdiag)
+    test_sslist(sslist)
+    test_options(sslist)
+    test_diagnostics(sslist)
+    test_long_inputs(sslist)
+    test_unreadable_file(sslist)
     if shutil.which("gcc"):
-        sockdiag, sslist, capture = os.path.abspath(sys.argv[1]), os.path.abspath(sys.argv[2]), CAPTURE.read_bytes()
         test_refused_memory(sockdiag, ["--strict"], b"unix 00\n", 3, b"refused 2\n")
-        test_refused_memory(sslist, ["-t", CAPTURE], b"", *run(sslist, ["-t"], capture)[:2])
+        expected = run(sslist, ["-t"], CAPTURE.read_bytes())[:2]
+        test_refused_memory(sslist, ["-t", CAPTURE], b"", *expected)
     sys.exit("\n".join(failures) or 0)

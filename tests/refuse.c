@@ -1,6 +1,6 @@
-/* A library to preload. It counts the calls of malloc and realloc from 1, and makes those from REFUSE_FIRST to
-   REFUSE_LAST fail, with a line on standard error for each. If REQUEST_COUNT is set, it writes the number of calls to
-   that file when the program ends. */
+/* A library to preload. It counts the calls of malloc and realloc from 1, and makes those from
+   REFUSE_FIRST to REFUSE_LAST fail, with a line on standard error for each. If REQUEST_COUNT is
+   set, it writes the number of calls to that file when the program ends. */
 #include <stddef.h>
 #include <stdio.h>
 #include <stdlib.h>

@@ -1,14 +1,16 @@
 #!/bin/sh
-# Makes allocations fail: in the first run the first allocation, in the second run the second, and so on, until a run
-# ends before its failing allocation. Then it repeats all runs, each with all later allocations failing too.
+# Makes allocations fail: in the first run the first allocation, in the second run the second, and
+# so on, until a run ends before its failing allocation. Then it repeats all runs, each with all
+# later allocations failing too.
 #
-# The tests `refused_memory` of netlink_packet_sock_diag_tests check each run of the readers, of `canonical`, of
-# `deserialize` and of each `clone`. If an allocation fails while sockdiag answers its stored lines, its output has to
-# be a prefix of the stored answers that consists of whole lines, its exit status 1, and its error message "out of
-# memory".
+# The tests `refused_memory` of netlink_packet_sock_diag_tests check each run of the readers, of
+# `canonical`, of `deserialize` and of each `clone`. If an allocation fails while sockdiag answers
+# its stored lines, its output has to be a prefix of the stored answers that consists of whole
+# lines, its exit status 1, and its error message "out of memory".
 #
-# `rt try --fail-alloc` makes one allocation fail too, but builds the tests again for each. This script preloads a
-# library that replaces malloc, so it needs a C compiler and a loader that supports LD_PRELOAD.
+# `rt try --fail-alloc` makes one allocation fail too, but builds the tests again for each. This
+# script preloads a library that replaces malloc, so it needs a C compiler and a loader that
+# supports LD_PRELOAD.
 set -eu
 top=$(CDPATH='' cd -- "$(dirname -- "$0")/.." && pwd)
 work=$(mktemp -d)
@@ -63,20 +65,28 @@ look() {
         return
     fi
     [ "$status" -eq 1 ] || fail "exit status $status, expected 1"
-    grep -q '^sockdiag: out of memory$' "$work/errors" || fail "standard error does not report out of memory"
-    head -c "$(wc -c <"$work/out")" "$crate/stdout" | cmp -s - "$work/out" || fail "the output is not a prefix"
-    [ ! -s "$work/out" ] || [ "$(tail -c 1 "$work/out" | wc -l)" -eq 1 ] || fail "the last line is incomplete"
+    grep -q '^sockdiag: out of memory$' "$work/errors" ||
+        fail "standard error does not report out of memory"
+    head -c "$(wc -c <"$work/out")" "$crate/stdout" | cmp -s - "$work/out" ||
+        fail "the output is not a prefix"
+    [ ! -s "$work/out" ] || [ "$(tail -c 1 "$work/out" | wc -l)" -eq 1 ] ||
+        fail "the last line is incomplete"
 }
 what=sockdiag
 sweep "$crate/out/sockdiag"
 
-# Counts the allocations for 10,000 further lines, after the buffers have grown. At most two for each line are allowed.
+# Counts the allocations for 10,000 further lines, after the buffers have grown. At most two for
+# each line are allowed.
 lines() {
-    awk -v n="$1" 'BEGIN { for (i = 0; i < n; i++) printf "unixreq 010000000204000034120000%02x000000ffffffffffffffff\n", i % 64 }'
+    awk -v n="$1" 'BEGIN {
+        for (i = 0; i < n; i++)
+            printf "unixreq 010000000204000034120000%02x000000ffffffffffffffff\n", i % 64
+    }'
 }
 
 requests() {
-    lines "$1" | LD_PRELOAD=$work/refuse.so REQUEST_COUNT=$work/count "$crate/out/sockdiag" >/dev/null
+    lines "$1" |
+        LD_PRELOAD=$work/refuse.so REQUEST_COUNT=$work/count "$crate/out/sockdiag" >/dev/null
     cat "$work/count"
 }
 

@@ -48,7 +48,8 @@ OVER = rf"(?: ?#\[.*?\])* (?:{PUB}use [^;]*|[^{{;,=]*)"
 CFG = re.compile(rf"\bcfg!\([^{{;]*|#!?\[cfg(?:_attr)?\b.*?\]{OVER}")
 # Attributes that do not concern a caller, or are listed in another way.
 QUIET = re.compile(r"#!?\[(?:tactic|inline|cold|doc|allow|expect|cfg|derive)\b.*")
-# The names of a failed allocation, and a line of a `use`. No clause can say that an allocation did fail.
+# The names of a failed allocation, and a line of a `use`. No clause can say that an allocation did
+# fail.
 FAILED = re.compile(r"\b(?:AllocError|Memory)\b")
 USED = re.compile(r"\s*(?:pub )?(?:ghost )?use ")
 # Attributes that export a function under a C name.
@@ -143,10 +144,12 @@ class Surface:
         folder, self.lines = TOP / "crates" / crate / "src", []
         texts = [path.read_text(encoding="utf-8") for path in folder.rglob("*.rt")]
         for path in folder.rglob("*.rt"):
-            lines = [line.partition("//")[0] for line in path.read_text(encoding="utf-8").splitlines()]
+            text = path.read_text(encoding="utf-8")
+            lines = [line.partition("//")[0] for line in text.splitlines()]
             named = sum(len(FAILED.findall(line)) for line in lines if not USED.match(line))
             where = path.relative_to(folder).as_posix()
-            self.lines += [f"{crate}/{where}: names a failed allocation {named} times"] * bool(named)
+            if named:
+                self.lines.append(f"{crate}/{where}: names a failed allocation {named} times")
         declared = {found for text in texts for found in DECLARED.findall(text)}
         self.private = {name for public, name in declared if ("pub ", name) not in declared}
         self.read(list(tokens_of(folder / "lib.rt")), folder, crate)

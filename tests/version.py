@@ -1,5 +1,6 @@
 #!/usr/bin/env python3
-"""Fails, with status 1, if CHANGELOG.md, a program, the C header or the Rust crate has another version than VERSION.
+"""Fails, with status 1, if CHANGELOG.md, a program, the C header or the Rust crate has another
+version than VERSION.
 
 CHANGELOG.md may begin with a heading [Unreleased], for the changes since that version.
 """

@@ -17,7 +17,8 @@ size_t rewrite_unix_reply(const uint8_t *bytes, size_t length, uint8_t *buffer, 
 size_t rewrite_inet_reply(const uint8_t *bytes, size_t length, uint8_t *buffer, size_t room,
                           uint64_t again);
 
-/* With -Wl,--wrap the linker calls these instead of the C library's functions, so that allocations are counted. */
+/* With -Wl,--wrap the linker calls these instead of the C library's functions, so that allocations
+   are counted. */
 void *__real_malloc(size_t size);
 void *__real_calloc(size_t count, size_t size);
 void *__real_realloc(void *block, size_t size);
@@ -42,7 +43,8 @@ void *__wrap_realloc(void *block, size_t size)
     return __real_realloc(block, size);
 }
 
-/* An attribute: its type, the length of its value, and its value, or NULL for the bytes 1, 2, 3, .. */
+/* An attribute: its type, the length of its value, and its value, or NULL for the bytes
+   1, 2, 3, .. */
 struct attribute {
     uint16_t kind;
     uint16_t length;
@@ -70,7 +72,8 @@ static const struct family families[] = {
             {2, 4, NULL},                  /* UNIX_DIAG_PEER */
             {3, 8, NULL},                  /* UNIX_DIAG_ICONS */
             {4, 8, NULL},                  /* UNIX_DIAG_RQLEN */
-            {5, 36, zeros},                /* UNIX_DIAG_MEMINFO: fields that are not parsed are serialized as zeros */
+            {5, 36, zeros},                /* UNIX_DIAG_MEMINFO: fields that are not parsed are
+                                              serialized as zeros */
             {6, 1, NULL},                  /* UNIX_DIAG_SHUTDOWN */
             {1, 8, NULL}, {2, 4, NULL}, {4, 8, NULL}, {6, 1, NULL},
         },
@@ -80,7 +83,8 @@ static const struct family families[] = {
         {
             2, 1, 2, 0, 0xeb, 0x14, 1, 0xbb, 192, 168, 178, 60, 0, 0, 0, 0, 0, 0, 0, 0, 0, 0, 0, 0,
             172, 217, 23, 131, 0, 0, 0, 0, 0, 0, 0, 0, 0, 0, 0, 0, 0, 0, 0, 0, 0x52, 3, 0, 0,
-            0, 0, 0, 0, 0x80, 0x60, 0, 0, 0, 0, 0, 0, 0, 0, 0, 0, 0xe8, 3, 0, 0, 0xa8, 0xda, 0x29, 0,
+            0, 0, 0, 0, 0x80, 0x60, 0, 0, 0, 0, 0, 0, 0, 0, 0, 0, 0xe8, 3, 0, 0,
+            0xa8, 0xda, 0x29, 0,
         }, 72,
         {
             {5, 1, NULL},    /* INET_DIAG_TOS */
@@ -98,7 +102,8 @@ static const struct family families[] = {
     },
 };
 
-/* Writes a reply with the first `attributes` attributes of the family, and returns its length in bytes. */
+/* Writes a reply with the first `attributes` attributes of the family, and returns its length in
+   bytes. */
 static size_t build(const struct family *family, size_t attributes, uint8_t *bytes)
 {
     size_t at = family->header_length;
@@ -123,9 +128,10 @@ static double now(void)
     return 1e9 * time.tv_sec + time.tv_nsec;
 }
 
-/* Returns the least time of ROUNDS rounds in nanoseconds for one reply: to parse it, or to parse and serialize it if
-   there is a buffer. */
-static double measure(const struct family *family, const uint8_t *bytes, size_t length, uint8_t *buffer, size_t room)
+/* Returns the least time of ROUNDS rounds in nanoseconds for one reply: to parse it, or to parse
+   and serialize it if there is a buffer. */
+static double measure(const struct family *family, const uint8_t *bytes, size_t length,
+                      uint8_t *buffer, size_t room)
 {
     double best = 1e18;
     for (int round = 0; round < ROUNDS; round++) {
@@ -152,13 +158,14 @@ static void print_row(const struct family *family, size_t attributes)
     unsigned long taken = requests - before;
     size_t written = family->rewrite(bytes, length, buffer, sizeof buffer, 0);
     if (found != attributes || written != length || memcmp(bytes, buffer, length)) {
-        fprintf(stderr, "%s reply of %zu attributes: read %zu of them, wrote %zu of %zu bytes\n", family->name,
-                attributes, found, written, length);
+        fprintf(stderr, "%s reply of %zu attributes: read %zu of them, wrote %zu of %zu bytes\n",
+                family->name, attributes, found, written, length);
         exit(1);
     }
     double read = measure(family, bytes, length, NULL, 0);
     double both = measure(family, bytes, length, buffer, sizeof buffer);
-    printf("%-6s  %10zu  %5zu  %7.0f  %17.0f  %15lu\n", family->name, attributes, length, read, both, taken);
+    printf("%-6s  %10zu  %5zu  %7.0f  %17.0f  %15lu\n", family->name, attributes, length, read,
+           both, taken);
     fflush(stdout);
 }
 

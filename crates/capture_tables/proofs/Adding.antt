@@ -1,8 +1,8 @@
--- A text that grows at its end, part by part.
+-- A text that is appended to.
 use Rattle.std.proofs.Common.{arith}
 use Rattle.std.proofs.Common.{◌≡◌, ℕ, List, ◌++◌, append_assoc}
 
--- two parts one after the other
+-- Two texts that are appended are their concatenation.
 pub adds : (old mid new x y : List ℕ) → mid ≡ old ++ x → new ≡ mid ++ y → new ≡ old ++ (x ++ y)
 adds old mid new x y first second =
     grind (arith, append_assoc old x y)

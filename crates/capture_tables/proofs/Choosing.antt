@@ -1,4 +1,4 @@
--- What one argument decides, or adds to the options.
+-- The effect of one argument on the request of a command line.
 use Rattle.std.proofs.Common.{◌≡◌, ◌≢◌, ◌<◌, ◌+◌, ℕ, Bool, true, false, List, [], ◌∷◌, length, map}
 use Rattle.std.proofs.Common.{bytes_eq, codes, drop, find, fold, get_or, Some, refl, ap, sym, ◌∙◌}
 use Rattle.std.proofs.Common.{arith}
@@ -15,7 +15,7 @@ use Rattle.capture_tables.specs.declared.words.Argument.TheVariants.{Help, Versi
 use Rattle.capture_tables.specs.declared.words.Argument.TheVariants.{Unknown, Utf8, Requests}
 use Rattle.capture_tables.specs.declared.words.Argument.TheVariants.{Netlink, Vsock, Xdp}
 
--- two texts differ
+-- `bytes_eq` is false for two different lists.
 differ : (xs ys : List ℕ) → xs ≢ ys → bytes_eq xs ys ≡ false
 differ xs ys h = false_from_ne_true (bytes_eq xs ys) (λ same. h ((bytes_eq-Decides xs ys).0 same))
 
@@ -28,14 +28,14 @@ letters_fail [] h = refl
 letters_fail (l ∷ ls) h = false_from_ne_true (list_all is_letter (l ∷ ls))
     (λ held. h (omega arith, AllPass-from_list_all is_letter (l ∷ ls) held))
 
--- the argument is of these that decide
+-- an argument that is parsed as this decides what the program does
 abbrev decides_as : Argument → Bool
 decides_as Help = true
 decides_as Version = true
 decides_as Unknown = true
 decides_as _ = false
 
--- an argument decides by what it is
+-- An argument decides if and only if it is parsed as one that does.
 pub decides_by : (word : List ℕ) (a : Argument) → IsArgument word a → decides word ≡ decides_as a
 decides_by word Help h = ap decides h
 decides_by word Version h = ap decides h
@@ -59,7 +59,7 @@ decides_by word Unknown h =
       letters_fail letters none,
     ) refl
 
--- an argument adds what it is
+-- An argument that does not decide sets the options that it is parsed as.
 pub adds_by : (word : List ℕ) (a : Argument) (o : Options) → IsArgument word a
     → decides_as a ≡ false → with_word o word ≡ with_argument a o
 adds_by word Help o h unmet = absurd (cc)
@@ -86,13 +86,14 @@ adds_by (c ∷ rest) File o h unmet =
 
 -- ---- one step of the loop over the arguments
 
--- none that was passed decides, and the options of all are these and those that are left
+-- After the first `i` arguments: none of them decides, and the options `o` with those of the
+-- remaining arguments are the options of all.
 pub record Passed {X : Type 0} (f : X → List ℕ) (xs : List X) (i : ℕ) (o all : Options)
     : Type 0 where
   pub first : find decides (map f (drop i xs)) ≡ find decides (map f xs)
   pub options : fold with_word o (map f (drop i xs)) ≡ all
 
--- one that is none of these doesn't decide
+-- An argument that is neither `--help`, `--version` nor unknown does not decide.
 pub passes : (a : Argument) → (a ≢ Help) → (a ≢ Version) → (a ≢ Unknown) → decides_as a ≡ false
 passes Help h v u = absurd (h refl)
 passes Version h v u = absurd (v refl)
@@ -105,7 +106,7 @@ passes Netlink h v u = refl
 passes Vsock h v u = refl
 passes Xdp h v u = refl
 
--- this one decides
+-- The first argument that decides is found.
 pub decided : {X : Type 0} (f : X → List ℕ) (xs : List X) (i : ℕ) (o all : Options) (x : X)
     (a : Argument) (word : List ℕ) → Passed f xs i o all → i < length xs → x ≡ get_or xs i x
     → word ≡ f x → IsArgument word a → decides_as a ≡ true → find decides (map f xs) ≡ Some word
@@ -113,7 +114,7 @@ decided f xs i o all x a word passed low is same kind held =
     sym passed.first ∙ ap (λ l. find decides (map f l)) (drop_more xs i x low)
     ∙ (rw (sym is, sym same, decides_by word a kind, held) refl)
 
--- this one adds
+-- An argument that does not decide is added to the options.
 pub added : {X : Type 0} (f : X → List ℕ) (xs : List X) (i : ℕ) (o o' all : Options) (x : X)
     (a : Argument) (word : List ℕ) → Passed f xs i o all → i < length xs → x ≡ get_or xs i x
     → word ≡ f x → IsArgument word a → decides_as a ≡ false → o' ≡ with_argument a o

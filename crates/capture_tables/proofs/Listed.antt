@@ -12,7 +12,8 @@ use Rattle.capture_tables.specs.Choice.{is_file}
 use Rattle.capture_tables.specs.Files.{Listing, captures_in, last_failure, listing}
 use Rattle.capture_tables.specs.Files.{listing_name, listing_status}
 
--- The files among these arguments were listed, with this status of all; `named`: there is one.
+-- The files among these arguments were listed, and `status` is their last failure, or else 0.
+-- `named` is true if there is such a file.
 pub record HasListed (listed : List Listing → Type 0) (words : List (List ℕ)) (status : ℕ)
     (named : Bool) : Type 0 where
   pub listings : List Listing
@@ -21,7 +22,7 @@ pub record HasListed (listed : List Listing → Type 0) (words : List (List ℕ)
   pub last : status ≡ last_failure (map listing_status listings)
   pub named_is : named ≡ list_any is_file words
 
--- all captures were listed
+-- all captures that the arguments name were listed, with this status
 abbrev pub ListsAll : (List Listing → Type 0) → List (List ℕ) → ℕ → Type 0
 ListsAll listed words status = (listings : List Listing) × listed listings
     × (map listing_name listings ≡ captures_in words)
@@ -31,7 +32,7 @@ or_false : (b : Bool) → (b || false) ≡ b
 or_false true = refl
 or_false false = refl
 
--- another file
+-- One more file was listed.
 pub file_more : (listed listed' : List Listing → Type 0) (words : List (List ℕ)) (word : List ℕ)
     (status next after : ℕ) (named : Bool) → HasListed listed words status named
     → is_file word ≡ true → after ≡ cond (next == 0) status next
@@ -53,7 +54,7 @@ file_more listed listed' words word status next after named h file is more = rec
       ∙ or_right (list_any is_file words) (is_file word || false) (rw file refl));
 }
 
--- another argument, which names no file
+-- An argument that does not name a file was skipped.
 pub option_more : (listed : List Listing → Type 0) (words : List (List ℕ)) (word : List ℕ)
     (status : ℕ) (named : Bool) → HasListed listed words status named
     → is_file word ≡ false → HasListed listed (words ++ word ∷ []) status named
@@ -89,13 +90,13 @@ last_one : (n : ℕ) → n ≡ last_failure (n ∷ [])
 last_one n =
     grind arith
 
--- all arguments were passed, and some name files
+-- The arguments name files, and all were listed.
 pub files_only : (listed : List Listing → Type 0) (words : List (List ℕ)) (status : ℕ)
     → HasListed listed words status true → ListsAll listed words status
 files_only listed words status h =
     (h.listings, h.seen, h.names ∙ some_files words (sym h.named_is), h.last)
 
--- none names a file, and standard input was listed
+-- The arguments name no file, and standard input was listed.
 pub input_only : (listed listed' : List Listing → Type 0) (words : List (List ℕ)) (status next : ℕ)
     → HasListed listed words status false
     → ((before : List Listing) → listed before

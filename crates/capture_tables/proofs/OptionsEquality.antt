@@ -1,11 +1,11 @@
--- What `==` of options says.
+-- The `==` of `Options` is equality.
 use Rattle.std.proofs.Common.{◌≡◌, ◌↔◌, ◌&&◌, Bool, true, false, List, [], ◌∷◌, IsTrue, get_or}
 use Rattle.std.proofs.Common.{refl, ap, rules}
 use mathlib.Core.Bool.{beq}
 use Rattle.capture_tables.specs.declared.options.Options.{Options}
 use Rattle.capture_tables.specs.contracts.options.OptionsPartialEq.TheImpl.{ghosts}
 
--- the first two are equal, and so are all later pairs
+-- the first two values are equal, and so are all later pairs
 abbrev equal_from : Bool → Bool → List Bool → List Bool → Bool
 equal_from x y [] [] = beq x y
 equal_from x y (a ∷ xs) (b ∷ ys) = beq x y && equal_from a b xs ys
@@ -38,12 +38,12 @@ itself_from false [] = refl
 itself_from true (a ∷ xs) = itself_from a xs
 itself_from false (a ∷ xs) = itself_from a xs
 
--- the options after the first, in order
+-- the fields after the first, in the order of the declaration
 abbrev later : Options → List Bool
 later o = o.extended ∷ o.memory ∷ o.connection ∷ o.one_line ∷ o.tcp ∷ o.udp ∷ o.mptcp ∷ o.unix
     ∷ o.netlink ∷ o.packet ∷ o.vsock ∷ o.xdp ∷ o.utf8 ∷ o.requests ∷ []
 
--- the options of these values
+-- the options with these values of the fields, in the same order
 abbrev options_from : List Bool → Options
 options_from bs = record {
   timer = get_or bs 0 false;

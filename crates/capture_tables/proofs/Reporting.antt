@@ -1,4 +1,4 @@
--- What is reported on a writer, text by text.
+-- Lemmas about reporting several texts on a writer.
 use Rattle.std.proofs.Common.{◌≡◌, ℕ, Bool, true, false, List, [], ◌++◌, refl, sym, ap, subst, ◌∙◌}
 use Rattle.std.proofs.Common.{append_assoc, append-nil}
 use Rattle.std.proofs.Common.{◌∷◌, Ok, Err, Result}
@@ -11,20 +11,20 @@ use Rattle.capture_tables.specs.declared.run.RunError.{RunError}
 use Rattle.capture_tables.specs.declared.run.RunError.TheVariants.{Header, Packet, Memory}
 use Rattle.capture_tables.specs.declared.run.RunError.TheVariants.{Write, Closed}
 
--- one text after the other
+-- Two texts that are reported are their concatenation.
 pub reports_then : (a b c : Option (List ℕ)) (f g h : Type 0) (o p q : Bool) (x y : List ℕ)
     → ReportsMore a f o b g p x → ReportsMore b g p c h q y → ReportsMore a f o c h q (x ++ y)
 reports_then a b c f g h o p q x y first second = λ start before so_far.
     subst (λ (t : List ℕ). Reports start c h t q) (append_assoc before x y)
     (second start (before ++ x) (first start before so_far))
 
--- nothing
+-- Reporting the empty text changes nothing.
 pub reports_nothing : (a : Option (List ℕ)) (f : Type 0) (o : Bool)
     → ReportsMore a f o a f o []
 reports_nothing a f o = λ start before so_far.
     subst (λ (t : List ℕ). Reports start a f t o) (sym (append-nil before)) so_far
 
--- three texts
+-- Three texts that are reported are their concatenation.
 pub reports_three : (a b c d : Option (List ℕ)) (f g h k : Type 0) (o p q r : Bool)
     (x y z : List ℕ)
     → ReportsMore a f o b g p x → ReportsMore b g p c h q y → ReportsMore c h q d k r z
@@ -33,13 +33,13 @@ reports_three a b c d f g h k o p q r x y z first second third =
     reports_then a c d f h k o q r (x ++ y) z
     (reports_then a b c f g h o p q x y first second) third
 
--- an equal text
+-- A text can be replaced by an equal one.
 pub reports_same : (a b : Option (List ℕ)) (f g : Type 0) (o p : Bool) (x y : List ℕ) → x ≡ y
     → ReportsMore a f o b g p x → ReportsMore a f o b g p y
 reports_same a b f g o p x y same more =
     subst (λ (t : List ℕ). ReportsMore a f o b g p t) same more
 
--- the first write that fails
+-- The first write that fails has written a prefix.
 pub reports_part : (a b : Option (List ℕ)) (g : Type 0) (text sent rest : List ℕ)
     → text ≡ sent ++ rest → Appends a b sent → g → ReportsMore a ⊤ true b g false text
 reports_part a b g text sent rest split appended failed = λ start before so_far. (
@@ -50,7 +50,7 @@ reports_part a b g text sent rest split appended failed = λ start before so_far
   failed,
 )
 
--- after a write failed
+-- After a write failed, nothing more is written.
 pub reports_none : (a : Option (List ℕ)) (f : Type 0) (text : List ℕ)
     → ReportsMore a f false a f false text
 reports_none a f text = λ start before (sent, more, split, appended, failed). (
@@ -61,19 +61,19 @@ reports_none a f text = λ start before (sent, more, split, appended, failed). (
   failed,
 )
 
--- from the start, before any write failed
+-- A report from the start is the whole report.
 pub reports_from_start : (a b : Option (List ℕ)) (f g : Type 0) (p : Bool) (text : List ℕ)
     → ReportsMore a f true b g p text → Reports a b g text p
 reports_from_start a b f g p text more = more a [] (Appends-nil a)
 
--- what is reported is a prefix of the text
+-- What was reported is a prefix of the text.
 pub reports_prefix : (a b : Option (List ℕ)) (g : Type 0) (p : Bool) (text : List ℕ)
     → Reports a b g text p → WritesPrefix a b text
 reports_prefix a b g true text appended = (text, [], sym (append-nil text), appended)
 reports_prefix a b g false text (sent, more, split, appended, failed) =
     (sent, more, split, appended)
 
--- the line of a failure that is no closed pipe
+-- The line of a failure other than a closed pipe is the prefix and its text.
 pub closing_other : (front : List ℕ) (e : RunError) → (e ≡ Closed → ⊥)
     → closing_line front e ≡ front ++ run_error_text e ++ 10 ∷ []
 closing_other front Closed other = absurd (other refl)
@@ -82,7 +82,7 @@ closing_other front (Packet packet fault) other = refl
 closing_other front Write other = refl
 closing_other front Memory other = refl
 
--- what holds of a success
+-- A clause about a success holds if the result is `Ok`.
 pub written_if_ok : {A E : Type 0} (r : Result A E) (P : Type 0) → IsOk r → OnOk r P → P
 written_if_ok (Ok x) P is h = h
 written_if_ok (Err e) P is h = absurd cc

@@ -1,4 +1,4 @@
--- Where reading a packet stops.
+-- Lemmas about the states of the input when reading stops.
 use Rattle.std.proofs.Common.{◌≡◌, ◌⊎◌, inl, inr, ℕ, ◌<◌, ◌≤◌, List, [], ◌++◌, length, sym}
 use Rattle.std.proofs.Common.{ap, subst, ◌∙◌, append-nil, arith}
 use Rattle.std.specs.Prelude.{Option}
@@ -17,19 +17,19 @@ within : (file : FileHeader) (left : Option (List ℕ)) (failed : Type 0) (heade
 within file left failed header part e long short stop =
     grind arith
 
--- a read failed
+-- A failed read is a reason to stop.
 pub failure_stops : (left : Option (List ℕ)) (failed : Type 0) (e : CaptureError) → IsReadFailure e
     → failed → IsStop left failed e
 failure_stops left failed e is cause =
     grind arith
 
--- the input ends within the header of a capture, or a read failed
+-- A stop within the file header is one of its reasons to stop.
 pub start_stops : (left : Option (List ℕ)) (failed : Type 0) (part : List ℕ) (e : CaptureError)
     → (e ≡ Cut → 0 < length part) → IsStop left failed e → IsStartStop left failed part e
 start_stops left failed part e some stop =
     grind arith
 
--- the header of a packet was read, and not all of the packet
+-- A stop after a packet header, while its packet is read, is a reason why no packet was read.
 pub packet_stops : (file : FileHeader) (a b c : Option (List ℕ)) (failed : Type 0) (header : List ℕ)
     (e : CaptureError)
     → length header ≡ 16 → number_at file.order 4 8 header ≤ 262144 → Consumes a b header

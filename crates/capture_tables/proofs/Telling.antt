@@ -1,4 +1,4 @@
--- The bytes of a text can be read from what is shown.
+-- A name can be read back from what is shown.
 use Rattle.std.proofs.Common.{◌≡◌, ℕ, zero, suc, ◌+◌, ◌*◌, ◌/◌, ◌%◌, ◌<◌, ◌≤◌, ◌==◌, ◌&&◌, Bool}
 use Rattle.std.proofs.Common.{true, List, [], ◌∷◌, ◌++◌, slice_index, inl, inr, refl, ap, ◌∙◌}
 use Rattle.std.proofs.Common.{arith, append_assoc, flat_map, chars}
@@ -13,13 +13,13 @@ use Rattle.hex.specs.Hex.{encode_with, lower_digits}
 use Rattle.capture_tables.specs.Escapes.{byte_digits, bytes_told, char_text, digit_worth, escaped}
 use Rattle.capture_tables.specs.Escapes.{is_shown, shown}
 
--- a byte that is neither a space nor a backslash tells itself
+-- A byte that is neither a space nor a backslash represents itself.
 pub told_plain : (c : ℕ) (t : List ℕ) → (c ≡ 32 → ⊥) → (c ≡ 92 → ⊥)
     → bytes_told 0 (c ∷ t) ≡ c ∷ bytes_told 0 t
 unfolding bytes_told
 told_plain c t space slash = rw (ne_eqb c 32 space, ne_eqb c 92 slash) refl
 
--- each digit below n has its worth
+-- each hexadecimal digit below n has its value
 abbrev digits_below : ℕ → Bool
 digits_below zero = true
 digits_below (suc n) = (digit_worth (slice_index lower_digits n) == n) && digits_below n
@@ -30,7 +30,7 @@ digit_below zero h d low = absurd (omega arith)
 digit_below (suc n) h d low =
     grind (arith, cases_eq d n, digit_below n)
 
--- the two digits of a byte are worth it
+-- The two hexadecimal digits of a byte have its value.
 digits_are : (c : ℕ) → c < 256
     → 16 * digit_worth (slice_index lower_digits (c / 16))
     + digit_worth (slice_index lower_digits (c % 16)) ≡ c
@@ -64,13 +64,13 @@ told_high [] t high = refl
 told_high (b ∷ bs) t high =
     grind (arith, told_plain b (bs ++ t), told_high bs t high.1)
 
--- past ASCII each byte of a character is one from 128 on
+-- Each UTF-8 byte of a character that is not ASCII is at least 128.
 encode_high : (c : ℕ) → 128 ≤ c → AllByRecursion (λ (b : ℕ). 128 ≤ b) (encode c)
 unfolding encode
 encode_high c big =
     grind arith
 
--- the bytes of a character are bytes
+-- Each element of the UTF-8 of a character is a byte.
 encode_low : (c : ℕ) → IsScalar c → AllByRecursion (λ (b : ℕ). b < 256) (encode c)
 unfolding encode
 encode_low c ok =
@@ -104,7 +104,7 @@ all_bytes : (bs : List ℕ) → ((i : ℕ) → slice_index bs i < 256)
 all_bytes [] in_range = tt
 all_bytes (b ∷ bs) in_range = (in_range 0, all_bytes bs (λ i. in_range (suc i)))
 
--- the bytes of a text that is shown, and what is told behind it
+-- What is shown of a name represents the name, also if a text follows.
 pub shown_told : (utf8 : Bool) (bs t : List ℕ) → ((i : ℕ) → slice_index bs i < 256)
     → bytes_told 0 (shown utf8 bs ++ t) ≡ bs ++ bytes_told 0 t
 shown_told utf8 bs t in_range = elim (cases_Bool (utf8 && is_utf8 bs)) [

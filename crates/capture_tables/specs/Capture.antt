@@ -1,4 +1,5 @@
--- Captures: the classic pcap format of netlink traffic.
+-- Captures of netlink traffic in the classic pcap format. Numbers in headers are in the byte order
+-- of the file.
 use Rattle.std.specs.Prelude.{◌≡◌, ◌≢◌, ℕ, ◌/◌, ◌%◌, ◌^◌, ◌<◌, ◌≤◌, ◌⊎◌, List, [], ◌++◌, length}
 use Rattle.std.specs.Prelude.{drop, Option, ◌==◌, if◌then◌else◌}
 use Rattle.std.specs.Io.KnownBytes.{IsAtEnd}
@@ -17,29 +18,37 @@ use Rattle.capture_tables.specs.declared.capture.PacketHeader.{PacketHeader}
 use Rattle.capture_tables.specs.declared.capture.TimeUnit.{TimeUnit}
 use Rattle.capture_tables.specs.declared.capture.TimeUnit.TheVariants.{Microseconds, Nanoseconds}
 
--- the number of so many bytes at an offset, in the order of the file
+-- the number in `count` bytes at an offset, in this byte order
 abbrev pub number_at : ByteOrder → ℕ → ℕ → List ℕ → ℕ
 number_at LowFirst count offset bytes = little_number count (drop offset bytes)
 number_at HighFirst count offset bytes = big_number count (drop offset bytes)
 
--- a capture whose times are in microseconds or in nanoseconds begins so, in the order of the file
+-- The magic number of a pcap file at offset 0: 0xa1b2c3d4 for timestamps in microseconds,
+-- 0xa1b23c4d for nanoseconds.
 abbrev pub IsMagic : ℕ → Type 0
 IsMagic n = (n ≡ 0xa1b2c3d4) ⊎ (n ≡ 0xa1b23c4d)
 
--- the unit of times: nanoseconds by the second magic number
+-- The unit of the fraction of a second in timestamps: nanoseconds for the magic number 0xa1b23c4d,
+-- or else microseconds.
 abbrev pub unit_of : ℕ → TimeUnit
 unit_of magic = if magic == 0xa1b23c4d then Nanoseconds else Microseconds
 
--- The file header, 24 bytes: the magic number at 0, the version at 4 and 6, of which the first
--- number is 2, and the type of the link in the low 16 bits of the word at 20, 253 for netlink.
+-- The file header in the first 24 bytes: the magic number at 0, the major version at 4, which is 2,
+-- and the link type in the low 16 bits of the field at 20, which is 253 (LINKTYPE_NETLINK). The
+-- minor version at 6 and the snapshot length at 16 can be any. `bytes` are the header, and `h` is
+-- what is parsed from it: the byte order `h.order` and the unit `h.unit`.
 pub record IsFileHeader (bytes : List ℕ) (h : FileHeader) : Type 0 where
+  -- the magic number at 0
   pub magic : IsMagic (number_at h.order 4 0 bytes)
+  -- the major version at 4
   pub version : number_at h.order 2 4 bytes ≡ 2
+  -- the link type in the low 16 bits at 20
   pub link_type : number_at h.order 4 20 bytes % 65536 ≡ 253
   pub unit : h.unit ≡ unit_of (number_at h.order 4 0 bytes)
 
--- what a file is that begins with this number, read high byte first: one of pcapng, which begins
--- with 0x0a0d0d0a, one of gzip, whose first two bytes are 0x1f8b, or another
+-- The error of a file that is not a pcap file. `first` is the big-endian number at offset 0. It is
+-- NewFormat for 0x0a0d0d0a (a pcapng file), Packed if the first two bytes are 0x1f8b (a gzip file),
+-- and else NoCapture with `first`.
 abbrev pub IsOtherFile : ℕ → CaptureError → Type 0
 IsOtherFile first NewFormat = first ≡ 0x0a0d0d0a
 IsOtherFile first Packed = first / 2 ^ 16 ≡ 0x1f8b
@@ -47,13 +56,14 @@ IsOtherFile first (NoCapture magic) =
     (magic ≡ first) × (first ≢ 0x0a0d0d0a) × (first / 2 ^ 16 ≢ 0x1f8b)
 IsOtherFile first _ = ⊥
 
--- the bytes begin as no capture does
+-- the bytes do not begin with a magic number of pcap in either byte order, and `e` is their error
 abbrev pub IsNoCapture : List ℕ → CaptureError → Type 0
 IsNoCapture bytes e =
     IsOtherFile (number_at HighFirst 4 0 bytes) e
     × ¬ IsMagic (number_at HighFirst 4 0 bytes) × ¬ IsMagic (number_at LowFirst 4 0 bytes)
 
--- why the bytes are no file header; of several faults it is the first
+-- The error of bytes that are not a file header: an unknown magic number is reported first, then a
+-- major version that is not 2, then a link type that is not 253.
 abbrev pub IsFileHeaderFault : List ℕ → CaptureError → Type 0
 IsFileHeaderFault bytes NewFormat = IsNoCapture bytes NewFormat
 IsFileHeaderFault bytes Packed = IsNoCapture bytes Packed
@@ -66,8 +76,9 @@ IsFileHeaderFault bytes (OtherLinkType link_type) =
     × (link_type ≡ number_at order 4 20 bytes % 65536) × (link_type ≢ 253)
 IsFileHeaderFault bytes _ = ⊥
 
--- What the header of a packet tells, 16 bytes: the seconds at 0, the parts of a second at 4, and at
--- 12 how many bytes the packet had when it was captured.
+-- The fields of a packet header, which has 16 bytes: the seconds of the capture time at 0, the
+-- fraction of a second at 4, and the original length of the packet at 12. The captured length at 8
+-- is in `IsRecord`. The unit is that of the file.
 abbrev pub packet_header : FileHeader → List ℕ → PacketHeader
 packet_header file header = record {
   seconds = number_at file.order 4 0 header;
@@ -76,34 +87,42 @@ packet_header file header = record {
   whole_length = number_at file.order 4 12 header;
 }
 
--- a packet as the capture has it: its bytes, which are fewer than its header tells where it was cut
--- by the snapshot length
+-- A packet as it was captured: its captured bytes, and the fields of its header. The bytes are
+-- fewer than the original length `header.whole_length` if the packet was truncated to the snapshot
+-- length.
 pub record Recorded : Type 0 where
+  -- the captured bytes, from the cooked header on
   pub bytes : List ℕ
+  -- the fields of the packet header
   pub header : PacketHeader
 
--- these bytes behind this header
+-- a packet with these captured bytes and these header fields
 abbrev pub recorded : List ℕ → PacketHeader → Recorded
 recorded bytes header = record { bytes = bytes; header = header }
 
--- A packet behind its header, which has the number of the packet's bytes at 8. A packet has at most
--- 262144 bytes.
+-- A packet in the capture: `header` is its packet header of 16 bytes, with the captured length at
+-- 8, which is the number of the packet's bytes, at most 262144. The other fields of the header are
+-- `packet.header`.
 pub record IsRecord (file : FileHeader) (header : List ℕ) (packet : Recorded) : Type 0 where
   pub whole : length header ≡ 16
+  -- the captured length at 8
   pub length_word : number_at file.order 4 8 header ≡ length packet.bytes
   pub tells : packet.header ≡ packet_header file header
+  -- the limit of the reader, whatever the snapshot length in the file header
   pub within : length packet.bytes ≤ 262144
 
--- ---- where reading stops
+-- ---- states of the input when reading stops
 
--- the input is at its end, or a read failed
+-- The reason why reading stopped: the input is at its end (Cut), or a read failed (Read,
+-- Directory). `left` are the remaining bytes, if known. `failed` states that a read failed.
 abbrev pub IsStop : Option (List ℕ) → Type 0 → CaptureError → Type 0
 IsStop left failed Cut = IsAtEnd left
 IsStop left failed Read = failed
 IsStop left failed Directory = failed
 IsStop left failed _ = ⊥
 
--- the input has no byte, ends within the header, or a read failed
+-- The reason why reading stopped before the file header was complete, after the bytes `part`: the
+-- input is at its end, without a byte (Empty) or after at least one (Cut), or a read failed.
 abbrev pub IsStartStop : Option (List ℕ) → Type 0 → List ℕ → CaptureError → Type 0
 IsStartStop left failed part Empty = (part ≡ []) × IsAtEnd left
 IsStartStop left failed part Cut = (0 < length part) × IsAtEnd left
@@ -111,22 +130,25 @@ IsStartStop left failed part Read = failed
 IsStartStop left failed part Directory = failed
 IsStartStop left failed part _ = ⊥
 
--- Why no header of a capture was read, but these bytes: too few were left, a read failed, or they
--- are no such header.
+-- The reason why no file header was read. `part` are the bytes that were read: either fewer than
+-- 24, and reading stopped there; or 24 that are not a valid file header.
 abbrev pub IsHeaderStop : Option (List ℕ) → Type 0 → List ℕ → CaptureError → Type 0
 IsHeaderStop left failed part e =
     ((length part < 24) × IsStartStop left failed part e)
     ⊎ ((length part ≡ 24) × IsFileHeaderFault part e)
 
--- a beginning of a packet behind its header, and not all of it
+-- `part` is a proper prefix of a packet with its packet header: fewer than 16 bytes, or a packet
+-- header of 16 bytes and fewer bytes than its captured length, which is at 8.
 abbrev pub IsUnfinished : FileHeader → List ℕ → Type 0
 IsUnfinished file part =
     (length part < 16)
     ⊎ ((header : List ℕ) × (front : List ℕ) × (part ≡ header ++ front) × (length header ≡ 16)
     × (length front < number_at file.order 4 8 header))
 
--- Why no packet was read, but these bytes: the input ends within it, a read failed, memory ran out
--- for one of at most 262144 bytes, or its header tells more.
+-- The reason why no packet was read. `part` are the bytes that were read: a proper prefix of a
+-- packet, and the input is at its end (Cut, after at least one byte) or a read failed (Read,
+-- Directory); or a packet header, whose captured length is at most 262144, but the allocation of so
+-- much memory failed (Memory), or is greater than 262144 (PacketTooLong with this length).
 abbrev pub IsPacketStop : FileHeader → Option (List ℕ) → Type 0 → List ℕ → CaptureError → Type 0
 IsPacketStop file left failed part Cut = (0 < length part) × IsUnfinished file part × IsAtEnd left
 IsPacketStop file left failed part Read = IsUnfinished file part × failed

@@ -1,8 +1,8 @@
--- The model of the first columns of a line: what contracts see of it.
+-- The model of `Cells`: what contracts see of it.
 use Rattle.capture_tables.specs.declared.cells.Cells.{Cells}
 use Rattle.capture_tables.specs.Cells.{FirstColumns}
 
--- the same cells, the kind by its bytes alone
+-- the same fields, and the bytes of `kind` for the reference to them
 abbrev pub cells_model : Cells → FirstColumns
 cells_model c = record {
   kind = c.kind.now;

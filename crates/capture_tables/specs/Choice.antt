@@ -1,4 +1,4 @@
--- What a command line asks for.
+-- The request of a command line. Arguments are lists of bytes.
 use Rattle.std.specs.Prelude.{◌≡◌, ◌≢◌, ℕ, ◌&&◌, ◌||◌, ◌==◌, if◌then◌else◌, not, Bool, true, false}
 use Rattle.std.specs.Prelude.{List, [], ◌∷◌, Some, None, bytes_eq, codes, drop, find, fold}
 use Rattle.std.specs.List.{list_all, list_any}
@@ -7,15 +7,16 @@ use Rattle.capture_tables.specs.declared.choice.Choice.TheVariants.{Help, Versio
 use Rattle.capture_tables.specs.declared.choice.Choice.TheVariants.{Captures}
 use Rattle.capture_tables.specs.declared.options.Options.{Options}
 
--- the letter is one of these
+-- the letter is an element of the list
 abbrev pub has : ℕ → List ℕ → Bool
 has letter letters = list_any (λ c. c == letter) letters
 
--- the letters of options: -t, -u, -x, -M, -0, -o, -e, -m, -i, -O, -n and -a
+-- a letter that is an option: -t, -u, -x, -M, -0, -o, -e, -m, -i, -O, -n or -a
 abbrev pub is_letter : ℕ → Bool
 is_letter letter = has letter (codes "tuxM0oemiOna")
 
--- the options and the details that letters ask for: -o, -e, -m, -i, and one line, -O
+-- The options `o`, and the options of these letters that select details or their form: -o (111), -e
+-- (101), -m (109), -i (105) and -O (79).
 abbrev pub with_details : List ℕ → Options → Options
 with_details letters o = record o {
   timer = o.timer || has 111 letters;
@@ -25,7 +26,8 @@ with_details letters o = record o {
   one_line = o.one_line || has 79 letters;
 }
 
--- the options and the sockets that letters ask for: -t, -u, -M, -x, -0
+-- The options `o`, and the options of these letters that select sockets: -t (116), -u (117), -M
+-- (77), -x (120) and -0 (48).
 abbrev pub with_sockets : List ℕ → Options → Options
 with_sockets letters o = record o {
   tcp = o.tcp || has 116 letters;
@@ -35,35 +37,39 @@ with_sockets letters o = record o {
   packet = o.packet || has 48 letters;
 }
 
--- the options and all that letters ask for
+-- The options `o`, and the options of these letters. The letters n and a change nothing.
 abbrev pub with_letters : List ℕ → Options → Options
 with_letters letters o = with_sockets letters (with_details letters o)
 
--- the argument names a file: it does not begin with a hyphen, 45
+-- The argument is the name of a file: it does not begin with a hyphen (45). The empty argument is
+-- one.
 abbrev pub is_file : List ℕ → Bool
 is_file [] = true
 is_file (first ∷ rest) = not (first == 45)
 
--- at least one letter, and each is that of an option
+-- there is at least one letter, and each is an option
 abbrev pub are_letters : List ℕ → Bool
 are_letters [] = false
 are_letters (letter ∷ letters) = list_all is_letter (letter ∷ letters)
 
--- the argument is a hyphen and letters of options
+-- the argument is a hyphen (45) and at least one letter, each of which is an option
 abbrev pub has_letters : List ℕ → Bool
 has_letters [] = false
 has_letters (first ∷ letters) = (first == 45) && are_letters letters
 
--- the argument is the name of an option for lists
+-- the argument is a long option that changes the listing
 abbrev pub is_name : List ℕ → Bool
 is_name word = list_any (bytes_eq word) (codes "--utf8" ∷ codes "--requests"
     ∷ codes "--family=netlink" ∷ codes "--vsock" ∷ codes "--xdp" ∷ [])
 
--- the argument decides alone what is done: it is `--help`, `--version` or an unknown option
+-- The argument decides alone what the program does: it is `--help`, `--version` or an unknown
+-- option. These are all arguments that are neither a file's name, nor letters, nor another long
+-- option.
 abbrev pub decides : List ℕ → Bool
 decides word = not (is_file word || has_letters word || is_name word)
 
--- the options and that of one more argument
+-- The options `o`, and those of one more argument. An argument that is not an option changes
+-- nothing.
 abbrev pub with_word : Options → List ℕ → Options
 with_word o word =
     if bytes_eq word (codes "--utf8") then record o { utf8 = true }
@@ -73,7 +79,7 @@ with_word o word =
     else if bytes_eq word (codes "--xdp") then record o { xdp = true }
     else if has_letters word then with_letters (drop 1 word) o else o
 
--- no option
+-- the options of a command line without options: none is set
 abbrev pub no_options : Options
 no_options = record {
   timer = false;
@@ -97,8 +103,9 @@ no_options = record {
 abbrev pub options_of : List (List ℕ) → Options
 options_of words = fold with_word no_options words
 
--- What the arguments after the program's name ask for: what the first one that decides asks for,
--- or, if there is none, to list captures by all options.
+-- The request of the arguments after the program's name. If an argument decides, the first one that
+-- does is the request: `--help`, `--version`, or an unknown option, which is rejected. Else
+-- captures are listed with the options of all arguments.
 abbrev pub IsChoice : List (List ℕ) → Choice → Type 0
 IsChoice words Help = find decides words ≡ Some (codes "--help")
 IsChoice words Version = find decides words ≡ Some (codes "--version")

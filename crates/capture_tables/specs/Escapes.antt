@@ -1,28 +1,28 @@
--- Bytes of a text whose lines and columns they must not break.
+-- Escapes in names, so that a name cannot break a line or a column. Texts are lists of bytes.
 use Rattle.std.specs.Prelude.{ℕ, zero, suc, ◌+◌, ◌-◌, ◌*◌, ◌==◌, nat_le, if◌then◌else◌, Bool, true}
 use Rattle.std.specs.Prelude.{false, ◌&&◌, List, [], slice_index, ◌∷◌, chars, encode_utf8, flat_map}
 use Rattle.std.specs.List.{list_any}
 use Rattle.std.specs.Str.{is_utf8}
 use Rattle.hex.specs.Hex.{encode_lower}
 
--- a byte from `!` to `~` but the backslash, 92
+-- a byte that is shown unchanged: from `!` (33) to `~` (126), except the backslash (92)
 abbrev pub is_plain : ℕ → Bool
 is_plain c = (nat_le 33 c && nat_le c 126) && (if c == 92 then false else true)
 
--- a backslash, `x` and the two digits of a byte
+-- a backslash (92), `x` (120) and the two lowercase hexadecimal digits of a byte
 abbrev pub byte_digits : ℕ → List ℕ
 byte_digits c = 92 ∷ 120 ∷ encode_lower (c ∷ [])
 
--- a byte that is not plain is told by its digits
+-- a plain byte unchanged, any other as `\x` and two digits
 abbrev pub escaped : ℕ → List ℕ
 escaped c = if is_plain c then c ∷ [] else byte_digits c
 
 -- ---- names under `--utf8`
 
--- Ranges of characters, the first and the last of each: of Latin, of Greek and Cyrillic,
--- punctuation, currencies, arrows, shapes, and of Chinese, Japanese and Korean. Each character is a
--- letter, a number or a sign that is seen: none is a control, a separator, a format or combining
--- character, unassigned, or written from right to left (Unicode 14, UnicodeData.txt).
+-- Ranges of characters that `--utf8` shows, with the first and the last code point of each: Latin,
+-- Greek and Cyrillic, punctuation, currency signs, arrows, shapes, and Chinese, Japanese and
+-- Korean. Each character is a visible letter, number or sign. None is a control, separator, format
+-- or combining character, unassigned, or written from right to left (Unicode 14, UnicodeData.txt).
 abbrev pub shown_ranges : List (ℕ × ℕ)
 shown_ranges =
     (0xa1, 0xac) ∷ (0xae, 0x2ff) ∷ (0x386, 0x38a) ∷ (0x38c, 0x38c) ∷ (0x38e, 0x3a1) ∷ (0x3a3, 0x482)
@@ -30,27 +30,30 @@ shown_ranges =
     ∷ (0x2580, 0x27bf) ∷ (0x3001, 0x3029) ∷ (0x3041, 0x3096) ∷ (0x309b, 0x30ff) ∷ (0x3131, 0x3163)
     ∷ (0x3400, 0x9fff) ∷ (0xac00, 0xd7a3) ∷ []
 
--- a character past ASCII in one of these ranges
+-- a character that is not ASCII and is in one of these ranges
 abbrev pub is_shown : ℕ → Bool
 is_shown c = nat_le 0x80 c && list_any (λ r. nat_le r.0 c && nat_le c r.1) shown_ranges
 
--- the UTF-8 of a character as it is where it is shown, and else each of its bytes
+-- The UTF-8 bytes of a character, unchanged if it is shown. Else each byte is escaped if it is not
+-- plain.
 abbrev pub char_text : ℕ → List ℕ
 char_text c = if is_shown c then encode_utf8 c else flat_map escaped (encode_utf8 c)
 
--- a text by its characters, where that is asked for and the bytes are UTF-8, and else by its bytes
+-- A name as it is shown: character by character if `utf8` is set and the bytes are valid UTF-8, or
+-- else byte by byte.
 abbrev pub shown : Bool → List ℕ → List ℕ
 shown utf8 bytes =
     if utf8 && is_utf8 bytes then flat_map char_text (chars bytes) else flat_map escaped bytes
 
--- ---- what a shown text tells
+-- ---- the name that a shown text represents
 
--- what a digit of `\x` is worth
+-- the value of a hexadecimal digit: `a` to `f` are 97 to 102, `0` to `9` are 48 to 57
 abbrev pub digit_worth : ℕ → ℕ
 digit_worth d = if nat_le 97 d then d - 87 else d - 48
 
--- The bytes that a text tells up to a space, 32: behind a backslash, 92, and `x` two digits stand
--- for one. The number counts bytes that are passed over.
+-- The bytes that a shown text represents, up to the first space (32). A backslash (92) is followed
+-- by `x` and two hexadecimal digits, which represent one byte. Every other byte represents itself.
+-- `n` is the number of bytes that are skipped first.
 unfoldable pub bytes_told : ℕ → List ℕ → List ℕ
 bytes_told n [] = []
 bytes_told (suc n) (c ∷ text) = bytes_told n text

@@ -1,4 +1,4 @@
--- Which sockets are listed, and what is told of each beside its columns.
+-- Selection of the sockets that are listed, and of the details that are shown.
 use Rattle.std.specs.Prelude.{ℕ, Bool, false, ◌||◌, not, ◌==◌, if◌then◌else◌, Option, None, Some}
 use Rattle.capture_tables.specs.declared.options.Detail.{Detail}
 use Rattle.capture_tables.specs.declared.options.Detail.TheVariants.{Timer, Extended, Memory}
@@ -7,44 +7,45 @@ use Rattle.capture_tables.specs.declared.options.Family.{Family}
 use Rattle.capture_tables.specs.declared.options.Family.TheVariants.{Netlink, Packet, Vsock, Xdp}
 use Rattle.capture_tables.specs.declared.options.Options.{Options}
 
--- a detail is asked for by its option
+-- the option of this group of details is set
 abbrev pub is_asked : Options → Detail → Bool
 is_asked o Timer = o.timer
 is_asked o Extended = o.extended
 is_asked o Memory = o.memory
 is_asked o Connection = o.connection
 
--- a detail is told where it is asked for, and where none is
+-- A group of details is shown if its option is set, or if no option for details is.
 abbrev pub shows : Options → Detail → Bool
 shows o detail = is_asked o detail || not (o.timer || o.extended || o.memory || o.connection)
 
--- some sockets alone are asked for
+-- an option that selects sockets is set
 abbrev pub selects : Options → Bool
 selects o = o.tcp || o.udp || o.mptcp || o.unix || o.netlink || o.packet || o.vsock || o.xdp
 
--- UNIX sockets are listed where they are asked for, and where none are
+-- UNIX sockets are listed if `-x` is set, or if no option that selects sockets is.
 abbrev pub lists_unix : Options → Bool
 lists_unix o = o.unix || not (selects o)
 
--- IPv4 and IPv6 sockets of a protocol are asked for, by its number of IPPROTO_..; one that isn't
--- known may be any
+-- The option of this protocol is set: 6 is IPPROTO_TCP, 17 is IPPROTO_UDP, 262 is IPPROTO_MPTCP.
+-- None is a protocol that is not known, which can be any of the three.
 abbrev pub asks_protocol : Options → Option ℕ → Bool
 asks_protocol o None = o.tcp || o.udp || o.mptcp
 asks_protocol o (Some protocol) =
     if protocol == 6 then o.tcp else if protocol == 17 then o.udp
     else if protocol == 262 then o.mptcp else false
 
--- they are listed where they are asked for, and where no sockets are
+-- IPv4 and IPv6 sockets of a protocol are listed if its option is set, or if no option that selects
+-- sockets is.
 abbrev pub lists_protocol : Options → Option ℕ → Bool
 lists_protocol o protocol = asks_protocol o protocol || not (selects o)
 
--- sockets of such a family are asked for
+-- the option of this family is set
 abbrev pub asks_family : Options → Family → Bool
 asks_family o Netlink = o.netlink
 asks_family o Packet = o.packet
 asks_family o Vsock = o.vsock
 asks_family o Xdp = o.xdp
 
--- they are listed where they are asked for, and where no sockets are
+-- Sockets of a family are listed if its option is set, or if no option that selects sockets is.
 abbrev pub lists_family : Options → Family → Bool
 lists_family o family = asks_family o family || not (selects o)

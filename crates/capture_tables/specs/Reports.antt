@@ -1,4 +1,5 @@
--- What is written to standard error: lines about packets, and the line that names a failure.
+-- Output on standard error: diagnostics of packets, and the line that names a failure. Texts are
+-- lists of bytes. `front` is the prefix of each line, and 10 is a line feed.
 use Rattle.std.specs.Prelude.{◌≡◌, ℕ, nat_lt, if◌then◌else◌, Bool, true, false, List, [], ◌∷◌, ◌++◌}
 use Rattle.std.specs.Prelude.{codes, decimal, Option}
 use Rattle.std.specs.Io.KnownBytes.{Appends}
@@ -15,19 +16,19 @@ use Rattle.capture_tables.specs.declared.run.RunError.{RunError}
 use Rattle.capture_tables.specs.declared.run.RunError.TheVariants.{Header, Packet, Write, Closed}
 use Rattle.capture_tables.specs.declared.run.RunError.TheVariants.{Memory as NoMemory}
 
--- ---- lines about packets
+-- ---- diagnostics of packets
 
--- the line with this text about the packet of this number; `front` begins each line
+-- the line with this text about the packet of this number
 abbrev pub packet_line : List ℕ → ℕ → List ℕ → List ℕ
 packet_line front packet text =
     front ++ codes "packet " ++ decimal packet ++ codes ": " ++ text ++ 10 ∷ []
 
--- the text about a packet that was captured with fewer bytes than it had
+-- the text about a truncated packet: how many of its bytes were captured, and its original length
 abbrev pub cut_text : ℕ → ℕ → List ℕ
 cut_text captured whole =
     codes "cut to " ++ decimal captured ++ codes " of " ++ decimal whole ++ codes " bytes"
 
--- the line about a packet of which these bytes were captured, if it had more
+-- the line about a packet with this captured length and this original length, if it was truncated
 abbrev pub cut_line : List ℕ → ℕ → ℕ → ℕ → List ℕ
 cut_line front packet captured whole =
     if nat_lt captured whole then packet_line front packet (cut_text captured whole) else []
@@ -38,7 +39,7 @@ short_line front packet = packet_line front packet (codes "fewer than 16 bytes")
 
 -- ---- failures
 
--- why a capture can't be read; first bytes are shown as eight hex digits
+-- The text of an error of a capture. A magic number is shown as eight hexadecimal digits.
 abbrev pub capture_error_text : CaptureError → List ℕ
 capture_error_text Read = codes "reading failed"
 capture_error_text Directory = codes "the input is a directory"
@@ -56,7 +57,7 @@ capture_error_text (OtherLinkType link_type) =
 capture_error_text (PacketTooLong count) =
     codes "a packet of " ++ decimal count ++ codes " bytes, at most 262144 expected"
 
--- why a run failed
+-- the text of an error of a run
 abbrev pub run_error_text : RunError → List ℕ
 run_error_text (Header fault) = capture_error_text fault
 run_error_text (Packet packet fault) =
@@ -65,26 +66,28 @@ run_error_text Write = codes "writing failed"
 run_error_text Closed = codes "nobody reads the output"
 run_error_text NoMemory = codes "out of memory"
 
--- the line that names a failure; none if nobody reads the output
+-- the line that names a failure, or nothing if the failure is a closed output pipe
 abbrev pub closing_line : List ℕ → RunError → List ℕ
 closing_line front Closed = []
 closing_line front error = front ++ run_error_text error ++ 10 ∷ []
 
--- ---- what has been written, by the bytes held before and after, if they are known
+-- ---- output on a writer: `held` and `held'` are the bytes written before and after, if known
 
--- All of the text was written, and no write failed; or a prefix of it, and then a write failed. The
--- last argument says which.
+-- If the last argument is true: the text was written, and no write failed. If it is false: a prefix
+-- of the text was written, and then a write failed. `failed` states that a write failed.
 abbrev pub Reports : Option (List ℕ) → Option (List ℕ) → Type 0 → List ℕ → Bool → Type 0
 Reports held held' failed text true = Appends held held' text
 Reports held held' failed text false =
     (sent more : List ℕ) × (text ≡ sent ++ more) × Appends held held' sent × failed
 
--- a prefix of the text, or all of it, was written
+-- a prefix of the text was written, perhaps all of it
 abbrev pub WritesPrefix : Option (List ℕ) → Option (List ℕ) → List ℕ → Type 0
 WritesPrefix held held' text =
     (sent more : List ℕ) × (text ≡ sent ++ more) × Appends held held' sent
 
--- one writer's state before and after: if some text was reported, it is now followed by this one
+-- The effect of reporting one more text. Each state has the bytes written, whether a write failed,
+-- and a flag that is true as long as none did. If the texts `before` had been reported when the
+-- first state was reached, then `before ++ text` have been reported when the second state is.
 abbrev pub ReportsMore : Option (List ℕ) → Type 0 → Bool → Option (List ℕ) → Type 0 → Bool
     → List ℕ → Type 0
 ReportsMore held failed is_open held' failed' is_open' text =

@@ -1,18 +1,18 @@
--- When a packet was captured.
+-- Time of the capture of a packet.
 use Rattle.std.specs.Prelude.{ℕ, ◌-◌, List, ◌∷◌, ◌++◌, length, replicate, decimal}
 use Rattle.capture_tables.specs.declared.capture.PacketHeader.{PacketHeader}
 use Rattle.capture_tables.specs.declared.capture.TimeUnit.{TimeUnit}
 use Rattle.capture_tables.specs.declared.capture.TimeUnit.TheVariants.{Microseconds, Nanoseconds}
 
--- a number in decimal, with zeros, 48, in front up to so many digits
+-- a number in decimal, padded with leading zeros (48) to at least `width` digits
 abbrev pub zero_filled : ℕ → ℕ → List ℕ
 zero_filled width n = replicate (width - length (decimal n)) 48 ++ decimal n
 
--- parts of a second, of which one has 10 ^ 6 or 10 ^ 9
+-- a fraction of a second in at least six digits for microseconds, and at least nine for nanoseconds
 abbrev pub fraction_text : TimeUnit → ℕ → List ℕ
 fraction_text Microseconds n = zero_filled 6 n
 fraction_text Nanoseconds n = zero_filled 9 n
 
--- the seconds since 1970, a point, 46, and the parts
+-- the seconds since 1970, a point (46) and the fraction of a second
 abbrev pub time_text : PacketHeader → List ℕ
 time_text h = decimal h.seconds ++ 46 ∷ fraction_text h.unit h.fraction

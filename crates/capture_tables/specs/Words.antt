@@ -1,4 +1,4 @@
--- What one argument of a command line is.
+-- Parsing of one argument of a command line.
 use Rattle.std.specs.Prelude.{◌≡◌, ◌≢◌, ℕ, ◌<◌, true, List, ◌∷◌, codes, length}
 use Rattle.std.specs.List.{AllPass}
 use Rattle.capture_tables.specs.Choice.{is_letter, with_letters}
@@ -8,19 +8,20 @@ use Rattle.capture_tables.specs.declared.words.Argument.TheVariants.{Help, Versi
 use Rattle.capture_tables.specs.declared.words.Argument.TheVariants.{Unknown, Utf8, Requests}
 use Rattle.capture_tables.specs.declared.words.Argument.TheVariants.{Netlink, Vsock, Xdp}
 
--- there are letters, and each is one of an option
+-- there is at least one letter, and each is an option
 abbrev pub AreLetters : List ℕ → Type 0
 AreLetters letters = (0 < length letters) × AllPass is_letter letters
 
--- an argument that is none of the names below: letters after a hyphen, 45, or what does not begin
--- with a hyphen, or an unknown option
+-- An argument that is not a long option is parsed by its first byte. With a hyphen (45) it is
+-- Letters if at least one letter follows, each of which is an option, and else Unknown. Without a
+-- hyphen it is a File.
 abbrev pub IsOther : List ℕ → Argument → Type 0
 IsOther word (Letters letters) = (word ≡ 45 ∷ letters.now) × AreLetters letters.now
 IsOther word File = (rest : List ℕ) → word ≢ 45 ∷ rest
 IsOther word Unknown = (letters : List ℕ) × (word ≡ 45 ∷ letters) × ¬ AreLetters letters
 IsOther word _ = ⊥
 
--- what an argument is
+-- what an argument is parsed as
 abbrev pub IsArgument : List ℕ → Argument → Type 0
 IsArgument word Help = word ≡ codes "--help"
 IsArgument word Version = word ≡ codes "--version"
@@ -34,7 +35,7 @@ IsArgument word other =
     × (word ≢ codes "--requests") × (word ≢ codes "--family=netlink") × (word ≢ codes "--vsock")
     × (word ≢ codes "--xdp") × IsOther word other
 
--- what an argument adds to the options
+-- the options `o`, and those of this argument
 abbrev pub with_argument : Argument → Options → Options
 with_argument (Letters letters) o = with_letters letters.now o
 with_argument Utf8 o = record o { utf8 = true }

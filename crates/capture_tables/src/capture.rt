@@ -1,5 +1,5 @@
-//! Captures of netlink traffic, as tcpdump writes them: the classic pcap format with the link type
-//! LINKTYPE_NETLINK.
+//! Captures of netlink traffic, as tcpdump(1) writes them: the classic pcap format with the link
+//! type `LINKTYPE_NETLINK`.
 
 ghost use Rattle.std.specs.Prelude.{◌≡◌, ◌↔◌, ◌+◌, ◌<◌, ◌≤◌, ◌++◌, ◌⊎◌, ℕ, List, [], length, IfOk};
 ghost use Rattle.std.specs.Prelude.{IfErr, OnOk, IsTrue, MatchBool, MatchOption, MatchResult};
@@ -18,70 +18,73 @@ use std::alloc::AllocError;
 use std::error::Error;
 use std::fmt;
 
-/// The first number of a capture whose times are in microseconds.
+/// Magic number of a pcap file whose timestamps have microseconds.
 const MICROSECONDS: u32 = 0xa1b2_c3d4;
 
-/// The first number of a capture whose times are in nanoseconds.
+/// Magic number of a pcap file whose timestamps have nanoseconds.
 const NANOSECONDS: u32 = 0xa1b2_3c4d;
 
-/// The first number of a pcapng capture, in either byte order.
+/// Block type at the start of a pcapng file. It is a palindrome, so it is the same in either byte
+/// order.
 const NEW_FORMAT: u32 = 0x0a0d_0d0a;
 
-/// The first two bytes of a file that gzip(1) packed, high byte first.
+/// Magic number of a gzip(1) file, as a big-endian number: its first two bytes.
 const PACKED: u32 = 0x1f8b;
 
-/// The first number of the format's version.
+/// Major version of the pcap format, at offset 4 of the file header.
 const MAJOR_VERSION: u16 = 2;
 
-/// LINKTYPE_NETLINK, the type of the link of nlmon(4) devices.
+/// `LINKTYPE_NETLINK`, the link type of nlmon(4) devices.
 const LINK_TYPE: u32 = 253;
 
-/// How many types of links there are. What stands above the type in its word is of the check
-/// sequence of frames, its length among it.
+/// Number of link types. The link type is in the low 16 bits of the field at offset 20. The high 16
+/// bits are not part of it: they have the length of the frame check sequence.
 const LINK_TYPES: u32 = 65_536;
 
-/// How many bytes the file header has.
+/// Length of the file header in bytes.
 const FILE_HEADER: usize = 24;
 
-/// How many bytes the header of a packet has.
+/// Length of a packet header in bytes.
 const RECORD_HEADER: usize = 16;
 
-/// How many bytes stand in front of the datagram of a packet: the cooked header.
+/// Length of the cooked header in bytes. It precedes the datagram of a packet.
 const COOKED_HEADER: usize = 16;
 
-/// The most bytes that a packet may have, whatever the file says: the default of tcpdump(1).
+/// Greatest length of a packet in bytes, whatever the file header says. It is the default snapshot
+/// length of tcpdump(1).
 const MOST: u32 = 262_144;
 
-/// ARPHRD_NETLINK, the hardware type of a netlink packet.
+/// `ARPHRD_NETLINK`, the hardware type of a netlink packet.
 const HARDWARE_TYPE: u16 = 824;
 
-/// NETLINK_SOCK_DIAG, the netlink protocol of sock_diag(7).
+/// `NETLINK_SOCK_DIAG`, the netlink protocol of sock_diag(7).
 const SOCK_DIAG: u16 = 4;
 
-/// Why no packet could be read.
+/// The reason why a header or a packet of a capture could not be read.
 #[derive(Clone, Copy, Debug, PartialEq, Eq)]
 pub enum CaptureError {
     /// A read failed.
     Read,
-    /// A read failed, since the input is a directory.
+    /// A read failed, because the input is a directory.
     Directory,
-    /// Memory ran out.
+    /// An allocation failed.
     Memory,
     /// The capture ends within a header or a packet.
     Cut,
-    /// There is not a byte.
+    /// The input has no bytes.
     Empty,
-    /// The capture is one of the newer format.
+    /// The input is a pcapng file.
     NewFormat,
-    /// The input is packed by gzip(1).
+    /// The input is compressed by gzip(1).
     Packed,
-    /// The first four bytes are those of no pcap file, here as a big-endian number.
+    /// The first four bytes are not the magic number of a known format. They are here as a
+    /// big-endian number.
     NoCapture(u32),
-    /// The format is of another version than 2.
+    /// The major version of the pcap format is not 2. It is here.
     OtherVersion(u16),
-    /// The packets are not those of a netlink device.
+    /// The link type is not 253 (`LINKTYPE_NETLINK`). It is here.
     OtherLinkType(u32),
-    /// A packet says to have so many bytes, which are more than 262144.
+    /// A packet header has a length of more than 262144 bytes. The length is here.
     PacketTooLong(u32),
 }
 
@@ -133,17 +136,17 @@ impl From<AllocError> for CaptureError {
     }
 }
 
-/// Which byte of a number stands first in the headers of a capture.
+/// The byte order of the numbers in the headers of a capture.
 #[derive(Clone, Copy, Debug, PartialEq, Eq)]
 pub enum ByteOrder {
-    /// The low byte.
+    /// Little-endian.
     LowFirst,
-    /// The high byte.
+    /// Big-endian.
     HighFirst,
 }
 
 impl ByteOrder {
-    /// The number of two bytes at an offset.
+    /// Returns the `u16` at an offset.
     fn short_at(self, bytes: &[u8], offset: usize) -> u16
         requires { offset + 2 ≤ length bytes.now }
         ensures { result ≡ number_at self 2 offset bytes.now }
@@ -154,7 +157,7 @@ impl ByteOrder {
         }
     }
 
-    /// The number of four bytes at an offset.
+    /// Returns the `u32` at an offset.
     fn word_at(self, bytes: &[u8], offset: usize) -> u32
         requires { offset + 4 ≤ length bytes.now }
         ensures { result ≡ number_at self 4 offset bytes.now }
@@ -165,7 +168,8 @@ impl ByteOrder {
         }
     }
 
-    /// The order in which the first four bytes are the first number of a capture.
+    /// Returns the byte order in which the first four bytes are a magic number of pcap. Returns
+    /// `None` if neither order has one.
     fn find(bytes: &[u8]) -> Option<ByteOrder>
         requires { 4 ≤ length bytes.now }
         ensures { MatchOption result
@@ -183,14 +187,15 @@ impl ByteOrder {
     }
 }
 
-/// Whether a capture begins with this number.
+/// Returns whether the number is a magic number of pcap.
 fn is_magic(number: u32) -> bool
     ensures { IsTrue result ↔ IsMagic number }
 {
     number == MICROSECONDS || number == NANOSECONDS
 }
 
-/// Why a file that begins with this number, read high byte first, is no capture.
+/// Returns the error of a file that is not a pcap file. `magic` has its first four bytes, as a
+/// big-endian number.
 fn no_capture(magic: u32) -> CaptureError
     ensures { IsOtherFile magic result }
 {
@@ -201,16 +206,16 @@ fn no_capture(magic: u32) -> CaptureError
     }
 }
 
-/// What a capture tells parts of a second in.
+/// The unit of the fraction of a second in a packet header.
 #[derive(Clone, Copy, Debug, PartialEq, Eq)]
 pub enum TimeUnit {
-    /// A second has 1,000,000 of them.
+    /// Microseconds: 1,000,000 in a second.
     Microseconds,
-    /// A second has 1,000,000,000 of them.
+    /// Nanoseconds: 1,000,000,000 in a second.
     Nanoseconds,
 }
 
-/// The unit in a capture that begins with this number.
+/// Returns the unit that belongs to a magic number.
 fn unit_of(magic: u32) -> TimeUnit
     ensures { result ≡ unit_of magic }
 {
@@ -220,33 +225,36 @@ fn unit_of(magic: u32) -> TimeUnit
     }
 }
 
-/// What the header of a packet tells of it beside the number of its bytes.
+/// The fields of a packet header, without the captured length.
 #[derive(Clone, Copy, Debug, PartialEq, Eq)]
 pub struct PacketHeader {
-    /// When the packet was captured, in seconds since 1970 (UTC).
+    /// Seconds of the capture time since 1970 (UTC), at offset 0.
     pub seconds: u32,
-    /// How many parts of a second later.
+    /// Fraction of a second of the capture time, in `unit`, at offset 4.
     pub fraction: u32,
-    /// What the parts are.
+    /// Unit of `fraction`.
     pub unit: TimeUnit,
-    /// How many bytes the packet had when it was captured.
+    /// Original length of the packet in bytes, at offset 12. It is greater than the captured length
+    /// if the packet was truncated.
     pub whole_length: u32,
 }
 
-/// What the header of a capture says of its packets. The most bytes that it says they have are not
-/// kept: tcpdump(1) too reads a longer packet.
+/// The fields of a file header that are needed to read its packets. The snapshot length at offset
+/// 16 is not one of them: like tcpdump(1), this reader accepts longer packets.
 #[derive(Clone, Copy, Debug, PartialEq, Eq)]
 pub struct FileHeader {
-    /// The order of the bytes of numbers in headers.
+    /// Byte order of the numbers in the file header and the packet headers.
     order: ByteOrder,
-    /// What the parts of a second are.
+    /// Unit of the fractions of a second in the packet headers.
     unit: TimeUnit,
 }
 
 impl FileHeader {
-    /// The header in the first 24 bytes. Refused are other first numbers as `NewFormat`, `Packed`
-    /// or `NoCapture`, then a version but 2 as `OtherVersion`, then a type of the link but 253 as
-    /// `OtherLinkType`.
+    /// Parses the file header in the first 24 bytes.
+    ///
+    /// Returns the first error, in this order: if the magic number is unknown, `NewFormat`,
+    /// `Packed` or `NoCapture`; if the major version is not 2, `OtherVersion`; if the link type is
+    /// not 253, `OtherLinkType`.
     pub fn parse(bytes: &[u8]) -> Result<FileHeader, CaptureError>
         requires { 24 ≤ length bytes.now }
         ensures { MatchResult result (IsFileHeader bytes.now) (IsFileHeaderFault bytes.now) }
@@ -266,7 +274,7 @@ impl FileHeader {
         Ok(FileHeader { order, unit })
     }
 
-    /// Reads the header of a capture. No input at all is `Empty`.
+    /// Reads the file header. Returns `Empty` if the input has no bytes.
     pub fn read<R: Source>(input: &mut R) -> Result<FileHeader, CaptureError>
         ensures read { IfOk result (λ file. (bytes : List ℕ) × (length bytes ≡ 24)
             × IsFileHeader bytes file
@@ -282,9 +290,10 @@ impl FileHeader {
         FileHeader::parse(&bytes)
     }
 
-    /// Reads the next packet in place of what `packet` held, and answers what its header tells, or
-    /// `None` where there is no packet more. It takes memory for the packet
-    /// alone, and none for one of more than 262144 bytes.
+    /// Reads the next packet into `packet`, whose former content is dropped. Returns the fields of
+    /// the packet header, or `None` at the end of the input.
+    ///
+    /// Allocates only for the bytes of the packet, and never for more than 262144 bytes.
     pub fn read_packet<R: Source>(
         &self,
         input: &mut R,
@@ -313,7 +322,7 @@ impl FileHeader {
         }
     }
 
-    /// What the header of a packet tells.
+    /// Returns the fields of the packet header in the first 16 bytes.
     fn packet_header(&self, bytes: &[u8]) -> PacketHeader
         requires { 16 ≤ length bytes.now }
         ensures { result ≡ packet_header self.now bytes.now }
@@ -327,7 +336,7 @@ impl FileHeader {
     }
 }
 
-/// Reads so many bytes in place of what `packet` held.
+/// Reads `count` bytes into `packet`, whose former content is dropped.
 fn read_bytes<R: Source>(
     input: &mut R,
     packet: &mut Vec<u8>,
@@ -345,7 +354,7 @@ fn read_bytes<R: Source>(
     fill(input, packet.as_mut_slice())
 }
 
-/// Fills the bytes from a reader. No read that failed is made again.
+/// Reads until `bytes` is full. Does not retry a failed read.
 fn fill<R: Source>(input: &mut R, bytes: &mut [u8]) -> Result<(), CaptureError>
     ensures filled { OnOk result (Consumes (R.left input.old) (R.left input.new) bytes.new) }
     ensures stopped { IfErr result (λ e. (part : List ℕ) × (length part < length bytes.old)
@@ -363,8 +372,8 @@ fn fill<R: Source>(input: &mut R, bytes: &mut [u8]) -> Result<(), CaptureError>
     Ok(())
 }
 
-/// Fills the bytes, at least one, or answers that none is left. The input is not cut off in front
-/// of them.
+/// Reads until `bytes` is full, and returns true. Returns false if the input is at its end before
+/// the first byte. `bytes` must not be empty.
 fn fill_or_end<R: Source>(input: &mut R, bytes: &mut [u8]) -> Result<bool, CaptureError>
     requires { 0 < length bytes.old }
     ensures filled { IfOk result (λ is_filled. MatchBool is_filled
@@ -386,22 +395,22 @@ fn fill_or_end<R: Source>(input: &mut R, bytes: &mut [u8]) -> Result<bool, Captu
     }
 }
 
-/// What a packet holds.
+/// The content of a packet.
 #[derive(Clone, Copy, Debug, PartialEq, Eq)]
 pub enum Packet<'a> {
-    /// A datagram of sock_diag(7).
+    /// A datagram of sock_diag(7): the bytes after the cooked header.
     SockDiag(&'a [u8]),
-    /// What is of another protocol.
+    /// A packet of another protocol.
     Other,
-    /// Fewer than the 16 bytes of the cooked header.
+    /// A packet with fewer than the 16 bytes of the cooked header.
     Short,
 }
 
 impl<'a> Packet<'a> {
     ghost use Rattle.capture_tables.specs.Cooked.{IsPacketOf};
 
-    /// Looks at the cooked header: of its 16 bytes the two at 2 are the hardware type, 824, and the
-    /// two at 14 the netlink protocol, each with its high byte first.
+    /// Parses the cooked header, which has 16 bytes. The hardware type is at offset 2 and must be
+    /// 824. The netlink protocol is at offset 14 and must be 4. Both are big-endian `u16`.
     pub fn parse(bytes: &'a [u8]) -> Packet<'a>
         ensures { IsPacketOf bytes.entry.now result }
     {

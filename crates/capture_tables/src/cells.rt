@@ -1,4 +1,4 @@
-//! The cells of a line. None takes memory but the text itself.
+//! Cells of a line. A function of this module allocates only to grow the text.
 
 ghost use Rattle.std.specs.Prelude.{◌≡◌, ◌++◌, ◌∷◌, [], ◌-◌, ◌≤◌, decimal, false, replicate};
 ghost use Rattle.std.specs.Prelude.{vec_len, OnOk};
@@ -12,7 +12,7 @@ use std::alloc::AllocError;
 use std::io::Write;
 use std::net::IpAddr;
 
-/// The name of a state, as ss(8) prints it.
+/// Returns the name of a socket state, as ss(8) prints it.
 pub fn name_of_state(state: u8) -> &'static [u8]
     ensures { result.now ≡ state_name state }
 {
@@ -32,7 +32,7 @@ pub fn name_of_state(state: u8) -> &'static [u8]
     }
 }
 
-/// Adds a number in decimal.
+/// Appends a number in decimal.
 pub fn push_number(text: &mut Vec<u8>, number: u64) -> Result<(), AllocError>
     ensures { OnOk result (text.new.items ≡ text.old.items ++ decimal number) }
 {
@@ -42,7 +42,7 @@ pub fn push_number(text: &mut Vec<u8>, number: u64) -> Result<(), AllocError>
     }
 }
 
-/// Adds a number in hexadecimal digits.
+/// Appends a number in lowercase hexadecimal digits.
 pub fn push_hex(text: &mut Vec<u8>, number: u64) -> Result<(), AllocError>
     ensures { OnOk result (text.new.items ≡ text.old.items ++ digits 16 false number) }
 {
@@ -52,7 +52,7 @@ pub fn push_hex(text: &mut Vec<u8>, number: u64) -> Result<(), AllocError>
     }
 }
 
-/// Fills what was added since `start` up with spaces to a width, and adds one more.
+/// Pads what was appended after `start` with spaces up to a width, and appends one more space.
 pub fn end_column(text: &mut Vec<u8>, start: usize, width: usize) -> Result<(), AllocError>
     requires { start ≤ vec_len text.old }
     ensures { OnOk result (text.new.items
@@ -65,7 +65,7 @@ pub fn end_column(text: &mut Vec<u8>, start: usize, width: usize) -> Result<(), 
     Ok(text.push(b' ')?)
 }
 
-/// Adds a column that holds a text.
+/// Appends a column with a text.
 pub fn push_column(text: &mut Vec<u8>, width: usize, content: &[u8]) -> Result<(), AllocError>
     ensures { OnOk result (text.new.items ≡ text.old.items ++ column width content.now) }
 {
@@ -74,7 +74,7 @@ pub fn push_column(text: &mut Vec<u8>, width: usize, content: &[u8]) -> Result<(
     end_column(text, start, width)
 }
 
-/// Adds a column that holds a number, or `-` where none is told.
+/// Appends a column with a number, or with `-` for `None`.
 pub fn push_number_column(
     text: &mut Vec<u8>,
     width: usize,
@@ -90,24 +90,24 @@ pub fn push_number_column(
     end_column(text, start, width)
 }
 
-/// What the first columns of a line hold.
+/// The content of the first columns of a line.
 #[derive(Clone, Copy)]
 pub struct Cells {
-    /// The kind of the socket.
+    /// Kind of the socket, the column Netid.
     pub kind: &'static [u8],
-    /// The number of its state.
+    /// State of the socket, as the kernel numbers it.
     pub state: u8,
-    /// The first queue, where it is told.
+    /// Content of the column Recv-Q. `None` if the reply does not contain it.
     pub receive_queue: Option<u32>,
-    /// The second one, likewise.
+    /// Content of the column Send-Q. `None` if the reply does not contain it.
     pub send_queue: Option<u32>,
-    /// The inode.
+    /// Inode of the socket.
     pub inode: u32,
-    /// The user, where one is told.
+    /// User id. `None` if the reply does not contain it.
     pub uid: Option<u32>,
 }
 
-/// Adds the first columns of a line.
+/// Appends the first columns of a line: all except the two addresses.
 pub fn push_first_columns(text: &mut Vec<u8>, cells: &Cells) -> Result<(), AllocError>
     ensures { OnOk result (text.new.items ≡ text.old.items
         ++ first_columns (cells_model cells.now)) }
@@ -120,7 +120,8 @@ pub fn push_first_columns(text: &mut Vec<u8>, cells: &Cells) -> Result<(), Alloc
     push_number_column(text, 5, cells.uid)
 }
 
-/// Adds a byte from `!` to `~` but the backslash as it is, and any other as `\x` and two digits.
+/// Appends a byte unchanged if it is from `!` to `~` and not a backslash. Otherwise appends `\x`
+/// and its two hexadecimal digits.
 pub fn push_escaped_byte(text: &mut Vec<u8>, byte: u8) -> Result<(), AllocError>
     ensures { OnOk result (text.new.items ≡ text.old.items ++ escaped byte) }
 {
@@ -130,7 +131,7 @@ pub fn push_escaped_byte(text: &mut Vec<u8>, byte: u8) -> Result<(), AllocError>
     push_digits(text, byte)
 }
 
-/// Adds `\x` and the two digits of a byte.
+/// Appends `\x` and the two hexadecimal digits of a byte.
 pub fn push_digits(text: &mut Vec<u8>, byte: u8) -> Result<(), AllocError>
     ensures { OnOk result (text.new.items ≡ text.old.items ++ byte_digits byte) }
 {
@@ -142,7 +143,8 @@ pub fn push_digits(text: &mut Vec<u8>, byte: u8) -> Result<(), AllocError>
     text.extend_from_slice(&digits)
 }
 
-/// Adds a number of an end, as the inode of a UNIX socket's peer, or `*` where none is told.
+/// Appends a number that identifies a peer, such as the inode of a UNIX socket's peer, or `*` for
+/// `None`.
 pub fn push_peer(text: &mut Vec<u8>, inode: Option<u32>) -> Result<(), AllocError>
     ensures { OnOk result (text.new.items ≡ text.old.items ++ peer_cell inode) }
 {
@@ -152,7 +154,7 @@ pub fn push_peer(text: &mut Vec<u8>, inode: Option<u32>) -> Result<(), AllocErro
     }
 }
 
-/// Adds a column that holds an endpoint.
+/// Appends a column with an address and a port, as [`push_endpoint`] writes them.
 pub fn push_endpoint_column(
     text: &mut Vec<u8>,
     width: usize,
@@ -168,8 +170,8 @@ pub fn push_endpoint_column(
     end_column(text, start, width)
 }
 
-/// Adds an address, an IPv6 address in brackets and in its short form (RFC 5952), then `%` and the
-/// number of the interface where it is not 0, then `:` and the port, or `*` for 0.
+/// Appends an address, then `%` and the interface number if it is not 0, then `:` and the port, or
+/// `*` if the port is 0. An IPv6 address is in brackets and in its short form (RFC 5952).
 pub fn push_endpoint(
     text: &mut Vec<u8>,
     address: IpAddr,
@@ -187,7 +189,7 @@ pub fn push_endpoint(
     push_port(text, port)
 }
 
-/// Adds an address, in brackets where it is one of IPv6.
+/// Appends an address, in brackets if it is an IPv6 address.
 fn push_host(text: &mut Vec<u8>, address: IpAddr) -> Result<(), AllocError>
     ensures { OnOk result (text.new.items ≡ text.old.items ++ host address) }
 {
@@ -201,7 +203,7 @@ fn push_host(text: &mut Vec<u8>, address: IpAddr) -> Result<(), AllocError>
     }
 }
 
-/// Adds a port, or `*` for 0.
+/// Appends a port, or `*` for 0.
 fn push_port(text: &mut Vec<u8>, port: u16) -> Result<(), AllocError>
     ensures { OnOk result (text.new.items ≡ text.old.items ++ port_text port) }
 {

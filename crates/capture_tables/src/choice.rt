@@ -1,4 +1,4 @@
-//! What the command line of a program that lists captures asks for.
+//! The request of a command line to a program that lists captures.
 
 ghost use Rattle.std.specs.Prelude.{map, string_bytes};
 ghost use Rattle.capture_tables.specs.Choice.{IsChoice};
@@ -6,21 +6,22 @@ ghost use Rattle.capture_tables.specs.Choice.{IsChoice};
 use crate::options::Options;
 use crate::words::{Argument, parse_argument};
 
-/// What the command line asks for.
+/// The request of a command line.
 #[derive(Clone, Copy, Debug)]
 pub enum Choice<'a> {
-    /// To print the help text.
+    /// Print the help text.
     Help,
-    /// To print the version.
+    /// Print the version.
     Version,
-    /// To reject this argument, an unknown option.
+    /// Reject this argument: it is an unknown option.
     Reject(&'a str),
-    /// To list captures by these options.
+    /// List captures with these options.
     Captures(Options),
 }
 
-/// Returns what the arguments after the program's name ask for. The first one that is `--help`,
-/// `--version` or an unknown option decides. If there is none, the options of all arguments count.
+/// Returns the request of the arguments after the program's name. The first argument that is
+/// `--help`, `--version` or an unknown option decides. If there is none, the options of all
+/// arguments count.
 pub fn choose(arguments: &[String]) -> Choice<'_>
     ensures { IsChoice (map string_bytes arguments.entry.now) result }
 {

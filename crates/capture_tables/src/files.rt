@@ -1,4 +1,4 @@
-//! Lists the captures that a command line names.
+//! Listing of the captures that a command line names.
 
 ghost use Rattle.std.specs.Prelude.{◌≡◌, ◌++◌, ◌∷◌, [], ◌==◌, if◌then◌else◌, ℕ, List, map};
 ghost use Rattle.std.specs.Prelude.{option_map, string_bytes};
@@ -9,10 +9,10 @@ ghost use Rattle.capture_tables.specs.Files.{listing_name, listing_status};
 use crate::words::is_file;
 use std::process::ExitCode;
 
-/// What lists one capture after another. Generic code can list a capture by this method only, so it
-/// can't return a status that no call returned.
+/// A lister of captures. Generic code can list a capture by this method only, so it cannot return a
+/// status that no call returned.
 pub trait ListCapture {
-    // These captures were listed, in order.
+    // These captures were listed, in this order.
     ghost listed: { Self → List Listing → Type 0 };
 
     /// Lists the capture in the file of this name, or the one on standard input if there is none.

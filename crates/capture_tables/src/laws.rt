@@ -1,4 +1,4 @@
-//! Laws of the plain types: `==` and `clone`.
+//! Properties of the plain types: `==` and `clone`.
 
 ghost use Rattle.std.specs.Prelude.{◌≡◌, ◌↔◌, IsTrue, IsOk, IfOk};
 ghost use Rattle.capture_tables.specs.Cooked.{AreEqualPackets};
@@ -148,7 +148,7 @@ pub fn copied_cells(v: &Cells) -> Result<Cells, AllocError>
     v.clone()
 }
 
-/// Copies the words of a timer by `clone`, which never fails and returns an equal value.
+/// Copies the fields of a timer by `clone`, which never fails and returns an equal value.
 pub fn copied_timer_words(v: &TimerWords) -> Result<TimerWords, AllocError>
     ensures ok { IsOk result }
     ensures same { IfOk result (λ copy. copy ≡ v.now) }

@@ -1,5 +1,5 @@
-//! Captures of netlink traffic are read, and the cells and words of a table of them are written.
-//! The datagrams are not decoded.
+//! Reads captures of netlink traffic, writes the cells and details of a table, and parses the
+//! command line of a program that lists captures. The datagrams are not decoded.
 #![tactic(auto)]
 
 mod capture;

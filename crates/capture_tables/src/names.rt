@@ -1,4 +1,5 @@
-//! Names and other texts that a socket's owner chose. None takes memory but the text itself.
+//! Names and other texts that the owner of a socket chose. A function of this module allocates only
+//! to grow the output.
 
 ghost use Rattle.std.specs.Prelude.{◌≡◌, ◌++◌, ◌&&◌, ℕ, List, OnOk, chars, flat_map, nat_le};
 ghost use Rattle.std.specs.List.{list_any};
@@ -7,8 +8,9 @@ ghost use Rattle.capture_tables.specs.Escapes.{bytes_told, char_text, escaped, i
 use crate::cells::push_escaped_byte;
 use std::alloc::AllocError;
 
-/// The ranges of characters that are shown, the first and the last of each: of Latin, Greek and
-/// Cyrillic, punctuation, currencies, arrows, shapes, and of Chinese, Japanese and Korean.
+/// Ranges of the characters that are shown, with the first and the last character of each. They are
+/// Latin, Greek and Cyrillic letters, punctuation, currency signs, arrows, shapes, and Chinese,
+/// Japanese and Korean characters.
 const SHOWN: [(u32, u32); 18] = [
     (0xa1, 0xac),
     (0xae, 0x2ff),
@@ -30,11 +32,12 @@ const SHOWN: [(u32, u32); 18] = [
     (0xac00, 0xd7a3),
 ];
 
-/// Adds a text. Where UTF-8 is asked for and the bytes are UTF-8, characters that are shown stand
-/// as they are. Any other byte that is not plain is told by `\x` and two digits.
+/// Appends a name so that it cannot break a line or a column. A byte from `!` to `~` except the
+/// backslash is appended unchanged, any other byte as `\x` and two digits. If `utf8` is set and the
+/// bytes are valid UTF-8, the characters of the ranges of `SHOWN` are appended unchanged too.
 pub fn push_shown(text: &mut Vec<u8>, utf8: bool, bytes: &[u8]) -> Result<(), AllocError>
     ensures shown { OnOk result (text.new.items ≡ text.old.items ++ shown utf8 bytes.now) }
-    // What is shown tells each byte, so two texts are never shown alike.
+    // The bytes can be read back from what is shown. So two different names are never shown alike.
     ensures told { (behind : List ℕ)
         → (bytes_told 0 (shown utf8 bytes.now ++ behind) ≡ bytes.now ++ bytes_told 0 behind) }
 {
@@ -47,7 +50,7 @@ pub fn push_shown(text: &mut Vec<u8>, utf8: bool, bytes: &[u8]) -> Result<(), Al
     }
 }
 
-/// Adds the characters of a text, each as it is where it is shown.
+/// Appends the characters of a text. A character that is not shown is escaped byte by byte.
 fn push_chars(text: &mut Vec<u8>, name: &str) -> Result<(), AllocError>
     ensures { OnOk result (text.new.items ≡ text.old.items ++ flat_map char_text (chars name.now)) }
 {
@@ -57,7 +60,7 @@ fn push_chars(text: &mut Vec<u8>, name: &str) -> Result<(), AllocError>
     Ok(())
 }
 
-/// Adds a character, as it is where it is shown.
+/// Appends a character if it is shown, or else its UTF-8 bytes, escaped.
 fn push_char(text: &mut Vec<u8>, c: char) -> Result<(), AllocError>
     ensures { OnOk result (text.new.items ≡ text.old.items ++ char_text c) }
 {
@@ -70,14 +73,14 @@ fn push_char(text: &mut Vec<u8>, c: char) -> Result<(), AllocError>
     }
 }
 
-/// Whether a character past ASCII is shown.
+/// Returns whether a character is shown although it is not ASCII.
 fn is_shown(c: char) -> bool
     ensures { result ≡ is_shown c }
 {
     !c.is_ascii() && is_in_ranges(&SHOWN, c as u32)
 }
 
-/// Whether a number lies in one of the ranges.
+/// Returns whether a number is in one of the ranges.
 fn is_in_ranges(ranges: &[(u32, u32)], number: u32) -> bool
     ensures { result
         ≡ list_any (λ range. nat_le range.0 number && nat_le number range.1) ranges.now }
@@ -87,7 +90,7 @@ fn is_in_ranges(ranges: &[(u32, u32)], number: u32) -> bool
         .any(|range| range.0 <= number && number <= range.1)
 }
 
-/// Adds bytes, those that are not plain as `\x` and two digits.
+/// Appends each byte as [`push_escaped_byte`] does.
 fn push_escaped(text: &mut Vec<u8>, bytes: &[u8]) -> Result<(), AllocError>
     ensures { OnOk result (text.new.items ≡ text.old.items ++ flat_map escaped bytes.now) }
 {

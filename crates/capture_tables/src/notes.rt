@@ -1,4 +1,4 @@
-//! What is written of packets, and the diagnostics of a packet that isn't whole.
+//! The output about packets, and the diagnostics about truncated and short packets.
 
 ghost use Rattle.std.specs.Prelude.{◌≡◌, ◌↔◌, ◌≤◌, ◌++◌, IfOk, IsTrue, OnOk, length};
 ghost use Rattle.capture_tables.specs.Reports.{cut_line, cut_text, packet_line, short_line};
@@ -6,19 +6,19 @@ ghost use Rattle.capture_tables.specs.Reports.{cut_line, cut_text, packet_line, 
 use std::alloc::AllocError;
 use std::io::Write;
 
-/// What is written of packets.
+/// The output about packets.
 #[derive(Drop)]
 pub struct Written<'a> {
-    /// The text that begins each line for standard error.
+    /// Prefix of each line for standard error.
     pub front: &'a str,
-    /// The lines of the table.
+    /// Lines of the table.
     pub lines: Vec<u8>,
-    /// The lines for standard error.
+    /// Lines for standard error.
     pub issues: Vec<u8>,
 }
 
-/// Adds a line about a packet if it had more bytes when it was captured, and returns whether it had
-/// no more.
+/// Appends a diagnostic if the packet was truncated: if it has fewer bytes than `whole_length`, its
+/// original length. Returns true if it was not truncated.
 pub fn push_cut_note(
     written: &mut Written<'_>,
     number: u64,
@@ -38,7 +38,8 @@ pub fn push_cut_note(
     Ok(false)
 }
 
-/// Adds a line about a packet of which `length` bytes were captured, and which had more.
+/// Appends the diagnostic of a truncated packet: `length` of its `whole_length` bytes were
+/// captured.
 fn push_cut(
     written: &mut Written<'_>,
     packet: u64,
@@ -60,7 +61,7 @@ fn push_cut(
     }
 }
 
-/// Adds a line about a packet that is too short to be one of a netlink device.
+/// Appends the diagnostic of a packet that is shorter than the cooked header.
 pub fn push_short(written: &mut Written<'_>, packet: u64) -> Result<(), AllocError>
     ensures lines { OnOk result (written.new.lines.items ≡ written.old.lines.items) }
     ensures issues { OnOk result (written.new.issues.items ≡ written.old.issues.items

@@ -1,69 +1,71 @@
-//! Which sockets are listed, and what is told of each beside its columns.
+//! Selection of the sockets that are listed, and of the details that are shown for each.
 
 ghost use Rattle.std.specs.Prelude.{◌≡◌};
 ghost use Rattle.capture_tables.specs.Options.{asks_family, is_asked, lists_family, lists_protocol};
 ghost use Rattle.capture_tables.specs.Options.{lists_unix, selects, shows};
 
-/// IPPROTO_TCP.
+/// `IPPROTO_TCP`.
 const TCP: u32 = 6;
 
-/// IPPROTO_UDP.
+/// `IPPROTO_UDP`.
 const UDP: u32 = 17;
 
-/// IPPROTO_MPTCP.
+/// `IPPROTO_MPTCP`.
 const MPTCP: u32 = 262;
 
-/// What is asked for, by the options of ss(8) and by two more. Where none of `timer`, `extended`,
-/// `memory` and `connection` is set, each detail is told, and where none of `tcp`, `udp`, `mptcp`,
-/// `unix`, `netlink`, `packet`, `vsock` and `xdp` is, each socket is listed.
+/// The options of a command line: those of ss(8), and `--utf8` and `--requests`.
+///
+/// If none of `timer`, `extended`, `memory` and `connection` is set, all details are shown. If none
+/// of `tcp`, `udp`, `mptcp`, `unix`, `netlink`, `packet`, `vsock` and `xdp` is set, all sockets are
+/// listed.
 #[derive(Clone, Copy, Debug, Default, PartialEq, Eq)]
 pub struct Options {
-    /// `-o`: the timer is told.
+    /// `-o`: show the timer.
     pub timer: bool,
-    /// `-e`: the cookie is told, and what the others don't tell.
+    /// `-e`: show the cookie, and all details that `-o`, `-m` and `-i` do not show.
     pub extended: bool,
-    /// `-m`: the memory is told.
+    /// `-m`: show the memory.
     pub memory: bool,
-    /// `-i`: the connection and its congestion control are told.
+    /// `-i`: show the connection and its congestion control.
     pub connection: bool,
-    /// `-O`: what is told stands behind the columns, in one line.
+    /// `-O`: write the details on the same line as the columns.
     pub one_line: bool,
-    /// `-t`: TCP sockets are listed.
+    /// `-t`: list TCP sockets.
     pub tcp: bool,
-    /// `-u`: UDP sockets are listed.
+    /// `-u`: list UDP sockets.
     pub udp: bool,
-    /// `-M`: MPTCP sockets are listed.
+    /// `-M`: list MPTCP sockets.
     pub mptcp: bool,
-    /// `-x`: UNIX sockets are listed.
+    /// `-x`: list UNIX sockets.
     pub unix: bool,
-    /// `--family=netlink`: netlink sockets are listed.
+    /// `--family=netlink`: list netlink sockets.
     pub netlink: bool,
-    /// `-0`: packet sockets are listed.
+    /// `-0`: list packet sockets.
     pub packet: bool,
-    /// `--vsock`: vsock sockets are listed.
+    /// `--vsock`: list vsock sockets.
     pub vsock: bool,
-    /// `--xdp`: XDP sockets are listed.
+    /// `--xdp`: list XDP sockets.
     pub xdp: bool,
-    /// `--utf8`: of names that are UTF-8 characters are shown.
+    /// `--utf8`: show letters of names that are valid UTF-8.
     pub utf8: bool,
-    /// `--requests`: each request has a line with its time.
+    /// `--requests`: write a line with the time of each request.
     pub requests: bool,
 }
 
-/// What options ask for beside the columns.
+/// A group of details that an option selects.
 #[derive(Clone, Copy)]
 pub enum Detail {
-    /// The timer.
+    /// Timer (`-o`).
     Timer,
-    /// What the others don't tell.
+    /// Cookie, and all details of no other group (`-e`).
     Extended,
-    /// The memory.
+    /// Memory (`-m`).
     Memory,
-    /// The connection and its congestion control.
+    /// Connection and its congestion control (`-i`).
     Connection,
 }
 
-/// A family of sockets beside UNIX, IPv4 and IPv6.
+/// A family of sockets other than UNIX, IPv4 and IPv6.
 #[derive(Clone, Copy)]
 pub enum Family {
     /// Netlink sockets.
@@ -77,14 +79,14 @@ pub enum Family {
 }
 
 impl Options {
-    /// Whether a detail is told.
+    /// Returns whether a group of details is shown.
     pub fn shows(self, detail: Detail) -> bool
         ensures { result ≡ shows self detail }
     {
         self.asks_for(detail) || !(self.timer || self.extended || self.memory || self.connection)
     }
 
-    /// Whether a detail is asked for by its option.
+    /// Returns whether the option of a group of details is set.
     fn asks_for(self, detail: Detail) -> bool
         ensures { result ≡ is_asked self detail }
     {
@@ -96,14 +98,15 @@ impl Options {
         }
     }
 
-    /// Whether UNIX sockets are listed.
+    /// Returns whether UNIX sockets are listed.
     pub fn lists_unix(self) -> bool
         ensures { result ≡ lists_unix self }
     {
         self.unix || !self.selects()
     }
 
-    /// Whether IPv4 and IPv6 sockets of this protocol are listed. One that isn't known may be any.
+    /// Returns whether IPv4 and IPv6 sockets of a protocol are listed. A socket whose protocol is
+    /// not known (`None`) is listed if any of TCP, UDP and MPTCP is selected.
     pub fn lists_protocol(self, protocol: Option<u32>) -> bool
         ensures { result ≡ lists_protocol self protocol }
     {
@@ -117,14 +120,14 @@ impl Options {
         is_asked || !self.selects()
     }
 
-    /// Whether sockets of this family are listed.
+    /// Returns whether sockets of a family are listed.
     pub fn lists_family(self, family: Family) -> bool
         ensures { result ≡ lists_family self family }
     {
         self.asks_family(family) || !self.selects()
     }
 
-    /// Whether they are asked for by their option.
+    /// Returns whether the option of a family is set.
     fn asks_family(self, family: Family) -> bool
         ensures { result ≡ asks_family self family }
     {
@@ -136,7 +139,7 @@ impl Options {
         }
     }
 
-    /// Whether some sockets alone are asked for.
+    /// Returns whether an option that selects sockets is set.
     fn selects(self) -> bool
         ensures { result ≡ selects self }
     {

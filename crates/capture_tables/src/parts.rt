@@ -1,5 +1,5 @@
-//! The words of a line beside its columns, each behind a space. None takes memory but the text
-//! itself.
+//! Details of a line, each after a space. A function of this module allocates only to grow the
+//! text.
 
 ghost use Rattle.std.specs.Prelude.{◌≡◌, ◌++◌, OnOk};
 ghost use Rattle.capture_tables.specs.Parts.{cookie_if_asked, detail, directions, flag_detail};
@@ -12,38 +12,39 @@ use crate::options::{Detail, Options};
 use byteorder::{ByteOrder, LittleEndian};
 use std::alloc::AllocError;
 
-/// The bit of a shut-down state for what is received.
+/// `RCV_SHUTDOWN`, the bit of a shutdown state for receiving.
 const SHUT_RECEIVING: u8 = 1;
 
-/// The bit of a shut-down state for what is sent.
+/// `SEND_SHUTDOWN`, the bit of a shutdown state for sending.
 const SHUT_SENDING: u8 = 2;
 
-/// What the header of a reply about an IPv4 or IPv6 socket tells of the timer that runs.
+/// The timer fields of `inet_diag_msg`, the header of a reply about an IPv4 or IPv6 socket.
 #[derive(Clone, Copy)]
 pub struct TimerWords {
-    /// Which timer, `idiag_timer` of sock_diag(7), 0 for none.
+    /// Kind of the timer (`idiag_timer`). 0 if no timer runs.
     pub class: u8,
-    /// How often it was sent again, `idiag_retrans`.
+    /// Number of retransmits (`idiag_retrans`).
     pub retransmits: u8,
-    /// The time until it ends, `idiag_expires`, in milliseconds.
+    /// Time until the timer expires (`idiag_expires`), in milliseconds.
     pub expires: u32,
 }
 
-/// The timer of a socket that has none.
+/// The fields of a socket without a timer.
 pub const NO_TIMER: TimerWords = TimerWords {
     class: 0,
     retransmits: 0,
     expires: 0,
 };
 
-/// What stands between the columns and the details.
+/// Returns what separates the columns from the details: nothing with `-O`, or else a line feed and
+/// a tab.
 pub fn separator(options: Options) -> &'static [u8]
     ensures { result.now ≡ separator options }
 {
     if options.one_line { b"" } else { b"\n\t" }
 }
 
-/// Adds the timer that runs, where it is asked for.
+/// Appends the timer if its group of details is shown.
 pub fn push_shown_timer(
     text: &mut Vec<u8>,
     options: Options,
@@ -57,7 +58,8 @@ pub fn push_shown_timer(
     push_timer(text, timer)
 }
 
-/// Adds the timer that runs, the time until it ends, and how often it was sent again.
+/// Appends the kind of the timer, the time until it expires, and the number of retransmits. Appends
+/// nothing if no timer runs.
 fn push_timer(text: &mut Vec<u8>, timer: &TimerWords) -> Result<(), AllocError>
     ensures { OnOk result (text.new.items ≡ text.old.items ++ timer_text timer.now) }
 {
@@ -73,7 +75,7 @@ fn push_timer(text: &mut Vec<u8>, timer: &TimerWords) -> Result<(), AllocError>
     Ok(text.push(b')')?)
 }
 
-/// The name of a timer, as ss(8) prints it.
+/// Returns the name of a kind of timer, as ss(8) prints it.
 fn name_of_timer(class: u8) -> &'static [u8]
     ensures { result.now ≡ timer_name class }
 {
@@ -86,7 +88,7 @@ fn name_of_timer(class: u8) -> &'static [u8]
     }
 }
 
-/// Adds the cookie, where it is asked for.
+/// Appends the cookie if its group of details is shown.
 pub fn push_shown_cookie(
     text: &mut Vec<u8>,
     options: Options,
@@ -101,7 +103,7 @@ pub fn push_shown_cookie(
     push_hex(text, LittleEndian::read_u64(cookie))
 }
 
-/// Adds the directions that are not shut down, as ss(8) does.
+/// Appends the directions that are not shut down, as ss(8) does: `<->` if none is.
 pub fn push_directions(text: &mut Vec<u8>, state: u8) -> Result<(), AllocError>
     ensures { OnOk result (text.new.items ≡ text.old.items ++ directions state) }
 {
@@ -119,7 +121,7 @@ pub fn push_directions(text: &mut Vec<u8>, state: u8) -> Result<(), AllocError>
     })?)
 }
 
-/// Adds a word for each of the bits that a packet socket is set to.
+/// Appends the name of each flag of a packet socket (`PDI_..` of linux/packet_diag.h) that is set.
 pub fn push_packet_flags(text: &mut Vec<u8>, flags: u8) -> Result<(), AllocError>
     ensures { OnOk result (text.new.items ≡ text.old.items ++ packet_flags flags) }
 {
@@ -130,7 +132,7 @@ pub fn push_packet_flags(text: &mut Vec<u8>, flags: u8) -> Result<(), AllocError
     push_flag(text, b"loss", 16, flags)
 }
 
-/// Adds a comma, a word and a number, where one is told.
+/// Appends a comma, a name and a number. Appends nothing for `None`.
 pub fn push_part(text: &mut Vec<u8>, word: &[u8], number: Option<u32>) -> Result<(), AllocError>
     ensures { OnOk result (text.new.items ≡ text.old.items ++ memory_part word.now number) }
 {
@@ -142,7 +144,7 @@ pub fn push_part(text: &mut Vec<u8>, word: &[u8], number: Option<u32>) -> Result
     push_number(text, number.into())
 }
 
-/// Adds a word and a number, where it is not 0.
+/// Appends a detail with a number if the number is not 0.
 pub fn push_some(text: &mut Vec<u8>, word: &[u8], number: u64) -> Result<(), AllocError>
     ensures { OnOk result (text.new.items ≡ text.old.items ++ some_detail word.now number) }
 {
@@ -152,7 +154,7 @@ pub fn push_some(text: &mut Vec<u8>, word: &[u8], number: u64) -> Result<(), All
     push_detail(text, word, number)
 }
 
-/// Adds a word where a number has one of these bits.
+/// Appends a space and a name if a number has one of these bits.
 pub fn push_flag(text: &mut Vec<u8>, word: &[u8], bits: u8, number: u8) -> Result<(), AllocError>
     ensures { OnOk result (text.new.items ≡ text.old.items ++ flag_detail word.now bits number) }
 {
@@ -163,7 +165,7 @@ pub fn push_flag(text: &mut Vec<u8>, word: &[u8], bits: u8, number: u8) -> Resul
     text.extend_from_slice(word)
 }
 
-/// Adds a space, a word, a colon and two numbers in brackets.
+/// Appends a space, a name, a colon and two numbers in parentheses.
 pub fn push_pair(text: &mut Vec<u8>, word: &[u8], first: u64, second: u64) -> Result<(), AllocError>
     ensures { OnOk result (text.new.items ≡ text.old.items
         ++ pair_detail word.now first second) }
@@ -177,7 +179,7 @@ pub fn push_pair(text: &mut Vec<u8>, word: &[u8], first: u64, second: u64) -> Re
     Ok(text.push(b')')?)
 }
 
-/// Adds a space, a word, a colon, `0x` and a number in hexadecimal digits.
+/// Appends a space, a name, a colon, `0x` and a number in hexadecimal digits.
 pub fn push_hex_detail(text: &mut Vec<u8>, word: &[u8], number: u64) -> Result<(), AllocError>
     ensures { OnOk result (text.new.items ≡ text.old.items ++ hex_detail word.now number) }
 {
@@ -187,7 +189,7 @@ pub fn push_hex_detail(text: &mut Vec<u8>, word: &[u8], number: u64) -> Result<(
     push_hex(text, number)
 }
 
-/// Adds a space, a word, a colon and a number.
+/// Appends a space, a name, a colon and a number.
 pub fn push_detail(text: &mut Vec<u8>, word: &[u8], number: u64) -> Result<(), AllocError>
     ensures { OnOk result (text.new.items ≡ text.old.items ++ detail word.now number) }
 {

@@ -1,4 +1,4 @@
-//! What is written to standard error: diagnostics, and the line that names a failure.
+//! Output on standard error: diagnostics, and the line that names a failure.
 
 ghost use Rattle.std.specs.Prelude.{◌≡◌, ◌++◌, ◌∷◌, [], codes, decimal};
 ghost use Rattle.byteorder.specs.Endian.{big_bytes};
@@ -34,8 +34,8 @@ impl fmt::Display for ErrorText {
     }
 }
 
-/// Writes a text on `errors` if `is_open`. If a write fails, clears `is_open`, so that nothing more
-/// is written there.
+/// Writes a text on `errors` if `is_open` is set. If a write fails, clears `is_open`, so that
+/// nothing more is written there.
 pub fn report<E: Sink>(errors: &mut E, is_open: &mut bool, text: &[u8])
     ensures { ReportsMore (E.held errors.old) ((e : RunError) × E.failed errors.old e) is_open.old
         (E.held errors.new) ((e : RunError) × E.failed errors.new e) is_open.new text.now }
@@ -48,8 +48,8 @@ pub fn report<E: Sink>(errors: &mut E, is_open: &mut bool, text: &[u8])
     }
 }
 
-/// Writes the line that names a failure, in the same way. Writes nothing if nobody reads the
-/// output. Does not allocate.
+/// Writes the line that names a failure, by [`report`]. Writes nothing if the failure is a closed
+/// output pipe. Does not allocate.
 pub fn report_failure<E: Sink>(errors: &mut E, is_open: &mut bool, front: &str, failure: &RunError)
     ensures { ReportsMore (E.held errors.old) ((e : RunError) × E.failed errors.old e) is_open.old
         (E.held errors.new) ((e : RunError) × E.failed errors.new e) is_open.new
@@ -61,7 +61,7 @@ pub fn report_failure<E: Sink>(errors: &mut E, is_open: &mut bool, front: &str, 
     }
 }
 
-/// Writes a line with the text of a failure, in the same way.
+/// Writes a line with the text of a failure, by [`report`].
 fn report_line<E: Sink>(errors: &mut E, is_open: &mut bool, front: &str, failure: &RunError)
     ensures { ReportsMore (E.held errors.old) ((e : RunError) × E.failed errors.old e) is_open.old
         (E.held errors.new) ((e : RunError) × E.failed errors.new e) is_open.new
@@ -73,7 +73,8 @@ fn report_line<E: Sink>(errors: &mut E, is_open: &mut bool, front: &str, failure
     report(errors, is_open, b"\n");
 }
 
-/// Writes which packet a failure is about, in the same way, if it is about one.
+/// Writes the number of the packet that a failure is about, by [`report`]. Writes nothing if it is
+/// not about a packet.
 fn report_place<E: Sink>(errors: &mut E, is_open: &mut bool, failure: &RunError)
     ensures { ReportsMore (E.held errors.old) ((e : RunError) × E.failed errors.old e) is_open.old
         (E.held errors.new) ((e : RunError) × E.failed errors.new e) is_open.new
@@ -85,7 +86,7 @@ fn report_place<E: Sink>(errors: &mut E, is_open: &mut bool, failure: &RunError)
     }
 }
 
-/// Writes the number of a packet before what is reported of it, in the same way.
+/// Writes the number of a packet as the prefix of an error, by [`report`].
 fn report_packet<E: Sink>(errors: &mut E, is_open: &mut bool, packet: u64)
     ensures { ReportsMore (E.held errors.old) ((e : RunError) × E.failed errors.old e) is_open.old
         (E.held errors.new) ((e : RunError) × E.failed errors.new e) is_open.new
@@ -96,7 +97,7 @@ fn report_packet<E: Sink>(errors: &mut E, is_open: &mut bool, packet: u64)
     report(errors, is_open, b": ");
 }
 
-/// Writes an error's text, in the same way.
+/// Writes the text of an error, by [`report`].
 fn report_text<E: Sink>(errors: &mut E, is_open: &mut bool, text: ErrorText)
     ensures { ReportsMore (E.held errors.old) ((e : RunError) × E.failed errors.old e) is_open.old
         (E.held errors.new) ((e : RunError) × E.failed errors.new e) is_open.new (joined text) }
@@ -115,7 +116,7 @@ fn report_text<E: Sink>(errors: &mut E, is_open: &mut bool, text: ErrorText)
     }
 }
 
-/// Writes a number in decimal, in the same way.
+/// Writes a number in decimal, by [`report`].
 fn report_number<E: Sink>(errors: &mut E, is_open: &mut bool, number: u64)
     ensures { ReportsMore (E.held errors.old) ((e : RunError) × E.failed errors.old e) is_open.old
         (E.held errors.new) ((e : RunError) × E.failed errors.new e) is_open.new
@@ -125,7 +126,7 @@ fn report_number<E: Sink>(errors: &mut E, is_open: &mut bool, number: u64)
     report(errors, is_open, buffer.format(number).as_bytes());
 }
 
-/// Writes a number in eight hex digits, in the same way.
+/// Writes a number in eight hexadecimal digits, by [`report`].
 fn report_hex<E: Sink>(errors: &mut E, is_open: &mut bool, number: u32)
     ensures { ReportsMore (E.held errors.old) ((e : RunError) × E.failed errors.old e) is_open.old
         (E.held errors.new) ((e : RunError) × E.failed errors.new e) is_open.new
@@ -134,7 +135,7 @@ fn report_hex<E: Sink>(errors: &mut E, is_open: &mut bool, number: u32)
     report(errors, is_open, &hex_digits(number));
 }
 
-/// Returns a number in eight hex digits.
+/// Returns the eight hexadecimal digits of a number.
 fn hex_digits(number: u32) -> [u8; 8]
     ensures { result ≡ encode_lower (big_bytes 4 number) }
 {

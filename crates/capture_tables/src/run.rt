@@ -1,4 +1,4 @@
-//! The steps of a run over a capture: its header and its packets are read, and lines are written.
+//! Steps of a run over a capture: reading its header and its packets, and writing bytes.
 
 ghost use Rattle.std.specs.Prelude.{◌≡◌, ◌++◌, List, ℕ, length, IfErr, IfOk, MatchOption, OnOk};
 ghost use Rattle.std.specs.Io.KnownBytes.{Appends, Consumes, IsAtEnd, Keeps};
@@ -16,28 +16,28 @@ use std::alloc::AllocError;
 use std::error::Error;
 use std::fmt;
 
-/// Why a run ended before the end of its input.
+/// The reason why a run ended before the end of its input.
 #[derive(Clone, Copy, Debug, PartialEq, Eq)]
 pub enum RunError {
     /// The header of the capture could not be read.
     Header(CaptureError),
     /// The packet of this number could not be read. The first one is 1.
     Packet {
-        /// The number of the packet.
+        /// Number of the packet.
         packet: u64,
-        /// Why it could not be read.
+        /// Reason why it could not be read.
         fault: CaptureError,
     },
-    /// A write or the last flush failed.
+    /// A write or the final flush failed.
     Write,
-    /// A write failed, since the output is a pipe that nobody reads any more.
+    /// A write failed, because the output is a pipe without a reader.
     Closed,
-    /// Memory ran out.
+    /// An allocation failed.
     Memory,
 }
 
 impl RunError {
-    /// Returns the error's text, except for the number of the packet that it is about.
+    /// Returns the text of the error, without the number of the packet.
     pub(crate) fn text(&self) -> ErrorText
         ensures { failure_place self.now ++ joined result ≡ run_error_text self.now }
     {
@@ -70,7 +70,7 @@ impl From<AllocError> for RunError {
     }
 }
 
-/// Reads the header of the capture.
+/// Reads the file header of a capture.
 pub fn read_header<R: Source>(input: &mut R) -> Result<FileHeader, RunError>
     ensures read { IfOk result (λ file. (bytes : List ℕ) × (length bytes ≡ 24)
         × IsFileHeader bytes file
@@ -86,8 +86,8 @@ pub fn read_header<R: Source>(input: &mut R) -> Result<FileHeader, RunError>
     }
 }
 
-/// Reads the packet of a number in place of what `packet` held, and answers what its header tells,
-/// or `None` where there is no packet more.
+/// Reads the next packet into `packet`, whose former content is dropped. `number` is its number for
+/// errors. Returns the fields of the packet header, or `None` at the end of the input.
 pub fn read_packet<R: Source>(
     file: &FileHeader,
     input: &mut R,
@@ -113,7 +113,7 @@ pub fn read_packet<R: Source>(
     }
 }
 
-/// Writes all the bytes. No write that failed is made again.
+/// Writes all of `bytes`. Does not retry a failed write.
 pub fn send<W: Sink>(output: &mut W, bytes: &[u8]) -> Result<(), RunError>
     ensures written { OnOk result (Appends (W.held output.old) (W.held output.new) bytes.now) }
     ensures stopped { IfErr result (λ e. IsWriteFailure e × W.failed output.new e

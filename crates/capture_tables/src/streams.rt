@@ -1,4 +1,4 @@
-//! What a capture is read from, and what its table is written on.
+//! Input of captures, and output of tables.
 
 ghost use Rattle.std.specs.Prelude.{◌≡◌, ◌↔◌, ◌<◌, ◌≤◌, ℕ, List, Option, length, IfOk, IfErr, OnOk};
 ghost use Rattle.std.specs.Prelude.{⊤};
@@ -10,16 +10,16 @@ use crate::capture::CaptureError;
 use crate::run::RunError;
 use std::io::{ErrorKind, Read, Write};
 
-/// What a capture is read from. Who has no other bound than this one can't say that a read failed
-/// where none did.
+/// An input of captures. Generic code with only this bound cannot report a failed read unless one
+/// failed.
 pub trait Source {
-    // The bytes that are left, where they are known.
+    // The remaining bytes, if they are known.
     ghost left: { Self → Option (List ℕ) };
 
     // A read failed.
     ghost failed: { Self → Type 0 };
 
-    /// Reads once.
+    /// Reads once. Returns 0 at the end of the input.
     fn read_some(&mut self, bytes: &mut [u8]) -> Result<usize, CaptureError>
         ensures bound { ReadsAtMost result bytes.new }
         ensures bytes { ReadConsumes (left self.old) (left self.new) result bytes.new }
@@ -39,7 +39,7 @@ impl<R: Read> Source for R {
     }
 }
 
-/// What a read that failed so is.
+/// Returns the error of a failed read.
 fn read_failure(kind: ErrorKind) -> CaptureError
     ensures failure { IsReadFailure result }
     ensures directory { (result ≡ CaptureError.Directory) ↔ (kind ≡ ErrorKind.IsADirectory) }
@@ -50,27 +50,28 @@ fn read_failure(kind: ErrorKind) -> CaptureError
     }
 }
 
-/// What a table is written on. Who has no other bound than this one can't say that a write failed
-/// where none did, or that all was flushed where it wasn't.
+/// An output of tables. Generic code with only this bound cannot report a failed write unless one
+/// failed, and cannot report a flush unless it flushed.
 pub trait Sink {
     ghost use Rattle.capture_tables.specs.declared.run.RunError.{RunError};
 
-    // The bytes that it holds, where they are known.
+    // The bytes written so far, if they are known.
     ghost held: { Self → Option (List ℕ) };
 
-    // A write failed or took no bytes, or a flush failed, and so it is told.
+    // A write failed or accepted no bytes, or a flush failed, with this error.
     ghost failed: { Self → RunError → Type 0 };
 
-    // The last call flushed it.
+    // The last call flushed the output.
     ghost flushed: { Self → Type 0 };
 
-    /// Writes once, and at least one byte.
+    /// Writes once. Returns the number of written bytes, at least 1. `text` must not be empty, or
+    /// the call fails.
     fn write_part(&mut self, text: &[u8]) -> Result<usize, RunError>
         ensures some { IfOk result (λ n. (0 < n) × (n ≤ length text.now)) }
         ensures bytes { WriteAppends (held self.old) (held self.new) result text.now }
         ensures cause { IfErr result (λ e. IsWriteFailure e × failed self.new e) };
 
-    /// Flushes once.
+    /// Flushes the output once.
     fn flush_all(&mut self) -> Result<(), RunError>
         ensures bytes { Keeps (held self.old) (held self.new) }
         ensures done { OnOk result (flushed self.new) }
@@ -100,7 +101,7 @@ impl<W: Write> Sink for W {
     }
 }
 
-/// What a write or a flush that failed so is.
+/// Returns the error of a failed write or flush.
 fn write_failure(kind: ErrorKind) -> RunError
     ensures failure { IsWriteFailure result }
     ensures closed { (result ≡ RunError.Closed) ↔ (kind ≡ ErrorKind.BrokenPipe) }

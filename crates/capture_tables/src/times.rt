@@ -1,4 +1,4 @@
-//! When a packet was captured.
+//! Time of the capture of a packet.
 
 ghost use Rattle.std.specs.Prelude.{◌≡◌, ◌++◌, OnOk};
 ghost use Rattle.capture_tables.specs.Times.{fraction_text, time_text};
@@ -8,7 +8,7 @@ use crate::cells::push_number;
 use std::alloc::AllocError;
 use std::io::Write;
 
-/// Adds the seconds since 1970 and, behind a point, the parts of a second.
+/// Appends the seconds since 1970, a point, and the fraction of a second.
 pub fn push_time(text: &mut Vec<u8>, header: &PacketHeader) -> Result<(), AllocError>
     ensures { OnOk result (text.new.items ≡ text.old.items ++ time_text header.now) }
 {
@@ -17,7 +17,8 @@ pub fn push_time(text: &mut Vec<u8>, header: &PacketHeader) -> Result<(), AllocE
     push_fraction(text, header.unit, header.fraction)
 }
 
-/// Adds parts of a second in as many digits as their unit has at least.
+/// Appends a fraction of a second in six or nine digits, by its unit. A fraction of a second or
+/// more, which a capture may contain, has more digits if it needs them.
 #[tactic(auto, using(crate::proofs::Filling::zero_filled_is))]
 fn push_fraction(text: &mut Vec<u8>, unit: TimeUnit, fraction: u32) -> Result<(), AllocError>
     ensures { OnOk result (text.new.items ≡ text.old.items ++ fraction_text unit fraction) }

@@ -1,4 +1,4 @@
-//! What each argument of a program that lists asks for.
+//! Arguments of the command line of a program that lists captures.
 
 ghost use Rattle.std.specs.Prelude.{◌≡◌, ◌↔◌, IsTrue};
 ghost use Rattle.capture_tables.specs.Choice.{is_file, with_details, with_letters, with_sockets};
@@ -6,10 +6,10 @@ ghost use Rattle.capture_tables.specs.Words.{AreLetters, IsArgument, IsOther, wi
 
 use crate::options::Options;
 
-/// The letters of options.
+/// Letters that are options.
 const LETTERS: &[u8] = b"tuxM0oemiOna";
 
-/// One argument.
+/// An argument of the command line.
 #[derive(Clone, Copy)]
 pub(crate) enum Argument<'a> {
     /// `--help`.
@@ -26,9 +26,9 @@ pub(crate) enum Argument<'a> {
     Vsock,
     /// `--xdp`.
     Xdp,
-    /// The letters of options after a hyphen.
+    /// A hyphen, and these letters, each of which is an option.
     Letters(&'a [u8]),
-    /// The name of a file, which does not begin with a hyphen.
+    /// The name of a file: it does not begin with a hyphen.
     File,
     /// An unknown option.
     Unknown,
@@ -50,7 +50,7 @@ pub(crate) fn parse_argument(word: &str) -> Argument<'_>
     }
 }
 
-/// Parses an argument that is none of these names.
+/// Parses an argument that is not one of the long options.
 fn parse_other(word: &[u8]) -> Argument<'_>
     ensures { IsOther word.entry.now result }
 {
@@ -72,7 +72,7 @@ pub(crate) fn is_file(word: &[u8]) -> bool
     word.is_empty() || word[0] != b'-'
 }
 
-/// Returns whether there are letters, and each is that of an option.
+/// Returns whether there is at least one letter, and each letter is an option.
 fn are_letters(letters: &[u8]) -> bool
     ensures { IsTrue result ↔ AreLetters letters.now }
 {
@@ -80,7 +80,7 @@ fn are_letters(letters: &[u8]) -> bool
 }
 
 impl Options {
-    /// Adds what an argument asks for.
+    /// Sets the options of an argument.
     pub(crate) fn add_argument(&mut self, argument: Argument<'_>)
         ensures { self.new ≡ with_argument argument.entry self.old }
     {
@@ -95,7 +95,7 @@ impl Options {
         }
     }
 
-    /// Adds the options of letters.
+    /// Sets the options of letters.
     fn add_letters(&mut self, letters: &[u8])
         ensures { self.new ≡ with_letters letters.now self.old }
     {
@@ -103,7 +103,7 @@ impl Options {
         self.add_sockets(letters);
     }
 
-    /// Adds the details that letters ask for.
+    /// Sets the options of letters that select details.
     fn add_details(&mut self, letters: &[u8])
         ensures { self.new ≡ with_details letters.now self.old }
     {
@@ -114,7 +114,7 @@ impl Options {
         self.one_line |= letters.contains(&b'O');
     }
 
-    /// Adds the sockets that letters ask for.
+    /// Sets the options of letters that select sockets.
     fn add_sockets(&mut self, letters: &[u8])
         ensures { self.new ≡ with_sockets letters.now self.old }
     {

@@ -1,4 +1,4 @@
--- The requests after a packet.
+-- Lemmas about the requests after a packet.
 use Rattle.std.proofs.Common.{◌≡◌, ℕ, ◌<◌, ◌≤◌, ◌&&◌, ◌==◌, List, Bool, true, false, cond, length}
 use Rattle.std.proofs.Common.{drop, refl, sym, ap, ◌∙◌}
 use Rattle.std.proofs.lemmas.Bool.{eq-eqb, eqb-true, le-ltb, lt-ltb}
@@ -8,14 +8,14 @@ use Rattle.sock_diag_captures.specs.Listing.{asked_after}
 use Rattle.sock_diag_captures.specs.Requests.{noted}
 use Rattle.sock_diag_captures.specs.declared.requests.Asked.{Asked}
 
--- a choice that is not made
+-- A condition that does not hold selects the second value.
 other : (p q : Bool) (xs ys : List Asked) → ((p ≡ true) × (q ≡ true) → ⊥)
     → cond (p && q) xs ys ≡ ys
 other true true xs ys wrong = absurd (wrong (refl, refl))
 other true false xs ys wrong = refl
 other false q xs ys wrong = refl
 
--- a packet of sock_diag(7) is looked at
+-- A datagram of sock_diag(7) may add a request.
 pub asked_of : (asked : List Asked) (packet datagram : List ℕ) → 16 ≤ length packet
     → IsOfSockDiag packet → datagram ≡ drop 16 packet
     → noted asked datagram ≡ asked_after asked packet
@@ -28,7 +28,7 @@ asked_of asked packet datagram long (kind, protocol) same =
       eq-eqb (big_number 2 (drop 14 packet)) 4 protocol,
     ) refl)
 
--- another one is not
+-- A packet of another protocol adds no request.
 pub asked_other : (asked : List Asked) (packet : List ℕ) → 16 ≤ length packet
     → ¬ IsOfSockDiag packet → asked ≡ asked_after asked packet
 unfolding asked_after
@@ -37,7 +37,7 @@ asked_other asked packet long wrong =
     (big_number 2 (drop 14 packet) == 4) _ _
     (λ both. wrong (eqb-true _ _ both.0, eqb-true _ _ both.1))))
 
--- nor one that is too short
+-- A packet that is too short adds no request.
 pub asked_short : (asked : List Asked) (packet : List ℕ) → length packet < 16
     → asked ≡ asked_after asked packet
 unfolding asked_after

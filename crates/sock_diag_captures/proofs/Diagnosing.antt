@@ -1,4 +1,4 @@
--- The diagnostics of a datagram, message by message.
+-- Lemmas about the diagnostics of a datagram, message by message.
 use Rattle.std.proofs.Common.{◌≡◌, ◌≢◌, ℕ, ◌+◌, ◌≤◌, List, [], ◌∷◌, ◌++◌, length, refl, sym}
 use Rattle.std.proofs.Common.{ap, subst, ◌∙◌, append_assoc, arith, inr, ◌<◌}
 use Rattle.std.proofs.lemmas.Bool.{le-ltb, lt-ltb}
@@ -14,7 +14,7 @@ use Rattle.sock_diag_captures.specs.Diagnostics.{DiagnosesContent, DiagnosesMess
 use Rattle.sock_diag_captures.specs.Diagnostics.{lines_about}
 use Rattle.sock_diag_captures.specs.Diagnostics.{lines_about_message}
 
--- what is not empty has bytes
+-- A list that is not empty has a positive length.
 pub has_bytes : (bytes : List ℕ) → bytes ≢ [] → 0 < length bytes
 has_bytes [] some = absurd (some refl)
 has_bytes (b ∷ bytes) some = omega arith
@@ -35,7 +35,7 @@ module _ (front : List ℕ) (packet : ℕ) where
       ∙ sym (append_assoc first later (lines_about_message front packet (length xs + (n + 1)) m))
       ∙ ap (λ (k : ℕ). (first ++ later) ++ lines_about_message front packet k m) same
 
-  -- so many messages were diagnosed, and what is left goes on from there
+  -- The first `count` messages of a datagram were diagnosed. `rest` are the bytes after them.
   pub record Diagnosed (datagram rest before after : List ℕ) (count : ℕ) : Type 0 where
     pub passed : List (List ℕ)
     pub walk : (later : List (List ℕ)) (end : Option DecodeError) → CutIntoMessages rest later end
@@ -44,7 +44,7 @@ module _ (front : List ℕ) (packet : ℕ) where
     pub counted : count ≡ length passed
     pub short : length passed + length rest ≤ length datagram
 
-  -- no message is diagnosed yet
+  -- At the start no message was diagnosed.
   pub diagnosed_begins : (datagram before : List ℕ) → Diagnosed datagram datagram before before 0
   diagnosed_begins datagram before = record {
     passed = [];
@@ -54,7 +54,7 @@ module _ (front : List ℕ) (packet : ℕ) where
     short = omega arith;
   }
 
-  -- one more message is diagnosed
+  -- One more message was diagnosed.
   pub diagnosed_goes_on : (datagram rest next before after after' : List ℕ) (count count' : ℕ)
       (m : List ℕ)
       → Diagnosed datagram rest before after count → StartsWithMessage rest m next
@@ -80,7 +80,8 @@ module _ (front : List ℕ) (packet : ℕ) where
         short = omega (arith, so_far.short, size, shorter-rest rest m next starts);
       }
 
-  -- the number of the next message is at most the length, since each message has bytes
+  -- The number of the next message is at most the length of the datagram, since each message has
+  -- bytes.
   pub counted_on : (datagram rest before after : List ℕ) (count count' : ℕ)
       → Diagnosed datagram rest before after count → 0 < length rest
       → (count < length datagram → count' ≡ count + 1) → count' ≡ count + 1
@@ -94,7 +95,7 @@ module _ (front : List ℕ) (packet : ℕ) where
       subst (λ (all : List (List ℕ)). CutIntoMessages datagram all end)
       (append-nil so_far.passed) (so_far.walk [] end cut)
 
-  -- if nothing is left, the messages that were diagnosed are all
+  -- If no bytes remain, all messages were diagnosed.
   pub diagnosed_ends : (datagram rest before after : List ℕ) (count : ℕ)
       → Diagnosed datagram rest before after count → rest ≡ []
       → DiagnosesMessages front packet datagram before after
@@ -106,7 +107,7 @@ module _ (front : List ℕ) (packet : ℕ) where
         (sym (append-nil (lines_about front packet 1 so_far.passed)));
   }
 
-  -- if no message is there, those that were diagnosed are followed by its line
+  -- If bytes remain that are not a message, their line follows.
   pub diagnosed_stops : (datagram rest before after after' : List ℕ) (count : ℕ) (e : DecodeError)
       → Diagnosed datagram rest before after count → rest ≢ [] → IsEnvelopeFault rest e
       → after' ≡ after ++ end_line front packet (count + 1) (Some e)
@@ -123,13 +124,13 @@ module _ (front : List ℕ) (packet : ℕ) where
         ++ end_line front packet (k + 1) (Some e))) so_far.counted;
   }
 
--- a packet of another protocol
+-- A packet of another protocol has no diagnostics.
 pub diagnosed_other : (front : List ℕ) (packet : ℕ) (bytes before : List ℕ) → 16 ≤ length bytes
     → ¬ IsOfSockDiag bytes → DiagnosesContent front packet bytes before before
 diagnosed_other front packet bytes before long wrong =
     inr (λ is. wrong is.1, sym (rw (le-ltb (length bytes) 16 long) (append-nil before)))
 
--- a packet that is too short
+-- A packet that is too short has one line.
 pub diagnosed_short : (front : List ℕ) (packet : ℕ) (bytes before after : List ℕ)
     → length bytes < 16 → after ≡ before ++ short_line front packet
     → DiagnosesContent front packet bytes before after

@@ -1,4 +1,4 @@
--- What a run that fails has read and written.
+-- Lemmas about the state of a run that failed.
 use Rattle.std.proofs.Common.{◌≡◌, ◌⊎◌, inl, inr, ℕ, ◌+◌, ◌-◌, ◌^◌, List, [], ◌∷◌, ◌++◌, length}
 use Rattle.std.proofs.Common.{Bool, true, false, refl, sym, ap, subst, ◌∙◌, append_assoc}
 use Rattle.std.proofs.Common.{append-nil, arith}
@@ -30,7 +30,7 @@ use Rattle.sock_diag_captures.specs.Run.{lines_of_packet}
 use Rattle.sock_diag_captures.proofs.Progress.{Progress, goes_on_part, goes_on_whole, lines_push}
 use Rattle.sock_diag_captures.proofs.Progress.{progress_begins}
 
--- a stop for one cause is a stop for one of two
+-- A reason to stop for one cause is a reason to stop for one of two causes.
 stop_weaker : (file : FileHeader) (left : Option (List ℕ)) (A B : Type 0) (part : List ℕ)
     (fault : CaptureError)
     → IsPacketStop file left A part fault → IsPacketStop file left (A ⊎ B) part fault
@@ -50,18 +50,18 @@ appended_known : (held : Option (List ℕ)) (more : List ℕ)
 appended_known None more = tt
 appended_known (Some xs) more = refl
 
--- a packet that could not be read is no failed write
+-- The error of a packet that could not be read is not a failed write.
 pub no_write : (number : ℕ) (fault : CaptureError) (e : RunError) (P : Type 0)
     → e ≡ Packet number fault → IsWriteFailure e → P
 no_write number fault e P is (inl write) = absurd cc
 no_write number fault e P is (inr closed) = absurd cc
 
--- nor is that memory ran out
+-- A failed allocation is not a failed write.
 pub no_memory : (e : RunError) (P : Type 0) → e ≡ Memory → IsWriteFailure e → P
 no_memory e P is (inl write) = absurd cc
 no_memory e P is (inr closed) = absurd cc
 
--- the header could not be read
+-- The run failed because the file header could not be read.
 pub fails_at_header : (o : Options) (a d x : Option (List ℕ)) (heading front : List ℕ)
     (Reported : List ℕ → Type 0) (unread : Type 0) (e : RunError) → Reported []
     → ((fault : CaptureError) × (e ≡ Header fault) × (part : List ℕ) × Consumes a d part
@@ -71,7 +71,7 @@ fails_at_header o a d x heading front Reported unread e none (fault, is, part, r
     subst (λ (e : RunError). Fails o a d x x heading front Reported unread e) (sym is)
     (part, read, stop, Keeps-refl x, none)
 
--- the heading could not be written, or the table of what was read
+-- The run failed because a write of the heading or of the table failed.
 pub fails_at_write : (o : Options) (a d x z : Option (List ℕ))
     (heading front bytes lines diagnostics : List ℕ) (Reported : List ℕ → Type 0)
     (whole : Bool) (unread : Type 0) (e : RunError)
@@ -115,7 +115,7 @@ module _ (o : Options) (front : List ℕ) (file : FileHeader) (header : List ℕ
     whole = (p.flagged, p.whole_only);
   }
 
-  -- the packets so far stand, and more was read
+  -- The state after the packets so far, if more bytes were read.
   stands : (a b c d x y z : Option (List ℕ)) (heading more : List ℕ) (Reported : List ℕ → Type 0)
       (asked : List Asked) (whole : Bool) (number : ℕ)
       (p : Progress o front (IsRecord file) b c y z asked whole number) → Reported p.diagnostics
@@ -137,7 +137,7 @@ module _ (o : Options) (front : List ℕ) (file : FileHeader) (header : List ℕ
         reported = reported;
       }
 
-  -- the heading could not be written
+  -- The run failed because the heading could not be written.
   pub fails_at_heading : (a b x z : Option (List ℕ)) (heading : List ℕ)
       (Reported : List ℕ → Type 0) (unread : Type 0) (e : RunError) → Reported []
       → IsWriteFailure e
@@ -154,7 +154,7 @@ module _ (o : Options) (front : List ℕ) (file : FileHeader) (header : List ℕ
       (p : Progress o front (IsRecord file) b c y z asked whole number)
       (first : Consumes a b header) (begun : Appends x y heading) where
     module _ (Reported : List ℕ → Type 0) (reported : Reported p.diagnostics) where
-      -- a packet could not be read
+      -- The run failed because a packet could not be read.
       pub fails_at_packet : (d : Option (List ℕ)) (unread : Type 0) (e : RunError)
           → ((fault : CaptureError) × (e ≡ Packet number fault) × (part : List ℕ)
           × Consumes c d part × IsPacketStop file d unread part fault)
@@ -170,7 +170,7 @@ module _ (o : Options) (front : List ℕ) (file : FileHeader) (header : List ℕ
             stop_weaker file d unread (number ≡ 2 ^ 64 - 1) part fault stop,
           )
 
-      -- no number is left for the next packet
+      -- The run failed because the next packet has no number.
       pub fails_past_numbers : (unread : Type 0) → number ≡ 2 ^ 64 - 1
           → Fails o a c x z heading front Reported unread (Packet (2 ^ 64 - 1) Read)
       fails_past_numbers unread last = (
@@ -183,7 +183,7 @@ module _ (o : Options) (front : List ℕ) (file : FileHeader) (header : List ℕ
         (inl (omega arith), inr refl),
       )
 
-      -- memory ran out for the lines of a packet
+      -- The run failed because an allocation for the lines of a packet failed.
       pub fails_at_memory : (d : Option (List ℕ)) (unread : Type 0) (e : RunError)
           (head : List ℕ) (packet : Recorded) → e ≡ Memory
           → IsRecord file head packet → Consumes c d (head ++ packet.bytes)
@@ -199,7 +199,7 @@ module _ (o : Options) (front : List ℕ) (file : FileHeader) (header : List ℕ
                 reported first read begun,
           )
 
-      -- the last flush failed
+      -- The run failed because the last flush failed.
       pub fails_at_flush : (d z' : Option (List ℕ)) (unread : Type 0) (e : RunError)
           → IsWriteFailure e
           → Consumes c d [] → Keeps z z'
@@ -217,7 +217,7 @@ module _ (o : Options) (front : List ℕ) (file : FileHeader) (header : List ℕ
           (Appends-kept x z z' (heading ++ lines)
           (Appends-trans x y z heading lines begun p.appended) kept)
 
-    -- the lines of a packet could not be written
+    -- The run failed because the lines of a packet could not be written.
     pub fails_at_lines : (Reported : List ℕ → Type 0) (d z' : Option (List ℕ)) (unread : Type 0)
         (e : RunError)
         (head lines issues : List ℕ) (packet : Recorded) (asked' : List Asked) (one : Bool)
@@ -260,7 +260,7 @@ module _ (o : Options) (front : List ℕ) (file : FileHeader) (header : List ℕ
               reported bytes ((heading ++ before) ++ sent) rest joined all
         ]
 
--- what is known of the diagnostics implies something else
+-- a statement about the reported diagnostics, and one that follows from it
 module _ (o : Options) (left left' held held' : Option (List ℕ)) (heading front : List ℕ)
     (P Q : List ℕ → Type 0) (implies : (diagnostics : List ℕ) → P diagnostics → Q diagnostics) where
   abbrev pub stands_implies : (file : FileHeader) (packets : ℕ) (more : List ℕ)
@@ -333,7 +333,7 @@ module _ (o : Options) (left left' held held' : Option (List ℕ)) (heading fron
     reported = implies h.diagnostics h.reported;
   }
 
--- what a run ended as, if the line that names a failure was reported after its diagnostics
+-- The outcome of a run, if the line that names a failure was reported after the diagnostics.
 pub outcome_of : (o : Options) (left left' held held' : Option (List ℕ)) (heading front : List ℕ)
     (P Q : List ℕ → Type 0) (unread : Type 0) (r : Result Bool RunError)
     → ((diagnostics : List ℕ) → P diagnostics → Q (diagnostics ++ closing_text front r))
@@ -349,7 +349,7 @@ outcome_of o left left' held held' heading front P Q unread (Err e) implies fini
     fails_implies o left left' held held' heading front P
     (λ diagnostics. Q (diagnostics ++ closing_line front e)) implies unread e fails
 
--- a run that listed a whole capture whole
+-- If a run listed the whole capture without errors, the clause of its success holds.
 pub whole_outcome : (P : Bool → Type 0) (Q : RunError → Type 0) (r : Result Bool RunError)
     → r ≡ Ok true → MatchResult r P Q → P true
 whole_outcome P Q r is h = subst (λ (r : Result Bool RunError). MatchResult r P Q) is h

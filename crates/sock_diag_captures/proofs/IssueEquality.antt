@@ -1,4 +1,4 @@
--- What `==` of issues says.
+-- The `==` of `Issue` is equality.
 use Rattle.std.proofs.Common.{◌≡◌, ◌↔◌, IsTrue, rules, arith}
 use Rattle.netlink_core.proofs.Equality.{apart}
 use Rattle.netlink_core.proofs.FaultEquality.{fault_equal}
@@ -6,7 +6,7 @@ use Rattle.sock_diag_captures.specs.declared.list.Issue.{Issue}
 use Rattle.sock_diag_captures.specs.declared.list.Issue.TheVariants as issue
 use Rattle.sock_diag_captures.specs.contracts.list.IssuePartialEq.TheImpl.{ghosts}
 
--- two issues, by a line for each
+-- The `==` of two diagnostics is true if and only if they are equal.
 pub issue_equal : (v w : Issue) → IsTrue (ghosts.eq v w) ↔ (v ≡ w)
 issue_equal (issue.Refused a) (issue.Refused b) =
     grind (arith, fault_equal a b)

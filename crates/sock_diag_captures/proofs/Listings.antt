@@ -1,4 +1,4 @@
--- The lines of a datagram, message by message.
+-- Lemmas about the lines of a datagram, message by message.
 use Rattle.std.proofs.Common.{◌≡◌, ◌≢◌, ◌↔◌, List, [], ◌∷◌, ◌++◌, ℕ, Bool, true, false, refl, sym}
 use Rattle.std.proofs.Common.{ap, subst, ◌∙◌, append_assoc}
 use Rattle.std.specs.Prelude.{IsTrue, Option, None, Some, ◌≤◌, ◌&&◌, length}
@@ -16,7 +16,7 @@ use Rattle.sock_diag_captures.specs.declared.requests.Asked.{Asked}
 not_both : (b : Bool) → b ≡ false → b ≡ true → ⊥
 not_both b is_false is_true = cc
 
--- a packet is listed whole where its bytes are, and none was cut off
+-- A packet was listed without errors if its bytes were, and it was not truncated.
 pub listed_whole : (o : Options) (asked : List Asked) (packet : Recorded) (before after : List ℕ)
     (listed whole : Bool) → (IsTrue whole ↔ (packet.header.whole_length ≤ length packet.bytes))
     → ListsPacket o asked packet before after listed
@@ -27,7 +27,7 @@ listed_whole o asked packet before after false whole same lists =
     (false, lists, (λ is. absurd (not_both false refl is), λ both. both.0))
 
 module _ (lines_of : List ℕ → List ℕ) (Plain : List ℕ → Type 0) where
-  -- some messages were listed, and what is left goes on from there
+  -- Some messages of a datagram were listed. `rest` are the bytes after them.
   pub record Listing (datagram rest before after : List ℕ) (clean : Bool) : Type 0 where
     pub passed : List (List ℕ)
     pub walk : (later : List (List ℕ)) (end : Option DecodeError) → CutIntoMessages rest later end
@@ -50,7 +50,7 @@ module _ (lines_of : List ℕ → List ℕ) (Plain : List ℕ → Type 0) where
   clean_last [] m h = h.0
   clean_last (x ∷ xs) m h = clean_last xs m h.1
 
-  -- nothing is listed yet
+  -- At the start no message was listed.
   pub listing_begins : (datagram before : List ℕ) → Listing datagram datagram before before true
   listing_begins datagram before = record {
     passed = [];
@@ -60,7 +60,7 @@ module _ (lines_of : List ℕ → List ℕ) (Plain : List ℕ → Type 0) where
     clean_only = λ _. refl;
   }
 
-  -- one more message is listed
+  -- One more message was listed.
   pub listing_goes_on : (datagram rest next before after after' : List ℕ) (clean clean' : Bool)
       (m : List ℕ)
       → Listing datagram rest before after clean → StartsWithMessage rest m next
@@ -86,7 +86,7 @@ module _ (lines_of : List ℕ → List ℕ) (Plain : List ℕ → Type 0) where
             (clean_last so_far.passed m is);
       }
 
-  -- one more message is listed, and so far nothing was told of any
+  -- One more message was listed, and all messages before it are plain.
   pub goes_on_clean : (datagram rest next before after after' : List ℕ) (clean clean' : Bool)
       (m : List ℕ) → clean ≡ true
       → Listing datagram rest before after clean → StartsWithMessage rest m next
@@ -97,7 +97,7 @@ module _ (lines_of : List ℕ → List ℕ) (Plain : List ℕ → Type 0) where
       listing_goes_on datagram rest next before after after' clean clean' m so_far starts added
       (λ is. (is_clean, same.0 is)) (λ _ plain. same.1 plain)
 
-  -- one more message is listed, and something was told of those before
+  -- One more message was listed, and a message before it is not plain.
   pub goes_on_unclean : (datagram rest next before after after' : List ℕ) (clean : Bool)
       (m : List ℕ) → clean ≡ false
       → Listing datagram rest before after clean → StartsWithMessage rest m next
@@ -107,7 +107,7 @@ module _ (lines_of : List ℕ → List ℕ) (Plain : List ℕ → Type 0) where
       listing_goes_on datagram rest next before after after' clean clean m so_far starts added
       (λ is. absurd (not_both clean is_unclean is)) (λ is _. is)
 
-  -- where nothing is left, the messages that were listed are all
+  -- If no bytes remain, all messages were listed.
   pub listing_ends : (datagram rest before after : List ℕ) (clean : Bool)
       (so_far : Listing datagram rest before after clean) → rest ≡ []
       → CutIntoMessages datagram so_far.passed None
@@ -115,7 +115,7 @@ module _ (lines_of : List ℕ → List ℕ) (Plain : List ℕ → Type 0) where
       subst (λ (all : List (List ℕ)). CutIntoMessages datagram all None)
       (append-nil so_far.passed) (so_far.walk [] None none)
 
-  -- where no message stands, those that were listed are all but what stands there
+  -- If bytes remain that are not a message, all messages were listed, and the bytes have an error.
   pub listing_stops : (datagram rest before after : List ℕ) (clean : Bool) (e : DecodeError)
       (so_far : Listing datagram rest before after clean) → rest ≢ [] → IsEnvelopeFault rest e
       → CutIntoMessages datagram so_far.passed (Some e)

@@ -1,4 +1,4 @@
--- A name can be read from its cell.
+-- A name can be read back from its cell.
 use Rattle.std.proofs.Common.{◌≡◌, ℕ, suc, ◌==◌, ◌&&◌, Bool, true, false, List, [], ◌∷◌, ◌++◌}
 use Rattle.std.proofs.Common.{inl, inr, refl, sym, ap, subst, ◌∙◌, arith, append_assoc, append-nil}
 use Rattle.std.proofs.Common.{length}
@@ -25,7 +25,7 @@ mistaken_told utf8 (p ∷ ps) t in_range held =
     ∙ told_digits p (shown utf8 ps ++ t) (in_range 0)
     ∙ ap (λ (l : List ℕ). p ∷ l) (shown_told utf8 ps t (λ i. in_range (suc i))))
 
--- a path of which the first byte is told by its digits
+-- The cell of a path whose first byte is escaped represents the path.
 mistaken_cell : (utf8 : Bool) (path t : List ℕ) → IsBytes path → is_mistaken path ≡ true
     → bytes_told 0 t ≡ [] → name_told (path_text utf8 path ++ t) ≡ Some (Pathname path)
 mistaken_cell utf8 path t in_range held none =
@@ -41,7 +41,7 @@ star_told : (t : List ℕ) → bytes_told 0 (42 ∷ 32 ∷ t) ≡ 42 ∷ []
 unfolding bytes_told
 star_told t = refl
 
--- a path whose text begins neither so nor so
+-- The cell of a path that begins neither with `@` nor is `*` represents the path.
 plain_cell : (text path : List ℕ) → is_mistaken path ≡ false → bytes_told 0 text ≡ path
     → name_told text ≡ Some (Pathname path)
 plain_cell [] path other found = ap (λ (l : List ℕ). Some (Pathname l)) found
@@ -74,7 +74,7 @@ plain_cell (c ∷ d ∷ text) path other found = elim (cases_eq c 64) [
   ]
 ]
 
--- the cell of a path tells it
+-- The cell of a path represents the path.
 pub path_cell : (utf8 : Bool) (path t : List ℕ) → IsBytes path → bytes_told 0 t ≡ []
     → name_told (name_cell utf8 (Some (Pathname path)) ++ t) ≡ Some (Pathname path)
 path_cell utf8 path t in_range none = elim (cases_Bool (is_mistaken path)) [
@@ -84,7 +84,7 @@ path_cell utf8 path t in_range none = elim (cases_Bool (is_mistaken path)) [
       ∙ ap (λ (l : List ℕ). path ++ l) none ∙ append-nil path))
 ]
 
--- the cell of an abstract name tells it
+-- The cell of an abstract name represents the name.
 pub abstract_cell : (utf8 : Bool) (address t : List ℕ) → IsBytes address → bytes_told 0 t ≡ []
     → name_told (name_cell utf8 (Some (Abstract address)) ++ t) ≡ Some (Abstract address)
 abstract_cell utf8 address t in_range none =

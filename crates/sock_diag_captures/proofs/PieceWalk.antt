@@ -1,4 +1,4 @@
--- The walk over attributes gives the pieces of its bytes.
+-- The attribute iterator returns the pieces of its bytes.
 use Rattle.std.proofs.Common.{Ok, Err, ◌≡◌, ◌≢◌, ℕ, zero, suc, ◌+◌}
 use Rattle.std.proofs.Common.{◌-◌, List, [], ◌∷◌, ◌++◌, length, take, drop, inl}
 use Rattle.std.proofs.Common.{inr, refl, sym, ap, ◌∙◌, append_assoc, arith}
@@ -18,7 +18,7 @@ use Rattle.attribute_lists.proofs.Standing.{found_first}
 use Rattle.sock_diag_captures.specs.Pieces.{Piece, followed}
 use Rattle.sock_diag_captures.specs.Pieces.{front_piece, pieces}
 
--- those behind so many bytes are those at the start of what follows them
+-- The pieces after `n` bytes are the pieces of the remaining bytes.
 behind_is : (n : ℕ) (bytes : List ℕ) → pieces n bytes ≡ pieces 0 (drop n bytes)
 unfolding pieces
 behind_is zero [] = refl
@@ -26,21 +26,21 @@ behind_is zero (b ∷ bs) = refl
 behind_is (suc n) [] = refl
 behind_is (suc n) (b ∷ bs) = behind_is n bs
 
--- the attribute at the start of bytes, by its two words
+-- the attribute at the start of the bytes, by its length field and its type field
 abbrev leading_attribute : List ℕ → Attribute
 leading_attribute bytes = record {
   type_word = little_number 2 (drop 2 bytes);
   value = take (little_number 2 bytes - 4) (drop 4 bytes);
 }
 
--- it is the first one
+-- The attribute that the bytes start with is the leading one.
 front_is : (bytes rest : List ℕ) (a : Attribute) → StartsWith bytes a rest
     → leading_attribute bytes ≡ a
 unfolding attributes_behind
 front_is [] rest a s = absurd (StartsWith-some [] rest a s refl)
 front_is (b ∷ bs) rest a s = let found = found_first (b ∷ bs) rest a s in cc
 
--- the length word counts the attribute, which the bytes have
+-- The length field counts four bytes and the value, and the bytes have the attribute and the rest.
 word_of : (bytes rest : List ℕ) (a : Attribute) (s : StartsWith bytes a rest)
     → (little_number 2 bytes ≡ 4 + length a.value)
     × (length bytes ≡ 4 + length a.value + (length s.padding + length rest))
@@ -50,7 +50,7 @@ word_of bytes rest a s = (
       ∙ omega (arith, length-append s.padding rest),
 )
 
--- the first attribute is the first piece
+-- The attribute that the bytes start with is the first piece.
 front_stands : (bytes rest : List ℕ) (a : Attribute) → StartsWith bytes a rest
     → front_piece bytes ≡ Ok a
 front_stands bytes rest a s =
@@ -62,7 +62,7 @@ front_stands bytes rest a s =
     )
     (ap Ok (front_is bytes rest a s))
 
--- what stands behind it is the rest
+-- The bytes after the attribute and its padding are the rest.
 rest_is : (bytes rest : List ℕ) (a : Attribute) → StartsWith bytes a rest
     → drop (little_number 2 bytes + fill (little_number 2 bytes)) bytes ≡ rest
 rest_is bytes rest a s =
@@ -79,7 +79,7 @@ rest_is bytes rest a s =
           drop_all n bytes (omega (arith, short.0, sizes, none)) ∙ sym short.1
     ]
 
--- an attribute comes first, and then the pieces of the rest
+-- The pieces are the attribute that the bytes start with, and the pieces of the rest.
 pub piece_first : (bytes rest : List ℕ) (a : Attribute) → StartsWith bytes a rest
     → pieces 0 bytes ≡ Ok a ∷ pieces 0 rest
 unfolding pieces
@@ -94,7 +94,7 @@ piece_first (b ∷ bs) rest a s =
     ap (λ (p : Piece). followed p (pieces n bs)) (front_stands all rest a s)
     ∙ ap (λ (l : List Piece). Ok a ∷ l) later
 
--- the fault in front is the first piece
+-- The error of the first attribute is the first piece.
 front_fails : (bytes : List ℕ) (e : DecodeError) → IsFramingFault bytes e
     → front_piece bytes ≡ Err e
 front_fails bytes (AttributeHeaderCut left) f =
@@ -111,17 +111,17 @@ front_fails bytes (AttributeLengthPast word left) (is, same, long, whole, past) 
     ) refl
 front_fails bytes _ f = absurd f
 
--- a fault comes alone
+-- After an error no piece follows.
 pub piece_fails : (bytes : List ℕ) (e : DecodeError) → bytes ≢ [] → IsFramingFault bytes e
     → pieces 0 bytes ≡ Err e ∷ []
 unfolding pieces
 piece_fails [] e some f = absurd (some refl)
 piece_fails (b ∷ bs) e some f = rw (front_fails (b ∷ bs) e f) refl
 
--- no bytes have no pieces
+-- No bytes have no pieces.
 pub no_piece : pieces 0 [] ≡ []
 unfolding pieces
 no_piece = refl
 
--- what a step of the walk gives
+-- the cases of one step of the iterator
 pub ruleset stepping = (piece_first, piece_fails, no_piece)

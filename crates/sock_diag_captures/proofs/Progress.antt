@@ -1,4 +1,4 @@
--- How far a capture is listed.
+-- Lemmas about the packets of a capture that were listed so far.
 use Rattle.std.proofs.Common.{◌≡◌, ℕ, ◌+◌, List, [], ◌∷◌, ◌++◌, length, Bool, true, false}
 use Rattle.std.proofs.Common.{refl}
 use Rattle.std.proofs.Common.{sym, ap, subst, ◌∙◌, append_assoc, append-nil, arith}
@@ -40,12 +40,12 @@ pub lines_push : (xs : List ListedPacket) (x : ListedPacket)
 lines_push xs x = flat_map-append lines_of_packet xs (x ∷ [])
     ∙ ap (λ (t : List ℕ). flat_map lines_of_packet xs ++ t) (append-nil x.lines)
 
--- the requests that were seen after these packets
+-- the requests after these packets
 pub asked_from : List Asked → List Recorded → List Asked
 asked_from asked [] = asked
 asked_from asked (p ∷ ps) = asked_from (asked_after asked p.bytes) ps
 
--- one more packet is listed
+-- One more packet was listed.
 pub listed_push : (o : Options) (asked : List Asked) (ps : List Recorded) (xs : List ListedPacket)
     (p : Recorded) (x : ListedPacket)
     → AreListed o asked ps xs → IsListed o (asked_after (asked_from asked ps) p.bytes) p x
@@ -57,19 +57,19 @@ listed_push o asked (q ∷ ps) [] p x h is = absurd h
 listed_push o asked (q ∷ ps) (y ∷ xs) p x h is =
     (h.0, listed_push o (asked_after asked q.bytes) ps xs p x h.1 is)
 
--- and the requests seen then
+-- The requests after one more packet.
 pub asked_push : (asked : List Asked) (ps : List Recorded) (p : Recorded)
     → asked_from asked (ps ++ p ∷ []) ≡ asked_after (asked_from asked ps) p.bytes
 unfolding asked_from
 asked_push asked [] p = refl
 asked_push asked (q ∷ ps) p = asked_push (asked_after asked q.bytes) ps p
 
--- before the first packet none was
+-- There are no requests before the first packet.
 pub none_asked : asked_from [] [] ≡ []
 unfolding asked_from
 none_asked = refl
 
--- one more packet is diagnosed
+-- One more packet was diagnosed.
 pub diagnosed_push : (front : List ℕ) (n : ℕ) (ps : List Recorded) (p : Recorded)
     (lines one : List ℕ) → AreDiagnosed front n ps lines
     → DiagnosesPacket front (length ps + n) p [] one
@@ -113,8 +113,9 @@ module _ (o : Options) (front : List ℕ) (R : List ℕ → Recorded → Type 0)
     packets_push h.1 ps header p h.4 is,
   )
 
-  -- these packets were read and listed, these requests were seen, and the next packet has this
-  -- number
+  -- These packets were read, listed and diagnosed. `asked` are the requests so far, `number` is the
+  -- number of the next packet, and `is_whole` is true if and only if all were listed without
+  -- errors.
   pub record Progress (remaining remaining' contents contents' : Option (List ℕ))
       (asked : List Asked) (is_whole : Bool) (number : ℕ) : Type 0 where
     pub records : List ℕ
@@ -149,7 +150,7 @@ module _ (o : Options) (front : List ℕ) (R : List ℕ → Recorded → Type 0)
     next = refl;
   }
 
-  -- one more packet is read and listed
+  -- One more packet was read and listed.
   abbrev pub progress_goes_on : (a b c x y z : Option (List ℕ)) (header lines issues : List ℕ)
       (p : Recorded)
       (asked asked' : List Asked) (one whole whole' : Bool) (number : ℕ)
@@ -188,7 +189,7 @@ module _ (o : Options) (front : List ℕ) (R : List ℕ → Recorded → Type 0)
         next = omega (arith, so_far.next, length-append so_far.packets (p ∷ []));
       }
 
-  -- all packets before were listed whole
+  -- One more packet was listed, and all packets before it were listed without errors.
   abbrev pub goes_on_whole : (a b c x y z : Option (List ℕ)) (header lines issues : List ℕ)
       (p : Recorded)
       (asked asked' : List Asked) (one whole : Bool) (number : ℕ) → whole ≡ true
@@ -203,7 +204,7 @@ module _ (o : Options) (front : List ℕ) (R : List ℕ → Recorded → Type 0)
       progress_goes_on a b c x y z header lines issues p asked asked' one whole one number so_far is
       next listed diagnosed read appended (λ _. is_whole) (λ h. h) (λ _ h. h)
 
-  -- one of those before was not
+  -- One more packet was listed, and a packet before it had an error.
   abbrev pub goes_on_part : (a b c x y z : Option (List ℕ)) (header lines issues : List ℕ)
       (p : Recorded)
       (asked asked' : List Asked) (one whole : Bool) (number : ℕ) → whole ≡ false

@@ -1,4 +1,5 @@
--- What stands below the line of a socket: a tab, and a word for each thing that is told.
+-- Details of a socket: a text for each value that the columns do not show. Texts are lists of ASCII
+-- codes: 44 is a comma and 41 a closing parenthesis.
 use Rattle.std.specs.Prelude.{ℕ, ◌==◌, ◌||◌, ◌/◌, ◌%◌, if◌then◌else◌, List, [], ◌∷◌, ◌++◌, length}
 use Rattle.std.specs.Prelude.{Bool, drop, false, flat_map, codes, decimal, bit_and, nat_lt}
 use Rattle.std.specs.Prelude.{slice_index, Option, None, Some, option_map, unwrap_or, Result, Ok}
@@ -42,9 +43,9 @@ use Rattle.sock_diag_captures.specs.Pieces.{Piece}
 use Rattle.sock_diag_captures.specs.declared.details.Sockets.{Sockets}
 use Rattle.sock_diag_captures.specs.declared.details.Sockets.TheVariants.{Unix, Inet, Other}
 
--- ---- values that are refused
+-- ---- invalid values
 
--- why a value is refused
+-- the reason why a value is invalid, in one word
 abbrev pub fault_word : DecodeError → List ℕ
 fault_word (BufferTooSmall which got need) = codes "too-short"
 fault_word (WrongLength kind got need) = codes "wrong-length"
@@ -55,21 +56,21 @@ fault_word (NameInnerZero index) = codes "inner-zero"
 fault_word NameWithoutEnd = codes "no-end"
 fault_word _ = codes "refused"
 
--- the number of an attribute that is refused, the length of its value, and why
+-- an attribute with an invalid value: its type, the length of the value, and the reason
 abbrev pub unread : Attribute → DecodeError → List ℕ
 unread a e =
     codes " unread:(" ++ decimal (attribute_type a) ++ 44 ∷ decimal (length a.value)
     ++ 44 ∷ fault_word e ++ 41 ∷ []
 
--- ---- TCP connections
+-- ---- TCP connections, `struct tcp_info` of linux/tcp.h
 
--- the times of a TCP connection, in microseconds, and the sizes of its segments, in bytes
+-- round-trip and retransmission times in microseconds, and segment and path sizes in bytes
 abbrev pub times : TcpInfo → List ℕ
 times t =
     detail (codes "rtt") t.rtt ++ detail (codes "rttvar") t.rttvar ++ detail (codes "rto") t.rto
     ++ detail (codes "mss") t.snd_mss ++ detail (codes "pmtu") t.pmtu
 
--- its window, in segments, the segments that are not acknowledged or were sent again, and the bytes
+-- the congestion window, unacknowledged segments and all retransmits, in segments, and the bytes
 -- sent and received
 abbrev pub traffic : TcpInfo → List ℕ
 traffic t =
@@ -77,8 +78,9 @@ traffic t =
     ++ detail (codes "retrans") t.total_retrans
     ++ detail (codes "sent") t.bytes_sent ++ detail (codes "received") t.bytes_received
 
--- the options that both ends agreed on, bits of TCPI_OPT_.. of linux/tcp.h, and the shifts of both
--- windows, of four bits each
+-- The flags of `tcpi_options`: TCPI_OPT_TIMESTAMPS (1), TCPI_OPT_SACK (2), TCPI_OPT_ECN (8),
+-- TCPI_OPT_ECN_SEEN (16), TCPI_OPT_SYN_DATA (32). With TCPI_OPT_WSCALE (4), also the window scales:
+-- `tcpi_snd_wscale` in the low four bits, `tcpi_rcv_wscale` in the high four bits.
 abbrev pub options : TcpInfo → List ℕ
 options t =
     flag_detail (codes "ts") 1 t.options ++ flag_detail (codes "sack") 2 t.options
@@ -86,14 +88,15 @@ options t =
     ++ flag_detail (codes "fastopen") 32 t.options ++ (if bit_and t.options 4 == 0 then []
     else pair_detail (codes "wscale") (t.wscale % 16) (t.wscale / 16))
 
--- times, sizes and windows that are told where they are not 0
+-- The backoff count, the delayed acknowledgement timeout in microseconds, segment sizes in bytes,
+-- the slow start threshold in segments and the send window in bytes. Each only if it is not 0.
 abbrev pub sizes : TcpInfo → List ℕ
 sizes t =
     some_detail (codes "backoff") t.backoff ++ some_detail (codes "ato") t.ato
     ++ some_detail (codes "rcvmss") t.rcv_mss ++ some_detail (codes "advmss") t.advmss
     ++ some_detail (codes "ssthresh") t.snd_ssthresh ++ some_detail (codes "snd_wnd") t.snd_wnd
 
--- bytes and segments
+-- Counts of bytes and segments. Each only if it is not 0.
 abbrev pub counts : TcpInfo → List ℕ
 counts t =
     some_detail (codes "bytes_retrans") t.bytes_retrans
@@ -102,14 +105,16 @@ counts t =
     ++ some_detail (codes "data_segs_out") t.data_segs_out
     ++ some_detail (codes "data_segs_in") t.data_segs_in
 
--- times since data or an acknowledgement, in milliseconds, and what was not sent yet
+-- Times in milliseconds since data was sent or received or an acknowledgement was received, and the
+-- number of bytes that are not sent yet. Each only if it is not 0.
 abbrev pub ages : TcpInfo → List ℕ
 ages t =
     some_detail (codes "lastsnd") t.last_data_sent ++ some_detail (codes "lastrcv") t.last_data_recv
     ++ some_detail (codes "lastack") t.last_ack_recv
     ++ some_detail (codes "notsent") t.notsent_bytes
 
--- rates, in bytes a second, and the segments that came
+-- Rates in bytes per second, and the numbers of delivered segments, each only if it is not 0.
+-- `app_limited` if bit 1 of the byte (`tcpi_delivery_rate_app_limited`) is set.
 abbrev pub rates : TcpInfo → List ℕ
 rates t =
     some_detail (codes "pacing_rate") t.pacing_rate
@@ -119,13 +124,16 @@ rates t =
     ++ some_detail (codes "delivered_ce") t.delivered_ce
     ++ flag_detail (codes "app_limited") 1 t.delivery_rate_app_limited
 
--- the time with data to send, and what of it was lost to small windows, in microseconds
+-- The time with data to send, and the parts of it that were limited by the receive window and by
+-- the send buffer, in microseconds. Each only if it is not 0.
 abbrev pub limits : TcpInfo → List ℕ
 limits t =
     some_detail (codes "busy") t.busy_time ++ some_detail (codes "rwnd_limited") t.rwnd_limited
     ++ some_detail (codes "sndbuf_limited") t.sndbuf_limited
 
--- segments that are lost, out of order or told twice
+-- The segments that are retransmitted and in flight, lost, selectively acknowledged, or reported as
+-- duplicates by the peer, the reordering distance in segments, and the number of reorderings. Each
+-- only if it is not 0.
 abbrev pub losses : TcpInfo → List ℕ
 losses t =
     some_detail (codes "retrans_now") t.retrans ++ some_detail (codes "lost") t.lost
@@ -133,63 +141,70 @@ losses t =
     ++ some_detail (codes "reordering") t.reordering
     ++ some_detail (codes "reord_seen") t.reord_seen
 
--- the receiver's side
+-- The receiver's round-trip time in microseconds, its buffer space and threshold in bytes, the
+-- minimum round-trip time in microseconds, and the number of segments received out of order. Each
+-- only if it is not 0.
 abbrev pub receiver : TcpInfo → List ℕ
 receiver t =
     some_detail (codes "rcv_rtt") t.rcv_rtt ++ some_detail (codes "rcv_space") t.rcv_space
     ++ some_detail (codes "rcv_ssthresh") t.rcv_ssthresh ++ some_detail (codes "minrtt") t.min_rtt
     ++ some_detail (codes "rcv_ooopack") t.rcv_ooopack
 
--- what is told of a TCP connection
+-- the details of a TCP connection
 abbrev pub connection : TcpInfo → List ℕ
 connection t =
     times t ++ traffic t ++ options t ++ sizes t ++ counts t ++ ages t ++ rates t ++ limits t
     ++ losses t ++ receiver t
 
--- ---- memory
+-- ---- memory, by the indices SK_MEMINFO_.. of linux/sock_diag.h
 
--- the memory of what a socket received
+-- the allocated receive memory (SK_MEMINFO_RMEM_ALLOC, 0)
 abbrev pub memory_received : ℕ → List ℕ
 memory_received n = codes " skmem:(r" ++ decimal n
 
--- the most memory that a socket may take, and that of what was handed down
+-- the receive buffer limit (SK_MEMINFO_RCVBUF, 1), the memory committed to the device queue
+-- (SK_MEMINFO_WMEM_ALLOC, 2) and the send buffer limit (SK_MEMINFO_SNDBUF, 3)
 abbrev pub memory_limits : MemInfo → List ℕ
 memory_limits m =
     memory_part (codes "rb") (Some m.receive_queue_max)
     ++ memory_part (codes "t") (Some m.bottom_send_queues)
     ++ memory_part (codes "tb") (Some m.send_queue_max)
 
--- the memory that it holds
+-- the memory allocated ahead (SK_MEMINFO_FWD_ALLOC, 4), the queued send memory
+-- (SK_MEMINFO_WMEM_QUEUED, 5) and the memory of options (SK_MEMINFO_OPTMEM, 6)
 abbrev pub memory_used : MemInfo → List ℕ
 memory_used m =
     memory_part (codes "f") (Some m.cache) ++ memory_part (codes "w") (Some m.send_queue)
     ++ memory_part (codes "o") (Some m.options)
 
--- the memory of a socket, in bytes, as ss(8) has it
+-- The memory of a socket in bytes, as ss(8) prints it. The backlog (SK_MEMINFO_BACKLOG, 7) and the
+-- drops (SK_MEMINFO_DROPS, 8) only if the value has them.
 abbrev pub memory : MemInfo → List ℕ
 memory m =
     memory_received m.receive_queue ++ memory_limits m ++ memory_used m
     ++ memory_part (codes "bl") m.backlog_queue_length ++ memory_part (codes "d") m.drops ++ 41 ∷ []
 
--- the memory as older kernels tell it
+-- The memory of a socket in the format of old kernels, `struct inet_diag_meminfo`: `idiag_rmem`,
+-- `idiag_wmem`, `idiag_fmem` and `idiag_tmem`.
 abbrev pub legacy_memory : LegacyMemInfo → List ℕ
 legacy_memory m =
     codes " mem:(r" ++ decimal m.receive_queue ++ memory_part (codes "w") (Some m.bottom_send_queue)
     ++ memory_part (codes "f") (Some m.cache) ++ memory_part (codes "t") (Some m.send_queue)
     ++ 41 ∷ []
 
--- the nine words of a value, where it has so many
+-- the memory in a value, or nothing if the value is shorter than seven `u32`
 abbrev pub memory_in : Result MemInfo DecodeError → List ℕ
 memory_in (Ok m) = memory m
 memory_in (Err e) = []
 
 -- ---- attributes
 
--- the number and the length of an attribute of another type
+-- an unknown attribute: its type and the length of its value
 abbrev pub unknown : Attribute → List ℕ
 unknown a = pair_detail (codes "unknown") (attribute_type a) (length a.value)
 
--- the text of an attribute of a reply about an IPv4 or IPv6 socket, by its variant
+-- The text of an attribute of a reply about an IPv4 or IPv6 socket, by its variant. Arguments: the
+-- options, the attribute, and its decoded value.
 abbrev pub inet_variant_text : Options → Attribute → InetNla (List ℕ) Attribute → List ℕ
 inet_variant_text o a (inet_nla.LegacyMemInfo m) = legacy_memory m
 inet_variant_text o a (inet_nla.TcpInfo t) = connection t
@@ -204,13 +219,13 @@ inet_variant_text o a (inet_nla.Mark n) = hex_detail (codes "fwmark") n
 inet_variant_text o a (inet_nla.ClassId n) = hex_detail (codes "class_id") n
 inet_variant_text o a (inet_nla.Other other) = unknown a
 
--- the text of a decoded attribute of such a reply
+-- the text of a decoded attribute of a reply about an IPv4 or IPv6 socket
 abbrev pub inet_text : Options → Attribute → AttributeValue inet → List ℕ
 inet_text o a v = inet_variant_text o a (inet_variant v)
 
--- The text of an attribute of a reply about a UNIX socket, by its variant; the name, the peer and
--- the queue lengths have columns. The memory is read again, since its variant has three of its nine
--- fields.
+-- The text of an attribute of a reply about a UNIX socket, by its variant. The name, the peer and
+-- the queue lengths have columns, so they have no text. The memory is parsed again, since its
+-- variant has only three of nine fields.
 abbrev pub unix_variant_text : Attribute → UnixNla (SocketName (List ℕ)) (List ℕ) Attribute
     → List ℕ
 unix_variant_text a (unix_nla.Name name) = []
@@ -223,97 +238,98 @@ unix_variant_text a (unix_nla.MemInfo m) = memory_in (read mem_info tt a.value)
 unix_variant_text a (unix_nla.Shutdown n) = directions n
 unix_variant_text a (unix_nla.Other other) = unknown a
 
--- the text of a decoded attribute of such a reply
+-- the text of a decoded attribute of a reply about a UNIX socket
 abbrev pub unix_text : Attribute → AttributeValue unix → List ℕ
 unix_text a v = unix_variant_text a (unix_variant v)
 
--- the words of an attribute's value, or why it is refused
+-- the text of a decoded attribute, or the reason why its value is invalid
 abbrev pub words_of : {A : Type 0} → (Attribute → A → List ℕ) → Attribute
     → Result A DecodeError → List ℕ
 words_of text a (Ok value) = text a value
 words_of text a (Err e) = unread a e
 
--- the kind by which another family tells the memory: NETLINK_DIAG_MEMINFO, PACKET_DIAG_MEMINFO and
--- XDP_DIAG_MEMINFO
+-- The type of the attribute with the memory: NETLINK_DIAG_MEMINFO (0), PACKET_DIAG_MEMINFO (6) or
+-- XDP_DIAG_MEMINFO (8). Vsock sockets have none.
 abbrev pub memory_kind : Family → Option ℕ
 memory_kind Netlink = Some 0
 memory_kind Packet = Some 6
 memory_kind Vsock = None
 memory_kind Xdp = Some 8
 
--- attributes of a kind tell the memory
+-- an attribute of this type has the memory of a socket of this family
 abbrev pub tells_memory : Family → ℕ → Bool
 tells_memory family kind = unwrap_or (option_map (λ k. k == kind) (memory_kind family)) false
 
--- the first 32 groups that a netlink socket is a member of, a bit for each, where the value has so
--- many
+-- The first 32 groups of a netlink socket, a bit for each, little-endian (NETLINK_DIAG_GROUPS). A
+-- value with fewer than four bytes is shown as an unknown attribute.
 abbrev pub groups : Attribute → List ℕ
 groups a =
     if nat_lt (length a.value) 4 then unknown a
     else hex_detail (codes "groups") (little_number 4 a.value)
 
--- what a packet socket is set to, where the value has so many bytes
+-- The version, the copy threshold and the flags of a packet socket (`struct packet_diag_info`). A
+-- value that is too short is shown as an unknown attribute. The flags are in the low byte.
 abbrev pub packet_text : Attribute → Result PacketInfo DecodeError → List ℕ
 packet_text a (Ok p) =
     detail (codes "ver") p.version ++ detail (codes "cpy_thresh") p.copy_threshold
     ++ packet_flags (p.flags % 256)
 packet_text a (Err e) = unknown a
 
--- what an attribute tells that other families don't have: NETLINK_DIAG_GROUPS, 1, and
--- PACKET_DIAG_INFO, 0
+-- The text of an attribute other than the memory of a netlink, packet, vsock or XDP socket. Only
+-- NETLINK_DIAG_GROUPS (1) and PACKET_DIAG_INFO (0) are decoded.
 abbrev pub own_text : Family → Attribute → List ℕ
 own_text Netlink a = if attribute_type a == 1 then groups a else unknown a
 own_text Packet a =
     if attribute_type a == 0 then packet_text a (packet_info a.value) else unknown a
 own_text _ a = unknown a
 
--- what an attribute of a reply about a socket of another family tells: the memory, or what it alone
--- has
+-- the text of an attribute of a reply about a netlink, packet, vsock or XDP socket
 abbrev pub other_text : Family → Attribute → List ℕ
 other_text family a =
     if tells_memory family (attribute_type a)
     then words_of (λ _ m. memory m) a (read mem_info tt a.value) else own_text family a
 
--- what is told of an attribute
+-- the text of an attribute, by the kind of sockets that the reply is about
 abbrev pub detail_of : Options → Sockets → Attribute → List ℕ
 detail_of o Unix a = words_of unix_text a (decodes unix a)
 detail_of o Inet a = words_of (inet_text o) a (decodes inet a)
 detail_of o (Other family) a = other_text family a
 
--- the detail that attributes of a type tell of a UNIX socket: 5 is UNIX_DIAG_MEMINFO
+-- the group of details of an attribute of a UNIX socket; 5 is UNIX_DIAG_MEMINFO
 abbrev pub detail_of_unix : ℕ → Detail
 detail_of_unix kind = if kind == 5 then Memory else Extended
 
--- That of an IPv4 or IPv6 socket: the memory is told by INET_DIAG_MEMINFO, 1, and
--- INET_DIAG_SKMEMINFO, 7; the connection by INET_DIAG_INFO, 2, and its congestion control by
--- INET_DIAG_VEGASINFO, 3, INET_DIAG_CONG, 4, INET_DIAG_DCTCPINFO, 9, and INET_DIAG_BBRINFO, 16.
+-- The group of details of an attribute of an IPv4 or IPv6 socket. Memory: INET_DIAG_MEMINFO (1) and
+-- INET_DIAG_SKMEMINFO (7). Connection: INET_DIAG_INFO (2), INET_DIAG_VEGASINFO (3), INET_DIAG_CONG
+-- (4), INET_DIAG_DCTCPINFO (9) and INET_DIAG_BBRINFO (16).
 abbrev pub detail_of_inet : ℕ → Detail
 detail_of_inet kind =
     if (kind == 1) || (kind == 7) then Memory
     else if (kind == 2) || (kind == 3) || (kind == 4) || (kind == 9) || (kind == 16)
     then Connection else Extended
 
--- that of a socket of another family
+-- the group of details of an attribute of a netlink, packet, vsock or XDP socket
 abbrev pub detail_of_other : Family → ℕ → Detail
 detail_of_other family kind = if tells_memory family kind then Memory else Extended
 
--- that of each
+-- the group of details of an attribute, by the kind of sockets that the reply is about
 abbrev pub detail_under : Sockets → ℕ → Detail
 detail_under Unix kind = detail_of_unix kind
 detail_under Inet kind = detail_of_inet kind
 detail_under (Other family) kind = detail_of_other family kind
 
--- what is told of an attribute, where it is asked for
+-- the text of an attribute, if the options select its group of details
 abbrev pub detail_if_asked : Options → Sockets → Attribute → List ℕ
 detail_if_asked o sockets a =
     if shows o (detail_under sockets (attribute_type a)) then detail_of o sockets a else []
 
--- what is told of a piece: nothing of one that is no attribute
+-- the text of a piece; bytes that are not an attribute have none
 abbrev pub piece_detail : Options → Sockets → Piece → List ℕ
 piece_detail o sockets (Ok a) = detail_if_asked o sockets a
 piece_detail o sockets (Err e) = []
 
--- what the header of a reply about an IPv4 or IPv6 socket tells of it
+-- The timer fields of a reply about an IPv4 or IPv6 socket: `idiag_timer` at 2, `idiag_retrans` at
+-- 3 and `idiag_expires` at 52, in milliseconds.
 abbrev pub timer_in : List ℕ → TimerWords
 timer_in b = record {
   class = slice_index b 2;
@@ -321,7 +337,8 @@ timer_in b = record {
   expires = little_number 4 (drop 52 b);
 }
 
--- what is told beside the columns: the timer, the cookie, and what each attribute tells
+-- The details of a socket: the timer, the cookie and the texts of the attributes, as far as the
+-- options select them.
 abbrev pub details : Options → Sockets → TimerWords → List ℕ → List Piece → List ℕ
 details o sockets timer cookie given =
     timer_if_asked o timer ++ cookie_if_asked o cookie ++ flat_map (piece_detail o sockets) given

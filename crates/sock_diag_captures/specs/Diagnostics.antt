@@ -1,4 +1,5 @@
--- The lines about packets on standard error.
+-- Diagnostics on standard error. `front` is the prefix of each line. Packets and messages are
+-- numbered from 1 on.
 use Rattle.std.specs.Prelude.{◌≡◌, ℕ, ◌+◌, ◌==◌, if◌then◌else◌, nat_lt, List, [], ◌∷◌, ◌++◌, ◌⊎◌}
 use Rattle.std.specs.Prelude.{bit_and, codes, decimal, drop, length, Option, None, Some}
 use Rattle.byteorder.specs.Endian.{little_number}
@@ -37,7 +38,7 @@ use Rattle.sock_diag_captures.specs.declared.list.Issue.TheVariants.{Invalid, In
 
 -- ---- texts
 
--- the name of a record, with its family and kind
+-- the name of a record, with its family and the type of the attribute if there are
 abbrev pub record_text : RecordName → List ℕ
 record_text SocketId = codes "SocketId"
 record_text InetRequest = codes "InetRequest"
@@ -57,7 +58,7 @@ record_text (FamilyAttribute family kind) =
     codes "FamilyAttribute { family: " ++ decimal family ++ codes ", kind: " ++ decimal kind
     ++ codes " }"
 
--- why bytes are rejected
+-- the text of a decode error
 abbrev pub fault_text : DecodeError → List ℕ
 fault_text Memory = codes "out of memory"
 fault_text (BufferTooSmall which got need) =
@@ -93,7 +94,7 @@ fault_text (EnvelopeLengthPast len got) =
     codes "message length " ++ decimal len ++ codes " is past the " ++ decimal got
     ++ codes " bytes given"
 
--- what is reported of a message
+-- the text of a diagnostic
 abbrev pub issue_text : Issue → List ℕ
 issue_text (Refused fault) = fault_text fault
 issue_text (Answered errno) = codes "the kernel answers error " ++ decimal errno
@@ -102,69 +103,71 @@ issue_text Invalid = codes "note: the kernel answers EINVAL"
 issue_text Interrupted = codes "the dump changed while it was taken"
 issue_text Lost = codes "the kernel lost data"
 
--- ---- lines; `front` begins each line, and packets and messages have numbers from 1 on
+-- ---- lines of messages
 
--- the line about an issue of the message of this number in the packet of that number
+-- the line of a diagnostic: packet `packet`, message `message` in it
 abbrev pub message_line : List ℕ → ℕ → ℕ → Issue → List ℕ
 message_line front packet message issue =
     front ++ codes "packet " ++ decimal packet ++ codes ", message " ++ decimal message
     ++ codes ": " ++ issue_text issue ++ 10 ∷ []
 
--- such a line, if there is an issue
+-- the line of a diagnostic, or nothing if there is none
 abbrev pub issue_line : List ℕ → ℕ → ℕ → Option Issue → List ℕ
 issue_line front packet message None = []
 issue_line front packet message (Some issue) = message_line front packet message issue
 
--- a message with NLM_F_DUMP_INTR, 16, among its flags is reported
+-- Interrupted for a message with the flag NLM_F_DUMP_INTR (16) in `nlmsg_flags` at 6
 abbrev pub interrupted_issue : List ℕ → Option Issue
 interrupted_issue m =
     if bit_and (little_number 2 (drop 6 m)) 16 == 0 then None else Some Interrupted
 
--- the lines about the message of this number: that the dump changed, then what the message says
+-- the lines about a message: first whether the dump was interrupted, then its other diagnostic
 abbrev pub lines_about_message : List ℕ → ℕ → ℕ → List ℕ → List ℕ
 lines_about_message front packet message m =
     issue_line front packet message (interrupted_issue m)
     ++ issue_line front packet message (message_issue m)
 
--- the lines about consecutive messages, of which the first has this number
+-- the lines about consecutive messages, of which the first has the number `message`
 abbrev pub lines_about : List ℕ → ℕ → ℕ → List (List ℕ) → List ℕ
 lines_about front packet message [] = []
 lines_about front packet message (m ∷ later) =
     lines_about_message front packet message m ++ lines_about front packet (message + 1) later
 
--- the line about what follows the last message, if that is no message
+-- the line about the bytes after the last message, if there are any
 abbrev pub end_line : List ℕ → ℕ → ℕ → Option DecodeError → List ℕ
 end_line front packet message None = []
 end_line front packet message (Some fault) = message_line front packet message (Refused fault)
 
 -- ---- datagrams and packets
 
--- The lines about the messages of a datagram follow those before, in order, and then the line about
--- what is no message.
+-- The text `after` is the text `before`, the lines about the messages of a datagram in order, and
+-- the line about the bytes after the last message, if there are any.
 pub record DiagnosesMessages (front : List ℕ) (packet : ℕ) (datagram before after : List ℕ)
     : Type 0 where
+  -- the messages of the datagram, without the padding between them
   pub messages : List (List ℕ)
+  -- the error of the bytes after the last message, if there are any
   pub end : Option DecodeError
   pub cut : CutIntoMessages datagram messages end
   pub lines : after ≡ before ++ (lines_about front packet 1 messages
       ++ end_line front packet (length messages + 1) end)
 
--- the lines about a datagram that is no request; none about a request
+-- the lines about a datagram that is not a request; a request has none
 abbrev pub DiagnosesDatagram : List ℕ → ℕ → List ℕ → List ℕ → List ℕ → Type 0
 DiagnosesDatagram front packet datagram before after =
     ((IsRequest datagram → ⊥) × DiagnosesMessages front packet datagram before after)
     ⊎ (IsRequest datagram × (after ≡ before))
 
--- the lines about the bytes of a packet: those about its datagram if it is one of sock_diag(7), the
--- line about one with fewer than 16 bytes, and none about another
+-- The lines about the bytes of a packet: those of its datagram if it is one of sock_diag(7), a line
+-- if it has fewer than 16 bytes, or else none.
 abbrev pub DiagnosesContent : List ℕ → ℕ → List ℕ → List ℕ → List ℕ → Type 0
 DiagnosesContent front packet bytes before after =
     (IsSockDiag bytes × DiagnosesDatagram front packet (drop 16 bytes) before after)
     ⊎ ((¬ IsSockDiag bytes)
     × (after ≡ before ++ (if nat_lt (length bytes) 16 then short_line front packet else [])))
 
--- the lines about the packet of this number follow those before: the one that it is cut, then those
--- about its bytes
+-- The text `after` is the text `before` and the lines about the packet of this number: first
+-- whether it was truncated, then those about its bytes.
 abbrev pub DiagnosesPacket : List ℕ → ℕ → Recorded → List ℕ → List ℕ → Type 0
 DiagnosesPacket front number packet before after =
     DiagnosesContent front number packet.bytes

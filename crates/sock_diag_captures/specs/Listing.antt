@@ -1,4 +1,5 @@
--- What the datagrams of a capture are listed as.
+-- The lines and diagnostics of messages, datagrams and packets of a capture. `given` are the
+-- attributes after the header of a reply, `b` is the payload of a message.
 use Rattle.std.specs.Prelude.{◌≡◌, ◌≢◌, ◌↔◌, Bool, true, false, IsTrue, ℕ, ℤ, pos, negsuc, ◌+◌}
 use Rattle.std.specs.Prelude.{◌==◌, ◌&&◌, if◌then◌else◌, nat_le, nat_lt, List, [], ◌++◌, ◌≤◌, ◌⊎◌}
 use Rattle.std.specs.Prelude.{bit_and, drop, length, flat_map, Option, None, Some, option_map}
@@ -41,30 +42,30 @@ use Rattle.sock_diag_captures.specs.declared.list.Issue.TheVariants.{Invalid, No
 
 -- ---- replies
 
--- the lines of a reply whose header can be read, by the pieces behind it
+-- the lines of a reply with this header and these attributes, or none if the header is invalid
 abbrev pub lines_behind : {H : Type 0} → (H → List Piece → List ℕ) → Result H DecodeError
     → List Piece → List ℕ
 lines_behind lines (Ok h) given = lines h given
 lines_behind lines (Err e) given = []
 
--- the fault of such a reply: that of its header, or that of the framing behind it
+-- the decode error of a reply: of its header, or else of the bytes after its last attribute
 abbrev pub fault_behind : {H : Type 0} → Result H DecodeError → List Piece → Option DecodeError
 fault_behind (Ok h) given = framing_fault given
 fault_behind (Err e) given = Some e
 
--- the lines of a reply with this header, behind which the pieces stand, about a socket that is so
--- shown
+-- The lines of a reply about a netlink, packet, vsock or XDP socket. `header` is the layout of its
+-- header, which has `header.least` bytes, and `socket` returns the values that a line shows.
 abbrev pub shown_lines : {T H : Type 0} → Options → Layout (Unit {0}) T H
     → (H → List Piece → OtherSocket) → List ℕ → List ℕ
 shown_lines o header socket b =
     lines_behind (λ h given. other_lines o (socket h given) given) (read header tt b)
     (pieces 0 (drop header.least b))
 
--- the fault of such a reply
+-- the decode error of a reply with this layout of its header
 abbrev pub shown_fault : {T H : Type 0} → Layout (Unit {0}) T H → List ℕ → Option DecodeError
 shown_fault header b = fault_behind (read header tt b) (pieces 0 (drop header.least b))
 
--- the lines of a reply about a socket of another family
+-- the lines of a reply about a socket of this family, or none for an unknown family
 abbrev pub family_lines : Options → Option Family → List ℕ → List ℕ
 family_lines o (Some Netlink) b = shown_lines o netlink_header netlink_socket b
 family_lines o (Some Packet) b = shown_lines o packet_header packet_socket b
@@ -72,7 +73,7 @@ family_lines o (Some Vsock) b = shown_lines o vsock_header vsock_socket b
 family_lines o (Some Xdp) b = shown_lines o xdp_header xdp_socket b
 family_lines o None b = []
 
--- the fault of such a reply
+-- the decode error of a reply about a socket of this family, or none for an unknown family
 abbrev pub family_fault : Option Family → List ℕ → Option DecodeError
 family_fault (Some Netlink) b = shown_fault netlink_header b
 family_fault (Some Packet) b = shown_fault packet_header b
@@ -80,8 +81,9 @@ family_fault (Some Vsock) b = shown_fault vsock_header b
 family_fault (Some Xdp) b = shown_fault xdp_header b
 family_fault None b = None
 
--- the lines of a reply of that kind, whose header has 16 bytes or 72, and of the protocol that was
--- asked for
+-- The lines of a payload, by the kind of the reply: attributes follow a `struct unix_diag_msg` of
+-- 16 bytes, or a `struct inet_diag_msg` of 72 bytes. `protocol` is the protocol of the request. A
+-- payload that is not a reply has no lines.
 abbrev pub kind_lines : Options → Option ℕ → Result MessageKind DecodeError → List ℕ → List ℕ
 kind_lines o protocol (Ok unix_response) b =
     lines_behind (unix_lines o) (read unix_response_header tt b) (pieces 0 (drop 16 b))
@@ -91,8 +93,8 @@ kind_lines o protocol (Ok inet_response) b =
 kind_lines o protocol (Err (UnknownFamily n)) b = family_lines o (family_numbered n) b
 kind_lines o protocol _ b = []
 
--- the fault of such a reply, or that it is none. Nothing is told of a socket of a family that isn't
--- known
+-- The decode error of a payload: of the reply, or the reason why it is not a reply. A reply about a
+-- socket of an unknown family has no error.
 abbrev pub kind_fault : Result MessageKind DecodeError → List ℕ → Option DecodeError
 kind_fault (Ok unix_response) b =
     fault_behind (read unix_response_header tt b) (pieces 0 (drop 16 b))
@@ -104,109 +106,120 @@ kind_fault _ b = None
 
 -- ---- messages
 
--- the type of a message
+-- the type of a message, `nlmsg_type` at 4
 abbrev pub type_of : List ℕ → ℕ
 type_of message = little_number 2 (drop 4 message)
 
--- the types that say nothing, tell an error, end a dump, or say that data was lost
+-- a control message, by its type: NLMSG_NOOP (1), NLMSG_ERROR (2), NLMSG_DONE (3) or NLMSG_OVERRUN
+-- (4)
 abbrev pub is_control : ℕ → Bool
 is_control t = nat_le 1 t && nat_le t 4
 
--- the lines of a message of a type, by what stands behind its header: those of a reply, of the
--- protocol that was asked for
+-- The lines of a message with this type and this payload. A control message has none. `protocol` is
+-- the protocol of the request.
 abbrev pub lines_under : Options → Option ℕ → ℕ → List ℕ → List ℕ
 lines_under o protocol t payload =
     if is_control t then [] else kind_lines o protocol (response_kind payload t) payload
 
--- the protocol that a message answers for, by its sequence number and its port
+-- The protocol of the request that a message answers, by its sequence number (`nlmsg_seq` at 8) and
+-- its port number (`nlmsg_pid` at 12).
 abbrev pub protocol_for : List Asked → List ℕ → Option ℕ
 protocol_for asked m = protocol_of asked (little_number 4 (drop 8 m)) (little_number 4 (drop 12 m))
 
--- the lines of a message
+-- the lines of a message, whose payload is at 16
 abbrev pub message_lines : Options → List Asked → List ℕ → List ℕ
 message_lines o asked m = lines_under o (protocol_for asked m) (type_of m) (drop 16 m)
 
--- the number of errno(3) that a number below zero tells, and 0 for any other
+-- the absolute value of a negative number, or else 0
 abbrev pub below_zero : Option ℤ → ℕ
 below_zero None = 0
 below_zero (Some (pos n)) = 0
 below_zero (Some (negsuc n)) = n + 1
 
--- that of the payload of an error or of the end of a dump
+-- the error number of errno(3) in the payload of an NLMSG_ERROR or NLMSG_DONE, which contains it
+-- negated, or 0 if there is none
 abbrev pub errno_in : List ℕ → ℕ
 errno_in payload = below_zero (leading_number payload)
 
--- what is told of an error: ENOENT is 2, and EINVAL 22
+-- The diagnostic of an error number: none for 0, a note for ENOENT (2) and EINVAL (22), or else an
+-- error.
 abbrev pub error_issue : ℕ → Option Issue
 error_issue n =
     if n == 0 then None else if n == 2 then Some NoEntry else if n == 22 then Some Invalid
     else Some (Answered n)
 
--- what is told of a message of such a type: that it is an error, or says that data was lost
+-- The diagnostic of a control message: none for NLMSG_NOOP (1), Lost for NLMSG_OVERRUN (4), or else
+-- that of the error number in its payload.
 abbrev pub control_issue : ℕ → List ℕ → Option Issue
 control_issue t payload =
     if t == 1 then None else if t == 4 then Some Lost else error_issue (errno_in payload)
 
--- what is told of a message of a type, also that it is refused
+-- the diagnostic of a message with this type and this payload, except for Interrupted
 abbrev pub issue_under : ℕ → List ℕ → Option Issue
 issue_under t payload =
     if is_control t then control_issue t payload
     else option_map Refused (kind_fault (response_kind payload t) payload)
 
--- what is told of a message
+-- the diagnostic of a message, except for Interrupted
 abbrev pub message_issue : List ℕ → Option Issue
 message_issue m = issue_under (type_of m) (drop 16 m)
 
--- nothing is told, or a note, by which no socket is missing from the lines
+-- there is no diagnostic or only a note, so that no socket is missing from the table
 abbrev pub is_nothing_missing : Option Issue → Bool
 is_nothing_missing None = true
 is_nothing_missing (Some NoEntry) = true
 is_nothing_missing (Some Invalid) = true
 is_nothing_missing (Some issue) = false
 
--- the message hasn't NLM_F_DUMP_INTR, 16, among its flags, and what is told of it is at most a note
+-- A message without the flag NLM_F_DUMP_INTR (16) in `nlmsg_flags` at 6, and without a diagnostic
+-- other than a note.
 abbrev pub IsPlain : List ℕ → Type 0
 IsPlain m = (bit_and (little_number 2 (drop 6 m)) 16 ≡ 0)
     × IsTrue (is_nothing_missing (message_issue m))
 
 -- ---- datagrams and packets
 
--- the datagram begins with the header of a request, whose flags have NLM_F_REQUEST, 1
+-- the datagram begins with a netlink header whose flags have bit 1 (NLM_F_REQUEST)
 abbrev pub IsRequest : List ℕ → Type 0
 IsRequest datagram = (h : NetlinkHeader) × HasHeader datagram h × (bit_and h.flags 1 ≢ 0)
 
--- a packet of the protocol of sock_diag(7)
+-- a packet with a cooked header of sock_diag(7)
 abbrev pub IsSockDiag : List ℕ → Type 0
 IsSockDiag packet = (16 ≤ length packet) × IsOfSockDiag packet
 
--- The lines of the datagram follow those before: of each message that it is cut into, in order.
--- Whether at most notes are told of them, and no fault stands behind them.
+-- The text `after` is the text `before` and the lines of each message of a datagram, in order.
+-- `end` is the error of the bytes after the last message, if there are any. `is_clean` is true if
+-- and only if each message is plain and there is no such error.
 pub record Lists (o : Options) (asked : List Asked) (datagram before after : List ℕ)
     (is_clean : Bool) : Type 0 where
+  -- the messages of the datagram, without the padding between them
   pub messages : List (List ℕ)
+  -- the error of the bytes after the last message, if there are any
   pub end : Option DecodeError
   pub cut : CutIntoMessages datagram messages end
   pub lines : after ≡ before ++ flat_map (message_lines o asked) messages
   pub clean : IsTrue is_clean ↔ (AllByRecursion IsPlain messages × (end ≡ None))
 
--- the lines of a datagram that is no request, and of a request its own
+-- The lines of a datagram. A request has only its own line, if `--requests` is set, and is always
+-- clean. Any other datagram has the lines of its messages.
 abbrev pub ListsDatagram : Options → List Asked → PacketHeader → List ℕ → List ℕ → List ℕ → Bool
     → Type 0
 ListsDatagram o asked header datagram before after is_clean =
     ((IsRequest datagram → ⊥) × Lists o asked datagram before after is_clean)
     ⊎ (IsRequest datagram × (after ≡ before ++ shown_request o header datagram) × (is_clean ≡ true))
 
--- The requests after a packet: those before, and where it is one of sock_diag(7), the one that its
--- datagram begins with.
+-- The requests after a packet. If the packet has a cooked header of sock_diag(7) (the hardware type
+-- at 2 is 824 and the protocol at 14 is 4, both big-endian), the request that its datagram begins
+-- with is added. The datagram is at 16.
 unfoldable pub asked_after : List Asked → List ℕ → List Asked
 asked_after asked packet =
     if nat_lt (length packet) 16 then asked
     else if (big_number 2 (drop 2 packet) == 824) && (big_number 2 (drop 14 packet) == 4)
     then noted asked (drop 16 packet) else asked
 
--- The lines of the packet follow those before: those of its datagram where it is one of
--- sock_diag(7), and none for another. Of one with fewer than 16 bytes something is told, and of no
--- other that is none.
+-- The text `after` is the text `before` and the lines of a packet: those of its datagram if it is
+-- one of sock_diag(7), or else none. A packet of another protocol is clean, and a packet with fewer
+-- than 16 bytes is not.
 abbrev pub ListsPacket : Options → List Asked → Recorded → List ℕ → List ℕ → Bool → Type 0
 ListsPacket o asked packet before after is_clean =
     (IsSockDiag packet.bytes
@@ -214,8 +227,8 @@ ListsPacket o asked packet before after is_clean =
     ⊎ ((¬ IsSockDiag packet.bytes) × (after ≡ before)
     × (IsTrue is_clean ↔ (16 ≤ length packet.bytes)))
 
--- The same of a packet as a capture has it. It counts as listed whole where it also has the bytes
--- that it had when it was captured.
+-- The lines of a packet as it was captured. It was listed without errors if it is clean and was not
+-- truncated: it has at least as many bytes as its original length.
 abbrev pub ListsRecorded : Options → List Asked → Recorded → List ℕ → List ℕ → Bool → Type 0
 ListsRecorded o asked packet before after is_whole =
     (is_clean : Bool) × ListsPacket o asked packet before after is_clean

@@ -1,4 +1,4 @@
--- The lines of netlink, packet, vsock and XDP sockets.
+-- Lines of netlink, packet, vsock and XDP sockets. `given` are the attributes of a reply.
 use Rattle.std.specs.Prelude.{ℕ, ◌+◌, ◌==◌, nat_lt, if◌then◌else◌, List, [], ◌∷◌, ◌++◌, length}
 use Rattle.std.specs.Prelude.{drop, codes, Option, None, Some, option_and_then}
 use Rattle.byteorder.specs.Endian.{little_bytes, little_number}
@@ -20,44 +20,44 @@ use Rattle.sock_diag_captures.specs.declared.others.OtherSocket.{OtherSocket}
 
 -- ---- families
 
--- the other families by their numbers: AF_NETLINK, AF_PACKET, AF_VSOCK and AF_XDP
+-- the family by its number: AF_NETLINK (16), AF_PACKET (17), AF_VSOCK (40) or AF_XDP (44)
 abbrev pub family_numbered : ℕ → Option Family
 family_numbered n =
     if n == 16 then Some Netlink else if n == 17 then Some Packet
     else if n == 40 then Some Vsock else if n == 44 then Some Xdp else None
 
--- ---- what attributes tell
+-- ---- values of attributes
 
--- the number of 32 bits at a place of an attribute's value, low byte first
+-- the little-endian `u32` at an offset of an attribute's value, or None if the value is too short
 abbrev pub word_in : ℕ → Option Attribute → Option ℕ
 word_in place None = None
 word_in place (Some a) =
     if nat_lt (length a.value) (place + 4) then None
     else Some (little_number 4 (drop place a.value))
 
--- that of the first attribute of a kind
+-- the `u32` at an offset of the value of the first attribute of a type, or None if there is none
 abbrev pub word_told : Option ℕ → ℕ → List Piece → Option ℕ
 word_told None place given = None
 word_told (Some kind) place given = word_in place (first_of_kind kind given)
 
--- a number that isn't the one that says none
+-- the number, or None if it is `none`
 abbrev pub unless : ℕ → ℕ → Option ℕ
 unless none n = if n == none then None else Some n
 
--- the interface that the first word of such an attribute tells, where it isn't 0
+-- the interface number: the `u32` at 0 of the first attribute of a type, or None if it is 0
 abbrev pub interface : ℕ → List Piece → Option ℕ
 interface kind given = option_and_then (unless 0) (word_told (Some kind) 0 given)
 
--- the kind that tells the user: PACKET_DIAG_UID and XDP_DIAG_UID
+-- the type of the attribute with the user id: PACKET_DIAG_UID (5) or XDP_DIAG_UID (2)
 abbrev pub user_kind : Family → Option ℕ
 user_kind Packet = Some 5
 user_kind Xdp = Some 2
 user_kind _ = None
 
--- ---- the sockets of each family
+-- ---- sockets of each family
 
--- A netlink socket: protocol and port; the group and the port that it is connected to, where its
--- state is 1, NETLINK_CONNECTED. ss(8) shows it as unconnected, 7, also then.
+-- A netlink socket. Local: protocol and port. Peer: group and port, if the state is 1
+-- (NETLINK_CONNECTED). The column State has UNCONN (7) in any case, as in ss(8).
 abbrev pub netlink_socket : NetlinkResponseHeader → List Piece → OtherSocket
 netlink_socket h given = record {
   family = Netlink;
@@ -69,7 +69,8 @@ netlink_socket h given = record {
   peer = if h.state == 1 then Some (Some h.destination_group, Some h.destination_port) else None;
 }
 
--- A packet socket: protocol and interface, by PACKET_DIAG_INFO, 0.
+-- A packet socket. Local: protocol, and interface number at 0 of the attribute PACKET_DIAG_INFO
+-- (0). The column State has UNCONN (7).
 abbrev pub packet_socket : PacketResponseHeader → List Piece → OtherSocket
 packet_socket h given = record {
   family = Packet;
@@ -81,8 +82,8 @@ packet_socket h given = record {
   peer = None;
 }
 
--- A vsock socket: context and port of both ends, where they aren't 2 ^ 32 - 1, VMADDR_CID_ANY and
--- VMADDR_PORT_ANY.
+-- A vsock socket. Local and peer: context and port, None for 2 ^ 32 - 1 (VMADDR_CID_ANY,
+-- VMADDR_PORT_ANY).
 abbrev pub vsock_socket : VsockResponseHeader → List Piece → OtherSocket
 vsock_socket h given = record {
   family = Vsock;
@@ -94,7 +95,8 @@ vsock_socket h given = record {
   peer = Some (unless 4294967295 h.destination_context, unless 4294967295 h.destination_port);
 }
 
--- An XDP socket: interface and queue, the words at 0 and 4 of XDP_DIAG_INFO, 1.
+-- An XDP socket. Local: interface number at 0 and queue at 4 of the attribute XDP_DIAG_INFO (1).
+-- The column State has UNCONN (7).
 abbrev pub xdp_socket : XdpResponseHeader → List Piece → OtherSocket
 xdp_socket h given = record {
   family = Xdp;
@@ -108,20 +110,21 @@ xdp_socket h given = record {
 
 -- ---- lines
 
--- the name of a vsock socket's type
+-- the kind of a vsock socket, by its type: SOCK_STREAM (1), SOCK_DGRAM (2), SOCK_SEQPACKET (5)
 abbrev pub vsock_kind : ℕ → List ℕ
 vsock_kind kind =
     if kind == 1 then codes "v_str" else if kind == 2 then codes "v_dgr"
     else if kind == 5 then codes "v_seq" else codes "vsock"
 
--- that of any, of which 3 is SOCK_RAW
+-- the kind of a socket, by its family and its type, of which 3 is SOCK_RAW
 abbrev pub other_kind : Family → ℕ → List ℕ
 other_kind Netlink kind = codes "nl"
 other_kind Packet kind = if kind == 3 then codes "p_raw" else codes "p_dgr"
 other_kind Vsock kind = vsock_kind kind
 other_kind Xdp kind = codes "xdp"
 
--- the first columns; the queues stand in the memory, at 0 and 8
+-- The first columns. Recv-Q is at 0 of the attribute with the memory (SK_MEMINFO_RMEM_ALLOC),
+-- Send-Q at 8 (SK_MEMINFO_WMEM_ALLOC).
 abbrev pub other_columns : OtherSocket → List Piece → FirstColumns
 other_columns s given = record {
   kind = other_kind s.family s.kind;
@@ -132,11 +135,11 @@ other_columns s given = record {
   uid = word_told (user_kind s.family) 0 given;
 }
 
--- an end: both numbers with a colon between, `*` for one that isn't told
+-- both numbers of an address, separated by a colon (58); None is `*`
 abbrev pub end_text : Option ℕ × Option ℕ → List ℕ
 end_text end = peer_cell end.0 ++ 58 ∷ peer_cell end.1
 
--- that of the peer, or `*` where none is told
+-- an address, or `*` for None
 abbrev pub end_cell : Option (Option ℕ × Option ℕ) → List ℕ
 end_cell None = codes "*"
 end_cell (Some end) = end_text end
@@ -145,7 +148,8 @@ end_cell (Some end) = end_text end
 abbrev pub other_line : OtherSocket → List Piece → List ℕ
 other_line s given = line (other_columns s given) (end_text s.local) (end_cell s.peer)
 
--- its lines, where they are asked for: the columns, and what is told beside them
+-- The lines of a socket, if the options select its family: the columns, the details and a line feed
+-- (10). The cookie is passed as eight bytes.
 abbrev pub other_lines : Options → OtherSocket → List Piece → List ℕ
 other_lines o s given =
     if lists_family o s.family

@@ -1,4 +1,5 @@
--- The requests that a capture holds, by which the protocol of a reply is known.
+-- Captured requests for IPv4 and IPv6 sockets: a netlink header (16 bytes) and a `struct
+-- inet_diag_req_v2` (56 bytes). They contain the protocols of the sockets in the replies.
 use Rattle.std.specs.Prelude.{ℕ, ◌==◌, ◌||◌, not, nat_lt, if◌then◌else◌, List, [], ◌∷◌, take, drop}
 use Rattle.std.specs.Prelude.{length, bit_and, slice_index, ◌&&◌, Option, None, Some}
 use Rattle.byteorder.specs.Endian.{little_number}
@@ -6,13 +7,15 @@ use Rattle.netlink_core.specs.Attribute.{Attribute}
 use Rattle.sock_diag_captures.specs.Pieces.{first_of_kind, pieces}
 use Rattle.sock_diag_captures.specs.declared.requests.Asked.{Asked}
 
--- the protocol in the byte at 17, or the one that an attribute of the type 3,
--- INET_DIAG_REQ_PROTOCOL, tells in four bytes
+-- The protocol of a request: the little-endian value of its attribute INET_DIAG_REQ_PROTOCOL, if
+-- there is one with four bytes, or else the byte `sdiag_protocol`.
 abbrev pub protocol_by : ℕ → Option Attribute → ℕ
 protocol_by byte None = byte
 protocol_by byte (Some a) = if length a.value == 4 then little_number 4 a.value else byte
 
--- what a request with both headers, 72 bytes, asks for
+-- The fields of a request of at least 72 bytes: `nlmsg_seq` at 8, `nlmsg_pid` at 12, `sdiag_family`
+-- at 16, `sdiag_protocol` at 17, `idiag_states` at 20, and attributes from 72 on, of which type 3
+-- is INET_DIAG_REQ_PROTOCOL.
 abbrev pub inet_asked : List ℕ → Asked
 inet_asked r = record {
   sequence_number = little_number 4 (drop 8 r);
@@ -22,31 +25,35 @@ inet_asked r = record {
   states = little_number 4 (drop 20 r);
 }
 
--- what a message with both headers asks for, where it is a request for IPv4 or IPv6 sockets: of the
--- type 20, SOCK_DIAG_BY_FAMILY, with the flag 1, NLM_F_REQUEST, for the family 2 or 10
+-- The request in a message of at least 72 bytes, if it is one for IPv4 or IPv6 sockets:
+-- `nlmsg_type` at 4 is 20 (SOCK_DIAG_BY_FAMILY), `nlmsg_flags` at 6 have bit 1 (NLM_F_REQUEST), and
+-- the family at 16 is 2 (AF_INET) or 10 (AF_INET6).
 abbrev pub request_in : List ℕ → Option Asked
 request_in r =
     if not (little_number 2 (drop 4 r) == 20) || (bit_and (little_number 2 (drop 6 r)) 1 == 0)
     then None
     else if (slice_index r 16 == 2) || (slice_index r 16 == 10) then Some (inet_asked r) else None
 
--- that of the first message of a datagram, whose length counts no more than is there
+-- The request in the first message of a datagram. `nlmsg_len` at 0 must be at least 72, and at most
+-- the length of the datagram.
 abbrev pub asked_in : List ℕ → Option Asked
 asked_in b =
     if nat_lt (length b) 72 then None
     else if nat_lt (little_number 4 b) 72 || nat_lt (length b) (little_number 4 b) then None
     else request_in (take (little_number 4 b) b)
 
--- the newest requests, 16 at most, the newest first
+-- The requests, and a new one before them. At most 15 older ones are kept.
 abbrev pub with_newest : Option Asked → List Asked → List Asked
 with_newest None asked = asked
 with_newest (Some newest) asked = newest ∷ take 15 asked
 
--- those with the one in front of a datagram
+-- the requests, and the one that a datagram begins with, if there is one
 abbrev pub noted : List Asked → List ℕ → List Asked
 noted asked datagram = with_newest (asked_in datagram) asked
 
--- The protocol of the newest request that has the sequence number of a reply, and its port or none.
+-- The protocol of the newest request that a reply with this sequence number and this port number
+-- may answer: its sequence number is equal, and its port number is equal or 0. None if there is no
+-- such request.
 abbrev pub protocol_of : List Asked → ℕ → ℕ → Option ℕ
 protocol_of [] sequence port = None
 protocol_of (a ∷ asked) sequence port =

@@ -1,4 +1,4 @@
--- What a whole capture is listed as.
+-- Listing of a whole capture.
 use Rattle.std.specs.Prelude.{◌≡◌, ◌↔◌, ℕ, ◌+◌, ◌-◌, ◌^◌, ◌⊎◌, List, [], ◌∷◌, ◌++◌, length}
 use Rattle.std.specs.Prelude.{flat_map, Bool, IsTrue, Option, ⊤}
 use Rattle.std.specs.Io.KnownBytes.{Appends, Consumes, IsAtEnd, Keeps}
@@ -14,24 +14,26 @@ use Rattle.sock_diag_captures.specs.Diagnostics.{AreDiagnosed}
 use Rattle.sock_diag_captures.specs.Listing.{ListsRecorded, asked_after}
 use Rattle.sock_diag_captures.specs.declared.requests.Asked.{Asked}
 
--- the lines of a packet, and whether it was listed whole
+-- the lines of a packet, and whether it was listed without errors
 pub record ListedPacket : Type 0 where
+  -- the lines of the packet in the table
   pub lines : List ℕ
+  -- the packet was listed without errors
   pub whole : Bool
 
--- the lines
+-- the lines of a listed packet
 abbrev pub lines_of_packet : ListedPacket → List ℕ
 lines_of_packet listing = listing.lines
 
--- the packet was listed whole
+-- the packet was listed without errors
 abbrev pub IsWhole : ListedPacket → Type 0
 IsWhole listing = IsTrue listing.whole
 
--- a packet by itself is listed so, where these requests were seen
+-- The lines of one packet. `asked` are the requests up to and including this packet.
 abbrev pub IsListed : Options → List Asked → Recorded → ListedPacket → Type 0
 IsListed o asked packet listing = ListsRecorded o asked packet [] listing.lines listing.whole
 
--- packets are listed so one after the other, where these requests were seen in front of them
+-- The lines of consecutive packets. `asked` are the requests before the first of them.
 abbrev pub AreListed : Options → List Asked → List Recorded → List ListedPacket → Type 0
 AreListed o asked [] [] = ⊤
 AreListed o asked [] (listing ∷ later) = ⊥
@@ -40,54 +42,70 @@ AreListed o asked (packet ∷ packets) (listing ∷ later) =
     IsListed o (asked_after asked packet.bytes) packet listing
     × AreListed o (asked_after asked packet.bytes) packets later
 
--- the bytes are these packets one after the other, each behind its header; R says which header a
--- packet may have
+-- The bytes are these packets, one after another, each after its packet header. `R header packet`
+-- states that a packet may have this header.
 abbrev pub ArePackets : (List ℕ → Recorded → Type 0) → List ℕ → List Recorded → Type 0
 ArePackets R bytes [] = bytes ≡ []
 ArePackets R bytes (packet ∷ later) =
     (header rest : List ℕ) × R header packet × (bytes ≡ (header ++ packet.bytes) ++ rest)
     × ArePackets R rest later
 
--- The bytes are a capture: its header, and packets. The lines are those of each packet in order,
--- and so are the diagnostics, whose lines begin with `front`. The capture counts as listed whole if
--- and only if each packet does.
+-- The bytes of a capture, and the lines and diagnostics of its packets, in order. The file header
+-- has 24 bytes (`header`) and is followed by packets (`records`). Each diagnostic begins with
+-- `front`. Packets are numbered from 1 on. `is_whole` is true if and only if each packet was listed
+-- without errors.
 pub record IsTable (o : Options) (front bytes lines diagnostics : List ℕ) (is_whole : Bool)
     : Type 0 where
+  -- the byte order and the unit of timestamps in the file header
   pub file : FileHeader
+  -- the bytes of the file header
   pub header : List ℕ
+  -- the bytes of all packets with their packet headers
   pub records : List ℕ
+  -- the packets in `records`
   pub packets : List Recorded
+  -- the lines of each packet, and whether it was listed without errors
   pub listings : List ListedPacket
   pub parts : bytes ≡ header ++ records
   pub long : length header ≡ 24
   pub is_header : IsFileHeader header file
   pub are_packets : ArePackets (IsRecord file) records packets
+  -- no request precedes the first packet
   pub listed : AreListed o [] packets listings
   pub written : lines ≡ flat_map lines_of_packet listings
+  -- the first packet has the number 1
   pub diagnosed : AreDiagnosed front 1 packets diagnostics
   pub whole : IsTrue is_whole ↔ AllByRecursion IsWhole listings
 
--- Of a run: the bytes that are left to read and held as written, before and after it, where they
--- are known, the heading, the text that begins each diagnostic, and what is known of the
--- diagnostics on standard error.
+-- The parameters are the state of a run: the bytes that remain to be read (`left` before the run,
+-- `left'` after it) and the bytes written (`held` and `held'`), each if known; the heading of the
+-- table, the prefix of each diagnostic, and `Reported`, which states that a text was reported on
+-- standard error.
 module _ (o : Options) (left left' held held' : Option (List ℕ)) (heading front : List ℕ)
     (Reported : List ℕ → Type 0) where
-  -- A capture of so many packets was read, and then `more`. The heading and the lines of these
-  -- packets were written, and their diagnostics reported.
+  -- The state after a number of packets: the file header and these packets were read, and then the
+  -- bytes `more`. The heading and the lines of these packets were written, and their diagnostics
+  -- reported.
   pub record Stands (file : FileHeader) (packets : ℕ) (more : List ℕ) : Type 0 where
+    -- the bytes of the file header and the packets
     pub bytes : List ℕ
+    -- the lines of the packets
     pub lines : List ℕ
+    -- the diagnostics of the packets
     pub diagnostics : List ℕ
     pub is_whole : Bool
     pub table : IsTable o front bytes lines diagnostics is_whole
     pub of_file : table.file ≡ file
+    -- the number of packets is `packets`
     pub counted : length table.packets ≡ packets
+    -- these bytes, and then `more`, were read
     pub read : Consumes left left' (bytes ++ more)
+    -- the heading and the lines were written
     pub appended : Appends held held' (heading ++ lines)
     pub reported : Reported diagnostics
 
-  -- if a write fails, a prefix of the table of what was read is written; its diagnostics are
-  -- reported
+  -- The state after a failed write: a prefix of the heading and the lines of the capture so far was
+  -- written (`sent`), and its diagnostics were reported.
   abbrev pub Breaks : Type 0
   Breaks =
       (bytes lines diagnostics : List ℕ) × (is_whole : Bool)
@@ -95,9 +113,13 @@ module _ (o : Options) (left left' held held' : Option (List ℕ)) (heading fron
       × Consumes left left' bytes × (sent : List ℕ) × (rest : List ℕ)
       × (heading ++ lines ≡ sent ++ rest) × Appends held held' sent × Reported diagnostics
 
-  -- What a run that fails so has read and written. At a header that can't be read nothing is
-  -- written; at a packet, which is named by its number, and when memory runs out, the lines and
-  -- diagnostics of all packets before; if a write fails, a prefix. `unread`: a read failed.
+  -- The state of a run that failed with an error. `unread` states that a read failed.
+  -- * Header: the file header could not be read, nothing was written and nothing reported.
+  -- * Packet: the packet of this number could not be read. The packets before it were listed. The
+  --   number 2 ^ 64 - 1 is never read: the run fails there as if a read had failed.
+  -- * Memory: an allocation failed while a packet was listed, which had been read. The packets
+  --   before it were listed.
+  -- * Write, Closed: a write or the last flush failed.
   abbrev pub Fails : Type 0 → RunError → Type 0
   Fails unread (Header fault) =
       (part : List ℕ) × Consumes left left' part × IsHeaderStop left' unread part fault
@@ -111,14 +133,19 @@ module _ (o : Options) (left left' held held' : Option (List ℕ)) (heading fron
   Fails unread Write = Breaks
   Fails unread Closed = Breaks
 
-  -- a whole capture was read to the end of the input, all of its table written, and its diagnostics
-  -- reported
+  -- The state of a run that succeeded: a whole capture was read up to the end of the input, all of
+  -- its table was written, and its diagnostics were reported. `is_whole` is true if and only if
+  -- each packet was listed without errors.
   pub record Finishes (is_whole : Bool) : Type 0 where
+    -- the bytes of the capture
     pub bytes : List ℕ
+    -- the lines of all packets
     pub lines : List ℕ
+    -- the diagnostics of all packets
     pub diagnostics : List ℕ
     pub table : IsTable o front bytes lines diagnostics is_whole
     pub read : Consumes left left' bytes
     pub ended : IsAtEnd left'
+    -- the heading and the lines were written
     pub appended : Appends held held' (heading ++ lines)
     pub reported : Reported diagnostics

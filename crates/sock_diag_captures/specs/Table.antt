@@ -1,4 +1,4 @@
--- The lines of the table.
+-- Lines of the table for UNIX, IPv4 and IPv6 sockets. `given` are the attributes of a reply.
 use Rattle.std.specs.Prelude.{ℕ, ◌==◌, nat_lt, if◌then◌else◌, ◌&&◌, Bool, List, [], ◌∷◌, ◌++◌}
 use Rattle.std.specs.Prelude.{length, codes, Option, None, Some, slice_index, option_map, drop}
 use Rattle.std.specs.Prelude.{◌||◌}
@@ -19,30 +19,31 @@ use Rattle.sock_diag_captures.specs.declared.details.Sockets.TheVariants.{Inet, 
 
 -- ---- UNIX sockets
 
--- A path begins with `@`, 64, as an abstract name is shown, or is `*`, 42, as none is. So its first
--- byte is told by its digits.
+-- A path that begins with `@` (64), like an abstract name, or that is `*` (42), which means that
+-- there is no name. Its first byte is escaped.
 abbrev pub is_mistaken : List ℕ → Bool
 is_mistaken path = (nat_lt 0 (length path) && (slice_index path 0 == 64))
     || ((length path == 1) && (slice_index path 0 == 42))
 
--- a path
+-- the text of a path
 abbrev pub path_text : Bool → List ℕ → List ℕ
 path_text utf8 path =
     if is_mistaken path then byte_digits (slice_index path 0) ++ shown utf8 (drop 1 path)
     else shown utf8 path
 
--- the kind of a UNIX socket
+-- the kind of a UNIX socket, by its type: SOCK_STREAM (1), SOCK_DGRAM (2), SOCK_SEQPACKET (5)
 abbrev pub unix_kind : ℕ → List ℕ
 unix_kind kind = if kind == 1 then codes "u_str" else (if kind == 2 then codes "u_dgr"
     else (if kind == 5 then codes "u_seq" else codes "unix"))
 
--- the path, or `@` and an abstract name, or `*` where none is told
+-- the cell of a name: a path, or `@` (64) and an abstract name, or `*` for None
 abbrev pub name_cell : Bool → Option (SocketName (List ℕ)) → List ℕ
 name_cell utf8 None = codes "*"
 name_cell utf8 (Some (Pathname path)) = path_text utf8 path
 name_cell utf8 (Some (Abstract address)) = 64 ∷ shown utf8 address
 
--- the name that such a cell tells, which a space, 32, ends
+-- The name that a cell represents, if a space (32) follows it. It is the inverse of `name_cell`:
+-- `*` (42) and a space are None, `@` (64) begins an abstract name, and anything else is a path.
 abbrev pub name_told : List ℕ → Option (SocketName (List ℕ))
 name_told cell =
     if (slice_index cell 0 == 42) && (slice_index cell 1 == 32) then None
@@ -51,12 +52,12 @@ name_told cell =
 
 -- ---- IPv4 and IPv6 sockets
 
--- `inet6` for the family 10, AF_INET6, and `inet` for the other
+-- the name of a family: `inet6` for 10 (AF_INET6), or else `inet`
 abbrev pub family_name : ℕ → List ℕ
 family_name family = if family == 10 then codes "inet6" else codes "inet"
 
--- The protocol that was asked for by its number of IPPROTO_.., as ss(8) names it; where none is
--- known, or another, the family.
+-- The name of a protocol by its number IPPROTO_.., as ss(8) prints it. If the protocol is not known
+-- or has no name here, it is the name of the family.
 abbrev pub inet_kind : Option ℕ → ℕ → List ℕ
 inet_kind None family = family_name family
 inet_kind (Some protocol) family =
@@ -67,7 +68,8 @@ inet_kind (Some protocol) family =
 
 -- ---- lines
 
--- the columns of a UNIX socket, whose name, peer and queues attributes tell
+-- The columns of a UNIX socket. The name is in the attribute UNIX_DIAG_NAME (0), the inode of the
+-- peer in UNIX_DIAG_PEER (2), and the lengths of the queues in UNIX_DIAG_RQLEN (4).
 abbrev pub unix_line : Options → UnixResponseHeader → List Piece → List ℕ
 unix_line o h given =
     let queues = first_value unix 4 given in
@@ -80,7 +82,7 @@ unix_line o h given =
       uid = None;
     }) (name_cell o.utf8 (first_value unix 0 given)) (peer_cell (first_value unix 2 given))
 
--- the columns of an IPv4 or IPv6 socket of this protocol
+-- The columns of an IPv4 or IPv6 socket. `protocol` is the protocol of the request.
 abbrev pub inet_line : Option ℕ → InetResponseHeader → List ℕ
 inet_line protocol h =
     let id = h.socket_id in
@@ -94,14 +96,16 @@ inet_line protocol h =
     }) (endpoint id.source_address id.interface_id id.source_port)
     (endpoint id.destination_address 0 id.destination_port)
 
--- the lines of a UNIX socket, where they are asked for: its columns, and what is told beside them
+-- The lines of a UNIX socket, if the options select UNIX sockets: the columns, the details and a
+-- line feed (10).
 abbrev pub unix_lines : Options → UnixResponseHeader → List Piece → List ℕ
 unix_lines o h given =
     if lists_unix o
     then unix_line o h given ++ set_apart o (details o Unix no_timer h.cookie given) ++ 10 ∷ []
     else []
 
--- the lines of an IPv4 or IPv6 socket of this protocol, with this timer, likewise
+-- The lines of an IPv4 or IPv6 socket, if the options select its protocol: the columns, the details
+-- and a line feed (10).
 abbrev pub inet_lines : Options → Option ℕ → TimerWords → InetResponseHeader → List Piece → List ℕ
 inet_lines o protocol timer h given =
     if lists_protocol o protocol

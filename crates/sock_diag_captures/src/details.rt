@@ -1,5 +1,5 @@
-//! The line below that of a socket: what is told of it beside its columns, and what could not be
-//! read.
+//! Details of a socket: what a reply contains besides the columns, and the attributes that are
+//! invalid.
 
 ghost use Rattle.std.specs.Prelude.{◌≡◌, ◌≤◌, ◌++◌, codes, flat_map, length, OnOk};
 ghost use Rattle.capture_tables.specs.Parts.{detail, separator, set_apart};
@@ -47,7 +47,7 @@ use sock_diag_records::constants::{
 use sock_diag_values::inet::{LegacyMemInfo, MemInfo, TcpInfo};
 use std::alloc::AllocError;
 
-/// The sockets that attributes tell of.
+/// The kind of sockets that a reply is about. It selects the meaning of attributes.
 #[derive(Clone, Copy)]
 pub(crate) enum Sockets {
     /// UNIX sockets.
@@ -58,7 +58,7 @@ pub(crate) enum Sockets {
     Other(Family),
 }
 
-/// The timer that the reply tells in its bytes, of which there are as many as in a header.
+/// Returns the timer fields of a reply about an IPv4 or IPv6 socket.
 pub(crate) fn timer_of(payload: &[u8]) -> TimerWords
     requires { 72 ≤ length payload.now }
     ensures { result ≡ timer_in payload.now }
@@ -70,8 +70,8 @@ pub(crate) fn timer_of(payload: &[u8]) -> TimerWords
     }
 }
 
-/// Adds what is told of a socket beside its columns, in a line of its own behind a tab unless one
-/// line is asked for, and nothing where nothing is told.
+/// Appends the details of a socket. They follow the separator, which is a line feed and a tab, or
+/// nothing with `-O`. Appends nothing if there are no details.
 pub(crate) fn push_details(
     text: &mut Vec<u8>,
     options: Options,
@@ -93,8 +93,8 @@ pub(crate) fn push_details(
     Ok(())
 }
 
-/// Adds the timer of a socket, its cookie, and what each attribute in the bytes tells, where it is
-/// asked for.
+/// Appends the timer of a socket, its cookie, and the details of each attribute, as far as the
+/// options select them.
 fn push_words(
     text: &mut Vec<u8>,
     options: Options,
@@ -111,7 +111,8 @@ fn push_words(
     push_pieces(text, options, sockets, bytes)
 }
 
-/// Adds what each attribute in the bytes tells, where it is asked for.
+/// Appends the details of each attribute in the bytes, as far as the options select them. Bytes
+/// that are not an attribute have no details.
 fn push_pieces(
     text: &mut Vec<u8>,
     options: Options,
@@ -130,7 +131,7 @@ fn push_pieces(
     Ok(())
 }
 
-/// Adds what an attribute tells, where it is asked for.
+/// Appends the details of an attribute, if the options select them.
 fn push_shown_attribute(
     text: &mut Vec<u8>,
     options: Options,
@@ -146,7 +147,7 @@ fn push_shown_attribute(
     push_attribute(text, options, sockets, nla)
 }
 
-/// The detail that attributes of a kind tell.
+/// Returns the group of details that an attribute of this kind belongs to.
 fn detail_of_kind(sockets: Sockets, kind: u16) -> Detail
     ensures { result ≡ detail_under sockets kind }
 {
@@ -157,7 +158,7 @@ fn detail_of_kind(sockets: Sockets, kind: u16) -> Detail
     }
 }
 
-/// That of a UNIX socket.
+/// Returns the group of an attribute of a UNIX socket.
 fn detail_of_unix_kind(kind: u16) -> Detail
     ensures { result ≡ detail_of_unix kind }
 {
@@ -167,7 +168,7 @@ fn detail_of_unix_kind(kind: u16) -> Detail
     }
 }
 
-/// That of an IPv4 or IPv6 socket.
+/// Returns the group of an attribute of an IPv4 or IPv6 socket.
 fn detail_of_inet_kind(kind: u16) -> Detail
     ensures { result ≡ detail_of_inet kind }
 {
@@ -182,7 +183,7 @@ fn detail_of_inet_kind(kind: u16) -> Detail
     }
 }
 
-/// That of a socket of another family.
+/// Returns the group of an attribute of a netlink, packet, vsock or XDP socket.
 fn detail_of_other_kind(family: Family, kind: u16) -> Detail
     ensures { result ≡ detail_of_other family kind }
 {
@@ -193,7 +194,8 @@ fn detail_of_other_kind(family: Family, kind: u16) -> Detail
     }
 }
 
-/// Whether attributes of this kind tell the memory of a socket of another family.
+/// Returns whether an attribute of this kind has the memory of a netlink, packet, vsock or XDP
+/// socket.
 fn tells_memory(family: Family, kind: u16) -> bool
     ensures { result ≡ tells_memory family kind }
 {
@@ -203,7 +205,8 @@ fn tells_memory(family: Family, kind: u16) -> bool
     }
 }
 
-/// The kind of the attribute that tells the memory of a socket of another family.
+/// Returns the kind of the attribute with the memory of a netlink, packet, vsock or XDP socket.
+/// Vsock sockets have none.
 pub(crate) fn memory_kind(family: Family) -> Option<u16>
     ensures { result ≡ memory_kind family }
 {
@@ -215,7 +218,7 @@ pub(crate) fn memory_kind(family: Family) -> Option<u16>
     }
 }
 
-/// Adds what an attribute tells.
+/// Appends the details of an attribute.
 fn push_attribute(
     text: &mut Vec<u8>,
     options: Options,
@@ -232,7 +235,7 @@ fn push_attribute(
     }
 }
 
-/// Adds what an attribute of a UNIX socket tells beside its columns, or that it is refused.
+/// Appends the details of an attribute of a UNIX socket, or the reason why its value is invalid.
 fn push_unix_attribute(text: &mut Vec<u8>, nla: &NlaBuffer<'_>) -> Result<(), AllocError>
     ensures { OnOk result (text.new.items ≡ text.old.items
         ++ words_of unix_text (attribute_of nla.now) (decodes unix (attribute_of nla.now))) }
@@ -243,7 +246,8 @@ fn push_unix_attribute(text: &mut Vec<u8>, nla: &NlaBuffer<'_>) -> Result<(), Al
     }
 }
 
-/// Adds what an attribute of an IPv4 or IPv6 socket tells, or that it is refused.
+/// Appends the details of an attribute of an IPv4 or IPv6 socket, or the reason why its value is
+/// invalid.
 fn push_inet_attribute(
     text: &mut Vec<u8>,
     options: Options,
@@ -259,7 +263,8 @@ fn push_inet_attribute(
     }
 }
 
-/// Adds what an attribute of a socket of another family tells, or that its memory is refused.
+/// Appends the details of an attribute of a netlink, packet, vsock or XDP socket. If the attribute
+/// has the memory, and its value is invalid, appends the reason.
 fn push_other_attribute(
     text: &mut Vec<u8>,
     family: Family,
@@ -277,7 +282,8 @@ fn push_other_attribute(
     }
 }
 
-/// Adds what an attribute tells that other families don't have.
+/// Appends the details of an attribute other than the memory of a netlink, packet, vsock or XDP
+/// socket.
 fn push_own_attribute(
     text: &mut Vec<u8>,
     family: Family,
@@ -293,7 +299,8 @@ fn push_own_attribute(
     }
 }
 
-/// Adds the first 32 groups of a netlink socket, where the value has so many.
+/// Appends the first 32 groups of a netlink socket. A value with fewer than four bytes is shown as
+/// an unknown attribute.
 fn push_groups(text: &mut Vec<u8>, nla: &NlaBuffer<'_>) -> Result<(), AllocError>
     ensures { OnOk result (text.new.items ≡ text.old.items ++ groups (attribute_of nla.now)) }
 {
@@ -304,7 +311,8 @@ fn push_groups(text: &mut Vec<u8>, nla: &NlaBuffer<'_>) -> Result<(), AllocError
     push_hex_detail(text, b"groups", LittleEndian::read_u32(value).into())
 }
 
-/// Adds what a packet socket is set to, where the value has all six words of it.
+/// Appends the version, the copy threshold and the flags of a packet socket. A value that is too
+/// short for the six `u32` of `packet_diag_info` is shown as an unknown attribute.
 fn push_packet_info(text: &mut Vec<u8>, nla: &NlaBuffer<'_>) -> Result<(), AllocError>
     ensures { OnOk result (text.new.items ≡ text.old.items
         ++ packet_text (attribute_of nla.now) (packet_info (attribute_of nla.now).value)) }
@@ -317,7 +325,7 @@ fn push_packet_info(text: &mut Vec<u8>, nla: &NlaBuffer<'_>) -> Result<(), Alloc
     push_packet_flags(text, (info.flags % 256) as u8)
 }
 
-/// Adds the number of an attribute that is refused, the length of its value in bytes, and why.
+/// Appends the kind of an invalid attribute, the length of its value in bytes, and the reason.
 fn push_unread(
     text: &mut Vec<u8>,
     nla: &NlaBuffer<'_>,
@@ -335,7 +343,7 @@ fn push_unread(
     Ok(text.push(b')')?)
 }
 
-/// Why a value is refused, in a word.
+/// Returns the reason why a value is invalid, in one word.
 fn word_of(fault: &DecodeError) -> &'static [u8]
     ensures { result.now ≡ fault_word fault.now }
 {
@@ -350,8 +358,8 @@ fn word_of(fault: &DecodeError) -> &'static [u8]
     }
 }
 
-/// Adds what the value of an attribute tells of a UNIX socket beside its columns. Its memory has
-/// nine words, of which the view has three.
+/// Appends the details of a decoded attribute of a UNIX socket. The memory is parsed again from the
+/// value, since its view has only three of nine fields.
 fn push_unix_value(
     text: &mut Vec<u8>,
     nla: &NlaBuffer<'_>,
@@ -370,7 +378,7 @@ fn push_unix_value(
     }
 }
 
-/// Adds what the value of an attribute tells of an IPv4 or IPv6 socket.
+/// Appends the details of a decoded attribute of an IPv4 or IPv6 socket.
 fn push_inet_value(
     text: &mut Vec<u8>,
     options: Options,
@@ -396,7 +404,7 @@ fn push_inet_value(
     }
 }
 
-/// Adds the name of a congestion control algorithm.
+/// Appends the name of a congestion control algorithm.
 fn push_congestion(text: &mut Vec<u8>, options: Options, name: &str) -> Result<(), AllocError>
     ensures { OnOk result (text.new.items ≡ text.old.items
         ++ codes " cong:" ++ shown options.utf8 name.now) }
@@ -405,7 +413,7 @@ fn push_congestion(text: &mut Vec<u8>, options: Options, name: &str) -> Result<(
     push_shown(text, options.utf8, name.as_bytes())
 }
 
-/// Adds the inodes of pending connections.
+/// Appends the inodes of pending connections.
 fn push_pending(text: &mut Vec<u8>, inodes: &NumbersView<'_>) -> Result<(), AllocError>
     ensures { OnOk result (text.new.items ≡ text.old.items
         ++ flat_map (detail (codes "pending")) (numbers_view_model inodes.now)) }
@@ -416,7 +424,7 @@ fn push_pending(text: &mut Vec<u8>, inodes: &NumbersView<'_>) -> Result<(), Allo
     Ok(())
 }
 
-/// Adds the number and the length of an attribute of another type.
+/// Appends the kind of an unknown attribute, and the length of its value in bytes.
 fn push_unknown(text: &mut Vec<u8>, nla: &NlaBuffer<'_>) -> Result<(), AllocError>
     ensures { OnOk result (text.new.items ≡ text.old.items ++ unknown (attribute_of nla.now)) }
 {
@@ -428,7 +436,7 @@ fn push_unknown(text: &mut Vec<u8>, nla: &NlaBuffer<'_>) -> Result<(), AllocErro
     )
 }
 
-/// Adds the words of a value that tells memory, where it has so many.
+/// Appends the memory in a value. Appends nothing if the value is shorter than seven `u32`.
 fn push_memory_in(text: &mut Vec<u8>, value: &[u8]) -> Result<(), AllocError>
     ensures { OnOk result (text.new.items ≡ text.old.items
         ++ memory_in (read mem_info tt value.now)) }
@@ -439,7 +447,8 @@ fn push_memory_in(text: &mut Vec<u8>, value: &[u8]) -> Result<(), AllocError>
     }
 }
 
-/// Adds the memory of a socket, in bytes, as ss(8) does.
+/// Appends the memory of a socket, in bytes, as ss(8) does. The backlog and the drops are appended
+/// only if the value has them.
 fn push_memory(text: &mut Vec<u8>, info: &MemInfo) -> Result<(), AllocError>
     ensures { OnOk result (text.new.items ≡ text.old.items ++ memory info.now) }
 {
@@ -451,7 +460,7 @@ fn push_memory(text: &mut Vec<u8>, info: &MemInfo) -> Result<(), AllocError>
     Ok(text.push(b')')?)
 }
 
-/// Adds the memory of what a socket received.
+/// Appends the allocated receive memory (`SK_MEMINFO_RMEM_ALLOC`).
 fn push_received(text: &mut Vec<u8>, number: u64) -> Result<(), AllocError>
     ensures { OnOk result (text.new.items ≡ text.old.items ++ memory_received number) }
 {
@@ -459,7 +468,8 @@ fn push_received(text: &mut Vec<u8>, number: u64) -> Result<(), AllocError>
     push_number(text, number)
 }
 
-/// Adds the most memory that a socket may take, and that of what was handed down.
+/// Appends the receive buffer limit, the memory committed to the device queue, and the send buffer
+/// limit (`SK_MEMINFO_RCVBUF`, `SK_MEMINFO_WMEM_ALLOC` and `SK_MEMINFO_SNDBUF`).
 fn push_limits_of_memory(text: &mut Vec<u8>, info: &MemInfo) -> Result<(), AllocError>
     ensures { OnOk result (text.new.items ≡ text.old.items ++ memory_limits info.now) }
 {
@@ -468,7 +478,8 @@ fn push_limits_of_memory(text: &mut Vec<u8>, info: &MemInfo) -> Result<(), Alloc
     push_part(text, b"tb", Some(info.send_queue_max))
 }
 
-/// Adds the memory that a socket holds.
+/// Appends the memory allocated ahead, the queued send memory, and the memory of options
+/// (`SK_MEMINFO_FWD_ALLOC`, `SK_MEMINFO_WMEM_QUEUED` and `SK_MEMINFO_OPTMEM`).
 fn push_used_memory(text: &mut Vec<u8>, info: &MemInfo) -> Result<(), AllocError>
     ensures { OnOk result (text.new.items ≡ text.old.items ++ memory_used info.now) }
 {
@@ -477,7 +488,7 @@ fn push_used_memory(text: &mut Vec<u8>, info: &MemInfo) -> Result<(), AllocError
     push_part(text, b"o", Some(info.options))
 }
 
-/// Adds the memory of a socket as older kernels tell it, in bytes.
+/// Appends the memory of a socket, in bytes, in the format of old kernels (`INET_DIAG_MEMINFO`).
 fn push_legacy_memory(text: &mut Vec<u8>, info: &LegacyMemInfo) -> Result<(), AllocError>
     ensures { OnOk result (text.new.items ≡ text.old.items ++ legacy_memory info.now) }
 {
@@ -489,7 +500,7 @@ fn push_legacy_memory(text: &mut Vec<u8>, info: &LegacyMemInfo) -> Result<(), Al
     Ok(text.push(b')')?)
 }
 
-/// Adds what is told of a TCP connection.
+/// Appends the details of a TCP connection (`INET_DIAG_INFO`).
 fn push_connection(text: &mut Vec<u8>, info: &TcpInfo) -> Result<(), AllocError>
     ensures { OnOk result (text.new.items ≡ text.old.items ++ connection info.now) }
 {
@@ -505,7 +516,7 @@ fn push_connection(text: &mut Vec<u8>, info: &TcpInfo) -> Result<(), AllocError>
     push_receiver(text, info)
 }
 
-/// Adds the times and the sizes of a TCP connection.
+/// Appends round-trip and retransmission times in microseconds, and segment sizes in bytes.
 fn push_times(text: &mut Vec<u8>, info: &TcpInfo) -> Result<(), AllocError>
     ensures { OnOk result (text.new.items ≡ text.old.items ++ times info.now) }
 {
@@ -516,7 +527,8 @@ fn push_times(text: &mut Vec<u8>, info: &TcpInfo) -> Result<(), AllocError>
     push_detail(text, b"pmtu", info.pmtu.into())
 }
 
-/// Adds what a TCP connection has sent and received.
+/// Appends the congestion window, unacknowledged segments, retransmits, and the bytes sent and
+/// received.
 fn push_traffic(text: &mut Vec<u8>, info: &TcpInfo) -> Result<(), AllocError>
     ensures { OnOk result (text.new.items ≡ text.old.items ++ traffic info.now) }
 {
@@ -527,7 +539,7 @@ fn push_traffic(text: &mut Vec<u8>, info: &TcpInfo) -> Result<(), AllocError>
     push_detail(text, b"received", info.bytes_received)
 }
 
-/// Adds the options that both ends of a TCP connection agreed on.
+/// Appends the flags of `tcpi_options`, and the window scales if they are negotiated.
 fn push_options(text: &mut Vec<u8>, info: &TcpInfo) -> Result<(), AllocError>
     ensures { OnOk result (text.new.items ≡ text.old.items ++ options info.now) }
 {
@@ -543,7 +555,8 @@ fn push_options(text: &mut Vec<u8>, info: &TcpInfo) -> Result<(), AllocError>
     push_pair(text, b"wscale", sent.into(), received.into())
 }
 
-/// Adds times, sizes and windows of a TCP connection.
+/// Appends the backoff, the delayed acknowledgement timeout, segment sizes, the slow start
+/// threshold and the send window. Those that are 0 are left out.
 fn push_sizes(text: &mut Vec<u8>, info: &TcpInfo) -> Result<(), AllocError>
     ensures { OnOk result (text.new.items ≡ text.old.items ++ sizes info.now) }
 {
@@ -555,7 +568,7 @@ fn push_sizes(text: &mut Vec<u8>, info: &TcpInfo) -> Result<(), AllocError>
     push_some(text, b"snd_wnd", info.snd_wnd.into())
 }
 
-/// Adds bytes and segments of a TCP connection.
+/// Appends counts of bytes and segments. Those that are 0 are left out.
 fn push_counts(text: &mut Vec<u8>, info: &TcpInfo) -> Result<(), AllocError>
     ensures { OnOk result (text.new.items ≡ text.old.items ++ counts info.now) }
 {
@@ -567,7 +580,8 @@ fn push_counts(text: &mut Vec<u8>, info: &TcpInfo) -> Result<(), AllocError>
     push_some(text, b"data_segs_in", info.data_segs_in.into())
 }
 
-/// Adds the times since data or an acknowledgement, and what was not sent yet of a TCP connection.
+/// Appends the times since data was sent or received or an acknowledgement was received, in
+/// milliseconds, and the bytes that are not sent yet. Those that are 0 are left out.
 fn push_ages(text: &mut Vec<u8>, info: &TcpInfo) -> Result<(), AllocError>
     ensures { OnOk result (text.new.items ≡ text.old.items ++ ages info.now) }
 {
@@ -577,7 +591,8 @@ fn push_ages(text: &mut Vec<u8>, info: &TcpInfo) -> Result<(), AllocError>
     push_some(text, b"notsent", info.notsent_bytes.into())
 }
 
-/// Adds the rates, and the segments that came of a TCP connection.
+/// Appends rates in bytes per second, and the numbers of delivered segments. Those that are 0 are
+/// left out.
 fn push_rates(text: &mut Vec<u8>, info: &TcpInfo) -> Result<(), AllocError>
     ensures { OnOk result (text.new.items ≡ text.old.items ++ rates info.now) }
 {
@@ -589,7 +604,8 @@ fn push_rates(text: &mut Vec<u8>, info: &TcpInfo) -> Result<(), AllocError>
     push_flag(text, b"app_limited", 1, info.delivery_rate_app_limited)
 }
 
-/// Adds the time with data to send of a TCP connection.
+/// Appends the time with data to send, and the parts of it that were limited by the receive window
+/// and by the send buffer, in microseconds. Those that are 0 are left out.
 fn push_limits(text: &mut Vec<u8>, info: &TcpInfo) -> Result<(), AllocError>
     ensures { OnOk result (text.new.items ≡ text.old.items ++ limits info.now) }
 {
@@ -598,7 +614,7 @@ fn push_limits(text: &mut Vec<u8>, info: &TcpInfo) -> Result<(), AllocError>
     push_some(text, b"sndbuf_limited", info.sndbuf_limited)
 }
 
-/// Adds what was lost, out of order or told twice of a TCP connection.
+/// Appends counts of lost, reordered and duplicate segments. Those that are 0 are left out.
 fn push_losses(text: &mut Vec<u8>, info: &TcpInfo) -> Result<(), AllocError>
     ensures { OnOk result (text.new.items ≡ text.old.items ++ losses info.now) }
 {
@@ -610,7 +626,8 @@ fn push_losses(text: &mut Vec<u8>, info: &TcpInfo) -> Result<(), AllocError>
     push_some(text, b"reord_seen", info.reord_seen.into())
 }
 
-/// Adds the receiver's side of a TCP connection.
+/// Appends the values of the receiver, and the minimum round-trip time. Those that are 0 are left
+/// out.
 fn push_receiver(text: &mut Vec<u8>, info: &TcpInfo) -> Result<(), AllocError>
     ensures { OnOk result (text.new.items ≡ text.old.items ++ receiver info.now) }
 {

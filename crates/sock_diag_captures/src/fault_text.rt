@@ -1,4 +1,4 @@
-//! The texts of decode errors.
+//! Texts of decode errors.
 
 ghost use Rattle.std.specs.Prelude.{Some};
 ghost use Rattle.sock_diag_captures.specs.Diagnostics.{fault_text, record_text};
@@ -6,7 +6,7 @@ ghost use Rattle.sock_diag_captures.specs.Diagnostics.{fault_text, record_text};
 use netlink_core::{DecodeError, RecordName};
 use std::fmt;
 
-/// A decode error, shown as its own `Display` shows it; here a clause names the text.
+/// A decode error that is shown as by its `Display`. Here the contract states the text.
 #[derive(Clone, Copy)]
 pub(crate) struct FaultText<'a>(pub(crate) &'a DecodeError);
 
@@ -62,7 +62,7 @@ impl fmt::Display for FaultText<'_> {
     }
 }
 
-/// The name of a record, shown as its `Display` shows it.
+/// The name of a record that is shown as by its `Display`.
 #[derive(Clone, Copy)]
 struct RecordText<'a>(&'a RecordName);
 

@@ -1,4 +1,4 @@
-//! Lists the sockets that a capture of netlink traffic tells, as ss(8) does of a running system.
+//! Lists the sockets in a capture of netlink traffic, as ss(8) lists those of a running system.
 #![tactic(auto)]
 
 ghost use Rattle.std.specs.Prelude.{◌≡◌, ◌↔◌, ◌++◌, Bool, true};
@@ -36,10 +36,10 @@ use std::process::ExitCode;
 pub use stream::run;
 use stream::write_table;
 
-/// The version, that of the repository's file `VERSION`.
+/// Version of the program, equal to the file `VERSION` of the repository.
 pub const VERSION: &str = "0.11.0";
 
-/// How `sslist` is called.
+/// Usage of `sslist`.
 pub const HELP: &str = "sslist [-tuxM0oemiOna] [--WORD ..] [FILE ..]
 
 Lists the sockets that captures of netlink traffic tell: that of each file, or of standard
@@ -60,9 +60,9 @@ input. A capture is one of pcap, as tcpdump -i nlmon0 -w - writes it.
 The status is 0 where all was listed, 1 where something was not, which standard error names but
 where nobody reads the output, and 2 for an option that is not known.";
 
-/// Does what `run` does, writes one line on `errors` that begins with `front` and names the failure
-/// if there is one, unless nobody reads the output any more, and returns the exit status: 0 if the
-/// whole capture was listed whole, and 1 if the run failed or a packet was not listed whole.
+/// Lists a capture by [`run`], and writes a line on `errors` if the run fails. The line begins with
+/// `front` and names the failure. A closed output pipe has no line. Returns the exit status: 0 if
+/// the whole capture was listed without errors, and 1 if the run failed or a packet had an error.
 pub fn run_to_status<R: Read, W: Write, E: Write>(
     alloc: Global,
     options: Options,
@@ -75,8 +75,9 @@ pub fn run_to_status<R: Read, W: Write, E: Write>(
     ensures whole { exit_status result ≡ 0 → Finishes options (R.remaining input.old)
         (R.remaining input.new) (W.contents output.old) (W.contents output.new) HEADING.now
         front.now (WritesPrefix (E.contents errors.old) (E.contents errors.new)) true }
-    // The status is 0 if and only if the whole capture was listed whole; otherwise it is 1. On
-    // `errors` are the diagnostics and the line that names the failure, or a prefix of this text.
+    // The status is 0 if and only if the whole capture was listed without errors. Otherwise it is
+    // 1. On `errors` are the diagnostics and the line that names the failure, or a prefix of this
+    // text.
     ensures outcome { (outcome : Result Bool RunError)
         × ((exit_status result ≡ 0) ↔ (outcome ≡ Ok true))
         × ((exit_status result ≡ 1) ↔ ¬ (outcome ≡ Ok true))
@@ -92,7 +93,7 @@ pub fn run_to_status<R: Read, W: Write, E: Write>(
     list_to_status(alloc, options, front, input, output, errors)
 }
 
-/// Does what `run_to_status` does, for streams that say which calls failed.
+/// Does the same as `run_to_status`, for streams that report which calls failed.
 fn list_to_status<R: Source, W: Sink, E: Sink>(
     alloc: Global,
     options: Options,
@@ -122,9 +123,9 @@ fn list_to_status<R: Source, W: Sink, E: Sink>(
     exit_code(&outcome)
 }
 
-/// Writes one line that names the failure if `is_open`, unless the run did not fail or nobody reads
-/// the output any more. If the line can't be written either, the exit status alone reports the
-/// failure.
+/// Writes the line that names a failure, if `is_open` is set. Writes nothing if the run did not
+/// fail, or if the failure is a closed output pipe. If this write fails too, only the exit status
+/// reports the failure.
 fn report_outcome<E: Sink>(
     errors: &mut E,
     is_open: &mut bool,
@@ -141,7 +142,7 @@ fn report_outcome<E: Sink>(
     }
 }
 
-/// Returns the exit status of a run: 0 if the whole capture was listed whole, otherwise 1.
+/// Returns the exit status of a run: 0 if the whole capture was listed without errors, otherwise 1.
 fn exit_code(outcome: &Result<bool, RunError>) -> ExitCode
     ensures success { (exit_status result ≡ 0) ↔ (outcome.now ≡ Ok true) }
     ensures failure { (exit_status result ≡ 1) ↔ ¬ (outcome.now ≡ Ok true) }

@@ -1,4 +1,4 @@
-//! The lines that replies tell of.
+//! Lines of the replies about UNIX, IPv4 and IPv6 sockets.
 
 ghost use Rattle.std.specs.Prelude.{◌≡◌, ◌++◌, None, Some, drop, IfOk, OnOk, option_map};
 ghost use Rattle.capture_tables.specs.CellsModel.{cells_model};
@@ -33,23 +33,24 @@ use sock_diag_records::inet::InetResponseHeader;
 use sock_diag_records::unix::UnixResponseHeader;
 use std::alloc::AllocError;
 
-/// How many bytes the header of a reply about a UNIX socket has.
+/// Length in bytes of the header of a reply about a UNIX socket (`unix_diag_msg`).
 const UNIX_HEADER: usize = 16;
 
-/// How many bytes the header of a reply about an IPv4 or IPv6 socket has.
+/// Length in bytes of the header of a reply about an IPv4 or IPv6 socket (`inet_diag_msg`).
 const INET_HEADER: usize = 72;
 
-/// The first line of the table.
+/// Heading of the table.
 pub const HEADING: &[u8] =
     b"Netid State      Recv-Q Send-Q Inode      Uid   Local                          Peer\n";
 
-/// How many bytes the column of the local end has.
+/// Width of the column of the local address, in bytes.
 pub(crate) const LOCAL: usize = 30;
 
-/// Adds the lines of a reply of this type, and gives its fault, if it has one. The reply is listed
-/// by its header and by each attribute that can be read; a fault is one of the header or of the
-/// framing behind it, or says that it is no reply. Of a socket of a family that isn't known nothing
-/// is told.
+/// Appends the lines of a message of this type. Returns its decode error, if it has one: it is not
+/// a reply, or its header is invalid, or bytes after the header are not an attribute.
+///
+/// An attribute with an invalid value is not such an error. A reply about a socket of an unknown
+/// family has no lines and no error.
 pub(crate) fn push_reply(
     text: &mut Vec<u8>,
     options: Options,
@@ -76,7 +77,7 @@ pub(crate) fn push_reply(
     }
 }
 
-/// Adds the lines of a UNIX socket, and gives the fault of the reply, if it has one.
+/// Appends the lines of a UNIX socket. Returns the decode error of the reply, if it has one.
 fn push_unix(
     text: &mut Vec<u8>,
     options: Options,
@@ -99,7 +100,8 @@ fn push_unix(
     }
 }
 
-/// Adds the lines of a UNIX socket with this header and attributes, where they are asked for.
+/// Appends the lines of a UNIX socket with this header and these attributes, if the options select
+/// UNIX sockets.
 fn push_unix_lines(
     text: &mut Vec<u8>,
     options: Options,
@@ -118,7 +120,7 @@ fn push_unix_lines(
     Ok(text.push(b'\n')?)
 }
 
-/// Adds the columns of a UNIX socket.
+/// Appends the columns of a UNIX socket.
 fn push_unix_line(
     text: &mut Vec<u8>,
     options: Options,
@@ -133,8 +135,8 @@ fn push_unix_line(
     push_peer(text, peer_in(attributes))
 }
 
-/// The first columns of a UNIX socket, whose queues have these lengths. Those of a listening one
-/// are connections.
+/// Returns the first columns of a UNIX socket, whose queues have these lengths. For a listening
+/// socket the lengths are numbers of connections.
 fn unix_cells(header: &UnixResponseHeader, queues: Option<(u32, u32)>) -> Cells
     ensures { cells_model result ≡ record {
       kind = unix_kind header.now.kind;
@@ -159,7 +161,7 @@ fn unix_cells(header: &UnixResponseHeader, queues: Option<(u32, u32)>) -> Cells
     }
 }
 
-/// The name of a UNIX socket, where one is told that can be read.
+/// Returns the name of a UNIX socket, if the first `UNIX_DIAG_NAME` attribute is valid.
 fn name_in<'a>(attributes: &'a [u8]) -> Option<NameView<'a>>
     ensures { option_map (name_of (λ b. b.now)) result
         ≡ first_value unix 0 (pieces 0 attributes.entry.now) }
@@ -173,7 +175,7 @@ fn name_in<'a>(attributes: &'a [u8]) -> Option<NameView<'a>>
     }
 }
 
-/// The inode of its peer, likewise.
+/// Returns the inode of the peer, if the first `UNIX_DIAG_PEER` attribute is valid.
 fn peer_in(attributes: &[u8]) -> Option<u32>
     ensures { result ≡ first_value unix 2 (pieces 0 attributes.now) }
 {
@@ -186,7 +188,7 @@ fn peer_in(attributes: &[u8]) -> Option<u32>
     }
 }
 
-/// The lengths of its queues, likewise.
+/// Returns the lengths of the two queues, if the first `UNIX_DIAG_RQLEN` attribute is valid.
 fn queues_in(attributes: &[u8]) -> Option<(u32, u32)>
     ensures { result ≡ first_value unix 4 (pieces 0 attributes.now) }
 {
@@ -199,7 +201,7 @@ fn queues_in(attributes: &[u8]) -> Option<(u32, u32)>
     }
 }
 
-/// The kind of a UNIX socket, as ss(8) prints it.
+/// Returns the kind of a UNIX socket, by its type `SOCK_..`, as ss(8) prints it.
 fn name_of_kind(kind: u8) -> &'static [u8]
     ensures { result.now ≡ unix_kind kind }
 {
@@ -211,7 +213,8 @@ fn name_of_kind(kind: u8) -> &'static [u8]
     }
 }
 
-/// Adds the lines of an IPv4 or IPv6 socket, and gives the fault of the reply, if it has one.
+/// Appends the lines of an IPv4 or IPv6 socket. Returns the decode error of the reply, if it has
+/// one.
 fn push_inet(
     text: &mut Vec<u8>,
     options: Options,
@@ -237,8 +240,8 @@ fn push_inet(
     }
 }
 
-/// Adds the lines of an IPv4 or IPv6 socket with this timer, header and attributes, where they are
-/// asked for.
+/// Appends the lines of an IPv4 or IPv6 socket with this timer, this header and these attributes,
+/// if the options select its protocol.
 fn push_inet_lines(
     text: &mut Vec<u8>,
     options: Options,
@@ -259,7 +262,7 @@ fn push_inet_lines(
     Ok(text.push(b'\n')?)
 }
 
-/// Adds the columns of an IPv4 or IPv6 socket.
+/// Appends the columns of an IPv4 or IPv6 socket.
 fn push_inet_line(
     text: &mut Vec<u8>,
     protocol: Option<u32>,
@@ -279,7 +282,7 @@ fn push_inet_line(
     push_endpoint(text, id.destination_address, 0, id.destination_port)
 }
 
-/// The first columns of an IPv4 or IPv6 socket.
+/// Returns the first columns of an IPv4 or IPv6 socket.
 fn inet_cells(protocol: Option<u32>, header: &InetResponseHeader) -> Cells
     ensures { cells_model result ≡ record {
       kind = inet_kind protocol header.now.family;
@@ -300,7 +303,8 @@ fn inet_cells(protocol: Option<u32>, header: &InetResponseHeader) -> Cells
     }
 }
 
-/// The protocol that was asked for, as ss(8) prints it, or the family.
+/// Returns the name of the protocol of the request, as ss(8) prints it. Returns the name of the
+/// family if the protocol is not known or has no name here.
 pub(crate) fn name_of_protocol(protocol: Option<u32>, family: u8) -> &'static [u8]
     ensures { result.now ≡ inet_kind protocol family }
 {
@@ -316,7 +320,7 @@ pub(crate) fn name_of_protocol(protocol: Option<u32>, family: u8) -> &'static [u
     }
 }
 
-/// The name of a family.
+/// Returns the name of a family: `inet6` for `AF_INET6`, or else `inet`.
 fn name_of_family(family: u8) -> &'static [u8]
     ensures { result.now ≡ family_name family }
 {

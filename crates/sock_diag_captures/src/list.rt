@@ -1,5 +1,4 @@
-//! The sockets that the packets of a capture tell, line by line, and what is told of a packet that
-//! can't be listed whole.
+//! Lines and diagnostics of the packets of a capture.
 
 ghost use Rattle.std.specs.Prelude.{◌≡◌, ◌↔◌, ◌≤◌, ◌<◌, ◌+◌, ◌++◌, IfOk, OnOk, IsTrue, length};
 ghost use Rattle.std.specs.Prelude.{option_map, Some};
@@ -34,28 +33,28 @@ use std::io::Write;
 /// `NLM_F_DUMP_INTR` of netlink(7).
 const DUMP_INTERRUPTED: u16 = 0x10;
 
-/// ENOENT of errno(3).
+/// `ENOENT` of errno(3).
 const ENOENT: u32 = 2;
 
-/// EINVAL of errno(3).
+/// `EINVAL` of errno(3).
 const EINVAL: u32 = 22;
 
-/// What is reported of a message on standard error.
+/// A diagnostic of a message.
 #[derive(Debug, Drop, PartialEq, Eq)]
 pub enum Issue {
-    /// A message was rejected.
+    /// The message is invalid, with this decode error.
     Refused(DecodeError),
-    /// The kernel answered an error, whose number is one of errno(3), or ended a dump with it.
+    /// The kernel answered with an error or ended a dump with one. This is its number in errno(3).
     Answered(u32),
-    /// The kernel answered ENOENT. It has nothing of the kind that was asked for, so nothing is
+    /// The kernel answered `ENOENT`. It has no socket of the requested kind, so no socket is
     /// missing.
     NoEntry,
-    /// The kernel answered EINVAL. It doesn't know what was asked for, so nothing is missing.
+    /// The kernel answered `EINVAL`. It does not support the request, so no socket is missing.
     Invalid,
-    /// A message has the flag `NLM_F_DUMP_INTR`: what is dumped changed meanwhile, and sockets may
-    /// be missing or told twice.
+    /// The message has the flag `NLM_F_DUMP_INTR`. The sockets changed during the dump, so some may
+    /// be missing or listed twice.
     Interrupted,
-    /// The kernel told that data was lost.
+    /// The kernel lost data (`NLMSG_OVERRUN`).
     Lost,
 }
 
@@ -79,21 +78,22 @@ impl fmt::Display for Issue {
 
 impl Error for Issue {}
 
-/// Where an issue is: the number of the packet in the capture and of the message in the packet,
-/// from 1 on.
+/// Position of a diagnostic: the number of the packet in the capture, and of the message in the
+/// packet. Both start at 1.
 #[derive(Clone, Copy, Debug, PartialEq, Eq)]
 struct Place {
     packet: u64,
     message: u64,
 }
 
-/// Adds the lines of the sockets that a packet of this number tells, and what is told of it. It
-/// answers whether the packet was listed whole: it has the 16 bytes of the cooked header, and all
-/// that it had when it was captured, and none of its messages was refused, tells an error but
-/// ENOENT and EINVAL, or says that data was lost or that the dump changed.
+/// Appends the lines and the diagnostics of a packet. `number` is the number of the packet.
 ///
-/// A request is kept, so that the protocol of a reply that answers it is known. It has a line of
-/// its own where that is asked for.
+/// Returns whether the packet was listed without errors: it has the 16 bytes of the cooked header,
+/// it was not truncated, and each of its messages is valid. None of them has an error of the kernel
+/// other than `ENOENT` and `EINVAL`, or reports lost data or a changed dump.
+///
+/// Stores a request for IPv4 or IPv6 sockets in `requests`, so that the protocol of its replies is
+/// known. Appends a line for a request if `--requests` is set.
 pub fn list_packet(
     written: &mut Written<'_>,
     requests: &mut Requests,
@@ -115,7 +115,8 @@ pub fn list_packet(
     Ok(is_listed & is_whole)
 }
 
-/// The same of the bytes that are there.
+/// Appends the lines and the diagnostics of the captured bytes of a packet. Does not check whether
+/// the packet was truncated.
 #[tactic(auto, using(crate::proofs::Asking::asking))]
 fn list_content(
     written: &mut Written<'_>,
@@ -145,7 +146,7 @@ fn list_content(
     }
 }
 
-/// The same of a datagram of sock_diag(7).
+/// Appends the lines and the diagnostics of a datagram of sock_diag(7).
 fn list_sock_diag(
     written: &mut Written<'_>,
     requests: &mut Requests,
@@ -170,7 +171,7 @@ fn list_sock_diag(
     list_datagram(written, requests, options, number, datagram)
 }
 
-/// Whether a datagram begins with a request, as programs send them to the kernel.
+/// Returns whether a datagram begins with a request, which is sent by a program to the kernel.
 fn is_request(datagram: &[u8]) -> bool
     ensures { IsTrue result ↔ IsRequest datagram.now }
 {
@@ -180,8 +181,8 @@ fn is_request(datagram: &[u8]) -> bool
     }
 }
 
-/// Adds the lines of the sockets that a datagram tells, and what is told of it, and answers whether
-/// it was listed whole. At what is no message it ends.
+/// Appends the lines and the diagnostics of the messages of a datagram. Stops at bytes that are not
+/// a message. Returns whether the datagram was listed without errors.
 fn list_datagram(
     written: &mut Written<'_>,
     requests: &Requests,
@@ -217,7 +218,8 @@ fn list_datagram(
     Ok(is_clean)
 }
 
-/// Returns the number of the next message of a datagram, at most the datagram's length.
+/// Returns the number of the next message of a datagram. It is at most the length of the datagram,
+/// so that it cannot overflow.
 fn next_number(count: u64, most: usize) -> u64
     ensures { count < most → result ≡ count + 1 }
 {
@@ -225,8 +227,8 @@ fn next_number(count: u64, most: usize) -> u64
     if count < most { count + 1 } else { most }
 }
 
-/// Adds the lines of a message and what is told of it, and answers whether that is nothing, or a
-/// note.
+/// Appends the lines and the diagnostics of a message. Returns whether it has no diagnostic, or
+/// only a note.
 fn list_message(
     written: &mut Written<'_>,
     requests: &Requests,
@@ -249,7 +251,7 @@ fn list_message(
     Ok(interrupted.is_none() && is_note(&issue))
 }
 
-/// Returns `Interrupted` if a message says that what is dumped changed meanwhile.
+/// Returns `Interrupted` if a message has the flag `NLM_F_DUMP_INTR`.
 fn interrupted_issue(message: &[u8]) -> Option<Issue>
     requires { 16 ≤ length message.now }
     ensures { result ≡ interrupted_issue message.now }
@@ -261,15 +263,16 @@ fn interrupted_issue(message: &[u8]) -> Option<Issue>
     }
 }
 
-/// Whether nothing is told, or a note, by which no socket is missing from the lines.
+/// Returns whether there is no diagnostic, or only a note. Then no socket is missing from the
+/// table.
 fn is_note(issue: &Option<Issue>) -> bool
     ensures { result ≡ is_nothing_missing issue.now }
 {
     matches!(issue, None | Some(Issue::NoEntry | Issue::Invalid))
 }
 
-/// Adds the lines of a message, where it is a reply, and gives what is told of it: that it is
-/// refused, that it tells an error, or that data was lost.
+/// Appends the lines of a message if it is a reply. Returns its diagnostic, except for
+/// `Interrupted`.
 fn push_message(
     lines: &mut Vec<u8>,
     requests: &Requests,
@@ -290,8 +293,8 @@ fn push_message(
     )
 }
 
-/// The same of what stands behind the header of a message of this type, of the protocol that was
-/// asked for.
+/// Appends the lines of the payload of a message, whose header has this type. `protocol` is the
+/// protocol of the request. Returns the diagnostic of the message, except for `Interrupted`.
 fn push_payload(
     lines: &mut Vec<u8>,
     options: Options,
@@ -310,8 +313,8 @@ fn push_payload(
     Ok(issue_about_fault(fault))
 }
 
-/// What is told of a message that says nothing, tells an error, ends a dump, or says that data was
-/// lost.
+/// Returns the diagnostic of a control message: `NLMSG_NOOP`, `NLMSG_ERROR`, `NLMSG_DONE` or
+/// `NLMSG_OVERRUN`.
 fn issue_about_control(message_type: u16, payload: &[u8]) -> Option<Issue>
     ensures { result ≡ control_issue message_type payload.now }
 {
@@ -322,7 +325,8 @@ fn issue_about_control(message_type: u16, payload: &[u8]) -> Option<Issue>
     }
 }
 
-/// The protocol of the request that a message answers, where one was seen.
+/// Returns the protocol of the request that a message answers. Returns `None` if the request was
+/// not captured.
 fn protocol_of(requests: &Requests, message: &[u8]) -> Option<u32>
     requires { 16 ≤ length message.now }
     ensures { result ≡ protocol_for requests.now.asked.items message.now }
@@ -333,7 +337,7 @@ fn protocol_of(requests: &Requests, message: &[u8]) -> Option<u32>
     )
 }
 
-/// What is told of a fault, if there is one.
+/// Returns the diagnostic of a decode error, if there is one.
 fn issue_about_fault(fault: Option<DecodeError>) -> Option<Issue>
     ensures { result ≡ option_map Refused fault }
 {
@@ -343,7 +347,7 @@ fn issue_about_fault(fault: Option<DecodeError>) -> Option<Issue>
     }
 }
 
-/// What is told of an error of this number, 0 for none.
+/// Returns the diagnostic of an error number of errno(3). 0 is not an error.
 fn issue_about_error(number: u32) -> Option<Issue>
     ensures { result ≡ error_issue number }
 {
@@ -355,8 +359,8 @@ fn issue_about_error(number: u32) -> Option<Issue>
     }
 }
 
-/// The number of errno(3) that the payload of an error or of the end of a dump tells by a number
-/// below zero, and 0 where it tells none.
+/// Returns the error number of errno(3) in the payload of an `NLMSG_ERROR` or `NLMSG_DONE`, which
+/// contains it negated. Returns 0 if the payload has no negative number.
 fn error_of(payload: &[u8]) -> u32
     ensures { result ≡ errno_in payload.now }
 {
@@ -366,7 +370,7 @@ fn error_of(payload: &[u8]) -> u32
     }
 }
 
-/// Adds a line about a message, if there is an issue.
+/// Appends the line of a diagnostic, if there is one.
 fn push_some_issue(
     written: &mut Written<'_>,
     place: Place,
@@ -383,7 +387,7 @@ fn push_some_issue(
     }
 }
 
-/// Adds a line about a message.
+/// Appends the line of a diagnostic.
 fn push_issue(written: &mut Written<'_>, place: Place, issue: &Issue) -> Result<(), AllocError>
     ensures lines { OnOk result (written.new.lines.items ≡ written.old.lines.items) }
     ensures issues { OnOk result (written.new.issues.items ≡ written.old.issues.items

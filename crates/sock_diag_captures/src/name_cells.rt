@@ -1,4 +1,4 @@
-//! The cells of names of UNIX sockets.
+//! Cells with the names of UNIX sockets.
 
 ghost use Rattle.std.specs.Prelude.{◌≡◌, ◌++◌, [], ℕ, List, OnOk, Some, option_map};
 ghost use Rattle.capture_tables.specs.Cells.{column};
@@ -12,7 +12,7 @@ use capture_tables::{end_column, push_digits, push_shown};
 use sock_diag_attributes::unix::nlas::NameView;
 use std::alloc::AllocError;
 
-/// Adds a column that holds the name of a UNIX socket, or `*` where none is told.
+/// Appends a column with the name of a UNIX socket, or with `*` for `None`.
 pub(crate) fn push_name_column(
     text: &mut Vec<u8>,
     width: usize,
@@ -31,11 +31,11 @@ pub(crate) fn push_name_column(
     end_column(text, start, width)
 }
 
-/// Adds an abstract name behind `@`.
+/// Appends an abstract name after `@`.
 fn push_abstract(text: &mut Vec<u8>, utf8: bool, address: &[u8]) -> Result<(), AllocError>
     ensures cell { OnOk result (text.new.items
         ≡ text.old.items ++ name_cell utf8 (Some (Abstract address.now))) }
-    // The cell tells the name, where a space follows.
+    // The name can be read back from the cell if a space follows.
     ensures told { (behind : List ℕ) → bytes_told 0 behind ≡ []
         → name_told (name_cell utf8 (Some (Abstract address.now)) ++ behind)
         ≡ Some (Abstract address.now) }
@@ -44,12 +44,12 @@ fn push_abstract(text: &mut Vec<u8>, utf8: bool, address: &[u8]) -> Result<(), A
     push_shown(text, utf8, address)
 }
 
-/// Adds a path. One that begins with `@`, as an abstract name is shown, or that is `*`, as none is,
-/// has its first byte as `\x` and two digits.
+/// Appends a path. If it begins with `@`, or is `*`, its first byte is escaped, since these are an
+/// abstract name and no name.
 fn push_path(text: &mut Vec<u8>, utf8: bool, path: &[u8]) -> Result<(), AllocError>
     ensures cell { OnOk result (text.new.items
         ≡ text.old.items ++ name_cell utf8 (Some (Pathname path.now))) }
-    // The cell tells the name, where a space follows.
+    // The name can be read back from the cell if a space follows.
     ensures told { (behind : List ℕ) → bytes_told 0 behind ≡ []
         → name_told (name_cell utf8 (Some (Pathname path.now)) ++ behind)
         ≡ Some (Pathname path.now) }
@@ -61,7 +61,7 @@ fn push_path(text: &mut Vec<u8>, utf8: bool, path: &[u8]) -> Result<(), AllocErr
     push_shown(text, utf8, &path[1..])
 }
 
-/// Whether a path begins with `@` or is `*`.
+/// Returns whether a path begins with `@` or is `*`.
 fn is_mistaken(path: &[u8]) -> bool
     ensures { result ≡ is_mistaken path.now }
 {

@@ -1,4 +1,4 @@
-//! The lines of netlink, packet, vsock and XDP sockets.
+//! Lines of the replies about netlink, packet, vsock and XDP sockets.
 
 ghost use Rattle.std.specs.Prelude.{◌≡◌, ◌++◌, ◌≤◌, drop, IfOk, OnOk, List, option_map};
 ghost use Rattle.capture_tables.specs.CellsModel.{cells_model};
@@ -29,23 +29,24 @@ use sock_diag_records::constants::{
 };
 use std::alloc::AllocError;
 
-/// The state of a socket that isn't connected, as ss(8) prints it: `UNCONN`.
+/// State that ss(8) prints as `UNCONN`.
 const UNCONNECTED: u8 = 7;
 
-/// The state of a netlink socket that is connected to another, `NETLINK_CONNECTED`.
+/// `NETLINK_CONNECTED`, the state of a netlink socket that is connected to another one.
 const NETLINK_CONNECTED: u8 = 1;
 
 /// `VMADDR_CID_ANY` and `VMADDR_PORT_ANY` of vsock(7).
 const ANY: u32 = 0xffff_ffff;
 
-/// An end of a socket: two numbers, each where it is told.
+/// A local or peer address: two numbers. `None` is shown as `*`.
 type Numbers = (Option<u32>, Option<u32>);
 
-/// What a line shows of a socket beside what attributes tell.
+/// The values of a netlink, packet, vsock or XDP socket that a line shows. The memory and the user
+/// id are not among them: they are in attributes.
 #[derive(Clone, Copy)]
 pub(crate) struct OtherSocket {
     family: Family,
-    /// Its type, one of `SOCK_..`.
+    /// Type of the socket, one of `SOCK_..`.
     kind: u8,
     state: u8,
     inode: u32,
@@ -54,17 +55,17 @@ pub(crate) struct OtherSocket {
     peer: Option<Numbers>,
 }
 
-/// The header of a reply about a socket that is listed here.
+/// A header of a reply about a netlink, packet, vsock or XDP socket.
 pub(crate) trait Listed: Record<Param = ()> + Drop {
-    // What is shown of the socket, by the header and the attributes behind it.
+    // The values that a line shows, by the header and the attributes after it.
     ghost listed: { Self → List Piece → SocketShown };
 
-    /// The socket.
+    /// Returns the values of the socket.
     fn socket(&self, attributes: &[u8]) -> OtherSocket
         ensures { result ≡ listed self.now (pieces 0 attributes.now) };
 }
 
-/// The family of this number, where it is one of them.
+/// Returns the family of this number, if it is a netlink, packet, vsock or XDP family.
 pub(crate) fn family_numbered(number: u8) -> Option<Family>
     ensures { result ≡ family_numbered number }
 {
@@ -77,8 +78,8 @@ pub(crate) fn family_numbered(number: u8) -> Option<Family>
     }
 }
 
-/// Adds the lines of a socket of the family of this number, and gives the fault of the reply, if it
-/// has one. Of a family that isn't known nothing is told.
+/// Appends the lines of a socket of the family of this number. Returns the decode error of the
+/// reply, if it has one. An unknown family has no lines and no error.
 pub(crate) fn push_other(
     text: &mut Vec<u8>,
     options: Options,
@@ -99,7 +100,7 @@ pub(crate) fn push_other(
     }
 }
 
-/// Adds the lines of a socket whose reply has this header.
+/// Appends the lines of a reply with this header. Returns its decode error, if it has one.
 fn push_listed<H: Listed>(
     text: &mut Vec<u8>,
     options: Options,
@@ -119,7 +120,7 @@ fn push_listed<H: Listed>(
     }
 }
 
-/// The bytes behind the header.
+/// Returns the bytes after the header.
 fn attributes_of<H: Listed>(payload: &[u8]) -> &[u8]
     ensures { result.now ≡ drop H.layout.least payload.now }
 {
@@ -130,7 +131,7 @@ fn attributes_of<H: Listed>(payload: &[u8]) -> &[u8]
     &payload[least..]
 }
 
-/// Adds the lines of a socket with these attributes, where they are asked for.
+/// Appends the lines of a socket with these attributes, if the options select its family.
 fn push_socket(
     text: &mut Vec<u8>,
     options: Options,
@@ -151,7 +152,7 @@ fn push_socket(
     Ok(text.push(b'\n')?)
 }
 
-/// Adds the columns of a socket.
+/// Appends the columns of a socket.
 fn push_other_line(
     text: &mut Vec<u8>,
     socket: &OtherSocket,
@@ -165,7 +166,8 @@ fn push_other_line(
     push_end(text, socket.peer)
 }
 
-/// The first columns of a socket, whose queues its memory tells.
+/// Returns the first columns of a socket. The queues are in the attribute with its memory, and the
+/// user id is in an attribute too.
 fn other_cells(socket: &OtherSocket, attributes: &[u8]) -> Cells
     ensures { cells_model result ≡ other_columns socket.now (pieces 0 attributes.now) }
 {
@@ -180,7 +182,7 @@ fn other_cells(socket: &OtherSocket, attributes: &[u8]) -> Cells
     }
 }
 
-/// The type of a socket, as ss(8) prints it.
+/// Returns the kind of a socket, as ss(8) prints it.
 fn name_of_kind(family: Family, kind: u8) -> &'static [u8]
     ensures { result.now ≡ other_kind family kind }
 {
@@ -193,7 +195,7 @@ fn name_of_kind(family: Family, kind: u8) -> &'static [u8]
     }
 }
 
-/// That of a vsock socket.
+/// Returns the kind of a vsock socket, by its type.
 fn name_of_vsock(kind: u8) -> &'static [u8]
     ensures { result.now ≡ vsock_kind kind }
 {
@@ -205,7 +207,8 @@ fn name_of_vsock(kind: u8) -> &'static [u8]
     }
 }
 
-/// The kind of the attribute that tells the user of a socket.
+/// Returns the kind of the attribute with the user id of a socket. Netlink and vsock sockets have
+/// none.
 fn user_kind(family: Family) -> Option<u16>
     ensures { result ≡ user_kind family }
 {
@@ -216,7 +219,7 @@ fn user_kind(family: Family) -> Option<u16>
     }
 }
 
-/// Adds the column of the local end.
+/// Appends the column of the local address.
 fn push_local(text: &mut Vec<u8>, end: Numbers) -> Result<(), AllocError>
     ensures { OnOk result (text.new.items ≡ text.old.items ++ column 30 (end_text end)) }
 {
@@ -225,7 +228,7 @@ fn push_local(text: &mut Vec<u8>, end: Numbers) -> Result<(), AllocError>
     end_column(text, start, LOCAL)
 }
 
-/// Adds an end, or `*` where none is told.
+/// Appends an address, or `*` for `None`.
 fn push_end(text: &mut Vec<u8>, end: Option<Numbers>) -> Result<(), AllocError>
     ensures { OnOk result (text.new.items ≡ text.old.items ++ end_cell end) }
 {
@@ -235,7 +238,7 @@ fn push_end(text: &mut Vec<u8>, end: Option<Numbers>) -> Result<(), AllocError>
     }
 }
 
-/// Adds both numbers with a colon between, `*` for one that isn't told.
+/// Appends both numbers of an address, separated by a colon. A number that is `None` is `*`.
 fn push_numbers(text: &mut Vec<u8>, end: Numbers) -> Result<(), AllocError>
     ensures { OnOk result (text.new.items ≡ text.old.items ++ end_text end) }
 {
@@ -245,7 +248,8 @@ fn push_numbers(text: &mut Vec<u8>, end: Numbers) -> Result<(), AllocError>
     push_peer(text, second)
 }
 
-/// The number of 32 bits at this place of the first attribute of a kind.
+/// Returns the `u32` at an offset of the value of the first attribute of a kind. Returns `None` if
+/// there is no such attribute, or if its value is too short.
 fn word_at(attributes: &[u8], kind: Option<u16>, place: usize) -> Option<u32>
     requires { place ≤ 8 }
     ensures { result ≡ word_told kind place (pieces 0 attributes.now) }
@@ -256,7 +260,8 @@ fn word_at(attributes: &[u8], kind: Option<u16>, place: usize) -> Option<u32>
     }
 }
 
-/// That of an attribute, low byte first.
+/// Returns the little-endian `u32` at an offset of the value of an attribute. Returns `None` if
+/// there is no attribute, or if its value is too short.
 fn read_word(attribute: Option<NlaBuffer<'_>>, place: usize) -> Option<u32>
     requires { place ≤ 8 }
     ensures { result ≡ word_in place (option_map attribute_of attribute.entry) }
@@ -269,14 +274,15 @@ fn read_word(attribute: Option<NlaBuffer<'_>>, place: usize) -> Option<u32>
     }
 }
 
-/// A number that isn't the one that says none.
+/// Returns `None` if the number is `none`, or else the number.
 fn unless(none: u32, number: u32) -> Option<u32>
     ensures { result ≡ unless none number }
 {
     if number == none { None } else { Some(number) }
 }
 
-/// The interface that the first word of the first attribute of a kind tells, where it isn't 0.
+/// Returns the interface number: the `u32` at offset 0 of the first attribute of a kind. Returns
+/// `None` if there is none, or if it is 0.
 fn interface_in(attributes: &[u8], kind: u16) -> Option<u32>
     ensures { result ≡ interface kind (pieces 0 attributes.now) }
 {

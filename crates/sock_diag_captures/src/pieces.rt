@@ -1,4 +1,5 @@
-//! The attributes behind the header of a reply, each by itself: one that is refused hides no other.
+//! Attributes after the header of a reply. Each is parsed by itself, so that an invalid value does
+//! not hide other attributes.
 
 ghost use Rattle.std.specs.Prelude.{◌≡◌, option_map};
 ghost use Rattle.std.specs.Iterator.{YieldsFirstBy};
@@ -8,7 +9,7 @@ ghost use Rattle.sock_diag_captures.specs.Pieces.{pieces_left};
 
 use netlink_core::{DecodeError, NlaBuffer, NlasIterator};
 
-/// The next attribute, or why none stands there. Nothing comes behind a fault.
+/// Returns the next attribute, or the error of the remaining bytes. Nothing follows an error.
 #[tactic(auto, using(crate::proofs::PieceWalk::stepping))]
 pub(crate) fn next_piece<'a>(
     walk: &mut NlasIterator<'a>,
@@ -18,7 +19,7 @@ pub(crate) fn next_piece<'a>(
     walk.next()
 }
 
-/// The first attribute of this kind.
+/// Returns the first attribute of this kind, if there is one.
 pub(crate) fn find_kind<'a>(bytes: &'a [u8], kind: u16) -> Option<NlaBuffer<'a>>
     ensures { option_map attribute_of result ≡ first_of_kind kind (pieces 0 bytes.entry.now) }
 {
@@ -32,7 +33,7 @@ pub(crate) fn find_kind<'a>(bytes: &'a [u8], kind: u16) -> Option<NlaBuffer<'a>>
     None
 }
 
-/// Why what stands behind the last attribute is none, where bytes are left there.
+/// Returns the error of the bytes after the last attribute, if there are any.
 pub(crate) fn find_fault(bytes: &[u8]) -> Option<DecodeError>
     ensures { result ≡ framing_fault (pieces 0 bytes.now) }
 {

@@ -1,4 +1,4 @@
-//! The line of a request, which parts the dumps of a capture.
+//! Lines of requests. They separate the dumps of a capture.
 
 ghost use Rattle.std.specs.Prelude.{◌≡◌, ◌++◌, OnOk};
 ghost use Rattle.sock_diag_captures.specs.RequestLine.{asked_family, asked_for, family_word};
@@ -12,13 +12,13 @@ use capture_tables::{Family, Options, PacketHeader, push_hex_detail, push_time};
 use sock_diag_records::constants::{AF_UNIX, SOCK_DIAG_BY_FAMILY};
 use std::alloc::AllocError;
 
-/// How many bytes the two headers of a request for UNIX sockets have.
+/// Length in bytes of a netlink header and a request for UNIX sockets (`unix_diag_req`).
 const UNIX_REQUEST: usize = 40;
 
-/// How many bytes the header of a message and the family behind it have.
+/// Length in bytes of a netlink header and the family after it (`sdiag_family`).
 const FAMILY_REQUEST: usize = 17;
 
-/// Adds the line of a request, where such lines are asked for.
+/// Appends the line of a request, if `--requests` is set.
 pub(crate) fn push_shown_request(
     text: &mut Vec<u8>,
     options: Options,
@@ -34,7 +34,7 @@ pub(crate) fn push_shown_request(
     push_request(text, header, datagram)
 }
 
-/// Adds the line of a request: when it was captured, and what it asks for.
+/// Appends the line of a request: the time of its capture, and the requested sockets.
 fn push_request(
     text: &mut Vec<u8>,
     header: &PacketHeader,
@@ -55,7 +55,8 @@ fn push_request(
     Ok(text.push(b'\n')?)
 }
 
-/// Adds the protocol of the sockets that are asked for, and a bit for each state, or their family.
+/// Appends the protocol of the requested sockets and a bit for each requested state, or else the
+/// name of their family.
 fn push_asked(
     text: &mut Vec<u8>,
     inet: Option<Asked>,
@@ -77,7 +78,7 @@ fn push_asked(
     push_hex_detail(text, b"states", states.into())
 }
 
-/// The name of a family whose sockets are asked for.
+/// Returns the name of a family of requested sockets.
 fn name_of_family(family: Option<Family>) -> &'static [u8]
     ensures { result.now ≡ family_word family }
 {
@@ -90,7 +91,7 @@ fn name_of_family(family: Option<Family>) -> &'static [u8]
     }
 }
 
-/// The states of the UNIX sockets that a datagram asks for in front, where it does.
+/// Returns the requested states if a datagram begins with a request for UNIX sockets.
 fn find_unix_states(datagram: &[u8]) -> Option<u32>
     ensures { result ≡ unix_states datagram.now }
 {
@@ -103,7 +104,8 @@ fn find_unix_states(datagram: &[u8]) -> Option<u32>
     Some(LittleEndian::read_u32(&datagram[20..]))
 }
 
-/// The family of other sockets that a datagram asks for in front, where it does.
+/// Returns the family if a datagram begins with a request for netlink, packet, vsock or XDP
+/// sockets.
 fn find_family(datagram: &[u8]) -> Option<Family>
     ensures { result ≡ asked_family datagram.now }
 {

@@ -1,4 +1,4 @@
-//! The requests that a capture holds, by which the protocol of a reply is known.
+//! Captured requests. They contain the protocols of the sockets in the replies.
 
 ghost use Rattle.std.specs.Prelude.{◌≡◌, ◌≤◌, [], length, OnOk, option_map};
 ghost use Rattle.std.proofs.Common.{rules};
@@ -12,27 +12,28 @@ use netlink_core::{Exact, NLM_F_REQUEST, NlaBuffer};
 use sock_diag_records::constants::{AF_INET, AF_INET6, SOCK_DIAG_BY_FAMILY};
 use std::alloc::{AllocError, Global};
 
-/// How many bytes the two headers of a request for IPv4 and IPv6 sockets have.
+/// Length in bytes of a netlink header and a request for IPv4 and IPv6 sockets
+/// (`inet_diag_req_v2`).
 const REQUEST: usize = 72;
 
-/// The kind of the attribute that tells a protocol past 255, `INET_DIAG_REQ_PROTOCOL`.
+/// `INET_DIAG_REQ_PROTOCOL`, the type of the attribute with a protocol above 255.
 const PROTOCOL: u16 = 3;
 
-/// How many requests are kept beside a new one.
+/// Number of requests that are kept when a new one is added.
 const KEPT: usize = 15;
 
 /// A request for IPv4 or IPv6 sockets.
 #[derive(Clone, Copy, Debug, PartialEq, Eq)]
 pub struct Asked {
-    /// The number that a reply repeats, `nlmsg_seq` of netlink(7).
+    /// Sequence number (`nlmsg_seq`), which a reply repeats.
     sequence_number: u32,
-    /// The port of the sender, `nlmsg_pid`, which most programs leave 0.
+    /// Port number of the sender (`nlmsg_pid`). Most programs leave it 0.
     port_number: u32,
-    /// The protocol, one of `IPPROTO_..`.
+    /// Protocol, one of `IPPROTO_..`.
     pub(crate) protocol: u32,
-    /// The family, AF_INET or AF_INET6.
+    /// Address family, `AF_INET` or `AF_INET6`.
     pub(crate) family: u8,
-    /// A bit for each state that is asked for, `idiag_states`.
+    /// Requested states, a bit for each (`idiag_states`).
     pub(crate) states: u32,
 }
 
@@ -40,15 +41,15 @@ impl Exact for Asked {
     ghost exact = { Prim.search rules };
 }
 
-/// The newest requests for IPv4 and IPv6 sockets, 16 at most.
+/// The newest requests for IPv4 and IPv6 sockets, at most 16.
 #[derive(Drop)]
 pub struct Requests {
-    /// The newest first.
+    /// The requests, the newest first.
     pub asked: Vec<Asked>,
 }
 
 impl Requests {
-    /// None.
+    /// Returns an empty list of requests.
     pub fn new(alloc: Global) -> Requests
         ensures { result.asked.items ≡ [] }
     {
@@ -57,7 +58,7 @@ impl Requests {
         }
     }
 
-    /// Keeps the request that a datagram begins with, where it does.
+    /// Adds the request for IPv4 or IPv6 sockets that a datagram begins with, if there is one.
     pub fn note(&mut self, datagram: &[u8]) -> Result<(), AllocError>
         ensures { OnOk result (self.new.asked.items ≡ noted self.old.asked.items datagram.now) }
     {
@@ -68,8 +69,8 @@ impl Requests {
         Ok(self.asked.insert(0, newest)?)
     }
 
-    /// The protocol of the newest request that a reply with these numbers may answer: one with its
-    /// sequence number, and with its port or none.
+    /// Returns the protocol of the newest request that a reply with these numbers may answer: its
+    /// sequence number is equal, and its port number is equal or 0.
     pub fn find_protocol(&self, sequence_number: u32, port_number: u32) -> Option<u32>
         ensures { result ≡ protocol_of self.now.asked.items sequence_number port_number }
     {
@@ -77,7 +78,7 @@ impl Requests {
     }
 }
 
-/// The protocol of the first of these requests that a reply may answer.
+/// Returns the protocol of the first of these requests that a reply with these numbers may answer.
 fn find_in(asked: &[Asked], sequence_number: u32, port_number: u32) -> Option<u32>
     ensures { result ≡ protocol_of asked.now sequence_number port_number }
 {
@@ -91,7 +92,7 @@ fn find_in(asked: &[Asked], sequence_number: u32, port_number: u32) -> Option<u3
     None
 }
 
-/// The request for IPv4 or IPv6 sockets that a datagram begins with, where it does.
+/// Returns the request for IPv4 or IPv6 sockets that a datagram begins with, if there is one.
 pub(crate) fn find_request(datagram: &[u8]) -> Option<Asked>
     ensures { result ≡ asked_in datagram.now }
 {
@@ -105,7 +106,7 @@ pub(crate) fn find_request(datagram: &[u8]) -> Option<Asked>
     read_request(&datagram[..length])
 }
 
-/// The request that a message is, where it is one.
+/// Returns the request in a message, if it is one for IPv4 or IPv6 sockets.
 fn read_request(message: &[u8]) -> Option<Asked>
     requires { 72 ≤ length message.now }
     ensures { result ≡ request_in message.now }
@@ -121,7 +122,7 @@ fn read_request(message: &[u8]) -> Option<Asked>
     }
 }
 
-/// What a request asks for.
+/// Returns the fields of a request for IPv4 or IPv6 sockets.
 fn read_asked(request: &[u8]) -> Asked
     requires { 72 ≤ length request.now }
     ensures { result ≡ inet_asked request.now }
@@ -135,7 +136,8 @@ fn read_asked(request: &[u8]) -> Asked
     }
 }
 
-/// The protocol that an attribute tells in four bytes, or else the one of a byte.
+/// Returns the protocol in the attribute `INET_DIAG_REQ_PROTOCOL` if its value has four bytes.
+/// Otherwise returns the protocol in the header.
 fn choose_protocol(byte: u8, attribute: Option<NlaBuffer<'_>>) -> u32
     ensures { result ≡ protocol_by byte (option_map attribute_of attribute.entry) }
 {

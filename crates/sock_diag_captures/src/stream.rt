@@ -1,4 +1,4 @@
-//! The table of a capture, read as it comes.
+//! The table of a capture. Each packet is listed before the next one is read.
 
 ghost use Rattle.std.specs.Prelude.{OnOk, IfErr, IfOk, ⊤};
 ghost use Rattle.std.specs.Io.KnownBytes.{IsAtEnd};
@@ -17,8 +17,8 @@ use std::alloc::Global;
 use std::io::{Read, Write};
 
 /// Writes the table of a capture: a heading, and the lines of each packet before the next one is
-/// read. Diagnostics go to `errors`, where each line begins with `front`. If a write fails there,
-/// nothing more is written there. Returns whether each packet was listed whole.
+/// read. Writes diagnostics on `errors`. Each begins with `front`. If a write on `errors` fails,
+/// nothing more is written there. Returns whether all packets were listed without errors.
 pub fn run<R: Read, W: Write, E: Write>(
     alloc: Global,
     options: Options,
@@ -39,8 +39,8 @@ pub fn run<R: Read, W: Write, E: Write>(
     write_table(alloc, options, front, input, output, errors, &mut is_open)
 }
 
-/// Does what `run` does, for streams that say which calls failed, and writes diagnostics if
-/// `is_open`. If a write on `errors` fails, clears `is_open`.
+/// Does the same as `run`, for streams that report which calls failed. Writes diagnostics if
+/// `is_open` is set. If a write on `errors` fails, clears `is_open`.
 pub(crate) fn write_table<R: Source, W: Sink, E: Sink>(
     alloc: Global,
     options: Options,

@@ -6,40 +6,41 @@ use std::alloc::Global;
 use std::io::{self, ErrorKind, Write};
 use std::process::Abort;
 
-/// A reply about an IPv6 socket in TIME-WAIT: `[fe80::1]` and interface 3, port 22, to
+/// A reply about an IPv6 socket in TIME-WAIT. Local: `[fe80::1]`, interface 3, port 22. Peer:
 /// `[2001:db8::ff]`, port 40000.
 const INET6: &str =
     "580000001400020007000000000000000a06030000169c40fe80000000000000000000000000000120010db80000000000000000000000ff030000000000000000000000000000000000000000000000e803000000000000";
 
-/// A reply about a listening stream socket with the abstract name `a b\`.
+/// A reply about a listening UNIX stream socket with the abstract name `a b\`.
 const UNIX: &str =
     "3800000014000200070000000000000001010a000e4f0000a00200000000000009000000006120625c0000000c0004000200000080000000";
 
-/// A dump ends.
+/// An `NLMSG_DONE`.
 const DONE: &str = "1400000003000200070000000000000000000000";
 
-/// A reply about a UNIX socket with 12 bytes of the 16 of its header.
+/// A reply about a UNIX socket with only 12 of the 16 bytes of its header.
 const SHORT: &str = "1c00000014000200070000000000000001010a000e4f0000a0020000";
 
-/// A reply about a socket of SMC, the family 43.
+/// A reply about a socket of `AF_SMC` (43), a family that the lister does not know.
 const OTHER_FAMILY: &str = "200000001400020007000000000000002b0101000e4f0000a002000000000000";
 
 /// A request for UNIX sockets.
 const REQUEST: &str =
     "2800000014000103010000000000000001000000ffffffff000000003f000000ffffffffffffffff";
 
-/// The headers of a packet of sock_diag(7), and of one of another protocol.
+/// The cooked header of a packet of sock_diag(7). `OTHER` is one of another protocol.
 const SOCK_DIAG: &str = "00040338000000000000000000000004";
 
 const OTHER: &str = "00040338000000000000000000000000";
 
-/// The bytes that these digits stand for, in a row.
+/// Returns the bytes that the hexadecimal digits of the parts represent.
 fn decoded(rt: &impl Abort, alloc: Global, parts: &[&str]) -> Vec<u8> {
     let digits = parts.concat(alloc).expect(rt, "memory");
     hex::decode(alloc, digits.as_str()).expect(rt, "digits")
 }
 
-/// Adds a packet, whose header and datagram are given in hex, and whose length in this order.
+/// Appends a packet. `digits` are its cooked header and its datagram in hexadecimal digits, and
+/// `order` is the byte order of its packet header.
 fn push_packet(
     rt: &impl Abort,
     alloc: Global,
@@ -59,7 +60,7 @@ fn push_packet(
     capture.extend_from_slice(&bytes).expect(rt, "memory");
 }
 
-/// A capture with this header, which begins with `a` where numbers have their high byte first.
+/// Returns a capture with this file header. A file header that begins with `a` is big-endian.
 fn captured(rt: &impl Abort, alloc: Global, header: &str, packets: &[[&str; 2]]) -> Vec<u8> {
     let mut capture = decoded(rt, alloc, &[header]);
     let order = match header.starts_with('a') {
@@ -72,7 +73,7 @@ fn captured(rt: &impl Abort, alloc: Global, header: &str, packets: &[[&str; 2]])
     capture
 }
 
-/// The header of a capture in both orders and under both magic numbers.
+/// File headers in both byte orders, with both magic numbers.
 const HEADERS: [&str; 4] = [
     "d4c3b2a102000400000000000000000000100000fd000000",
     "4d3cb2a102000400000000000000000000100000fd000000",
@@ -80,10 +81,10 @@ const HEADERS: [&str; 4] = [
     "a1b2c3d400020004000000000000000000001000000000fd",
 ];
 
-/// What stands before each line on standard error.
+/// Prefix of each line on standard error.
 const NAME: &str = "sslist: ";
 
-/// Takes nine bytes a call at most, and notes whether a flush came last.
+/// A writer that accepts at most nine bytes per call. It records whether its last call was a flush.
 #[derive(Drop)]
 struct Flushed {
     taken: Vec<u8>,
@@ -116,8 +117,8 @@ fn taker(alloc: Global) -> Flushed {
     }
 }
 
-/// A run over a capture ends so, writes a heading and these lines, where some are given, and tells
-/// nothing on its errors. A flush ends it.
+/// Checks the outcome of a run over a capture. A table is written if `lines` are given: the heading
+/// and these lines. Nothing is written on standard error. A run that succeeds ends with a flush.
 fn lists(
     rt: &impl Abort,
     alloc: Global,
@@ -128,7 +129,7 @@ fn lists(
     lists_by(rt, alloc, Options::default(), capture, want, lines);
 }
 
-/// The same under options.
+/// Checks the outcome of a run with options, as `lists` does.
 fn lists_by(
     rt: &impl Abort,
     alloc: Global,
@@ -158,7 +159,8 @@ const INET6_LINE: &str =
 const UNIX_LINE: &str =
     "u_str LISTEN     2      128    20238      -     @a\\x20b\\x5c                    *\n\t sk:2a0\n";
 
-/// Captures of both orders and both magic numbers, with packets of other protocols and a request.
+/// Captures in both byte orders and with both magic numbers, with packets of another protocol and
+/// with a request.
 #[test]
 fn lists_captures_of_both_orders(rt: HostRuntime) {
     let packets = [
@@ -176,9 +178,9 @@ fn lists_captures_of_both_orders(rt: HostRuntime) {
     }
 }
 
-/// What a kernel answered about a netlink and a packet socket, and replies about a listening vsock
-/// socket, one of XDP and a netlink socket in groups, worked by hand from the kernel's headers,
-/// with the lines of each.
+/// Replies about sockets of other families, each with its lines: the replies of a kernel about a
+/// netlink and a packet socket, and replies about a listening vsock socket, an XDP socket and a
+/// netlink socket with groups, which were written by hand from the kernel's headers.
 const FAMILIES: [[&str; 2]; 5] = [
     [
         "5c00000014000200070000009340000010020007000000000000000000000000040000000300000000000000280000000000000000400300000000000040030000000000000000000000000000000000000000000800040000000000",
@@ -202,7 +204,7 @@ const FAMILIES: [[&str; 2]; 5] = [
     ],
 ];
 
-/// Sockets of other families have lines of their own.
+/// Netlink, packet, vsock and XDP sockets have lines.
 #[test]
 fn lists_other_families(rt: HostRuntime) {
     for [reply, line] in FAMILIES {
@@ -211,8 +213,8 @@ fn lists_other_families(rt: HostRuntime) {
     }
 }
 
-/// Replies about listening sockets with the abstract name `e` with an accent, a Chinese letter, a
-/// space, U+202E and a backslash, and with a path that is no UTF-8.
+/// A reply about a listening socket whose abstract name is `e` with an accent, a Chinese letter, a
+/// space, U+202E and a backslash. The path in `NO_UTF8` is not valid UTF-8.
 const LETTERS: &str =
     "3000000014000200070000000000000001010a000e4f0000a0020000000000000f00000000c3a9e6bca220e280ae5c00";
 
@@ -228,8 +230,8 @@ const LETTERS_ESCAPED: &str =
 const NO_UTF8_LINE: &str =
     "u_str LISTEN     -      -      20238      -     /\\xc3\\xa9\\xff                  *\n\t sk:2a0\n";
 
-/// Names that are UTF-8 show characters under `utf8` alone, and never a space or what turns the
-/// direction.
+/// A name that is valid UTF-8 shows letters only if `utf8` is set. It never shows a space or a
+/// character that changes the direction of writing.
 #[test]
 fn shows_names_in_utf8(rt: HostRuntime) {
     let packets = [[SOCK_DIAG, LETTERS], [SOCK_DIAG, NO_UTF8]];
@@ -244,13 +246,13 @@ fn shows_names_in_utf8(rt: HostRuntime) {
     }
 }
 
-/// A request for MPTCP sockets, and one for netlink sockets.
+/// A request for MPTCP sockets. `OTHER_REQUEST` is one for netlink sockets.
 const MPTCP_REQUEST: &str =
     "5000000014000103070000000000000002ff0000800400000000000000000000000000000000000000000000000000000000000000000000000000000000000000000000000000000800030006010000";
 
 const OTHER_REQUEST: &str = "180000001400010307000000000000001000000000000000";
 
-/// Requests with their times, in both units.
+/// Lines of requests, with times in microseconds and nanoseconds.
 #[test]
 fn lists_requests(rt: HostRuntime) {
     let packets = [
@@ -271,7 +273,7 @@ fn lists_requests(rt: HostRuntime) {
     }
 }
 
-/// A packet of a thousand messages.
+/// A packet with a thousand messages.
 #[test]
 fn lists_a_long_datagram(rt: HostRuntime) {
     let many = UNIX.repeat(rt.alloc(), 1_000).expect(&rt, "memory");
@@ -282,8 +284,8 @@ fn lists_a_long_datagram(rt: HostRuntime) {
     lists(&rt, rt.alloc(), &capture, Ok(true), Some(&[lines.as_str()]));
 }
 
-/// A capture that is cut at any byte gives the lines of its whole packets, and says where it is
-/// cut.
+/// A capture that is truncated at any byte has the lines of its complete packets, and an error with
+/// the position.
 #[test]
 fn tells_where_a_capture_is_cut(rt: HostRuntime) {
     let alloc = rt.alloc();
@@ -306,33 +308,34 @@ fn tells_where_a_capture_is_cut(rt: HostRuntime) {
     }
 }
 
-/// The front of the header of a capture.
+/// The first 16 bytes of a file header.
 const FRONT: &str = "d4c3b2a1020004000000000000000000";
 
-/// The end of that of a capture whose packets are cut to 100 bytes.
+/// The last 8 bytes of a file header with the snapshot length 100.
 const OF_100: &str = "64000000fd000000";
 
-/// The headers of a packet of 100 bytes.
+/// The packet header and the cooked header of a packet of 100 bytes.
 const OF_SOCK_DIAG: &str = "0700000009000000640000006400000000040338000000000000000000000004";
 
 /// A packet of another protocol, and one of 15 bytes.
 const OTHER_AND_SHORT: &str = "0700000009000000100000001000000000000000000000000000000000000000\
 07000000090000000f0000000f000000000403380000000000000000000000";
 
-/// A packet whose message tells that data was lost, and that a dump changed.
+/// A packet with an `NLMSG_OVERRUN` that has the flag `NLM_F_DUMP_INTR`.
 const LOST: &str =
     "07000000090000002000000020000000000403380000000000000000000000041000000004001000\
 0700000000000000";
 
-/// A packet whose message ends a dump with the error 2.
+/// A packet with an `NLMSG_DONE` that has the error 2.
 const FAILED: &str =
     "07000000090000002400000024000000000403380000000000000000000000041400000003000200\
 0700000000000000feffffff";
 
-/// A packet of another protocol that is cut to 16 bytes of 101.
+/// A packet of another protocol that is truncated to 16 of 101 bytes.
 const CUT: &str = "0700000009000000100000006500000000000000000000000000000000000000";
 
-/// What a run tells of a capture that is given in hex, part by part.
+/// Checks what a run over a capture writes on standard error. The parts of the capture are in
+/// hexadecimal digits.
 fn tells(rt: &impl Abort, alloc: Global, parts: &[&str], want: &str) {
     let capture = decoded(rt, alloc, parts);
     let (mut output, mut errors) = (taker(alloc), taker(alloc));
@@ -342,7 +345,7 @@ fn tells(rt: &impl Abort, alloc: Global, parts: &[&str], want: &str) {
     assert!(rt; errors.taken.as_slice() == want.as_bytes());
 }
 
-/// The texts on standard error, with the numbers in them.
+/// The diagnostics and failures on standard error, with their numbers.
 #[test]
 fn tells_why(rt: HostRuntime) {
     let alloc = rt.alloc();
@@ -378,7 +381,7 @@ sslist: packet 6: the capture is cut off";
     );
 }
 
-/// The texts of errors that no capture gives.
+/// The texts of errors that the other tests do not cause.
 #[test]
 fn errors_of_a_run_have_words(rt: HostRuntime) {
     let (packet, fault) = (2, CaptureError::Read);
@@ -398,7 +401,7 @@ pcap of version 1, not 2";
     assert!(rt; text.as_str() == want);
 }
 
-/// A diagnostic of a fault has the fault's own text.
+/// Checks that the diagnostic of a decode error has the text of its `Display`.
 fn has_the_text_of(rt: &impl Abort, alloc: Global, fault: DecodeError) {
     let text = format!(in alloc; "{fault}").expect(rt, "memory");
     let issue = Issue::Refused(fault);
@@ -406,7 +409,7 @@ fn has_the_text_of(rt: &impl Abort, alloc: Global, fault: DecodeError) {
     assert!(rt; shown.as_str() == text.as_str(), "{shown}");
 }
 
-/// Each fault, and each record that a fault names.
+/// Each decode error, and each record that a decode error names.
 #[test]
 fn faults_have_their_own_texts(rt: HostRuntime) {
     let (family, message_type, kind) = (3, 21, Some(6));
@@ -457,8 +460,7 @@ fn faults_have_their_own_texts(rt: HostRuntime) {
     }
 }
 
-/// A packet of the most bytes, of another protocol, is passed over; and a flush fails, for two
-/// causes.
+/// A packet of another protocol with the greatest length is skipped. A failed flush fails the run.
 #[test]
 fn ends_of_a_run(rt: HostRuntime) {
     let alloc = rt.alloc();
@@ -472,7 +474,7 @@ fn ends_of_a_run(rt: HostRuntime) {
     let (options, mut input) = (Options::default(), capture.as_slice());
     let outcome = run(alloc, options, NAME, &mut input, &mut output, &mut errors);
     assert!(rt; outcome == Err(RunError::Write));
-    // Of a pipe that nobody reads nothing is told.
+    // A closed output pipe is not reported.
     output.flush_fails = Some(ErrorKind::BrokenPipe);
     let mut input = capture.as_slice();
     let _status = run_to_status(alloc, options, NAME, &mut input, &mut output, &mut errors);

@@ -27,7 +27,7 @@ fn main(rt: HostRuntime) -> ExitCode {
     }
 }
 
-/// Does what the arguments ask for.
+/// Does what the arguments request.
 fn answer(rt: &HostRuntime, arguments: &[String]) -> ExitCode {
     match choose(arguments) {
         Choice::Help => status_of(rt.println(HELP)),
@@ -37,7 +37,7 @@ fn answer(rt: &HostRuntime, arguments: &[String]) -> ExitCode {
     }
 }
 
-/// Lists captures on standard output, by some options.
+/// Lists captures on standard output with these options.
 #[derive(Drop)]
 struct Lister<'a> {
     rt: &'a HostRuntime,
@@ -69,7 +69,7 @@ fn list_file(rt: &HostRuntime, options: Options, name: &str) -> ExitCode {
     }
 }
 
-/// Lists the capture that a reader has.
+/// Lists the capture that a reader returns.
 fn list<R: Read + Drop>(rt: &HostRuntime, options: Options, front: &str, input: R) -> ExitCode {
     let (alloc, output, errors) = (rt.alloc(), &mut rt.stdout(), &mut rt.stderr());
     match BufReader::new(alloc, input) {
@@ -78,7 +78,7 @@ fn list<R: Read + Drop>(rt: &HostRuntime, options: Options, front: &str, input: 
     }
 }
 
-/// Returns status 0 if a text was printed.
+/// Returns status 0 if printing succeeded, or else status 1.
 fn status_of(printed: io::Result<()>) -> ExitCode {
     match printed {
         Ok(()) => ExitCode::SUCCESS,

@@ -201,7 +201,8 @@ impl InetRequest {
     /// const SOURCE_AT_LEAST: u8 = 2;
     /// const SOURCE_AT_MOST: u8 = 3;
     /// let mut filter = [20, 0, INET_DIAG_REQ_BYTECODE as u8, 0].to_vec();
-    /// for (code, past_the_end, port) in [(SOURCE_AT_LEAST, 20, 8000), (SOURCE_AT_MOST, 12, 8999)] {
+    /// let steps = [(SOURCE_AT_LEAST, 20, 8000), (SOURCE_AT_MOST, 12, 8999)];
+    /// for (code, past_the_end, port) in steps {
     ///     filter.extend([code, 8, past_the_end, 0, 0, 0]);
     ///     filter.extend(u16::to_le_bytes(port));
     /// }

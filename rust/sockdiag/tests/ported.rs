@@ -1,5 +1,5 @@
-//! A lister as one writes it for `netlink-packet-sock-diag`, over a kernel that answers by rule. Its
-//! imports and the lines marked `here` alone are of this crate.
+//! A lister as one writes it for `netlink-packet-sock-diag`, over a kernel that answers by rule.
+//! Only its imports and the lines marked `here` are specific to this crate.
 
 // There: `netlink_packet_core::{..}` and `netlink_packet_sock_diag::{..}`.
 use sockdiag::inet::{nlas::Nla, ExtensionFlags, InetRequest, InetResponse, SocketId, StateFlags};

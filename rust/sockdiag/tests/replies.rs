@@ -18,8 +18,8 @@ const NETLINK: &str =
     "100300076a1800000000000000000000ff53010001100000000000000c0001001100000000000000280000000000\
     000000400300000000000040030000000000000000000000000000000000000000000800040020000000";
 
-/// What it sent about a socket for IPv4 packets of the loopback interface, with a ring, a filter and
-/// a fanout.
+/// What it sent about a socket for IPv4 packets of the loopback interface, with a ring, a filter
+/// and a fanout.
 const PACKET: &str =
     "110300080054010003100000000000001c0000000100000000000000000000000000000000000000010000000800\
     0500000000003000010001000000010000000000060001005e0000fb000000000000000000000000000000000000\
@@ -352,7 +352,8 @@ fn walks_over_a_datagram() {
     );
     assert!(matches!(
         first.payload,
-        NetlinkPayload::InnerMessage(SockDiagMessage::UnixResponse(reply)) if reply.peer() == Some(3)
+        NetlinkPayload::InnerMessage(SockDiagMessage::UnixResponse(reply))
+            if reply.peer() == Some(3)
     ));
     assert_eq!(
         dump.next().unwrap().unwrap_err(),

@@ -1,4 +1,4 @@
--- The parts of an error's text.
+-- Texts of errors in parts.
 use Rattle.std.specs.Prelude.{ℕ, List, [], ◌++◌, codes, decimal}
 use Rattle.byteorder.specs.Endian.{big_bytes}
 use Rattle.hex.specs.Hex.{encode_lower}
@@ -7,13 +7,13 @@ use Rattle.capture_tables.specs.declared.run.RunError.TheVariants.{Packet}
 use Rattle.capture_tables.specs.declared.reports.ErrorText.{ErrorText}
 use Rattle.capture_tables.specs.declared.reports.ErrorText.TheVariants.{Plain, Decimal, Hex}
 
--- the text that the parts make
+-- The text that the parts are joined to. Hex has eight hexadecimal digits.
 abbrev pub joined : ErrorText → List ℕ
 joined (Plain text) = text.now
 joined (Decimal before number after) = before.now ++ decimal number ++ after.now
 joined (Hex before number) = before.now ++ encode_lower (big_bytes 4 number)
 
--- the packet that a failure is about
+-- the prefix of an error's text: the number of the packet, if the error is about a packet
 abbrev pub failure_place : RunError → List ℕ
 failure_place (Packet packet fault) = codes "packet " ++ decimal packet ++ codes ": "
 failure_place error = []

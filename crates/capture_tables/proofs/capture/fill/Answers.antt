@@ -9,7 +9,7 @@ use lib.Seq.{take-add, take-append-le}
 use Rattle.capture_tables.proofs.Stops.{failure_stops}
 use Rattle.capture_tables.proofs.capture.fill.Goals as goal
 
--- a range behind a front that stays, and the front
+-- A prefix that does not change, followed by the range after it, is a longer prefix.
 take_split : (a b : ℕ) (old new : List ℕ) → a ≤ b → take a new ≡ take a old → take a old
     ++ slice_range new a b ≡ take b new
 take_split a b old new h front =

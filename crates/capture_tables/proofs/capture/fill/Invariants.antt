@@ -2,7 +2,7 @@ use Rattle.std.proofs.Common.{◌≡◌, ◌≤◌, ◌-◌, length, take}
 use Rattle.std.specs.Io.KnownBytes.{Consumes}
 use Rattle.capture_tables.proofs.capture.fill.Given as goal
 
--- what was filled is what was consumed
+-- the bytes that are filled so far are those that were read
 abbrev pub invariant-reads : goal.invariant-reads
 invariant-reads g l =
     (length l.bytes ≡ length l.initial.bytes) × (l.at ≤ length l.bytes)

@@ -3,7 +3,7 @@ use Rattle.capture_tables.specs.Choice.{options_of}
 use Rattle.capture_tables.proofs.Choosing.{Passed}
 use Rattle.capture_tables.proofs.choice.choose.Given as goal
 
--- the arguments so far
+-- no argument so far decides, and the options of the arguments so far are set
 abbrev pub invariant-loop-argument : goal.invariant-loop-argument
 invariant-loop-argument l = Passed string_bytes l.arguments l.argument-index l.options
     (options_of (map string_bytes l.arguments))

@@ -3,7 +3,7 @@ use Rattle.std.specs.Str.Iter.{chars_rest}
 use Rattle.capture_tables.specs.Escapes.{char_text}
 use Rattle.capture_tables.proofs.names.push_chars.Given as goal
 
--- what was added and what is left to be added make the whole
+-- the text so far, followed by the remaining characters, is the text at the end
 abbrev pub invariant-loop-c : goal.invariant-loop-c
 invariant-loop-c l = IsUtf8 (chars_rest l.c-iterator)
     × (l.text.items ++ flat_map char_text (chars (chars_rest l.c-iterator))

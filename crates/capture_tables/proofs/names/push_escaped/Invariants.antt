@@ -2,7 +2,7 @@ use Rattle.std.proofs.Common.{◌≡◌, ◌++◌, drop, flat_map}
 use Rattle.capture_tables.specs.Escapes.{escaped}
 use Rattle.capture_tables.proofs.names.push_escaped.Given as goal
 
--- what was added and what is left to be added make the whole
+-- the text so far, followed by the remaining bytes, is the text at the end
 abbrev pub invariant-loop-byte : goal.invariant-loop-byte
 invariant-loop-byte l = l.text.items ++ flat_map escaped (drop l.byte-index l.bytes)
     ≡ l.fn.text.items ++ flat_map escaped l.bytes

@@ -2,7 +2,7 @@ use Rattle.std.proofs.Common.{◌≡◌, List, ℕ, ◌++◌, length}
 use Rattle.std.specs.Io.KnownBytes.{Appends}
 use Rattle.capture_tables.proofs.run.send.Given as goal
 
--- what was written so far, before the rest
+-- the bytes that are not in `rest` were written
 abbrev pub invariant-writes : goal.invariant-writes
 invariant-writes g l = (front : List ℕ) × (l.fn.bytes ≡ front ++ l.rest)
     × Appends (g.W.Sink.held l.fn.output) (g.W.Sink.held l.output) front

@@ -3,7 +3,7 @@ use Rattle.sock_diag_captures.specs.Details.{piece_detail}
 use Rattle.sock_diag_captures.specs.Pieces.{pieces, pieces_left}
 use Rattle.sock_diag_captures.proofs.details.push_pieces.Given as goal
 
--- what was added and what is left to be added make the whole
+-- the text so far, followed by the remaining details, is the text at the end
 abbrev pub invariant-loop-piece : goal.invariant-loop-piece
 invariant-loop-piece l =
     l.text.items ++ flat_map (piece_detail l.options l.sockets) (pieces_left l.walk)

@@ -5,7 +5,7 @@ use Rattle.sock_diag_captures.proofs.Diagnosing.{Diagnosed}
 use Rattle.sock_diag_captures.proofs.Listings.{Listing}
 use Rattle.sock_diag_captures.proofs.list.list_datagram.Given as goal
 
--- the messages so far are listed and diagnosed
+-- the messages so far were listed and diagnosed
 abbrev pub invariant-loop-item : goal.invariant-loop-item
 invariant-loop-item l = record {
   listing : Listing (message_lines l.options l.requests.asked.items) IsPlain l.datagram

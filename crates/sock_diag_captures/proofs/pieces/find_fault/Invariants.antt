@@ -2,7 +2,7 @@ use Rattle.std.proofs.Common.{◌≡◌, length}
 use Rattle.sock_diag_captures.specs.Pieces.{framing_fault, pieces, pieces_left}
 use Rattle.sock_diag_captures.proofs.pieces.find_fault.Given as goal
 
--- the fault among those that are left is that of all
+-- the error among the remaining pieces is the error among all pieces
 abbrev pub invariant-loop-piece : goal.invariant-loop-piece
 invariant-loop-piece l = framing_fault (pieces_left l.walk) ≡ framing_fault (pieces 0 l.bytes)
 

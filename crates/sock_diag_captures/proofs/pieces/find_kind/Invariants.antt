@@ -2,7 +2,7 @@ use Rattle.std.proofs.Common.{◌≡◌, length}
 use Rattle.sock_diag_captures.specs.Pieces.{first_of_kind, pieces, pieces_left}
 use Rattle.sock_diag_captures.proofs.pieces.find_kind.Given as goal
 
--- the first among those that are left is the first of all
+-- the first match among the remaining pieces is the first match among all pieces
 abbrev pub invariant-loop-piece : goal.invariant-loop-piece
 invariant-loop-piece l = first_of_kind l.kind (pieces_left l.walk)
     ≡ first_of_kind l.kind (pieces 0 l.bytes)

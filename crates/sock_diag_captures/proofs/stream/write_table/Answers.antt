@@ -14,7 +14,7 @@ use Rattle.sock_diag_captures.proofs.Progress.{goes_on_part, goes_on_whole, prog
 use Rattle.sock_diag_captures.proofs.stream.write_table.Goals.{then-is_whole, else-is_whole}
 use Rattle.sock_diag_captures.proofs.stream.write_table.Goals as goal
 
--- no packet was read
+-- If there is no packet, the clause of the end of the input holds.
 none_read : {A : Type 0} (listings : Option A) (P : Type 0) (Q : A → Type 0)
     → ((x : A) → listings ≡ Some x → ⊥) → MatchOption listings P Q → P
 none_read None P Q other h = h

@@ -5,7 +5,7 @@ use Rattle.capture_tables.specs.declared.run.RunError.{RunError}
 use Rattle.sock_diag_captures.proofs.Progress.{Progress}
 use Rattle.sock_diag_captures.proofs.stream.write_table.Given as goal
 
--- the packets so far were read and listed, and their diagnostics reported
+-- the packets so far were read and listed, and their diagnostics were reported
 abbrev pub invariant-packets : goal.invariant-packets
 invariant-packets g l = record {
   listed : Progress l.options l.front (IsRecord l.file) (g.R.Source.left l.initial.input)
