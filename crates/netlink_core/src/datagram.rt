@@ -6,11 +6,12 @@ use crate::attribute::padded;
 use crate::fault::DecodeError;
 use crate::header::NetlinkHeader;
 
-/// An iterator over consecutive netlink messages, each at a multiple of 4 bytes. An item is a message's
-/// header and the bytes of the message, header included: as many as the header's length field counts.
+/// An iterator over consecutive netlink messages, each at a multiple of 4 bytes. An item is the
+/// header of a message, and the bytes of the message: as many as its length field (`nlmsg_len`)
+/// counts, header included.
 ///
-/// It ends when no bytes are left. The padding of the last message may be missing or truncated. After
-/// an error it yields nothing more. It does not allocate.
+/// It ends when no bytes are left. The padding of the last message may be missing or truncated.
+/// After an error it yields nothing more. It does not allocate.
 #[derive(Clone, Drop)]
 pub struct FramedMessages<'a> {
     bytes: &'a [u8],
@@ -78,11 +79,11 @@ impl<'a> Iterator for FramedMessages<'a> {
     }
 }
 
-/// An iterator over consecutive netlink messages, each at a multiple of 4 bytes. An item is the bytes
-/// of one message, header included: as many as its length field counts.
+/// An iterator over consecutive netlink messages, each at a multiple of 4 bytes. An item is the
+/// bytes of one message: as many as its length field (`nlmsg_len`) counts, header included.
 ///
-/// It ends when no bytes are left. The padding of the last message may be missing or truncated. After
-/// an error it yields nothing more. It does not allocate.
+/// It ends when no bytes are left. The padding of the last message may be missing or truncated.
+/// After an error it yields nothing more. It does not allocate.
 #[derive(Clone, Drop)]
 pub struct MessageStrings<'a> {
     messages: FramedMessages<'a>,
