@@ -93,9 +93,9 @@ impl<'a> AckView<'a> {
         self.number
     }
 
-    /// Returns the bytes of the request that the message contains, starting with its header.
-    /// Offsets in the attributes count from the first of these bytes. They are empty for the end of
-    /// a dump.
+    /// Returns the bytes of the request that the message contains, starting with its header. There
+    /// are none for the end of a dump. Offsets in the attributes count from the first of these
+    /// bytes.
     pub fn request(&self) -> &'a [u8]
         ensures { result.now ≡ ack_request self.now }
     {
@@ -129,7 +129,7 @@ impl<'a> AckView<'a> {
 }
 
 /// The attributes of an extended acknowledgement, `NLMSGERR_ATTR_..` of `linux/netlink.h`,
-/// borrowed. Each getter uses the first attribute of its kind.
+/// borrowed. Each getter uses the first attribute of its kind, and returns `None` if there is none.
 #[derive(Clone, Copy, Debug, PartialEq, Eq)]
 pub struct AckAttributes<'a>(pub NestedNlas<'a>);
 

@@ -16,8 +16,8 @@ use byteorder::{ByteOrder, LittleEndian};
 use netlink_core::{DecodeError, NlasIterator, parse_str, parse_u32};
 use sock_diag_families::WholeNla;
 
-/// Consecutive attributes, borrowed. Each getter uses the first attribute of a kind, and ignores
-/// the two flag bits of the type field. It does not allocate.
+/// Consecutive attributes, borrowed. Each getter uses the first attribute of a kind, and returns
+/// `None` if there is none. The two flag bits of the type field are ignored. It does not allocate.
 #[derive(Clone, Copy, Debug, PartialEq, Eq)]
 pub struct NestedNlas<'a> {
     bytes: &'a [u8],
@@ -45,7 +45,7 @@ impl<'a> NestedNlas<'a> {
         NlasIterator::new(self.bytes)
     }
 
-    /// Returns the value of the first attribute of the kind, or `None` if there is none.
+    /// Returns the value of the first attribute of the kind.
     pub fn value_of(&self, kind: u16) -> Option<&'a [u8]>
         ensures { option_map (λ value. value.now) result ≡ first_in kind (nested_bytes self.now) }
     {

@@ -31,7 +31,7 @@ pub enum TcpField {
     Backoff,
     /// `tcpi_options` at 5.
     Options,
-    /// `tcpi_snd_wscale` and `tcpi_rcv_wscale` at 6, four bits each.
+    /// `tcpi_snd_wscale` at 6 in the low four bits, and `tcpi_rcv_wscale` in the high four bits.
     Wscale,
     /// `tcpi_delivery_rate_app_limited` at 7 in bit 0, and `tcpi_fastopen_client_fail` in bits 1
     /// and 2.

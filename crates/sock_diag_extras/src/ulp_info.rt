@@ -23,7 +23,7 @@ use netlink_core::DecodeError;
 
 /// The upper layer protocol of a TCP connection, borrowed: the attributes `INET_ULP_INFO_..` of
 /// `linux/inet_diag.h` in the value of `INET_DIAG_ULP_INFO`. Each getter uses the first attribute
-/// of its kind.
+/// of its kind, and returns `None` if there is none.
 #[derive(Clone, Copy, Debug, PartialEq, Eq)]
 pub struct UlpInfo<'a>(pub NestedNlas<'a>);
 
