@@ -141,12 +141,12 @@ pub const INET_DIAG_BC_D_LE: u8 = 5;
 /// Tests that the kernel chose the source port.
 pub const INET_DIAG_BC_AUTO: u8 = 6;
 
-/// Tests the source address by a prefix, and optionally the source port: `struct
-/// inet_diag_hostcond`.
+/// Tests the source address by a prefix, and optionally the source port:
+/// `struct inet_diag_hostcond`.
 pub const INET_DIAG_BC_S_COND: u8 = 7;
 
-/// Tests the destination address by a prefix, and optionally the destination port: `struct
-/// inet_diag_hostcond`.
+/// Tests the destination address by a prefix, and optionally the destination port:
+/// `struct inet_diag_hostcond`.
 pub const INET_DIAG_BC_D_COND: u8 = 8;
 
 /// Tests that the socket is bound to a given interface.
