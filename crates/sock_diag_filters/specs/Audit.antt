@@ -1,7 +1,7 @@
 -- The kernel's check of a program before it runs it: `inet_diag_bc_audit` of net/ipv4/inet_diag.c.
--- `left` are the bytes of the program from some operation on. An operation starts with a `struct
--- inet_diag_bc_op` of linux/inet_diag.h: `code` at 0, `yes` at 1, and `no` at 2 as a little-endian
--- u16.
+-- `left` are the bytes of the program from some operation on. An operation starts with a
+-- `struct inet_diag_bc_op` of linux/inet_diag.h: `code` at 0, `yes` at 1, and `no` at 2 as a
+-- little-endian u16.
 --
 -- Two conditions of the kernel are not part of these definitions: it rejects MARK_COND without
 -- CAP_NET_ADMIN, and CGROUP_COND if it is built without control groups.

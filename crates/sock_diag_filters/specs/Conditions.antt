@@ -63,10 +63,10 @@ abbrev pub host_bytes : Host → List ℕ
 host_bytes h =
     front_of h.prefix ++ (little_bytes 4 (unwrap_or h.port 0xffffffff) ++ octets_behind h.prefix)
 
--- The arguments of a condition's operation: the bytes after the four of its `struct
--- inet_diag_bc_op`. The arguments of a mark are a `struct inet_diag_markcond`, of a host a `struct
--- inet_diag_hostcond`, of an interface its index as a u32, and of a control group its id as a u64,
--- each little-endian.
+-- The arguments of a condition's operation: the bytes after its `struct inet_diag_bc_op` of four
+-- bytes. For a port they are a second `struct inet_diag_bc_op`, for a host a
+-- `struct inet_diag_hostcond`, for an interface its index as a u32, for a mark a
+-- `struct inet_diag_markcond`, and for a control group its id as a u64, each little-endian.
 abbrev pub arguments : Condition → List ℕ
 arguments (SourcePort comparison port) = port_bytes port
 arguments (DestinationPort comparison port) = port_bytes port

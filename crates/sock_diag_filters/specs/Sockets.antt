@@ -55,8 +55,8 @@ is_mapped octets = big_number 12 octets == 0xffff
 
 -- ---- conditions as `inet_diag_bc_run` of the kernel's net/ipv4/inet_diag.c evaluates them
 
--- The port in the arguments of a port comparison. The arguments are a second `struct
--- inet_diag_bc_op`, whose `no` (offset 2) is the port.
+-- The port in the arguments of a port comparison. The arguments are a second
+-- `struct inet_diag_bc_op`, whose `no` (offset 2) is the port.
 abbrev pub port_in : List ℕ → ℕ
 port_in args = little_number 2 (drop 2 args)
 
