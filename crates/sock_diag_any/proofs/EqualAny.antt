@@ -15,17 +15,17 @@ use Rattle.sock_diag_any.specs.declared.any.AnySockDiagView.{AnySockDiagView}
 use Rattle.sock_diag_any.specs.declared.any.AnySockDiagView.TheVariants as view
 use Rattle.sock_diag_any.specs.contracts.any.AnySockDiagViewPartialEq.TheImpl.{ghosts}
 
--- the family of a message, if it is not one of the port
+-- The family of a message, or `None` for a message of the port.
 abbrev family_in : AnyMessage → Option OtherFamily
 family_in (of_port message) = None
 family_in (of_family family v) = Some family
 
--- the message of the port, or else a given one
+-- The message of the port, or `other` if the message is a reply of another family.
 abbrev port_in : Message → AnyMessage → Message
 port_in other (of_port message) = message
 port_in other (of_family family v) = other
 
--- the reply of a family, or else a given one
+-- The reply of the given family, or `other` if the message is of the port or another family.
 abbrev reply_in : (family : OtherFamily) → (codec_of family).Value → AnyMessage
     → (codec_of family).Value
 reply_in netlink other (of_family netlink v) = v
@@ -34,7 +34,7 @@ reply_in vsock other (of_family vsock v) = v
 reply_in xdp other (of_family xdp v) = v
 reply_in _ other _ = other
 
--- messages of one family are equal if and only if their replies are
+-- Equal messages of one family have equal replies.
 same_reply : (family : OtherFamily) (v w : (codec_of family).Value)
     → of_family family v ≡ of_family family w → v ≡ w
 same_reply netlink v w e = ap (reply_in netlink v) e
@@ -42,16 +42,19 @@ same_reply packet v w e = ap (reply_in packet v) e
 same_reply vsock v w e = ap (reply_in vsock v) e
 same_reply xdp v w e = ap (reply_in xdp v) e
 
+-- A test that decides equality of replies decides equality of their messages.
 by_reply : (family : OtherFamily) (is : Bool) (v w : (codec_of family).Value)
     → (IsTrue is ↔ (v ≡ w)) → (IsTrue is ↔ (of_family family v ≡ of_family family w))
 by_reply family is v w same =
     grind (arith, same_reply family v w)
 
+-- A test that decides equality of the port's messages decides equality as `AnyMessage`.
 by_port : (is : Bool) (v w : Message) → (IsTrue is ↔ (v ≡ w))
     → (IsTrue is ↔ (of_port v ≡ of_port w))
 by_port is v w same =
     (λ h. ap of_port (same.0 h), λ e. same.1 (ap (port_in v) e))
 
+-- `==` of two views is true if and only if their models are equal.
 pub any_equal : (v w : AnySockDiagView) → IsTrue (ghosts.eq v w) ↔ (viewed_any v ≡ viewed_any w)
 any_equal (view.Port a) (view.Port x) = by_port _ _ _ (view_equal a x)
 any_equal (view.Netlink a) (view.Netlink x) =

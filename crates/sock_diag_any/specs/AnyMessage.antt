@@ -1,4 +1,4 @@
--- Replies of sock_diag(7) about the sockets of any family that is read here or in the port.
+-- Replies (sock_diag(7)) about sockets of any family that this crate or the port parses.
 use Rattle.std.specs.Prelude.{◌≡◌, ℕ, ◌==◌, ◌||◌, not, nat_lt, if◌then◌else◌, List, length}
 use Rattle.std.specs.Prelude.{slice_index, Option, Some, None}
 use Rattle.netlink_core.specs.Codec.{Codec}
@@ -15,19 +15,22 @@ use Rattle.sock_diag_families.specs.XdpResponseHeader.{xdp_header}
 use Rattle.sock_diag_any.specs.declared.any.AnySockDiagView.{AnySockDiagView}
 use Rattle.sock_diag_any.specs.declared.any.AnySockDiagView.TheVariants as view
 
--- the families beside the port's
+-- The families whose replies this crate parses, and the port does not.
 pub data OtherFamily : Type 0 where
   netlink packet vsock xdp : OtherFamily
 
--- how a reply of each is read and written
+-- The codec of the replies of each family: the header, then raw attributes. The headers are
+-- `struct netlink_diag_msg`, `packet_diag_msg`, `vsock_diag_msg` and `xdp_diag_msg` of the kernel.
 abbrev pub codec_of : OtherFamily → Codec (Unit {0})
 codec_of netlink = response_codec (whole_reply netlink_header)
 codec_of packet = response_codec (whole_reply packet_header)
 codec_of vsock = response_codec (whole_reply vsock_header)
 codec_of xdp = response_codec (whole_reply xdp_header)
 
--- The family that the first byte of two or more tells under the type 20, SOCK_DIAG_BY_FAMILY: 16
--- for AF_NETLINK, 17 for AF_PACKET, 40 for AF_VSOCK and 44 for AF_XDP. All else is the port's.
+-- The family of the bytes `b` of a message of type `t`, if the port does not parse them. There must
+-- be at least two bytes, and the type must be 20 (SOCK_DIAG_BY_FAMILY). The first byte is the
+-- family: 16 (AF_NETLINK), 17 (AF_PACKET), 40 (AF_VSOCK) or 44 (AF_XDP). In all other cases it is
+-- `None`, and the port parses the bytes.
 abbrev pub other_family : List ℕ → ℕ → Option OtherFamily
 other_family b t =
     if nat_lt (length b) 2 || not (t == 20) then None
@@ -37,12 +40,12 @@ other_family b t =
     else if slice_index b 0 == 44 then Some xdp
     else None
 
--- the value of a message: one of the port, or a reply of another family
+-- The value of a message: a message of the port, or a reply of another family.
 pub data AnyMessage : Type 0 where
   of_port : Message → AnyMessage
   of_family : (family : OtherFamily) → (codec_of family).Value → AnyMessage
 
--- the model of the view
+-- The model of a view.
 abbrev pub viewed_any : AnySockDiagView → AnyMessage
 viewed_any (view.Port message) = of_port (message_view_model message)
 viewed_any (view.Netlink reply) = of_family netlink (view_model reply)
@@ -50,25 +53,31 @@ viewed_any (view.Packet reply) = of_family packet (view_model reply)
 viewed_any (view.Vsock reply) = of_family vsock (view_model reply)
 viewed_any (view.Xdp reply) = of_family xdp (view_model reply)
 
--- the message belongs to the bytes under the type: that family is told, and so it is read
+-- The bytes `b` of a message of type `t` parse as the given value. For a reply of another family,
+-- `other_family` returns that family and its codec parses the bytes as the reply. For a message of
+-- the port, `other_family` returns `None` and the port parses the bytes as the message.
 abbrev pub AnyReads : List ℕ → ℕ → AnyMessage → Type 0
 AnyReads b t (of_port message) = (other_family b t ≡ None) × message_codec.reads b t message
 AnyReads b t (of_family family v) =
     (other_family b t ≡ Some family) × (codec_of family).reads b tt v
 
--- the reader of the family that is told, or the port's, refuses the bytes
+-- The codec of the given family, or the port's if it is `None`, rejects the bytes `b` with the
+-- error `e`. Only the port's codec depends on the message type `t`.
 abbrev pub refuses_by : Option OtherFamily → List ℕ → ℕ → DecodeError → Type 0
 refuses_by None b t e = message_codec.refuses b t e
 refuses_by (Some family) b t e = (codec_of family).refuses b tt e
 
+-- The bytes `b` of a message of type `t` are rejected with the error `e`, by the codec of the
+-- family that `other_family` returns.
 abbrev pub AnyRefuses : List ℕ → ℕ → DecodeError → Type 0
 AnyRefuses b t e = refuses_by (other_family b t) b t e
 
--- the bytes that are written, and whether they have room
+-- The bytes that a message is serialized to.
 abbrev pub any_bytes : AnyMessage → List ℕ
 any_bytes (of_port message) = message_codec.written message
 any_bytes (of_family family v) = (codec_of family).written v
 
+-- The message is writable: its lengths fit their length fields.
 abbrev pub AnyFits : AnyMessage → Type 0
 AnyFits (of_port message) = message_codec.fits message
 AnyFits (of_family family v) = (codec_of family).fits v

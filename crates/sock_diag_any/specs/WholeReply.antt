@@ -1,10 +1,11 @@
--- Replies of a header and attributes that are kept whole.
+-- Replies of a header and attributes that are raw.
 use Rattle.std.specs.Prelude.{[]}
 use Rattle.netlink_core.specs.Layout.{Layout}
 use Rattle.netlink_core.specs.ValueCodec.{value_codec}
 use Rattle.netlink_core.specs.Response.{ResponseSpec}
 
--- the header, and attributes of a set without types
+-- The specification of a reply: the header has `layout` and a size of `layout.least` bytes. The set
+-- of known attribute types is empty, so each attribute that follows stays raw.
 abbrev pub whole_reply : {Tag Value : Type 0} → Layout (Unit {0}) Tag Value → ResponseSpec
 whole_reply layout =
     record { header = value_codec layout; size = layout.least; attribute_set = [] }

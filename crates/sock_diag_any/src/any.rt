@@ -33,7 +33,7 @@ impl<'a> AnySockDiagView<'a> {
     ///
     /// If there are at least 2 bytes, the type is `SOCK_DIAG_BY_FAMILY` and the first byte is
     /// `AF_NETLINK`, `AF_PACKET`, `AF_VSOCK` or `AF_XDP`, they are parsed as a reply of that
-    /// family. Otherwise the result is that of [`SockDiagView::parse`].
+    /// family. Otherwise [`SockDiagView::parse`] parses them.
     pub fn parse(payload: &'a [u8], message_type: u16) -> Result<AnySockDiagView<'a>, DecodeError>
         ensures value { IfOk result
             (λ view. AnyReads payload.entry.now message_type (viewed_any view)) }
@@ -59,7 +59,7 @@ impl<'a> AnySockDiagView<'a> {
     }
 }
 
-/// Evaluates an expression with the view of the message's variant.
+/// Evaluates an expression with the view that the variant of the reply contains.
 macro_rules! held {
     ($message:expr, $held:ident => $answer:expr) => {
         match $message {

@@ -1,4 +1,4 @@
-//! Values of the attributes of a reply, each by its kind.
+//! Getters for the values of a reply's attributes by kind.
 
 ghost use Rattle.std.specs.Prelude.{◌≡◌, List, option_map};
 ghost use Rattle.netlink_core.specs.Attribute.{Attribute};
@@ -10,10 +10,10 @@ ghost use Rattle.sock_diag_families.specs.Found.{first_value, within};
 use crate::{FamilyHeader, WholeView};
 use netlink_core::{DecodeError, Record, parse_u32, read_record};
 
-/// Getters of the attributes of a reply. Each uses the first attribute of a kind, whatever its flag
-/// bits.
+/// Getters for the attributes of a reply. Each getter uses the first attribute of a kind, and
+/// ignores the two flag bits of the type field.
 pub trait WholeAttributes {
-    // The attributes, in order.
+    // The attributes of the reply, in order.
     ghost attributes: { Self → List Attribute };
 
     /// Returns the value of the first attribute of the kind, or `None` if there is none.
@@ -21,7 +21,8 @@ pub trait WholeAttributes {
         ensures { option_map (λ value. value.now) result
             ≡ first_value kind (attributes self.now) };
 
-    /// Parses the value as a little-endian `u32`. Another length than 4 is `WrongLength`.
+    /// Parses the value of the first attribute of the kind as a little-endian `u32`. Returns `None`
+    /// if the reply has no such attribute. A length other than 4 is `WrongLength`.
     fn number_of(&self, kind: u16) -> Result<Option<u32>, DecodeError>
         ensures { result ≡ within (exact_number None 4) (first_value kind (attributes self.now)) }
     {
@@ -31,7 +32,9 @@ pub trait WholeAttributes {
         }
     }
 
-    /// Parses the record at the start of the value. An error is that of the record's parser.
+    /// Parses the record at the start of the value of the first attribute of the kind. Returns
+    /// `None` if the reply has no such attribute, and the error of the record's parser if the value
+    /// is invalid.
     fn record_of<T: Record<Param = ()>>(&self, kind: u16) -> Result<Option<T>, DecodeError>
         ensures { result ≡ within (read T.layout tt) (first_value kind (attributes self.now)) }
     {

@@ -23,8 +23,9 @@ pub fn equal_whole_views<H: FamilyHeader>(v: &WholeView<'_, H>, w: &WholeView<'_
     v == w
 }
 
-/// Compares two borrowed replies of any family by `==`, which is true if and only if they describe
-/// the same: replies of one family with equal headers, and the same attributes in the same order.
+/// Compares two borrowed replies of any family by `==`, which is true if and only if their models
+/// are equal: replies of the same family with equal headers, and the same attributes in the same
+/// order.
 #[tactic(auto, using(crate::proofs::EqualAny::any_equal))]
 pub fn equal_any_views(v: &AnySockDiagView<'_>, w: &AnySockDiagView<'_>) -> bool
     ensures { IsTrue result ↔ (viewed_any v.now ≡ viewed_any w.now) }

@@ -1,5 +1,5 @@
-//! Borrowed replies about sockets of any family: those of the port, and those about vsock, netlink,
-//! packet and XDP sockets, whose attributes are not decoded.
+//! Borrowed replies about sockets of any family: the replies of the port, and replies about vsock,
+//! netlink, packet and XDP sockets. The attributes of the latter four are not decoded.
 #![tactic(auto)]
 
 mod any;

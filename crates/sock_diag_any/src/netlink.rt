@@ -29,7 +29,9 @@ impl FamilyHeader for NetlinkResponseHeader {
     ghost keeps = { plain_replies_keep_laws netlink_header_sound };
 }
 
-/// Returns the memory of the socket, `NETLINK_DIAG_MEMINFO`.
+/// Returns the memory counters of the socket, `NETLINK_DIAG_MEMINFO`: `u32` fields in the order of
+/// `SK_MEMINFO_..` (linux/sock_diag.h). Returns the error of [`MemInfo`]'s parser if
+/// the value is invalid.
 pub fn memory(reply: &NetlinkResponseView<'_>) -> Result<Option<MemInfo>, DecodeError>
     ensures { result ≡ within (read mem_info tt)
         (first_value NETLINK_DIAG_MEMINFO (view_model reply.now).nlas) }
@@ -37,8 +39,8 @@ pub fn memory(reply: &NetlinkResponseView<'_>) -> Result<Option<MemInfo>, Decode
     reply.record_of(NETLINK_DIAG_MEMINFO)
 }
 
-/// Returns the groups that the socket is a member of, `NETLINK_DIAG_GROUPS`: one bit for each. The
-/// lowest bit of the first byte is group 1.
+/// Returns the multicast groups that the socket is a member of, `NETLINK_DIAG_GROUPS`: one bit for
+/// each group. The lowest bit of the first byte is group 1.
 pub fn groups<'a>(reply: &NetlinkResponseView<'a>) -> Option<&'a [u8]>
     ensures { option_map (λ groups. groups.now) result
         ≡ first_value NETLINK_DIAG_GROUPS (view_model reply.now).nlas }
@@ -46,7 +48,8 @@ pub fn groups<'a>(reply: &NetlinkResponseView<'a>) -> Option<&'a [u8]>
     value_in(reply, NETLINK_DIAG_GROUPS)
 }
 
-/// Returns the flags `NDIAG_FLAG_..` of the socket, `NETLINK_DIAG_FLAGS`.
+/// Returns the flags `NDIAG_FLAG_..` of the socket, `NETLINK_DIAG_FLAGS`. A length other than 4 is
+/// `WrongLength`.
 pub fn flags(reply: &NetlinkResponseView<'_>) -> Result<Option<u32>, DecodeError>
     ensures { result ≡ within (exact_number None 4)
         (first_value NETLINK_DIAG_FLAGS (view_model reply.now).nlas) }

@@ -32,7 +32,7 @@ impl FamilyHeader for PacketResponseHeader {
     ghost keeps = { plain_replies_keep_laws packet_header_sound };
 }
 
-// Parses the ring in the attribute of this kind.
+// Parses the first attribute of the kind as `struct packet_diag_ring`.
 fn ring(reply: &PacketResponseView<'_>, kind: u16) -> Result<Option<PacketRing>, DecodeError>
     ensures { result ≡ within (packet_ring kind) (first_value kind (view_model reply.now).nlas) }
 {
@@ -42,7 +42,7 @@ fn ring(reply: &PacketResponseView<'_>, kind: u16) -> Result<Option<PacketRing>,
     }
 }
 
-/// Returns the settings of the socket, `PACKET_DIAG_INFO`. Fewer than 24 bytes are
+/// Returns the settings of the socket, `PACKET_DIAG_INFO`. An attribute of fewer than 24 bytes is
 /// `BufferTooSmall`.
 pub fn info(reply: &PacketResponseView<'_>) -> Result<Option<PacketInfo>, DecodeError>
     ensures { result ≡ within packet_info
@@ -54,8 +54,8 @@ pub fn info(reply: &PacketResponseView<'_>) -> Result<Option<PacketInfo>, Decode
     }
 }
 
-/// Returns the addresses that the socket receives in addition to its interface's,
-/// `PACKET_DIAG_MCLIST`: 44 bytes each, `struct packet_diag_mclist`.
+/// Returns the link-layer addresses that the socket receives in addition to the addresses of its
+/// interface, `PACKET_DIAG_MCLIST`: 44 bytes each, `struct packet_diag_mclist`.
 pub fn addresses<'a>(reply: &PacketResponseView<'a>) -> Option<&'a [u8]>
     ensures { option_map (λ value. value.now) result
         ≡ first_value PACKET_DIAG_MCLIST (view_model reply.now).nlas }
@@ -63,7 +63,8 @@ pub fn addresses<'a>(reply: &PacketResponseView<'a>) -> Option<&'a [u8]>
     value_in(reply, PACKET_DIAG_MCLIST)
 }
 
-/// Returns the receive ring, `PACKET_DIAG_RX_RING`. Fewer than 28 bytes are `BufferTooSmall`.
+/// Returns the receive ring, `PACKET_DIAG_RX_RING`. An attribute of fewer than 28 bytes is
+/// `BufferTooSmall`.
 pub fn receive_ring(reply: &PacketResponseView<'_>) -> Result<Option<PacketRing>, DecodeError>
     ensures { result ≡ within (packet_ring PACKET_DIAG_RX_RING)
         (first_value PACKET_DIAG_RX_RING (view_model reply.now).nlas) }
@@ -71,7 +72,8 @@ pub fn receive_ring(reply: &PacketResponseView<'_>) -> Result<Option<PacketRing>
     ring(reply, PACKET_DIAG_RX_RING)
 }
 
-/// Returns the transmit ring, `PACKET_DIAG_TX_RING`. Fewer than 28 bytes are `BufferTooSmall`.
+/// Returns the transmit ring, `PACKET_DIAG_TX_RING`. An attribute of fewer than 28 bytes is
+/// `BufferTooSmall`.
 pub fn send_ring(reply: &PacketResponseView<'_>) -> Result<Option<PacketRing>, DecodeError>
     ensures { result ≡ within (packet_ring PACKET_DIAG_TX_RING)
         (first_value PACKET_DIAG_TX_RING (view_model reply.now).nlas) }
@@ -79,7 +81,8 @@ pub fn send_ring(reply: &PacketResponseView<'_>) -> Result<Option<PacketRing>, D
     ring(reply, PACKET_DIAG_TX_RING)
 }
 
-/// Returns the id of the fanout group, with its mode in the high 16 bits, `PACKET_DIAG_FANOUT`.
+/// Returns the id of the fanout group in the low 16 bits and its mode in the high 16 bits,
+/// `PACKET_DIAG_FANOUT`. A length other than 4 is `WrongLength`.
 pub fn fanout(reply: &PacketResponseView<'_>) -> Result<Option<u32>, DecodeError>
     ensures { result ≡ within (exact_number None 4)
         (first_value PACKET_DIAG_FANOUT (view_model reply.now).nlas) }
@@ -87,7 +90,8 @@ pub fn fanout(reply: &PacketResponseView<'_>) -> Result<Option<u32>, DecodeError
     reply.number_of(PACKET_DIAG_FANOUT)
 }
 
-/// Returns the user id of the socket's owner, `PACKET_DIAG_UID`.
+/// Returns the user id of the socket's owner, `PACKET_DIAG_UID`. A length other than 4 is
+/// `WrongLength`.
 pub fn owner(reply: &PacketResponseView<'_>) -> Result<Option<u32>, DecodeError>
     ensures { result ≡ within (exact_number None 4)
         (first_value PACKET_DIAG_UID (view_model reply.now).nlas) }
@@ -95,7 +99,9 @@ pub fn owner(reply: &PacketResponseView<'_>) -> Result<Option<u32>, DecodeError>
     reply.number_of(PACKET_DIAG_UID)
 }
 
-/// Returns the memory of the socket, `PACKET_DIAG_MEMINFO`.
+/// Returns the memory counters of the socket, `PACKET_DIAG_MEMINFO`: `u32` fields in the order of
+/// `SK_MEMINFO_..` (linux/sock_diag.h). Returns the error of [`MemInfo`]'s parser if
+/// the value is invalid.
 pub fn memory(reply: &PacketResponseView<'_>) -> Result<Option<MemInfo>, DecodeError>
     ensures { result ≡ within (read mem_info tt)
         (first_value PACKET_DIAG_MEMINFO (view_model reply.now).nlas) }
@@ -103,8 +109,8 @@ pub fn memory(reply: &PacketResponseView<'_>) -> Result<Option<MemInfo>, DecodeE
     reply.record_of(PACKET_DIAG_MEMINFO)
 }
 
-/// Returns the instructions of the filter, `PACKET_DIAG_FILTER`: 8 bytes each,
-/// `struct sock_filter`.
+/// Returns the instructions of the attached BPF filter, `PACKET_DIAG_FILTER`: 8 bytes each,
+/// `struct sock_filter` (linux/filter.h).
 pub fn filter<'a>(reply: &PacketResponseView<'a>) -> Option<&'a [u8]>
     ensures { option_map (λ value. value.now) result
         ≡ first_value PACKET_DIAG_FILTER (view_model reply.now).nlas }

@@ -13,16 +13,16 @@ use netlink_core::{DecodeError, Emitable, Record, read_record};
 use sock_diag_families::WholeNla;
 use sock_diag_replies::{ReplyHeader, ReplyView, ReplyViews, same_views};
 
-/// The header of the replies of one family.
+/// The header of the replies of one family whose attributes are not decoded.
 pub trait FamilyHeader: Record<Param = ()> + Drop {
     /// The name of the view of such a reply, as `Debug` prints it.
     const NAME: &'static str;
 
-    // A reply with such a header keeps the laws.
+    // Proof only: the codec of a reply with this header keeps the codec laws.
     ghost keeps: { KeepsLaws (response_codec (whole_reply Self.layout)) };
 }
 
-/// The header of a reply whose attributes are not decoded.
+/// The header of a reply whose attributes are not decoded, as a struct around the family's header.
 #[derive(Debug, Drop, PartialEq, Eq)]
 pub struct Whole<H>(pub H);
 

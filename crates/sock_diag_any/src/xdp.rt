@@ -30,8 +30,8 @@ impl FamilyHeader for XdpResponseHeader {
     ghost keeps = { plain_replies_keep_laws xdp_header_sound };
 }
 
-/// Returns the interface and the queue that the socket is bound to, `XDP_DIAG_INFO`. Fewer than 8
-/// bytes are `BufferTooSmall`.
+/// Returns the interface and the queue that the socket is bound to, `XDP_DIAG_INFO`. An attribute
+/// of fewer than 8 bytes is `BufferTooSmall`.
 pub fn info(reply: &XdpResponseView<'_>) -> Result<Option<XdpInfo>, DecodeError>
     ensures { result ≡ within xdp_info (first_value XDP_DIAG_INFO (view_model reply.now).nlas) }
 {
@@ -41,7 +41,8 @@ pub fn info(reply: &XdpResponseView<'_>) -> Result<Option<XdpInfo>, DecodeError>
     }
 }
 
-/// Returns the user id of the socket's owner, `XDP_DIAG_UID`.
+/// Returns the user id of the socket's owner, `XDP_DIAG_UID`. A length other than 4 is
+/// `WrongLength`.
 pub fn owner(reply: &XdpResponseView<'_>) -> Result<Option<u32>, DecodeError>
     ensures { result ≡ within (exact_number None 4)
         (first_value XDP_DIAG_UID (view_model reply.now).nlas) }
@@ -49,7 +50,8 @@ pub fn owner(reply: &XdpResponseView<'_>) -> Result<Option<u32>, DecodeError>
     reply.number_of(XDP_DIAG_UID)
 }
 
-/// Returns the number of entries of the receive ring, `XDP_DIAG_RX_RING`.
+/// Returns the number of entries of the receive ring, `XDP_DIAG_RX_RING`. A length other than 4 is
+/// `WrongLength`.
 pub fn receive_ring(reply: &XdpResponseView<'_>) -> Result<Option<u32>, DecodeError>
     ensures { result ≡ within (exact_number None 4)
         (first_value XDP_DIAG_RX_RING (view_model reply.now).nlas) }
@@ -57,7 +59,8 @@ pub fn receive_ring(reply: &XdpResponseView<'_>) -> Result<Option<u32>, DecodeEr
     reply.number_of(XDP_DIAG_RX_RING)
 }
 
-/// Returns the number of entries of the transmit ring, `XDP_DIAG_TX_RING`.
+/// Returns the number of entries of the transmit ring, `XDP_DIAG_TX_RING`. A length other than 4 is
+/// `WrongLength`.
 pub fn send_ring(reply: &XdpResponseView<'_>) -> Result<Option<u32>, DecodeError>
     ensures { result ≡ within (exact_number None 4)
         (first_value XDP_DIAG_TX_RING (view_model reply.now).nlas) }
@@ -65,8 +68,8 @@ pub fn send_ring(reply: &XdpResponseView<'_>) -> Result<Option<u32>, DecodeError
     reply.number_of(XDP_DIAG_TX_RING)
 }
 
-/// Returns the shared memory area of the socket, `XDP_DIAG_UMEM`. Fewer than 40 bytes are
-/// `BufferTooSmall`.
+/// Returns the shared memory area of the socket (UMEM), `XDP_DIAG_UMEM`. An attribute of fewer than
+/// 40 bytes is `BufferTooSmall`.
 pub fn shared_memory(reply: &XdpResponseView<'_>) -> Result<Option<XdpUmem>, DecodeError>
     ensures { result ≡ within xdp_umem (first_value XDP_DIAG_UMEM (view_model reply.now).nlas) }
 {
@@ -76,7 +79,9 @@ pub fn shared_memory(reply: &XdpResponseView<'_>) -> Result<Option<XdpUmem>, Dec
     }
 }
 
-/// Returns the memory of the socket, `XDP_DIAG_MEMINFO`.
+/// Returns the memory counters of the socket, `XDP_DIAG_MEMINFO`: `u32` fields in the order of
+/// `SK_MEMINFO_..` (linux/sock_diag.h). Returns the error of [`MemInfo`]'s parser if
+/// the value is invalid.
 pub fn memory(reply: &XdpResponseView<'_>) -> Result<Option<MemInfo>, DecodeError>
     ensures { result ≡ within (read mem_info tt)
         (first_value XDP_DIAG_MEMINFO (view_model reply.now).nlas) }
@@ -84,7 +89,8 @@ pub fn memory(reply: &XdpResponseView<'_>) -> Result<Option<MemInfo>, DecodeErro
     reply.record_of(XDP_DIAG_MEMINFO)
 }
 
-/// Returns the counters of the socket, `XDP_DIAG_STATS`. Fewer than 48 bytes are `BufferTooSmall`.
+/// Returns the counters of the socket, `XDP_DIAG_STATS`. An attribute of fewer than 48 bytes is
+/// `BufferTooSmall`.
 pub fn statistics(reply: &XdpResponseView<'_>) -> Result<Option<XdpStatistics>, DecodeError>
     ensures { result ≡ within xdp_statistics
         (first_value XDP_DIAG_STATS (view_model reply.now).nlas) }

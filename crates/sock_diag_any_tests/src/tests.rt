@@ -1,5 +1,6 @@
-//! The bytes of netlink and packet replies are what Linux 6.18 sent. Those of vsock and XDP are
-//! worked out by hand from the kernel's headers, as are the requests.
+//! Tests of replies and requests for sockets of the families netlink, packet, vsock and XDP. Linux
+//! 6.18 sent the bytes of the netlink and packet replies. The bytes of the vsock and XDP replies
+//! and of the requests are derived by hand from the kernel's headers.
 
 use netlink_core::{DecodeError, Emitable, write_new};
 use sock_diag_any::AnySockDiagView;
@@ -15,53 +16,55 @@ use std::fmt::Debug;
 use std::process::Abort;
 use std::test::Fail;
 
-/// A socket of the route protocol that listens to the groups 1 and 5.
+/// A reply about a `NETLINK_ROUTE` socket that is a member of the multicast groups 1 and 5.
 const NETLINK: &str = "100300076a1800000000000000000000ff53010001100000000000000c000100110000000000\
 00002800000000000000004003000000000000400300000000000000000000000000000000000000000008000400200000\
 00";
 
-/// A socket for IPv4 packets of the loopback interface, with a ring, a filter and a fanout.
+/// A reply about a packet socket for IPv4 on the loopback interface, with a receive ring, a filter
+/// and a fanout group.
 const PACKET: &str = "110300080054010003100000000000001c000000010000000000000000000000000000000000\
 00000100000008000500000000003000010001000000010000000000060001005e0000fb00000000000000000000000000\
 00000000000000000000000000200002000010000002000000000800000400000000000000000000000000000008000400\
 07000000280006000000000000400300000000000040030000000000000000008800000000000000000000000c00070006\
 000000ffff0000";
 
-/// A listening socket of the host at port 22.
+/// A reply about a vsock socket of the host (context id 2) that listens on port 22.
 const VSOCK: &str = "28010a000200000016000000ffffffffffffffff0a5000000500000000000000";
 
-/// A socket at queue 1 of interface 3, with rings, memory and counts.
+/// A reply about an XDP socket bound to queue 1 of interface 3, with its rings, UMEM and
+/// statistics.
 const XDP: &str = "2c0300000b00000006000000000000000c000100030000000100000008000200e803000008000300\
 000800002c0005000000400000000000020000000004000000100000000000000300000001000000010000000100000008\
 00060000100000340009000100000000000000020000000000000003000000000000000400000000000000050000000000\
 00000600000000000000";
 
-/// A listening UNIX socket.
+/// A reply about a listening UNIX socket.
 const UNIX: &str = "01010a000e4f0000a002000000000000";
 
-/// A TCP connection over IPv4.
+/// A reply about a TCP connection over IPv4.
 const INET: &str = "02010200eb1401bbc0a8b23c000000000000000000000000acd9178300000000000000000000000\
 0000000005203000000000000806000000000000000000000e8030000a8da2900";
 
-/// An attribute of a kind that no family has.
+/// An attribute of kind 99, which no family defines.
 const OTHER: &str = "0800630007000000";
 
-/// The value is written as these digits say.
+/// Asserts that the value serializes to the bytes in hexadecimal.
 fn writes<T: Emitable>(rt: &impl Abort, alloc: Global, value: &T, row: &str) -> Result<(), Fail> {
     let written = write_new(alloc, value).ok().ok_or("unwritable")?;
     assert!(rt; written == hex::decode(alloc, row)?, "{written:?}");
     Ok(())
 }
 
-/// What `Debug` shows of the value has this part.
+/// Asserts that the `Debug` output of the value contains the text.
 fn shows<T: Debug>(rt: &impl Abort, alloc: Global, value: &T, part: &str) -> Result<(), Fail> {
     let shown = format!(in alloc; "{value:?}")?;
     assert!(rt; shown.contains(part), "{shown}");
     Ok(())
 }
 
-/// Asserts that `Debug` prints a reply with a number of further attributes by the names of its
-/// variant and its type, with its bytes and the count of its attributes.
+/// Asserts the `Debug` output of a reply after `more` copies of [`OTHER`] are appended to it: the
+/// names of its variant and type, its bytes, and the number of its attributes.
 fn shows_reply(
     rt: &impl Abort,
     alloc: Global,
@@ -79,7 +82,7 @@ fn shows_reply(
     Ok(())
 }
 
-/// How many packets were dropped at the netlink socket that a reply describes.
+/// Returns the number of packets dropped at the netlink socket that a reply describes.
 fn dropped_packets(reply: &[u8]) -> Result<Option<u32>, DecodeError> {
     let reply = NetlinkResponseView::parse(reply)?;
     let Some(memory) = netlink::memory(&reply)? else {

@@ -1,4 +1,4 @@
--- A whole walk that reads each attribute by itself gives the items of the bytes.
+-- A `LenientNlas` that is iterated to its end yields the items of its bytes.
 use Rattle.std.proofs.Common.{Result, Ok, Err, IsOk, None, ◌≡◌, ◌≢◌, List, [], ◌∷◌}
 use Rattle.std.proofs.Common.{ℕ, inl, inr, sym, subst, refl, ap, ◌∙◌}
 use Rattle.std.specs.Prelude.{map}
@@ -17,11 +17,12 @@ use Rattle.sock_diag_extras.specs.declared.lenient.LenientNlas.{LenientNlas}
 use Rattle.sock_diag_extras.specs.declared.lenient.Refused.{Refused}
 
 module _ (F : AttributeSet) where
-  -- what is told of the bytes in front, where all is told
+  -- A list of items.
   abbrev Items : Type 0
   Items = List (Result (AttributeValue F) Refusal)
 
-  -- the items of bytes are what is told of the first attribute, and then those of the rest
+  -- The items of bytes are the item of their first attribute, and then the items of the bytes after
+  -- it.
   item_first : (bytes rest : List ℕ) (a : Attribute) (items : Items) → StartsWith bytes a rest
       → ItemsAre F rest items → ItemsAre F bytes (item_of F a ∷ items)
   item_first bytes rest a items s (later, how) = (
@@ -36,7 +37,7 @@ module _ (F : AttributeSet) where
     ],
   )
 
-  -- bytes that no attribute begins have one item, their fault
+  -- Bytes that start with a framing error have one item, this error.
   framing_last : (bytes : List ℕ) (e : DecodeError) (item : Result (AttributeValue F) Refusal)
       (later : Items)
       → bytes ≢ [] → IsFramingFault bytes e
@@ -45,21 +46,21 @@ module _ (F : AttributeSet) where
   framing_last bytes e item later some fault same none =
       ([], inr (e, (bytes, refl, some, fault), λ z. same z ∷ none z))
 
-  -- what is told of an attribute in front of good bytes is what it says
+  -- The item of an attribute that decodes without an error is its value.
   item_good : (a : Attribute) (item : Result (AttributeValue F) Refusal) → item ≡ item_of F a
       → (answer : Result (AttributeValue F) DecodeError) → decodes F a ≡ answer → IsOk answer
       → (v : AttributeValue F) × (item ≡ Ok v) × (decodes F a ≡ Ok v)
   item_good a item same (Ok v) h ok = (v, rw h at same, h)
   item_good a item same (Err e) h ok = absurd cc
 
-  -- an attribute of which a value is told says it
+  -- An attribute whose item is a value decodes to this value.
   item_ok : (a : Attribute) (v : AttributeValue F) → Ok v ≡ item_of F a
       → (answer : Result (AttributeValue F) DecodeError) → decodes F a ≡ answer → decodes F a ≡ Ok v
   item_ok a v same (Ok w) h = let t = rw h at same in cc
   item_ok a v same (Err e) h = let t = rw h at same in absurd cc
 
 module _ {V : Type 0} (F : AttributeSet) (view_model : V → AttributeValue F) where
-  -- where nothing is left nothing comes
+  -- If no bytes are left, no items are yielded.
   nothing_given : (walk : LenientNlas V) (given : List (Result V Refused))
       → Drains (GivesLeniently F view_model) walk given → bytes_left walk.walk ≡ [] → given ≡ []
   nothing_given walk [] h none = refl
@@ -86,7 +87,7 @@ module _ {V : Type 0} (F : AttributeSet) (view_model : V → AttributeValue F) w
             (ap (map (model F view_model)) (nothing_given rest given behind stop.3))
       ]
 
-  -- in good bytes each item is what its attribute says
+  -- In bytes without an error, each item is the value of its attribute.
   pub good_walk : (walk : LenientNlas V) (given : List (Result V Refused))
       → HasNoFault (decodes F) (bytes_left walk.walk)
       → Drains (GivesLeniently F view_model) walk given
@@ -111,7 +112,7 @@ module _ {V : Type 0} (F : AttributeSet) (view_model : V → AttributeValue F) w
         | inr stop ↦ absurd (no_framing_fault (decodes F) _ stop.0 clean stop.1 stop.2)
       ]
 
-  -- where nothing is refused the values are what the bytes mean
+  -- If each item is a value, the bytes decode to these values.
   pub accepted_walk : (walk : LenientNlas V) (views : List V)
       → Drains (GivesLeniently F view_model) walk (map Ok views)
       → AttributesMean (decodes F) (bytes_left walk.walk) (map view_model views)

@@ -1,32 +1,39 @@
--- What an error, an acknowledgement or the end of a dump holds, by netlink(7) and linux/netlink.h.
+-- The payload of an error, of an acknowledgement or of the end of a dump, by netlink(7) and
+-- linux/netlink.h. An NLMSG_ERROR contains a `struct nlmsgerr`: the error number `error` in the
+-- first four bytes, and the request, starting with its header `msg`. Attributes NLMSGERR_ATTR_..
+-- may follow. An NLMSG_DONE contains the error number, and attributes may follow. In this file
+-- `flags` are the flags of the header of the NLMSG_ERROR or NLMSG_DONE.
 use Rattle.std.specs.Prelude.{◌≤◌, ℕ, ◌+◌, ◌==◌, ◌&&◌, if◌then◌else◌, List, [], length, take}
 use Rattle.std.specs.Prelude.{drop, bit_and, not}
 use Rattle.byteorder.specs.Endian.{little_number}
 use Rattle.netlink_core.specs.Attribute.{fill}
 
--- How many bytes of the request stand behind the number. Where the number tells no error, or the
--- header's flags have NLM_F_CAPPED, 256, it is the request's header alone; else as many as the
--- request's own length word says.
+-- The length in bytes of the request in the payload of an NLMSG_ERROR. If the error number is not 0
+-- and the flags lack NLM_F_CAPPED (256), the request is complete: its length is its length field
+-- `nlmsg_len`, the u32 at offset 4. Otherwise only its header of 16 bytes is present.
 abbrev pub request_length : ℕ → List ℕ → ℕ
 request_length flags payload =
     if (bit_and flags 256 == 0) && not (little_number 4 payload == 0)
     then little_number 4 (drop 4 payload) else 16
 
--- an error: four bytes of the number, and the request, which is a header of 16 bytes at least
+-- The payload contains the error number and the request: it has at least 20 bytes, the length of
+-- the request is at least 16 bytes, and the request ends within the payload.
 abbrev pub HoldsRequest : ℕ → List ℕ → Type 0
 HoldsRequest flags payload =
     (20 ≤ length payload) × (16 ≤ request_length flags payload)
     × (4 + request_length flags payload ≤ length payload)
 
--- the request
+-- The bytes of the request in the payload of an NLMSG_ERROR, after the error number.
 abbrev pub request_in : ℕ → List ℕ → List ℕ
 request_in flags payload = take (request_length flags payload) (drop 4 payload)
 
--- the attributes behind so many bytes, which the flag NLM_F_ACK_TLVS, 512, tells of
+-- The bytes of the attributes: all bytes after the first `front` bytes of the payload, or none if
+-- the flags lack NLM_F_ACK_TLVS (512).
 abbrev pub attributes_behind : ℕ → ℕ → List ℕ → List ℕ
 attributes_behind flags front payload = if bit_and flags 512 == 0 then [] else drop front payload
 
--- those of an error, behind the request and its padding
+-- The bytes of the attributes of an NLMSG_ERROR. They follow the error number and the request,
+-- which is padded to a multiple of 4 bytes.
 abbrev pub error_attributes : ℕ → List ℕ → List ℕ
 error_attributes flags payload =
     let sent = request_length flags payload in

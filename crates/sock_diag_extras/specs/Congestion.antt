@@ -1,4 +1,4 @@
--- Information about congestion control (linux/inet_diag.h).
+-- Records of the congestion control algorithms of a TCP socket.
 use Rattle.std.specs.Prelude.{⊤, [], ◌∷◌, slice_index}
 use Rattle.sock_diag_extras.specs.RecordTable.{RecordTable}
 use Rattle.sock_diag_extras.specs.declared.congestion.VegasInfo.{VegasInfo}
@@ -6,7 +6,8 @@ use Rattle.sock_diag_extras.specs.declared.congestion.DctcpInfo.{DctcpInfo}
 use Rattle.sock_diag_extras.specs.declared.congestion.BbrInfo.{BbrInfo}
 use Rattle.netlink_core.specs.Rows.{u16, u32, u64}
 
--- `struct tcpvegas_info` (linux/inet_diag.h)
+-- `struct tcpvegas_info` (linux/inet_diag.h), 16 bytes: `tcpv_enabled`, `tcpv_rttcnt`, `tcpv_rtt`
+-- and `tcpv_minrtt`.
 abbrev pub vegas_info : RecordTable VegasInfo
 vegas_info = record {
   size = 16;
@@ -24,7 +25,8 @@ vegas_info = record {
   is_shaped = λ v. ⊤;
 }
 
--- `struct tcp_dctcp_info` (linux/inet_diag.h)
+-- `struct tcp_dctcp_info` (linux/inet_diag.h), 16 bytes: `dctcp_enabled`, `dctcp_ce_state`,
+-- `dctcp_alpha`, `dctcp_ab_ecn` and `dctcp_ab_tot`.
 abbrev pub dctcp_info : RecordTable DctcpInfo
 dctcp_info = record {
   size = 16;
@@ -44,8 +46,8 @@ dctcp_info = record {
   is_shaped = λ v. ⊤;
 }
 
--- `struct tcp_bbr_info` (linux/inet_diag.h): `bbr_bw_lo` and `bbr_bw_hi` are the low and the high
--- half of one number
+-- `struct tcp_bbr_info` (linux/inet_diag.h), 20 bytes: `bbr_bw_lo` and `bbr_bw_hi`, which are the
+-- low and the high half of one number, then `bbr_min_rtt`, `bbr_pacing_gain` and `bbr_cwnd_gain`.
 abbrev pub bbr_info : RecordTable BbrInfo
 bbr_info = record {
   size = 20;

@@ -1,10 +1,12 @@
--- The MD5 signature key of one peer, in INET_DIAG_MD5SIG.
+-- An MD5 signature key of a TCP socket, in INET_DIAG_MD5SIG.
 use Rattle.std.specs.Prelude.{◌≡◌, [], ◌∷◌, length, take, drop, slice_index}
 use Rattle.sock_diag_extras.specs.RecordTable.{RecordTable}
 use Rattle.sock_diag_extras.specs.declared.md5_signature.Md5Signature.{Md5Signature}
 use Rattle.netlink_core.specs.Rows.{u8, u16, u8s}
 
--- `struct tcp_diag_md5sig` (linux/tcp.h)
+-- `struct tcp_diag_md5sig` (linux/tcp.h), 100 bytes: `tcpm_family`, `tcpm_prefixlen`,
+-- `tcpm_keylen`, `tcpm_addr` and `tcpm_key`. Of the numbers in the rows, 3 to 18 are the address
+-- and 19 to 98 the key.
 abbrev pub md5_signature : RecordTable Md5Signature
 md5_signature = record {
   size = 100;

@@ -1,4 +1,4 @@
--- The models of borrowed values and of iterators: what contracts see of them.
+-- The models of borrowed values and of iterators. Contracts refer to values by their models.
 use Rattle.std.specs.Prelude.{ℕ, ℤ, List}
 use Rattle.netlink_core.specs.Walk.{bytes_left}
 use Rattle.sock_diag_extras.specs.declared.acknowledgement.AckView.{AckView}
@@ -8,36 +8,40 @@ use Rattle.sock_diag_extras.specs.declared.nested.NestedNlas.{NestedNlas}
 use Rattle.sock_diag_extras.specs.declared.records.AttributeRecords.{AttributeRecords}
 use Rattle.sock_diag_extras.specs.declared.tcp_info.TcpInfoBytes.{TcpInfoBytes}
 
--- the bytes that a lenient iterator over attributes has not read yet
+-- The bytes that a lenient iterator over attributes has not parsed yet.
 abbrev pub lenient_left : {V : Type 0} → LenientNlas V → List ℕ
 lenient_left nlas = bytes_left nlas.walk
 
--- the header of a lenient reply
+-- The header of a lenient reply.
 abbrev pub lenient_header : {H : Type 0} → LenientReply H → H
 lenient_header reply = reply.header
 
--- the bytes after the header of a lenient reply
+-- The bytes after the header of a lenient reply.
 abbrev pub lenient_bytes : {H : Type 0} → LenientReply H → List ℕ
 lenient_bytes reply = reply.bytes.now
 
--- the bytes of nested attributes
+-- The bytes of nested attributes.
 abbrev pub nested_bytes : NestedNlas → List ℕ
 nested_bytes nested = nested.bytes.now
 
--- the bytes of a `struct tcp_info`
+-- The bytes of the value of an INET_DIAG_INFO: a `struct tcp_info`, of any length.
 abbrev pub tcp_info_bytes : TcpInfoBytes → List ℕ
 tcp_info_bytes info = info.bytes.now
 
--- the bytes that an iterator over records has not read yet
+-- The bytes that an iterator over records has not parsed yet.
 abbrev pub records_left : {T : Type 0} → AttributeRecords T → List ℕ
 records_left records = records.bytes.now
 
--- the error number of an acknowledgement, its copy of the request, and the bytes of its attributes
+-- The error number of an acknowledgement: 0 or `-errno` (`error` of `struct nlmsgerr`).
 abbrev pub ack_number : AckView → ℤ
 ack_number ack = ack.number
 
+-- The bytes of the request in an acknowledgement, starting with its header (`msg` of
+-- `struct nlmsgerr`). Empty for the end of a dump.
 abbrev pub ack_request : AckView → List ℕ
 ack_request ack = ack.request.now
 
+-- The bytes of the attributes of an acknowledgement (NLMSGERR_ATTR_..). Empty if the flags of its
+-- header lack NLM_F_ACK_TLVS.
 abbrev pub ack_attributes : AckView → List ℕ
 ack_attributes ack = ack.attributes.now

@@ -1,27 +1,30 @@
--- Records without a name in errors, each with the same rows for all values.
+-- Records without a name in errors, with the same rows for all values.
 use Rattle.std.specs.Prelude.{ℕ, List}
 use Rattle.netlink_core.specs.Table.{values_of, bytes_of}
 use Rattle.netlink_core.specs.Rows.{Row, fields_of, numbers_of}
 use Rattle.netlink_core.specs.Layout.{Layout, plain}
 use Rattle.netlink_core.specs.declared.fault.RecordName.{RecordName}
 
--- the number of bytes, the rows, the value with the numbers in all rows, and that its arrays have
--- the length of their types
+-- The layout of a record: a C struct that is parsed as `Value`.
 pub record RecordTable (Value : Type 0) : Type 1 where
+  -- the size in bytes
   pub size : ℕ
+  -- a row for each member of the C struct, in order: its offset, type, and member of `Value`
   pub rows : List (Row Value)
+  -- the value with these numbers in its rows; an array has one number for each element
   pub value : List ℕ → Value
+  -- each array of the value has the length of its Rust type
   pub is_shaped : Value → Type 0
 
--- parses bytes that are long enough
+-- Parses the start of bytes that are at least as long as the record.
 abbrev pub value_in : {Value : Type 0} → RecordTable Value → List ℕ → Value
 value_in layout bytes = layout.value (values_of (fields_of layout.rows) bytes)
 
--- serializes a value
+-- Serializes a value.
 abbrev pub bytes_in : {Value : Type 0} → RecordTable Value → Value → List ℕ
 bytes_in layout value = bytes_of (fields_of layout.rows) (numbers_of layout.rows value)
 
--- the layout of such a record, with a name for errors
+-- The record as a `Layout` of netlink_core, under a name for errors.
 abbrev pub layout_under : {Value : Type 0} → RecordTable Value → RecordName
     → Layout (Unit {0}) (Unit {0}) Value
 layout_under layout name = plain name layout.size layout.rows layout.value layout.is_shaped

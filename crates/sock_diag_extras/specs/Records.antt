@@ -1,9 +1,10 @@
--- Records one after the other in the value of an attribute.
+-- Consecutive records in the value of an attribute.
 use Rattle.std.specs.Prelude.{◌≡◌, ◌<◌, ◌≤◌, ℕ, List, length, drop, Option, MatchOption}
 use Rattle.sock_diag_extras.specs.RecordTable.{RecordTable, value_in}
 
--- The record at the start of the bytes that were left, and then those behind it. None where fewer
--- are left than a record has, and then they stay.
+-- What a call of `next` does: `left` are the bytes left before, `given` is what it returns, and
+-- `later` are the bytes left after. It returns `None` and leaves all bytes if fewer are left than a
+-- record has. Otherwise it returns the record at the start, and leaves the bytes after the record.
 abbrev pub GivesRecord : {Value : Type 0} → RecordTable Value → List ℕ → Option Value → List ℕ
     → Type 0
 GivesRecord layout left given later =

@@ -1,4 +1,4 @@
--- The options of a socket, in INET_DIAG_SOCKOPT.
+-- The options of an IPv4 or IPv6 socket, in INET_DIAG_SOCKOPT.
 use Rattle.std.specs.Prelude.{⊤, ℕ, [], ◌∷◌, slice_index}
 use Rattle.sock_diag_extras.specs.RecordTable.{RecordTable}
 use Rattle.sock_diag_extras.specs.declared.options.SocketOption.{SocketOption}
@@ -6,7 +6,8 @@ use Rattle.sock_diag_extras.specs.declared.options.SocketOption.TheVariants as o
 use Rattle.sock_diag_extras.specs.declared.options.SocketOptions.{SocketOptions}
 use Rattle.netlink_core.specs.Rows.{u16}
 
--- `struct inet_diag_sockopt` (linux/inet_diag.h), two bytes of bits as one little-endian number
+-- `struct inet_diag_sockopt` (linux/inet_diag.h): two bytes of bit fields as one little-endian
+-- number.
 abbrev pub socket_options : RecordTable SocketOptions
 socket_options = record {
   size = 2;
@@ -15,7 +16,8 @@ socket_options = record {
   is_shaped = λ v. ⊤;
 }
 
--- the bit of an option, from the least significant bit of the first byte
+-- The index of an option's bit, in the order of the C struct's members. Bits 0 to 7 are the first
+-- byte, from its least significant bit on, and bits 8 to 10 are in the second.
 abbrev pub bit_of : SocketOption → ℕ
 bit_of option.RecvErr = 0
 bit_of option.IsIcsk = 1

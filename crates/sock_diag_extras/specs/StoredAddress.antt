@@ -1,4 +1,4 @@
--- An address in INET_DIAG_LOCALS or INET_DIAG_PEERS, 128 bytes.
+-- An address of an SCTP association in INET_DIAG_LOCALS or INET_DIAG_PEERS, 128 bytes.
 use Rattle.std.specs.Prelude.{◌≡◌, ◌==◌, if◌then◌else◌, [], ◌∷◌, length, take, drop, slice_index}
 use Rattle.std.specs.Prelude.{Option, Some, None}
 use Rattle.std.specs.declared.net.ip_addr.IpAddr.{IpAddr}
@@ -7,8 +7,11 @@ use Rattle.sock_diag_extras.specs.RecordTable.{RecordTable}
 use Rattle.sock_diag_extras.specs.declared.stored_address.StoredAddress.{StoredAddress}
 use Rattle.netlink_core.specs.Rows.{u16, u32, be16, be16s, u8s}
 
--- `struct sockaddr_storage` (linux/socket.h) that contains a `struct sockaddr_in` (ip(7)) or a
--- `struct sockaddr_in6` (ipv6(7)), and the bytes after it
+-- `struct sockaddr_storage` (linux/socket.h). By the family it starts with one of two structs:
+-- `struct sockaddr_in` (ip(7)) with `sin_port` at 2 and `sin_addr` at 4; or `struct sockaddr_in6`
+-- (ipv6(7)) with `sin6_port` at 2, `sin6_flowinfo` at 4, `sin6_addr` at 8 and `sin6_scope_id` at
+-- 24. Of the numbers in the rows, 2 to 5 are `front`, 6 to 13 are `segments`, and the last 100 are
+-- `rest`.
 abbrev pub stored_address : RecordTable StoredAddress
 stored_address = record {
   size = 128;
@@ -30,7 +33,7 @@ stored_address = record {
   is_shaped = λ v. (length v.front ≡ 4) × (length v.segments ≡ 8) × (length v.rest ≡ 100);
 }
 
--- the IP address of the families 2 and 10, AF_INET and AF_INET6
+-- The IP address, if the family is 2 (AF_INET) or 10 (AF_INET6).
 abbrev pub ip_of : StoredAddress → Option IpAddr
 ip_of a =
     if a.family == 2 then Some (V4 record { octets = a.front })

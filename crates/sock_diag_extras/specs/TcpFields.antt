@@ -1,11 +1,14 @@
--- The fields of `struct tcp_info` of linux/tcp.h, as Linux 6.18 has them.
+-- The fields of `struct tcp_info` of linux/tcp.h, as Linux 6.18 defines them: 280 bytes. The field
+-- `LastDataSent` is the member `tcpi_last_data_sent`, and so on.
 use Rattle.std.specs.Prelude.{ℕ, ◌+◌, ◌==◌, if◌then◌else◌, List, [], ◌∷◌, drop}
 use Rattle.byteorder.specs.Endian.{little_number}
 use Rattle.netlink_core.specs.Table.{Field, byte, number}
 use Rattle.sock_diag_extras.specs.declared.tcp_info.TcpField.{TcpField}
 use Rattle.sock_diag_extras.specs.declared.tcp_info.TcpField.TheVariants as field
 
--- where a field stands, and how many bytes it has
+-- The offset of a field and its width, both in bytes. Two fields are bytes of bit fields: `Wscale`
+-- contains `tcpi_snd_wscale` and `tcpi_rcv_wscale`, and `DeliveryRateAppLimited` contains
+-- `tcpi_delivery_rate_app_limited` and `tcpi_fastopen_client_fail`.
 abbrev pub span_of : TcpField → ℕ × ℕ
 span_of field.State = (0, 1)
 span_of field.CaState = (1, 1)
@@ -76,20 +79,21 @@ span_of field.ReceivedCeBytes = (272, 4)
 span_of field.AccecnFailMode = (276, 2)
 span_of field.AccecnOptSeen = (278, 2)
 
--- where it ends
+-- The offset of the end of a field: of the byte after it.
 abbrev pub end_of : TcpField → ℕ
 end_of f = (span_of f).0 + (span_of f).1
 
--- the field of a table that it is
+-- The field as a field of a record's layout: a byte if it has one byte, else a little-endian
+-- number.
 abbrev pub row_of : TcpField → Field
 row_of f =
     if (span_of f).1 == 1 then byte (span_of f).0 else number (span_of f).0 (span_of f).1
 
--- its number in bytes that have all of it
+-- The value of a field in bytes that contain all of it: a little-endian number.
 abbrev pub value_of : TcpField → List ℕ → ℕ
 value_of f bytes = little_number (span_of f).1 (drop (span_of f).0 bytes)
 
--- the fields that the port reads, in order
+-- The fields of the port's `TcpInfo`, in order: offsets 0 to 231.
 abbrev pub first_fields : List TcpField
 first_fields =
     field.State ∷ field.CaState ∷ field.Retransmits ∷ field.Probes ∷ field.Backoff ∷
@@ -105,7 +109,7 @@ first_fields =
     field.BytesSent ∷ field.BytesRetrans ∷ field.DsackDups ∷ field.ReordSeen ∷ field.RcvOoopack
     ∷ field.SndWnd ∷ []
 
--- those behind them, in order
+-- The fields that follow them, in order: offsets 232 to 279.
 abbrev pub later_fields : List TcpField
 later_fields =
     field.RcvWnd ∷ field.Rehash ∷ field.TotalRto ∷ field.TotalRtoRecoveries ∷ field.TotalRtoTime

@@ -1,6 +1,6 @@
--- The fields of the upper-layer protocols of a TCP socket: for each its attribute type, by
--- linux/tls.h and linux/mptcp.h, and its width in bytes, as the kernel's `tls_get_info` and
--- `subflow_get_info` put them.
+-- The fields of the upper layer protocols of a TCP socket. Each has an attribute type, defined in
+-- linux/tls.h or linux/mptcp.h, and a width in bytes, which the kernel's functions `tls_get_info`
+-- and `subflow_get_info` determine.
 use Rattle.std.specs.Prelude.{ℕ}
 use Rattle.sock_diag_extras.specs.declared.constants.TheConstants.{TLS_INFO_VERSION}
 use Rattle.sock_diag_extras.specs.declared.constants.TheConstants.{TLS_INFO_CIPHER}
@@ -21,14 +21,14 @@ use Rattle.sock_diag_extras.specs.declared.ulp_info.SubflowField.TheVariants as 
 use Rattle.sock_diag_extras.specs.declared.ulp_info.TlsField.{TlsField}
 use Rattle.sock_diag_extras.specs.declared.ulp_info.TlsField.TheVariants as tls
 
--- TLS_INFO_..
+-- The attribute type (TLS_INFO_..) of a field and its width in bytes.
 abbrev pub tls_row : TlsField → ℕ × ℕ
 tls_row tls.Version = (TLS_INFO_VERSION, 2)
 tls_row tls.Cipher = (TLS_INFO_CIPHER, 2)
 tls_row tls.Sending = (TLS_INFO_TXCONF, 2)
 tls_row tls.Receiving = (TLS_INFO_RXCONF, 2)
 
--- MPTCP_SUBFLOW_ATTR_..
+-- The attribute type (MPTCP_SUBFLOW_ATTR_..) of a field and its width in bytes.
 abbrev pub subflow_row : SubflowField → ℕ × ℕ
 subflow_row subflow.RemoteToken = (MPTCP_SUBFLOW_ATTR_TOKEN_REM, 4)
 subflow_row subflow.LocalToken = (MPTCP_SUBFLOW_ATTR_TOKEN_LOC, 4)

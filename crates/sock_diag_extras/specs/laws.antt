@@ -1,2 +1,2 @@
--- Lemmas about the definitions, and what the lemmas need.
+-- Lemmas about the definitions.
 pub mod EqualTcpField

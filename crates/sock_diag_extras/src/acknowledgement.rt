@@ -1,5 +1,5 @@
-//! What an error, an acknowledgement or the end of a dump tells beside its number: the request that
-//! it answers, and the attributes of an extended acknowledgement.
+//! The payload of an error, of an acknowledgement or of the end of a dump: the error number, the
+//! request that it answers, and the attributes of an extended acknowledgement.
 
 ghost use Rattle.std.specs.Prelude.{◌≡◌, ◌≤◌, ◌<◌, ◌^◌, ◌↔◌, [], length, IfErr, IfOk, IfSome};
 ghost use Rattle.std.specs.Prelude.{IsSome, None, Some, SomeIff, option_map};
@@ -27,14 +27,14 @@ use crate::nested::NestedNlas;
 use byteorder::{ByteOrder, LittleEndian};
 use netlink_core::{DecodeError, NETLINK_HEADER_LEN, NetlinkHeader, error_number, padded};
 
-/// The payload of `NLMSG_ERROR` or `NLMSG_DONE`, read in place by the flags of the message's
-/// header. It takes no memory.
+/// The borrowed payload of an `NLMSG_ERROR` or `NLMSG_DONE`. The flags of the message's header
+/// determine its format. It does not allocate.
 #[derive(Clone, Copy, Debug, PartialEq, Eq)]
 pub struct AckView<'a> {
     number: i32,
-    // The request's header and what follows it, or nothing.
+    // The header of the request and what was sent of its payload. Empty for an `NLMSG_DONE`.
     request: &'a [u8],
-    // The attributes' bytes, which are not checked.
+    // The bytes of the attributes; their framing is not checked.
     attributes: &'a [u8],
 }
 
@@ -70,8 +70,9 @@ impl<'a> AckView<'a> {
         })
     }
 
-    /// What a message of the type `NLMSG_DONE` tells: four bytes of the number, and attributes,
-    /// where the flags have `NLM_F_ACK_TLVS`. `None` where there are fewer than four bytes.
+    /// Returns the parts of an `NLMSG_DONE` payload: four bytes of the error number, and
+    /// attributes, if the flags have `NLM_F_ACK_TLVS`. Returns `None` if there are fewer than four
+    /// bytes.
     pub fn of_done(flags: u16, payload: &'a [u8]) -> Option<AckView<'a>>
         ensures number { option_map ack_number result ≡ leading_number payload.entry.now }
         ensures request { IfSome result (λ ack. ack_request ack ≡ []) }
@@ -85,22 +86,23 @@ impl<'a> AckView<'a> {
         })
     }
 
-    /// 0 where all went well, else `-errno` (errno(3)).
+    /// Returns the error number: 0 for success, else `-errno` (errno(3)).
     pub fn number(&self) -> i32
         ensures { result ≡ ack_number self.now }
     {
         self.number
     }
 
-    /// The bytes of the request, from its header on, as far as they were sent back. An offset
-    /// counts from the first of them. The end of a dump has none.
+    /// Returns the bytes of the request that the message contains, starting with its header. There
+    /// are none for the end of a dump. Offsets in the attributes count from the first of these
+    /// bytes.
     pub fn request(&self) -> &'a [u8]
         ensures { result.now ≡ ack_request self.now }
     {
         self.request
     }
 
-    /// The header of the request. The end of a dump has none.
+    /// Returns the header of the request, or `None` for the end of a dump.
     pub fn request_header(&self) -> Option<NetlinkHeader>
         ensures { SomeIff (option_map header_values result) (16 ≤ length (ack_request self.now))
             (values_of header_fields (ack_request self.now)) }
@@ -117,7 +119,7 @@ impl<'a> AckView<'a> {
         })
     }
 
-    /// What the attributes `NLMSGERR_ATTR_..` tell. The first fault of their framing refuses them.
+    /// Returns the attributes `NLMSGERR_ATTR_..`, or their first framing error.
     pub fn attributes(&self) -> Result<AckAttributes<'a>, DecodeError>
         ensures kept { IfOk result (λ told. nested_bytes told.0 ≡ ack_attributes self.now) }
         ensures fault { IfErr result (AttributeFault (decodes []) (ack_attributes self.now)) }
@@ -126,13 +128,14 @@ impl<'a> AckView<'a> {
     }
 }
 
-/// The attributes of an extended acknowledgement, `NLMSGERR_ATTR_..` of `linux/netlink.h`, of which
-/// each getter takes the first of its kind.
+/// The attributes of an extended acknowledgement, `NLMSGERR_ATTR_..` of `linux/netlink.h`,
+/// borrowed. Each getter uses the first attribute of its kind, and returns `None` if there is none.
 #[derive(Clone, Copy, Debug, PartialEq, Eq)]
 pub struct AckAttributes<'a>(pub NestedNlas<'a>);
 
 impl<'a> AckAttributes<'a> {
-    /// What went wrong, or a warning, `NLMSGERR_ATTR_MSG`. What is not UTF-8 is `NotUtf8`.
+    /// Returns the error message or warning, `NLMSGERR_ATTR_MSG`. Text that is not valid UTF-8 is
+    /// `NotUtf8`.
     pub fn message(&self) -> Result<Option<&'a str>, DecodeError>
         ensures { map_ok (option_map (λ text. text.now)) result
             ≡ within text_in (first_in NLMSGERR_ATTR_MSG (nested_bytes self.now.0)) }
@@ -140,8 +143,8 @@ impl<'a> AckAttributes<'a> {
         self.0.text_of(NLMSGERR_ATTR_MSG)
     }
 
-    /// Where the attribute at fault stands, counted from the first byte of the request's header,
-    /// `NLMSGERR_ATTR_OFFS`. Other than four bytes are `WrongLength`.
+    /// Returns the offset of the invalid attribute in bytes, from the first byte of the request's
+    /// header, `NLMSGERR_ATTR_OFFS`. A length other than 4 is `WrongLength`.
     pub fn offset(&self) -> Result<Option<u32>, DecodeError>
         ensures { result
             ≡ within (exact_number None 4) (first_in NLMSGERR_ATTR_OFFS (nested_bytes self.now.0)) }
@@ -149,7 +152,7 @@ impl<'a> AckAttributes<'a> {
         self.0.word_of(NLMSGERR_ATTR_OFFS)
     }
 
-    /// What the part of the kernel has to say, `NLMSGERR_ATTR_COOKIE`.
+    /// Returns the cookie, `NLMSGERR_ATTR_COOKIE`. Its format depends on the kernel's subsystem.
     pub fn cookie(&self) -> Option<&'a [u8]>
         ensures { option_map (λ value. value.now) result
             ≡ first_in NLMSGERR_ATTR_COOKIE (nested_bytes self.now.0) }
@@ -157,7 +160,8 @@ impl<'a> AckAttributes<'a> {
         self.0.value_of(NLMSGERR_ATTR_COOKIE)
     }
 
-    /// What the attribute at fault may be, as attributes, `NLMSGERR_ATTR_POLICY`.
+    /// Returns the policy of the rejected attribute, `NLMSGERR_ATTR_POLICY`: the bytes of nested
+    /// attributes.
     pub fn policy(&self) -> Option<&'a [u8]>
         ensures { option_map (λ value. value.now) result
             ≡ first_in NLMSGERR_ATTR_POLICY (nested_bytes self.now.0) }
@@ -165,8 +169,8 @@ impl<'a> AckAttributes<'a> {
         self.0.value_of(NLMSGERR_ATTR_POLICY)
     }
 
-    /// The kind of the attribute that is missing, `NLMSGERR_ATTR_MISS_TYPE`. Other than four bytes
-    /// are `WrongLength`.
+    /// Returns the kind of a required attribute that is missing, `NLMSGERR_ATTR_MISS_TYPE`. A
+    /// length other than 4 is `WrongLength`.
     pub fn missing_kind(&self) -> Result<Option<u32>, DecodeError>
         ensures { result
             ≡ within (exact_number None 4)
@@ -175,9 +179,9 @@ impl<'a> AckAttributes<'a> {
         self.0.word_of(NLMSGERR_ATTR_MISS_TYPE)
     }
 
-    /// Where the attribute stands in which it is missing, counted as `offset`, of
-    /// `NLMSGERR_ATTR_MISS_NEST`. There is none where it is missing in the message itself. Other
-    /// than four bytes are `WrongLength`.
+    /// Returns the offset of the nest in which the attribute is missing, from the first byte of the
+    /// request's header, `NLMSGERR_ATTR_MISS_NEST`. The kernel does not send it if the attribute is
+    /// missing in the message itself. A length other than 4 is `WrongLength`.
     pub fn missing_nest(&self) -> Result<Option<u32>, DecodeError>
         ensures { result
             ≡ within (exact_number None 4)
@@ -187,7 +191,7 @@ impl<'a> AckAttributes<'a> {
     }
 }
 
-// How many bytes of the request stand behind the number.
+// Returns the length of the request in an `NLMSG_ERROR` payload, in bytes.
 fn held_length(flags: u16, payload: &[u8]) -> usize
     requires { 20 ≤ length payload.now }
     ensures length { result ≡ request_length flags payload.now }
@@ -200,7 +204,8 @@ fn held_length(flags: u16, payload: &[u8]) -> usize
     }
 }
 
-// The attributes behind so many bytes, where the flags tell of some.
+// Returns the bytes of the attributes, from offset `front` on, or none if the flags lack
+// `NLM_F_ACK_TLVS`.
 fn told_behind(flags: u16, front: usize, payload: &[u8]) -> &[u8]
     ensures { result.now ≡ attributes_behind flags front payload.entry.now }
 {

@@ -1,8 +1,8 @@
-//! Parts of bytes.
+//! Suffixes of bytes.
 
 ghost use Rattle.std.specs.Prelude.{◌≡◌, drop};
 
-/// What stands behind the first so many bytes: nothing where there are fewer.
+/// Returns the bytes after the first `count` bytes, or no bytes if there are fewer than `count`.
 pub(crate) fn bytes_behind(bytes: &[u8], count: usize) -> &[u8]
     ensures { result.now ≡ drop count bytes.entry.now }
 {

@@ -1,5 +1,6 @@
-//! What algorithms of congestion control tell of a TCP connection: INET_DIAG_VEGASINFO,
-//! INET_DIAG_DCTCPINFO and INET_DIAG_BBRINFO. Which one comes is told by INET_DIAG_CONG.
+//! Measurements of congestion control algorithms for a TCP connection: INET_DIAG_VEGASINFO,
+//! INET_DIAG_DCTCPINFO and INET_DIAG_BBRINFO. The algorithm, whose name INET_DIAG_CONG contains,
+//! determines which of them the kernel sends.
 
 ghost use Rattle.std.specs.Prelude.{refl};
 ghost use Rattle.netlink_core.proofs.LayoutLaws.{plain_sound, record_laws};
@@ -10,17 +11,17 @@ use crate::record::AttributeRecord;
 use byteorder::{ByteOrder, LittleEndian};
 use netlink_core::fields::{long_words_at, words_at};
 
-/// What TCP Vegas measures, and other algorithms that tell alike: `struct tcpvegas_info` of
-/// `linux/inet_diag.h`. It is 16 bytes, each word a `u32`, low byte first.
+/// The measurements of TCP Vegas, and of other algorithms that report in the same format:
+/// `struct tcpvegas_info` of `linux/inet_diag.h`, 16 bytes, four little-endian `u32` fields.
 #[derive(Clone, Copy, Debug, PartialEq, Eq)]
 pub struct VegasInfo {
-    /// Whether it is in use, `tcpv_enabled`, at 0: 0 for no.
+    /// Whether the algorithm is in use, `tcpv_enabled`, at offset 0: 0 for no.
     pub enabled: u32,
-    /// How many round trips were measured, `tcpv_rttcnt`, at 4.
+    /// Number of round trips measured, `tcpv_rttcnt`, at offset 4.
     pub rtt_count: u32,
-    /// The round trip's time, `tcpv_rtt`, at 8, in microseconds.
+    /// Round-trip time, `tcpv_rtt`, at offset 8, in microseconds.
     pub rtt: u32,
-    /// The shortest round trip's time, `tcpv_minrtt`, at 12, in microseconds.
+    /// Minimum round-trip time, `tcpv_minrtt`, at offset 12, in microseconds.
     pub min_rtt: u32,
 }
 
@@ -50,19 +51,20 @@ impl AttributeRecord for VegasInfo {
         (λ _. refl) (λ _. tt) (λ _ _. refl)) };
 }
 
-/// What DCTCP measures: `struct tcp_dctcp_info` of `linux/inet_diag.h`. It is 16 bytes, low byte
-/// first.
+/// The measurements of DCTCP: `struct tcp_dctcp_info` of `linux/inet_diag.h`, 16 bytes,
+/// little-endian.
 #[derive(Clone, Copy, Debug, PartialEq, Eq)]
 pub struct DctcpInfo {
-    /// Whether it is in use, `dctcp_enabled`, at 0: 0 for no.
+    /// Whether the algorithm is in use, `dctcp_enabled`, at offset 0: 0 for no.
     pub enabled: u16,
-    /// Whether the last segment came marked for congestion, `dctcp_ce_state`, at 2: 0 for no.
+    /// Whether the last received segment had the ECN mark CE, `dctcp_ce_state`, at offset 2: 0 for
+    /// no.
     pub ce_state: u16,
-    /// The part of the bytes that is marked, `dctcp_alpha`, at 4, in 1024ths.
+    /// Estimated fraction of the bytes that are marked, `dctcp_alpha`, at offset 4, in 1024ths.
     pub alpha: u32,
-    /// How many bytes the peer told to be marked, `dctcp_ab_ecn`, at 8.
+    /// Number of acknowledged bytes that the peer reported as marked, `dctcp_ab_ecn`, at offset 8.
     pub marked_bytes: u32,
-    /// How many bytes were acknowledged, `dctcp_ab_tot`, at 12.
+    /// Number of acknowledged bytes, `dctcp_ab_tot`, at offset 12.
     pub acked_bytes: u32,
 }
 
@@ -95,16 +97,18 @@ impl AttributeRecord for DctcpInfo {
         (λ _. refl) (λ _. tt) (λ _ _. refl)) };
 }
 
-/// What BBR measures: `struct tcp_bbr_info` of `linux/inet_diag.h`. It is 20 bytes, low byte first.
+/// The measurements of BBR: `struct tcp_bbr_info` of `linux/inet_diag.h`, 20 bytes, little-endian.
 #[derive(Clone, Copy, Debug, PartialEq, Eq)]
 pub struct BbrInfo {
-    /// The bandwidth, `bbr_bw_lo` at 0 and `bbr_bw_hi` at 4, in bytes a second.
+    /// Estimated bandwidth, in bytes per second: `bbr_bw_lo`, at offset 0, is its low half, and
+    /// `bbr_bw_hi`, at offset 4, its high half.
     pub bandwidth: u64,
-    /// The shortest round trip's time, `bbr_min_rtt`, at 8, in microseconds.
+    /// Minimum round-trip time, `bbr_min_rtt`, at offset 8, in microseconds.
     pub min_rtt: u32,
-    /// By how much the rate is above the bandwidth, `bbr_pacing_gain`, at 12, in 256ths.
+    /// Factor from the bandwidth to the pacing rate, `bbr_pacing_gain`, at offset 12, in 256ths.
     pub pacing_gain: u32,
-    /// By how much the window is above what fills the path, `bbr_cwnd_gain`, at 16, in 256ths.
+    /// Factor from the bandwidth-delay product to the congestion window, `bbr_cwnd_gain`, at offset
+    /// 16, in 256ths.
     pub window_gain: u32,
 }
 

@@ -1,29 +1,31 @@
-//! The numbers of sock_diag(7) and netlink(7) that the port lacks, under the kernel's names: those
-//! of `linux/inet_diag.h`, `linux/unix_diag.h`, `linux/sock_diag.h`, `linux/netlink.h`,
+//! The constants of sock_diag(7) and netlink(7) that the port lacks, under the kernel's names. They
+//! are from `linux/inet_diag.h`, `linux/unix_diag.h`, `linux/sock_diag.h`, `linux/netlink.h`,
 //! `linux/tcp.h`, `linux/tls.h` and `linux/mptcp.h`. `tests/kernel_headers.py` compares them with
-//! headers.
+//! these headers.
 
 ghost use Rattle.std.specs.Prelude.{[], ◌∷◌};
 ghost use Rattle.sock_diag_records.specs.Constants.{AreEqual};
 
-// ---- kinds of attributes of IPv4 and IPv6 sockets that the port lacks
+// ---- kinds of attributes that the port lacks, and the flag that requests one of them
 
-/// What stands on TCP, as TLS or MPTCP: attributes `INET_ULP_INFO_..`.
+/// Kind of the attribute of the upper layer protocol on TCP (ULP), such as TLS or MPTCP: nested
+/// attributes `INET_ULP_INFO_..`.
 pub const INET_DIAG_ULP_INFO: u16 = 19;
 
-/// What BPF programs keep of the socket: attributes `SK_DIAG_BPF_STORAGE`.
+/// Kind of the attribute of the local storage of BPF programs for the socket: nested attributes
+/// `SK_DIAG_BPF_STORAGE`.
 pub const INET_DIAG_SK_BPF_STORAGES: u16 = 20;
 
-/// The control group of the socket: `parse_cgroup_id`.
+/// Kind of the attribute with the id of the socket's control group: see `parse_cgroup_id`.
 pub const INET_DIAG_CGROUP_ID: u16 = 21;
 
-/// Options of the socket: `SocketOptions`.
+/// Kind of the attribute with the options of the socket: see `SocketOptions`.
 pub const INET_DIAG_SOCKOPT: u16 = 22;
 
-/// The user that a UNIX socket was made by: `parse_uid`.
+/// Kind of the attribute with the id of the user who created the UNIX socket: see `parse_uid`.
 pub const UNIX_DIAG_UID: u16 = 7;
 
-/// Asks for `UNIX_DIAG_UID`.
+/// Flag of a UNIX request: requests `UNIX_DIAG_UID`.
 pub const UDIAG_SHOW_UID: u32 = 64;
 
 // ---- attributes in INET_DIAG_ULP_INFO
@@ -31,13 +33,13 @@ pub const UDIAG_SHOW_UID: u32 = 64;
 /// No attribute.
 pub const INET_ULP_INFO_UNSPEC: u16 = 0;
 
-/// The name of what stands on TCP, with an end zero.
+/// The name of the upper layer protocol, with a terminating NUL.
 pub const INET_ULP_INFO_NAME: u16 = 1;
 
-/// What TLS in the kernel tells, as attributes.
+/// Information about TLS in the kernel: nested attributes `TLS_INFO_..`.
 pub const INET_ULP_INFO_TLS: u16 = 2;
 
-/// What a subflow of MPTCP tells, as attributes.
+/// Information about a subflow of MPTCP: nested attributes `MPTCP_SUBFLOW_ATTR_..`.
 pub const INET_ULP_INFO_MPTCP: u16 = 3;
 
 // ---- attributes in INET_ULP_INFO_TLS
@@ -45,22 +47,22 @@ pub const INET_ULP_INFO_MPTCP: u16 = 3;
 /// No attribute.
 pub const TLS_INFO_UNSPEC: u16 = 0;
 
-/// The version.
+/// The TLS version.
 pub const TLS_INFO_VERSION: u16 = 1;
 
-/// The cipher.
+/// The cipher: one of `TLS_CIPHER_..`.
 pub const TLS_INFO_CIPHER: u16 = 2;
 
-/// How what is sent is encrypted.
+/// How sent data is encrypted: one of `TLS_CONF_..`.
 pub const TLS_INFO_TXCONF: u16 = 3;
 
-/// How what comes is decrypted.
+/// How received data is decrypted: one of `TLS_CONF_..`.
 pub const TLS_INFO_RXCONF: u16 = 4;
 
-/// There where files are sent without a copy.
+/// Present if files are sent without a copy.
 pub const TLS_INFO_ZC_RO_TX: u16 = 5;
 
-/// There where records are taken to come without padding.
+/// Present if received records are expected to have no padding.
 pub const TLS_INFO_RX_NO_PAD: u16 = 6;
 
 // ---- attributes in INET_ULP_INFO_MPTCP
@@ -68,190 +70,193 @@ pub const TLS_INFO_RX_NO_PAD: u16 = 6;
 /// No attribute.
 pub const MPTCP_SUBFLOW_ATTR_UNSPEC: u16 = 0;
 
-/// The token at the other end.
+/// Token of the connection at the remote end.
 pub const MPTCP_SUBFLOW_ATTR_TOKEN_REM: u16 = 1;
 
-/// The token at this end.
+/// Token of the connection at the local end.
 pub const MPTCP_SUBFLOW_ATTR_TOKEN_LOC: u16 = 2;
 
-/// How far was written.
+/// Relative sequence number of the data written to the subflow.
 pub const MPTCP_SUBFLOW_ATTR_RELWRITE_SEQ: u16 = 3;
 
-/// Where in the connection the mapped data begins.
+/// Sequence number in the connection at which the mapped data starts.
 pub const MPTCP_SUBFLOW_ATTR_MAP_SEQ: u16 = 4;
 
-/// Where in the subflow it begins.
+/// Sequence number in the subflow at which the mapped data starts.
 pub const MPTCP_SUBFLOW_ATTR_MAP_SFSEQ: u16 = 5;
 
-/// The subflow's first sequence number.
+/// First sequence number of the subflow.
 pub const MPTCP_SUBFLOW_ATTR_SSN_OFFSET: u16 = 6;
 
-/// How many bytes are mapped.
+/// Length of the mapped data, in bytes.
 pub const MPTCP_SUBFLOW_ATTR_MAP_DATALEN: u16 = 7;
 
-/// Bits of the subflow.
+/// Flags of the subflow: bits `MPTCP_SUBFLOW_FLAG_..`.
 pub const MPTCP_SUBFLOW_ATTR_FLAGS: u16 = 8;
 
-/// The address's number at the other end.
+/// Id of the remote address.
 pub const MPTCP_SUBFLOW_ATTR_ID_REM: u16 = 9;
 
-/// The address's number at this end.
+/// Id of the local address.
 pub const MPTCP_SUBFLOW_ATTR_ID_LOC: u16 = 10;
 
 /// Padding.
 pub const MPTCP_SUBFLOW_ATTR_PAD: u16 = 11;
 
-// ---- attributes behind an InetRequest
+// ---- attributes after the `struct inet_diag_req_v2` of a request
 
 /// No attribute.
 pub const INET_DIAG_REQ_NONE: u16 = 0;
 
-/// A filter, as operations `INET_DIAG_BC_..`.
+/// A filter: operations `INET_DIAG_BC_..`.
 pub const INET_DIAG_REQ_BYTECODE: u16 = 1;
 
-/// Which storages of BPF programs to tell.
+/// The maps whose BPF storages are requested: nested attributes
+/// `SK_DIAG_BPF_STORAGE_REQ_MAP_FD`.
 pub const INET_DIAG_REQ_SK_BPF_STORAGES: u16 = 2;
 
-/// A protocol of 32 bits, as MPTCP has.
+/// The protocol as a `u32`, for a protocol above 255 such as `IPPROTO_MPTCP`.
 pub const INET_DIAG_REQ_PROTOCOL: u16 = 3;
 
-// ---- operations of a filter
+// ---- codes of the operations of a filter (`code` of `struct inet_diag_bc_op`)
 
-/// Nothing is tested.
+/// Does not test anything.
 pub const INET_DIAG_BC_NOP: u8 = 0;
 
-/// Goes on elsewhere.
+/// Jumps unconditionally.
 pub const INET_DIAG_BC_JMP: u8 = 1;
 
-/// The source port is at least so much.
+/// Tests that the source port is at least a given port.
 pub const INET_DIAG_BC_S_GE: u8 = 2;
 
-/// The source port is at most so much.
+/// Tests that the source port is at most a given port.
 pub const INET_DIAG_BC_S_LE: u8 = 3;
 
-/// The destination port is at least so much.
+/// Tests that the destination port is at least a given port.
 pub const INET_DIAG_BC_D_GE: u8 = 4;
 
-/// The destination port is at most so much.
+/// Tests that the destination port is at most a given port.
 pub const INET_DIAG_BC_D_LE: u8 = 5;
 
-/// The port was chosen by the kernel.
+/// Tests that the kernel chose the source port.
 pub const INET_DIAG_BC_AUTO: u8 = 6;
 
-/// The source address begins so.
+/// Tests the source address by a prefix, and optionally the source port:
+/// `struct inet_diag_hostcond`.
 pub const INET_DIAG_BC_S_COND: u8 = 7;
 
-/// The destination address begins so.
+/// Tests the destination address by a prefix, and optionally the destination port:
+/// `struct inet_diag_hostcond`.
 pub const INET_DIAG_BC_D_COND: u8 = 8;
 
-/// The socket is bound to this interface.
+/// Tests that the socket is bound to a given interface.
 pub const INET_DIAG_BC_DEV_COND: u8 = 9;
 
-/// The mark, under a mask, is this one.
+/// Tests that the socket's mark, under a mask, has a given value: `struct inet_diag_markcond`.
 pub const INET_DIAG_BC_MARK_COND: u8 = 10;
 
-/// The source port is this one.
+/// Tests that the source port is a given port.
 pub const INET_DIAG_BC_S_EQ: u8 = 11;
 
-/// The destination port is this one.
+/// Tests that the destination port is a given port.
 pub const INET_DIAG_BC_D_EQ: u8 = 12;
 
-/// The control group is this one.
+/// Tests that the socket's control group has a given id.
 pub const INET_DIAG_BC_CGROUP_COND: u8 = 13;
 
-// ---- words of SK_MEMINFO in INET_DIAG_SKMEMINFO and UNIX_DIAG_MEMINFO
+// ---- indices of the `u32` fields in INET_DIAG_SKMEMINFO and UNIX_DIAG_MEMINFO
 
-/// The data in the receive queue.
+/// Memory allocated for received data (`sk_rmem_alloc`), in bytes.
 pub const SK_MEMINFO_RMEM_ALLOC: u8 = 0;
 
-/// The most that it may take.
+/// Receive buffer limit (`sk_rcvbuf`), in bytes.
 pub const SK_MEMINFO_RCVBUF: u8 = 1;
 
-/// The data that was handed down and not yet freed.
+/// Memory of data committed to the device queue (`sk_wmem_alloc`), in bytes.
 pub const SK_MEMINFO_WMEM_ALLOC: u8 = 2;
 
-/// The most that the send queue may take.
+/// Send buffer limit (`sk_sndbuf`), in bytes.
 pub const SK_MEMINFO_SNDBUF: u8 = 3;
 
-/// The memory that is set aside for later use.
+/// Memory reserved for later use (`sk_forward_alloc`), in bytes.
 pub const SK_MEMINFO_FWD_ALLOC: u8 = 4;
 
-/// The data in the send queue.
+/// Memory of data in the send queue (`sk_wmem_queued`), in bytes.
 pub const SK_MEMINFO_WMEM_QUEUED: u8 = 5;
 
-/// The memory of options.
+/// Memory allocated for socket options (`sk_omem_alloc`), in bytes.
 pub const SK_MEMINFO_OPTMEM: u8 = 6;
 
-/// The data that waits to be taken in.
+/// Size of the backlog, which holds packets that were not processed yet (`sk_backlog`), in bytes.
 pub const SK_MEMINFO_BACKLOG: u8 = 7;
 
-/// How many packets were dropped.
+/// Number of packets dropped (`sk_drops`).
 pub const SK_MEMINFO_DROPS: u8 = 8;
 
-// ---- attributes of storages of BPF programs
+// ---- attributes of the storages of BPF programs, in requests and in replies
 
-/// A map whose storages to tell, by its file descriptor.
+/// In a request: the file descriptor of a map whose storages are requested.
 pub const SK_DIAG_BPF_STORAGE_REQ_MAP_FD: u16 = 1;
 
-/// One storage: attributes `SK_DIAG_BPF_STORAGE_MAP_..`.
+/// In a reply: one storage, as nested attributes `SK_DIAG_BPF_STORAGE_MAP_..`.
 pub const SK_DIAG_BPF_STORAGE: u16 = 1;
 
 /// Padding.
 pub const SK_DIAG_BPF_STORAGE_PAD: u16 = 1;
 
-/// The number of the map.
+/// The id of the map.
 pub const SK_DIAG_BPF_STORAGE_MAP_ID: u16 = 2;
 
-/// The value in the map.
+/// The bytes that the map stores for the socket.
 pub const SK_DIAG_BPF_STORAGE_MAP_VALUE: u16 = 3;
 
-// ---- groups of sockets that are closed, to listen to
+// ---- multicast groups of NETLINK_SOCK_DIAG, which report destroyed sockets
 
 /// No group.
 pub const SKNLGRP_NONE: u32 = 0;
 
-/// TCP over IPv4.
+/// Destroyed TCP sockets of IPv4.
 pub const SKNLGRP_INET_TCP_DESTROY: u32 = 1;
 
-/// UDP over IPv4.
+/// Destroyed UDP sockets of IPv4.
 pub const SKNLGRP_INET_UDP_DESTROY: u32 = 2;
 
-/// TCP over IPv6.
+/// Destroyed TCP sockets of IPv6.
 pub const SKNLGRP_INET6_TCP_DESTROY: u32 = 3;
 
-/// UDP over IPv6.
+/// Destroyed UDP sockets of IPv6.
 pub const SKNLGRP_INET6_UDP_DESTROY: u32 = 4;
 
-// ---- flags of a netlink message
+// ---- flags of a netlink message (`nlmsg_flags`)
 
-/// One of several, which `NLMSG_DONE` ends.
+/// Part of a multipart message, which `NLMSG_DONE` terminates.
 pub const NLM_F_MULTI: u16 = 2;
 
-/// Asks for an acknowledgement.
+/// In a request: requests an acknowledgement.
 pub const NLM_F_ACK: u16 = 4;
 
-/// Asks for what the request brings about.
+/// In a request: requests the notifications that it causes.
 pub const NLM_F_ECHO: u16 = 8;
 
-/// The dump changed while it was read.
+/// In a reply: the dump is inconsistent, since the sockets changed during the dump.
 pub const NLM_F_DUMP_INTR: u16 = 0x10;
 
-/// The dump was filtered as asked.
+/// In a reply: the dump was filtered as requested.
 pub const NLM_F_DUMP_FILTERED: u16 = 0x20;
 
-/// Of a request: all of a tree.
+/// In a request: requests the complete table.
 pub const NLM_F_ROOT: u16 = 0x100;
 
-/// Of a request: all that match.
+/// In a request: requests all entries that match.
 pub const NLM_F_MATCH: u16 = 0x200;
 
-/// Of a request: all at one time.
+/// In a request: requests an atomic snapshot.
 pub const NLM_F_ATOMIC: u16 = 0x400;
 
-/// Of an acknowledgement: it has the header of the request alone.
+/// In an acknowledgement: it contains only the header of the request.
 pub const NLM_F_CAPPED: u16 = 0x100;
 
-/// Of an acknowledgement: attributes `NLMSGERR_ATTR_..` follow.
+/// In an acknowledgement: attributes `NLMSGERR_ATTR_..` follow.
 pub const NLM_F_ACK_TLVS: u16 = 0x200;
 
 // ---- attributes of an acknowledgement
@@ -259,56 +264,59 @@ pub const NLM_F_ACK_TLVS: u16 = 0x200;
 /// No attribute.
 pub const NLMSGERR_ATTR_UNUSED: u16 = 0;
 
-/// What went wrong, as a text with an end zero.
+/// Error message, a text with a terminating NUL.
 pub const NLMSGERR_ATTR_MSG: u16 = 1;
 
-/// Where in the request the attribute at fault stands.
+/// Offset of the invalid attribute, from the first byte of the request's header.
 pub const NLMSGERR_ATTR_OFFS: u16 = 2;
 
-/// What the part of the kernel has to say.
+/// Cookie whose format depends on the kernel's subsystem.
 pub const NLMSGERR_ATTR_COOKIE: u16 = 3;
 
-/// What the attribute at fault may be.
+/// Policy of the rejected attribute: nested attributes.
 pub const NLMSGERR_ATTR_POLICY: u16 = 4;
 
-/// The kind of the attribute that is missing.
+/// Kind of a required attribute that is missing.
 pub const NLMSGERR_ATTR_MISS_TYPE: u16 = 5;
 
-/// Where in the request it is missing.
+/// Offset of the nest in which the attribute is missing, from the first byte of the request's
+/// header.
 pub const NLMSGERR_ATTR_MISS_NEST: u16 = 6;
 
-// ---- netlink sockets
+// ---- netlink sockets: a protocol, socket options, and a message type
 
-/// The protocol of sock_diag(7), for socket(2).
+/// The netlink protocol of sock_diag(7), for socket(2).
 pub const NETLINK_SOCK_DIAG: u8 = 4;
 
-/// Option: acknowledgements without the request.
+/// Socket option: acknowledgements do not contain the request after its header.
 pub const NETLINK_CAP_ACK: u8 = 10;
 
-/// Option: acknowledgements with attributes.
+/// Socket option: acknowledgements contain attributes `NLMSGERR_ATTR_..`.
 pub const NETLINK_EXT_ACK: u8 = 11;
 
-/// Option: requests are checked strictly.
+/// Socket option: requests are checked strictly.
 pub const NETLINK_GET_STRICT_CHK: u8 = 12;
 
-/// The first type of messages that are not of netlink itself.
+/// The lowest message type that is not reserved for control messages of netlink itself.
 pub const NLMSG_MIN_TYPE: u16 = 16;
 
-// ---- newer options of a TCP connection, and the filter state of Linux alone
+// ---- newer bits of `tcpi_options` of `struct tcp_info`, and states of TCP sockets in the kernel
 
-/// Times of segments are in microseconds, since Linux 6.7.
+/// Timestamps of segments are in microseconds. Since Linux 6.7.
 pub const TCPI_OPT_USEC_TS: u8 = 64;
 
-/// It was opened by a fast open that came, since Linux 6.14.
+/// The connection was opened by a received fast open request. Since Linux 6.14.
 pub const TCPI_OPT_TFO_CHILD: u8 = 128;
 
-/// A request to connect came; the kernel tells it as `TCP_SYN_RECV`.
+/// A connection request was received. Replies have `TCP_SYN_RECV` for this state.
 pub const TCP_NEW_SYN_RECV: u8 = 12;
 
-/// Bound and not connected; asked for by this bit, told as 7.
+/// Bound and not connected. A request selects this state by bit 13; replies have the state 7
+/// (`TCP_CLOSE`).
 pub const TCP_BOUND_INACTIVE: u8 = 13;
 
-/// The constants are the numbers of these names. It is for proofs, and does nothing.
+/// States the numeric value of each constant of this module. Proof only: the contract states the
+/// property.
 pub fn extra_constants_have_their_numbers()
     ensures extra_attributes { AreEqual ((INET_DIAG_ULP_INFO, 19) ∷
         (INET_DIAG_SK_BPF_STORAGES, 20) ∷ (INET_DIAG_CGROUP_ID, 21) ∷

@@ -1,4 +1,4 @@
-//! `==` and `clone` of records and of names of fields compare and copy the whole value.
+//! Proof only: `==` and `clone` of records and of field names compare and copy the whole value.
 
 ghost use Rattle.std.proofs.Common.{rules};
 ghost use Rattle.sock_diag_extras.specs.laws.EqualTcpField.{tcp_field_equal};

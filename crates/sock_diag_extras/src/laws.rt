@@ -38,8 +38,8 @@ use sock_diag_attributes::inet::nlas::NlaView as InetNlaView;
 use sock_diag_attributes::unix::nlas::NlaView as UnixNlaView;
 use std::alloc::AllocError;
 
-/// A whole walk gives of each attribute that the bytes are cut into what it says or why it is
-/// refused, in order, and last the fault of the framing, where there is one.
+/// States which items a `LenientNlas` yields until its end: for each attribute that the bytes are
+/// split into, in order, its value or its error; and last the framing error, if there is one.
 pub fn whole_lenient_walk<'a, V: FamilyView<'a>>()
     ensures items { (walk : LenientNlas V) (given : List (Result V Refused))
         → Drains (GivesLeniently V.attribute_set V.model) walk given
@@ -47,8 +47,9 @@ pub fn whole_lenient_walk<'a, V: FamilyView<'a>>()
         (map (model V.attribute_set V.model) given) }
 {}
 
-/// Where nothing is refused a whole walk gives what the strict view does; and where a whole walk
-/// refuses nothing, neither does the strict view.
+/// States that a `LenientNlas` agrees with the strict views. If the bytes have no error, it yields
+/// the value of each attribute. If it yields no error, the bytes decode to the values that it
+/// yields.
 pub fn lenient_walk_of_good_bytes<'a, V: FamilyView<'a>>()
     ensures strict { (walk : LenientNlas V) (given : List (Result V Refused))
         → HasNoFault (decodes V.attribute_set) (lenient_left walk)
@@ -60,8 +61,8 @@ pub fn lenient_walk_of_good_bytes<'a, V: FamilyView<'a>>()
         → AttributesMean (decodes V.attribute_set) (lenient_left walk) (map V.model views) }
 {}
 
-/// The first fields are those of the port's `TcpInfo`, and the later ones stand behind them, one
-/// after the other, up to byte 280.
+/// States that the first fields are the fields of the port's `TcpInfo`, in order, and that the
+/// later fields follow them without gaps, from offset 232 to the end at 280.
 pub fn tcp_fields_are_rows()
     ensures first { map row_of first_fields ≡ table tcp_info tt }
     ensures later { map (λ f. (span_of f).0) later_fields ++ 280 ∷ []
@@ -113,7 +114,7 @@ pub fn lenient_unix_attribute<'a>(
     reply.attributes().next()
 }
 
-/// States that a copy is rejected for the same reason, and that `clone` never fails.
+/// States that a copy has the same attribute and the same error, and that `clone` never fails.
 pub fn copied_refused<'a>(refused: &Refused<'a>) -> Result<Refused<'a>, AllocError>
     ensures ok { IsOk result }
     ensures same { IfOk result (λ copy. refusal_of copy ≡ refusal_of refused.now) }

@@ -1,4 +1,5 @@
-//! A reply of which each attribute is read by itself: one that is refused hides no other.
+//! Lenient replies: each attribute is parsed independently, so that a rejected attribute does not
+//! affect the others.
 
 ghost use Rattle.std.specs.Prelude.{◌≡◌, ◌+◌, ◌/◌, Ok, Err, IfOk, IfErr, IfSome, drop, length};
 ghost use Rattle.std.specs.Prelude.{option_map};
@@ -16,19 +17,19 @@ use sock_diag_records::inet::InetResponseHeader;
 use sock_diag_records::unix::UnixResponseHeader;
 use std::marker::PhantomData;
 
-/// What stands in the place of an attribute and can't be read, and why.
+/// An attribute or bytes that could not be parsed, with the error.
 #[derive(Clone, Copy, Debug)]
 pub enum Refused<'a> {
-    /// An attribute whose value its kind refuses. The walk goes on behind it.
+    /// An attribute whose value is invalid for its kind. The iterator continues after it.
     Attribute(NlaBuffer<'a>, DecodeError),
-    /// Bytes that no attribute begins. Nothing follows.
+    /// Bytes that do not start with an attribute. The iterator ends.
     Framing(DecodeError),
 }
 
 impl<'a> Refused<'a> {
     ghost use Rattle.sock_diag_extras.specs.Lenient.{refusal_of};
 
-    /// Why it is refused.
+    /// Returns the error.
     pub fn fault(&self) -> DecodeError
         ensures { result ≡ (refusal_of self.now).fault }
     {
@@ -37,8 +38,8 @@ impl<'a> Refused<'a> {
         }
     }
 
-    /// The attribute that is refused: `kind()` is its type word without the two flag bits, and
-    /// `value()` its bytes. There is none where the framing is at fault.
+    /// Returns the rejected attribute: `kind()` is its type field without the two flag bits, and
+    /// `value()` its bytes. Returns `None` for a framing error.
     pub fn attribute(&self) -> Option<NlaBuffer<'a>>
         ensures { option_map attribute_of result ≡ (refusal_of self.now).attribute }
     {
@@ -48,7 +49,7 @@ impl<'a> Refused<'a> {
         }
     }
 
-    /// The kind of the attribute that is refused.
+    /// Returns the kind of the rejected attribute, or `None` for a framing error.
     pub fn kind(&self) -> Option<u16>
         ensures { result ≡ option_map attribute_type (refusal_of self.now).attribute }
     {
@@ -59,10 +60,10 @@ impl<'a> Refused<'a> {
     }
 }
 
-/// The attributes in bytes, in the order that they came, each read by itself.
+/// An iterator over the attributes in bytes, in order, each parsed independently.
 ///
-/// One that is refused is given with its bytes and its fault, and the walk goes on. Where the
-/// framing is at fault that is given, and then nothing. It takes no memory.
+/// For a rejected attribute it yields the attribute and its error, and continues. A framing error
+/// is yielded last. The iterator does not allocate.
 #[derive(Drop)]
 pub struct LenientNlas<'a, V> {
     walk: NlasIterator<'a>,
@@ -70,7 +71,7 @@ pub struct LenientNlas<'a, V> {
 }
 
 impl<'a, V> LenientNlas<'a, V> {
-    /// The walk over these bytes.
+    /// Returns an iterator over the attributes in the bytes.
     pub fn new(bytes: &'a [u8]) -> LenientNlas<'a, V>
         ensures { lenient_left result ≡ bytes.entry.now }
     {
@@ -86,8 +87,9 @@ impl<'a, V: FamilyView<'a>> Iterator for LenientNlas<'a, V> {
 
     type Item = Result<V, Refused<'a>>;
 
-    // A step gives what the first attribute of what was left decodes to, or why it is refused, and
-    // what follows its padding is left then. Or it gives the framing fault, and nothing is left.
+    // `next` yields the value of the first attribute in the bytes left, or its error, and leaves
+    // the bytes after its padding. If no attribute is there, it yields the framing error, and
+    // leaves no bytes.
     ghost next_gives = { GivesLeniently V.attribute_set V.model };
 
     // At most one item for each four bytes, rounded up.
@@ -105,7 +107,7 @@ impl<'a, V: FamilyView<'a>> Iterator for LenientNlas<'a, V> {
         })
     }
 
-    /// How many are left is told by the walk alone.
+    /// Returns `(0, None)`: the number of attributes left is not computed in advance.
     fn size_hint(&self) -> (usize, Option<usize>)
         ensures lower { IsWithinCount result.0
             (at_most ((length (lenient_left self.now) + 3) / 4)) }
@@ -117,9 +119,9 @@ impl<'a, V: FamilyView<'a>> Iterator for LenientNlas<'a, V> {
     }
 }
 
-/// The header of the replies of one family, and how the attributes behind it are read.
+/// The header of the replies of one family, with the type of the attributes after it.
 pub trait LenientHeader<'a>: Record<Param = ()> {
-    /// An attribute, read in place.
+    /// A borrowed attribute of the family.
     type View: FamilyView<'a>;
 }
 
@@ -131,27 +133,29 @@ impl<'a> LenientHeader<'a> for UnixResponseHeader {
     type View = UnixNlaView<'a>;
 }
 
-/// A reply of any family, of which each attribute is read by itself.
+/// A borrowed reply with the header `H`, whose attributes are parsed independently of each other.
 #[derive(Drop)]
 pub struct LenientReply<'a, H> {
     header: H,
-    // What follows the header.
+    // The bytes after the header.
     bytes: &'a [u8],
 }
 
-/// The reply about one IPv4 or IPv6 socket, of which each attribute is read by itself.
+/// A reply describing one IPv4 or IPv6 socket, whose attributes are parsed independently of each
+/// other.
 ///
-/// Of `parse`, fewer than 72 bytes are `BufferTooSmall`, then another family than 2 and 10 is
-/// `UnsupportedFamily`.
+/// `parse` returns `BufferTooSmall` for fewer than 72 bytes, or else `UnsupportedFamily` for a
+/// family other than 2 (`AF_INET`) and 10 (`AF_INET6`).
 pub type LenientInetReply<'a> = LenientReply<'a, InetResponseHeader>;
 
-/// The reply about one UNIX socket, of which each attribute is read by itself.
+/// A reply describing one UNIX socket, whose attributes are parsed independently of each other.
 ///
-/// Of `parse`, fewer than 16 bytes are `BufferTooSmall`.
+/// `parse` returns `BufferTooSmall` for fewer than 16 bytes.
 pub type LenientUnixReply<'a> = LenientReply<'a, UnixResponseHeader>;
 
 impl<'a, H: LenientHeader<'a>> LenientReply<'a, H> {
-    /// Reads the header, and looks at no attribute. It takes no memory.
+    /// Parses the header. The attributes are not parsed until they are iterated over. It does not
+    /// allocate.
     #[tactic(auto, using(netlink_core::proofs::LayoutLaws::accepted))]
     pub fn parse(bytes: &'a [u8]) -> Result<LenientReply<'a, H>, DecodeError>
         ensures header { IfOk result (λ lenient.
@@ -166,14 +170,14 @@ impl<'a, H: LenientHeader<'a>> LenientReply<'a, H> {
         Ok(LenientReply { header, bytes })
     }
 
-    /// The header, which tells the socket.
+    /// Returns the header, which describes the socket.
     pub fn header(&self) -> &H
         ensures { result.now ≡ lenient_header self.now }
     {
         &self.header
     }
 
-    /// The attributes in the order that they came, each what it says or why it is refused.
+    /// Returns an iterator over the attributes, in order. It yields the view or the error of each.
     pub fn attributes(&self) -> LenientNlas<'a, H::View>
         ensures { lenient_left result ≡ lenient_bytes self.now }
     {

@@ -1,7 +1,8 @@
-//! What the port of the Rust crate leaves out of sock_diag(7): replies of which an attribute is
-//! refused, the whole of `struct tcp_info`, the attributes that have no kind there, and constants.
+//! The parts of sock_diag(7) that the port of the Rust crate leaves out: replies with a rejected
+//! attribute, all of `struct tcp_info`, attributes that the port has no kind for, extended
+//! acknowledgements, and constants.
 //!
-//! It stands beside the port, and changes nothing of it.
+//! This is an extension crate. It changes nothing of the port.
 #![tactic(auto)]
 
 mod acknowledgement;

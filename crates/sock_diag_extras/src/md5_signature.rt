@@ -1,4 +1,4 @@
-//! The keys by which a TCP socket signs segments: INET_DIAG_MD5SIG.
+//! The MD5 keys that a TCP socket signs segments with: INET_DIAG_MD5SIG.
 
 ghost use Rattle.std.specs.Prelude.{refl};
 ghost use Rattle.netlink_core.proofs.FieldReads.{first_all};
@@ -10,20 +10,21 @@ use crate::record::AttributeRecord;
 use byteorder::{ByteOrder, LittleEndian};
 use netlink_core::fields::array_at;
 
-/// A key for the segments of some peers, one of the records in the value of `INET_DIAG_MD5SIG`:
-/// `struct tcp_diag_md5sig` of `linux/tcp.h`, 100 bytes. Kernels tell it to those with
-/// `CAP_NET_ADMIN` alone.
+/// An MD5 signature key for the segments of some peers: one of the records in the value of
+/// `INET_DIAG_MD5SIG`, `struct tcp_diag_md5sig` of `linux/tcp.h`, 100 bytes. The kernel sends it
+/// only to processes with `CAP_NET_ADMIN`.
 #[derive(Clone, Copy, Debug, PartialEq, Eq)]
 pub struct Md5Signature {
-    /// The family of the address, `tcpm_family`, at 0: 2 or 10.
+    /// Address family, `tcpm_family`, at offset 0: 2 for `AF_INET`, 10 for `AF_INET6`.
     pub family: u8,
-    /// How many bits of the address the peers share, `tcpm_prefixlen`, at 1.
+    /// Length of the address prefix of the peers, `tcpm_prefixlen`, at offset 1, in bits.
     pub prefix_length: u8,
-    /// How many bytes of the key count, `tcpm_keylen`, at 2, low byte first.
+    /// Length of the key, `tcpm_keylen`, at offset 2, in bytes, little-endian.
     pub key_length: u16,
-    /// The address, `tcpm_addr`, at 4, high byte first: an IPv4 address stands in the first four.
+    /// Address, `tcpm_addr`, at offset 4, in network byte order. An IPv4 address is in the first
+    /// four bytes.
     pub address: [u8; 16],
-    /// The key, `tcpm_key`, at 20.
+    /// Key, `tcpm_key`, at offset 20. Only the first `key_length` bytes are used.
     pub key: [u8; 80],
 }
 

@@ -1,4 +1,5 @@
-//! Attributes that stand in the value of another, or behind a header, each found by its kind.
+//! Attributes that are nested in the value of another attribute or follow a header, with getters by
+//! kind.
 
 ghost use Rattle.std.specs.Prelude.{◌≡◌, ◌≤◌, ℕ, List, [], IfErr, IfOk, None, Some, option_map};
 ghost use Rattle.netlink_core.specs.Attribute.{AttributeFault};
@@ -15,19 +16,20 @@ use byteorder::{ByteOrder, LittleEndian};
 use netlink_core::{DecodeError, NlasIterator, parse_str, parse_u32};
 use sock_diag_families::WholeNla;
 
-/// Attributes one after the other, read in place, of which each getter takes the first of a kind,
-/// whatever its flag bits. It takes no memory.
+/// Consecutive attributes, borrowed. Each getter uses the first attribute of a kind, and returns
+/// `None` if there is none. The two flag bits of the type field are ignored. It does not allocate.
 #[derive(Clone, Copy, Debug, PartialEq, Eq)]
 pub struct NestedNlas<'a> {
     bytes: &'a [u8],
+    // The bytes have no framing error.
     ghost framed: { HasNoFault (decodes []) bytes.now },
 }
 
 impl<'a> NestedNlas<'a> {
     ghost use Rattle.sock_diag_extras.specs.Models.{nested_bytes};
 
-    /// The attributes in the bytes. The first fault of the framing refuses them; no value is looked
-    /// at.
+    /// Borrows the attributes in the bytes. Returns the first framing error, if there is one. The
+    /// values are not parsed.
     pub fn parse(bytes: &'a [u8]) -> Result<NestedNlas<'a>, DecodeError>
         ensures kept { IfOk result (λ nested. nested_bytes nested ≡ bytes.entry.now) }
         ensures fault { IfErr result (AttributeFault (decodes []) bytes.entry.now) }
@@ -36,14 +38,14 @@ impl<'a> NestedNlas<'a> {
         Ok(NestedNlas { bytes })
     }
 
-    /// The walk over all of them, in the order that they came.
+    /// Returns an iterator over all of the attributes, in order.
     pub fn walk(&self) -> NlasIterator<'a>
         ensures { bytes_left result ≡ nested_bytes self.now }
     {
         NlasIterator::new(self.bytes)
     }
 
-    /// The value of the first attribute of the kind.
+    /// Returns the value of the first attribute of the kind.
     pub fn value_of(&self, kind: u16) -> Option<&'a [u8]>
         ensures { option_map (λ value. value.now) result ≡ first_in kind (nested_bytes self.now) }
     {
@@ -56,8 +58,8 @@ impl<'a> NestedNlas<'a> {
         None
     }
 
-    /// The text that is the value, without the one zero that may stand at its end. What is not
-    /// UTF-8 is `NotUtf8`: `value_of` gives its bytes.
+    /// Returns the value of the first attribute of the kind as text, without one terminating NUL if
+    /// it has one. Text that is not valid UTF-8 is `NotUtf8`; `value_of` returns its bytes.
     pub fn text_of(&self, kind: u16) -> Result<Option<&'a str>, DecodeError>
         ensures { map_ok (option_map (λ text. text.now)) result
             ≡ within text_in (first_in kind (nested_bytes self.now)) }
@@ -68,8 +70,8 @@ impl<'a> NestedNlas<'a> {
         }
     }
 
-    /// The number of 32 bits that is all of the value, low byte first. Another length is
-    /// `WrongLength`.
+    /// Parses the value of the first attribute of the kind as a little-endian `u32`. A length other
+    /// than 4 is `WrongLength`, without the kind.
     pub fn word_of(&self, kind: u16) -> Result<Option<u32>, DecodeError>
         ensures { result ≡ within (exact_number None 4) (first_in kind (nested_bytes self.now)) }
     {
@@ -79,8 +81,8 @@ impl<'a> NestedNlas<'a> {
         }
     }
 
-    /// The number of so many bytes that is all of the value, low byte first. Another length is
-    /// `WrongLength`, which names the kind.
+    /// Parses the value of the first attribute of the kind as a little-endian number of `width`
+    /// bytes. Another length is `WrongLength`, with the kind.
     pub fn number_of(&self, kind: u16, width: usize) -> Result<Option<u64>, DecodeError>
         requires one { 1 ≤ width }
         requires eight { width ≤ 8 }
@@ -97,8 +99,8 @@ impl<'a> NestedNlas<'a> {
         }
     }
 
-    /// The attributes nested in the value of the first attribute of the kind. The first fault of
-    /// their framing refuses them.
+    /// Borrows the attributes nested in the value of the first attribute of the kind. Returns their
+    /// first framing error, if there is one.
     pub fn nested_of(&self, kind: u16) -> Result<Option<NestedNlas<'a>>, DecodeError>
         ensures kept { IfOk result (λ found. option_map (λ nested. nested_bytes nested) found
             ≡ first_in kind (nested_bytes self.now)) }

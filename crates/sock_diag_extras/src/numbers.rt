@@ -1,12 +1,12 @@
-//! Attributes that are one number: UNIX_DIAG_UID and INET_DIAG_CGROUP_ID.
+//! Attributes whose value is one number: UNIX_DIAG_UID and INET_DIAG_CGROUP_ID.
 
 ghost use Rattle.std.specs.Prelude.{◌≡◌, length, SomeIff};
 ghost use Rattle.byteorder.specs.Endian.{little_number};
 
 use byteorder::{ByteOrder, LittleEndian};
 
-/// The user that a UNIX socket was made by, of the value of `UNIX_DIAG_UID`: four bytes, low byte
-/// first. Another length has no user.
+/// Parses the value of `UNIX_DIAG_UID`, a little-endian `u32`: the id of the user who created the
+/// UNIX socket. Returns `None` if the length is not 4.
 pub fn parse_uid(value: &[u8]) -> Option<u32>
     ensures { SomeIff result (length value.now ≡ 4) (little_number 4 value.now) }
 {
@@ -16,8 +16,8 @@ pub fn parse_uid(value: &[u8]) -> Option<u32>
     Some(LittleEndian::read_u32(value))
 }
 
-/// The control group of an internet socket, of the value of `INET_DIAG_CGROUP_ID`: eight bytes, low
-/// byte first. Another length has no group.
+/// Parses the value of `INET_DIAG_CGROUP_ID`, a little-endian `u64`: the id of the control group
+/// (cgroup v2) of the IPv4 or IPv6 socket. Returns `None` if the length is not 8.
 pub fn parse_cgroup_id(value: &[u8]) -> Option<u64>
     ensures { SomeIff result (length value.now ≡ 8) (little_number 8 value.now) }
 {

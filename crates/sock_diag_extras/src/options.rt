@@ -1,4 +1,4 @@
-//! The options of an internet socket that INET_DIAG_SOCKOPT tells.
+//! The options of an IPv4 or IPv6 socket in INET_DIAG_SOCKOPT.
 
 ghost use Rattle.std.specs.Prelude.{◌≡◌, ◌↔◌, IsBitSet, IsTrue, refl};
 ghost use Rattle.netlink_core.proofs.LayoutLaws.{plain_sound, record_laws};
@@ -8,38 +8,39 @@ ghost use Rattle.sock_diag_extras.specs.SocketOptions.{socket_options};
 use crate::record::AttributeRecord;
 use byteorder::{ByteOrder, LittleEndian};
 
-/// An option of an internet socket, by its bit in `struct inet_diag_sockopt` of
-/// `linux/inet_diag.h`; ip(7) says what most of them mean.
+/// An option of an IPv4 or IPv6 socket: a bit of `struct inet_diag_sockopt` of `linux/inet_diag.h`.
+/// Bits of the first byte are counted from its least significant bit. ip(7) describes most options.
 #[derive(Clone, Copy, Debug, PartialEq, Eq)]
 pub enum SocketOption {
-    /// `IP_RECVERR`, bit 0.
+    /// `IP_RECVERR`: `recverr`, bit 0.
     RecvErr,
-    /// The socket is of a protocol with connections, bit 1.
+    /// The socket is of a connection-oriented protocol: `is_icsk`, bit 1.
     IsIcsk,
-    /// `IP_FREEBIND`, bit 2.
+    /// `IP_FREEBIND`: `freebind`, bit 2.
     FreeBind,
-    /// `IP_HDRINCL`, bit 3.
+    /// `IP_HDRINCL`: `hdrincl`, bit 3.
     HdrIncl,
-    /// `IP_MULTICAST_LOOP`, bit 4.
+    /// `IP_MULTICAST_LOOP`: `mc_loop`, bit 4.
     McLoop,
-    /// `IP_TRANSPARENT`, bit 5.
+    /// `IP_TRANSPARENT`: `transparent`, bit 5.
     Transparent,
-    /// `IP_MULTICAST_ALL`, bit 6.
+    /// `IP_MULTICAST_ALL`: `mc_all`, bit 6.
     McAll,
-    /// `IP_NODEFRAG`, bit 7.
+    /// `IP_NODEFRAG`: `nodefrag`, bit 7.
     NoDefrag,
-    /// `IP_BIND_ADDRESS_NO_PORT`, bit 0 of the second byte.
+    /// `IP_BIND_ADDRESS_NO_PORT`: `bind_address_no_port`, bit 0 of the second byte.
     BindAddressNoPort,
-    /// `IP_RECVERR_RFC4884`, bit 1 of the second byte.
+    /// `IP_RECVERR_RFC4884`: `recverr_rfc4884`, bit 1 of the second byte.
     RecvErrRfc4884,
-    /// `TCP_FASTOPEN_CONNECT`, bit 2 of the second byte.
+    /// `connect` is deferred until data is written, by `TCP_FASTOPEN_CONNECT`: `defer_connect`, bit
+    /// 2 of the second byte.
     DeferConnect,
 }
 
-/// The options of an internet socket: the two bytes of INET_DIAG_SOCKOPT.
+/// The options of an IPv4 or IPv6 socket: the two bytes of `INET_DIAG_SOCKOPT`.
 #[derive(Clone, Copy, Debug, PartialEq, Eq)]
 pub struct SocketOptions {
-    /// The bits of both bytes, the first byte low.
+    /// Both bytes as a little-endian number: bits 0 to 7 are the first byte.
     pub bits: u16,
 }
 
@@ -67,7 +68,7 @@ impl AttributeRecord for SocketOptions {
 impl SocketOptions {
     ghost use Rattle.sock_diag_extras.specs.SocketOptions.{bit_of};
 
-    /// Whether the option is set.
+    /// Returns whether the option is set.
     pub fn has(&self, option: SocketOption) -> bool
         ensures { IsTrue result ↔ IsBitSet self.now.bits (bit_of option) }
     {

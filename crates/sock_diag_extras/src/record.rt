@@ -1,4 +1,4 @@
-//! Records that no fault names: read where there are enough bytes, and written back.
+//! Records without a name in errors: parsing returns `None` if there are too few bytes.
 
 ghost use Rattle.std.specs.Prelude.{◌≡◌, ◌≤◌, ◌++◌, drop, length, SomeIff};
 ghost use Rattle.std.specs.Result.{result_ok};
@@ -7,30 +7,33 @@ ghost use Rattle.netlink_core.specs.Layout.{read};
 ghost use Rattle.netlink_core.specs.declared.fault.RecordName.{RecordName};
 ghost use Rattle.sock_diag_extras.specs.RecordTable.{RecordTable, bytes_in, layout_under, value_in};
 
-/// A record that an attribute of sock_diag(7) carries and the port leaves as bytes.
+/// A record in the value of an attribute that the port leaves undecoded.
 pub trait AttributeRecord: Sized {
-    // The table of its fields.
+    // The layout of the record's fields.
     ghost layout: { RecordTable Self };
 
-    /// The number of its bytes.
+    /// Returns the size of the record in bytes.
     fn size() -> usize
         ensures { result ≡ layout.size };
 
-    /// The value in bytes that are enough.
+    /// Parses the start of the bytes, which are at least `size()`. The bytes that follow are
+    /// ignored.
     fn from_fields(bytes: &[u8]) -> Self
         requires { layout.size ≤ length bytes.now }
         ensures { result ≡ value_in layout bytes.now };
 
-    /// Writes the value over bytes of any content.
+    /// Serializes the record to a buffer of `size()` bytes. The previous content of the buffer does
+    /// not matter.
     fn write_fields(&self, buffer: &mut [u8])
         requires { length buffer.old ≡ layout.size }
         ensures { buffer.new ≡ bytes_in layout self.now };
 
-    // It keeps the laws of records, whatever a fault would call it.
+    // Proof only: the layout keeps the laws of records, for any name in errors.
     ghost laws: { (name : RecordName) → RecordLaws (layout_under layout name) };
 }
 
-/// Reads the record at the start of the bytes, where there are enough. What follows is ignored.
+/// Parses the record at the start of the bytes. Returns `None` if there are fewer bytes than the
+/// record has. The bytes that follow are ignored.
 #[inline(always)]
 pub fn read_attribute_record<T: AttributeRecord>(value: &[u8]) -> Option<T>
     ensures value { SomeIff result (T.layout.size ≤ length value.now)
@@ -44,7 +47,7 @@ pub fn read_attribute_record<T: AttributeRecord>(value: &[u8]) -> Option<T>
     Some(T::from_fields(value))
 }
 
-/// Writes the value at the start of the buffer, and leaves the rest.
+/// Serializes the record to the start of the buffer. The bytes after it are unchanged.
 pub fn write_attribute_record<T: AttributeRecord>(value: &T, buffer: &mut [u8])
     requires { T.layout.size ≤ length buffer.old }
     ensures { buffer.new ≡ bytes_in T.layout value.now ++ drop T.layout.size buffer.old }

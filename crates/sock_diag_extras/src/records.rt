@@ -1,4 +1,4 @@
-//! Records one after the other in the value of an attribute.
+//! Consecutive records in the value of an attribute.
 
 ghost use Rattle.std.specs.Prelude.{◌≡◌, ◌<◌, None, IfSome, length};
 ghost use Rattle.std.specs.Iterator.{UpTo, at_most};
@@ -9,8 +9,8 @@ ghost use Rattle.sock_diag_extras.specs.Models.{records_left};
 use crate::record::{AttributeRecord, read_attribute_record};
 use std::marker::PhantomData;
 
-/// The records in the value of an attribute that is an array of them, in the order that they came.
-/// It takes no memory.
+/// An iterator over the records in the value of an attribute that is an array of records. It yields
+/// them in order, and does not allocate.
 #[derive(Drop)]
 pub struct AttributeRecords<'a, T> {
     bytes: &'a [u8],
@@ -18,7 +18,7 @@ pub struct AttributeRecords<'a, T> {
 }
 
 impl<'a, T> AttributeRecords<'a, T> {
-    /// The records in the value.
+    /// Returns an iterator over the records in the value.
     pub fn new(value: &'a [u8]) -> AttributeRecords<'a, T>
         ensures { records_left result ≡ value.entry.now }
     {
@@ -28,8 +28,8 @@ impl<'a, T> AttributeRecords<'a, T> {
         }
     }
 
-    /// What was not given yet: behind the last record fewer bytes than one has, and none where the
-    /// value is a multiple of it.
+    /// Returns the bytes that were not parsed yet. After the last record, these are fewer than a
+    /// record has; none are left if the length of the value is a multiple of the record's size.
     pub fn rest(&self) -> &'a [u8]
         ensures { result.now ≡ records_left self.now }
     {
@@ -43,10 +43,10 @@ impl<'a, T: AttributeRecord> Iterator for AttributeRecords<'a, T> {
     ghost next_gives = { λ old given new. GivesRecord T.layout (records_left old) given
         (records_left new) };
 
-    // A record has some bytes.
+    // `next` requires that a record has at least one byte.
     ghost can_next = { λ _. 0 < T.layout.size };
 
-    // At most one for each byte.
+    // At most one record for each byte.
     ghost remaining = { λ records. at_most (length (records_left records)) };
 
     #[inline(always)]
@@ -56,7 +56,7 @@ impl<'a, T: AttributeRecord> Iterator for AttributeRecords<'a, T> {
         Some(value)
     }
 
-    /// How many are left is told by the walk alone.
+    /// Returns `(0, None)`: the number of records left is not computed in advance.
     fn size_hint(&self) -> (usize, Option<usize>)
         ensures lower { IsWithinCount result.0 (at_most (length (records_left self.now))) }
         ensures upper { IfSome result.1 (UpTo (at_most (length (records_left self.now)))) }

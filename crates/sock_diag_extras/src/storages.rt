@@ -1,4 +1,4 @@
-//! What BPF programs keep of a socket: INET_DIAG_SK_BPF_STORAGES.
+//! Local storage of BPF programs for a socket: INET_DIAG_SK_BPF_STORAGES.
 
 ghost use Rattle.std.specs.Prelude.{◌≡◌, ◌≢◌, [], IfErr, IfOk, MatchOption, None, option_map};
 ghost use Rattle.netlink_core.specs.Attribute.{AttributeFault, attribute_type};
@@ -15,15 +15,16 @@ use crate::constants::{
 use crate::nested::NestedNlas;
 use netlink_core::{DecodeError, NlaBuffer};
 
-/// What one map of BPF programs has of a socket: one of the attributes `SK_DIAG_BPF_STORAGE` in the
-/// value of `INET_DIAG_SK_BPF_STORAGES`, by `linux/sock_diag.h`. A `NlasIterator` over that value
-/// gives them.
+/// The borrowed entry of a socket in one BPF map: an attribute `SK_DIAG_BPF_STORAGE` in the value
+/// of `INET_DIAG_SK_BPF_STORAGES` (`linux/sock_diag.h`). A `NlasIterator` over that value yields
+/// these attributes. A getter returns `None` if its attribute is not present.
 #[derive(Clone, Copy, Debug, PartialEq, Eq)]
 pub struct BpfStorage<'a>(pub NestedNlas<'a>);
 
 impl<'a> BpfStorage<'a> {
-    /// The storage in an attribute, and `None` where its kind is another. The first fault of the
-    /// framing in it refuses it.
+    /// Parses the value of an attribute as nested attributes. Returns `None` if the kind of the
+    /// attribute is not `SK_DIAG_BPF_STORAGE`, and the first framing error in the value, if there
+    /// is one.
     pub fn parse(nla: &NlaBuffer<'a>) -> Result<Option<BpfStorage<'a>>, DecodeError>
         ensures kept { IfOk result (λ found. MatchOption found
             (attribute_type (attribute_of nla.now) ≢ 1)
@@ -39,7 +40,7 @@ impl<'a> BpfStorage<'a> {
         Ok(Some(BpfStorage(NestedNlas::parse(nla.value())?)))
     }
 
-    /// The number of the map, `SK_DIAG_BPF_STORAGE_MAP_ID`. Other than four bytes are
+    /// Returns the id of the map, `SK_DIAG_BPF_STORAGE_MAP_ID`. A length other than 4 is
     /// `WrongLength`.
     pub fn map_id(&self) -> Result<Option<u32>, DecodeError>
         ensures { result
@@ -49,7 +50,7 @@ impl<'a> BpfStorage<'a> {
         self.0.word_of(SK_DIAG_BPF_STORAGE_MAP_ID)
     }
 
-    /// The value in the map, `SK_DIAG_BPF_STORAGE_MAP_VALUE`.
+    /// Returns the bytes that the map stores for the socket, `SK_DIAG_BPF_STORAGE_MAP_VALUE`.
     pub fn map_value(&self) -> Option<&'a [u8]>
         ensures { option_map (λ value. value.now) result
             ≡ first_in SK_DIAG_BPF_STORAGE_MAP_VALUE (nested_bytes self.now.0) }

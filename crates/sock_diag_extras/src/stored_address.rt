@@ -11,28 +11,32 @@ use byteorder::{BigEndian, ByteOrder, LittleEndian};
 use netlink_core::fields::{array_at, big_shorts_at, words_at};
 use std::net::{IpAddr, Ipv4Addr, Ipv6Addr};
 
-/// The number of the IPv4 family, `AF_INET`.
+/// The address family of IPv4, `AF_INET`.
 const INET: u16 = 2;
 
-/// The number of the IPv6 family, `AF_INET6`.
+/// The address family of IPv6, `AF_INET6`.
 const INET6: u16 = 10;
 
-/// An address of an SCTP association, one of the records in the values of `INET_DIAG_LOCALS` and
-/// `INET_DIAG_PEERS`: `struct sockaddr_storage`, 128 bytes, of which all are kept. What stands in
-/// it is a `struct sockaddr_in` of ip(7) or a `struct sockaddr_in6` of ipv6(7), by the family.
+/// An address of an SCTP association: one of the records in the values of `INET_DIAG_LOCALS` and
+/// `INET_DIAG_PEERS`. It is a `struct sockaddr_storage`, 128 bytes. By its family, it starts with a
+/// `struct sockaddr_in` (ip(7)) or a `struct sockaddr_in6` (ipv6(7)). No byte is ignored.
 #[derive(Clone, Copy, Debug, PartialEq, Eq)]
 pub struct StoredAddress {
-    /// The family, at 0, low byte first: 2 or 10.
+    /// Address family, `sin_family` or `sin6_family`, at offset 0, little-endian: 2 for `AF_INET`,
+    /// 10 for `AF_INET6`.
     pub family: u16,
-    /// The port, at 2, high byte first.
+    /// Port, `sin_port` or `sin6_port`, at offset 2, in network byte order.
     pub port: u16,
-    /// The IPv4 address, or what flow the IPv6 address is of, at 4, high byte first.
+    /// IPv4 address (`sin_addr`), or flow information of IPv6 (`sin6_flowinfo`), at offset 4, in
+    /// network byte order.
     pub front: [u8; 4],
-    /// The IPv6 address, at 8, each segment high byte first.
+    /// IPv6 address, `sin6_addr`, at offset 8: eight segments of 16 bits in network byte order.
     pub segments: [u16; 8],
-    /// The interface that the IPv6 address is of, at 24, low byte first.
+    /// Index of the interface of a link-local IPv6 address, `sin6_scope_id`, at offset 24,
+    /// little-endian.
     pub scope_id: u32,
-    /// What no address of either family has, at 28.
+    /// The bytes from offset 28 on, which neither `struct sockaddr_in` nor `struct sockaddr_in6`
+    /// has.
     pub rest: [u8; 100],
 }
 
@@ -81,7 +85,8 @@ impl AttributeRecord for StoredAddress {
 impl StoredAddress {
     ghost use Rattle.sock_diag_extras.specs.StoredAddress.{ip_of};
 
-    /// The IP address, where the family is 2 or 10.
+    /// Returns the IP address. Returns `None` if the family is neither 2 (`AF_INET`) nor 10
+    /// (`AF_INET6`).
     pub fn ip(&self) -> Option<IpAddr>
         ensures { result ≡ ip_of self.now }
     {

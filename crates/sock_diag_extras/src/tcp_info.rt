@@ -1,4 +1,4 @@
-//! What INET_DIAG_INFO tells, as far as its bytes go: fewer than the port reads, or more.
+//! The value of INET_DIAG_INFO with any number of bytes: fewer than the port parses, or more.
 
 ghost use Rattle.std.specs.Prelude.{◌≡◌, ◌≤◌, ◌+◌, drop, length, SomeIff};
 ghost use Rattle.std.specs.Result.{result_ok};
@@ -11,11 +11,12 @@ use crate::bytes::bytes_behind;
 use byteorder::{ByteOrder, LittleEndian};
 use sock_diag_values::inet::TcpInfo;
 
-/// How many bytes `struct tcp_info` has in Linux 6.18.
+/// The size of `struct tcp_info` in Linux 6.18, in bytes.
 const WHOLE: usize = 280;
 
-/// A field of `struct tcp_info` of `linux/tcp.h`, as Linux 6.18 has it: 280 bytes, low byte first.
-/// Of those that [`TcpInfo`] has too its documentation says what they mean.
+/// A field of `struct tcp_info` of `linux/tcp.h`, as Linux 6.18 defines it: 280 bytes,
+/// little-endian. The number after `at` is the offset in bytes. [`TcpInfo`] documents the fields
+/// that it also has.
 #[derive(Clone, Copy, Debug, PartialEq, Eq)]
 pub enum TcpField {
     /// `tcpi_state` at 0.
@@ -30,10 +31,10 @@ pub enum TcpField {
     Backoff,
     /// `tcpi_options` at 5.
     Options,
-    /// `tcpi_snd_wscale` and `tcpi_rcv_wscale` at 6, four bits each.
+    /// `tcpi_snd_wscale` at 6 in the low four bits, and `tcpi_rcv_wscale` in the high four bits.
     Wscale,
-    /// `tcpi_delivery_rate_app_limited` at 7 in bit 0, and `tcpi_fastopen_client_fail` in the next
-    /// two.
+    /// `tcpi_delivery_rate_app_limited` at 7 in bit 0, and `tcpi_fastopen_client_fail` in bits 1
+    /// and 2.
     DeliveryRateAppLimited,
     /// `tcpi_rto` at 8, in microseconds.
     Rto,
@@ -55,7 +56,7 @@ pub enum TcpField {
     Fackets,
     /// `tcpi_last_data_sent` at 44, in milliseconds.
     LastDataSent,
-    /// `tcpi_last_ack_sent` at 48.
+    /// `tcpi_last_ack_sent` at 48. The kernel does not set it.
     LastAckSent,
     /// `tcpi_last_data_recv` at 52, in milliseconds.
     LastDataRecv,
@@ -83,9 +84,9 @@ pub enum TcpField {
     RcvSpace,
     /// `tcpi_total_retrans` at 100.
     TotalRetrans,
-    /// `tcpi_pacing_rate` at 104, in bytes a second.
+    /// `tcpi_pacing_rate` at 104, in bytes per second.
     PacingRate,
-    /// `tcpi_max_pacing_rate` at 112, in bytes a second.
+    /// `tcpi_max_pacing_rate` at 112, in bytes per second.
     MaxPacingRate,
     /// `tcpi_bytes_acked` at 120.
     BytesAcked,
@@ -103,7 +104,7 @@ pub enum TcpField {
     DataSegsIn,
     /// `tcpi_data_segs_out` at 156.
     DataSegsOut,
-    /// `tcpi_delivery_rate` at 160, in bytes a second.
+    /// `tcpi_delivery_rate` at 160, in bytes per second.
     DeliveryRate,
     /// `tcpi_busy_time` at 168, in microseconds.
     BusyTime,
@@ -127,40 +128,49 @@ pub enum TcpField {
     RcvOoopack,
     /// `tcpi_snd_wnd` at 228, in bytes.
     SndWnd,
-    /// The window that this end offers, in bytes. `tcpi_rcv_wnd` at 232.
+    /// The receive window that the local end advertises, after scaling, in bytes. `tcpi_rcv_wnd` at
+    /// 232.
     RcvWnd,
-    /// How often another path was tried, since nothing was acknowledged. `tcpi_rehash` at 236.
+    /// Number of attempts to take another path by a new flow hash, after a timeout or by PLB
+    /// (protective load balancing). `tcpi_rehash` at 236.
     Rehash,
-    /// How often the timer for sending again ran out in all. `tcpi_total_rto` at 240.
+    /// Total number of retransmission timeouts, including timeouts of SYN and SYN-ACK segments.
+    /// `tcpi_total_rto` at 240.
     TotalRto,
-    /// How often sending again by that timer ended well. `tcpi_total_rto_recoveries` at 242.
+    /// Total number of recoveries after a retransmission timeout, including an unfinished one.
+    /// `tcpi_total_rto_recoveries` at 242.
     TotalRtoRecoveries,
-    /// The time spent in it in all, in milliseconds. `tcpi_total_rto_time` at 244.
+    /// Total time spent in these recoveries, including an unfinished one, in milliseconds.
+    /// `tcpi_total_rto_time` at 244.
     TotalRtoTime,
-    /// How many segments came that were marked for congestion. `tcpi_received_ce` at 248.
+    /// Number of received segments with the ECN mark CE (congestion experienced).
+    /// `tcpi_received_ce` at 248.
     ReceivedCe,
-    /// How many bytes reached the peer under the mark ECT(1). `tcpi_delivered_e1_bytes` at 252.
+    /// Number of bytes delivered to the peer with the ECN mark ECT(1). `tcpi_delivered_e1_bytes` at
+    /// 252.
     DeliveredE1Bytes,
-    /// How many bytes reached the peer under the mark ECT(0). `tcpi_delivered_e0_bytes` at 256.
+    /// Number of bytes delivered to the peer with the ECN mark ECT(0). `tcpi_delivered_e0_bytes` at
+    /// 256.
     DeliveredE0Bytes,
-    /// How many bytes reached the peer marked for congestion. `tcpi_delivered_ce_bytes` at 260.
+    /// Number of bytes delivered to the peer with the ECN mark CE. `tcpi_delivered_ce_bytes` at
+    /// 260.
     DeliveredCeBytes,
-    /// How many bytes came under the mark ECT(1). `tcpi_received_e1_bytes` at 264.
+    /// Number of bytes received with the ECN mark ECT(1). `tcpi_received_e1_bytes` at 264.
     ReceivedE1Bytes,
-    /// How many bytes came under the mark ECT(0). `tcpi_received_e0_bytes` at 268.
+    /// Number of bytes received with the ECN mark ECT(0). `tcpi_received_e0_bytes` at 268.
     ReceivedE0Bytes,
-    /// How many bytes came marked for congestion. `tcpi_received_ce_bytes` at 272.
+    /// Number of bytes received with the ECN mark CE. `tcpi_received_ce_bytes` at 272.
     ReceivedCeBytes,
-    /// In which ways accurate ECN failed, as bits. `tcpi_accecn_fail_mode` at 276.
+    /// Bits for the ways in which accurate ECN failed. `tcpi_accecn_fail_mode` at 276.
     AccecnFailMode,
-    /// How far the options of accurate ECN were seen. `tcpi_accecn_opt_seen` at 278.
+    /// Which TCP options of accurate ECN were seen. `tcpi_accecn_opt_seen` at 278.
     AccecnOptSeen,
 }
 
 impl TcpField {
     ghost use Rattle.sock_diag_extras.specs.TcpFields.{span_of};
 
-    /// Where the field stands, and how many bytes it has.
+    /// Returns the offset of the field and its width, both in bytes.
     pub fn span(self) -> (usize, usize)
         ensures { result ≡ span_of self }
     {
@@ -237,8 +247,8 @@ impl TcpField {
     }
 }
 
-/// The value of `INET_DIAG_INFO` of a TCP connection, of any length: kernels tell as many bytes of
-/// `struct tcp_info` as they know of. It takes no memory.
+/// The borrowed value of `INET_DIAG_INFO` of a TCP connection, of any length. Each kernel version
+/// sends `struct tcp_info` in its own size; newer versions append fields. It does not allocate.
 #[derive(Clone, Copy, Debug, PartialEq, Eq)]
 pub struct TcpInfoBytes<'a> {
     bytes: &'a [u8],
@@ -247,21 +257,21 @@ pub struct TcpInfoBytes<'a> {
 impl<'a> TcpInfoBytes<'a> {
     ghost use Rattle.sock_diag_extras.specs.TcpFields.{value_of, end_of};
 
-    /// The bytes of the value, however many there are.
+    /// Borrows the bytes of the value. Any number of bytes is accepted.
     pub fn new(value: &'a [u8]) -> TcpInfoBytes<'a>
         ensures { tcp_info_bytes result ≡ value.entry.now }
     {
         TcpInfoBytes { bytes: value }
     }
 
-    /// How many bytes were told.
+    /// Returns the length of the value in bytes.
     pub fn len(&self) -> usize
         ensures { result ≡ length (tcp_info_bytes self.now) }
     {
         self.bytes.len()
     }
 
-    /// The field, where all of its bytes were told.
+    /// Returns the value of the field. Returns `None` if the bytes end before the end of the field.
     pub fn get(&self, field: TcpField) -> Option<u64>
         ensures { SomeIff result (end_of field ≤ length (tcp_info_bytes self.now))
             (value_of field (tcp_info_bytes self.now)) }
@@ -270,14 +280,15 @@ impl<'a> TcpInfoBytes<'a> {
         number_at(self.bytes, place, width)
     }
 
-    /// All that the port reads, where its 232 bytes were told.
+    /// Returns the record that the port parses from the first 232 bytes. Returns `None` if there
+    /// are fewer bytes.
     pub fn whole(&self) -> Option<TcpInfo>
         ensures { result ≡ result_ok (read tcp_info tt (tcp_info_bytes self.now)) }
     {
         TcpInfo::parse(self.bytes).ok()
     }
 
-    /// What follows the fields that are known here.
+    /// Returns the bytes from offset 280 on, after the fields that [`TcpField`] lists.
     pub fn rest(&self) -> &'a [u8]
         ensures { result.now ≡ drop 280 (tcp_info_bytes self.now) }
     {
@@ -285,7 +296,8 @@ impl<'a> TcpInfoBytes<'a> {
     }
 }
 
-// The number of so many bytes at the offset, low byte first, where all of them are there.
+// Returns the little-endian number of `width` bytes at the offset. Returns `None` if the bytes end
+// before the end of the number.
 fn number_at(bytes: &[u8], offset: usize, width: usize) -> Option<u64>
     requires one { 1 ≤ width }
     requires eight { width ≤ 8 }

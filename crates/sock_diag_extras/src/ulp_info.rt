@@ -1,4 +1,4 @@
-//! What stands on a TCP connection: INET_DIAG_ULP_INFO.
+//! The upper layer protocol of a TCP connection: INET_DIAG_ULP_INFO.
 
 ghost use Rattle.std.specs.Prelude.{◌≡◌, ◌↔◌, ℕ, List, [], IfErr, IfOk, IsSome, IsTrue, Some};
 ghost use Rattle.std.specs.Prelude.{option_map};
@@ -21,13 +21,14 @@ use crate::constants::{
 use crate::nested::NestedNlas;
 use netlink_core::DecodeError;
 
-/// What stands on a TCP connection: the attributes `INET_ULP_INFO_..` of `linux/inet_diag.h` in the
-/// value of `INET_DIAG_ULP_INFO`. Each getter takes the first of its kind.
+/// The upper layer protocol of a TCP connection, borrowed: the attributes `INET_ULP_INFO_..` of
+/// `linux/inet_diag.h` in the value of `INET_DIAG_ULP_INFO`. Each getter uses the first attribute
+/// of its kind, and returns `None` if there is none.
 #[derive(Clone, Copy, Debug, PartialEq, Eq)]
 pub struct UlpInfo<'a>(pub NestedNlas<'a>);
 
 impl<'a> UlpInfo<'a> {
-    /// The attributes in the value. The first fault of the framing refuses them.
+    /// Borrows the attributes in the value. Returns the first framing error, if there is one.
     pub fn parse(value: &'a [u8]) -> Result<UlpInfo<'a>, DecodeError>
         ensures kept { IfOk result (λ info. nested_bytes info.0 ≡ value.entry.now) }
         ensures fault { IfErr result (AttributeFault (decodes []) value.entry.now) }
@@ -35,7 +36,8 @@ impl<'a> UlpInfo<'a> {
         Ok(UlpInfo(NestedNlas::parse(value)?))
     }
 
-    /// The name, as `tls` or `mptcp`, `INET_ULP_INFO_NAME`. What is not UTF-8 is `NotUtf8`.
+    /// Returns the name of the protocol, `INET_ULP_INFO_NAME`, such as `tls` or `mptcp`. A name
+    /// that is not valid UTF-8 is `NotUtf8`.
     pub fn name(&self) -> Result<Option<&'a str>, DecodeError>
         ensures { map_ok (option_map (λ text. text.now)) result
             ≡ within text_in (first_in INET_ULP_INFO_NAME (nested_bytes self.now.0)) }
@@ -43,8 +45,8 @@ impl<'a> UlpInfo<'a> {
         self.0.text_of(INET_ULP_INFO_NAME)
     }
 
-    /// What TLS in the kernel tells, `INET_ULP_INFO_TLS`. The first fault of the framing refuses
-    /// it.
+    /// Returns the information about TLS in the kernel, `INET_ULP_INFO_TLS`, or the first framing
+    /// error in its attributes.
     pub fn tls(&self) -> Result<Option<TlsInfo<'a>>, DecodeError>
         ensures kept { IfOk result (λ found. option_map (λ tls. nested_bytes tls.0) found
             ≡ first_in INET_ULP_INFO_TLS (nested_bytes self.now.0)) }
@@ -58,8 +60,8 @@ impl<'a> UlpInfo<'a> {
         }
     }
 
-    /// What the subflow of an MPTCP connection tells, `INET_ULP_INFO_MPTCP`. The first fault of the
-    /// framing refuses it.
+    /// Returns the information about the subflow of an MPTCP connection, `INET_ULP_INFO_MPTCP`, or
+    /// the first framing error in its attributes.
     pub fn mptcp(&self) -> Result<Option<SubflowInfo<'a>>, DecodeError>
         ensures kept { IfOk result (λ found. option_map (λ subflow. nested_bytes subflow.0) found
             ≡ first_in INET_ULP_INFO_MPTCP (nested_bytes self.now.0)) }
@@ -74,28 +76,28 @@ impl<'a> UlpInfo<'a> {
     }
 }
 
-/// What TLS in the kernel tells: the attributes `TLS_INFO_..` of `linux/tls.h`.
+/// Information about TLS in the kernel, borrowed: the attributes `TLS_INFO_..` of `linux/tls.h`.
 #[derive(Clone, Copy, Debug, PartialEq, Eq)]
 pub struct TlsInfo<'a>(pub NestedNlas<'a>);
 
-/// A number of 16 bits in [`TlsInfo`].
+/// A `u16` field of [`TlsInfo`].
 #[derive(Clone, Copy, Debug, PartialEq, Eq)]
 pub enum TlsField {
     /// The version, `TLS_INFO_VERSION`: 0x303 for TLS 1.2, 0x304 for 1.3.
     Version,
     /// The cipher, `TLS_INFO_CIPHER`: one of `TLS_CIPHER_..`.
     Cipher,
-    /// How what is sent is encrypted, `TLS_INFO_TXCONF`: 1 not in the kernel, 2 by software, 3 by
-    /// hardware, 4 by hardware that makes the records.
+    /// How sent data is encrypted, `TLS_INFO_TXCONF`, one of `TLS_CONF_..`: 1 not in the kernel, 2
+    /// in software, 3 in hardware, 4 in hardware that also makes the records.
     Sending,
-    /// How what comes is decrypted, `TLS_INFO_RXCONF`, likewise.
+    /// How received data is decrypted, `TLS_INFO_RXCONF`, one of `TLS_CONF_..` as for `Sending`.
     Receiving,
 }
 
 impl TlsField {
     ghost use Rattle.sock_diag_extras.specs.UlpInfo.{tls_row};
 
-    /// The kind of its attribute, and how many bytes it has.
+    /// Returns the kind of the field's attribute, and the length of its value in bytes.
     pub fn row(self) -> (u16, usize)
         ensures { result ≡ tls_row self }
     {
@@ -111,7 +113,8 @@ impl TlsField {
 impl TlsInfo<'_> {
     ghost use Rattle.sock_diag_extras.specs.UlpInfo.{tls_row};
 
-    /// The number, where it is told. Another length than its own is `WrongLength`.
+    /// Returns the value of the field, or `None` if it has no attribute. A length of the
+    /// attribute's value other than the field's is `WrongLength`.
     pub fn get(&self, field: TlsField) -> Result<Option<u64>, DecodeError>
         ensures { result ≡ number_in (tls_row field) (nested_bytes self.now.0) }
     {
@@ -119,14 +122,15 @@ impl TlsInfo<'_> {
         self.0.number_of(kind, width)
     }
 
-    /// Whether files are sent without a copy, `TLS_INFO_ZC_RO_TX`.
+    /// Returns whether files are sent without a copy: whether `TLS_INFO_ZC_RO_TX` is present.
     pub fn sends_without_copy(&self) -> bool
         ensures { IsTrue result ↔ IsSome (first_in TLS_INFO_ZC_RO_TX (nested_bytes self.now.0)) }
     {
         self.0.value_of(TLS_INFO_ZC_RO_TX).is_some()
     }
 
-    /// Whether records are taken to come without padding, `TLS_INFO_RX_NO_PAD`.
+    /// Returns whether received records are expected to have no padding: whether
+    /// `TLS_INFO_RX_NO_PAD` is present.
     pub fn expects_no_padding(&self) -> bool
         ensures { IsTrue result ↔ IsSome (first_in TLS_INFO_RX_NO_PAD (nested_bytes self.now.0)) }
     {
@@ -134,41 +138,43 @@ impl TlsInfo<'_> {
     }
 }
 
-/// What the subflow of an MPTCP connection tells: the attributes `MPTCP_SUBFLOW_ATTR_..` of
-/// `linux/mptcp.h`.
+/// Information about the subflow of an MPTCP connection, borrowed: the attributes
+/// `MPTCP_SUBFLOW_ATTR_..` of `linux/mptcp.h`.
 #[derive(Clone, Copy, Debug, PartialEq, Eq)]
 pub struct SubflowInfo<'a>(pub NestedNlas<'a>);
 
-/// A number in [`SubflowInfo`].
+/// A field of [`SubflowInfo`].
 #[derive(Clone, Copy, Debug, PartialEq, Eq)]
 pub enum SubflowField {
-    /// The connection's token at the other end, `MPTCP_SUBFLOW_ATTR_TOKEN_REM`, 32 bits.
+    /// Token of the connection at the remote end, `MPTCP_SUBFLOW_ATTR_TOKEN_REM`, 32 bits.
     RemoteToken,
-    /// The connection's token at this end, `MPTCP_SUBFLOW_ATTR_TOKEN_LOC`, 32 bits.
+    /// Token of the connection at the local end, `MPTCP_SUBFLOW_ATTR_TOKEN_LOC`, 32 bits.
     LocalToken,
-    /// How far was written, counted from the subflow's begin, `MPTCP_SUBFLOW_ATTR_RELWRITE_SEQ`, 32
-    /// bits.
+    /// Sequence number of the data written, relative to the start of the subflow,
+    /// `MPTCP_SUBFLOW_ATTR_RELWRITE_SEQ`, 32 bits.
     RelativeWriteSequence,
-    /// Where in the connection the mapped data begins, `MPTCP_SUBFLOW_ATTR_MAP_SEQ`, 64 bits.
+    /// Sequence number in the connection at which the mapped data starts,
+    /// `MPTCP_SUBFLOW_ATTR_MAP_SEQ`, 64 bits.
     MapSequence,
-    /// Where in the subflow it begins, `MPTCP_SUBFLOW_ATTR_MAP_SFSEQ`, 32 bits.
+    /// Sequence number in the subflow at which the mapped data starts,
+    /// `MPTCP_SUBFLOW_ATTR_MAP_SFSEQ`, 32 bits.
     MapSubflowSequence,
-    /// The subflow's first sequence number, `MPTCP_SUBFLOW_ATTR_SSN_OFFSET`, 32 bits.
+    /// First sequence number of the subflow, `MPTCP_SUBFLOW_ATTR_SSN_OFFSET`, 32 bits.
     SequenceOffset,
-    /// How many bytes are mapped, `MPTCP_SUBFLOW_ATTR_MAP_DATALEN`, 16 bits.
+    /// Length of the mapped data in bytes, `MPTCP_SUBFLOW_ATTR_MAP_DATALEN`, 16 bits.
     MapLength,
-    /// The bits `MPTCP_SUBFLOW_FLAG_..`, `MPTCP_SUBFLOW_ATTR_FLAGS`, 32 bits.
+    /// Flags of the subflow, `MPTCP_SUBFLOW_ATTR_FLAGS`, 32 bits: bits `MPTCP_SUBFLOW_FLAG_..`.
     Flags,
-    /// The address's number at the other end, `MPTCP_SUBFLOW_ATTR_ID_REM`, 8 bits.
+    /// Id of the remote address, `MPTCP_SUBFLOW_ATTR_ID_REM`, 8 bits.
     RemoteId,
-    /// The address's number at this end, `MPTCP_SUBFLOW_ATTR_ID_LOC`, 8 bits.
+    /// Id of the local address, `MPTCP_SUBFLOW_ATTR_ID_LOC`, 8 bits.
     LocalId,
 }
 
 impl SubflowField {
     ghost use Rattle.sock_diag_extras.specs.UlpInfo.{subflow_row};
 
-    /// The kind of its attribute, and how many bytes it has.
+    /// Returns the kind of the field's attribute, and the length of its value in bytes.
     pub fn row(self) -> (u16, usize)
         ensures { result ≡ subflow_row self }
     {
@@ -190,7 +196,8 @@ impl SubflowField {
 impl SubflowInfo<'_> {
     ghost use Rattle.sock_diag_extras.specs.UlpInfo.{subflow_row};
 
-    /// The number, where it is told. Another length than its own is `WrongLength`.
+    /// Returns the value of the field, or `None` if it has no attribute. A length of the
+    /// attribute's value other than the field's is `WrongLength`.
     pub fn get(&self, field: SubflowField) -> Result<Option<u64>, DecodeError>
         ensures { result ≡ number_in (subflow_row field) (nested_bytes self.now.0) }
     {

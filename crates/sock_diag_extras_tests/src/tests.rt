@@ -1,4 +1,6 @@
-//! The bytes are worked out by hand from the layouts of sock_diag(7) and `linux/inet_diag.h`.
+//! Tests of lenient replies, acknowledgements, and the attributes that the port lacks. The bytes
+//! are derived by hand from sock_diag(7) and `linux/inet_diag.h`, except for the bytes that Linux
+//! sent, as noted below.
 
 use netlink_core::{DecodeError, FamilyView, NlasIterator};
 use sock_diag_extras::{
@@ -12,7 +14,7 @@ use std::fmt::Debug;
 use std::process::Abort;
 use std::test::Fail;
 
-/// The bytes of a reply: a header of zeros that begins with the family, and attributes.
+/// Returns the bytes of a reply: a header of `header` bytes, zero after the family, and attributes.
 fn reply(alloc: Global, family: u8, header: usize, attributes: &[u8]) -> Result<Vec<u8>, Fail> {
     let mut bytes = Vec::from_slice(alloc, &[family])?;
     bytes.resize(header, 0)?;
@@ -20,7 +22,8 @@ fn reply(alloc: Global, family: u8, header: usize, attributes: &[u8]) -> Result<
     Ok(bytes)
 }
 
-/// What each attribute of a reply says, or its kind and why it is rejected.
+/// Returns the `Debug` output of the view of each attribute, or the kind and the error of a
+/// rejected one.
 fn items<'a, V>(alloc: Global, attributes: LenientNlas<'a, V>) -> Result<String, Fail>
 where
     V: FamilyView<'a> + Debug + Drop,
@@ -36,7 +39,8 @@ where
     Ok(text)
 }
 
-/// A record, which is written back as it was read.
+/// Returns the `Debug` output of the record in the bytes, and whether it serializes to the same
+/// bytes.
 fn record<T: AttributeRecord + Debug + Drop>(alloc: Global, bytes: &[u8]) -> Result<String, Fail> {
     let told = read_attribute_record::<T>(bytes).ok_or("too short")?;
     let mut back = vec![in alloc; 1; bytes.len()]?;
@@ -45,7 +49,8 @@ fn record<T: AttributeRecord + Debug + Drop>(alloc: Global, bytes: &[u8]) -> Res
     Ok(format!(in alloc; "{told:?} {same}")?)
 }
 
-/// An address with zeros behind it.
+/// Returns the port, the IP address and the scope of a stored address. Its bytes are `front`,
+/// padded with zeros.
 fn address(alloc: Global, front: &[u8]) -> Result<String, Fail> {
     let mut value = Vec::from_slice(alloc, front)?;
     value.resize(128, 0)?;
@@ -53,7 +58,7 @@ fn address(alloc: Global, front: &[u8]) -> Result<String, Fail> {
     Ok(format!(in alloc; "{} {:?} {}", told.port, told.ip(), told.scope_id)?)
 }
 
-/// What an acknowledgement tells.
+/// Returns the content of an acknowledgement as text, or `nothing` if it could not be parsed.
 fn acknowledgement(alloc: Global, ack: Option<AckView<'_>>) -> Result<String, Fail> {
     let Some(ack) = ack else {
         return Ok(String::from_str(alloc, "nothing")?);
@@ -66,7 +71,7 @@ fn acknowledgement(alloc: Global, ack: Option<AckView<'_>>) -> Result<String, Fa
     Ok(format!(in alloc; "{numbers:?} {message:?} {offset:?} {policy:?}")?)
 }
 
-/// What stands on a connection.
+/// Returns the upper layer protocol of a connection as text: its name, and fields of TLS and MPTCP.
 fn upper_protocol(alloc: Global, value: &[u8]) -> Result<String, DecodeError> {
     let info = UlpInfo::parse(value)?;
     let mut text = format!(in alloc; "{:?}", info.name()?)?;
@@ -83,7 +88,7 @@ fn upper_protocol(alloc: Global, value: &[u8]) -> Result<String, DecodeError> {
     Ok(text)
 }
 
-/// The map and the value of each storage.
+/// Returns the map id and the value of each storage of BPF programs as text.
 fn storages(alloc: Global, value: &[u8]) -> Result<String, Fail> {
     let mut text = String::new(alloc);
     for item in NlasIterator::new(value) {
@@ -96,7 +101,8 @@ fn storages(alloc: Global, value: &[u8]) -> Result<String, Fail> {
     Ok(text)
 }
 
-/// What is told by bytes, by the word that stands before them: a digit is the flags of an error.
+/// Returns the content of the bytes as text. The word before them in a row selects the parser; a
+/// number is the flags of an `NLMSG_ERROR`.
 fn told(alloc: Global, word: &str, bytes: &[u8]) -> Result<String, Fail> {
     match word {
         "reply" => {
@@ -122,8 +128,8 @@ fn told(alloc: Global, word: &str, bytes: &[u8]) -> Result<String, Fail> {
     }
 }
 
-// Linux 6.18 sent what is told under 512, 768, 256 and `done`, the first row under 0, and that of
-// MPTCP.
+// A row has a word, bytes in hexadecimal, and after `|` the expected text. Linux 6.18 sent the
+// bytes of the rows 512, 768, 256 and `done`, of the first row 0, and of the `ulp` row about MPTCP.
 const ROWS: &str = "\
 reply |
 reply 08000200010203040500080001000000|\
@@ -191,8 +197,9 @@ fn rows(rt: HostRuntime) -> Result<(), Fail> {
     Ok(())
 }
 
-/// The retransmissions in all and the marked bytes that came, where a kernel tells so much, and
-/// whether it tells all of the port's record.
+/// Checks two fields of `struct tcp_info` (total retransmissions, and bytes received with the ECN
+/// mark CE) and the port's record, for values of several lengths. A field has a value only if the
+/// bytes contain all of it.
 #[test]
 fn as_far_as_the_bytes_go(rt: HostRuntime) -> Result<(), Fail> {
     let mut value = [0; 281];
@@ -215,7 +222,8 @@ fn as_far_as_the_bytes_go(rt: HostRuntime) -> Result<(), Fail> {
     Ok(())
 }
 
-/// A key that Linux 6.18 told, with the zeros behind it, and 7 bytes that are left.
+/// Checks a record with a key that Linux 6.18 sent. It is padded with zeros, and 7 bytes remain
+/// after the record.
 #[test]
 fn signatures(rt: HostRuntime) -> Result<(), Fail> {
     let digits = "022006007f000002000000000000000000000000736563726574";
@@ -229,7 +237,7 @@ fn signatures(rt: HostRuntime) -> Result<(), Fail> {
     Ok(())
 }
 
-/// Asserts that `Debug` prints a value as this text.
+/// Asserts that `Debug` prints the value as the text.
 fn is_text(
     rt: &impl Abort,
     alloc: Global,
@@ -241,7 +249,7 @@ fn is_text(
     Ok(())
 }
 
-/// Returns what `Debug` prints of each item of a walk.
+/// Returns the `Debug` output of each item of the iterator.
 fn debug_items<'a, V>(alloc: Global, attributes: LenientNlas<'a, V>) -> Result<String, Fail>
 where
     V: FamilyView<'a> + Debug + Drop,
@@ -253,7 +261,8 @@ where
     Ok(text)
 }
 
-/// Asserts that `Debug` prints all that borrows an attribute with this value by its bytes.
+/// Asserts that `Debug` prints the bytes of each type that borrows an attribute with this value, or
+/// the value itself.
 fn values_have_texts_of(rt: &impl Abort, alloc: Global, value: &[u8]) -> Result<(), Fail> {
     let [low, high] = u16::try_from(value.len().saturating_add(4))?.to_le_bytes();
     let mut bytes = Vec::from_slice(alloc, &[low, high, 1, 0])?;
@@ -294,7 +303,7 @@ fn values_have_texts(rt: HostRuntime) -> Result<(), Fail> {
     Ok(())
 }
 
-/// All fields of `struct tcp_info`.
+/// All fields of `struct tcp_info`, in order.
 const TCP_FIELDS: [TcpField; 68] = [
     TcpField::State,
     TcpField::CaState,
@@ -366,7 +375,7 @@ const TCP_FIELDS: [TcpField; 68] = [
     TcpField::AccecnOptSeen,
 ];
 
-/// What `Debug` prints of them.
+/// The `Debug` output of [`TCP_FIELDS`].
 const TCP_TEXT: &str = "\
 [State, CaState, Retransmits, Probes, Backoff, Options, Wscale, DeliveryRateAppLimited, Rto, \
 Ato, SndMss, RcvMss, Unacked, Sacked, Lost, Retrans, Fackets, LastDataSent, LastAckSent, \
@@ -378,7 +387,7 @@ DsackDups, ReordSeen, RcvOoopack, SndWnd, RcvWnd, Rehash, TotalRto, TotalRtoReco
 TotalRtoTime, ReceivedCe, DeliveredE1Bytes, DeliveredE0Bytes, DeliveredCeBytes, \
 ReceivedE1Bytes, ReceivedE0Bytes, ReceivedCeBytes, AccecnFailMode, AccecnOptSeen]";
 
-/// All options of a socket.
+/// All options of a socket, in the order of their bits.
 const OPTIONS: [SocketOption; 11] = [
     SocketOption::RecvErr,
     SocketOption::IsIcsk,

@@ -1,4 +1,4 @@
--- A request of any family that is written is read back.
+-- A request for sockets of any family round-trips.
 use Rattle.std.proofs.Common.{◌≡◌, ◌∙◌, ℕ, ◌+◌, ◌≤◌, List, [], ◌++◌, length}
 use Rattle.std.proofs.Common.{drop, refl, sym, ap, subst, arith, inl, inr, Result, Ok}
 use Rattle.std.proofs.Common.{append-nil}
@@ -37,7 +37,7 @@ use Rattle.sock_diag_filters.proofs.ReadBack.{reads_as, stands, whole_message}
 same_value : {A : Type 0} (r : Result A DecodeError) (x y : A) → r ≡ Ok x → r ≡ Ok y → x ≡ y
 same_value r x y h k = cc
 
--- ---- the family that is told
+-- ---- the family of a request
 
 inet_asked : (first : ℕ) (kinds : IpVersions) → versions_of_family first ≡ Ok kinds
     → family_by_byte first ≡ Ok inet
@@ -107,7 +107,7 @@ module _ (family : RecordFamily) (h : NetlinkHeader) (request : (codec_of family
   behind_record = ap (drop (size_of family)) record_stands.1
       ∙ drop_at own attributes (size_of family) long
 
-  -- what is read by the table of the same family
+  -- What is parsed by the layout of the same family is the request that was serialized.
   same_record : (k : RecordFamily) → family ≡ k → (v : (codec_of k).Value) (behind : List ℕ)
       → (codec_of k).reads tt (payload_of message h) ≡ Ok v
       → behind ≡ drop (size_of k) (payload_of message h)
@@ -143,7 +143,7 @@ module _ (family : RecordFamily) (h : NetlinkHeader) (request : (codec_of family
   record_never_refused e h =
       grind (arith, length-append, no_fault_of_whole, long, one_header, record_asked, record_read)
 
--- ---- requests for internet sockets
+-- ---- requests for IPv4 and IPv6 sockets
 
 module _ (h : NetlinkHeader) (request : InetRequest) (attributes : List RequestAttribute)
     (can : CanBeAsked h request attributes) (kind : IsRequestType h.message_type) where

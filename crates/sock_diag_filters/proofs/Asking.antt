@@ -1,4 +1,4 @@
--- What attributes tell, one after the other.
+-- The last program and the last protocol, updated by one attribute after another.
 use Rattle.std.proofs.Common.{arith}
 use Rattle.std.proofs.Common.{◌≡◌, List, [], ◌∷◌, ◌++◌, Option, Some, None, refl}
 use Rattle.std.specs.List.{filter_map, last_or}
@@ -14,7 +14,7 @@ last_or-append : {A : Type 0} (o : Option A) (xs ys : List A)
 last_or-append o [] ys = refl
 last_or-append o (x ∷ xs) ys = last_or-append (Some x) xs ys
 
--- what one more tells counts, where it tells something
+-- The last value in a longer list is the value of the added element, if it has one.
 last_more : {A B : Type 0} (f : A → Option B) (xs : List A) (x : A)
     → last_or None (filter_map f (xs ++ x ∷ []))
     ≡ last_or (last_or None (filter_map f xs)) (filter_map f (x ∷ []))

@@ -1,4 +1,4 @@
--- Which request is refused, by the family that is told.
+-- The family of a request, or its error.
 use Rattle.std.proofs.Common.{arith}
 use Rattle.std.proofs.Common.{◌≡◌, ℕ, ◌≤◌, List, length, refl, sym, subst}
 use Rattle.std.proofs.Common.{le-ltb, Result, Err}
@@ -12,14 +12,14 @@ use Rattle.sock_diag_filters.specs.AnyRequest.{family_in, refuses_by}
 use Rattle.sock_diag_filters.specs.AnyRequest.{family_by_byte}
 use Rattle.sock_diag_filters.specs.Asked.{IsRequestType}
 
--- the first byte of a request tells its family
+-- The first byte of a request's payload determines its family.
 pub asked_is : (payload : List ℕ) (t : ℕ) (decoded : Result AskedFamily DecodeError)
     → 2 ≤ length payload → IsRequestType t → family_by_byte (slice_index payload 0) ≡ decoded
     → asked_family payload t ≡ decoded
 asked_is payload t decoded long h is =
     grind (arith, le-ltb (length payload) 2 long)
 
--- another type is refused
+-- A message type other than 20 and 21 is rejected.
 pub other_is_refused : (payload : List ℕ) (t : ℕ) → 2 ≤ length payload → ¬ IsRequestType t
     → asked_family payload t ≡ Err (UnknownMessageType t)
 other_is_refused payload t long other =

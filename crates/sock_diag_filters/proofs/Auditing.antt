@@ -1,4 +1,4 @@
--- The kernel takes the program of each filter that isn't too long.
+-- The program of a filter passes the kernel's audit if it has at most 65,531 bytes.
 use Rattle.std.proofs.Common.{◌≡◌, ◌∙◌, ℕ, ◌+◌, ◌*◌, ◌-◌, ◌%◌, ◌<◌, ◌≤◌, ◌⊎◌, List, [], ◌++◌}
 use Rattle.std.proofs.Common.{length, refl, sym, ap, subst, arith, Some, inl, inr, append-nil}
 use Rattle.std.proofs.Common.{append_assoc}
@@ -17,18 +17,19 @@ use Rattle.sock_diag_filters.proofs.Operations.{condition_known, no_of_operation
 use Rattle.sock_diag_filters.proofs.Operations.{program_length, size_in_fours, size_some}
 use Rattle.sock_diag_filters.proofs.Stepping.{Lands, before, over_operation, over_program, steps_on}
 
--- one goes on to the end or four bytes past it at the most
+-- A jump target is at most 4 bytes past the end.
 lands_within : (far : ℕ) (rest : List ℕ) → Lands far rest → far ≤ length rest + 4
 lands_within far rest lands =
     grind arith
 
--- what is behind some operation is reachable
+-- The target of a jump from an operation is reachable if it is before the end of the program.
 lands_there : (program left : List ℕ) (own far : ℕ) (rest : List ℕ) → Steps program left
     → Steps left rest → length left ≡ own + length rest → Lands far rest → own + far < length left
     → IsReachable program (length left - (own + far))
 lands_there program left own far rest to passing long lands less =
     grind (arith, steps_on program left, steps_on left rest)
 
+-- The bytes from an operation on pass the audit if the bytes after the operation do.
 operation_passes : (program : List ℕ) (code : ℕ) (args : List ℕ) (far : ℕ) (rest : List ℕ)
     → least_of (operation code args far ++ rest) ≡ Some (4 + length args)
     → ((code ≡ 7) ⊎ (code ≡ 8)
@@ -60,12 +61,14 @@ operation_passes program code args far rest known bits fours far_fours near to l
       steps_in_fours = omega arith;
     }) (subst (Passes program) (sym (behind_operation code args far rest)) passes)
 
--- what is so far behind the rest is as much further behind what stands before it
+-- A jump target after the start of `rest` is a jump target after the start of the bytes before it,
+-- at a distance that is greater by the length of these bytes.
 lands_behind : (front rest : List ℕ) (far own : ℕ) → Steps (front ++ rest) rest
     → length front ≡ own → Lands far rest → Lands (own + far) (front ++ rest)
 lands_behind front rest far own passing long lands =
     grind (arith, length-append front rest, steps_on (front ++ rest) rest)
 
+-- The bytes from a jump on pass the audit if the bytes after the jump do.
 jump_passes : (program : List ℕ) (far : ℕ) (rest : List ℕ) → far % 4 ≡ 0 → 4 + far ≤ 65535
     → Steps program (jump far ++ rest) → Lands far rest → Passes program rest
     → Passes program (jump far ++ rest)
@@ -73,6 +76,7 @@ jump_passes program far rest fours near to lands passes =
     operation_passes program 1 [] far rest refl (λ is. absurd (omega arith)) refl fours
     (omega arith) to lands passes
 
+-- The bytes from the program of a filter on pass the audit if the bytes after the program do.
 program_passes : (f : Filter) (far : ℕ) (program rest : List ℕ) → far % 4 ≡ 0
     → size f + far ≤ 65535 → Steps program (program_of f far ++ rest) → Lands far rest
     → Passes program rest → Passes program (program_of f far ++ rest)
@@ -128,6 +132,7 @@ program_passes (parts.Not' p a) far program rest fours near to lands passes =
     (inr (rest, past_jump, omega arith))
     (jump_passes program far rest fours (omega arith) to_jump lands passes))
 
+-- A complete program passes the audit.
 pub program_audited : (f : Filter) → size f ≤ 65531 → IsAudited (program_of f 4)
 program_audited f short =
     let program : List ℕ = program_of f 4 in

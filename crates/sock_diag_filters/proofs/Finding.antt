@@ -1,4 +1,4 @@
--- What is found of a socket is what the conditions mean.
+-- The kernel's evaluation of a condition's operation is whether the socket meets the condition.
 use Rattle.std.proofs.Common.{◌≡◌, ℕ, ◌<◌, ◌^◌, List, [], ◌++◌, ap, arith}
 use Rattle.std.proofs.Common.{Option}
 use Rattle.std.specs.Prelude.{◌||◌, ◌==◌, not, slice_index, drop, unwrap_or}
@@ -19,7 +19,7 @@ use Rattle.sock_diag_filters.specs.Sockets.{finds_host, found_by, has_port, has_
 use Rattle.sock_diag_filters.specs.Sockets.{is_within, meets}
 use Rattle.sock_diag_filters.proofs.Operations.{host, with_address}
 
--- a number is read back from its bytes
+-- A number that fits `n` bytes round-trips through little-endian bytes.
 back : (n x : ℕ) (rest : List ℕ) → x < 256 ^ n → little_number n (little_bytes n x ++ rest) ≡ x
 back n x rest fits = number-reads_back little_endian n x rest fits
 

@@ -1,4 +1,4 @@
--- Operations: what stands in one, and how long they are.
+-- The parts and the lengths of operations and programs.
 use Rattle.std.proofs.Common.{◌≡◌, ℕ, ◌+◌, ◌*◌, ◌-◌, ◌%◌, ◌≤◌, ◌⊎◌, List, [], ◌∷◌, ◌++◌}
 use Rattle.std.proofs.Common.{length, drop, arith, Option, Some}
 use Rattle.std.specs.Prelude.{slice_index, option_map}
@@ -17,7 +17,7 @@ use Rattle.sock_diag_filters.specs.Filters.{size}
 use Rattle.sock_diag_filters.specs.Audit.{address_length, least_of, no_at, yes_at}
 use Rattle.sock_diag_filters.specs.private.Assembly.{operation, program_of}
 
--- ---- one operation before a rest
+-- ---- an operation followed by other bytes
 
 pub operation_length : (code : ℕ) (args : List ℕ) (far : ℕ)
     → length (operation code args far) ≡ 4 + length args
@@ -42,11 +42,12 @@ no_of_operation code args far rest near =
 
 -- ---- conditions
 
--- a host: the bytes of its struct, with an address and without
+-- The bytes of a `struct inet_diag_hostcond` with an address.
 abbrev pub with_address : IpAddr → ℕ → ℕ → List ℕ
 with_address a bits port =
     (family_of a ∷ bits ∷ 0 ∷ 0 ∷ []) ++ (little_bytes 4 port ++ octets_of a)
 
+-- The bytes of a `struct inet_diag_hostcond` with or without an address.
 abbrev pub host : Option Prefix → ℕ → List ℕ
 host o port = front_of o ++ (little_bytes 4 port ++ octets_behind o)
 
@@ -83,19 +84,20 @@ host_bits : (o : Option Prefix) (code far port : ℕ) (rest : List ℕ)
 host_bits o code far port rest =
     grind (arith, address_bits)
 
--- the arguments of a condition come in fours, and are few
+-- The length of a condition's arguments is a multiple of 4.
 pub arguments_in_fours : (c : Condition) → length (arguments c) % 4 ≡ 0
 arguments_in_fours c =
     grind (arith, host_in_fours)
 
--- the kernel knows it, and wants no more bytes than it has
+-- The kernel knows the operation of each condition, and its minimum length is the operation's
+-- length.
 pub condition_known : (c : Condition) (far : ℕ) (rest : List ℕ)
     → least_of (operation (code_of c) (arguments c) far ++ rest)
     ≡ Some (4 + length (arguments c))
 condition_known c far rest =
     grind (arith, host_least)
 
--- and no more bits than its address has
+-- The prefix of a host condition does not have more bits than its address.
 pub condition_bits : (c : Condition) (far : ℕ) (rest : List ℕ)
     → (code_of c ≡ 7) ⊎ (code_of c ≡ 8)
     → slice_index (operation (code_of c) (arguments c) far ++ rest) 5
@@ -135,7 +137,7 @@ program_length (parts.Not' p a) far =
       operation 1,
     )
 
--- a program comes in fours
+-- The length of a program is a multiple of 4.
 pub size_in_fours : (f : Filter) → size f % 4 ≡ 0
 size_in_fours (parts.Condition c) = let four = arguments_in_fours c in omega arith
 size_in_fours (parts.And' p a q b) =
@@ -144,7 +146,7 @@ size_in_fours (parts.Or' p a q b) =
     grind (arith, size_in_fours a, size_in_fours b)
 size_in_fours (parts.Not' p a) = let first = size_in_fours a in omega arith
 
--- and isn't empty
+-- A program has at least 4 bytes.
 pub size_some : (f : Filter) → 4 ≤ size f
 size_some (parts.And' p a q b) = let first = size_some a in omega arith
 size_some f = grind arith

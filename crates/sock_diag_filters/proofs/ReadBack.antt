@@ -1,4 +1,4 @@
--- A request that is written with attributes is read back.
+-- A request with attributes round-trips.
 use Rattle.std.proofs.lemmas.Grind.{common_steps}
 use Rattle.std.proofs.Common.{◌≡◌, ◌≢◌, ◌∙◌, ℕ, ◌+◌, ◌≤◌, List, [], ◌∷◌, ◌++◌, length, inl, inr}
 use Rattle.std.proofs.Common.{drop, refl, sym, ap, subst, arith, Result, Ok, append_assoc}
@@ -60,7 +60,7 @@ same_value : (t u : AskedAttribute) (r : Result AskedAttribute DecodeError) → 
     → t ≡ u
 same_value t u r h k = cc
 
--- what is told of each is one
+-- The attributes decode to at most one list of contents.
 asked_once : (all : List Attribute) (decoded others : List AskedAttribute)
     → AllZip (λ a t. decodes_asked a ≡ Ok t) all decoded
     → AllZip (λ a t. decodes_asked a ≡ Ok t) all others
@@ -73,7 +73,7 @@ asked_once all decoded others h k = grind arith
 
 -- ---- the message
 
--- no fault of framing stands at the start of a message that its header counts
+-- A message whose length is the length in its header does not start with an error of the header.
 pub no_fault_of_whole : (b : List ℕ) (h : NetlinkHeader) (e : DecodeError) → HasHeader b h
     → length b ≡ h.length → IsEnvelopeFault b e → ⊥
 no_fault_of_whole b h e head whole fault =
@@ -94,14 +94,14 @@ no_fault_of_whole b h e head whole fault =
     let some : b ≢ [] = λ none. omega (arith, ap length none, head.2, whole) in
     absurd (cc (one_cut_into_messages b [] (b ∷ []) (Some e) None (some, fault) alone).0)
 
--- a request is as long as its header says
+-- The length of a serialized request is the length in its header.
 pub whole_message : (h : NetlinkHeader) (request : InetRequest) (attributes : List RequestAttribute)
     → length (request_bytes h request (map attribute_of attributes))
     ≡ (written_header h attributes).length
 whole_message h request attributes =
     message_length h request (map attribute_of attributes)
 
--- a family stands in front of whatever follows
+-- The family at the start of a record does not depend on the bytes after the record.
 goes_on : (kinds : IpVersions) (left rest : List ℕ) → 56 ≤ length left
     → versions_of_family (slice_index left 0) ≡ Ok kinds
     → versions_of_family (slice_index (left ++ rest) 0) ≡ Ok kinds

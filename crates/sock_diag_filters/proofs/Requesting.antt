@@ -1,4 +1,4 @@
--- How long requests with attributes are, and what is written where nothing follows them.
+-- The length of requests with attributes, and the bytes that they are serialized to.
 use Rattle.std.proofs.Common.{◌≡◌, ◌∙◌, ℕ, ◌+◌, ◌≤◌, List, ◌++◌, length, drop, sym, ap, arith}
 use Rattle.std.proofs.Common.{Ok, append_assoc}
 use Rattle.std.proofs.lemmas.List.{drop-drop, length-append}
@@ -22,7 +22,8 @@ message_length h r attributes =
       request_length r,
     )
 
--- header, record and attributes, written one after the other, are the request
+-- The bytes of the header, the record and the attributes, in this order, are the bytes of the
+-- message.
 pub all_written : (h : NetlinkHeader) (r : InetRequest) (attributes : List Attribute) (len : ℕ)
     (front behind rest old : List ℕ) → len ≡ length (request_bytes h r attributes)
     → front ≡ header_bytes (header_under h len) ++ bytes inet_request r
@@ -42,7 +43,7 @@ all_written h r attributes len front behind rest old size is_front is_behind is_
     ∙ ap (λ (l : List ℕ). own ++ l) (is_behind ∙ ap (λ (l : List ℕ). given ++ l) left)
     ∙ sym (append_assoc own given (drop (length (request_bytes h r attributes)) old))
 
--- a string that a request is read from has its 56 bytes
+-- Bytes that parse as a request's record are at least 56.
 pub enough : (left : List ℕ) (r : InetRequest) → read inet_request tt left ≡ Ok r → 56 ≤ length left
 unfolding inet_request
 enough left r is = (accepted inet_request tt left r is).long

@@ -1,4 +1,4 @@
--- The program of a filter wants exactly the sockets that the filter means.
+-- The verdict of a run of a filter's program is the meaning of the filter.
 use Rattle.std.proofs.Common.{◌≡◌, ◌∙◌, ℕ, ◌+◌, ◌<◌, ◌≤◌, ◌⊎◌, List, [], ◌++◌, length}
 use Rattle.std.proofs.Common.{drop, refl, sym, ap, subst, arith, inl, inr, Bool, true, false}
 use Rattle.std.proofs.Common.{append-nil, append_assoc}
@@ -16,7 +16,7 @@ use Rattle.sock_diag_filters.specs.private.Assembly.{jump, operation, program_of
 use Rattle.sock_diag_filters.proofs.Operations.{behind_operation, no_of_operation, operation_length}
 use Rattle.sock_diag_filters.proofs.Operations.{program_length}
 
--- ---- two truths
+-- ---- Boolean values
 
 both_true : (a b : Bool) → a ≡ true → b ≡ true → (a && b) ≡ true
 both_true a b h k =
@@ -48,12 +48,12 @@ is_false a h = ap not h
 is_true : (a : Bool) → a ≡ false → not a ≡ true
 is_true a h = ap not h
 
--- whatever follows of either holds
+-- What follows from each of the two values of a `Bool` holds.
 either : (b : Bool) (P : Type 0) → (b ≡ true → P) → (b ≡ false → P) → P
 either b P wanted unwanted =
     grind arith
 
--- ---- codes
+-- ---- codes and arguments
 
 no_nop : (c : Condition) → (code_of c == 0) ≡ false
 no_nop c =
@@ -81,7 +81,8 @@ module _ (found : ℕ → List ℕ → Bool) where
         arguments_are (code_of c) (arguments c) far rest,
       )
 
-  -- the verdict so many bytes on from the start of the rest
+  -- The verdict `v` of a run that continues `far` bytes after the start of `rest`: the verdict of
+  -- the run there, or `false` if this is past the end.
   abbrev Goes : ℕ → List ℕ → Bool → Type 0
   Goes far rest v =
       ((far ≤ length rest) × Runs found (drop far rest) v) ⊎ ((length rest < far) × (v ≡ false))
@@ -132,6 +133,7 @@ module _ (found : ℕ → List ℕ → Bool) where
   jump_runs far rest v near goes =
       operation_runs 1 [] far rest v (omega arith) (λ met. absurd cc) (λ unmet. goes)
 
+  -- Whether the filter selects the socket.
   abbrev wants : Filter → Bool
   wants f = meaning (λ (c : Condition). found (code_of c) (arguments c)) f
 

@@ -1,4 +1,4 @@
--- One comes from operation to operation, up to the end of a program.
+-- Stepping over the operations of a program leads to its end.
 use Rattle.std.proofs.lemmas.Grind.{common_steps}
 use Rattle.std.proofs.Common.{◌≡◌, ◌∙◌, ℕ, ◌+◌, ◌%◌, ◌⊎◌, List, [], ◌++◌}
 use Rattle.std.proofs.Common.{length, drop, refl, sym, ap, subst, arith, append_assoc}
@@ -27,7 +27,7 @@ over_operation code args far rest fours =
     over left rest (omega arith) (omega arith) (omega arith)
     (subst (λ (l : List ℕ). Steps l rest) (sym (behind_operation code args far rest)) (there rest))
 
--- two parts before a rest
+-- Moves the parentheses in a concatenation of three lists.
 abbrev pub before : (P : List ℕ → Type 0) (a b rest : List ℕ) → P (a ++ (b ++ rest))
     → P ((a ++ b) ++ rest)
 before P a b rest h = subst P (sym (append_assoc a b rest)) h
@@ -61,8 +61,8 @@ over_program (parts.Not' p a) far rest =
     (steps_on _ (jump far ++ rest) rest (over_program a 4 (jump far ++ rest))
     (over_operation 1 [] far rest refl))
 
--- From the start of the rest so many bytes on stands an operation, or the end; or they lead four
--- bytes past it.
+-- A valid target of a jump, `far` bytes after the start of `rest`: 4 bytes past the end, or an
+-- operation or the end, which stepping over operations reaches.
 abbrev pub Lands : ℕ → List ℕ → Type 0
 Lands far rest =
     (far ≡ length rest + 4)

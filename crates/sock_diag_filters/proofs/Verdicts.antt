@@ -1,4 +1,4 @@
--- A run of a program has one verdict.
+-- A run of a program has at most one verdict.
 use Rattle.std.proofs.Common.{◌≡◌, ℕ, List, drop, refl, arith, Bool}
 use Rattle.sock_diag_filters.specs.Run.{Runs, ends, goes_on, goes_past, step}
 

@@ -1,4 +1,4 @@
--- What a request for internet sockets asks, with its attributes.
+-- Parsing of requests for IPv4 and IPv6 sockets, with their attributes.
 use Rattle.std.specs.Prelude.{◌≡◌, ℕ, ◌-◌, ◌==◌, ◌⊎◌, if◌then◌else◌, List, Option, Some, None}
 use Rattle.std.specs.Prelude.{Result, Ok, Err, take, drop, option_map, unwrap_or}
 use Rattle.std.specs.List.{filter_map, last_or}
@@ -17,69 +17,85 @@ use Rattle.sock_diag_filters.specs.declared.request.RequestAttribute.TheVariants
 use Rattle.sock_diag_filters.specs.declared.view.Found.{Found}
 use Rattle.sock_diag_filters.specs.declared.view.RequestView.{RequestView}
 
--- what an attribute tells
+-- The content of an attribute: a program, a protocol, or nothing for other attribute types.
 pub data AskedAttribute : Type 0 where
   program_asked : List ℕ → AskedAttribute
   protocol_asked : ℕ → AskedAttribute
   nothing_asked : AskedAttribute
 
--- INET_DIAG_REQ_BYTECODE, 1, carries a program, and INET_DIAG_REQ_PROTOCOL, 3, tells the protocol,
--- in exactly four bytes
+-- The content of an attribute, by its type without the two flag bits. Type 1
+-- (INET_DIAG_REQ_BYTECODE) is a program: the bytes of the value. Type 3 (INET_DIAG_REQ_PROTOCOL) is
+-- a protocol: a little-endian u32; a length other than 4 is WrongLength. Other types have no
+-- content.
 abbrev pub decodes_asked : Attribute → Result AskedAttribute DecodeError
 decodes_asked a =
     if attribute_type a == 1 then Ok (program_asked a.value)
     else if attribute_type a == 3 then map_ok protocol_asked (exact_number None 4 a.value)
     else Ok nothing_asked
 
--- what an attribute tells that is written
+-- The content of a `RequestAttribute`.
 abbrev pub asked_of : RequestAttribute → AskedAttribute
 asked_of (Program program) = program_asked program.now
 asked_of (Protocol protocol) = protocol_asked protocol
 
+-- The program, if the content is one.
 abbrev pub program_in : AskedAttribute → Option (List ℕ)
 program_in (program_asked program) = Some program
 program_in (protocol_asked protocol) = None
 program_in nothing_asked = None
 
+-- The protocol, if the content is one.
 abbrev pub protocol_in : AskedAttribute → Option ℕ
 protocol_in (program_asked program) = None
 protocol_in (protocol_asked protocol) = Some protocol
 protocol_in nothing_asked = None
 
--- of each the last that is told, where one is
+-- `found` has the last program and the last protocol of `decoded`, or `None` if there is none.
 pub record Keeps (found : Found) (decoded : List AskedAttribute) : Type 0 where
   pub program : option_map (λ program. program.now) found.program
       ≡ last_or None (filter_map program_in decoded)
   pub protocol : found.protocol ≡ last_or None (filter_map protocol_in decoded)
 
--- what stands behind the netlink header
+-- The payload of the message: the bytes after the 16 bytes of the netlink header, up to the length
+-- in the header.
 abbrev pub payload_of : List ℕ → NetlinkHeader → List ℕ
 payload_of message h = take (h.length - 16) (drop 16 message)
 
--- the message has the type 20 or 21
+-- The message type is 20 (SOCK_DIAG_BY_FAMILY) or 21 (SOCK_DESTROY).
 abbrev pub IsRequestType : ℕ → Type 0
 IsRequestType t = (t ≡ 20) ⊎ (t ≡ 21)
 
--- The message has this header and this request, and from 56 on the attributes that are told. The
--- request's own protocol counts where none of them tells one.
+-- The message parses as the view.
 pub record Asks (message : List ℕ) (view : RequestView) : Type 0 where
+  -- the message starts with the netlink header of the view
   pub framed : HasHeader message view.header
+  -- the message type is 20 or 21
   pub kind : IsRequestType view.header.message_type
+  -- the payload starts with the record of the view, `struct inet_diag_req_v2` of 56 bytes
   pub asked : read inet_request tt (payload_of message view.header) ≡ Ok view.request
+  -- the bytes of the payload after the record split into attributes with this content, in order
   pub decoded : List AskedAttribute
   pub means : AttributesMean decodes_asked (drop 56 (payload_of message view.header)) decoded
+  -- the program of the view is the last program of the attributes, if there is one
   pub program : option_map (λ program. program.now) view.program
       ≡ last_or None (filter_map program_in decoded)
+  -- the protocol of the view is the last protocol of the attributes, or the record's protocol if
+  -- there is none
   pub protocol : view.protocol
       ≡ unwrap_or (last_or None (filter_map protocol_in decoded)) view.request.protocol
 
--- of several faults the first
+-- The message is rejected with `e`, the first error in it. Each case states that there is no error
+-- of the cases before it.
 pub data RefusesRequest (message : List ℕ) (e : DecodeError) : Type 0 where
+  -- the bytes do not start with a netlink message
   no_message : IsEnvelopeFault message e → RefusesRequest message e
+  -- the message type is neither 20 nor 21
   other_type : (h : NetlinkHeader) → HasHeader message h → ¬ IsRequestType h.message_type
       → e ≡ UnknownMessageType h.message_type → RefusesRequest message e
+  -- the payload does not start with a valid `struct inet_diag_req_v2`
   no_request : (h : NetlinkHeader) → HasHeader message h → IsRequestType h.message_type
       → read inet_request tt (payload_of message h) ≡ Err e → RefusesRequest message e
+  -- the bytes after the record have an attribute that is invalid, or a framing error
   no_attributes : (h : NetlinkHeader) (asked : InetRequest) → HasHeader message h
       → IsRequestType h.message_type → read inet_request tt (payload_of message h) ≡ Ok asked
       → AttributeFault decodes_asked (drop 56 (payload_of message h)) e → RefusesRequest message e

@@ -1,12 +1,13 @@
--- Why a filter has no program.
+-- The errors of assembling a filter.
 use Rattle.std.specs.Prelude.{◌<◌, ◌≤◌}
 use Rattle.sock_diag_filters.specs.declared.assembly.AssembleError.{AssembleError}
 use Rattle.sock_diag_filters.specs.declared.assembly.AssembleError.TheVariants.{Memory, TooLong}
 use Rattle.sock_diag_filters.specs.declared.filter.Filter.{Filter}
 use Rattle.sock_diag_filters.specs.Filters.{size}
 
--- `TooLong` if an attribute cannot hold the program, whose length field then is too small;
--- `Memory` only if an attribute can
+-- The error of a filter. It is `TooLong` only if the program has more than 65,531 bytes, so that
+-- its length does not fit the length field of an attribute. It is `Memory` only if the program is
+-- not too long.
 abbrev pub IsRefused : Filter → AssembleError → Type 0
 IsRefused filter TooLong = 65531 < size filter
 IsRefused filter Memory = size filter ≤ 65531

@@ -1,4 +1,5 @@
--- Conditions as linux/inet_diag.h tells them: INET_DIAG_BC_.. and the arguments of each.
+-- Conditions as operations of linux/inet_diag.h: the code INET_DIAG_BC_.. and the arguments of
+-- each.
 use Rattle.std.specs.Prelude.{◌≡◌, ℕ, ◌≤◌, List, [], ◌∷◌, ◌++◌, Option, Some, None, unwrap_or}
 use Rattle.byteorder.specs.Endian.{little_bytes}
 use Rattle.std.specs.declared.net.ip_addr.IpAddr.{IpAddr}
@@ -15,25 +16,26 @@ use Rattle.sock_diag_filters.specs.declared.condition.Condition.TheVariants.{Mar
 use Rattle.sock_diag_filters.specs.declared.condition.Condition.TheVariants.{AutoBound}
 use Rattle.sock_diag_filters.specs.Prefixes.{bits_of, family_of, octets_of, port_bytes}
 
--- there are these bits of the address, exactly where it has as many
+-- The result of `Prefix::new`: the prefix of `bits` bits of `address`, or `None` only if the
+-- address has fewer bits. A `Prefix` never has more bits than its address.
 abbrev pub IsPrefix : Option Prefix → IpAddr → ℕ → Type 0
 IsPrefix (Some p) address bits = (p.address ≡ address) × (p.bits ≡ bits)
 IsPrefix None address bits = bits ≤ bits_of address → ⊥
 
--- S_GE, S_LE and S_EQ
+-- The code of a comparison of the local port: 2 INET_DIAG_BC_S_GE, 3 S_LE, 11 S_EQ.
 abbrev pub source_code : Comparison → ℕ
 source_code AtLeast = 2
 source_code AtMost = 3
 source_code Equal = 11
 
--- D_GE, D_LE and D_EQ
+-- The code of a comparison of the remote port: 4 INET_DIAG_BC_D_GE, 5 D_LE, 12 D_EQ.
 abbrev pub destination_code : Comparison → ℕ
 destination_code AtLeast = 4
 destination_code AtMost = 5
 destination_code Equal = 12
 
--- the code of a condition: behind comparisons of ports S_COND, D_COND, DEV_COND, MARK_COND,
--- CGROUP_COND and AUTO
+-- The code of a condition's operation. Other than for comparisons of ports: 7 INET_DIAG_BC_S_COND,
+-- 8 D_COND, 9 DEV_COND, 10 MARK_COND, 13 CGROUP_COND, 6 AUTO.
 abbrev pub code_of : Condition → ℕ
 code_of (SourcePort comparison port) = source_code comparison
 code_of (DestinationPort comparison port) = destination_code comparison
@@ -44,22 +46,27 @@ code_of (Mark mark mask) = 10
 code_of (Cgroup number) = 13
 code_of AutoBound = 6
 
--- family, number of bits, two bytes that are not read, and behind the port the octets; without
--- an address AF_UNSPEC and no bits
+-- The first four bytes of a `struct inet_diag_hostcond`: `family`, `prefix_len` and two bytes of
+-- padding. Without a prefix, the family is 0 (AF_UNSPEC) and `prefix_len` 0.
 abbrev pub front_of : Option Prefix → List ℕ
 front_of None = 0 ∷ 0 ∷ 0 ∷ 0 ∷ []
 front_of (Some p) = family_of p.address ∷ p.bits ∷ 0 ∷ 0 ∷ []
 
+-- The bytes of `addr` of a `struct inet_diag_hostcond`: the octets of the address, if there is one.
 abbrev pub octets_behind : Option Prefix → List ℕ
 octets_behind None = []
 octets_behind (Some p) = octets_of p.address
 
--- struct inet_diag_hostcond: the port is a number of 32 bits, -1 where none is asked for
+-- The bytes of a `struct inet_diag_hostcond`: `family`, `prefix_len`, padding, then `port` as a
+-- little-endian number of 32 bits, which is -1 without a port, and `addr`.
 abbrev pub host_bytes : Host → List ℕ
 host_bytes h =
     front_of h.prefix ++ (little_bytes 4 (unwrap_or h.port 0xffffffff) ++ octets_behind h.prefix)
 
--- what follows the four bytes of the operation; of a mark struct inet_diag_markcond
+-- The arguments of a condition's operation: the bytes after its `struct inet_diag_bc_op` of four
+-- bytes. For a port they are a second `struct inet_diag_bc_op`, for a host a
+-- `struct inet_diag_hostcond`, for an interface its index as a u32, for a mark a
+-- `struct inet_diag_markcond`, and for a control group its id as a u64, each little-endian.
 abbrev pub arguments : Condition → List ℕ
 arguments (SourcePort comparison port) = port_bytes port
 arguments (DestinationPort comparison port) = port_bytes port

@@ -1,18 +1,20 @@
--- What filters mean, and how long their programs are.
+-- The meaning of filters, and the length of their programs.
 use Rattle.std.specs.Prelude.{ℕ, ◌+◌, Bool, ◌&&◌, ◌||◌, not, length}
 use Rattle.sock_diag_filters.specs.declared.condition.Condition.{Condition}
 use Rattle.sock_diag_filters.specs.declared.filter.Filter.{Filter}
 use Rattle.sock_diag_filters.specs.declared.filter.Filter.TheVariants as parts
 use Rattle.sock_diag_filters.specs.Conditions.{arguments}
 
--- whether a socket is wanted that meets those conditions
+-- Whether the filter selects a socket. `met` returns whether the socket meets a condition.
 abbrev pub meaning : (Condition → Bool) → Filter → Bool
 meaning met (parts.Condition c) = met c
 meaning met (parts.And' p first q second) = meaning met first && meaning met second
 meaning met (parts.Or' p first q second) = meaning met first || meaning met second
 meaning met (parts.Not' p filter) = not (meaning met filter)
 
--- four bytes for each condition, before its arguments, for each `or` and for each `not`
+-- The length of a filter's program in bytes. An operation has 4 bytes (`struct inet_diag_bc_op`)
+-- and its arguments. A condition is one operation. `or` and `not` add one operation without
+-- arguments, a jump; `and` adds none.
 abbrev pub size : Filter → ℕ
 size (parts.Condition c) = 4 + length (arguments c)
 size (parts.And' p first q second) = size first + size second

@@ -1,4 +1,4 @@
--- Addresses and ports as a filter tells them.
+-- Addresses and ports in the operations of a filter.
 use Rattle.std.specs.Prelude.{ℕ, List, ◌∷◌}
 use Rattle.std.specs.List.{flat_map}
 use Rattle.byteorder.specs.Endian.{big_bytes, little_bytes}
@@ -6,21 +6,22 @@ use Rattle.std.specs.declared.net.ip_addr.IpAddr.{IpAddr}
 use Rattle.std.specs.declared.net.ip_addr.IpAddr.TheVariants.{V4, V6}
 use Rattle.netlink_core.specs.Table.{first}
 
--- how many bits an address has
+-- The length of an address in bits.
 abbrev pub bits_of : IpAddr → ℕ
 bits_of (V4 ip) = 32
 bits_of (V6 ip) = 128
 
--- AF_INET and AF_INET6
+-- The family of an address: 2 AF_INET, 10 AF_INET6.
 abbrev pub family_of : IpAddr → ℕ
 family_of (V4 ip) = 2
 family_of (V6 ip) = 10
 
--- four octets, or eight segments, the high octet first
+-- The octets of an address in network byte order: four, or two for each of eight segments.
 abbrev pub octets_of : IpAddr → List ℕ
 octets_of (V4 ip) = first 4 ip.octets
 octets_of (V6 ip) = flat_map (big_bytes 2) (first 8 ip.segments)
 
--- a port stands in place of the `no` of an operation of zeros
+-- The arguments of a comparison of ports: a `struct inet_diag_bc_op` whose `code` and `yes` are 0
+-- and whose `no` is the port, a little-endian u16.
 abbrev pub port_bytes : ℕ → List ℕ
 port_bytes port = 0 ∷ 0 ∷ little_bytes 2 port

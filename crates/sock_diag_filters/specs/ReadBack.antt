@@ -1,4 +1,4 @@
--- Requests that are written, and what is read from them.
+-- Serialized requests for IPv4 and IPv6 sockets, and what they parse as.
 use Rattle.std.specs.Prelude.{◌≡◌, ◌+◌, ◌^◌, ◌<◌, ◌≤◌, List, length, map, option_map, unwrap_or}
 use Rattle.std.specs.Prelude.{None}
 use Rattle.std.specs.List.{AllByRecursion, filter_map, flat_map, last_or}
@@ -15,26 +15,33 @@ use Rattle.sock_diag_filters.specs.declared.view.RequestView.{RequestView}
 use Rattle.sock_diag_filters.specs.Asked.{asked_of, program_in, protocol_in}
 use Rattle.sock_diag_filters.specs.Requests.{attribute_of, header_under}
 
--- the header that is written, with the length of all
+-- The header that is serialized: its length is the length of the message, 72 bytes and the
+-- attributes.
 abbrev pub written_header : NetlinkHeader → List RequestAttribute → NetlinkHeader
 written_header h attributes =
     header_under h (72 + length (flat_map written (map attribute_of attributes)))
 
--- a program that an attribute can carry, and a protocol of 32 bits
+-- The attribute fits: a program has at most 65,531 bytes, and a protocol is below 2^32.
 abbrev pub Fits : RequestAttribute → Type 0
 Fits (Program program) = length program.now ≤ 65531
 Fits (Protocol protocol) = protocol < 2 ^ 32
 
--- the header's numbers, the request's and the attributes' fit, and the request is in normal form
+-- The conditions under which a request round-trips, other than on the message type: its numbers are
+-- in range, it is in normal form, and its lengths fit.
 pub record CanBeAsked (h : NetlinkHeader) (request : InetRequest)
     (attributes : List RequestAttribute) : Type 0 where
+  -- each number of the header that is serialized fits its field; so the message is below 2^32 bytes
   pub header : Fit header_fields (header_values (written_header h attributes))
+  -- each number of the record fits its field
   pub in_range : IsInRange inet_request request
+  -- the record is in normal form
   pub normal : IsNormal inet_request tt request
+  -- each attribute fits
   pub fit : AllByRecursion Fits attributes
 
--- The view shows that header and that request, and of programs and of protocols the last; without
--- a protocol the request's own.
+-- The view has the header that was serialized, the record, and the last program of the attributes,
+-- or `None` if there is none. Its protocol is the last protocol of the attributes, or the record's
+-- protocol if there is none.
 pub record IsReadBack (h : NetlinkHeader) (request : InetRequest)
     (attributes : List RequestAttribute) (view : RequestView) : Type 0 where
   pub header : view.header ≡ written_header h attributes

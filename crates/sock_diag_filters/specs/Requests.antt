@@ -1,4 +1,4 @@
--- Requests for internet sockets with attributes: linux/inet_diag.h.
+-- Requests for IPv4 and IPv6 sockets with attributes (linux/inet_diag.h).
 use Rattle.std.specs.Prelude.{ℕ, ◌+◌, List, ◌++◌, length}
 use Rattle.std.specs.List.{flat_map}
 use Rattle.byteorder.specs.Endian.{little_bytes}
@@ -11,12 +11,13 @@ use Rattle.sock_diag_records.specs.declared.inet.request.InetRequest.{InetReques
 use Rattle.sock_diag_filters.specs.declared.request.RequestAttribute.{RequestAttribute}
 use Rattle.sock_diag_filters.specs.declared.request.RequestAttribute.TheVariants.{Program, Protocol}
 
--- INET_DIAG_REQ_BYTECODE is 1, and INET_DIAG_REQ_PROTOCOL 3, a number of 32 bits
+-- The attribute of a request: type 1 (INET_DIAG_REQ_BYTECODE) with the bytes of a program, or type
+-- 3 (INET_DIAG_REQ_PROTOCOL) with the protocol as a little-endian u32.
 abbrev pub attribute_of : RequestAttribute → Attribute
 attribute_of (Program program) = record { type_word = 1; value = program.now }
 attribute_of (Protocol protocol) = record { type_word = 3; value = little_bytes 4 protocol }
 
--- the same header, with this length
+-- The header with its length replaced by `len`.
 abbrev pub header_under : NetlinkHeader → ℕ → NetlinkHeader
 header_under h len = record {
   length = len;
@@ -26,7 +27,8 @@ header_under h len = record {
   port_number = h.port_number;
 }
 
--- the header with the length of all, the request, and the attributes, each with its padding
+-- The bytes of the message: 16 of the header, whose length is replaced by the length of the
+-- message; 56 of the request, `struct inet_diag_req_v2`; and the attributes, each with its padding.
 abbrev pub request_bytes : NetlinkHeader → InetRequest → List Attribute → List ℕ
 request_bytes h request attributes =
     header_bytes (header_under h (72 + length (flat_map written attributes)))

@@ -1,4 +1,4 @@
--- What the kernel finds of a socket for a condition, and what conditions mean.
+-- The kernel's evaluation of an operation on a socket, and the meaning of conditions.
 use Rattle.std.specs.Prelude.{ℕ, ◌-◌, ◌*◌, ◌/◌, ◌^◌, ◌<◌, ◌==◌, ◌&&◌, ◌||◌, nat_le, if◌then◌else◌}
 use Rattle.std.specs.Prelude.{⊤, Bool, true, false, List, length, drop, slice_index, bit_and}
 use Rattle.std.specs.Prelude.{Option, Some, None}
@@ -20,35 +20,50 @@ use Rattle.sock_diag_filters.specs.declared.filter.Filter.{Filter}
 use Rattle.sock_diag_filters.specs.declared.filter.Filter.TheVariants as parts
 use Rattle.sock_diag_filters.specs.Prefixes.{octets_of}
 
--- a socket as struct inet_diag_entry of the kernel tells it; of an address its octets
+-- A socket, as `struct inet_diag_entry` of the kernel's include/linux/inet_diag.h describes it.
 pub record Socket : Type 0 where
+  -- `family`: 2 for AF_INET, 10 for AF_INET6
   pub family : ℕ
+  -- `sport`, the local port, as a number
   pub source_port : ℕ
+  -- `dport`, the remote port, as a number
   pub destination_port : ℕ
+  -- `saddr`, the octets of the local address in network byte order
   pub source : List ℕ
+  -- `daddr`, the octets of the remote address in network byte order
   pub destination : List ℕ
+  -- `ifindex`, the index of the interface that the socket is bound to
   pub interface : ℕ
+  -- `mark`
   pub mark : ℕ
+  -- `cgroup_id`
   pub cgroup : ℕ
+  -- `userlocks` lacks SOCK_BINDPORT_LOCK: the kernel chose the local port
   pub is_auto_bound : Bool
 
--- the first so many bits are the same: bitstring_match
+-- The first `bits` bits of `octets` and `others` are equal, as in the kernel's `bitstring_match`.
+-- Both are read as big-endian numbers of the length of `others`.
 abbrev pub begins_alike : ℕ → List ℕ → List ℕ → Bool
 begins_alike bits octets others =
     let behind = 2 ^ (8 * length others - bits) in
     (big_number (length others) octets / behind) == (big_number (length others) others / behind)
 
--- the octets of ::ffff:a.b.c.d, without the last four
+-- The octets are an IPv4-mapped IPv6 address, ::ffff:a.b.c.d: the first 12 octets are ten times 0,
+-- then 255 and 255.
 abbrev pub is_mapped : List ℕ → Bool
 is_mapped octets = big_number 12 octets == 0xffff
 
--- ---- inet_diag_bc_run
+-- ---- conditions as `inet_diag_bc_run` of the kernel's net/ipv4/inet_diag.c evaluates them
 
--- the port stands in place of the second operation's `no`
+-- The port in the arguments of a port comparison. The arguments are a second
+-- `struct inet_diag_bc_op`, whose `no` (offset 2) is the port.
 abbrev pub port_in : List ℕ → ℕ
 port_in args = little_number 2 (drop 2 args)
 
--- bits of an address of the asked family, 0 for AF_UNSPEC; AF_INET, 2, also in one of AF_INET6, 10
+-- The address `octets`, of the family `family`, matches a condition: it starts with the first
+-- `bits` bits of `prefix`. The condition's family is `asked`. If it is 0 (AF_UNSPEC), it matches
+-- each family. If it is 2 (AF_INET), it also matches an IPv4-mapped address of family 10 (AF_INET6)
+-- by its last four octets.
 abbrev pub finds_address : ℕ → List ℕ → ℕ → ℕ → List ℕ → Bool
 finds_address family octets asked bits prefix =
     if asked == 0 then bits == 0 || begins_alike bits octets prefix
@@ -57,14 +72,18 @@ finds_address family octets asked bits prefix =
     asked == 2
     && (family == 10 && (is_mapped octets && begins_alike bits (drop 12 octets) prefix))
 
--- struct inet_diag_hostcond: the family at 0, the bits at 1, the port at 4 (-1 is any), the address
--- at 8
+-- A port and an address match the arguments of S_COND or D_COND, a `struct inet_diag_hostcond`:
+-- `family` at 0, `prefix_len` at 1, `port` at 4 as 32 bits (-1 matches each port), `addr` at 8.
 abbrev pub finds_host : ℕ → ℕ → List ℕ → List ℕ → Bool
 finds_host family port octets args =
     (little_number 4 (drop 4 args) == 0xffffffff || little_number 4 (drop 4 args) == port)
     && finds_address family octets (slice_index args 0) (slice_index args 1) (drop 8 args)
 
--- by the code of an operation
+-- Whether the kernel finds that the socket meets the condition of an operation with this code
+-- (INET_DIAG_BC_..) and these arguments: 2 S_GE, 3 S_LE, 4 D_GE, 5 D_LE, 6 AUTO, 7 S_COND, 8
+-- D_COND, 9 DEV_COND (a u32), 10 MARK_COND (`struct inet_diag_markcond`: `mark` at 0, `mask` at 4),
+-- 11 S_EQ, 12 D_EQ, 13 CGROUP_COND (a u64). Other codes count as met; `Run.antt` handles JMP
+-- before.
 abbrev pub found_by : Socket → ℕ → List ℕ → Bool
 found_by s code args =
     if code == 2 then nat_le (port_in args) s.source_port
@@ -81,19 +100,22 @@ found_by s code args =
     else if code == 13 then s.cgroup == little_number 8 args
     else true
 
--- ---- what conditions mean
+-- ---- the meaning of conditions
 
+-- The port is at least, at most, or equal to the number, by the comparison.
 abbrev pub compares : Comparison → ℕ → ℕ → Bool
 compares AtLeast port number = nat_le number port
 compares AtMost port number = nat_le port number
 compares Equal port number = port == number
 
--- the port, where one is asked for
+-- The port is the port of the condition, if the condition has one.
 abbrev pub has_port : Option ℕ → ℕ → Bool
 has_port None port = true
 has_port (Some asked) port = asked == port
 
--- the bits of an address of the family, or of the IPv4 address in an IPv6 address
+-- The address `octets`, of the family `family`, starts with the first `bits` bits of the given
+-- address. An IPv4 address is also compared with the last four octets of an IPv4-mapped IPv6
+-- address.
 abbrev pub is_within : IpAddr → ℕ → ℕ → List ℕ → Bool
 is_within (V4 ip) bits family octets =
     if 2 == family then bits == 0 || begins_alike bits octets (octets_of (V4 ip))
@@ -103,14 +125,16 @@ is_within (V4 ip) bits family octets =
 is_within (V6 ip) bits family octets =
     if 10 == family then bits == 0 || begins_alike bits octets (octets_of (V6 ip)) else false
 
+-- The address `octets` has the prefix, if there is one.
 abbrev pub has_prefix : Option Prefix → ℕ → List ℕ → Bool
 has_prefix None family octets = true
 has_prefix (Some p) family octets = is_within p.address p.bits family octets
 
+-- The port and the address of one end of a socket meet the condition.
 abbrev pub is_host : Host → ℕ → ℕ → List ℕ → Bool
 is_host h family port octets = has_port h.port port && has_prefix h.prefix family octets
 
--- a socket meets a condition
+-- A socket meets a condition.
 abbrev pub meets : Socket → Condition → Bool
 meets s (SourcePort comparison port) = compares comparison s.source_port port
 meets s (DestinationPort comparison port) = compares comparison s.destination_port port
@@ -121,12 +145,14 @@ meets s (Mark mark mask) = bit_and s.mark mask == mark
 meets s (Cgroup number) = s.cgroup == number
 meets s AutoBound = s.is_auto_bound
 
--- ---- the numbers of a condition are within their types
+-- ---- ranges of the numbers of a condition, as the Rust types have them
 
+-- The port, if there is one, fits 16 bits.
 abbrev pub IsPort : Option ℕ → Type 0
 IsPort None = ⊤
 IsPort (Some port) = port < 2 ^ 16
 
+-- Each number of a condition fits its Rust type.
 abbrev pub IsInRange : Condition → Type 0
 IsInRange (SourcePort comparison port) = port < 2 ^ 16
 IsInRange (DestinationPort comparison port) = port < 2 ^ 16
@@ -137,6 +163,7 @@ IsInRange (Mark mark mask) = (mark < 2 ^ 32) × (mask < 2 ^ 32)
 IsInRange (Cgroup number) = number < 2 ^ 64
 IsInRange AutoBound = ⊤
 
+-- Each number of each condition of a filter fits its Rust type.
 abbrev pub AreInRange : Filter → Type 0
 AreInRange (parts.Condition c) = IsInRange c
 AreInRange (parts.And' p first q second) = AreInRange first × AreInRange second

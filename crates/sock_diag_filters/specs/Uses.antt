@@ -1,4 +1,4 @@
--- What the callers to copy from ask for.
+-- The requests of the example callers.
 use Rattle.std.specs.Prelude.{ℕ, List, [], ◌∷◌, ◌++◌, replicate}
 use Rattle.byteorder.specs.Endian.{little_bytes}
 use Rattle.std.specs.declared.net.ip_addr.IpAddr.{IpAddr}
@@ -11,7 +11,8 @@ use Rattle.sock_diag_records.specs.declared.inet.request.InetRequest.{InetReques
 use Rattle.sock_diag_records.specs.declared.inet.socket_id.SocketId.{SocketId}
 use Rattle.sock_diag_filters.specs.Prefixes.{family_of}
 
--- a header of a type, with flags, from port 0; its length is the request's
+-- A netlink header with this type, flags and sequence number, and port 0. Its length 0 is replaced
+-- when the request is serialized.
 abbrev pub asked_header : ℕ → ℕ → ℕ → NetlinkHeader
 asked_header message_type flags sequence_number = record {
   length = 0;
@@ -21,10 +22,11 @@ asked_header message_type flags sequence_number = record {
   port_number = 0;
 }
 
--- the identity of no socket
+-- The IPv4 address 0.0.0.0.
 abbrev pub no_address : IpAddr
 no_address = V4 record { octets = replicate 4 0 }
 
+-- A socket id of zeros, of IPv4: `struct inet_diag_sockid`.
 abbrev pub no_socket : SocketId
 no_socket = record {
   source_port = 0;
@@ -35,7 +37,8 @@ no_socket = record {
   cookie = replicate 8 0;
 }
 
--- TCP (6), the family of the address, these states, and no attributes
+-- A request (`struct inet_diag_req_v2`) for TCP sockets (protocol 6) with these states and this
+-- socket id. Its family is the family of the source address, and it requests no attributes.
 abbrev pub asked_tcp : ℕ → SocketId → InetRequest
 asked_tcp states socket_id = record {
   family = family_of socket_id.source_address;
@@ -45,12 +48,14 @@ asked_tcp states socket_id = record {
   socket_id = socket_id;
 }
 
--- INET_DIAG_REQ_BYTECODE
+-- An attribute INET_DIAG_REQ_BYTECODE (1) with a program.
 abbrev pub program_attribute : List ℕ → Attribute
 program_attribute program = record { type_word = 1; value = program }
 
--- The bytes that close a socket of TCP: length 72, type 21, flags 5, the sequence number and port
--- 0; the family, protocol 6, no extensions, a pad and all states; and the identity, 48 bytes.
+-- The bytes of the request to close a TCP socket. The netlink header: length 72, type 21
+-- (SOCK_DESTROY), flags 5 (NLM_F_REQUEST and NLM_F_ACK), the sequence number, and port 0. The
+-- `struct inet_diag_req_v2`: the family, protocol 6 (TCP), no extensions, padding, all states, and
+-- the 48 bytes of the socket id.
 abbrev pub closing_bytes : SocketId → ℕ → List ℕ
 closing_bytes socket_id sequence_number =
     (72 ∷ 0 ∷ 0 ∷ 0 ∷ 21 ∷ 0 ∷ 5 ∷ 0 ∷ [])

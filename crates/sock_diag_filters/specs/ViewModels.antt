@@ -1,4 +1,4 @@
--- What requests that borrow their bytes ask, without where the bytes are stored.
+-- Models of borrowed requests: their content, with borrowed bytes as lists.
 use Rattle.std.specs.Prelude.{ℕ, List, Option, option_map}
 use Rattle.netlink_core.specs.declared.header.NetlinkHeader.{NetlinkHeader}
 use Rattle.sock_diag_families.specs.declared.request.ShowRequest.{ShowRequest}
@@ -10,13 +10,15 @@ use Rattle.sock_diag_filters.specs.declared.any.AnyRequestView.TheVariants as vi
 use Rattle.sock_diag_filters.specs.declared.any.RecordRequestView.{RecordRequestView}
 use Rattle.sock_diag_filters.specs.declared.view.RequestView.{RequestView}
 
--- the header, the record, the protocol and the program of a request for internet sockets
+-- The model of a request for IPv4 or IPv6 sockets: the header, the record, the protocol and the
+-- program.
 pub record InternetRequest : Type 0 where
   pub header : NetlinkHeader
   pub request : InetRequest
   pub protocol : ℕ
   pub program : Option (List ℕ)
 
+-- The model of a `RequestView`.
 abbrev pub request_of : RequestView → InternetRequest
 request_of v = record {
   header = v.header;
@@ -25,12 +27,14 @@ request_of v = record {
   program = option_map (λ program. program.now) v.program;
 }
 
--- the header, the record and the bytes of attributes of another request
+-- The model of a request for sockets of another family: the header, the record and the bytes after
+-- it.
 pub record FamilyRequest (R : Type 0) : Type 0 where
   pub header : NetlinkHeader
   pub request : R
   pub attributes : List ℕ
 
+-- The model of a `RecordRequestView`.
 abbrev pub record_request_of : {R : Type 0} → RecordRequestView R → FamilyRequest R
 record_request_of v = record {
   header = v.header;
@@ -38,7 +42,8 @@ record_request_of v = record {
   attributes = v.attributes.now;
 }
 
--- a request of any family
+-- The model of a request for sockets of any family. The argument of `ShowRequest` is the family: 16
+-- AF_NETLINK, 17 AF_PACKET, 44 AF_XDP.
 pub data RequestOfFamily : Type 0 where
   of_inet : InternetRequest → RequestOfFamily
   of_unix : FamilyRequest UnixRequest → RequestOfFamily
@@ -47,6 +52,7 @@ pub data RequestOfFamily : Type 0 where
   of_vsock : FamilyRequest VsockRequest → RequestOfFamily
   of_xdp : FamilyRequest (ShowRequest 44) → RequestOfFamily
 
+-- The model of an `AnyRequestView`.
 abbrev pub any_request_of : AnyRequestView → RequestOfFamily
 any_request_of (view.Inet v) = of_inet (request_of v)
 any_request_of (view.Unix v) = of_unix (record_request_of v)

@@ -1,4 +1,4 @@
-//! Requests of any family that is read here, as a test kernel reads them, in place.
+//! Borrowed requests for sockets of any family, as a test kernel parses them.
 
 ghost use Rattle.std.specs.Prelude.{◌≡◌, IfOk, IfErr, drop};
 ghost use Rattle.netlink_core.specs.Header.{HasHeader};
@@ -15,20 +15,20 @@ use sock_diag_families::xdp::{AF_XDP, XdpRequest};
 use sock_diag_records::constants::{AF_INET, AF_INET6, AF_NETLINK, AF_PACKET, AF_UNIX};
 use sock_diag_records::unix::UnixRequest;
 
-/// A request that is one record, read in place.
+/// A borrowed request that consists of one record, and bytes of attributes.
 #[derive(Debug, Drop, PartialEq, Eq)]
 pub struct RecordRequestView<'a, R> {
     /// The netlink header.
     pub header: NetlinkHeader,
-    /// What is asked for.
+    /// The record of the request.
     pub request: R,
-    /// The bytes of attributes, which stand behind the record. Linux looks at none of them, and
-    /// they may be anything: `NlasIterator::new` walks them.
+    /// The bytes after the record, where attributes may be. Linux ignores them, and they are not
+    /// checked here. `NlasIterator::new` iterates over attributes.
     pub attributes: &'a [u8],
 }
 
 impl<'a, R: Record<Param = ()>> RecordRequestView<'a, R> {
-    // Reads the record in front of what stands behind the header.
+    // Parses the record at the start of the payload, which is the bytes after the header.
     fn read(header: NetlinkHeader, payload: &'a [u8]) -> Result<Self, DecodeError>
         ensures header { IfOk result (λ view. view.header ≡ header) }
         ensures request { IfOk result (λ view.
@@ -48,31 +48,36 @@ impl<'a, R: Record<Param = ()>> RecordRequestView<'a, R> {
     }
 }
 
-/// A request for sockets of any family that is read here, read in place.
+/// A borrowed request for sockets of any family that this crate parses.
 #[derive(Debug, Drop, PartialEq, Eq)]
 pub enum AnyRequestView<'a> {
-    /// Asks for IPv4 or IPv6 sockets.
+    /// A request for IPv4 or IPv6 sockets.
     Inet(RequestView<'a>),
-    /// Asks for UNIX sockets.
+    /// A request for UNIX sockets.
     Unix(RecordRequestView<'a, UnixRequest>),
-    /// Asks for netlink sockets.
+    /// A request for netlink sockets.
     Netlink(RecordRequestView<'a, NetlinkRequest>),
-    /// Asks for packet sockets.
+    /// A request for packet sockets.
     Packet(RecordRequestView<'a, PacketRequest>),
-    /// Asks for vsock sockets.
+    /// A request for vsock sockets.
     Vsock(RecordRequestView<'a, VsockRequest>),
-    /// Asks for XDP sockets.
+    /// A request for XDP sockets.
     Xdp(RecordRequestView<'a, XdpRequest>),
 }
 
 impl<'a> AnyRequestView<'a> {
-    /// Reads the netlink message in front of the bytes. No memory is taken.
+    /// Parses the netlink message at the start of the bytes. It does not allocate. Bytes after the
+    /// message are ignored.
     ///
-    /// Refused is what stands for its header; then fewer than 2 bytes behind it, as
-    /// `MessageTooShort`; then a type but `SOCK_DIAG_BY_FAMILY` and `SOCK_DESTROY`, as
-    /// `UnknownMessageType`; then a first byte but `AF_INET`, `AF_INET6`, `AF_UNIX`, `AF_NETLINK`,
-    /// `AF_PACKET`, `AF_VSOCK` and `AF_XDP`, as `UnknownFamily`; then what the reader of that
-    /// family's request refuses: [`RequestView::parse`], or the record's.
+    /// Returns the first of these errors:
+    ///
+    /// 1. an error of the netlink header, as of [`NetlinkHeader::from_prefix`];
+    /// 2. `MessageTooShort` if fewer than 2 bytes follow the header;
+    /// 3. `UnknownMessageType` for a type other than `SOCK_DIAG_BY_FAMILY` and `SOCK_DESTROY`;
+    /// 4. `UnknownFamily` if the first byte after the header is none of `AF_INET`, `AF_INET6`,
+    ///    `AF_UNIX`, `AF_NETLINK`, `AF_PACKET`, `AF_VSOCK` and `AF_XDP`;
+    /// 5. an error of the parser of that family's request: of [`RequestView::parse`], or of the
+    ///    record.
     pub fn parse(message: &'a [u8]) -> Result<AnyRequestView<'a>, DecodeError>
         ensures value { IfOk result (λ view. AnyAsks message.entry.now (asked_any view)) }
         ensures fault { IfErr result (RefusesAnyRequest message.entry.now) }
@@ -84,7 +89,7 @@ impl<'a> AnyRequestView<'a> {
     }
 }
 
-// The request of the family that a message with this header asks for.
+// Parses the request in a message that starts with this header, by its family.
 fn read_under<'a>(
     header: NetlinkHeader,
     message: &'a [u8],

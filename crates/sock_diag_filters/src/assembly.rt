@@ -1,4 +1,4 @@
-//! Filters as programs: bytecode of `INET_DIAG_REQ_BYTECODE`.
+//! Assembly of filters to programs: the bytecode of `INET_DIAG_REQ_BYTECODE`.
 
 ghost use Rattle.std.specs.Prelude.{◌≡◌, ◌+◌, ◌<◌, ◌≤◌, ℕ, List, Bool, length, IfOk, IfErr};
 ghost use Rattle.sock_diag_filters.specs.Audit.{IsAudited};
@@ -16,19 +16,20 @@ use byteorder::{ByteOrder, LittleEndian};
 use std::alloc::{AllocError, Global};
 use thiserror::Error;
 
-/// The most bytes of a program: an attribute carries no more, and no jump goes further.
+/// The maximum length of a program in bytes. A longer program does not fit the length field of an
+/// attribute. In a program of at most this length, the distance of each jump fits its 16 bits.
 pub const MAX_PROGRAM: usize = 65531;
 
-// The code of an operation whose condition is never met.
+// `INET_DIAG_BC_JMP`: the code of an operation whose condition is never met.
 const JMP: u8 = 1;
 
-/// Why there is no program.
+/// The reason why a filter could not be assembled.
 #[derive(Debug, Drop, PartialEq, Eq, Error)]
 pub enum AssembleError {
-    /// It has more than [`MAX_PROGRAM`] bytes.
+    /// The program would have more than [`MAX_PROGRAM`] bytes.
     #[error("a filter of more than {MAX_PROGRAM} bytes")]
     TooLong,
-    /// Memory ran out.
+    /// An allocation failed.
     #[error("out of memory")]
     Memory,
 }
@@ -41,9 +42,11 @@ impl From<AllocError> for AssembleError {
     }
 }
 
-/// The program of a filter: the value of an attribute `INET_DIAG_REQ_BYTECODE`. The kernel takes
-/// it, and wants exactly the sockets that the filter means, whatever is found of their conditions;
-/// so by the kernel's own comparisons those that meet it.
+/// Returns the program of a filter: the value of an attribute `INET_DIAG_REQ_BYTECODE`.
+///
+/// The program passes the kernel's audit. A run of it selects a socket if and only if the filter
+/// does, for any results of its conditions. If the results are those of the kernel's comparisons,
+/// the selected sockets are the sockets that meet the filter.
 pub fn assemble(alloc: Global, filter: &Filter) -> Result<Vec<u8>, AssembleError>
     ensures size { IfOk result (λ program. length program.items ≡ size filter.now) }
     ensures short { IfOk result (λ program. length program.items ≤ 65531) }
@@ -63,8 +66,8 @@ pub fn assemble(alloc: Global, filter: &Filter) -> Result<Vec<u8>, AssembleError
     Ok(program)
 }
 
-// Writes the program of a filter over as many bytes: who is wanted comes to its end, and who isn't
-// so many bytes past it.
+// Writes the program of a filter to a buffer of its length. A run continues at the end of the
+// program for a selected socket, and `far` bytes after the end for any other socket.
 fn write_program(filter: &Filter, far: usize, buffer: &mut [u8])
     requires whole { length buffer.old ≡ size filter.now }
     requires near { size filter.now + far ≤ 65535 }
@@ -92,7 +95,8 @@ fn write_program(filter: &Filter, far: usize, buffer: &mut [u8])
     }
 }
 
-// Writes the operation of a condition.
+// Writes the operation of a condition. If the condition is not met, it jumps to `far` bytes after
+// its end.
 fn write_condition(condition: Condition, far: usize, buffer: &mut [u8])
     requires whole { length buffer.old ≡ 4 + length (arguments condition) }
     requires near { 4 + length (arguments condition) + far ≤ 65535 }
@@ -103,7 +107,8 @@ fn write_condition(condition: Condition, far: usize, buffer: &mut [u8])
     write_operation(condition.code(), behind.len(), far, front);
 }
 
-// Writes the start of an operation that has so many bytes of arguments behind it.
+// Writes the start of an operation, `struct inet_diag_bc_op`. `arguments_len` bytes of arguments
+// follow it. If the condition is not met, it jumps to `far` bytes after them.
 fn write_operation(code: u8, arguments_len: usize, far: usize, front: &mut [u8])
     requires front { length front.old ≡ 4 }
     requires short { 4 + arguments_len ≤ 255 }

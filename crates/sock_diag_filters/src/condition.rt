@@ -1,4 +1,4 @@
-//! What a filter asks of a socket.
+//! Conditions of a filter on a socket.
 
 ghost use Rattle.std.specs.Prelude.{◌≡◌, ◌*◌, ◌+◌, ◌≤◌, length};
 ghost use Rattle.std.specs.declared.net.ip_addr.IpAddr.TheVariants.{V6};
@@ -8,31 +8,32 @@ use byteorder::{BigEndian, ByteOrder, LittleEndian};
 use sock_diag_records::constants::{AF_INET, AF_INET6};
 use std::net::{IpAddr, Ipv6Addr};
 
-/// How a port is compared with a number.
+/// The comparison of a port with a given port.
 #[derive(Clone, Copy, Debug, PartialEq, Eq)]
 pub enum Comparison {
-    /// The port is the number or above it.
+    /// The port is greater than or equal to the given port.
     AtLeast,
-    /// The port is the number or below it.
+    /// The port is less than or equal to the given port.
     AtMost,
-    /// The port is the number.
+    /// The port is equal to the given port.
     Equal,
 }
 
-/// The first bits of an IPv4 or IPv6 address.
+/// A prefix of an IPv4 or IPv6 address: its first bits.
 #[derive(Clone, Copy, Debug, PartialEq, Eq)]
 pub struct Prefix {
-    /// The address that has them.
+    /// The address. The bits after the prefix do not affect which addresses match.
     pub address: IpAddr,
-    /// How many they are: at most 32 of an IPv4 address, and at most 128 of an IPv6 address.
+    /// The number of bits: at most 32 of an IPv4 address, and at most 128 of an IPv6 address.
     pub bits: u8,
+    // The address has at least this number of bits.
     ghost in_range: { bits ≤ bits_of address },
 }
 
 impl Prefix {
     ghost use Rattle.sock_diag_filters.specs.Conditions.{IsPrefix};
 
-    /// The first so many bits of an address, or none where it hasn't as many.
+    /// Returns the prefix of `bits` bits, or `None` if the address has fewer bits.
     pub fn new(address: IpAddr, bits: u8) -> Option<Prefix>
         ensures { IsPrefix result address bits }
     {
@@ -47,41 +48,42 @@ impl Prefix {
     }
 }
 
-/// One end of a socket. A kernel compares what is there, and an IPv4 address also with that in an
-/// IPv6 address `::ffff:a.b.c.d`.
+/// A condition on the address and the port of one end of a socket. What is `None` is not compared.
+/// A prefix of an IPv4 address also matches IPv4-mapped IPv6 addresses, `::ffff:a.b.c.d`.
 #[derive(Clone, Copy, Debug, PartialEq, Eq)]
 pub struct Host {
-    /// The address begins with these bits.
+    /// The prefix of the address.
     pub prefix: Option<Prefix>,
     /// The port.
     pub port: Option<u16>,
 }
 
-/// A condition, as one operation of `linux/inet_diag.h` tells it.
+/// A condition on a socket. Each is one operation of `linux/inet_diag.h`.
 #[derive(Clone, Copy, Debug, PartialEq, Eq)]
 pub enum Condition {
-    /// The port of this end, `INET_DIAG_BC_S_GE`, `S_LE` and `S_EQ`.
+    /// The local port, compared with a port: `INET_DIAG_BC_S_GE`, `S_LE` and `S_EQ`.
     SourcePort(Comparison, u16),
-    /// The port of the other end, `INET_DIAG_BC_D_GE`, `D_LE` and `D_EQ`.
+    /// The remote port, compared with a port: `INET_DIAG_BC_D_GE`, `D_LE` and `D_EQ`.
     DestinationPort(Comparison, u16),
-    /// This end, `INET_DIAG_BC_S_COND`.
+    /// The local address and port: `INET_DIAG_BC_S_COND`.
     Source(Host),
-    /// The other end, `INET_DIAG_BC_D_COND`.
+    /// The remote address and port: `INET_DIAG_BC_D_COND`.
     Destination(Host),
-    /// The number of the interface that the socket is bound to, `INET_DIAG_BC_DEV_COND`.
+    /// The index of the interface that the socket is bound to: `INET_DIAG_BC_DEV_COND`.
     Interface(u32),
-    /// The bits of the socket's mark, `INET_DIAG_BC_MARK_COND`. The kernel refuses it with EPERM
-    /// without `CAP_NET_ADMIN`.
+    /// The socket's mark under a mask: `INET_DIAG_BC_MARK_COND`. Without `CAP_NET_ADMIN` the kernel
+    /// rejects it with `EPERM`.
     Mark {
-        /// What the bits are.
+        /// The value of the mark's bits in the mask. If it has bits that are not in the mask, no
+        /// socket meets the condition.
         mark: u32,
-        /// Which bits count.
+        /// The bits of the mark that are compared.
         mask: u32,
     },
-    /// The number of the socket's cgroup, `INET_DIAG_BC_CGROUP_COND`. A kernel without them refuses
-    /// it.
+    /// The id of the socket's control group: `INET_DIAG_BC_CGROUP_COND`. A kernel without control
+    /// groups rejects it.
     Cgroup(u64),
-    /// The kernel chose the port of this end, `INET_DIAG_BC_AUTO`.
+    /// The kernel chose the local port: `INET_DIAG_BC_AUTO`.
     AutoBound,
 }
 
@@ -89,7 +91,7 @@ impl Condition {
     ghost use Rattle.sock_diag_filters.specs.Conditions.{arguments, code_of};
     ghost use Rattle.sock_diag_filters.specs.Sockets.{IsInRange};
 
-    // The code of its operation.
+    // Returns the code of the condition's operation.
     pub(crate) fn code(self) -> u8
         ensures { result ≡ code_of self }
     {
@@ -109,7 +111,7 @@ impl Condition {
         }
     }
 
-    // How many bytes its arguments have.
+    // Returns the length of the operation's arguments in bytes.
     pub(crate) fn arguments_len(self) -> usize
         ensures { result ≡ length (arguments self) }
     {
@@ -122,7 +124,7 @@ impl Condition {
         }
     }
 
-    // Writes its arguments over as many bytes.
+    // Writes the operation's arguments to a buffer of their length.
     pub(crate) fn write_arguments(self, buffer: &mut [u8])
         requires { length buffer.old ≡ length (arguments self) }
         ensures { buffer.new ≡ arguments self }
@@ -139,7 +141,7 @@ impl Condition {
         }
     }
 
-    // Tells the prover that its numbers are within their types. It does nothing.
+    // Proof only: puts the range of each number in scope. No run-time effect.
     pub(crate) fn in_range(self)
         ensures { IsInRange self }
     {
@@ -161,7 +163,7 @@ impl Host {
     ghost use Rattle.sock_diag_filters.specs.Conditions.{host_bytes};
     ghost use Rattle.sock_diag_filters.specs.Sockets.{IsPort};
 
-    // How many bytes `struct inet_diag_hostcond` has with the address.
+    // Returns the length of `struct inet_diag_hostcond` with its address, in bytes.
     fn len(self) -> usize
         ensures { result ≡ length (host_bytes self) }
     {
@@ -182,7 +184,7 @@ impl Host {
         }
     }
 
-    // Writes that struct over as many bytes.
+    // Writes `struct inet_diag_hostcond` to a buffer of its length.
     fn write(self, buffer: &mut [u8])
         requires { length buffer.old ≡ length (host_bytes self) }
         ensures { buffer.new ≡ host_bytes self }
@@ -200,7 +202,7 @@ impl Host {
         }
     }
 
-    // Tells the prover that the port is within its type. It does nothing.
+    // Proof only: puts the range of the port in scope. No run-time effect.
     fn in_range(self)
         ensures { IsPort self.port }
     {
@@ -208,8 +210,8 @@ impl Host {
     }
 }
 
-// Writes the port as the second operation that a comparison has, of code 0 and with the port in
-// place of its `no`.
+// Writes the port of a comparison: a second `struct inet_diag_bc_op` with `code` and `yes` 0 and
+// the port in `no`.
 fn write_port(port: u16, buffer: &mut [u8])
     requires { length buffer.old ≡ 4 }
     ensures { buffer.new ≡ port_bytes port }
@@ -218,7 +220,7 @@ fn write_port(port: u16, buffer: &mut [u8])
     LittleEndian::write_u16(&mut buffer[2..], port);
 }
 
-// The family of an address.
+// Returns the family of an address: `AF_INET` or `AF_INET6`.
 fn family(address: IpAddr) -> u8
     ensures { result ≡ family_of address }
 {
@@ -228,7 +230,7 @@ fn family(address: IpAddr) -> u8
     }
 }
 
-// Writes the octets of an address over as many bytes.
+// Writes the octets of an address to a buffer of their length.
 fn write_address(address: IpAddr, buffer: &mut [u8])
     requires { 8 * length buffer.old ≡ bits_of address }
     ensures { buffer.new ≡ octets_of address }
@@ -239,7 +241,7 @@ fn write_address(address: IpAddr, buffer: &mut [u8])
     }
 }
 
-// The same of an IPv6 address.
+// Writes the octets of an IPv6 address to a buffer of 16 bytes.
 fn write_segments(ip: Ipv6Addr, buffer: &mut [u8])
     requires { length buffer.old ≡ 16 }
     ensures { buffer.new ≡ octets_of (V6 ip) }

@@ -1,4 +1,4 @@
-//! `==` and `clone` of conditions compare and copy all of their parts.
+//! Proof only: `==` and `clone` of conditions compare and copy the whole value.
 
 ghost use Rattle.std.proofs.Common.{rules};
 ghost use Rattle.sock_diag_filters.specs.laws.EqualCondition.{condition_equal, host_equal};

@@ -1,19 +1,19 @@
-//! Filters: conditions that are joined.
+//! Filters: conditions combined by `And`, `Or` and `Not`.
 
 ghost use Rattle.std.specs.Prelude.{◌≡◌, ◌≤◌, SomeIff};
 
 use crate::condition::Condition;
 
-/// Which sockets are wanted. A filter lends its parts.
+/// A filter, which selects sockets. It borrows its parts.
 #[derive(Clone, Copy)]
 pub enum Filter<'a> {
-    /// Those that meet a condition.
+    /// Selects the sockets that meet a condition.
     Condition(Condition),
-    /// Those that both filters want.
+    /// Selects the sockets that both filters select.
     And(&'a Filter<'a>, &'a Filter<'a>),
-    /// Those that one of the filters wants, or both.
+    /// Selects the sockets that at least one of the filters selects.
     Or(&'a Filter<'a>, &'a Filter<'a>),
-    /// Those that the filter doesn't want.
+    /// Selects the sockets that the filter does not select.
     Not(&'a Filter<'a>),
 }
 
@@ -21,7 +21,7 @@ impl Filter<'_> {
     ghost use Rattle.sock_diag_filters.specs.Filters.{size};
     ghost use Rattle.sock_diag_filters.specs.Sockets.{AreInRange};
 
-    /// How many bytes its program has, where they are at most so many.
+    /// Returns the length of the filter's program in bytes, or `None` if it is more than `most`.
     pub fn len_within(&self, most: usize) -> Option<usize>
         ensures { SomeIff result (size self.now ≤ most) (size self.now) }
     {
@@ -46,7 +46,7 @@ impl Filter<'_> {
         }
     }
 
-    /// Tells the prover that the numbers of its conditions are within their types. It does nothing.
+    /// Proof only: puts the range of each number in scope. No run-time effect.
     pub fn in_range(&self)
         ensures { AreInRange self.now }
     {
@@ -60,7 +60,7 @@ impl Filter<'_> {
         }
     }
 
-    // How many bytes its program has.
+    // Returns the length of the filter's program in bytes.
     pub(crate) fn len(&self) -> usize
         requires { size self.now ≤ 65535 }
         ensures { result ≡ size self.now }
@@ -69,7 +69,7 @@ impl Filter<'_> {
     }
 }
 
-// The length, where it is at most so many.
+// Returns the length, or `None` if it is more than `most`.
 fn within(len: usize, most: usize) -> Option<usize>
     ensures { SomeIff result (len ≤ most) len }
 {

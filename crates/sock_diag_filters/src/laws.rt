@@ -1,4 +1,5 @@
-//! Properties. Proof only: the contract of each function states the property.
+//! Properties of programs, of requests that are serialized and parsed, and of `==` and `clone`.
+//! Proof only: the contract of each function states the property.
 
 ghost use Rattle.std.specs.Prelude.{◌≡◌, ◌↔◌, ℕ, Bool, List, [], ◌∷◌, map, IfOk, IsOk, IsTrue};
 ghost use Rattle.netlink_core.specs.declared.fault.DecodeError.{DecodeError};
@@ -32,8 +33,10 @@ use crate::view::RequestView;
 use netlink_core::Exact;
 use std::alloc::AllocError;
 
-/// What `RequestWithAttributes` writes, `RequestView::parse` reads: no fault is one of these bytes,
-/// and what they ask is what was written.
+/// States that a `RequestWithAttributes` round-trips, if its request is in range and in normal form
+/// and its lengths fit (`CanBeAsked`). The bytes that it serializes to parse only as its header
+/// with the length of the message, its request, and its last program and protocol. They are not
+/// rejected by `RequestView::parse` if the message type is `SOCK_DIAG_BY_FAMILY` or `SOCK_DESTROY`.
 pub fn written_request_is_read_back()
     ensures view { (h : NetlinkHeader) (request : InetRequest) (attributes : List RequestAttribute)
         (view : RequestView) → CanBeAsked h request attributes
@@ -45,9 +48,11 @@ pub fn written_request_is_read_back()
         → RefusesRequest (request_bytes h request (map attribute_of attributes)) e → ⊥ }
 {}
 
-/// The same of `AnyRequestView::parse`: a record with the netlink header in front of it that counts
-/// the whole, and any bytes behind it, is read as it is; a request for internet sockets as
-/// `RequestView::parse` reads it.
+/// States that requests round-trip through `AnyRequestView::parse`. A header, a record and any
+/// bytes after it are accepted and parsed as these, if the record is in range and in normal form,
+/// and the header has the type of a request and the length of the message (`IsWhole`). A
+/// `RequestWithAttributes` with the type of a request is accepted and parsed as by
+/// `RequestView::parse`, under the conditions above (`CanBeAsked`).
 pub fn any_written_request_is_read_back()
     ensures records { (family : RecordFamily) (h : NetlinkHeader)
         (request : (codec_of family).Value) (attributes : List ℕ) (other : AnyRequest)
@@ -68,9 +73,10 @@ pub fn any_written_request_is_read_back()
         → RefusesAnyRequest (request_bytes h request (map attribute_of attributes)) e → ⊥ }
 {}
 
-/// What `found_by` finds of a socket, as the kernel does by code and arguments, is whether the
-/// socket meets the condition. So by `assemble` a program wants exactly those sockets that meet its
-/// filter. Of a filter in hand `Filter::in_range` shows the premise.
+/// States that the result of `found_by`, which the kernel computes from an operation's code and
+/// arguments, is whether the socket meets the condition. By the contract of `assemble`, a program
+/// therefore selects a socket if and only if the socket meets its filter. For a `Filter` value,
+/// `Filter::in_range` proves the premise.
 #[tactic(auto, using(crate::proofs::Finding::filter_found))]
 pub fn filters_find_what_they_mean()
     ensures { (socket : Socket) (filter : Filter) → AreInRange filter
@@ -78,21 +84,22 @@ pub fn filters_find_what_they_mean()
         ≡ meaning (meets socket) filter }
 {}
 
-/// A run of a program has one verdict.
+/// States that a run of a program has at most one verdict.
 #[tactic(auto, using(crate::proofs::Verdicts::one_verdict))]
 pub fn one_verdict()
     ensures { (found : ℕ → List ℕ → Bool) (program : List ℕ) (v w : Bool)
         → Runs found program v → Runs found program w → v ≡ w }
 {}
 
-/// States that `==` holds if and only if two attributes of requests ask for the same.
+/// States that `==` holds if and only if two attributes of requests have the same kind and the same
+/// content.
 pub fn equal_request_attributes(v: &RequestAttribute<'_>, w: &RequestAttribute<'_>) -> bool
     ensures { IsTrue result ↔ (asked_of v.now ≡ asked_of w.now) }
 {
     v == w
 }
 
-/// States that a copy asks for the same, and that `clone` never fails.
+/// States that a copy has the same kind and content, and that `clone` never fails.
 pub fn copied_request_attribute<'a>(
     attribute: &RequestAttribute<'a>,
 ) -> Result<RequestAttribute<'a>, AllocError>
@@ -136,14 +143,15 @@ pub fn equal_record_request_views<R: Exact>(
     v == w
 }
 
-/// States that `==` holds if and only if two requests ask the same of the same family.
+/// States that `==` holds if and only if two requests are of the same family and have the same
+/// content.
 pub fn equal_any_request_views(v: &AnyRequestView<'_>, w: &AnyRequestView<'_>) -> bool
     ensures { IsTrue result ↔ (any_request_of v.now ≡ any_request_of w.now) }
 {
     v == w
 }
 
-/// States the number of each constant.
+/// States the numeric value of each constant.
 pub fn filter_constants_have_their_numbers()
     ensures { AreEqual ((MAX_PROGRAM, 65531) ∷ (INET_DIAG_REQ_BYTECODE, 1) ∷
         (INET_DIAG_REQ_PROTOCOL, 3) ∷ (REQUEST_FRONT, 72) ∷ (NLM_F_ACK, 4) ∷ []) }

@@ -1,4 +1,5 @@
-//! Filters of internet sockets as the bytecode that the kernel runs, and requests that carry it.
+//! Filters for IPv4 and IPv6 sockets: bytecode that the kernel runs on each socket, and requests
+//! that carry it. Requests of all families can also be parsed, for a test kernel.
 #![tactic(auto)]
 
 mod any;

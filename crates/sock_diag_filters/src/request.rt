@@ -1,4 +1,4 @@
-//! Requests for internet sockets that have attributes, written as whole netlink messages.
+//! Requests for IPv4 and IPv6 sockets with attributes, serialized as complete netlink messages.
 
 ghost use Rattle.std.specs.Prelude.{◌≡◌, ◌+◌, ◌++◌, length, map};
 ghost use Rattle.netlink_core.specs.Attribute.{AreWritable};
@@ -11,26 +11,28 @@ use netlink_core::{
 };
 use sock_diag_records::inet::InetRequest;
 
-/// The kind of the attribute that carries a filter's program.
+/// The kind of the attribute that contains a filter's program (linux/inet_diag.h).
 pub const INET_DIAG_REQ_BYTECODE: u16 = 1;
 
-/// The kind of the attribute that tells a protocol.
+/// The kind of the attribute that contains a protocol as a `u32` (linux/inet_diag.h).
 pub const INET_DIAG_REQ_PROTOCOL: u16 = 3;
 
-/// How many bytes stand in front of the attributes: the netlink header and
+/// The number of bytes before the attributes: 16 of the netlink header and 56 of
 /// `struct inet_diag_req_v2`.
 pub const REQUEST_FRONT: usize = 72;
 
-// How many bytes the attributes may have, so that the header's length counts the whole.
+// The maximum number of bytes of the attributes, so that the length of the message fits the length
+// field of its header.
 const MOST_ATTRIBUTES: usize = 4294967223;
 
-/// An attribute of a request for internet sockets. Of several of one kind a kernel takes the last.
+/// An attribute of a request for IPv4 or IPv6 sockets. If there are several of one kind, the kernel
+/// uses the last.
 #[derive(Clone, Copy, Debug, PartialEq, Eq)]
 pub enum RequestAttribute<'a> {
-    /// A filter's program: what `assemble` gives.
+    /// A filter's program, which `assemble` returns.
     Program(&'a [u8]),
-    /// The protocol, which a kernel takes in place of the request's: above 255 as `IPPROTO_MPTCP`,
-    /// 262.
+    /// The protocol, which the kernel uses instead of `sdiag_protocol` of the request. It may be
+    /// above 255, such as `IPPROTO_MPTCP` (262).
     Protocol(u32),
 }
 
@@ -62,15 +64,15 @@ impl Nla for RequestAttribute<'_> {
     }
 }
 
-/// A request for internet sockets and its attributes: a whole netlink message.
+/// A request for IPv4 or IPv6 sockets and its attributes: a complete netlink message.
 #[derive(Drop)]
 pub struct RequestWithAttributes<'a> {
-    /// The netlink header. It is written as it stands, but with the length of the message: its
-    /// type is to be `SOCK_DIAG_BY_FAMILY` or `SOCK_DESTROY`.
+    /// The netlink header. It is serialized unchanged, except that its length is the length of the
+    /// message. The kernel expects the type `SOCK_DIAG_BY_FAMILY` or `SOCK_DESTROY`.
     pub header: NetlinkHeader,
-    /// What is asked for.
+    /// The request, `struct inet_diag_req_v2`.
     pub request: InetRequest,
-    /// What stands behind it.
+    /// The attributes after the request.
     pub attributes: &'a [RequestAttribute<'a>],
 }
 
@@ -79,7 +81,8 @@ impl Emitable for RequestWithAttributes<'_> {
 
     ghost writable = { λ r. AreWritable (map attribute_of r.attributes.now) 4294967223 };
 
-    /// Whether no program is longer than 65,531 bytes, and the header's length counts the whole.
+    /// Returns whether each program has at most 65,531 bytes, and the length of the message fits
+    /// the length field of its header.
     fn is_writable(&self) -> bool {
         nlas_len_within(self.attributes, MOST_ATTRIBUTES).is_some()
     }
@@ -96,7 +99,7 @@ impl Emitable for RequestWithAttributes<'_> {
     }
 }
 
-// Writes a header with this length, and a value behind it, over as many bytes.
+// Writes the header with the length `len`, and then the value. The buffer has the length of both.
 fn write_front<R: Emitable>(header: &NetlinkHeader, len: u32, value: &R, front: &mut [u8])
     requires writable { R.writable value.now }
     requires whole { length front.old ≡ 16 + length (R.bytes value.now) }
@@ -107,7 +110,7 @@ fn write_front<R: Emitable>(header: &NetlinkHeader, len: u32, value: &R, front: 
     write_all(value, behind);
 }
 
-// Writes a value over as many bytes.
+// Serializes the value to a buffer of the same length.
 fn write_all<R: Emitable>(value: &R, buffer: &mut [u8])
     requires writable { R.writable value.now }
     requires whole { length buffer.old ≡ length (R.bytes value.now) }
@@ -116,7 +119,7 @@ fn write_all<R: Emitable>(value: &R, buffer: &mut [u8])
     value.emit(buffer);
 }
 
-// Writes a header with this length over sixteen bytes.
+// Serializes the header, with the length `len`, to a buffer of 16 bytes.
 fn write_header(header: &NetlinkHeader, len: u32, buffer: &mut [u8])
     requires { length buffer.old ≡ 16 }
     ensures { buffer.new ≡ header_bytes (header_under header.now len) }

@@ -1,4 +1,4 @@
-//! Callers to copy from.
+//! Examples of callers, to be copied.
 
 ghost use Rattle.std.specs.Prelude.{◌≡◌, ◌&&◌, [], ◌∷◌, IfErr, IfOk, ℕ, List, Bool};
 ghost use Rattle.sock_diag_filters.specs.Audit.{IsAudited};
@@ -22,13 +22,15 @@ use sock_diag_records::inet::{ExtensionFlags, InetRequest, SocketId, StateFlags}
 use std::alloc::Global;
 use std::net::IpAddr;
 
-/// The flag of a header that asks for an acknowledgement, `NLM_F_ACK` of netlink(7).
+/// The header flag that requests an acknowledgement, `NLM_F_ACK` of netlink(7).
 pub const NLM_F_ACK: u16 = 4;
 
-/// The request for the TCP sockets over IPv4 that listen on a port from the first to the last: the
-/// kernel runs a program that wants exactly those whose port is found to be at least the first
-/// (`INET_DIAG_BC_S_GE`, 2) and at most the last (`INET_DIAG_BC_S_LE`, 3). Fails only if an
-/// allocation fails: its program is never too long, and a first port above the last is no error.
+/// Returns the request for the TCP sockets over IPv4 that listen on a port from `first` to `last`.
+///
+/// The kernel runs the program of the request. It selects a socket if and only if the kernel finds
+/// that its port is at least `first` (`INET_DIAG_BC_S_GE`, 2) and at most `last`
+/// (`INET_DIAG_BC_S_LE`, 3). The only error is `Memory`, if an allocation fails: the program is
+/// never too long. A `first` above `last` is not an error.
 pub fn listening_on(
     alloc: Global,
     first: u16,
@@ -60,8 +62,8 @@ pub fn listening_on(
     Ok(message)
 }
 
-/// The request to close one TCP socket, told by its addresses, ports and cookie, and to acknowledge
-/// that. It needs `CAP_NET_ADMIN`.
+/// Returns the request to close one TCP socket, which is identified by its addresses, ports and
+/// cookie, with a flag that requests an acknowledgement. The kernel requires `CAP_NET_ADMIN`.
 pub fn close_tcp(socket_id: SocketId, sequence_number: u32) -> [u8; REQUEST_FRONT]
     ensures written { result ≡ request_bytes (asked_header 21 5 sequence_number)
         (asked_tcp 0xffffffff socket_id) [] }
@@ -77,7 +79,7 @@ pub fn close_tcp(socket_id: SocketId, sequence_number: u32) -> [u8; REQUEST_FRON
     message
 }
 
-// A header of a request, without a length.
+// Returns the header of a request, with the length 0: `emit` writes the length.
 fn header(message_type: u16, flags: u16, sequence_number: u32) -> NetlinkHeader
     ensures { result ≡ asked_header message_type flags sequence_number }
 {
@@ -89,8 +91,8 @@ fn header(message_type: u16, flags: u16, sequence_number: u32) -> NetlinkHeader
     }
 }
 
-// A request for sockets of TCP in these states, or for the one with this identity, and for none of
-// their attributes.
+// Returns the request for TCP sockets in these states, or for the TCP socket with this identity. It
+// requests no attributes.
 fn tcp(states: StateFlags, socket_id: SocketId) -> InetRequest
     ensures { result ≡ asked_tcp states.0 socket_id }
 {

@@ -1,4 +1,4 @@
-//! Requests for internet sockets as a test kernel reads them, in place.
+//! Borrowed requests for IPv4 and IPv6 sockets, as a test kernel parses them.
 
 ghost use Rattle.std.specs.Prelude.{◌≡◌, ◌↔◌, List, IsTrue, IfOk, IfErr};
 ghost use Rattle.netlink_core.specs.Attribute.{AttributeFault, AttributesMean};
@@ -23,25 +23,32 @@ use netlink_core::{
 use sock_diag_records::constants::{SOCK_DESTROY, SOCK_DIAG_BY_FAMILY};
 use sock_diag_records::inet::InetRequest;
 
-/// A request for internet sockets, read in place: what a test kernel is asked.
+/// A borrowed request for IPv4 or IPv6 sockets.
 #[derive(Debug, Drop, PartialEq, Eq)]
 pub struct RequestView<'a> {
     /// The netlink header.
     pub header: NetlinkHeader,
-    /// What is asked for.
+    /// The request, `struct inet_diag_req_v2`.
     pub request: InetRequest,
-    /// The protocol: that of the last attribute that tells one, or else the request's.
+    /// The protocol in the last attribute `INET_DIAG_REQ_PROTOCOL`, or the protocol of the request
+    /// if there is none.
     pub protocol: u32,
-    /// The filter's program, of the last attribute that carries one.
+    /// The filter's program, the value of the last attribute `INET_DIAG_REQ_BYTECODE`. It is not
+    /// checked.
     pub program: Option<&'a [u8]>,
 }
 
 impl<'a> RequestView<'a> {
-    /// Reads the netlink message in front of the bytes. No memory is taken.
+    /// Parses the netlink message at the start of the bytes. It does not allocate. Bytes after the
+    /// message are ignored.
     ///
-    /// Refused is what stands for its header; then, as `UnknownMessageType`, a type but
-    /// `SOCK_DIAG_BY_FAMILY` and `SOCK_DESTROY`; then what the reader of `InetRequest` refuses;
-    /// then the first attribute that isn't framed, or that tells a protocol in other than 4 bytes.
+    /// Returns the first of these errors:
+    ///
+    /// 1. an error of the netlink header, as of [`NetlinkHeader::from_prefix`];
+    /// 2. `UnknownMessageType` for a type other than `SOCK_DIAG_BY_FAMILY` and `SOCK_DESTROY`;
+    /// 3. an error of the parser of `InetRequest`;
+    /// 4. the error of the first invalid attribute: a framing error, or `WrongLength` for an
+    ///    `INET_DIAG_REQ_PROTOCOL` with a length other than 4.
     pub fn parse(message: &'a [u8]) -> Result<RequestView<'a>, DecodeError>
         ensures value { IfOk result (Asks message.entry.now) }
         ensures fault { IfErr result (RefusesRequest message.entry.now) }
@@ -64,14 +71,14 @@ impl<'a> RequestView<'a> {
     }
 }
 
-// Whether a message of the type asks for sockets, or to close one.
+// Returns whether messages of the type are requests for sockets, or requests to close a socket.
 pub(crate) fn is_request(message_type: u16) -> bool
     ensures { IsTrue result ↔ IsRequestType message_type }
 {
     message_type == SOCK_DIAG_BY_FAMILY || message_type == SOCK_DESTROY
 }
 
-// What attributes told so far.
+// The last program and the last protocol in the attributes so far.
 #[derive(Clone, Copy)]
 struct Found<'a> {
     program: Option<&'a [u8]>,
@@ -79,7 +86,7 @@ struct Found<'a> {
 }
 
 impl<'a> Found<'a> {
-    // The same, and what one more attribute tells.
+    // Returns the values after one more attribute.
     fn with(self, decoded: Option<RequestAttribute<'a>>) -> Found<'a>
         ensures { result ≡ found_with self.entry decoded.entry }
     {
@@ -97,7 +104,7 @@ impl<'a> Found<'a> {
     }
 }
 
-// What the attributes tell.
+// Returns the last program and the last protocol in the attributes, or the first error.
 fn find_attributes<'a>(bytes: &'a [u8]) -> Result<Found<'a>, DecodeError>
     ensures value { IfOk result (λ found. (decoded : List AskedAttribute)
         × AttributesMean decodes_asked bytes.entry.now decoded × Keeps found decoded) }
@@ -115,7 +122,7 @@ fn find_attributes<'a>(bytes: &'a [u8]) -> Result<Found<'a>, DecodeError>
     Ok(found)
 }
 
-// What an attribute tells, or nothing.
+// Parses an attribute. Returns `None` for an attribute of another kind.
 fn decode<'a>(attribute: &NlaBuffer<'a>) -> Result<Option<RequestAttribute<'a>>, DecodeError>
     ensures { decodes_asked (attribute_of attribute.entry.now) ≡ map_ok asked_or_nothing result }
 {

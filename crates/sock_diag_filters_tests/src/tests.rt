@@ -1,3 +1,5 @@
+//! Tests of programs against those that ss(8) sends, of requests, and of `Debug` outputs.
+
 use netlink_core::{Emitable, RecordName};
 use sock_diag_filters::uses::listening_on;
 use sock_diag_filters::{
@@ -9,14 +11,15 @@ use std::net::{IpAddr, Ipv4Addr, Ipv6Addr};
 use std::process::Abort;
 use std::test::Fail;
 
+/// Asserts that the filter assembles to the program in hexadecimal.
 fn assembles(rt: &impl Abort, alloc: Global, filter: &Filter, program: &str) -> Result<(), Fail> {
     let made = hex::encode(alloc, assemble(alloc, filter)?)?;
     assert!(rt; made.as_str() == program, "{made}");
     Ok(())
 }
 
-// What ss(8) sends for `dst [::1]:53`, `autobound`, `cgroup /` (of the number 0), and
-// `fwmark = 0x01/0x03`; and of interface 3.
+/// Checks the programs that ss(8) sends for `dst [::1]:53`, `autobound`, `cgroup /` (with the id
+/// 0), and `fwmark = 0x01/0x03`, and the program for interface 3.
 #[test]
 fn conditions_are_those_of_ss(rt: HostRuntime) -> Result<(), Fail> {
     let local = Host {
@@ -41,7 +44,8 @@ fn conditions_are_those_of_ss(rt: HostRuntime) -> Result<(), Fail> {
     Ok(())
 }
 
-// What it sends for `sport >= :1024 and ( dport <= :99 or not src 10.0.0.0/8 )`.
+/// Checks the program that ss(8) sends for
+/// `sport >= :1024 and ( dport <= :99 or not src 10.0.0.0/8 )`.
 #[test]
 fn a_filter_is_that_of_ss(rt: HostRuntime) -> Result<(), Fail> {
     let source = Filter::Condition(Condition::Source(Host {
@@ -57,8 +61,8 @@ fn a_filter_is_that_of_ss(rt: HostRuntime) -> Result<(), Fail> {
     assembles(&rt, rt.alloc(), &Filter::And(&high, &either), program)
 }
 
-// A dump of the sockets over IPv4 that listen, by the number 9: the program of `autobound`, and
-// MPTCP.
+/// A dump request for listening IPv4 sockets, with the sequence number 9, the program of
+/// `autobound`, and the protocol MPTCP.
 const ASKED: &str = "\
 580000001400010309000000000000000206000000040000000000000000000000000000000000000000000000000000\
 00000000000000000000000000000000000000000000000008000100060408000800030006010000";
@@ -83,9 +87,10 @@ fn requests_are_written(rt: HostRuntime) -> Result<(), Fail> {
     Ok(())
 }
 
-/// Requests worked out by hand from the kernel's headers, and the text of each: to close the UNIX
-/// socket of inode 0x1234, followed by an attribute; for netlink sockets of all protocols and their
-/// memory; for packet sockets; for listening vsock sockets; for XDP sockets; and for IPv6 sockets.
+/// Requests derived by hand from the kernel's headers, each with its `Debug` output: to close the
+/// UNIX socket with inode 0x1234, followed by an attribute; for netlink sockets of all protocols,
+/// with their memory counters; for packet sockets; for listening vsock sockets; for XDP sockets;
+/// and for IPv6 sockets.
 const BY_FAMILY: &str = "\
 2c0000001500050009000000000000000100000002040000341200000100000000000000000000ff04000900|\
 Ok(Unix(RecordRequestView { header: NetlinkHeader { length: 44, message_type: 21, flags: 5, \
@@ -116,7 +121,7 @@ extensions: ExtensionFlags(0), states: StateFlags(2), socket_id: SocketId { sour
 destination_port: 54321, source_address: ::1, destination_address: ::1, interface_id: 3, \
 cookie: [0, 0, 0, 0, 0, 0, 0, 255] } }, protocol: 6, program: None }))";
 
-/// The text of the request above.
+/// The `Debug` output of the parsed [`ASKED`].
 const ASKED_TEXT: &str = "|\
 Ok(Inet(RequestView { header: NetlinkHeader { length: 88, message_type: 20, flags: 769, \
 sequence_number: 9, port_number: 0 }, request: InetRequest { family: 2, protocol: 6, \
@@ -124,7 +129,7 @@ extensions: ExtensionFlags(0), states: StateFlags(1024), socket_id: SocketId { s
 destination_port: 0, source_address: 0.0.0.0, destination_address: 0.0.0.0, interface_id: 0, \
 cookie: [0, 0, 0, 0, 0, 0, 0, 0] } }, protocol: 262, program: Some([6, 4, 8, 0]) }))";
 
-/// Asserts that a request is read, and printed by `Debug` as this text.
+/// Asserts that `Debug` prints the result of parsing a request as the text in the row.
 fn is_shown(rt: &impl Abort, alloc: Global, row: &str) -> Result<(), Fail> {
     let (digits, text) = row.split_once('|').ok_or("no text")?;
     let bytes = hex::decode(alloc, digits)?;
@@ -142,11 +147,12 @@ fn requests_are_read(rt: HostRuntime) -> Result<(), Fail> {
     is_shown(&rt, rt.alloc(), asked.concat(rt.alloc())?.as_str())
 }
 
+/// Asserts that two texts are equal.
 fn is_text(rt: &impl Abort, shown: &str, text: &str) {
     assert!(rt; shown == text, "{shown}");
 }
 
-// The names of records of other families, and why a filter has no program.
+/// Checks the names of records of other families, and the texts of errors of `assemble`.
 #[test]
 fn names_and_errors_have_texts(rt: HostRuntime) -> Result<(), Fail> {
     let alloc = rt.alloc();
@@ -181,7 +187,7 @@ fn names_and_errors_have_texts(rt: HostRuntime) -> Result<(), Fail> {
     Ok(())
 }
 
-// Conditions and attributes of requests as `Debug` prints them.
+/// Checks the `Debug` output of conditions and of attributes of requests.
 #[test]
 fn conditions_have_texts(rt: HostRuntime) -> Result<(), Fail> {
     let alloc = rt.alloc();

@@ -1,4 +1,4 @@
--- The laws of replies whose attributes are kept whole.
+-- The codec laws of replies whose attributes are raw.
 use Rattle.std.proofs.Common.{ℕ, ◌≡◌, ◌≤◌, List, length, replicate, refl, arith}
 use Rattle.std.proofs.lemmas.List.{length-replicate}
 use Rattle.netlink_core.specs.Codec.{KeepsLaws}
@@ -11,7 +11,8 @@ use Rattle.netlink_core.proofs.Responses.{responses_keep_laws}
 use Rattle.sock_diag_replies.specs.laws.Header.{response_laws}
 use Rattle.sock_diag_any.specs.WholeReply.{whole_reply}
 
--- a reply whose header has one table
+-- The codec of a reply with raw attributes keeps the codec laws if its header is a sound layout
+-- with one table of rows.
 pub plain_replies_keep_laws : {Value : Type 0} {name : RecordName} {size : ℕ}
     {rows : List (Row Value)} {value : List ℕ → Value} {is_shaped : Value → Type 0}
     → IsSound (plain name size rows value is_shaped)

@@ -1,4 +1,4 @@
--- Two names of fields of struct tcp_info are equal by their tags.
+-- `==` of two `TcpField`s is true if and only if they are equal.
 use Rattle.std.proofs.Common.{rules, ◌≡◌, ◌↔◌, IsTrue}
 use denote.Enum.Bare.{same_true, true_same}
 use Rattle.sock_diag_extras.specs.declared.tcp_info.TcpField.{TcpField}

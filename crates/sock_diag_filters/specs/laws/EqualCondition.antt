@@ -1,4 +1,4 @@
--- Conditions are equal by each of their parts.
+-- `==` of addresses, prefixes, hosts and conditions is true if and only if they are equal.
 use mathlib.Core.HLevel.{is_prop→PathP}
 use Rattle.std.proofs.Common.{arith, rules, ◌≡◌, ◌≤◌, ◌↔◌, IsTrue}
 use Rattle.std.proofs.Math.Bridge.{le_prop}

@@ -1,4 +1,4 @@
--- The program of a filter.
+-- The program of a filter, as the assembler writes it.
 use Rattle.std.specs.Prelude.{ℕ, ◌+◌, List, [], ◌∷◌, ◌++◌, length}
 use Rattle.byteorder.specs.Endian.{little_bytes}
 use Rattle.sock_diag_filters.specs.declared.filter.Filter.{Filter}
@@ -6,21 +6,25 @@ use Rattle.sock_diag_filters.specs.declared.filter.Filter.TheVariants as parts
 use Rattle.sock_diag_filters.specs.Conditions.{arguments, code_of}
 use Rattle.sock_diag_filters.specs.Filters.{size}
 
--- An operation with so many bytes of arguments: its code, its own length, and behind which so many
--- bytes are passed where its condition isn't met.
+-- The `struct inet_diag_bc_op` of an operation with `n` bytes of arguments: `code`; `yes`, its
+-- length; and `no` as a little-endian u16. If its condition is not met, `no` leads to `far` bytes
+-- after its end.
 abbrev pub front_bytes : ℕ → ℕ → ℕ → List ℕ
 front_bytes code n far = code ∷ (4 + n) ∷ little_bytes 2 (4 + n + far)
 
--- the same, and the arguments
+-- The bytes of an operation: its `struct inet_diag_bc_op`, and its arguments.
 abbrev pub operation : ℕ → List ℕ → ℕ → List ℕ
 operation code arguments far = front_bytes code (length arguments) far ++ arguments
 
--- JMP over so many bytes
+-- An operation INET_DIAG_BC_JMP (1) over `far` bytes. Its condition is never met.
 abbrev pub jump : ℕ → List ℕ
 jump far = operation 1 [] far
 
--- Who is wanted comes to the end of the program, and who isn't so many bytes behind it. The second
--- part of an `or` stands four bytes behind the first, past a jump.
+-- The program of a filter. For a socket that the filter selects, a run reaches the end of the
+-- program; for any other socket, it reaches `far` bytes after the end. In the program of an `or`, a
+-- jump over the second part follows the first part: a socket that the first part does not select
+-- skips the 4 bytes of this jump. In the program of a `not`, a jump of `far` bytes follows the
+-- part, and is skipped in the same way.
 abbrev pub program_of : Filter → ℕ → List ℕ
 program_of (parts.Condition c) far = operation (code_of c) (arguments c) far
 program_of (parts.And' p first q second) far =

@@ -6,7 +6,7 @@ use Rattle.sock_diag_replies.specs.ViewModel.{view_model}
 use Rattle.sock_diag_families.specs.Found.{first_value}
 use Rattle.sock_diag_any.proofs.attributes.value_in.Given as goal
 
--- the first of the kind among those that are left is the first of all
+-- The first value of the kind in the bytes left is the first value of the kind in the whole reply.
 abbrev pub invariant-loop-nla : goal.invariant-loop-nla
 invariant-loop-nla g l =
     first_value l.kind (values_in (decodes []) (bytes_left l.views.walk))

@@ -14,7 +14,7 @@ use Rattle.sock_diag_filters.proofs.Operations.{program_length}
 use Rattle.sock_diag_filters.proofs.Running.{program_wants}
 use Rattle.sock_diag_filters.proofs.assembly.assemble.Goals as goal
 
--- what was written over all of a list is the list
+-- A buffer that was overwritten as a whole contains what was written.
 filled : (n : ℕ) (program new old : List ℕ) → new ≡ program → length program ≡ n
     → program ≡ take n (new ++ drop (length new) old)
 filled n program new old same long =

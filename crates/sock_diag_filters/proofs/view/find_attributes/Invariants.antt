@@ -4,7 +4,7 @@ use Rattle.netlink_core.proofs.Walking.{Continues}
 use Rattle.sock_diag_filters.specs.Asked.{Keeps, AskedAttribute, decodes_asked}
 use Rattle.sock_diag_filters.proofs.view.find_attributes.Given as goal
 
--- what was found so far is what the attributes so far tell
+-- `found` has the last program and the last protocol of the attributes parsed so far.
 abbrev pub invariant-loop-item : goal.invariant-loop-item
 invariant-loop-item l = record {
   so_far : List AskedAttribute;

@@ -5,7 +5,8 @@ use Rattle.attribute_lists.specs.AttributesIn.{HasNoFault}
 use Rattle.sock_diag_extras.specs.Nested.{attributes_in, first_in}
 use Rattle.sock_diag_extras.proofs.nested.NestedNlas.value_of.Given as goal
 
--- the first of the kind among those that are left is the first of all
+-- The bytes left have no framing error, and the first value of the kind in them is the first value
+-- of the kind in all bytes.
 abbrev pub invariant-loop-nla : goal.invariant-loop-nla
 invariant-loop-nla l = record {
   framed : HasNoFault (decodes []) (bytes_left l.walk);
