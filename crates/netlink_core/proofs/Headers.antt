@@ -5,7 +5,7 @@ use Rattle.std.proofs.Common.{◌≡◌, ◌↔◌, ℕ, ◌+◌, ◌-◌, ◌�
 use Rattle.std.proofs.Common.{length, take, drop, slice_index, refl, sym, ap, ◌∙◌, arith}
 use Rattle.netlink_core.specs.laws.Prefix.{framed_or_not}
 use Rattle.std.proofs.lemmas.List.{take-append-drop, take_at, length-append}
-use Rattle.std.proofs.lemmas.List.{length-take, length-drop, drop-append-le, take_all}
+use Rattle.std.proofs.lemmas.List.{length-take, length-drop, drop-append-le}
 use Rattle.byteorder.specs.Numbers.{little_from-append}
 use Rattle.byteorder.specs.Endian.{little_number}
 use Rattle.netlink_core.specs.declared.header.NetlinkHeader.{NetlinkHeader}
@@ -110,11 +110,10 @@ message_has_header bytes message h head is =
     ) in
     ((same, head.1, head.2, omega arith), sym size)
 
--- the payload of a message is the bytes after its header
+-- the payload of a message is all of its bytes after the header
 pub whole_payload : (message : List ℕ) (h : NetlinkHeader) → h.length ≡ length message
-    → take (h.length - 16) (drop 16 message) ≡ drop 16 message
-whole_payload message h size =
-    take_all (h.length - 16) (drop 16 message) (omega (arith, length-drop 16 message))
+    → take (h.length - 16) (drop 16 message) ≡ take (length message - 16) (drop 16 message)
+whole_payload message h size = ap (λ (n : ℕ). take (n - 16) (drop 16 message)) size
 
 -- the bytes that a header serializes to have its numbers in their fields, whatever follows
 values_back : (h : NetlinkHeader) (rest : List ℕ) → Fit header_fields (header_values h)

@@ -10,7 +10,7 @@ use Rattle.netlink_core.proofs.Datagrams.{shorter-rest}
 use Rattle.netlink_core.proofs.Items.{leading_item, no_items, fault_alone}
 use Rattle.netlink_packet_sock_diag.specs.declared.dump.views.DumpViews.{DumpViews}
 use Rattle.netlink_packet_sock_diag.specs.PayloadViewModel.{PayloadView}
-use Rattle.netlink_core.specs.DatagramWalk.{datagram_left}
+use Rattle.netlink_core.specs.DatagramWalk.{framed_left}
 use Rattle.netlink_packet_sock_diag.specs.DumpWalk.{GivesView}
 use Rattle.netlink_packet_sock_diag.specs.Message.{message_codec}
 use Rattle.netlink_core.specs.Faults.{map_ok}
@@ -18,20 +18,20 @@ use Rattle.netlink_packet_sock_diag.specs.PayloadViewModel.{payload_view_model}
 
 -- nothing is yielded if no bytes are left
 nothing_more : (walk : DumpViews) (given : List (Result PayloadView DecodeError))
-    → Drains GivesView walk given → datagram_left walk.messages ≡ [] → given ≡ []
+    → Drains GivesView walk given → framed_left walk.messages ≡ [] → given ≡ []
 nothing_more walk [] h none = refl
 nothing_more walk (g ∷ given) h none =
-    grind (arith, shorter-rest (datagram_left walk.messages))
+    grind (arith, shorter-rest (framed_left walk.messages))
 
 pub whole_views : (walk : DumpViews) (given : List (Result PayloadView DecodeError))
-    → Drains GivesView walk given → ItemsAre (ItemIs message_codec) (datagram_left walk.messages)
+    → Drains GivesView walk given → ItemsAre (ItemIs message_codec) (framed_left walk.messages)
     (map (map_ok payload_view_model) given)
 whole_views walk [] h = rw (h.1.1, h.1.2.0) (no_items (ItemIs message_codec))
 whole_views walk (g ∷ given) h =
-    let bytes = datagram_left walk.messages in
+    let bytes = framed_left walk.messages in
     let later : Drains GivesView h.1.1.0 given = (h.0, (h.1.0, h.1.1.2, h.1.2)) in
     elim h.1.1.1 [
-      | inl s ↦ leading_item (ItemIs message_codec) bytes s.0 (datagram_left h.1.1.0.messages)
+      | inl s ↦ leading_item (ItemIs message_codec) bytes s.0 (framed_left h.1.1.0.messages)
           (map_ok payload_view_model g) (map (map_ok payload_view_model) given) s.1 s.2
           (whole_views h.1.1.0 given later)
       | inr f ↦ rw (f.1, nothing_more h.1.1.0 given later f.4)
