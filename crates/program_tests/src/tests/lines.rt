@@ -1,3 +1,5 @@
+//! Tests of the line protocol.
+
 use sock_diag_lines::RunError;
 use std::alloc::Global;
 use std::process::Abort;

@@ -1,3 +1,5 @@
+//! Tests of the lister of captures.
+
 use netlink_core::{DecodeError, RecordName};
 use sock_diag_captures::{
     ByteOrder, CaptureError, HEADING, Issue, Options, RunError, run, run_to_status,
