@@ -32,8 +32,7 @@ CRATES = ["netlink_core", "attribute_lists", "sock_diag_values", "sock_diag_reco
 ROOT = Path(__file__).resolve().parent.parent / "crates"
 # The extension crates and the programs, which are counted separately.
 OTHERS = ["sock_diag_families", "sock_diag_any", "sock_diag_extras", "sock_diag_filters",
-    "sock_diag_calls", "sock_diag_uses", "capture_tables", "sock_diag_captures", "sockdiag_c",
-    "sockdiag", "sslist"]
+    "sock_diag_examples", "capture_tables", "sock_diag_captures", "sockdiag_c", "sockdiag", "sslist"]
 # Ghost members that define the meaning of a type. Their types and their bodies are roots.
 MEANING = set("""codec model type_written bytes writable held input TAKES_MEMORY attribute layout
     Tag Value view inverse is_clone is_made_with is_infallible from_gives bitor_gives can_next

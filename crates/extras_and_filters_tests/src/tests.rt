@@ -1,0 +1,2 @@
+mod extras;
+mod filters;

@@ -1,5 +1,0 @@
-//! Tests of the lister of captures.
-#![tactic(auto)]
-
-#[cfg(test)]
-mod tests;

@@ -1,0 +1,18 @@
+use Rattle.std.proofs.Common.{◌≡◌, ◌↔◌, IsTrue, ap, rules}
+use Rattle.netlink_core.proofs.Equality.{apart}
+use Rattle.netlink_core.proofs.FaultEquality.{fault_equal}
+use Rattle.sock_diag_examples.specs.declared.lister.Line.{Line}
+use Rattle.sock_diag_examples.specs.declared.lister.Line.TheVariants.{Socket, End, Failure, Refused}
+use Rattle.sock_diag_examples.specs.contracts.lister.LinePartialEq.TheImpl.{ghosts}
+use Rattle.sock_diag_examples.proofs.lister.equal_lines.Goals as goal
+
+line_equal : (v w : Line) → IsTrue (ghosts.eq v w) ↔ (v ≡ w)
+line_equal (Socket a b) (Socket x y) = search rules
+line_equal End End = search rules
+line_equal Failure Failure = search rules
+line_equal (Refused a) (Refused b) =
+    (λ h. ap Refused ((fault_equal a b).0 h), λ e. (fault_equal a b).1 cc)
+line_equal v w = apart (λ p. cc)
+
+pub returns : goal.returns
+returns c = rw c.eq.ensures (line_equal c.args.v.now c.args.w.now)

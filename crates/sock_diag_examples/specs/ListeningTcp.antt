@@ -1,0 +1,48 @@
+-- The request for all listening TCP sockets.
+use Rattle.std.specs.Prelude.{ℕ, replicate}
+use Rattle.netlink_core.specs.Envelope.{Envelope}
+use Rattle.netlink_core.specs.declared.message.NetlinkPayload.TheVariants.{InnerMessage}
+use Rattle.std.specs.declared.net.ip_addr.IpAddr.{IpAddr}
+use Rattle.std.specs.declared.net.ip_addr.IpAddr.TheVariants.{V4, V6}
+use Rattle.netlink_packet_sock_diag.specs.Message.{Message, message_of}
+use Rattle.sock_diag_records.specs.ResponseKind.{inet_request}
+use Rattle.sock_diag_examples.specs.declared.listening_tcp.Family.{Family}
+use Rattle.sock_diag_examples.specs.declared.listening_tcp.Family.TheVariants.{Inet, Inet6}
+
+-- AF_INET is 2, and AF_INET6 is 10
+abbrev pub family_number : Family → ℕ
+family_number Inet = 2
+family_number Inet6 = 10
+
+-- the address of all zeros
+abbrev pub no_address : Family → IpAddr
+no_address Inet = V4 record { octets = replicate 4 0 }
+no_address Inet6 = V6 record { segments = replicate 8 0 }
+
+-- A netlink message with `struct inet_diag_req_v2`: type SOCK_DIAG_BY_FAMILY (20), flags
+-- NLM_F_REQUEST | NLM_F_DUMP (0x301), protocol IPPROTO_TCP (6), only the state TCP_LISTEN (bit 10).
+-- The socket id is all zeros.
+abbrev pub listening_request : Family → ℕ → Envelope Message
+listening_request family sequence_number = record {
+  header = record {
+    length = 72;
+    message_type = 20;
+    flags = 0x301;
+    sequence_number = sequence_number;
+    port_number = 0;
+  };
+  payload = InnerMessage (message_of inet_request (record {
+    family = family_number family;
+    protocol = 6;
+    extensions = record { 0 = 0 };
+    states = record { 0 = 0x400 };
+    socket_id = record {
+      source_port = 0;
+      destination_port = 0;
+      source_address = no_address family;
+      destination_address = no_address family;
+      interface_id = 0;
+      cookie = replicate 8 0;
+    };
+  }));
+}

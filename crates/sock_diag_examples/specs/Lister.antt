@@ -1,0 +1,38 @@
+-- The lines of a listing.
+use Rattle.std.specs.Prelude.{◌≡◌, ℕ, List, Option, Some, None, Result, Ok, Err}
+use Rattle.std.specs.List.{filter_map}
+use Rattle.netlink_core.specs.declared.fault.DecodeError.{DecodeError}
+use Rattle.netlink_core.specs.Envelope.{Payload}
+use Rattle.netlink_core.specs.declared.message.NetlinkPayload.TheVariants.{Done, Error, Noop}
+use Rattle.netlink_core.specs.declared.message.NetlinkPayload.TheVariants.{Overrun, InnerMessage}
+use Rattle.netlink_core.specs.Items.{ItemIs, ItemsAre}
+use Rattle.netlink_packet_sock_diag.specs.Message.{Message, message_of, message_codec}
+use Rattle.sock_diag_records.specs.ResponseKind.{inet_request, inet_response, unix_request}
+use Rattle.sock_diag_records.specs.ResponseKind.{unix_response}
+use Rattle.sock_diag_examples.specs.declared.lister.Line.{Line}
+use Rattle.sock_diag_examples.specs.declared.lister.Line.TheVariants.{Socket, End, Failure, Refused}
+
+-- the line of a message: the state and the inode of a reply; none for a request
+abbrev pub socket_of : Message → Option Line
+socket_of (message_of inet_request v) = None
+socket_of (message_of inet_response v) = Some (Socket v.header.state v.header.inode)
+socket_of (message_of unix_request v) = None
+socket_of (message_of unix_response v) = Some (Socket v.header.state v.header.inode)
+
+-- The line of an item, if it has one: the state and the inode of a reply, the end of the dump, a
+-- failure that the kernel reports, or a decode error. NLMSG_NOOP has no line.
+abbrev pub line_of : Result (Payload Message) DecodeError → Option Line
+line_of (Ok (InnerMessage message)) = socket_of message
+line_of (Ok (Done given)) = Some End
+line_of (Ok (Error given)) = Some Failure
+line_of (Ok (Overrun given)) = Some Failure
+line_of (Ok Noop) = None
+line_of (Err e) = Some (Refused e)
+
+-- the lines of a datagram's items, in order
+pub record AreLinesOf (datagram : List ℕ) (lines : List Line) : Type 0 where
+  -- the messages of the datagram, each with its payload or its decode error
+  pub items : List (Result (Payload Message) DecodeError)
+  pub are : ItemsAre (ItemIs message_codec) datagram items
+  -- the lines of the items that have one
+  pub found : lines ≡ filter_map line_of items

@@ -1,0 +1,115 @@
+//! The name and the MTU of a network interface, rtnetlink(7): an example of attributes of another
+//! netlink family.
+
+ghost use Rattle.std.specs.Prelude.{◌≡◌, ◌≤◌, ◌↔◌, ℕ, List, [], None, length, drop, IfOk, IfErr};
+ghost use Rattle.std.specs.Prelude.{IsTrue};
+ghost use Rattle.std.specs.List.{filter_map, last_or};
+ghost use Rattle.netlink_core.specs.Attribute.{Attribute, AttributesMean, HasFittingValue, written};
+ghost use Rattle.netlink_core.specs.Bytes.{IsBytes};
+ghost use Rattle.netlink_core.specs.Canonical as canon;
+ghost use Rattle.netlink_core.specs.FirstAttribute.{first_attribute_codec};
+ghost use Rattle.sock_diag_examples.specs.Link.{LinkAttribute, decodes_link, name_in, mtu_in};
+ghost use Rattle.sock_diag_examples.specs.Link.{text_of, from_fault, GivesUp};
+
+use netlink_core::{
+    CanonError, DecodeError, DefaultNla, NlasIterator, canonical, parse_string, parse_u32,
+};
+use std::alloc::Global;
+
+/// Type of the attribute with the name, a text with a terminating NUL.
+pub const IFLA_IFNAME: u16 = 3;
+
+/// Type of the attribute with the MTU, 4 bytes.
+pub const IFLA_MTU: u16 = 4;
+
+/// Length of `struct ifinfomsg` in bytes; the attributes follow it.
+const HEADER: usize = 16;
+
+/// Name and MTU of an interface, from a message of type `RTM_NEWLINK`.
+#[derive(Debug, Drop, PartialEq, Eq)]
+pub struct Link {
+    /// Name (`IFLA_IFNAME`), without a terminating NUL. If there are several, the last one counts,
+    /// as for the kernel.
+    pub name: Option<String>,
+    /// Maximum length of a packet in bytes (`IFLA_MTU`). If there are several, the last one counts.
+    pub mtu: Option<u32>,
+}
+
+/// Error of [`parse_link`].
+#[derive(Debug, Drop, PartialEq, Eq)]
+pub enum LinkError {
+    /// The payload has fewer than the 16 bytes of its header.
+    TooShort {
+        /// Length of the payload in bytes.
+        got: usize,
+    },
+    /// An attribute is invalid, or memory ran out.
+    Attribute(DecodeError),
+}
+
+impl From<DecodeError> for LinkError {
+    ghost from_gives = { λ fault e. e ≡ from_fault fault };
+
+    fn from(fault: DecodeError) -> LinkError {
+        LinkError::Attribute(fault)
+    }
+}
+
+/// Parses the payload of a message about an interface: the bytes after the netlink header.
+pub fn parse_link(alloc: Global, payload: &[u8]) -> Result<Link, LinkError>
+    ensures value { IfOk result (λ link. (found : List LinkAttribute) × (16 ≤ length payload.now)
+        × AttributesMean decodes_link (drop 16 payload.now) found
+        × (text_of link.name ≡ last_or None (filter_map name_in found))
+        × (link.mtu ≡ last_or None (filter_map mtu_in found))) }
+    ensures fault { IfErr result (GivesUp payload.now) }
+{
+    if payload.len() < HEADER {
+        return Err(LinkError::TooShort { got: payload.len() });
+    }
+    let mut link = Link {
+        name: None,
+        mtu: None,
+    };
+    for item in NlasIterator::new(&payload[HEADER..]) {
+        let attribute = item?;
+        match attribute.kind() {
+            IFLA_IFNAME => link.name = Some(parse_string(alloc, attribute.value())?),
+            IFLA_MTU => link.mtu = Some(parse_u32(attribute.value())?),
+            _ => {}
+        }
+    }
+    Ok(link)
+}
+
+/// Compares two interfaces by `==`, which is true if and only if their names and their MTUs are
+/// equal.
+pub fn equal_links(v: &Link, w: &Link) -> bool
+    ensures { IsTrue result
+        ↔ ((text_of v.now.name ≡ text_of w.now.name) × (v.now.mtu ≡ w.now.mtu)) }
+{
+    v == w
+}
+
+/// Compares two errors by `==`, which is true if and only if they are equal.
+pub fn equal_link_errors(v: &LinkError, w: &LinkError) -> bool
+    ensures { IsTrue result ↔ (v.now ≡ w.now) }
+{
+    v == w
+}
+
+/// Returns the canonical form of the first attribute, of any family. Two attributes have the same
+/// canonical form if and only if they differ only in their padding and the bytes after it.
+pub fn attribute_key(alloc: Global, attribute: &[u8]) -> Result<Vec<u8>, CanonError>
+    ensures written { IfOk result (λ key.
+        (a : Attribute) × (first_attribute_codec []).reads attribute.now tt a
+        × (key.items ≡ written a)) }
+    ensures alike { IfOk result (λ key. (other : List ℕ) (theirs : Attribute) → IsBytes other
+        → (first_attribute_codec []).reads other tt theirs
+        → HasFittingValue theirs
+        → ((written theirs ≡ key.items) ↔ (first_attribute_codec []).idle tt attribute.now other)) }
+    ensures err { IfErr result (canon.GivesUp (λ a.
+        (first_attribute_codec []).reads attribute.now tt a)
+        (λ e. (first_attribute_codec []).refuses attribute.now tt e) HasFittingValue) }
+{
+    canonical::<DefaultNla>(alloc, attribute, ())
+}

@@ -1,0 +1,100 @@
+//! A listing of the messages in a datagram of a dump.
+
+ghost use Rattle.std.specs.Prelude.{◌≡◌, ◌↔◌, List, Result, Some, IfOk, IsTrue, map};
+ghost use Rattle.std.specs.Iterator.{Drains};
+ghost use Rattle.std.specs.List.{filter_map};
+ghost use Rattle.netlink_core.specs.declared.fault.DecodeError.{DecodeError as Fault};
+ghost use Rattle.netlink_packet_sock_diag.specs.DumpWalk.{GivesView};
+ghost use Rattle.netlink_packet_sock_diag.specs.PayloadViewModel.{PayloadView};
+ghost use Rattle.netlink_packet_sock_diag.specs.MessageViewModel.{message_view_model};
+ghost use Rattle.netlink_core.specs.Faults.{map_ok};
+ghost use Rattle.netlink_packet_sock_diag.specs.PayloadViewModel.{payload_view_model};
+ghost use Rattle.sock_diag_examples.specs.Lister.{AreLinesOf, line_of, socket_of};
+
+use netlink_core::DecodeError;
+use netlink_packet_sock_diag::{DumpViews, PayloadView, SockDiagView, laws};
+use std::alloc::{AllocError, Global};
+
+/// One line of a listing.
+#[derive(Debug, Drop, PartialEq, Eq)]
+pub enum Line {
+    /// A socket.
+    Socket {
+        /// Its state, one of `TCP_..`.
+        state: u8,
+        /// Its inode.
+        inode: u32,
+    },
+    /// The dump ends.
+    End,
+    /// The kernel reports an error, or that data was lost.
+    Failure,
+    /// A message is invalid, or the remaining bytes are not a message.
+    Refused(DecodeError),
+}
+
+/// Returns the lines of a datagram, in order: one for each message except `NLMSG_NOOP`, and one for
+/// remaining bytes that are not a message.
+pub fn list(alloc: Global, datagram: &[u8]) -> Result<Vec<Line>, AllocError>
+    ensures { IfOk result (λ lines. AreLinesOf datagram.now lines.items) }
+{
+    laws::whole_views_are_the_datagram();
+    lines_of(alloc, DumpViews::new(datagram))
+}
+
+/// Compares two lines by `==`, which is true if and only if they are equal.
+pub fn equal_lines(v: &Line, w: &Line) -> bool
+    ensures { IsTrue result ↔ (v.now ≡ w.now) }
+{
+    v == w
+}
+
+// Returns the lines of the items of an iterator.
+fn lines_of(alloc: Global, views: DumpViews<'_>) -> Result<Vec<Line>, AllocError>
+    ensures { IfOk result (λ lines. (given : List (Result PayloadView Fault))
+        × Drains GivesView views.entry given
+        × (lines.items ≡ filter_map line_of (map (map_ok payload_view_model) given))) }
+{
+    let mut lines = Vec::new(alloc);
+    for item in views {
+        if let Some(line) = line_for(item) {
+            lines.push(line)?;
+        }
+    }
+    Ok(lines)
+}
+
+// Returns the line of an item, if it has one.
+fn line_for(item: Result<PayloadView<'_>, DecodeError>) -> Option<Line>
+    ensures { result ≡ line_of (map_ok payload_view_model item.entry) }
+{
+    match item {
+        Ok(PayloadView::InnerMessage(message)) => Some(socket_line(&message)),
+        Ok(PayloadView::Done(_)) => Some(Line::End),
+        Ok(PayloadView::Error(_) | PayloadView::Overrun(_)) => Some(Line::Failure),
+        Ok(PayloadView::Noop) => None,
+        Err(fault) => Some(Line::Refused(fault)),
+    }
+}
+
+// Returns the line of a socket.
+fn socket_line(message: &SockDiagView<'_>) -> Line
+    ensures { Some result ≡ socket_of (message_view_model message.now) }
+{
+    match message {
+        SockDiagView::InetResponse(reply) => {
+            let header = reply.header();
+            Line::Socket {
+                state: header.state,
+                inode: header.inode,
+            }
+        }
+        SockDiagView::UnixResponse(reply) => {
+            let header = reply.header();
+            Line::Socket {
+                state: header.state,
+                inode: header.inode,
+            }
+        }
+    }
+}

@@ -1,0 +1,45 @@
+//! Comparing and rewriting borrowed replies.
+
+ghost use Rattle.std.specs.Prelude.{◌≡◌, ◌↔◌, ◌⊎◌, ◌<◌, ◌++◌, length, drop, IsTrue, IfOk, IfErr};
+ghost use Rattle.std.specs.Prelude.{MatchOption, OnOk};
+ghost use Rattle.netlink_core.specs.Response.{ValueOf, response_bytes, response_codec};
+ghost use Rattle.sock_diag_replies.specs.UnixResponseSpec.{unix_response_spec};
+ghost use Rattle.sock_diag_examples.specs.Readme.{IsUnixReply};
+
+use netlink_core::{DecodeError, Emitable};
+use netlink_packet_sock_diag::unix::UnixResponseView;
+
+/// Returns whether two replies have the same header and the same attributes, except for ignored
+/// bits such as padding.
+pub fn tell_the_same(one: &[u8], other: &[u8]) -> Result<bool, DecodeError>
+    ensures value { IfOk result (λ same.
+        IsTrue same ↔ (response_codec unix_response_spec).idle tt one.now
+        other.now) }
+    ensures accepted { OnOk result (IsUnixReply one.now × IsUnixReply other.now) }
+    ensures fault { IfErr result (λ e. (response_codec unix_response_spec).refuses one.now tt e
+        ⊎ (IsUnixReply one.now × (response_codec unix_response_spec).refuses other.now tt e)) }
+{
+    Ok(UnixResponseView::parse(one)? == UnixResponseView::parse(other)?)
+}
+
+/// Serializes the canonical form of a reply at the start of a buffer. Returns the number of bytes,
+/// or `None` if the reply can't be serialized or the buffer is too short.
+pub fn rewrite(bytes: &[u8], buffer: &mut [u8]) -> Result<Option<usize>, DecodeError>
+    ensures value { IfOk result (λ written. (v : ValueOf unix_response_spec)
+        × (response_codec unix_response_spec).reads bytes.now tt v
+        × MatchOption written
+        ((buffer.new ≡ buffer.old)
+        × ((response_codec unix_response_spec).fits v
+        → length buffer.old < length (response_bytes unix_response_spec v)))
+        (λ count. (buffer.new ≡ response_bytes unix_response_spec v ++ drop count buffer.old)
+        × (response_codec unix_response_spec).fits v
+        × (count ≡ length (response_bytes unix_response_spec v)))) }
+    ensures fault { IfErr result ((response_codec unix_response_spec).refuses bytes.now tt) }
+{
+    let reply = UnixResponseView::parse(bytes)?;
+    if !reply.is_writable() || reply.buffer_len() > buffer.len() {
+        return Ok(None);
+    }
+    reply.emit(buffer);
+    Ok(Some(reply.buffer_len()))
+}

@@ -1,0 +1,25 @@
+//! Parsing a borrowed reply.
+
+ghost use Rattle.std.specs.Prelude.{◌≡◌, IfOk, IfErr};
+ghost use Rattle.netlink_packet_sock_diag.specs.Message.{Message, message_codec};
+ghost use Rattle.sock_diag_examples.specs.Readme.{path_of, path_bytes};
+
+use netlink_core::DecodeError;
+use netlink_packet_sock_diag::SockDiagView;
+use netlink_packet_sock_diag::unix::nlas::NameView;
+
+/// Returns the path that a UNIX socket is bound to, if the payload of this message type has one.
+pub fn path<'a>(payload: &'a [u8], message_type: u16) -> Result<Option<&'a [u8]>, DecodeError>
+    ensures value { IfOk result (λ path. (m : Message)
+        × message_codec.reads payload.entry.now message_type m
+        × (path_bytes path ≡ path_of m)) }
+    ensures fault { IfErr result (message_codec.refuses payload.entry.now message_type) }
+{
+    match SockDiagView::parse(payload, message_type)? {
+        SockDiagView::UnixResponse(reply) => match reply.name() {
+            Some(NameView::Pathname(path)) => Ok(Some(path)),
+            _ => Ok(None),
+        },
+        SockDiagView::InetResponse(_) => Ok(None),
+    }
+}

@@ -1,0 +1,35 @@
+//! Replies that are stored under their canonical form, so that equivalent ones are stored once.
+
+ghost use Rattle.std.specs.Prelude.{◌≡◌, ◌↔◌, ◌⊎◌, ℕ, List, IsTrue, OnOk, IfOk, IfErr};
+ghost use Rattle.netlink_packet_sock_diag.specs.Message.{message_codec};
+ghost use Rattle.sock_diag_examples.specs.Stored.{HasKey, IsKey, KeyFails};
+
+use netlink_core::{CanonError, canonical};
+use netlink_packet_sock_diag::SockDiagMessage;
+use netlink_packet_sock_diag::constants::SOCK_DIAG_BY_FAMILY;
+use std::alloc::Global;
+
+/// Returns the key under which a reply is stored: its canonical form. The reply is the payload of a
+/// netlink message of type 20.
+///
+/// Two replies have the same key if and only if they are equivalent (`idle`): they differ only in
+/// padding, undefined bits and bytes that no parser reads.
+pub fn key(alloc: Global, reply: &[u8]) -> Result<Vec<u8>, CanonError>
+    ensures key { IfOk result (λ key. IsKey reply.now key.items) }
+    ensures alike { IfOk result (λ key. (other theirs : List ℕ) → IsKey other theirs
+        → ((key.items ≡ theirs) ↔ message_codec.idle 20 reply.now other)) }
+    ensures err { IfErr result (KeyFails reply.now) }
+{
+    canonical::<SockDiagMessage>(alloc, reply, SOCK_DIAG_BY_FAMILY)
+}
+
+/// Returns whether two replies have the same key, if both have one. Otherwise returns the error of
+/// the first reply, or of the second if the first has a key.
+pub fn same_reply(alloc: Global, one: &[u8], other: &[u8]) -> Result<bool, CanonError>
+    ensures value { IfOk result (λ same. IsTrue same ↔ message_codec.idle 20 one.now other.now) }
+    ensures keys { OnOk result (HasKey one.now × HasKey other.now) }
+    ensures err { IfErr result
+        (λ e. KeyFails one.now e ⊎ (HasKey one.now × KeyFails other.now e)) }
+{
+    Ok(key(alloc, one)?.as_slice() == key(alloc, other)?.as_slice())
+}

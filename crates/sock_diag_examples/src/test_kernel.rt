@@ -1,0 +1,178 @@
+//! A kernel for tests: it answers a request for UNIX sockets with the caller's replies, as one
+//! datagram.
+
+ghost use Rattle.std.specs.Prelude.{◌≡◌, ◌↔◌, ◌++◌, ℕ, List, map, IsTrue, OnOk, IfOk, IfErr};
+ghost use Rattle.std.specs.Prelude.{vec_items};
+ghost use Rattle.std.specs.List.{AllByRecursion, flat_map};
+ghost use Rattle.netlink_core.specs.EnvelopeModel.{payload_of};
+ghost use Rattle.netlink_packet_sock_diag.specs.MessageModel.{message_model};
+ghost use Rattle.sock_diag_examples.specs.UnixResponseModel.{unix_response_model};
+ghost use Rattle.netlink_core.specs.Response.{ValueOf};
+ghost use Rattle.sock_diag_replies.specs.UnixResponseSpec.{unix_response_spec};
+ghost use Rattle.sock_diag_examples.specs.TestKernel.{CanBeSent, FailsFor, GivesNoAnswer, HasRoom};
+ghost use Rattle.sock_diag_examples.specs.TestKernel.{IsAnswer, IsWholeDump, ReplyHasRoom};
+ghost use Rattle.sock_diag_examples.specs.TestKernel.{message_under, reply_under};
+ghost use Rattle.sock_diag_examples.specs.declared.test_kernel.AnswerError.TheVariants.{Request};
+ghost use Rattle.sock_diag_examples.specs.declared.test_kernel.AnswerError.TheVariants.{Memory};
+
+use netlink_core::{
+    DecodeError, NETLINK_HEADER_LEN, NetlinkHeader, NetlinkMessage, NetlinkPayload, Parseable,
+};
+use netlink_packet_sock_diag::constants::SOCK_DIAG_BY_FAMILY;
+use netlink_packet_sock_diag::unix::{UnixRequest, UnixResponse};
+use netlink_packet_sock_diag::{SockDiagMessage, laws};
+use std::alloc::{AllocError, AllocFailed, Global};
+
+/// Flag of a message that is one of several (`NLM_F_MULTI` of netlink(7)).
+pub const NLM_F_MULTI: u16 = 2;
+
+/// Error of [`answer`].
+#[derive(Debug, Drop, PartialEq, Eq)]
+pub enum AnswerError {
+    /// The request is invalid.
+    Request(DecodeError),
+    /// A reply is too long to be serialized.
+    Unwritable,
+    /// Memory ran out.
+    Memory,
+}
+
+impl From<DecodeError> for AnswerError {
+    ghost from_gives = { λ fault e. e ≡ Request fault };
+
+    fn from(fault: DecodeError) -> AnswerError {
+        AnswerError::Request(fault)
+    }
+}
+
+impl From<AllocError> for AnswerError {
+    ghost from_gives = { λ _ e. e ≡ Memory };
+
+    fn from(_e: AllocError) -> AnswerError {
+        AnswerError::Memory
+    }
+}
+
+impl<T: Drop> From<AllocFailed<T>> for AnswerError {
+    ghost from_gives = { λ _ e. e ≡ Memory };
+
+    fn from(_e: AllocFailed<T>) -> AnswerError {
+        AnswerError::Memory
+    }
+}
+
+/// Compares two errors by `==`, which is true if and only if they are equal.
+pub fn equal_answer_errors(v: &AnswerError, w: &AnswerError) -> bool
+    ensures { IsTrue result ↔ (v.now ≡ w.now) }
+{
+    v == w
+}
+
+/// Returns the answer to a request for UNIX sockets: each reply in its own message, and the message
+/// that ends a dump, all with the request's sequence number. The request is parsed, but does not
+/// select among the replies.
+pub fn answer(
+    alloc: Global,
+    request: &[u8],
+    replies: &[UnixResponse],
+) -> Result<Vec<u8>, AnswerError>
+    ensures answer { IfOk result (λ datagram.
+        IsAnswer request.now (map unix_response_model replies.now)
+        datagram.items) }
+    ensures refused { IfErr result (GivesNoAnswer request.now
+        (map unix_response_model replies.now)) }
+{
+    let header = NetlinkHeader::from_prefix(request)?;
+    if header.message_type != SOCK_DIAG_BY_FAMILY {
+        return Err(AnswerError::Request(DecodeError::UnknownMessageType {
+            message_type: header.message_type,
+        }));
+    }
+    let payload = &request[NETLINK_HEADER_LEN..header.length as usize];
+    let _asked = UnixRequest::parse(alloc, payload)?;
+    let mut datagram = Vec::new(alloc);
+    push_replies(alloc, &mut datagram, header.sequence_number, replies)?;
+    let end = NetlinkPayload::Done(vec![in alloc; 0; 4]?);
+    push_message(alloc, &mut datagram, header.sequence_number, end)?;
+    Ok(datagram)
+}
+
+/// The dump over an answer is complete and has the caller's replies, if each is in normal form and
+/// can be serialized. Proof only: the contract states the property.
+pub fn answer_is_a_whole_dump()
+    ensures { (request : List ℕ) (replies : List (ValueOf unix_response_spec)) (datagram : List ℕ)
+        → IsAnswer request replies datagram
+        → AllByRecursion CanBeSent replies → IsWholeDump datagram replies }
+{
+    netlink_core::laws::items_of_concatenation::<SockDiagMessage>();
+    laws::finalized_message_reads_back();
+    laws::reply_lengths_are_multiples_of_four();
+}
+
+// Appends a message for each reply.
+fn push_replies(
+    alloc: Global,
+    datagram: &mut Vec<u8>,
+    sequence_number: u32,
+    replies: &[UnixResponse],
+) -> Result<(), AnswerError>
+    ensures added { OnOk result (datagram.new.items ≡ datagram.old.items
+        ++ flat_map (reply_under sequence_number) (map unix_response_model replies.now)) }
+    ensures err { IfErr result
+        (FailsFor (¬ AllByRecursion ReplyHasRoom (map unix_response_model replies.now))) }
+{
+    for reply in replies {
+        push_reply(alloc, datagram, sequence_number, reply)?;
+    }
+    Ok(())
+}
+
+// Appends the message of a reply.
+fn push_reply(
+    alloc: Global,
+    datagram: &mut Vec<u8>,
+    sequence_number: u32,
+    reply: &UnixResponse,
+) -> Result<(), AnswerError>
+    ensures added { OnOk result (datagram.new.items ≡ datagram.old.items
+        ++ reply_under sequence_number (unix_response_model reply.now)) }
+    ensures err { IfErr result (FailsFor (¬ ReplyHasRoom (unix_response_model reply.now))) }
+{
+    let message = SockDiagMessage::UnixResponse(Box::new(
+        alloc,
+        UnixResponse::clone(reply, alloc)?,
+    )?);
+    push_message(
+        alloc,
+        datagram,
+        sequence_number,
+        NetlinkPayload::InnerMessage(message),
+    )
+}
+
+// Appends a message with this payload, and with its length and its type in the header.
+#[tactic(auto, unfolding(crate::specs::TestKernel::message_under))]
+fn push_message(
+    alloc: Global,
+    datagram: &mut Vec<u8>,
+    sequence_number: u32,
+    payload: NetlinkPayload<SockDiagMessage>,
+) -> Result<(), AnswerError>
+    ensures added { OnOk result (datagram.new.items ≡ datagram.old.items
+        ++ message_under sequence_number (payload_of vec_items message_model payload)) }
+    ensures err { IfErr result (FailsFor (¬ HasRoom (payload_of vec_items message_model payload))) }
+{
+    let header = NetlinkHeader {
+        flags: NLM_F_MULTI,
+        sequence_number,
+        ..NetlinkHeader::default()
+    };
+    let mut message = NetlinkMessage::new(header, payload);
+    if !message.is_writable() {
+        return Err(AnswerError::Unwritable);
+    }
+    message.finalize();
+    let mut bytes = vec![in alloc; 0; message.buffer_len()]?;
+    message.serialize(&mut bytes);
+    Ok(datagram.extend_from_slice(&bytes)?)
+}

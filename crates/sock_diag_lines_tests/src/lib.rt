@@ -1,5 +1,0 @@
-//! Tests of the line protocol.
-#![tactic(auto)]
-
-#[cfg(test)]
-mod tests;

@@ -1,4 +1,0 @@
-pub mod Pushing
-pub mod LinkDecodes
-pub mod AnswerDump
-pub mod CountingListeners
