@@ -4,6 +4,7 @@
 ghost use Rattle.std.specs.Prelude.{◌≡◌, ◌≤◌, ◌++◌, ◌∷◌, [], length, drop, map, Ok, IfOk, IsOk};
 ghost use Rattle.std.specs.Prelude.{OnOk, OnErr, SomeIff};
 ghost use Rattle.std.specs.List.{AllByRecursion, flat_map};
+ghost use Rattle.netlink_core.specs.Bytes.{HoldsAtStart};
 ghost use Rattle.netlink_core.specs.Attribute.{AreWritable, written};
 ghost use Rattle.netlink_core.specs.AttributeSet.{AttributeValue, decodes, encodes};
 ghost use Rattle.netlink_core.specs.AttributeSet.{IsSpareBy, IsInRangeBy};
@@ -139,8 +140,8 @@ pub fn emit_values<T: FamilyNla>(nlas: &[T], buffer: &mut [u8])
     requires fits { AreWritable (map (encodes T.attribute_set) (map T.model nlas.now)) 4294967295 }
     requires room { length (flat_map written (map (encodes T.attribute_set) (map T.model nlas.now)))
         ≤ length buffer.old }
-    ensures { let all = flat_map written (map (encodes T.attribute_set) (map T.model nlas.now)) in
-        buffer.new ≡ all ++ drop (length all) buffer.old }
+    ensures { HoldsAtStart (flat_map written (map (encodes T.attribute_set)
+        (map T.model nlas.now))) buffer.old buffer.new }
 {
     emit_nlas(nlas, buffer);
 }

@@ -4,6 +4,7 @@ ghost use Rattle.std.specs.Prelude.{◌≡◌, ◌≤◌, ◌↔◌, ◌+◌, �
 ghost use Rattle.std.specs.Prelude.{IfOk, IfErr, IsSome, IfSome};
 ghost use Rattle.std.specs.List.{AllByRecursion, flat_map};
 ghost use Rattle.std.specs.Iterator.{YieldsFirstBy};
+ghost use Rattle.netlink_core.specs.Bytes.{HoldsAtStart};
 ghost use Rattle.netlink_core.specs.Attribute.{AreWritable, AttributeFault, HasFittingValue};
 ghost use Rattle.netlink_core.specs.Attribute.{written};
 ghost use Rattle.netlink_core.specs.AttributeSet.{decodes, encodes};
@@ -84,11 +85,8 @@ pub fn emit_views<'a, V: FamilyView<'a> + Drop>(bytes: &'a [u8], buffer: &mut [u
     requires room { length (flat_map written
         (map (encodes V.attribute_set) (values_in (decodes V.attribute_set) bytes.now)))
         ≤ length buffer.old }
-    ensures { buffer.new ≡ flat_map written
-        (map (encodes V.attribute_set) (values_in (decodes V.attribute_set) bytes.entry.now))
-        ++ drop (length (flat_map written
-        (map (encodes V.attribute_set) (values_in (decodes V.attribute_set) bytes.entry.now))))
-        buffer.old }
+    ensures { HoldsAtStart (flat_map written (map (encodes V.attribute_set) (values_in
+        (decodes V.attribute_set) bytes.entry.now))) buffer.old buffer.new }
 {
     let mut at = 0;
     let mut walk = NlasIterator::new(bytes);

@@ -2,7 +2,7 @@
 
 ghost use Rattle.std.specs.Prelude.{◌≡◌, ◌≢◌, ◌↔◌, ℕ, List, IfOk, IfErr};
 ghost use Rattle.netlink_core.specs.Bytes.{IsBytes};
-ghost use Rattle.netlink_core.specs.Canonical.{GivesUp};
+ghost use Rattle.netlink_core.specs.Canonical.{HasCanonicalForm, HasNoCanonicalForm};
 ghost use Rattle.netlink_core.specs.declared.canon.CanonError.TheVariants.{Memory, Refused};
 ghost use Rattle.netlink_core.specs.declared.fault.DecodeError.TheVariants as faults;
 
@@ -51,23 +51,15 @@ pub fn canonical<T: Wire + Drop>(
     bytes: &[u8],
     param: T::Param,
 ) -> Result<Vec<u8>, CanonError>
-    // The bytes are accepted, their value is writable, and it serializes to this.
-    ensures written { IfOk result (λ c.
-        (v : T.codec.Value) × T.codec.reads bytes.now param v × T.codec.fits v
-        × (c.items ≡ T.codec.written v)) }
-    // Other bytes with a writable value have this canonical form if and only if they are
-    // equivalent.
-    ensures same { IfOk result (λ c.
-        (d : List ℕ) (w : T.codec.Value) → IsBytes d → T.codec.reads d param w → T.codec.fits w
-        → ((T.codec.written w ≡ c.items) ↔ T.codec.idle param bytes.now d)) }
-    // The canonical form is accepted, and is its own canonical form.
-    ensures again { IfOk result (λ c.
-        IsBytes c.items × ((w : T.codec.Value) × T.codec.reads c.items param w × T.codec.fits w
-        × (T.codec.written w ≡ c.items))) }
-    // The first error, other than `Memory`; or the bytes are accepted and their value is not
-    // writable; or the value is writable and an allocation failed.
-    ensures err { IfErr result
-        (GivesUp (T.codec.reads bytes.now param) (T.codec.refuses bytes.now param) T.codec.fits) }
+    ensures written { IfOk result (λ form. HasCanonicalForm T.codec param bytes.now form.items) }
+    // Other bytes have the same canonical form if and only if they are equivalent to these bytes.
+    ensures same { IfOk result (λ form. (others other_form : List ℕ) → IsBytes others
+        → HasCanonicalForm T.codec param others other_form
+        → ((other_form ≡ form.items) ↔ T.codec.idle param bytes.now others)) }
+    // The canonical form is its own canonical form.
+    ensures again { IfOk result (λ form.
+        IsBytes form.items × HasCanonicalForm T.codec param form.items form.items) }
+    ensures err { IfErr result (HasNoCanonicalForm T.codec param bytes.now) }
 {
     T::rewrite(alloc, bytes, param)
 }

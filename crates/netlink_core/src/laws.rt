@@ -23,6 +23,7 @@ ghost use Rattle.netlink_core.specs.declared.attribute.NlasIterator.{NlasIterato
 ghost use Rattle.netlink_core.specs.declared.datagram.MessageStrings.{MessageStrings};
 ghost use Rattle.netlink_core.specs.declared.fault.DecodeError.{DecodeError};
 ghost use Rattle.netlink_core.specs.declared.fault.DecodeError.TheVariants.{Memory};
+ghost use Rattle.netlink_core.specs.Canonical.{HasCanonicalForm};
 ghost use Rattle.netlink_core.specs.Envelope.{Payload, Envelope, finalized, envelope_codec};
 
 use crate::attribute::{NlaBuffer, NlasIterator};
@@ -245,14 +246,13 @@ pub fn equal_messages_where_idle<I: Coded<Param = u16>>()
         → ((v ≡ w) ↔ (envelope_codec I.codec).idle tt b c) }
 {}
 
-/// Two accepted inputs whose messages are writable serialize to the same bytes, with their headers
-/// unchanged, if and only if they are equivalent.
+/// Two inputs with canonical forms have the same one if and only if they are equivalent (`idle`).
+/// The canonical form of a message has its header unchanged.
 pub fn messages_written_alike<I: Coded<Param = u16>>()
-    ensures { (b c : List ℕ) (v w : Envelope I.codec.Value) → IsBytes b → IsBytes c
-        → (envelope_codec I.codec).reads b tt v → (envelope_codec I.codec).reads c tt w
-        → (envelope_codec I.codec).fits v → (envelope_codec I.codec).fits w
-        → (((envelope_codec I.codec).written v ≡ (envelope_codec I.codec).written w)
-        ↔ (envelope_codec I.codec).idle tt b c) }
+    ensures { (b c form other : List ℕ) → IsBytes b → IsBytes c
+        → HasCanonicalForm (envelope_codec I.codec) tt b form
+        → HasCanonicalForm (envelope_codec I.codec) tt c other
+        → ((form ≡ other) ↔ (envelope_codec I.codec).idle tt b c) }
 {}
 
 /// A writable message whose header has the length and the type that `finalize` sets round-trips if

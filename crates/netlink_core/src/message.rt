@@ -4,6 +4,7 @@ ghost use Rattle.std.specs.Prelude.{◌≡◌, ◌≢◌, ◌≤◌, ◌<◌, �
 ghost use Rattle.std.specs.Prelude.{IsTrue, List, ℕ, vec_items, ⊤};
 ghost use Rattle.std.specs.Borrow.{Bor};
 ghost use Rattle.byteorder.specs.Endian.{little_number};
+ghost use Rattle.netlink_core.specs.Bytes.{HoldsAtStart};
 ghost use Rattle.netlink_core.specs.declared.fault.DecodeError.TheVariants.{Memory};
 ghost use Rattle.netlink_core.specs.Envelope.{Payload, Envelope, leading_number, error_number_of};
 ghost use Rattle.netlink_core.specs.Envelope.{PayloadIs, IsInnerType, payload_bytes, payload_type};
@@ -56,8 +57,7 @@ pub trait NetlinkSerializable: Coded<Param = u16> {
     fn serialize(&self, buffer: &mut [u8])
         requires writable { Self.codec.fits (Self.model self.now) }
         requires room { length (Self.codec.written (Self.model self.now)) ≤ length buffer.old }
-        ensures { buffer.new ≡ Self.codec.written (Self.model self.now)
-            ++ drop (length (Self.codec.written (Self.model self.now))) buffer.old };
+        ensures { HoldsAtStart (Self.codec.written (Self.model self.now)) buffer.old buffer.new };
 }
 
 /// A message of a protocol that is parsed from the payload of a netlink message, under the type in
@@ -193,9 +193,8 @@ impl<I: NetlinkSerializable> NetlinkPayload<I> {
         requires room { length
             (payload_bytes I.codec.written (payload_of vec_items I.model self.now))
             ≤ length buffer.old }
-        ensures { buffer.new ≡ payload_bytes I.codec.written (payload_of vec_items I.model self.now)
-            ++ drop (length (payload_bytes I.codec.written (payload_of vec_items I.model self.now)))
-            buffer.old }
+        ensures { HoldsAtStart (payload_bytes I.codec.written
+            (payload_of vec_items I.model self.now)) buffer.old buffer.new }
     {
         match self {
             NetlinkPayload::Done(bytes)
@@ -330,9 +329,8 @@ impl<I: NetlinkSerializable> NetlinkMessage<I> {
         requires writable { (envelope_codec I.codec).fits (envelope_of I.model self.now) }
         requires room { length ((envelope_codec I.codec).written (envelope_of I.model self.now))
             ≤ length buffer.old }
-        ensures { buffer.new ≡ (envelope_codec I.codec).written (envelope_of I.model self.now)
-            ++ drop (length ((envelope_codec I.codec).written (envelope_of I.model self.now)))
-            buffer.old }
+        ensures { HoldsAtStart ((envelope_codec I.codec).written
+            (envelope_of I.model self.now)) buffer.old buffer.new }
     {
         let (header, rest) = buffer.split_at_mut(NETLINK_HEADER_LEN);
         self.header.write_fields(header);

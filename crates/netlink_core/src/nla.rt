@@ -4,6 +4,7 @@ ghost use Rattle.std.specs.Prelude.{◌≡◌, ◌≤◌, ◌<◌, ◌↔◌, re
 ghost use Rattle.std.specs.Prelude.{true, refl, IsTrue, IsOk, IfOk, SomeIff};
 ghost use Rattle.std.specs.List.{flat_map};
 ghost use Rattle.std.proofs.Common.{rules};
+ghost use Rattle.netlink_core.specs.Bytes.{HoldsAtStart};
 ghost use Rattle.netlink_core.specs.Attribute.{Attribute, HasFittingValue, AreWritable, written};
 ghost use Rattle.netlink_core.specs.FirstAttribute.{first_attribute_codec};
 ghost use Rattle.netlink_core.specs.laws.FirstAttribute.{first_attribute_keeps_laws};
@@ -33,8 +34,7 @@ pub trait Nla {
     fn emit_value(&self, buffer: &mut [u8])
         requires fits { HasFittingValue (attribute self.now) }
         requires room { length (attribute self.now).value ≤ length buffer.old }
-        ensures { buffer.new ≡ (attribute self.now).value
-            ++ drop (length (attribute self.now).value) buffer.old };
+        ensures { HoldsAtStart ((attribute self.now).value) buffer.old buffer.new };
 
     /// Returns whether the value has at most 65,531 bytes, so that its length fits the length
     /// field.
@@ -66,8 +66,7 @@ pub fn nla_len<T: Nla>(nla: &T) -> usize
 pub fn emit_nla<T: Nla>(nla: &T, buffer: &mut [u8])
     requires fits { HasFittingValue (T.attribute nla.now) }
     requires room { length (written (T.attribute nla.now)) ≤ length buffer.old }
-    ensures { buffer.new ≡ written (T.attribute nla.now)
-        ++ drop (length (written (T.attribute nla.now))) buffer.old }
+    ensures { HoldsAtStart (written (T.attribute nla.now)) buffer.old buffer.new }
 {
     // Both are computed before a byte is written, so that one branch on the kind is enough.
     let len = nla.value_len();
@@ -145,8 +144,7 @@ pub fn nlas_len<T: Nla>(nlas: &[T]) -> usize
 pub fn emit_nlas<T: Nla>(nlas: &[T], buffer: &mut [u8])
     requires fits { AreWritable (map T.attribute nlas.now) 4294967295 }
     requires room { length (flat_map written (map T.attribute nlas.now)) ≤ length buffer.old }
-    ensures { buffer.new ≡ flat_map written (map T.attribute nlas.now)
-        ++ drop (length (flat_map written (map T.attribute nlas.now))) buffer.old }
+    ensures { HoldsAtStart (flat_map written (map T.attribute nlas.now)) buffer.old buffer.new }
 {
     let mut at = 0;
     for nla in nlas {

@@ -3,7 +3,7 @@
 ghost use Rattle.std.specs.Prelude.{◌≡◌, ◌≢◌, ◌<◌, ◌^◌, ◌↔◌, ℕ, List, IfOk, IfErr, IsTrue, refl};
 ghost use Rattle.std.proofs.Common.{sym, ap, ◌∙◌, subst};
 ghost use Rattle.netlink_core.specs.Bytes.{IsBytes};
-ghost use Rattle.netlink_core.specs.Canonical.{GivesUp};
+ghost use Rattle.netlink_core.specs.Canonical.{GivesUp, HasCanonicalForm, HasNoCanonicalForm};
 ghost use Rattle.netlink_core.specs.Codec.{Codec, KeepsLaws};
 ghost use Rattle.netlink_core.specs.declared.fault.DecodeError.TheVariants.{Memory};
 
@@ -134,11 +134,9 @@ pub trait Wire: Coded + Readable + Emitable {
     where
         Self: Drop,
         ensures in_range { IsBytes bytes.now }
-        ensures written { IfOk result (λ c.
-            (v : Self.codec.Value) × Self.codec.reads bytes.now param v × Self.codec.fits v
-            × (c.items ≡ Self.codec.written v)) }
-        ensures err { IfErr result (GivesUp (Self.codec.reads bytes.now param)
-            (Self.codec.refuses bytes.now param) Self.codec.fits) };
+        ensures written { IfOk result (λ form.
+            HasCanonicalForm Self.codec param bytes.now form.items) }
+        ensures err { IfErr result (HasNoCanonicalForm Self.codec param bytes.now) };
 
     // `Emitable` serializes as the codec does.
     ghost written_is: { (v : Self) → Self.bytes v ≡ Self.codec.written (Self.model v) };

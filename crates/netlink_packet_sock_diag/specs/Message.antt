@@ -2,6 +2,7 @@
 -- are parsed.
 use Rattle.std.specs.Prelude.{◌≡◌, ℕ, ◌⊎◌, Ok, Err}
 use Rattle.netlink_core.specs.Codec.{Codec, record_codec}
+use Rattle.netlink_core.specs.Envelope.{envelope_codec}
 use Rattle.netlink_core.specs.Response.{response_codec}
 use Rattle.sock_diag_records.specs.InetRequest.{inet_request as inet_request_layout}
 use Rattle.sock_diag_records.specs.UnixRequest.{unix_request as unix_request_layout}
@@ -48,3 +49,8 @@ message_codec = record {
   -- the lengths of the reply fit their fields; the lengths of a request always do
   fits = by_kind (λ k v. (codec_of k).fits v);
 }
+
+-- the codec of netlink messages: a netlink header, and a message of sock_diag(7) or a control
+-- message, by the header's type
+abbrev pub netlink_message_codec : Codec (Unit {0})
+netlink_message_codec = envelope_codec message_codec

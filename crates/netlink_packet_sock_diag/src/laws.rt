@@ -11,8 +11,8 @@ ghost use Rattle.netlink_core.specs.declared.fault.DecodeError.TheVariants.{Unkn
 ghost use Rattle.netlink_core.specs.declared.header.NetlinkHeader.{NetlinkHeader};
 ghost use Rattle.netlink_core.specs.Header.{IsEnvelopeFault, header_fields, header_values};
 ghost use Rattle.netlink_core.specs.Table.{Fit};
+ghost use Rattle.netlink_core.specs.Canonical.{HasCanonicalForm};
 ghost use Rattle.netlink_core.specs.Envelope.{Payload, Envelope, OfInner, finalized};
-ghost use Rattle.netlink_core.specs.Envelope.{envelope_codec};
 ghost use Rattle.netlink_core.specs.declared.message.NetlinkMessage.{NetlinkMessage};
 ghost use Rattle.netlink_core.specs.declared.message.NetlinkPayload.TheVariants.{InnerMessage};
 ghost use Rattle.netlink_core.specs.Faults.{map_ok};
@@ -38,6 +38,7 @@ ghost use Rattle.sock_diag_replies.specs.ViewModel.{view_model};
 ghost use Rattle.netlink_packet_sock_diag.specs.MessageViewModel.{message_view_model};
 ghost use Rattle.netlink_packet_sock_diag.specs.Lossy.{EntryIs};
 ghost use Rattle.netlink_packet_sock_diag.specs.Message.{Message, message_codec, by_kind};
+ghost use Rattle.netlink_packet_sock_diag.specs.Message.{netlink_message_codec};
 ghost use Rattle.sock_diag_records.specs.ResponseKind.{MessageKind, inet_request, inet_response};
 ghost use Rattle.sock_diag_records.specs.ResponseKind.{unix_request, unix_response};
 
@@ -99,9 +100,9 @@ pub fn readers_take_memory() -> (bool, bool, bool)
 /// under the type 21, and messages are parsed only under the type 20.
 pub fn finalized_destroy_is_refused()
     ensures { (h : NetlinkHeader) (m : Message) → Fit header_fields (header_values h)
-        → (envelope_codec message_codec).fits (record { header = h; payload = InnerMessage m })
-        → (envelope_codec message_codec).refuses
-        ((envelope_codec message_codec).written (record {
+        → netlink_message_codec.fits (record { header = h; payload = InnerMessage m })
+        → netlink_message_codec.refuses
+        (netlink_message_codec.written (record {
           header = finalized message_codec.written destroys.type_written
               (record { header = h; payload = InnerMessage m });
           payload = InnerMessage m;
@@ -115,9 +116,9 @@ pub fn finalized_destroy_in_hand_is_refused()
     ensures { (message : NetlinkMessage SockDiagDestroy) (destroy : SockDiagDestroy) (rest : List ℕ)
         → message.payload ≡ InnerMessage destroy
         → Fit header_fields (header_values message.header)
-        → (envelope_codec message_codec).fits (envelope_of destroys.model message)
-        → (envelope_codec message_codec).refuses
-        ((envelope_codec message_codec).written (envelope_of destroys.model (record message {
+        → netlink_message_codec.fits (envelope_of destroys.model message)
+        → netlink_message_codec.refuses
+        (netlink_message_codec.written (envelope_of destroys.model (record message {
           header = finalized message_codec.written destroys.type_written
               (envelope_of destroys.model message);
         })) ++ rest) tt
@@ -128,18 +129,18 @@ pub fn finalized_destroy_in_hand_is_refused()
 /// not have both, and the error is not `Memory`.
 pub fn one_message_or_fault()
     ensures answered { (b : List ℕ) → IsBytes b
-        → ((v : Envelope Message) × (envelope_codec message_codec).reads b tt v)
-        ⊎ ((e : DecodeError) × (envelope_codec message_codec).refuses b tt e) }
+        → ((v : Envelope Message) × netlink_message_codec.reads b tt v)
+        ⊎ ((e : DecodeError) × netlink_message_codec.refuses b tt e) }
     ensures one_value { (b : List ℕ) (v w : Envelope Message) → IsBytes b
-        → (envelope_codec message_codec).reads b tt v → (envelope_codec message_codec).reads b tt w
+        → netlink_message_codec.reads b tt v → netlink_message_codec.reads b tt w
         → v ≡ w }
     ensures one_answer { (b : List ℕ) (v : Envelope Message) (e : DecodeError)
-        → (envelope_codec message_codec).reads b tt v → (envelope_codec message_codec).refuses b tt
+        → netlink_message_codec.reads b tt v → netlink_message_codec.refuses b tt
         e → ⊥ }
     ensures one_fault { (b : List ℕ) (e f : DecodeError)
-        → (envelope_codec message_codec).refuses b tt e
-        → (envelope_codec message_codec).refuses b tt f → e ≡ f }
-    ensures named_fault { (b : List ℕ) → (envelope_codec message_codec).refuses b tt Memory → ⊥ }
+        → netlink_message_codec.refuses b tt e
+        → netlink_message_codec.refuses b tt f → e ≡ f }
+    ensures named_fault { (b : List ℕ) → netlink_message_codec.refuses b tt Memory → ⊥ }
 {
     laws::one_message_or_fault::<SockDiagMessage>();
 }
@@ -147,20 +148,19 @@ pub fn one_message_or_fault()
 /// Two accepted inputs have equal netlink messages if and only if they are equivalent (`idle`).
 pub fn equal_messages_where_idle()
     ensures { (b c : List ℕ) (v w : Envelope Message) → IsBytes b → IsBytes c
-        → (envelope_codec message_codec).reads b tt v → (envelope_codec message_codec).reads c tt w
-        → ((v ≡ w) ↔ (envelope_codec message_codec).idle tt b c) }
+        → netlink_message_codec.reads b tt v → netlink_message_codec.reads c tt w
+        → ((v ≡ w) ↔ netlink_message_codec.idle tt b c) }
 {
     laws::equal_messages_where_idle::<SockDiagMessage>();
 }
 
-/// Two accepted inputs whose netlink messages are writable serialize to the same bytes, with their
-/// headers unchanged, if and only if they are equivalent.
+/// Two inputs with canonical forms have the same one if and only if they are equivalent (`idle`).
+/// The canonical form of a netlink message has its header unchanged.
 pub fn messages_written_alike()
-    ensures { (b c : List ℕ) (v w : Envelope Message) → IsBytes b → IsBytes c
-        → (envelope_codec message_codec).reads b tt v → (envelope_codec message_codec).reads c tt w
-        → (envelope_codec message_codec).fits v → (envelope_codec message_codec).fits w
-        → (((envelope_codec message_codec).written v ≡ (envelope_codec message_codec).written w)
-        ↔ (envelope_codec message_codec).idle tt b c) }
+    ensures { (b c form other : List ℕ) → IsBytes b → IsBytes c
+        → HasCanonicalForm netlink_message_codec tt b form
+        → HasCanonicalForm netlink_message_codec tt c other
+        → ((form ≡ other) ↔ netlink_message_codec.idle tt b c) }
 {
     laws::messages_written_alike::<SockDiagMessage>();
 }
@@ -168,10 +168,10 @@ pub fn messages_written_alike()
 /// A writable netlink message whose header has the length and type that `finalize` sets round-trips
 /// if and only if it has no inner message, or an inner message in normal form under the type 20.
 pub fn finalized_message_reads_back()
-    ensures { (v : Envelope Message) → (envelope_codec message_codec).is_in_range v
-        → (envelope_codec message_codec).fits v
+    ensures { (v : Envelope Message) → netlink_message_codec.is_in_range v
+        → netlink_message_codec.fits v
         → (v.header ≡ finalized message_codec.written messages.type_written v)
-        → ((envelope_codec message_codec).reads ((envelope_codec message_codec).written v) tt v
+        → (netlink_message_codec.reads (netlink_message_codec.written v) tt v
         ↔ OfInner (message_codec.is_normal 20) v.payload) }
 {
     laws::finalized_message_reads_back::<SockDiagMessage>();

@@ -7,7 +7,7 @@ ghost use Rattle.std.specs.Prelude.{Some, flat_map};
 ghost use Rattle.std.specs.Iterator.{UpTo, YieldsFirst, item_count};
 ghost use Rattle.std.specs.Iterator.SizeHint.{IsWithinCount};
 ghost use Rattle.byteorder.specs.Endian.{little_bytes};
-ghost use Rattle.netlink_core.specs.Bytes.{IsBytes};
+ghost use Rattle.netlink_core.specs.Bytes.{HoldsAtStart, IsBytes};
 ghost use Rattle.netlink_core.specs.Parse.{exact_number};
 ghost use Rattle.sock_diag_attributes.specs.Flag.{flag_value};
 ghost use Rattle.sock_diag_attributes.specs.Numbers.{two_value, numbers_value};
@@ -192,8 +192,7 @@ pub(crate) fn emit_u32_pair(first: u32, second: u32, buffer: &mut [u8])
 #[tactic(auto, using(crate::specs::laws::Number::length_numbers, crate::specs::laws::Number::front_of))]
 pub(crate) fn emit_numbers(numbers: &[u32], buffer: &mut [u8])
     requires { length (flat_map (little_bytes 4) numbers.now) ≤ length buffer.old }
-    ensures { buffer.new ≡ flat_map (little_bytes 4) numbers.now
-        ++ drop (length (flat_map (little_bytes 4) numbers.now)) buffer.old }
+    ensures { HoldsAtStart (flat_map (little_bytes 4) numbers.now) buffer.old buffer.new }
 {
     LittleEndian::write_u32_into(numbers, &mut buffer[..4 * numbers.len()]);
 }

@@ -1,14 +1,13 @@
 //! Texts that make up the complete value of an attribute.
 
 ghost use Rattle.std.specs.Prelude.{◌≡◌, ◌≤◌, [], ◌∷◌, ◌++◌, length, drop, IsUtf8};
-ghost use Rattle.netlink_core.specs.Bytes.{IsBytes};
+ghost use Rattle.netlink_core.specs.Bytes.{HoldsAtStart, IsBytes};
 
 /// Writes the text and a terminating NUL at the start of `buffer`. The bytes after them are
 /// unchanged.
 pub(crate) fn emit_text(text: &str, buffer: &mut [u8])
     requires { length (text.now ++ 0 ∷ []) ≤ length buffer.old }
-    ensures { buffer.new ≡ (text.now ++ 0 ∷ [])
-        ++ drop (length (text.now ++ 0 ∷ [])) buffer.old }
+    ensures { HoldsAtStart (text.now ++ 0 ∷ []) buffer.old buffer.new }
 {
     buffer[..text.len()].copy_from_slice(text.as_bytes());
     buffer[text.len()] = 0;

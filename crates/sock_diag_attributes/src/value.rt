@@ -2,6 +2,7 @@
 
 ghost use Rattle.std.specs.Prelude.{◌≡◌, ◌≤◌, ◌++◌, length, drop};
 ghost use Rattle.sock_diag_attributes.specs.private.Value.{value_bytes, IsValueInRange};
+ghost use Rattle.netlink_core.specs.Bytes.{HoldsAtStart};
 
 use crate::numbers::{byte_in_range, emit_numbers, emit_u32_pair, words_in_range};
 use crate::text::{emit_text, text_in_range};
@@ -54,8 +55,7 @@ impl Value<'_> {
     #[inline(always)]
     pub(crate) fn emit(&self, buffer: &mut [u8])
         requires { length (value_bytes self.now) ≤ length buffer.old }
-        ensures { buffer.new ≡ value_bytes self.now ++ drop (length (value_bytes self.now))
-            buffer.old }
+        ensures { HoldsAtStart (value_bytes self.now) buffer.old buffer.new }
     {
         match self {
             Value::Byte(byte) => buffer[0] = *byte,

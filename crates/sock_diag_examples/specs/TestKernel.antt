@@ -8,7 +8,7 @@ use Rattle.netlink_core.specs.declared.fault.DecodeError.TheVariants.{UnknownMes
 use Rattle.netlink_core.specs.Header.{HasHeader, IsEnvelopeFault}
 use Rattle.netlink_core.specs.Envelope.{Payload, OfInner, payload_bytes}
 use Rattle.netlink_core.specs.declared.message.NetlinkPayload.TheVariants as netlink
-use Rattle.netlink_core.specs.Envelope.{payload_type, envelope_codec}
+use Rattle.netlink_core.specs.Envelope.{payload_type}
 use Rattle.netlink_core.specs.Layout.{read}
 use Rattle.sock_diag_records.specs.declared.unix.request.UnixRequest.{UnixRequest}
 use Rattle.sock_diag_records.specs.UnixRequest.{unix_request}
@@ -17,6 +17,7 @@ use Rattle.netlink_packet_sock_diag.specs.declared.dump.DumpState.TheVariants.{D
 use Rattle.netlink_core.specs.Items.{ItemIs}
 use Rattle.netlink_packet_sock_diag.specs.Dump.{DatagramsDump}
 use Rattle.netlink_packet_sock_diag.specs.Message.{Message, message_of, message_codec}
+use Rattle.netlink_packet_sock_diag.specs.Message.{netlink_message_codec}
 use Rattle.sock_diag_records.specs.ResponseKind.{unix_response}
 use Rattle.sock_diag_replies.specs.UnixResponseSpec.{unix_response_spec}
 use Rattle.sock_diag_examples.specs.declared.test_kernel.AnswerError.{AnswerError}
@@ -27,7 +28,7 @@ use Rattle.sock_diag_examples.specs.declared.test_kernel.AnswerError.TheVariants
 -- the bytes of a netlink message that is one of several (flags 2, NLM_F_MULTI), with its own length
 -- and type, and from port id 0
 unfoldable pub message_under : ℕ → Payload Message → List ℕ
-message_under sequence_number payload = (envelope_codec message_codec).written (record {
+message_under sequence_number payload = netlink_message_codec.written (record {
   header = record {
     length = 16 + length (payload_bytes message_codec.written payload);
     message_type = payload_type (λ _. 20) payload;

@@ -7,9 +7,8 @@ use Rattle.sock_diag_records.specs.InetRequest.{inet_request}
 use Rattle.sock_diag_records.specs.SocketId.{socket_id}
 use Rattle.sock_diag_replies.specs.UnixResponseSpec.{unix_response_spec}
 use Rattle.sock_diag_replies.specs.InetResponseSpec.{inet_response_spec}
-use Rattle.netlink_packet_sock_diag.specs.Message.{message_codec}
+use Rattle.netlink_packet_sock_diag.specs.Message.{message_codec, netlink_message_codec}
 use Rattle.netlink_core.specs.Codec.{record_codec}
-use Rattle.netlink_core.specs.Envelope.{envelope_codec}
 use Rattle.netlink_core.specs.Response.{response_codec}
 use Rattle.sock_diag_lines.specs.DumpLine.{IsDumpRequest, IsDumpAnswer}
 use Rattle.sock_diag_lines.specs.HexField.{IsHexField}
@@ -35,7 +34,7 @@ entry_of SocketId4 = (codes "sockid4", subject (record_codec socket_id) 2)
 entry_of SocketId6 = (codes "sockid6", subject (record_codec socket_id) 10)
 entry_of Message = (codes "message", subject message_codec 20)
 -- the fields of the header as they were parsed, and the serialized payload
-entry_of NetlinkMessage = (codes "netlink", (_, envelope_codec message_codec, tt, envelope_text))
+entry_of NetlinkMessage = (codes "netlink", (_, netlink_message_codec, tt, envelope_text))
 -- thirteen values of a reply about a UNIX socket; never `unwritable`, since each value counts as
 -- writable (`fits`)
 entry_of UnixView = let replies = record (response_codec unix_response_spec) { fits = λ v. ⊤ } in

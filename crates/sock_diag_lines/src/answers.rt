@@ -5,12 +5,13 @@ ghost use Rattle.sock_diag_lines.specs.declared.answers.Name.TheVariants.{Netlin
 ghost use Rattle.std.specs.Prelude.{◌≡◌, ◌≢◌, ◌↔◌, ◌++◌, ◌∷◌, [], ℕ, List, codes, decimal, Result};
 ghost use Rattle.std.specs.Prelude.{IfOk, OnOk, MatchOption};
 ghost use Rattle.std.specs.List.{AllZip, concat, flat_map};
-ghost use Rattle.netlink_core.specs.Envelope.{Payload, envelope_codec};
+ghost use Rattle.netlink_core.specs.Envelope.{Payload};
 ghost use Rattle.netlink_core.specs.Items.{ItemIs, ItemsAre};
 ghost use Rattle.netlink_core.specs.declared.message.NetlinkPayload.TheVariants.{InnerMessage};
 ghost use Rattle.netlink_core.specs.declared.fault.DecodeError.{DecodeError};
 ghost use Rattle.netlink_packet_sock_diag.specs.Dump.{AreSplit};
 ghost use Rattle.netlink_packet_sock_diag.specs.Message.{Message, message_codec};
+ghost use Rattle.netlink_packet_sock_diag.specs.Message.{netlink_message_codec};
 ghost use Rattle.netlink_packet_sock_diag.specs.MessageViewModel.{message_view_model};
 ghost use Rattle.netlink_packet_sock_diag.specs.PayloadViewModel.{envelope_view_model};
 ghost use Rattle.sock_diag_lines.specs.Answer.{IsAnswerOf, IsRequest, entry_of};
@@ -248,7 +249,7 @@ fn push_envelope_text(
 ) -> Result<(), AllocError>
     ensures { OnOk result (Adds text.old.items text.new.items
         (IsAnswerText (λ e. e ≡ envelope_view_model message.now) (λ fault. ⊥)
-        (envelope_codec message_codec).fits envelope_text)) }
+        netlink_message_codec.fits envelope_text)) }
 {
     if !message.is_writable() {
         return text.extend_from_slice(UNWRITABLE);

@@ -4,6 +4,7 @@ ghost use Rattle.std.specs.Prelude.{◌≡◌, ◌≤◌, ◌↔◌, ◌++◌, l
 ghost use Rattle.std.specs.Prelude.{SomeIff};
 ghost use lib.Pointwise.{pointwise};
 ghost use Rattle.attribute_lists.specs.AttributesIn.{HasNoFault, values_in};
+ghost use Rattle.netlink_core.specs.Bytes.{HoldsAtStart};
 ghost use Rattle.netlink_core.specs.declared.fault.DecodeError.TheVariants.{Memory};
 ghost use Rattle.netlink_core.specs.AttributeSet.{AttributeValue, decodes, encodes};
 ghost use Rattle.netlink_core.specs.private.Response.{framed, FramedFits};
@@ -76,9 +77,8 @@ pub(crate) fn emit_reply<H: Emitable, T: FamilyNla>(header: &H, nlas: &[T], buff
         (map (encodes T.attribute_set) (map T.model nlas.now)) }
     requires room { length (framed (H.bytes header.now)
         (map (encodes T.attribute_set) (map T.model nlas.now))) ≤ length buffer.old }
-    ensures { let all = framed (H.bytes header.now)
-        (map (encodes T.attribute_set) (map T.model nlas.now)) in
-        buffer.new ≡ all ++ drop (length all) buffer.old }
+    ensures { HoldsAtStart (framed (H.bytes header.now) (map (encodes T.attribute_set)
+        (map T.model nlas.now))) buffer.old buffer.new }
 {
     let (front, rest) = buffer.split_at_mut(header.buffer_len());
     header.emit(front);
@@ -122,9 +122,8 @@ pub(crate) fn emit_reply_view<'a, H: Emitable, V: FamilyView<'a> + Drop>(
     requires room { length (framed (H.bytes header.now)
         (map (encodes V.attribute_set) (values_in (decodes V.attribute_set) bytes.now)))
         ≤ length buffer.old }
-    ensures { let all = framed (H.bytes header.now)
-        (map (encodes V.attribute_set) (values_in (decodes V.attribute_set) bytes.entry.now)) in
-        buffer.new ≡ all ++ drop (length all) buffer.old }
+    ensures { HoldsAtStart (framed (H.bytes header.now) (map (encodes V.attribute_set) (values_in
+        (decodes V.attribute_set) bytes.entry.now))) buffer.old buffer.new }
 {
     let (front, rest) = buffer.split_at_mut(header.buffer_len());
     header.emit(front);

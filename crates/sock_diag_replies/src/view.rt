@@ -5,6 +5,7 @@ ghost use Rattle.std.specs.Prelude.{Ok, Err, OnOk, IfOk, IfErr, IsTrue, Some, If
 ghost use Rattle.std.specs.Cmp.{partial_equiv_from_equiv};
 ghost use Rattle.std.specs.Iterator.{Drains, UpTo, YieldsFirstBy, YieldsThen, at_most};
 ghost use Rattle.std.specs.Iterator.SizeHint.{IsWithinCount};
+ghost use Rattle.netlink_core.specs.Bytes.{HoldsAtStart};
 ghost use Rattle.netlink_core.specs.declared.fault.DecodeError.{DecodeError as Fault};
 ghost use Rattle.netlink_core.specs.declared.fault.DecodeError.TheVariants.{Memory};
 ghost use Rattle.netlink_core.specs.Attribute.{AttributeFault};
@@ -78,9 +79,8 @@ pub trait ReplyHeader: Drop + Sized {
         requires room { length (response_bytes reply
             (response_behind reply (header_model self.now) bytes.now))
             ≤ length buffer.old }
-        ensures { let all = response_bytes reply
-            (response_behind reply (header_model self.now) bytes.now) in
-            buffer.new ≡ all ++ drop (length all) buffer.old };
+        ensures { HoldsAtStart (response_bytes reply (response_behind reply
+            (header_model self.now) bytes.now)) buffer.old buffer.new };
 
     // Bytes with a valid header have at least `size` bytes. The codec of the replies satisfies the
     // codec laws. The comparison is true if and only if the replies are equal.

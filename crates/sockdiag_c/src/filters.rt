@@ -1,6 +1,7 @@
 //! Requests followed by attributes of the caller, such as the bytecode of a filter.
 
 ghost use Rattle.std.specs.Prelude.{◌≡◌, ◌+◌, ◌≤◌, ◌⊎◌, ◌++◌, List, [], length, drop, OnOk, IfErr};
+ghost use Rattle.netlink_core.specs.Bytes.{HoldsAtStart};
 ghost use Rattle.netlink_core.specs.Attribute.{Attribute, Cut, fill};
 ghost use Rattle.netlink_core.specs.Layout.{bytes};
 ghost use Rattle.netlink_core.specs.Header.{header_bytes};
@@ -124,8 +125,7 @@ fn write_front(len: u32, request: &InetRequest, front: &mut [u8])
 fn write_padded(attributes: &[u8], buffer: &mut [u8])
     requires small { length attributes.now ≤ 4294967295 }
     requires room { length attributes.now + fill (length attributes.now) ≤ length buffer.old }
-    ensures { buffer.new ≡ with_padding attributes.now
-        ++ drop (length (with_padding attributes.now)) buffer.old }
+    ensures { HoldsAtStart (with_padding attributes.now) buffer.old buffer.new }
 {
     let len = attributes.len();
     let (own, rest) = buffer.split_at_mut(len);

@@ -1,12 +1,12 @@
 //! Borrowed messages of a datagram, with their payloads.
 
 ghost use Rattle.std.specs.Prelude.{◌≡◌, ◌↔◌, length, IfOk, IfErr, IsTrue, SomeIff};
-ghost use Rattle.netlink_core.specs.Envelope.{IsInnerType, OfInner, PayloadIs, envelope_codec};
+ghost use Rattle.netlink_core.specs.Envelope.{IsInnerType, OfInner, PayloadIs};
 ghost use Rattle.netlink_core.specs.Envelope.{payload_bytes};
 ghost use Rattle.netlink_core.specs.Faults.{map_ok};
 ghost use Rattle.netlink_core.specs.Header.{HasHeader};
 ghost use Rattle.netlink_core.specs.Items.{ItemIs};
-ghost use Rattle.netlink_packet_sock_diag.specs.Message.{message_codec};
+ghost use Rattle.netlink_packet_sock_diag.specs.Message.{message_codec, netlink_message_codec};
 ghost use Rattle.netlink_packet_sock_diag.specs.PayloadViewModel.{payload_view_model};
 
 use crate::message::SockDiagView;
@@ -72,8 +72,8 @@ impl<'a> MessageView<'a> {
     #[inline(always)]
     pub fn parse(bytes: &'a [u8]) -> Result<MessageView<'a>, DecodeError>
         ensures value { IfOk result (λ view.
-            (envelope_codec message_codec).reads bytes.entry.now tt (envelope_view_model view)) }
-        ensures fault { IfErr result ((envelope_codec message_codec).refuses bytes.entry.now tt) }
+            netlink_message_codec.reads bytes.entry.now tt (envelope_view_model view)) }
+        ensures fault { IfErr result (netlink_message_codec.refuses bytes.entry.now tt) }
     {
         let header = NetlinkHeader::from_prefix(bytes)?;
         let payload = &bytes[NETLINK_HEADER_LEN..header.length as usize];
@@ -85,7 +85,7 @@ impl<'a> MessageView<'a> {
     /// at most 4,294,967,295 bytes, including the 16 bytes of its header.
     pub fn is_writable(&self) -> bool
         ensures { IsTrue result
-            ↔ (envelope_codec message_codec).fits (envelope_view_model self.now) }
+            ↔ netlink_message_codec.fits (envelope_view_model self.now) }
     {
         match payload_writable_len(&self.payload) {
             Some(len) => len <= u32::MAX as usize - NETLINK_HEADER_LEN,

@@ -3,7 +3,7 @@
 ghost use Rattle.std.specs.Prelude.{◌≡◌, ◌<◌, ◌≤◌, ◌++◌, length, take, drop, slice_index, IfOk};
 ghost use Rattle.std.specs.Prelude.{IsOk, MatchOption, MatchResult, Ok, Err, true, refl, vec_items};
 ghost use Rattle.std.specs.Prelude.{⊤};
-ghost use Rattle.netlink_core.specs.Bytes.{IsBytes};
+ghost use Rattle.netlink_core.specs.Bytes.{HoldsAtStart, IsBytes};
 ghost use Rattle.sock_diag_attributes.specs.Name.{read_name, name_bytes, name_codec};
 ghost use Rattle.sock_diag_attributes.specs.laws.Name.{HasNoZero, name_keeps_laws};
 
@@ -122,8 +122,7 @@ impl<'a> NameView<'a> {
     // Writes the name with its zero at the start of `buffer`. The bytes after it are unchanged.
     pub(crate) fn emit_name(&self, buffer: &mut [u8])
         requires { length (name_bytes (name_of (λ b. b.now) self.now)) ≤ length buffer.old }
-        ensures { buffer.new ≡ name_bytes (name_of (λ b. b.now) self.now)
-            ++ drop (length (name_bytes (name_of (λ b. b.now) self.now))) buffer.old }
+        ensures { HoldsAtStart (name_bytes (name_of (λ b. b.now) self.now)) buffer.old buffer.new }
     {
         match self {
             NameView::Pathname(path) => {

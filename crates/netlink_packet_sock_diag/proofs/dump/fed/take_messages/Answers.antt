@@ -77,7 +77,8 @@ returns-in_err-entry-in_default g c =
     let h = c.in_ok-header.header in
     rw (p.1, p.2) (
       λ named. ends_at (here c.loop-item.invariant (Err _) start.0 head
-          (laws.refused message h _ head other (rw whole (c.in_err-entry-in_default.ensures.fault named)))
+          (laws.refused message h _ head other
+          (rw whole (c.in_err-entry-in_default.ensures.fault named)))
           c.interrupted_by.ensures) laws.some_item refl,
       λ none. let m = c.in_err-entry-in_default.ensures.wanted none in (
         m.0,
@@ -117,7 +118,8 @@ returns-in_err-reserve-in_default g c =
       λ _. (
         _,
         stops_at laws.some_item (here c.loop-item.invariant (Ok (InnerMessage _)) start.0 head
-            (told (InnerMessage (g.I.Kept.model c.in_ok-entry-in_default.entry)) head (other, rw whole c.in_ok-entry-in_default.ensures.value))
+            (told (InnerMessage (g.I.Kept.model c.in_ok-entry-in_default.entry)) head
+            (other, rw whole c.in_ok-entry-in_default.ensures.value))
             c.interrupted_by.ensures),
         inr (omega (arith, reserved.full, reserved.err, reserved.len)),
       ),
