@@ -270,7 +270,7 @@ def call():
     an exit status."""
     compiler = os.environ.get("CC", "cc")
     if not shutil.which(compiler):
-        print(f"skipped: no C compiler {compiler} to compile and run the calls from C")
+        print(f"skipped: the calls from C: no C compiler {compiler}")
         return 0
     strict = [*"-Wall -Wextra -Wpedantic -Werror -fsyntax-only -Iinclude -x".split()]
     header = '#include "sockdiag.h"\n'
@@ -284,14 +284,14 @@ def call():
         ("c++", ["-std=c++11"], ["examples/list_sockets.c"], ""),
     ]:
         if language == "c++" and not has_plus:
-            print(f"skipped: {compiler} cannot compile the header as C++")
+            print(f"skipped: the header as C++: {compiler} does not support C++")
             continue
         words = [compiler, *flags, *strict, language, *files]
         status = subprocess.run(words, cwd=TOP, input=text, text=True).returncode
         if status != 0:
             return status
     if not is_soon_built():
-        print("skipped: the calls from C are only compiled, tests/c_face.sh runs them")
+        print("skipped: running the calls from C; tests/c_face.sh runs them")
         return compile_rust() if has_cargo() else 0
     status = subprocess.run([TOP / "tests" / "c_face.sh"]).returncode
     if status == 0 and has_cargo():
@@ -316,7 +316,7 @@ def has_cargo():
         printed = subprocess.run(["cargo", "--version"], stdout=subprocess.PIPE, text=True).stdout
     version = re.match(r"cargo (\d+)\.(\d+)", printed)
     if not version or tuple(map(int, version.groups())) < tuple(map(int, least.groups())):
-        print("skipped: no cargo for rust/sockdiag, or no cc")
+        print("skipped: rust/sockdiag: no cargo that is new enough, or no cc")
         return False
     return True
 

@@ -1,7 +1,7 @@
 #!/usr/bin/env python3
-"""edits.py [--list] [--jobs N] [NAME..]: tries the edits in crates/CRATE/must-fail/*.edit and
-tests/edits/CRATE/*.edit. Each edit makes a function wrong, and the prover has to reject it. A NAME
-is CRATE, EDIT or CRATE/EDIT. Without a NAME all edits are tried.
+"""Tries the edits in crates/CRATE/must-fail/*.edit and tests/edits/CRATE/*.edit. Each edit makes a
+function wrong, and the prover has to reject it. A NAME is CRATE, EDIT or CRATE/EDIT. Without a NAME
+all edits are tried.
 
 Edits of functions that do not call each other form a group. A group is applied to one copy of the
 crate, and checked by one run that reuses the results in the crate's out/. An edit counts as
@@ -37,6 +37,8 @@ Edit = namedtuple("Edit", "file name texts lines functions")
 
 def kit_command():
     """Returns the kit's rt as a module, for its functions that read edits and check copies."""
+    if not shutil.which("rt"):
+        sys.exit("edits.py: rt not found; add the kit's folder bin to PATH")
     page = subprocess.run(["rt", "doc"], stdout=subprocess.PIPE, text=True, check=True).stdout
     sys.dont_write_bytecode = True
     file = f"{os.path.dirname(page.strip())}/bin/rt"
@@ -175,7 +177,8 @@ def try_crate(crate, edits, functions, flags):
 
 
 def main():
-    words = argparse.ArgumentParser(usage=__doc__)
+    how = argparse.RawDescriptionHelpFormatter
+    words = argparse.ArgumentParser(description=__doc__, formatter_class=how)
     words.add_argument("--list", action="store_true")
     words.add_argument("--jobs", default="2")
     words.add_argument("names", nargs="*")
@@ -201,7 +204,9 @@ def main():
                 print(f"{it.name}: {rt.read_edit(it.file, crate.folder)[1]}", file=sys.stderr)
         elif edits:
             failed += try_crate(crate, edits, functions, ["--jobs", given.jobs])
-    if not given.list:
+    if not tried:
+        print("edits.py: no such edit; --list prints the names", file=sys.stderr)
+    elif not given.list:
         result = f"{failed} NOT REJECTED" if failed else "all rejected"
         print(f"{tried} edits: {result}, {time.time() - began:.0f} s")
     return 1 if failed or not tried else 0
