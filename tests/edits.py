@@ -96,7 +96,8 @@ def groups_of(edits, functions):
     """Returns the groups of edits, and the edits that are tried alone. No two edits of a group
     change the same function, or functions of which one calls the other."""
     call = re.compile(r"\b(\w+)(?:::<[^(]*>)?\(")
-    calls = {it: {*call.findall(it.text.partition("(")[2])} for it in functions}
+    code = {it: re.sub(r"//.*", "", it.text) for it in functions}
+    calls = {it: {*call.findall(code[it].partition("(")[2])} for it in functions}
     meet = lambda a, b: a == b or b.name in calls[a] or a.name in calls[b]
     groups = []
     for edit in [it for it in edits if it.functions]:
