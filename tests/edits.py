@@ -171,7 +171,7 @@ def try_crate(crate, edits, functions, flags):
         for it in alone:
             kind, text = rt.must_fail(crate, it.file, flags, kept)
             failed += kind not in REFUSED
-            print(f"{it.name}: alone, {text.partition('.edit: ')[2]}", flush=True)
+            print(f"{it.name}: by itself: {text.partition('.edit: ')[2]}", flush=True)
     checks, spent = len(groups) + len(alone), time.time() - began
     print(f"{crate.name}: {len(edits)} edits, {checks} checks, {spent:.0f} s", flush=True)
     return failed
