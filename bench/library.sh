@@ -37,5 +37,5 @@ rattle_crate(
     ],
 )
 BUILD
-echo "proving and building the library; what rt says is in out/bench/rt.log" >&2
+echo "proving and building the library; log: out/bench/rt.log" >&2
 (cd "$crate" && quietly "$made/rt.log" rt lib)

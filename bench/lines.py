@@ -48,7 +48,8 @@ def seconds(program, given, output, work):
             run.stdout.close()
         _, status, usage = os.wait4(run.pid, 0)
     run.returncode = status
-    assert status == 0, program
+    if status:
+        sys.exit(f"lines.py: {program}: exit status {os.waitstatus_to_exitcode(status)}")
     return usage.ru_utime + usage.ru_stime
 
 
@@ -100,4 +101,7 @@ def main(program, stored, other=None, folder=None):
 
 
 if __name__ == "__main__":
+    if not 3 <= len(sys.argv) <= 5:
+        print("usage: lines.py PROGRAM STORED [OTHER [FOLDER]]", file=sys.stderr)
+        sys.exit(2)
     main(*sys.argv[1:])

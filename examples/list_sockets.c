@@ -31,7 +31,7 @@
 enum progress { GOES_ON, COMPLETE, FAILED };
 
 static int fail(const char *what) {
-    perror(what);
+    fprintf(stderr, "list_sockets: %s: %s\n", what, strerror(errno));
     return -1;
 }
 
@@ -98,10 +98,10 @@ static uint32_t print_inet(const char *protocol, const uint8_t *payload, size_t 
 static enum progress end(const char *protocol, const uint8_t *payload, size_t length) {
     int32_t number = 0;
     if (sockdiag_get_error_number(payload, length, &number) != SOCKDIAG_ITEM)
-        return fprintf(stderr, "%s: the kernel's answer is cut\n", protocol), FAILED;
+        return fprintf(stderr, "list_sockets: %s: truncated error number\n", protocol), FAILED;
     if (number == 0)
         return COMPLETE;
-    fprintf(stderr, "%s: %s\n", protocol, strerror(-number));
+    fprintf(stderr, "list_sockets: %s: %s\n", protocol, strerror(-number));
     return number == -ENOENT || number == -EINVAL ? COMPLETE : FAILED;
 }
 
@@ -118,15 +118,16 @@ static enum progress print_datagram(const char *protocol, const uint8_t *datagra
         if (message.message_type == NLMSG_DONE || message.message_type == NLMSG_ERROR)
             return end(protocol, payload, message.length);
         if (message.message_type == NLMSG_OVERRUN)
-            return fprintf(stderr, "%s: the kernel lost data\n", protocol), FAILED;
+            return fprintf(stderr, "list_sockets: %s: the kernel lost data\n", protocol), FAILED;
         if (message.message_type == SOCK_DIAG_BY_FAMILY && message.length > 0)
             fault = payload[0] == AF_UNIX ? print_unix(payload, message.length)
                                           : print_inet(protocol, payload, message.length);
         if (fault != SOCKDIAG_OK)
-            fprintf(stderr, "%s: a reply is refused: %s\n", protocol, sockdiag_fault_text(fault));
+            fprintf(stderr, "list_sockets: %s: invalid reply: %s\n", protocol,
+                    sockdiag_fault_text(fault));
     }
     if (answer != SOCKDIAG_END)
-        return fprintf(stderr, "%s: a datagram is refused: %s\n", protocol,
+        return fprintf(stderr, "list_sockets: %s: invalid datagram: %s\n", protocol,
                        sockdiag_fault_text(answer)), FAILED;
     return GOES_ON;
 }
@@ -151,7 +152,8 @@ static int list(int fd, const char *protocol, const uint8_t *request, size_t len
         if (got < 0)
             return fail("recv");
         if ((size_t)got > sizeof datagram.bytes)
-            return fprintf(stderr, "a datagram of %ld bytes is too long\n", (long)got), -1;
+            return fprintf(stderr, "list_sockets: %s: datagram of %ld bytes exceeds the buffer\n",
+                           protocol, (long)got), -1;
         progress = print_datagram(protocol, datagram.bytes, (size_t)got);
         if (progress != GOES_ON)
             return progress == COMPLETE ? 0 : -1;

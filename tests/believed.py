@@ -278,7 +278,7 @@ class Specs:
         reached by `by`."""
         found = self.find(path, names)
         if found is False:
-            self.faults.append(f"{where}: {path} does not resolve.")
+            self.faults.append(f"{where}: {path} does not resolve")
         if not found or not found[1].is_definition:
             return
         module, item = found
@@ -297,7 +297,7 @@ class Specs:
             crate, *inner, name = law.split("::")
             source = ROOT / crate / "src" / f"{'/'.join(inner)}.rt"
             if not re.search(rf"^pub fn {name}\b", source.read_text(encoding="utf-8"), re.M):
-                self.faults.append(f"{law} is not a public function.")
+                self.faults.append(f"{law}: not a public function")
             module = self.modules[f"Rattle.{full_name.split(':')[0]}"]
             item = full_name.split(": ")[1]
             for name in module.items[item].names(lambda name: self.is_constructor(name, module)):
@@ -366,8 +366,8 @@ class Source:
         for m in self.GHOST.finditer(self.text):
             block, name = self.block(m.start()), m.group(1) or name
             if name not in MEANING | LAWS and block.group(2) != "struct":
-                faults.append(f"{self.name}: the ghost member {name} is in neither list of "
-                    "tests/believed.py.")
+                faults.append(f"{self.name}: ghost member {name} is in neither list of "
+                    "tests/believed.py")
             names = re.findall(r"\w+", block.group(3))
             cited = block.group(2) != "trait" and not CITED.isdisjoint(names)
             if m.group(2) == ":" or name in MEANING:
@@ -400,12 +400,12 @@ def odd_things(specs, counted):
         read = counted if module.crate in CRATES else {"promise", "private"}
         for name, item in module.items.items():
             if item.is_lemma and LEMMAS not in full_name:
-                yield f"{module.name}: {name} is a lemma in a module of definitions."
+                yield f"{module.name}: {name} is a lemma in a module of definitions"
             if item.is_definition and apart and item.reached == "promise":
                 yield (f"{module.name}: a promise reaches {name}, in a module that need not be "
-                    "believed.")
+                    "believed")
             if item.is_definition and not apart and item.reached not in read | {"law"}:
-                yield f"{module.name}: no promise reaches {name}."
+                yield f"{module.name}: no promise reaches {name}"
 
 
 def print_sums(title, crates, sizes):
@@ -451,6 +451,9 @@ def reached_specs():
 
 def main():
     flags = set(sys.argv[1:])
+    if not flags <= {"--lines", "--private"}:
+        print("usage: tests/believed.py [--lines] [--private]", file=sys.stderr)
+        return 2
     specs = reached_specs()
     counted = {"promise", "private"} if "--private" in flags else {"promise"}
     of_specs = [it for it in specs.modules.values() if ".specs." in f".{it.name}."]

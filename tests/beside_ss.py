@@ -169,7 +169,7 @@ def make_sockets(folder):
         paths = bound(INET, STREAM, ("127.0.0.1", 7013), 4, MPTCP)
         kept += [paths, *pair(INET, paths, MPTCP)]
     except OSError as error:
-        print(f"no MPTCP: {error}")
+        print(f"skipped: no MPTCP: {error}")
     return kept
 
 
@@ -297,7 +297,7 @@ def compare(option, folder, recorder):
         ours = sockets.get(key)
         if not ours:
             missing += 1
-            print(f"{option}: sslist does not list: {line}")
+            print(f"{option}: not listed by sslist: {line}")
             continue
         found += 1
         ours = ours.pop(0)
@@ -317,7 +317,7 @@ def compare(option, folder, recorder):
 
 def main():
     if not LISTER.exists():
-        sys.exit("sslist is not built; run ./sslist </dev/null first")
+        sys.exit("beside_ss.py: sslist is not built; run ./sslist </dev/null")
     if os.geteuid() == 0 and ctypes.CDLL(None).unshare(0x40000000) == 0:
         subprocess.run(["ip", "link", "set", "lo", "up"], check=True)
     with tempfile.TemporaryDirectory() as folder:

@@ -13,7 +13,7 @@ static int failures;
 
 static void check(int holds, const char *what) {
     if (!holds) {
-        fprintf(stderr, "c_face: %s\n", what);
+        fprintf(stderr, "c_face: failed: %s\n", what);
         failures++;
     }
 }
@@ -45,12 +45,12 @@ static void checks_unix(void) {
     memset(&header, 0xaa, sizeof header);
     before = header;
     check(sockdiag_check_unix_reply(unix_reply, 15, &header) == SOCKDIAG_BUFFER_TOO_SMALL,
-          "a cut header");
+          "a truncated header");
     check(sockdiag_check_unix_reply(unix_reply, 22, &header) == SOCKDIAG_ATTRIBUTE_LENGTH_PAST,
-          "a cut attribute");
+          "a truncated attribute");
     check(sockdiag_check_unix_reply(unix_reply, 34, &header) == SOCKDIAG_ATTRIBUTE_HEADER_CUT,
-          "a cut attribute's header");
-    check(memcmp(&header, &before, sizeof header) == 0, "a header is told of a refused reply");
+          "a truncated attribute header");
+    check(memcmp(&header, &before, sizeof header) == 0, "a header of a rejected reply is written");
     check(sockdiag_check_unix_reply(unix_reply, sizeof unix_reply, &header) == 0, "a UNIX reply");
     check(header.kind == 1 && header.state == 10 && header.inode == 0x11223344, "a UNIX header");
     check(memcmp(header.cookie, cookie, 8) == 0, "a UNIX cookie");
@@ -62,7 +62,7 @@ static void checks_inet(void) {
     uint8_t other[72];
     memset(&header, 0, sizeof header);
     check(sockdiag_check_inet_reply(inet_reply, 71, &header) == SOCKDIAG_BUFFER_TOO_SMALL,
-          "a cut internet header");
+          "a truncated internet header");
     memcpy(other, inet_reply, sizeof other);
     other[0] = 3;
     check(sockdiag_check_inet_reply(other, 72, &header) == SOCKDIAG_UNSUPPORTED_FAMILY,
@@ -89,7 +89,7 @@ static void checks_messages(void) {
           "another type");
     check(sockdiag_check_message(packet, 2, 20, &reply) == SOCKDIAG_UNKNOWN_FAMILY,
           "a packet socket");
-    check(reply.kind == 0, "a reply is told of a refused message");
+    check(reply.kind == 0, "the reply is written for a rejected message");
     check(sockdiag_check_message(unix_reply, 36, 20, &reply) == 0, "a message");
     check(reply.kind == SOCKDIAG_UNIX && reply.unix_header.inode == 0x11223344,
           "a message about a UNIX socket");
@@ -125,8 +125,8 @@ static void tells_unix_details(void) {
     check(details.header.kind == 1 && details.header.inode == 0x11223344, "a header in details");
     check(details.name.kind == SOCKDIAG_TEXT && details.name.length == 2, "a pathname");
     check(details.name.bytes == unix_reply + 20 && is(details.peer, 0x12345678),
-          "a pathname's place, and a peer");
-    check(details.shutdown.is_told == 0 && details.shutdown.value == 0, "a number that isn't told");
+          "a pathname's offset, and a peer");
+    check(details.shutdown.is_told == 0 && details.shutdown.value == 0, "a number that is absent");
     memcpy(bytes, unix_reply, 16);
     end = put(bytes, 16, 0, "\0a\0b", 4);
     end = put(bytes, end, 1, "\1\0\0\0\2\0\0\0", 8);
@@ -151,11 +151,11 @@ static void tells_unix_details(void) {
     check(sockdiag_unix_get_pending(bytes, end, 1, &inode) == SOCKDIAG_ITEM && inode == 261,
           "a pending connection");
     check(sockdiag_unix_get_pending(bytes, 15, 0, &inode) == SOCKDIAG_END,
-          "a refused reply's connections");
+          "connections of a rejected reply");
     none = details;
     check(sockdiag_unix_get_details(bytes, 22, &details) == SOCKDIAG_ATTRIBUTE_LENGTH_PAST,
-          "details of a cut reply");
-    check(memcmp(&none, &details, sizeof none) == 0, "details are told of a refused reply");
+          "details of a truncated reply");
+    check(memcmp(&none, &details, sizeof none) == 0, "details are written for a rejected reply");
     check(sockdiag_unix_get_details(NULL, 0, &details) == SOCKDIAG_BUFFER_TOO_SMALL,
           "no bytes at a null pointer");
 }
@@ -184,7 +184,7 @@ static void tells_inet_details(void) {
           "cubic");
     check(is(details.tos, 1) && is(details.tclass, 2) && is(details.shutdown, 3),
           "service, class and shutdown");
-    check(is(details.protocol, 4) && is(details.v6only, 1), "protocol and IPv6 alone");
+    check(is(details.protocol, 4) && is(details.v6only, 1), "protocol and IPv6 only");
     check(is(details.mark, 6) && is(details.class_id, 7), "mark and class");
     check(sockdiag_inet_get_tcp_info(bytes, end, &info) == 0 && info.state == 0,
           "no TCP connection");
@@ -201,7 +201,7 @@ static void tells_inet_details(void) {
     check(sockdiag_inet_get_memory(bytes, end, &memory) == 32, "memory");
     check(memory.receive_queue == 0x03020100 && memory.backlog_queue_length == 0x1f1e1d1c,
           "its words");
-    check(memory.drops == 0, "a word that isn't told");
+    check(memory.drops == 0, "a field that is absent");
     put(bytes, 72, 2, (const char *)value, 5);
     check(sockdiag_inet_get_details(bytes, 84, &details) == SOCKDIAG_BUFFER_TOO_SMALL,
           "a short TCP connection");
@@ -238,17 +238,17 @@ static void tells_netlink_details(void) {
           details.header.cookie == 4097, "its numbers");
     check(details.groups.kind == SOCKDIAG_BYTES && details.groups.length == 8, "groups");
     check(details.groups.bytes == bytes + 32 && is(details.flags, 32),
-          "where they stand, and flags");
+          "their offset, and flags");
     check(is(details.memory.receive_queue_max, 212992) && is(details.memory.drops, 0),
           "memory of a netlink socket");
     before = details;
     check(sockdiag_netlink_get_details(bytes, 27, &details) == SOCKDIAG_BUFFER_TOO_SMALL,
-          "a cut netlink header");
+          "a truncated netlink header");
     bytes[end - 8] = 7;
     check(sockdiag_netlink_get_details(bytes, end, &details) == SOCKDIAG_WRONG_LENGTH,
           "flags of three bytes");
     check(memcmp(&details, &before, sizeof before) == 0,
-          "details are told of a refused netlink reply");
+          "details are written for a rejected netlink reply");
     check(sockdiag_netlink_get_details(bytes, 28, &details) == SOCKDIAG_OK &&
           !details.flags.is_told, "no flags");
     check(details.groups.kind == 0 && details.memory.options.is_told == 0,
@@ -272,12 +272,12 @@ static void tells_packet_details(void) {
     check(details.header.kind == 3 && details.header.protocol == 0x800, "a packet header");
     check(details.header.inode == 87040 && details.header.cookie == 4099, "its numbers");
     check(details.has_info == 1 && details.info.interface == 1 && details.info.flags == 1,
-          "what it is set to");
+          "its settings");
     check(details.addresses.length == 44 && details.addresses.bytes[17] == 0xfb, "addresses");
     check(details.has_receive_ring == 1 && details.receive_ring.block_size == 4096, "a ring");
     check(details.receive_ring.blocks == 2 && details.receive_ring.frames == 4,
           "its blocks and frames");
-    check(details.has_send_ring == 0 && details.send_ring.frames == 9, "a ring that isn't told");
+    check(details.has_send_ring == 0 && details.send_ring.frames == 9, "a ring that is absent");
     check(is(details.owner, 0) && is(details.fanout, 7) && is(details.memory.options, 136),
           "owner, fanout and memory");
     check(details.filter.kind == SOCKDIAG_BYTES && details.filter.length == 8, "a filter");
@@ -297,7 +297,7 @@ static void tells_vsock_and_xdp_details(void) {
     memset(&vsock, 0, sizeof vsock);
     memset(&details, 0, sizeof details);
     check(sockdiag_vsock_get_details(bytes, end - 1, &vsock) == SOCKDIAG_BUFFER_TOO_SMALL,
-          "a cut vsock header");
+          "a truncated vsock header");
     check(sockdiag_vsock_get_details(bytes, end, &vsock) == SOCKDIAG_OK, "a vsock reply");
     check(vsock.kind == 1 && vsock.state == 10 && vsock.shutdown == 0, "a vsock header");
     check(vsock.source_context == 2 && vsock.source_port == 22 &&
@@ -313,7 +313,7 @@ static void tells_vsock_and_xdp_details(void) {
     check(details.header.kind == 3 && details.header.inode == 11 && details.header.cookie == 6,
           "an XDP header");
     check(details.has_info == 1 && details.info.interface == 3 && details.info.queue == 1,
-          "where it is bound");
+          "its interface and queue");
     check(is(details.owner, 1000) && is(details.receive_ring, 2048) && !details.send_ring.is_told,
           "owner and rings");
     check(details.has_umem == 1 && details.umem.size == 4194304 && details.umem.references == 1,
@@ -321,7 +321,7 @@ static void tells_vsock_and_xdp_details(void) {
     check(is(details.fill_ring, 4096) && !details.completion_ring.is_told &&
           !details.memory.cache.is_told, "its rings");
     check(details.has_statistics == 1 && details.statistics.received_dropped == 1,
-          "what it counted");
+          "its statistics");
     check(details.statistics.fill_ring_empty == 4 && details.statistics.send_ring_empty == 6,
           "its counts");
 }
@@ -336,8 +336,8 @@ static void tells_numbers_in_words(void) {
           "ENOENT");
     for (fault = SOCKDIAG_BUFFER_TOO_SMALL; fault <= SOCKDIAG_ENVELOPE_LENGTH_PAST; fault++)
         check(strcmp(sockdiag_fault_text(fault), sockdiag_fault_text(fault + 1)) != 0,
-              "a fault in words");
-    check(strcmp(sockdiag_fault_text(19), "an unknown fault") == 0, "an unknown fault");
+              "the text of an error");
+    check(strcmp(sockdiag_fault_text(19), "an unknown fault") == 0, "the text of an unknown error");
 }
 
 static void walks_attributes(void) {
@@ -357,14 +357,14 @@ static void walks_attributes(void) {
           "the end of the attributes");
     cursor.place = SIZE_MAX;
     check(sockdiag_next_attribute(unix_reply, 36, &cursor, &attribute) == 0,
-          "a place behind the end");
+          "an offset after the end");
     cursor.place = 24;
     check(sockdiag_next_attribute(unix_reply, 31, &cursor, &attribute)
               == SOCKDIAG_ATTRIBUTE_LENGTH_PAST,
-          "a cut value");
-    check(attribute.type_word == 0x63, "an attribute is told at a fault");
+          "a truncated value");
+    check(attribute.type_word == 0x63, "the attribute is written on an error");
     check(sockdiag_next_attribute(unix_reply, 31, &cursor, &attribute) == 0,
-          "a walk goes on behind a fault");
+          "the iteration continues after an error");
 }
 
 /* Writes four messages and two more bytes: a reply, an NLMSG_NOOP, a message whose payload is
@@ -393,24 +393,24 @@ static void walks_messages(void) {
     memset(&message, 0, sizeof message);
     check(sockdiag_next_message(bytes, length, &cursor, &message) == 1, "a reply in a datagram");
     check(message.message_type == 20 && message.offset == 16 && message.length == 36,
-          "where a payload stands");
+          "the offset of a payload");
     check(message.flags == 2 && message.sequence_number == 7 && message.port_number == 9,
-          "what a header tells");
-    check(sockdiag_next_message(bytes, length, &cursor, &message) == 1, "a message of nothing");
-    check(message.message_type == 1 && message.offset == 68 && message.length == 1, "nothing");
+          "the fields of a header");
+    check(sockdiag_next_message(bytes, length, &cursor, &message) == 1, "NLMSG_NOOP");
+    check(message.message_type == 1 && message.offset == 68 && message.length == 1, "its payload");
     check(sockdiag_next_message(bytes, length, &cursor, &message) == SOCKDIAG_UNKNOWN_FAMILY,
-          "a payload that is refused");
+          "a rejected payload");
     check(message.message_type == 20 && message.offset == 88 && message.length == 2,
-          "a refused payload's place");
+          "the offset of a rejected payload");
     check(sockdiag_next_message(bytes, length, &cursor, &message) == 1, "the end of a dump");
     check(message.message_type == 3 && message.offset == 108 && message.length == 4,
           "the end's payload");
-    check(cursor.place == 112, "the place behind the end of the dump");
+    check(cursor.place == 112, "the offset after the end of the dump");
     check(sockdiag_next_message(bytes, length, &cursor, &message) == SOCKDIAG_ENVELOPE_CUT,
-          "two bytes that are left");
-    check(message.message_type == 3, "a message is told at a fault");
+          "two remaining bytes");
+    check(message.message_type == 3, "the message is written on an error");
     check(sockdiag_next_message(bytes, length, &cursor, &message) == 0,
-          "a walk over messages ends");
+          "the end of an iteration over messages");
 }
 
 static void writes_unix_request(void) {
@@ -428,7 +428,7 @@ static void writes_unix_request(void) {
     check(memcmp(buffer, before, sizeof buffer) == 0, "a short buffer is written to");
     check(sockdiag_write_unix_request(&request, buffer, sizeof buffer) == 40, "a UNIX request");
     check(memcmp(buffer, want, 40) == 0, "a UNIX request's bytes");
-    check(memcmp(buffer + 40, before + 40, 8) == 0, "what stands behind a request");
+    check(memcmp(buffer + 40, before + 40, 8) == 0, "the bytes after a request");
     check(sockdiag_write_unix_destroy(&request, buffer, 40) == 40 && buffer[4] == 21,
           "a UNIX destroy");
     check(memcmp(buffer + 5, want + 5, 35) == 0, "a UNIX destroy's bytes");
@@ -483,7 +483,7 @@ static void writes_family_requests(void) {
           "a short buffer for a request");
     check(sockdiag_write_show_request(&request, buffer, 41) == 36, "a netlink request");
     check(memcmp(buffer, want, 36) == 0 && buffer[36] == 0xaa,
-          "its bytes, and what stands behind it");
+          "its bytes, and those after it");
     request.family = 44;
     check(sockdiag_write_show_request(&request, buffer, 36) == 36 && buffer[16] == 44,
           "an XDP request");
@@ -513,19 +513,19 @@ static void writes_filtered_request(void) {
                                                       &outcome) == 0,
           "a short buffer");
     check(outcome.fault == 0 && outcome.needed == 96 && buffer[0] == 0xaa,
-          "how many bytes a filtered request needs");
+          "the length of a filtered request");
     check(sockdiag_write_inet_request_with_attributes(&request, filter, 13, buffer, 100,
                                                       &outcome) == 96,
           "a filter");
     check(buffer[0] == 96 && memcmp(buffer + 1, plain + 1, 79) == 0,
-          "the request in front of a filter");
+          "the request before a filter");
     check(memcmp(buffer + 80, filter, 13) == 0 && memcmp(buffer + 93, "\0\0\0\xaa", 4) == 0,
           "a filter and its padding");
     check(sockdiag_write_inet_request_with_attributes(&request, filter, 11, buffer, 100,
                                                       &outcome) == 0,
-          "a cut filter");
+          "a truncated filter");
     check(outcome.fault == SOCKDIAG_ATTRIBUTE_HEADER_CUT && outcome.needed == 0,
-          "why a filter is refused");
+          "the error of a rejected filter");
     check(sockdiag_write_inet_request_with_attributes(&request, NULL, 0, buffer, 80,
                                                       &outcome) == 80,
           "no attributes");
@@ -534,7 +534,7 @@ static void writes_filtered_request(void) {
     check(sockdiag_write_inet_request_with_attributes(&request, filter, 13, buffer, 100,
                                                       &outcome) == 0,
           "a family");
-    check(outcome.fault == 0 && outcome.needed == 0, "another family can't be asked for");
+    check(outcome.fault == 0 && outcome.needed == 0, "a request for another family");
 }
 
 static void rewrites_unix_reply(void) {
@@ -547,15 +547,15 @@ static void rewrites_unix_reply(void) {
     want[23] = 0;
     check(sockdiag_rewrite_unix_reply(unix_reply, 36, buffer, 35, &outcome) == 0,
           "a short buffer for a reply");
-    check(outcome.fault == 0 && outcome.needed == 36, "how many bytes are needed");
-    check(buffer[0] == 0xaa && buffer[34] == 0xaa, "a short buffer gets a part");
+    check(outcome.fault == 0 && outcome.needed == 36, "the length of the canonical form");
+    check(buffer[0] == 0xaa && buffer[34] == 0xaa, "a short buffer is written to in part");
     check(sockdiag_rewrite_unix_reply(unix_reply, 36, buffer, 40, &outcome) == 36,
           "a canonical UNIX reply");
     check(outcome.fault == 0 && outcome.needed == 36 && memcmp(buffer, want, 36) == 0, "its bytes");
-    check(buffer[36] == 0xaa, "what stands behind the canonical form");
+    check(buffer[36] == 0xaa, "the bytes after the canonical form");
     check(sockdiag_rewrite_unix_reply(unix_reply, 15, buffer, 40, &outcome) == 0,
-          "a refused UNIX reply");
-    check(outcome.fault == SOCKDIAG_BUFFER_TOO_SMALL && outcome.needed == 0, "why it is refused");
+          "a rejected UNIX reply");
+    check(outcome.fault == SOCKDIAG_BUFFER_TOO_SMALL && outcome.needed == 0, "its error");
 }
 
 static void rewrites_inet_reply(void) {
@@ -568,8 +568,8 @@ static void rewrites_inet_reply(void) {
           "a canonical internet reply");
     check(memcmp(buffer, want, 72) == 0, "an internet reply's bytes");
     check(sockdiag_rewrite_inet_reply(unix_reply, 36, buffer, 72, &outcome) == 0,
-          "a refused internet reply");
-    check(outcome.fault == SOCKDIAG_BUFFER_TOO_SMALL, "why an internet reply is refused");
+          "a rejected internet reply");
+    check(outcome.fault == SOCKDIAG_BUFFER_TOO_SMALL, "the error of a rejected internet reply");
 }
 
 int main(void) {
@@ -591,6 +591,6 @@ int main(void) {
     rewrites_unix_reply();
     rewrites_inet_reply();
     if (failures == 0)
-        puts("c_face: each call answers as it must");
+        puts("c_face: all tests pass");
     return failures != 0;
 }

@@ -9,12 +9,12 @@ top=$(CDPATH='' cd -- "$(dirname -- "$0")/.." && pwd)
 work=$(mktemp -d)
 trap 'rm -rf "$work"' EXIT
 
-echo "proving and building the library"
+echo "c_face: proving and building the library"
 (cd "$top/crates/sockdiag_c" && rt lib) >"$work/log" 2>&1 || { cat "$work/log" >&2; exit 1; }
 
 # The library does not allocate, so it must not call an allocator.
 if nm -u "$top/crates/sockdiag_c/out/libsockdiag_c.a" | grep -E 'alloc|free'; then
-    echo "the library calls an allocator" >&2
+    echo "c_face: the library calls an allocator" >&2
     exit 1
 fi
 
@@ -37,8 +37,8 @@ else
     build list_sockets "$top/examples/list_sockets.c"
 fi
 if LD_LIBRARY_PATH="$work/prefix/lib" "$work/list_sockets" >"$work/sockets" 2>"$work/errors"; then
-    echo "list_sockets: $(wc -l <"$work/sockets") sockets, beginning with:"
+    echo "c_face: list_sockets: $(wc -l <"$work/sockets") sockets, beginning with:"
     head -n 5 "$work/sockets"
 else
-    echo "list_sockets: the request failed: $(cat "$work/errors")"
+    echo "c_face: list_sockets failed: $(cat "$work/errors")"
 fi

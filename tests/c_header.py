@@ -1,8 +1,8 @@
 #!/usr/bin/env python3
 """Fails, with status 1, if include/sockdiag.h does not declare what crates/sockdiag_c exports.
 
-- The script derives the structs, prototypes and constants of the header from the Rattle source, and
-  compares them. The fields of a struct are compared in order.
+- The script derives the structs, prototypes and constants of the header from the Rattle code, and
+  compares them. The fields of a struct are compared in order. Comments are not read.
 - With a C compiler, `$CC` or `cc`, it compiles the header with assertions on the offset of each
   field and the size of each struct, and compiles tests/c_face.c and examples/list_sockets.c.
 - If the library takes only seconds to build, because its dependencies are built and its own proof
@@ -25,31 +25,44 @@ TOP = Path(__file__).resolve().parent.parent
 HEADER = TOP / "include" / "sockdiag.h"
 RUST = TOP / "rust" / "sockdiag"
 FAMILIES = "sock_diag_families/src"
-# The constants of the header, except the error codes. Each has a file, and there the name of a
-# constant, or the words that precede the number in a doc comment.
+# Patterns of code with a number: a constant; the size of a record; the size of the message that a
+# function writes, by its contract; and the attribute that `write_inet` adds to it.
+CONSTANT = r"const {}: \w+ = (\d+);"
+SIZE = r"fn size\(&self\) -> usize \{\s*(\d+)\s*\}"
+WRITTEN = r"fn {}\((?:(?!\bfn ).)*?\bWritesWhole \(?(\d+)\b"
+ATTRIBUTE = r"(?:(?!\bfn ).)*?\blet mut attribute = \[(\d+), 0, PROTOCOL,"
+REQUESTS, FAMILY_REQUESTS = "sockdiag_c/src/requests.rt", "sockdiag_c/src/family_requests.rt"
+# The constants of the header, except the error codes. Each has a file, and a pattern of the code
+# there with the number. If the pattern has two numbers, the constant is their sum.
 NUMBERS = {
-    "SOCKDIAG_OK": ("sockdiag_c/src/check.rt", "OK"),
-    "SOCKDIAG_END": ("sockdiag_c/src/walks.rt", "END"),
-    "SOCKDIAG_ITEM": ("sockdiag_c/src/walks.rt", "ITEM"),
-    "SOCKDIAG_TEXT": ("sockdiag_c/src/details.rt", "TEXT"),
-    "SOCKDIAG_ABSTRACT": ("sockdiag_c/src/details.rt", "ABSTRACT"),
-    "SOCKDIAG_BYTES": ("sockdiag_c/src/details.rt", "BYTES"),
-    "SOCKDIAG_UNIX_ATTRIBUTES": ("sock_diag_replies/src/unix/reply.rt", "LENGTH"),
-    "SOCKDIAG_INET_ATTRIBUTES": ("sock_diag_replies/src/inet/reply.rt", "LENGTH"),
-    "SOCKDIAG_NETLINK_ATTRIBUTES": (f"{FAMILIES}/netlink/response.rt", "netlink_diag_msg`, "),
-    "SOCKDIAG_PACKET_ATTRIBUTES": (f"{FAMILIES}/packet/response.rt", "packet_diag_msg`, "),
-    "SOCKDIAG_XDP_ATTRIBUTES": (f"{FAMILIES}/xdp/response.rt", "xdp_diag_msg`, "),
-    "SOCKDIAG_UNIX": ("sockdiag_c/src/headers.rt", "UNIX"),
-    "SOCKDIAG_INET": ("sockdiag_c/src/headers.rt", "INET"),
-    "SOCKDIAG_UNIX_REQUEST_LENGTH": ("sockdiag_c/src/requests.rt", "a netlink message of "),
-    "SOCKDIAG_INET_REQUEST_LENGTH": ("sockdiag_c/src/requests.rt", "bytes, or of "),
+    "SOCKDIAG_OK": ("sockdiag_c/src/check.rt", CONSTANT.format("OK")),
+    "SOCKDIAG_END": ("sockdiag_c/src/walks.rt", CONSTANT.format("END")),
+    "SOCKDIAG_ITEM": ("sockdiag_c/src/walks.rt", CONSTANT.format("ITEM")),
+    "SOCKDIAG_TEXT": ("sockdiag_c/src/details.rt", CONSTANT.format("TEXT")),
+    "SOCKDIAG_ABSTRACT": ("sockdiag_c/src/details.rt", CONSTANT.format("ABSTRACT")),
+    "SOCKDIAG_BYTES": ("sockdiag_c/src/details.rt", CONSTANT.format("BYTES")),
+    "SOCKDIAG_UNIX_ATTRIBUTES": (
+        "sock_diag_replies/src/unix/reply.rt",
+        CONSTANT.format("LENGTH"),
+    ),
+    "SOCKDIAG_INET_ATTRIBUTES": (
+        "sock_diag_replies/src/inet/reply.rt",
+        CONSTANT.format("LENGTH"),
+    ),
+    "SOCKDIAG_NETLINK_ATTRIBUTES": (f"{FAMILIES}/netlink/response.rt", SIZE),
+    "SOCKDIAG_PACKET_ATTRIBUTES": (f"{FAMILIES}/packet/response.rt", SIZE),
+    "SOCKDIAG_XDP_ATTRIBUTES": (f"{FAMILIES}/xdp/response.rt", SIZE),
+    "SOCKDIAG_UNIX": ("sockdiag_c/src/headers.rt", CONSTANT.format("UNIX")),
+    "SOCKDIAG_INET": ("sockdiag_c/src/headers.rt", CONSTANT.format("INET")),
+    "SOCKDIAG_UNIX_REQUEST_LENGTH": (REQUESTS, WRITTEN.format("sockdiag_write_unix_request")),
+    "SOCKDIAG_INET_REQUEST_LENGTH": (REQUESTS, WRITTEN.format("write_inet") + ATTRIBUTE),
     "SOCKDIAG_SHOW_REQUEST_LENGTH": (
-        "sockdiag_c/src/family_requests.rt",
-        "XDP sockets, a netlink message of ",
+        FAMILY_REQUESTS,
+        WRITTEN.format("sockdiag_write_show_request"),
     ),
     "SOCKDIAG_VSOCK_REQUEST_LENGTH": (
-        "sockdiag_c/src/family_requests.rt",
-        "vsock sockets, a netlink message of ",
+        FAMILY_REQUESTS,
+        WRITTEN.format("sockdiag_write_vsock_request"),
     ),
 }
 # Variants of `DecodeError` that no call returns.
@@ -74,10 +87,11 @@ SHARED = {
     "XdpUmem": ("sockdiag_xdp_umem", "xdp/attributes.rt"),
     "XdpStatistics": ("sockdiag_xdp_statistics", "xdp/attributes.rt"),
 }
+# Names of structs in C that do not follow from their names in Rattle.
+OTHER_NAMES = {"AttributePart": "sockdiag_attribute", "MessagePart": "sockdiag_message"}
+# A struct of the library that is shared with C.
 STRUCT = re.compile(
-    r"`struct (\w+)` of\s(?:/// )?`include/sockdiag\.h`\.\n#\[repr\(C\)\]\n(?:#\[[^\n]*\]\n)*"
-    r"pub struct (\w+)(?:<'a>)? \{(.*?)\n\}",
-    re.S,
+    r"^#\[repr\(C\)\]\n(?:#\[[^\n]*\]\n)*pub struct (\w+)(?:<'a>)? \{(.*?)\n\}", re.M | re.S
 )
 FIELD = re.compile(r"^ +pub (\w+): (.*),$", re.M)
 EXPORT = re.compile(
@@ -85,8 +99,20 @@ EXPORT = re.compile(
 )
 
 
+def code_of(path):
+    """Returns a Rattle source without its comments: nothing is read from prose."""
+    text = path.read_text(encoding="utf-8")
+    return re.sub(r"^[ \t]*//[^\n]*\n|[ \t]*//[^\n\"]*$", "", text, flags=re.M)
+
+
 def text_of(path):
-    return (TOP / "crates" / path).read_text(encoding="utf-8")
+    return code_of(TOP / "crates" / path)
+
+
+def name_in_c(name):
+    """Returns the name in C of a struct of the library: UnixHeader is sockdiag_unix_header."""
+    words = re.sub(r"(?<=[a-z])(?=[A-Z])", "_", name).lower()
+    return OTHER_NAMES.get(name, f"sockdiag_{words}")
 
 
 def in_c(kind, name, structs):
@@ -99,7 +125,7 @@ def in_c(kind, name, structs):
     pointed = re.fullmatch(r"&(mut )?(\w+)", kind)
     if pointed:
         return ("" if pointed[1] else "const ") + in_c(pointed[2], f"*{name}", structs)
-    known = PLAIN.get(kind) or f"struct {structs.get(kind, f'of no name for {kind}')}"
+    known = PLAIN.get(kind) or f"struct {structs.get(kind, f'of unknown type {kind}')}"
     return f"{known} {name}".replace("* ", "*")
 
 
@@ -123,14 +149,14 @@ def without_lifetimes(text):
 
 
 def source():
-    """Returns the Rattle source of the library without its tests."""
+    """Returns the code of the library without its tests."""
     files = sorted((TOP / "crates/sockdiag_c/src").rglob("*.rt"))
-    return "".join(path.read_text(encoding="utf-8") for path in files if path.name != "tests.rt")
+    return "".join(code_of(path) for path in files if path.name != "tests.rt")
 
 
 def structs_of(text):
     """Returns by its Rattle name each struct: its name in C, and its fields with their types."""
-    found = [(name, other, body) for other, name, body in STRUCT.findall(text)]
+    found = [(name, name_in_c(name), body) for name, body in STRUCT.findall(text)]
     for other, name, path in DECLARED_AS.values():
         body = re.search(rf"pub struct {name} {{(.*?)\n}}", text_of(path), re.S)[1]
         found.append((name, other, re.sub(r"Option<(\w+)>", r"\1", body)))
@@ -205,9 +231,9 @@ def declared():
         exported = "" if "#[unsafe(no_mangle)]" in attributes else "not exported: "
         answer = in_c(answer, "", structs).strip() if answer else "void"
         yield f"{exported}{answer} {name}({parameters(inside, structs)})"
-    for name, (path, words) in NUMBERS.items():
-        before = words if " " in words else rf"const {words}: [a-z0-9]+ = "
-        yield f"{name} {re.search(before + '([0-9]+)', text_of(path))[1]}"
+    for name, (path, pattern) in NUMBERS.items():
+        found = re.search(pattern, text_of(path), re.S)
+        yield f"{name} {sum(map(int, found.groups())) if found else f'is not in {path}'}"
     numbered = r"DecodeError::(\w+)(?: \{ \.\. \})? => (\d+),"
     for fault, number in re.findall(numbered, text_of("netlink_core/src/fault.rt")):
         name = re.sub(r"(?<=[a-z])(?=[A-Z])|(?<=Under)(?=\d)", "_", fault).upper()
@@ -244,7 +270,7 @@ def call():
     an exit status."""
     compiler = os.environ.get("CC", "cc")
     if not shutil.which(compiler):
-        print(f"skipped: no C compiler {compiler} to compile and run the calls from C")
+        print(f"skipped: the calls from C: no C compiler {compiler}")
         return 0
     strict = [*"-Wall -Wextra -Wpedantic -Werror -fsyntax-only -Iinclude -x".split()]
     header = '#include "sockdiag.h"\n'
@@ -258,14 +284,14 @@ def call():
         ("c++", ["-std=c++11"], ["examples/list_sockets.c"], ""),
     ]:
         if language == "c++" and not has_plus:
-            print(f"skipped: {compiler} cannot compile the header as C++")
+            print(f"skipped: the header as C++: {compiler} does not support C++")
             continue
         words = [compiler, *flags, *strict, language, *files]
         status = subprocess.run(words, cwd=TOP, input=text, text=True).returncode
         if status != 0:
             return status
     if not is_soon_built():
-        print("skipped: the calls from C are only compiled, tests/c_face.sh runs them")
+        print("skipped: running the calls from C; tests/c_face.sh runs them")
         return compile_rust() if has_cargo() else 0
     status = subprocess.run([TOP / "tests" / "c_face.sh"]).returncode
     if status == 0 and has_cargo():
@@ -290,7 +316,7 @@ def has_cargo():
         printed = subprocess.run(["cargo", "--version"], stdout=subprocess.PIPE, text=True).stdout
     version = re.match(r"cargo (\d+)\.(\d+)", printed)
     if not version or tuple(map(int, version.groups())) < tuple(map(int, least.groups())):
-        print("skipped: no cargo for rust/sockdiag, or no cc")
+        print("skipped: rust/sockdiag: no cargo that is new enough, or no cc")
         return False
     return True
 

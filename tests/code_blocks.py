@@ -58,7 +58,7 @@ def blocks(document):
         else:
             opened = (number, mark.removeprefix(FENCE).strip(), [])
     if opened:
-        sys.exit(f"{document}:{opened[0]}: this code block is not closed")
+        sys.exit(f"{document}:{opened[0]}: code block is not closed")
 
 
 def occurs_in(block, source):
@@ -121,7 +121,7 @@ def main():
                 else:
                     missing.append((document, number, f"{language} block is not in any file"))
     for document, number, text in missing:
-        print(f"{document.relative_to(TOP)}:{number}: this {text}")
+        print(f"{document.relative_to(TOP)}:{number}: {text}")
     print(f"{found} code blocks found in files, {len(missing)} blocks or lines not found")
     return 1 if missing else 0
 

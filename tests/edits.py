@@ -1,7 +1,7 @@
 #!/usr/bin/env python3
-"""edits.py [--list] [--jobs N] [NAME..]: tries the edits in crates/CRATE/must-fail/*.edit and
-tests/edits/CRATE/*.edit. Each edit makes a function wrong, and the prover has to reject it. A NAME
-is CRATE, EDIT or CRATE/EDIT. Without a NAME all edits are tried.
+"""Tries the edits in crates/CRATE/must-fail/*.edit and tests/edits/CRATE/*.edit. Each edit makes a
+function wrong, and the prover has to reject it. A NAME is CRATE, EDIT or CRATE/EDIT. Without a NAME
+all edits are tried.
 
 Edits of functions that do not call each other form a group. A group is applied to one copy of the
 crate, and checked by one run that reuses the results in the crate's out/. An edit counts as
@@ -37,6 +37,8 @@ Edit = namedtuple("Edit", "file name texts lines functions")
 
 def kit_command():
     """Returns the kit's rt as a module, for its functions that read edits and check copies."""
+    if not shutil.which("rt"):
+        sys.exit("edits.py: rt not found; add the kit's folder bin to PATH")
     page = subprocess.run(["rt", "doc"], stdout=subprocess.PIPE, text=True, check=True).stdout
     sys.dont_write_bytecode = True
     file = f"{os.path.dirname(page.strip())}/bin/rt"
@@ -94,7 +96,8 @@ def groups_of(edits, functions):
     """Returns the groups of edits, and the edits that are tried alone. No two edits of a group
     change the same function, or functions of which one calls the other."""
     call = re.compile(r"\b(\w+)(?:::<[^(]*>)?\(")
-    calls = {it: {*call.findall(it.text.partition("(")[2])} for it in functions}
+    code = {it: re.sub(r"//.*", "", it.text) for it in functions}
+    calls = {it: {*call.findall(code[it].partition("(")[2])} for it in functions}
     meet = lambda a, b: a == b or b.name in calls[a] or a.name in calls[b]
     groups = []
     for edit in [it for it in edits if it.functions]:
@@ -168,14 +171,15 @@ def try_crate(crate, edits, functions, flags):
         for it in alone:
             kind, text = rt.must_fail(crate, it.file, flags, kept)
             failed += kind not in REFUSED
-            print(f"{it.name}: alone, {text.partition('.edit: ')[2]}", flush=True)
+            print(f"{it.name}: by itself: {text.partition('.edit: ')[2]}", flush=True)
     checks, spent = len(groups) + len(alone), time.time() - began
     print(f"{crate.name}: {len(edits)} edits, {checks} checks, {spent:.0f} s", flush=True)
     return failed
 
 
 def main():
-    words = argparse.ArgumentParser(usage=__doc__)
+    how = argparse.RawDescriptionHelpFormatter
+    words = argparse.ArgumentParser(description=__doc__, formatter_class=how)
     words.add_argument("--list", action="store_true")
     words.add_argument("--jobs", default="2")
     words.add_argument("names", nargs="*")
@@ -201,7 +205,9 @@ def main():
                 print(f"{it.name}: {rt.read_edit(it.file, crate.folder)[1]}", file=sys.stderr)
         elif edits:
             failed += try_crate(crate, edits, functions, ["--jobs", given.jobs])
-    if not given.list:
+    if not tried:
+        print("edits.py: no such edit; --list prints the names", file=sys.stderr)
+    elif not given.list:
         result = f"{failed} NOT REJECTED" if failed else "all rejected"
         print(f"{tried} edits: {result}, {time.time() - began:.0f} s")
     return 1 if failed or not tried else 0

@@ -154,6 +154,10 @@ MEMBER = re.compile(
 PARSED = re.compile(r"(\w+) = u(32|64)_at (\d+) bytes;")
 
 
+def fail(text):
+    sys.exit(f"kernel_headers.py: {text}")
+
+
 def definitions():
     """Returns the clauses of the definitions in modules with layouts, and all layouts' names."""
     clauses, layouts = {}, set()
@@ -171,7 +175,9 @@ CLAUSES, LAYOUTS = definitions()
 def body_of(name):
     """Returns the text of a definition that has one clause."""
     clauses = CLAUSES.get(name, [])
-    return clauses[0][1] if len(clauses) == 1 else sys.exit(f"{name}: {len(clauses)} definitions")
+    if len(clauses) != 1:
+        fail(f"{name}: {len(clauses)} definitions, expected 1")
+    return clauses[0][1]
 
 
 def number_of(text, offset=0):
@@ -190,7 +196,7 @@ def elements(text):
         else:
             parts[-1] += sign
     if parts.pop().strip() != "[]":
-        sys.exit(f"{text}: not a list of rows")
+        fail(f"{text}: not a list of rows")
     return [part.strip() for part in parts]
 
 
@@ -202,7 +208,9 @@ def inside(text):
 def member_of(accessor):
     """Returns the member of the Rust struct that an accessor reads."""
     found = {"".join(it) for it in MEMBER.findall(accessor)}
-    return found.pop() if len(found) == 1 else sys.exit(f"{accessor}: {len(found)} members")
+    if len(found) != 1:
+        fail(f"{accessor}: {len(found)} members, expected 1")
+    return found.pop()
 
 
 def rows_of(text, offset=0):
@@ -240,14 +248,14 @@ def parsed(row, offset):
     elif kind in WIDTHS and len(args) == 2 + kind.startswith("flags"):
         yield number_of(args[0], offset), WIDTHS[kind], member_of(args[-1])
     else:
-        sys.exit(f"{row}: a form of a row that this script does not parse")
+        fail(f"{row}: unsupported form of a row")
 
 
 def fields_of(value):
     """Yields the offset, the width and the member of each field of a record that is only parsed."""
     found = PARSED.findall(value)
     if len(found) != value.count("="):
-        sys.exit(f"{value}: a form of a record that this script does not parse")
+        fail(f"{value}: unsupported form of a record")
     yield from ((int(at), int(bits) // 8, member) for member, bits, at in found)
 
 
@@ -263,14 +271,14 @@ def record_of(name):
     elif name.endswith("_rows"):
         least, rows = "0", rows_of(name)
     else:
-        sys.exit(f"{name}: a form of a layout that this script does not parse")
+        fail(f"{name}: unsupported form of a layout")
     end, members = 0, {}
     for at, width, member in rows:
         if at == end:
             end += width
         elif at + width != end:
             # A condition selects one of two rows.
-            sys.exit(f"{name}: no row at {end}")
+            fail(f"{name}: no row at offset {end}")
         if member:
             members[member] = (at, width)
     return int(least), end, members
@@ -304,8 +312,9 @@ def about_record(table, struct, names):
         yield size, least if struct and least else end
     known = dict(it.split("=") for it in names.split() if "=" in it)
     known = known or {member: names + member for member in members}
-    if known.keys() != members.keys():
-        sys.exit(f"{table}: RECORDS and specs/ differ in {known.keys() ^ members.keys()}")
+    differing = ", ".join(sorted(known.keys() ^ members.keys()))
+    if differing:
+        fail(f"{table}: RECORDS and specs/ differ in {differing}")
     yield from members_in(struct, members, known)
 
 
@@ -325,7 +334,7 @@ def questions():
     for crate in NAMING:
         paths = CRATES.glob(f"{crate}/src/**/*.rt")
         text = "\n".join(path.read_text(encoding="utf-8") for path in paths)
-        constants = CONSTANT.findall(text) or sys.exit(f"{crate} has no constants")
+        constants = CONSTANT.findall(text) or fail(f"{crate}: no public constants")
         yield from ((OTHERS.get(name, name), int(value, 0)) for name, value in constants)
 
 
@@ -354,15 +363,15 @@ def answers(asked):
 
 def main():
     if not shutil.which("gcc") or not INCLUDED.exists():
-        print(f"tests/kernel_headers.py: skipped, no gcc or no {INCLUDED}")
+        print(f"kernel_headers.py: skipped: no gcc or no {INCLUDED}")
         return 0
     asked = list(questions())
     found = answers(dict.fromkeys(one for one, _ in asked))
     missing = dict.fromkeys(one for one, _ in asked if one not in found)
     differ = ((one, ours) for one, ours in asked if found.get(one, ours) != ours)
-    wrong = [f"{one} is {found[one]}, and {ours} here" for one, ours in differ]
-    wrong += [f"the headers do not answer {it}" for it in missing if ANSWERED.match(it)]
-    wrong += [f"RECORDS lacks {it}" for it in LAYOUTS - {table for table, _, _ in RECORDS}]
+    wrong = [f"{one}: {found[one]} in the headers, {ours} in the crates" for one, ours in differ]
+    wrong += [f"{it}: not in the headers" for it in missing if ANSWERED.match(it)]
+    wrong += [f"{it}: missing from RECORDS" for it in LAYOUTS - {table for table, _, _ in RECORDS}]
     print(*wrong, sep="\n", end="\n" * bool(wrong))
     lacking = dict.fromkeys(re.findall(r"\w+", it)[-1] for it in missing)
     print("The installed headers lack:", ", ".join(lacking) or "nothing")

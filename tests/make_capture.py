@@ -29,8 +29,11 @@ def first_messages(datagram, count):
 
 def read(name):
     name, _, count = name.partition(":")
-    with open(name, "rb") as file:
-        datagram = file.read()
+    try:
+        with open(name, "rb") as file:
+            datagram = file.read()
+    except OSError as error:
+        sys.exit(f"make_capture.py: {name}: {error.strerror}")
     return first_messages(datagram, int(count)) if count else datagram
 
 
@@ -45,6 +48,9 @@ def request():
 
 def main():
     words = sys.argv[1:]
+    if {it for it in words if it.startswith("--")} - {"--big", "--nanoseconds"}:
+        print("usage: make_capture.py [--big] [--nanoseconds] FILE..", file=sys.stderr)
+        sys.exit(2)
     order = ">" if "--big" in words else "<"
     magic = 0xA1B23C4D if "--nanoseconds" in words else 0xA1B2C3D4
     names = [word for word in words if not word.startswith("--")]

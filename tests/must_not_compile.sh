@@ -27,7 +27,7 @@ END
 rt check >"$work/log" 2>&1 || true
 if ! grep -q 'src/unix/reply.rt:.*`ended` does not live long enough' "$work/log"; then
     tail -n 20 "$work/log" >&2
-    echo "a name that outlives its bytes was not rejected" >&2
+    echo "must_not_compile: a name that outlives its bytes was not rejected" >&2
     exit 1
 fi
-echo "a name that outlives its bytes was rejected, as expected"
+echo "must_not_compile: a name that outlives its bytes was rejected, as expected"

@@ -106,7 +106,7 @@ def test_sslist(program):
     capture, table = CAPTURE.read_bytes(), (CRATES / "sslist/stdout").read_bytes()
     note, missing = b"sslist: .*packet 12, message 1: .*\n", b"sslist: /nowhere: .*\n"
     unknown = b"sslist: unknown option %s; try sslist --help\n"
-    no_text = b"sslist: an argument is not valid UTF-8\n"
+    no_text = b"sslist: argument is not valid UTF-8\n"
     for arguments, status, printed, errors in [
         ([], 1, b"", b"sslist: .*\n"), ([b"\xff"], 2, b"", no_text),
         ([""], 1, b"", b"sslist: : .*\n"),
@@ -162,10 +162,10 @@ def test_diagnostics(program):
     packets = packet(errno[13], 0, 2, message(errno[22], 0, 2))
     packets += packet(bytes(4), 16, 3) + packet(errno[2], 0, 3)
     lines = [
-        "packet 1, message 1: the kernel answers error 13",
-        "packet 1, message 2: note: the kernel answers EINVAL",
-        "packet 2, message 1: the dump changed while it was taken",
-        "packet 3, message 1: note: the kernel answers ENOENT",
+        "packet 1, message 1: the kernel returned error 13",
+        "packet 1, message 2: note: the kernel returned EINVAL",
+        "packet 2, message 1: dump interrupted (NLM_F_DUMP_INTR)",
+        "packet 3, message 1: note: the kernel returned ENOENT",
         "packet 4, message 1: UnixResponseHeader: buffer of 4 bytes, at least 16 needed",
         "packet 4, message 2: message length 3 is under 16",
     ]
@@ -177,11 +177,11 @@ def test_diagnostics(program):
     errors = b"(sslist: packet [1-4], message 1: note: .*\n){4}"
     check(program, [], file_header + b"".join(notes), 0, heading, errors)
     for given, text in [
-        (b"\1\2\x0a\xff" + bytes(20), b"no pcap capture: it begins with 01020aff"),
+        (b"\1\2\x0a\xff" + bytes(20), b"not a pcap capture: it begins with 01020aff"),
         (b"", b"the input is empty"),
         (
             b"\x0a\x0d\x0d\x0a" + bytes(20),
-            b"a pcapng capture, convert it: editcap -F pcap CAPTURE OTHER",
+            b"pcapng is not supported; try editcap -F pcap CAPTURE OTHER",
         ),
     ]:
         check(program, [], given, 1, b"", re.escape(b"sslist: " + text + b"\n"))
@@ -268,6 +268,9 @@ def test_refused_memory(program, arguments, given, status, output):
 
 
 if __name__ == "__main__":
+    if len(sys.argv) != 3:
+        print("usage: tests/programs.py SOCKDIAG SSLIST", file=sys.stderr)
+        sys.exit(2)
     sockdiag, sslist = map(os.path.abspath, sys.argv[1:3])
     test_sockdiag(sockdiag)
     test_sslist(sslist)

@@ -19,7 +19,7 @@ trap 'rm -rf "$work"' EXIT
 ${CC:-cc} -shared -fPIC -O1 -o "$work/refuse.so" "$top/tests/refuse.c"
 
 fail() {
-    echo "$what: allocations $first to $last fail: $1" >&2
+    echo "refused_memory: $what: allocations $first to $last fail: $1" >&2
     cat "$work/errors" >&2
     exit 1
 }
@@ -43,7 +43,7 @@ sweep() {
             grep -q '^refused$' "$work/errors" || break
         done
     done
-    echo "$what: each of $((first - 1)) allocations failed, alone and with all later ones"
+    echo "$what: each of $((first - 1)) allocations failed, by itself and with all later ones"
 }
 
 crate=$top/crates/netlink_packet_sock_diag_tests
@@ -93,7 +93,7 @@ requests() {
 few=$(requests 1000)
 many=$(requests 11000)
 if [ $((many - few)) -gt 20000 ]; then
-    echo "$((many - few)) allocations for 10000 lines, at most 20000 allowed" >&2
+    echo "refused_memory: $((many - few)) allocations for 10000 lines, expected at most 20000" >&2
     exit 1
 fi
 echo "$((many - few)) allocations for 10000 lines"

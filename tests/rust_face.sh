@@ -23,8 +23,8 @@ fi
 echo "rust_face: all tests pass"
 quiet cargo build --offline --example list_sockets
 if cargo run --offline --quiet --example list_sockets >"$work/sockets" 2>"$work/errors"; then
-    echo "list_sockets: $(wc -l <"$work/sockets") sockets, beginning with:"
+    echo "rust_face: list_sockets: $(wc -l <"$work/sockets") sockets, beginning with:"
     head -n 5 "$work/sockets"
 else
-    echo "list_sockets: the request failed: $(cat "$work/errors")"
+    echo "rust_face: list_sockets failed: $(cat "$work/errors")"
 fi

@@ -158,7 +158,7 @@ class Surface:
         self.lines += [f"{module}: {cfg}" for cfg in CFG.findall(text_of(tokens))]
         for attributes, head, body in items(tokens):
             text = text_of(head)
-            found = ITEM.match(text) or sys.exit(f"{module}: unknown item {text[:80]}")
+            found = ITEM.match(text) or sys.exit(f"surface.py: {module}: unknown item {text[:80]}")
             public, kind, path = found[1] == "pub ", found[2], f"{module}::{found[3]}"
             if kind == "mod":
                 self.lines += [f"{path}: pub mod"] * public
@@ -219,13 +219,17 @@ class Surface:
 
 
 def main():
+    if sys.argv[1:] not in ([], ["--write"]):
+        print("usage: tests/surface.py [--write]", file=sys.stderr)
+        return 2
     lines = sorted(line for crate in libraries() for line in Surface(crate).lines)
-    if "--write" in sys.argv[1:]:
+    if sys.argv[1:]:
         LIST.write_text("\n".join(lines) + "\n", encoding="utf-8")
     listed = LIST.read_text(encoding="utf-8").splitlines()
     if lines != listed:
         print(*difflib.unified_diff(listed, lines, "list", "crates", n=0, lineterm=""), sep="\n")
-        print("If this is intended, run tests/surface.py --write.")
+        print("surface.py: tests/surface.txt is out of date; if the change is intended, run "
+            "tests/surface.py --write")
     return int(lines != listed)
 
 

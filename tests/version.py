@@ -30,7 +30,7 @@ def main():
         match = re.search(pattern, text_of(name))
         found = match[1] if match else "no version"
         if found != version:
-            print(f"{name} has {found}, VERSION has {version}")
+            print(f"{name}: {found}, expected {version} as in VERSION")
             status = 1
     return status
 

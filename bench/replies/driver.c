@@ -158,13 +158,15 @@ static void print_row(const struct family *family, size_t attributes)
     unsigned long taken = requests - before;
     size_t written = family->rewrite(bytes, length, buffer, sizeof buffer, 0);
     if (found != attributes || written != length || memcmp(bytes, buffer, length)) {
-        fprintf(stderr, "%s reply of %zu attributes: read %zu of them, wrote %zu of %zu bytes\n",
+        fprintf(stderr,
+                "replies: %s reply with %zu attributes: parsed %zu attributes, "
+                "serialized %zu bytes, expected %zu\n",
                 family->name, attributes, found, written, length);
         exit(1);
     }
     double read = measure(family, bytes, length, NULL, 0);
     double both = measure(family, bytes, length, buffer, sizeof buffer);
-    printf("%-6s  %10zu  %5zu  %7.0f  %17.0f  %15lu\n", family->name, attributes, length, read,
+    printf("%-6s  %10zu  %5zu  %8.0f  %22.0f  %11lu\n", family->name, attributes, length, read,
            both, taken);
     fflush(stdout);
 }
@@ -172,7 +174,7 @@ static void print_row(const struct family *family, size_t attributes)
 int main(void)
 {
     static const size_t attributes[] = {1, 3, 9, 11};
-    printf("family  attributes  bytes  ns read  ns read and write  memory requests\n");
+    printf("family  attributes  bytes  ns parse  ns parse and serialize  allocations\n");
     for (size_t i = 0; i < sizeof families / sizeof *families; i++)
         for (size_t j = 0; j < sizeof attributes / sizeof *attributes; j++)
             print_row(&families[i], attributes[j]);

@@ -4,6 +4,7 @@
 
 use std::env;
 use std::path::PathBuf;
+use std::process;
 
 fn main() {
     println!("cargo:rerun-if-env-changed=SOCKDIAG_LIB_DIR");
@@ -14,10 +15,11 @@ fn main() {
     };
     let file = folder.join(format!("lib{name}.a"));
     if !file.exists() {
-        panic!(
-            "no {}: set SOCKDIAG_LIB_DIR, or run `rt lib` in crates/sockdiag_c",
+        eprintln!(
+            "sockdiag: {} not found; set SOCKDIAG_LIB_DIR, or run `rt lib` in crates/sockdiag_c",
             file.display()
         );
+        process::exit(1);
     }
     println!("cargo:rerun-if-changed={}", file.display());
     println!("cargo:rustc-link-search=native={}", folder.display());

@@ -106,7 +106,7 @@ fn unix_replies() -> Vec<Row> {
         ("", of(&[abstract_name, all[4], all[6]])),
         ("a path of 107 bytes", of(&[(0, &path(107))])),
         ("a path of 65,531 bytes", of(&[(0, &path(65_531))])),
-        ("1,000 connections that wait", of(&[(3, &numbers)])),
+        ("1,000 pending connections", of(&[(3, &numbers)])),
         ("", of(&[(99, &numbers)])),
         ("100 peers", of(&[all[2]; 100])),
         ("", of(&[all[2]; 1_000])),
@@ -140,7 +140,7 @@ fn inet_replies() -> Vec<Row> {
     let of = |attributes: &[Attribute]| reply(&header, attributes);
     let mut replies = of_each_count(&header, &all);
     replies.extend([
-        ("a `TcpInfo` alone", of(&[all[8]])),
+        ("only a `TcpInfo`", of(&[all[8]])),
         ("", of(&[all[9]])),
         ("", of(&[all[7]])),
         ("100 types of service", of(&[all[1]; 100])),
@@ -186,7 +186,7 @@ fn sample(mut subjects: [Subject; 6], least: &mut Times) {
 /// Times one reply, after checking that the crate and the port serialize it to the same bytes.
 fn time<T: Parseable<[u8]> + Emitable>(port: Port, bytes: &[u8], least: &mut Times) {
     let Port(reader, writer, canonical) = port;
-    let parse = |bytes| T::parse(bytes).expect("the crate reads each reply");
+    let parse = |bytes| T::parse(bytes).expect("netlink-packet-sock-diag parses the reply");
     let emitted = |value: &T| {
         let mut form = vec![0; value.buffer_len()];
         value.emit(&mut form);
@@ -197,7 +197,7 @@ fn time<T: Parseable<[u8]> + Emitable>(port: Port, bytes: &[u8], least: &mut Tim
     let mut buffer = vec![0xff; written.len()];
     assert_eq!(rewrite(writer, bytes, &mut buffer, 0), written.len());
     assert_eq!(call(canonical, bytes), written.len());
-    assert!(buffer == written, "the port writes other bytes");
+    assert!(buffer == written, "the port serializes to other bytes");
     let subjects = [
         repeated(|| drop(black_box(parse(black_box(bytes))))),
         repeated(|| _ = black_box(call(reader, black_box(bytes)))),

@@ -26,7 +26,7 @@ packet_line front packet text =
 -- the text about a truncated packet: how many of its bytes were captured, and its original length
 abbrev pub cut_text : ℕ → ℕ → List ℕ
 cut_text captured whole =
-    codes "cut to " ++ decimal captured ++ codes " of " ++ decimal whole ++ codes " bytes"
+    codes "truncated to " ++ decimal captured ++ codes " of " ++ decimal whole ++ codes " bytes"
 
 -- the line about a packet with this captured length and this original length, if it was truncated
 abbrev pub cut_line : List ℕ → ℕ → ℕ → ℕ → List ℕ
@@ -44,18 +44,18 @@ abbrev pub capture_error_text : CaptureError → List ℕ
 capture_error_text Read = codes "reading failed"
 capture_error_text Directory = codes "the input is a directory"
 capture_error_text Memory = codes "out of memory"
-capture_error_text Cut = codes "the capture is cut off"
+capture_error_text Cut = codes "the capture is truncated"
 capture_error_text Empty = codes "the input is empty"
-capture_error_text NewFormat = codes "a pcapng capture, convert it: editcap -F pcap CAPTURE OTHER"
-capture_error_text Packed = codes "a gzip file, unpack it: gzip -dc CAPTURE"
+capture_error_text NewFormat = codes "pcapng is not supported; try editcap -F pcap CAPTURE OTHER"
+capture_error_text Packed = codes "gzip is not supported; try gzip -dc CAPTURE"
 capture_error_text (NoCapture magic) =
-    codes "no pcap capture: it begins with " ++ encode_lower (big_bytes 4 magic)
+    codes "not a pcap capture: it begins with " ++ encode_lower (big_bytes 4 magic)
 capture_error_text (OtherVersion version) =
-    codes "pcap of version " ++ decimal version ++ codes ", not 2"
+    codes "unsupported pcap version " ++ decimal version ++ codes ", expected 2"
 capture_error_text (OtherLinkType link_type) =
-    codes "packets of link type " ++ decimal link_type ++ codes ", not 253 (netlink)"
+    codes "unsupported link type " ++ decimal link_type ++ codes ", expected 253 (netlink)"
 capture_error_text (PacketTooLong count) =
-    codes "a packet of " ++ decimal count ++ codes " bytes, at most 262144 expected"
+    codes "packet length " ++ decimal count ++ codes " exceeds the maximum of 262144"
 
 -- the text of an error of a run
 abbrev pub run_error_text : RunError → List ℕ
@@ -63,7 +63,7 @@ run_error_text (Header fault) = capture_error_text fault
 run_error_text (Packet packet fault) =
     codes "packet " ++ decimal packet ++ codes ": " ++ capture_error_text fault
 run_error_text Write = codes "writing failed"
-run_error_text Closed = codes "nobody reads the output"
+run_error_text Closed = codes "the output pipe is closed"
 run_error_text NoMemory = codes "out of memory"
 
 -- the line that names a failure, or nothing if the failure is a closed output pipe

@@ -97,23 +97,31 @@ impl CaptureError {
             CaptureError::Read => ErrorText::Plain("reading failed"),
             CaptureError::Directory => ErrorText::Plain("the input is a directory"),
             CaptureError::Memory => ErrorText::Plain("out of memory"),
-            CaptureError::Cut => ErrorText::Plain("the capture is cut off"),
+            CaptureError::Cut => ErrorText::Plain("the capture is truncated"),
             CaptureError::Empty => ErrorText::Plain("the input is empty"),
             CaptureError::NewFormat => {
-                ErrorText::Plain("a pcapng capture, convert it: editcap -F pcap CAPTURE OTHER")
+                ErrorText::Plain("pcapng is not supported; try editcap -F pcap CAPTURE OTHER")
             }
-            CaptureError::Packed => ErrorText::Plain("a gzip file, unpack it: gzip -dc CAPTURE"),
+            CaptureError::Packed => ErrorText::Plain("gzip is not supported; try gzip -dc CAPTURE"),
             CaptureError::NoCapture(magic) => {
-                ErrorText::Hex("no pcap capture: it begins with ", *magic)
+                ErrorText::Hex("not a pcap capture: it begins with ", *magic)
             }
             CaptureError::OtherVersion(version) => {
-                ErrorText::Decimal("pcap of version ", u32::from(*version), ", not 2")
+                ErrorText::Decimal(
+                    "unsupported pcap version ",
+                    u32::from(*version),
+                    ", expected 2",
+                )
             }
             CaptureError::OtherLinkType(link_type) => {
-                ErrorText::Decimal("packets of link type ", *link_type, ", not 253 (netlink)")
+                ErrorText::Decimal(
+                    "unsupported link type ",
+                    *link_type,
+                    ", expected 253 (netlink)",
+                )
             }
             CaptureError::PacketTooLong(count) => {
-                ErrorText::Decimal("a packet of ", *count, " bytes, at most 262144 expected")
+                ErrorText::Decimal("packet length ", *count, " exceeds the maximum of 262144")
             }
         }
     }

@@ -54,7 +54,7 @@ fn push_cut(
     let front = written.front;
     match writeln!(
         written.issues,
-        "{front}packet {packet}: cut to {length} of {whole_length} bytes"
+        "{front}packet {packet}: truncated to {length} of {whole_length} bytes"
     ) {
         Ok(()) => Ok(()),
         Err(_) => Err(AllocError),

@@ -44,7 +44,7 @@ impl RunError {
         match self {
             RunError::Header(fault) | RunError::Packet { fault, .. } => fault.text(),
             RunError::Write => ErrorText::Plain("writing failed"),
-            RunError::Closed => ErrorText::Plain("nobody reads the output"),
+            RunError::Closed => ErrorText::Plain("the output pipe is closed"),
             RunError::Memory => ErrorText::Plain("out of memory"),
         }
     }

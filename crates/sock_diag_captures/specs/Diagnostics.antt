@@ -97,10 +97,10 @@ fault_text (EnvelopeLengthPast len got) =
 -- the text of a diagnostic
 abbrev pub issue_text : Issue → List ℕ
 issue_text (Refused fault) = fault_text fault
-issue_text (Answered errno) = codes "the kernel answers error " ++ decimal errno
-issue_text NoEntry = codes "note: the kernel answers ENOENT"
-issue_text Invalid = codes "note: the kernel answers EINVAL"
-issue_text Interrupted = codes "the dump changed while it was taken"
+issue_text (Answered errno) = codes "the kernel returned error " ++ decimal errno
+issue_text NoEntry = codes "note: the kernel returned ENOENT"
+issue_text Invalid = codes "note: the kernel returned EINVAL"
+issue_text Interrupted = codes "dump interrupted (NLM_F_DUMP_INTR)"
 issue_text Lost = codes "the kernel lost data"
 
 -- ---- lines of messages

@@ -39,26 +39,39 @@ use stream::write_table;
 /// Version of the program, equal to the file `VERSION` of the repository.
 pub const VERSION: &str = "0.11.0";
 
-/// Usage of `sslist`.
-pub const HELP: &str = "sslist [-tuxM0oemiOna] [--WORD ..] [FILE ..]
+/// The text that `sslist --help` prints.
+pub const HELP: &str = "\
+Usage: sslist [OPTION ..] [FILE ..]
 
-Lists the sockets that captures of netlink traffic tell: that of each file, or of standard
-input. A capture is one of pcap, as tcpdump -i nlmon0 -w - writes it.
+Lists the sockets in captures of netlink traffic: in each FILE, or in standard
+input if there is none. A capture is in pcap format, as written by
+tcpdump -i nlmon0 -w -
 
-  -t -u -x -M  sockets of TCP, UDP, UNIX or MPTCP alone
-  -0           packet sockets alone
-  --family=netlink, --vsock, --xdp
-               netlink, vsock or XDP sockets alone
-  -o -m -i     beside the columns the timer, the memory or the connection alone
-  -e           what these don't tell
-  -O           one line a socket
-  -n -a        nothing more: all numbers are shown as numbers, and all states are listed
-  --utf8       letters of names that are UTF-8, and not their bytes
-  --requests   a line for each request, with its time and what it asks for
-  --help, --version
+Select sockets (several options add up):
+  -t, -u, -x, -M, -0     TCP, UDP, UNIX, MPTCP or packet sockets
+      --family=netlink   netlink sockets
+      --vsock            vsock sockets
+      --xdp              XDP sockets
 
-The status is 0 where all was listed, 1 where something was not, which standard error names but
-where nobody reads the output, and 2 for an option that is not known.";
+Select details (all by default; several options add up):
+  -o                     the timer
+  -m                     the memory
+  -i                     the TCP connection
+  -e                     the cookie and all other details
+
+Format:
+  -O                     one line per socket
+  -n, -a                 ignored: service names are never resolved, and sockets
+                         in all states are listed
+      --utf8             in names that are valid UTF-8, show letters instead of
+                         escaped bytes
+      --requests         also a line for each request, with its time
+
+      --help             print this text and exit
+      --version          print the version and exit
+
+Exit status: 0 if everything was listed, 1 if not (details on standard error,
+except for a closed output pipe), 2 for usage errors.";
 
 /// Lists a capture by [`run`], and writes a line on `errors` if the run fails. The line begins with
 /// `front` and names the failure. A closed output pipe has no line. Returns the exit status: 0 if

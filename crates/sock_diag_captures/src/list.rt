@@ -67,10 +67,10 @@ impl fmt::Display for Issue {
                 let text = FaultText(fault);
                 write!(f, "{text}")
             }
-            Issue::Answered(errno) => write!(f, "the kernel answers error {errno}"),
-            Issue::NoEntry => write!(f, "note: the kernel answers ENOENT"),
-            Issue::Invalid => write!(f, "note: the kernel answers EINVAL"),
-            Issue::Interrupted => write!(f, "the dump changed while it was taken"),
+            Issue::Answered(errno) => write!(f, "the kernel returned error {errno}"),
+            Issue::NoEntry => write!(f, "note: the kernel returned ENOENT"),
+            Issue::Invalid => write!(f, "note: the kernel returned EINVAL"),
+            Issue::Interrupted => write!(f, "dump interrupted (NLM_F_DUMP_INTR)"),
             Issue::Lost => write!(f, "the kernel lost data"),
         }
     }

@@ -23,11 +23,11 @@ netlink, and dump, which takes one or more fields.
   --help     print this text and exit
   --version  print the version and exit
 
-An option counts only if it is the sole argument. Any other arguments are
+An option has an effect only if it is the sole argument. Other arguments are
 ignored.
 
-Exit status: 0 at the end of input; 1 if reading or writing failed or memory
-ran out, with the reason on standard error.";
+Exit status: 0 at the end of input; 1 if a read, a write or an allocation
+failed (details on standard error); 3 under --strict, see above.";
 
 /// What the command line requests.
 #[derive(Clone, Copy, Debug, PartialEq, Eq)]

@@ -16,7 +16,7 @@ fn main(rt: HostRuntime) -> ExitCode {
         Ok(arguments) => arguments,
         Err(error) if error.kind() == ErrorKind::OutOfMemory => return out_of_memory(&rt),
         Err(_) => {
-            let _ = rt.eprintln("sslist: an argument is not valid UTF-8");
+            let _ = rt.eprintln("sslist: argument is not valid UTF-8");
             return ExitCode::from(2);
         }
     };

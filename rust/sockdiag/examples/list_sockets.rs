@@ -99,7 +99,7 @@ fn list(kernel: &mut File, protocol: &str, request: &[u8]) -> io::Result<()> {
                 Ok(NetlinkPayload::Done(Some(errno)) | NetlinkPayload::Error(Some(errno))) => {
                     let error = io::Error::from_raw_os_error(errno.wrapping_neg());
                     if errno == -ENOENT || errno == -EINVAL {
-                        eprintln!("{protocol}: {error}");
+                        eprintln!("list_sockets: {protocol}: {error}");
                         return Ok(());
                     }
                     return Err(error);
@@ -107,9 +107,11 @@ fn list(kernel: &mut File, protocol: &str, request: &[u8]) -> io::Result<()> {
                 Ok(NetlinkPayload::Done(None) | NetlinkPayload::Error(None)) => {
                     return Err(io::ErrorKind::UnexpectedEof.into())
                 }
-                Ok(NetlinkPayload::Overrun) => return Err(io::Error::other("data was lost")),
+                Ok(NetlinkPayload::Overrun) => {
+                    return Err(io::Error::other("the kernel lost data"))
+                }
                 Ok(NetlinkPayload::Noop) => {}
-                Err(fault) => eprintln!("{protocol}: refused: {fault}"),
+                Err(fault) => eprintln!("list_sockets: {protocol}: invalid reply: {fault}"),
             }
         }
     }

@@ -358,23 +358,23 @@ sslist: packet 1, message 3: UnixResponseHeader: buffer of 12 bytes, at least 16
     tells(&rt, alloc, &parts, want);
     let parts = [FRONT, OF_100, OTHER_AND_SHORT, LOST, FAILED, CUT, "00"];
     let want = "packet 2: fewer than 16 bytes\n\
-sslist: packet 3, message 1: the dump changed while it was taken\n\
+sslist: packet 3, message 1: dump interrupted (NLM_F_DUMP_INTR)\n\
 sslist: packet 3, message 1: the kernel lost data\n\
-sslist: packet 4, message 1: note: the kernel answers ENOENT\n\
-sslist: packet 5: cut to 16 of 101 bytes\n\
-sslist: packet 6: the capture is cut off";
+sslist: packet 4, message 1: note: the kernel returned ENOENT\n\
+sslist: packet 5: truncated to 16 of 101 bytes\n\
+sslist: packet 6: the capture is truncated";
     tells(&rt, alloc, &parts, want);
     tells(&rt, alloc, &[], "the input is empty");
-    tells(&rt, alloc, &[FRONT, "48"], "the capture is cut off");
-    let want = "packets of link type 1, not 253 (netlink)";
+    tells(&rt, alloc, &[FRONT, "48"], "the capture is truncated");
+    let want = "unsupported link type 1, expected 253 (netlink)";
     tells(&rt, alloc, &[FRONT, "4800000001000000"], want);
-    let want = "pcap of version 3, not 2";
+    let want = "unsupported pcap version 3, expected 2";
     tells(&rt, alloc, &["d4c3b2a10300", FRONT, OF_100], want);
-    let want = "a pcapng capture, convert it: editcap -F pcap CAPTURE OTHER";
+    let want = "pcapng is not supported; try editcap -F pcap CAPTURE OTHER";
     tells(&rt, alloc, &["0a0d0d0a", FRONT, OF_100], want);
-    let want = "a gzip file, unpack it: gzip -dc CAPTURE";
+    let want = "gzip is not supported; try gzip -dc CAPTURE";
     tells(&rt, alloc, &["1f8b0800", FRONT, OF_100], want);
-    let want = "packet 1: a packet of 262145 bytes, at most 262144 expected";
+    let want = "packet 1: packet length 262145 exceeds the maximum of 262144";
     tells(
         &rt,
         alloc,
@@ -398,8 +398,8 @@ fn errors_of_a_run_have_words(rt: HostRuntime) {
         CaptureError::OtherVersion(1),
     );
     let text = format!(in rt.alloc(); "{full}, {closed}, {other}, {old}").expect(&rt, "memory");
-    let want = "writing failed, nobody reads the output, no pcap capture: it begins with 00000a0b, \
-pcap of version 1, not 2";
+    let want = "writing failed, the output pipe is closed, \
+not a pcap capture: it begins with 00000a0b, unsupported pcap version 1, expected 2";
     assert!(rt; text.as_str() == want);
 }
 
