@@ -20,7 +20,7 @@ import tempfile
 from pathlib import Path
 
 # The crates whose public constants are the kernel's.
-NAMING = """netlink_core sock_diag_records sock_diag_families sock_diag_extras sock_diag_filters
+NAMING = """netlink_core sock_diag_records sock_diag_families sock_diag_extras
     sock_diag_examples""".split()
 CRATES = Path(__file__).resolve().parent.parent / "crates"
 INCLUDED = Path("/usr/include/linux/inet_diag.h")

@@ -39,8 +39,9 @@ use crate::nla::DefaultNla;
 use crate::record::Record;
 use crate::wire::Coded;
 use crate::{
-    NETLINK_HEADER_LEN, NLA_HEADER_SIZE, NLM_F_DUMP, NLM_F_REQUEST, NLMSG_DONE, NLMSG_ERROR,
-    NLMSG_NOOP, NLMSG_OVERRUN,
+    NETLINK_HEADER_LEN, NLA_HEADER_SIZE, NLM_F_ACK, NLM_F_ACK_TLVS, NLM_F_ATOMIC, NLM_F_CAPPED,
+    NLM_F_DUMP, NLM_F_DUMP_FILTERED, NLM_F_DUMP_INTR, NLM_F_ECHO, NLM_F_MATCH, NLM_F_MULTI,
+    NLM_F_REQUEST, NLM_F_ROOT, NLMSG_DONE, NLMSG_ERROR, NLMSG_NOOP, NLMSG_OVERRUN,
 };
 use std::alloc::AllocError;
 
@@ -318,6 +319,16 @@ pub fn message_constants_have_their_numbers()
     ensures overrun { NLMSG_OVERRUN ≡ 4 }
     ensures request { NLM_F_REQUEST ≡ 1 }
     ensures dump { NLM_F_DUMP ≡ 0x300 }
+    ensures multi { NLM_F_MULTI ≡ 2 }
+    ensures acknowledge { NLM_F_ACK ≡ 4 }
+    ensures echo { NLM_F_ECHO ≡ 8 }
+    ensures interrupted { NLM_F_DUMP_INTR ≡ 0x10 }
+    ensures filtered { NLM_F_DUMP_FILTERED ≡ 0x20 }
+    ensures root { NLM_F_ROOT ≡ 0x100 }
+    ensures matching { NLM_F_MATCH ≡ 0x200 }
+    ensures atomic { NLM_F_ATOMIC ≡ 0x400 }
+    ensures capped { NLM_F_CAPPED ≡ 0x100 }
+    ensures attributes { NLM_F_ACK_TLVS ≡ 0x200 }
     ensures header { NETLINK_HEADER_LEN ≡ 16 }
     ensures attribute { NLA_HEADER_SIZE ≡ 4 }
 {}

@@ -27,8 +27,10 @@ pub use crate::family::{FamilyNla, FamilyView};
 pub use crate::fault::{DecodeError, RecordName};
 pub use crate::header::{NETLINK_HEADER_LEN, NetlinkHeader};
 pub use crate::message::{
-    NLM_F_DUMP, NLM_F_REQUEST, NLMSG_DONE, NLMSG_ERROR, NLMSG_NOOP, NLMSG_OVERRUN,
-    NetlinkDeserializable, NetlinkMessage, NetlinkPayload, NetlinkSerializable, error_number,
+    NLM_F_ACK, NLM_F_ACK_TLVS, NLM_F_ATOMIC, NLM_F_CAPPED, NLM_F_DUMP, NLM_F_DUMP_FILTERED,
+    NLM_F_DUMP_INTR, NLM_F_ECHO, NLM_F_MATCH, NLM_F_MULTI, NLM_F_REQUEST, NLM_F_ROOT, NLMSG_DONE,
+    NLMSG_ERROR, NLMSG_NOOP, NLMSG_OVERRUN, NetlinkDeserializable, NetlinkMessage, NetlinkPayload,
+    NetlinkSerializable, error_number,
 };
 pub use crate::nla::{
     DefaultNla, Nla, WireNla, copy_list, emit_nla, emit_nlas, nla_len, nlas_len, nlas_len_within,

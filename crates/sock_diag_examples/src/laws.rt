@@ -5,10 +5,9 @@ ghost use Rattle.sock_diag_records.specs.Constants.{AreEqual};
 
 use crate::link::{IFLA_IFNAME, IFLA_MTU};
 use crate::listening_tcp::REQUEST_LENGTH;
-use crate::test_kernel::NLM_F_MULTI;
 
 /// States the value of each constant.
 pub fn use_constants_have_their_numbers()
-    ensures { AreEqual ((REQUEST_LENGTH, 72) ∷ (NLM_F_MULTI, 2) ∷ (IFLA_IFNAME, 3) ∷
+    ensures { AreEqual ((REQUEST_LENGTH, 72) ∷ (IFLA_IFNAME, 3) ∷
         (IFLA_MTU, 4) ∷ []) }
 {}

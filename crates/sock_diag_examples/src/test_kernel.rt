@@ -16,15 +16,13 @@ ghost use Rattle.sock_diag_examples.specs.declared.test_kernel.AnswerError.TheVa
 ghost use Rattle.sock_diag_examples.specs.declared.test_kernel.AnswerError.TheVariants.{Memory};
 
 use netlink_core::{
-    DecodeError, NETLINK_HEADER_LEN, NetlinkHeader, NetlinkMessage, NetlinkPayload, Parseable,
+    DecodeError, NETLINK_HEADER_LEN, NLM_F_MULTI, NetlinkHeader, NetlinkMessage, NetlinkPayload,
+    Parseable,
 };
 use netlink_packet_sock_diag::constants::SOCK_DIAG_BY_FAMILY;
 use netlink_packet_sock_diag::unix::{UnixRequest, UnixResponse};
 use netlink_packet_sock_diag::{SockDiagMessage, laws};
 use std::alloc::{AllocError, AllocFailed, Global};
-
-/// Flag of a message that is one of several (`NLM_F_MULTI` of netlink(7)).
-pub const NLM_F_MULTI: u16 = 2;
 
 /// Error of [`answer`].
 #[derive(Debug, Drop, PartialEq, Eq)]

@@ -6,6 +6,15 @@
 ghost use Rattle.std.specs.Prelude.{[], ◌∷◌};
 ghost use Rattle.sock_diag_records.specs.Constants.{AreEqual};
 
+pub use netlink_core::{
+    NLM_F_ACK, NLM_F_ACK_TLVS, NLM_F_ATOMIC, NLM_F_CAPPED, NLM_F_DUMP_FILTERED, NLM_F_DUMP_INTR,
+    NLM_F_ECHO, NLM_F_MATCH, NLM_F_MULTI, NLM_F_ROOT,
+};
+pub use sock_diag_records::inet::{
+    INET_DIAG_REQ_BYTECODE, INET_DIAG_REQ_NONE, INET_DIAG_REQ_PROTOCOL,
+    INET_DIAG_REQ_SK_BPF_STORAGES,
+};
+
 // ---- kinds of attributes that the port lacks, and the flag that requests one of them
 
 /// Kind of the attribute of the upper layer protocol on TCP (ULP), such as TLS or MPTCP: nested
@@ -102,21 +111,6 @@ pub const MPTCP_SUBFLOW_ATTR_ID_LOC: u16 = 10;
 
 /// Padding.
 pub const MPTCP_SUBFLOW_ATTR_PAD: u16 = 11;
-
-// ---- attributes after the `struct inet_diag_req_v2` of a request
-
-/// No attribute.
-pub const INET_DIAG_REQ_NONE: u16 = 0;
-
-/// A filter: operations `INET_DIAG_BC_..`.
-pub const INET_DIAG_REQ_BYTECODE: u16 = 1;
-
-/// The maps whose BPF storages are requested: nested attributes
-/// `SK_DIAG_BPF_STORAGE_REQ_MAP_FD`.
-pub const INET_DIAG_REQ_SK_BPF_STORAGES: u16 = 2;
-
-/// The protocol as a `u32`, for a protocol above 255 such as `IPPROTO_MPTCP`.
-pub const INET_DIAG_REQ_PROTOCOL: u16 = 3;
 
 // ---- codes of the operations of a filter (`code` of `struct inet_diag_bc_op`)
 
@@ -227,38 +221,6 @@ pub const SKNLGRP_INET6_TCP_DESTROY: u32 = 3;
 /// Destroyed UDP sockets of IPv6.
 pub const SKNLGRP_INET6_UDP_DESTROY: u32 = 4;
 
-// ---- flags of a netlink message (`nlmsg_flags`)
-
-/// Part of a multipart message, which `NLMSG_DONE` terminates.
-pub const NLM_F_MULTI: u16 = 2;
-
-/// In a request: requests an acknowledgement.
-pub const NLM_F_ACK: u16 = 4;
-
-/// In a request: requests the notifications that it causes.
-pub const NLM_F_ECHO: u16 = 8;
-
-/// In a reply: the dump is inconsistent, since the sockets changed during the dump.
-pub const NLM_F_DUMP_INTR: u16 = 0x10;
-
-/// In a reply: the dump was filtered as requested.
-pub const NLM_F_DUMP_FILTERED: u16 = 0x20;
-
-/// In a request: requests the complete table.
-pub const NLM_F_ROOT: u16 = 0x100;
-
-/// In a request: requests all entries that match.
-pub const NLM_F_MATCH: u16 = 0x200;
-
-/// In a request: requests an atomic snapshot.
-pub const NLM_F_ATOMIC: u16 = 0x400;
-
-/// In an acknowledgement: it contains only the header of the request.
-pub const NLM_F_CAPPED: u16 = 0x100;
-
-/// In an acknowledgement: attributes `NLMSGERR_ATTR_..` follow.
-pub const NLM_F_ACK_TLVS: u16 = 0x200;
-
 // ---- attributes of an acknowledgement
 
 /// No attribute.
@@ -333,9 +295,6 @@ pub fn extra_constants_have_their_numbers()
         (MPTCP_SUBFLOW_ATTR_MAP_DATALEN, 7) ∷ (MPTCP_SUBFLOW_ATTR_FLAGS, 8) ∷
         (MPTCP_SUBFLOW_ATTR_ID_REM, 9) ∷ (MPTCP_SUBFLOW_ATTR_ID_LOC, 10) ∷
         (MPTCP_SUBFLOW_ATTR_PAD, 11) ∷ []) }
-    ensures request_attributes { AreEqual ((INET_DIAG_REQ_NONE, 0) ∷
-        (INET_DIAG_REQ_BYTECODE, 1) ∷ (INET_DIAG_REQ_SK_BPF_STORAGES, 2) ∷
-        (INET_DIAG_REQ_PROTOCOL, 3) ∷ []) }
     ensures filters { AreEqual ((INET_DIAG_BC_NOP, 0) ∷ (INET_DIAG_BC_JMP, 1) ∷
         (INET_DIAG_BC_S_GE, 2) ∷ (INET_DIAG_BC_S_LE, 3) ∷ (INET_DIAG_BC_D_GE, 4) ∷
         (INET_DIAG_BC_D_LE, 5) ∷ (INET_DIAG_BC_AUTO, 6) ∷ (INET_DIAG_BC_S_COND, 7) ∷
@@ -352,10 +311,6 @@ pub fn extra_constants_have_their_numbers()
     ensures groups { AreEqual ((SKNLGRP_NONE, 0) ∷ (SKNLGRP_INET_TCP_DESTROY, 1) ∷
         (SKNLGRP_INET_UDP_DESTROY, 2) ∷ (SKNLGRP_INET6_TCP_DESTROY, 3) ∷
         (SKNLGRP_INET6_UDP_DESTROY, 4) ∷ []) }
-    ensures flags_of_messages { AreEqual ((NLM_F_MULTI, 2) ∷ (NLM_F_ACK, 4) ∷
-        (NLM_F_ECHO, 8) ∷ (NLM_F_DUMP_INTR, 16) ∷ (NLM_F_DUMP_FILTERED, 32) ∷
-        (NLM_F_ROOT, 256) ∷ (NLM_F_MATCH, 512) ∷ (NLM_F_ATOMIC, 1024) ∷ (NLM_F_CAPPED, 256)
-        ∷ (NLM_F_ACK_TLVS, 512) ∷ []) }
     ensures error_attributes { AreEqual ((NLMSGERR_ATTR_UNUSED, 0) ∷ (NLMSGERR_ATTR_MSG, 1)
         ∷ (NLMSGERR_ATTR_OFFS, 2) ∷ (NLMSGERR_ATTR_COOKIE, 3) ∷ (NLMSGERR_ATTR_POLICY, 4) ∷
         (NLMSGERR_ATTR_MISS_TYPE, 5) ∷ (NLMSGERR_ATTR_MISS_NEST, 6) ∷ []) }

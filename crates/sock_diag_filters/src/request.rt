@@ -10,12 +10,7 @@ use netlink_core::{
     Emitable, NETLINK_HEADER_LEN, NetlinkHeader, Nla, emit_nlas, nlas_len, nlas_len_within,
 };
 use sock_diag_records::inet::InetRequest;
-
-/// The kind of the attribute that contains a filter's program (linux/inet_diag.h).
-pub const INET_DIAG_REQ_BYTECODE: u16 = 1;
-
-/// The kind of the attribute that contains a protocol as a `u32` (linux/inet_diag.h).
-pub const INET_DIAG_REQ_PROTOCOL: u16 = 3;
+pub use sock_diag_records::inet::{INET_DIAG_REQ_BYTECODE, INET_DIAG_REQ_PROTOCOL};
 
 /// The number of bytes before the attributes: 16 of the netlink header and 56 of
 /// `struct inet_diag_req_v2`.

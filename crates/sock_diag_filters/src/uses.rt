@@ -14,16 +14,13 @@ use crate::{
     RequestWithAttributes, assemble,
 };
 use bitflags::Flags;
-use netlink_core::{Emitable, NLM_F_DUMP, NLM_F_REQUEST, NetlinkHeader};
+use netlink_core::{Emitable, NLM_F_ACK, NLM_F_DUMP, NLM_F_REQUEST, NetlinkHeader};
 use sock_diag_records::constants::{
     AF_INET, AF_INET6, IPPROTO_TCP, SOCK_DESTROY, SOCK_DIAG_BY_FAMILY,
 };
 use sock_diag_records::inet::{ExtensionFlags, InetRequest, SocketId, StateFlags};
 use std::alloc::Global;
 use std::net::IpAddr;
-
-/// The header flag that requests an acknowledgement, `NLM_F_ACK` of netlink(7).
-pub const NLM_F_ACK: u16 = 4;
 
 /// Returns the request for the TCP sockets over IPv4 that listen on a port from `first` to `last`.
 ///

@@ -4,6 +4,11 @@
 ghost use Rattle.std.specs.Prelude.{[], ◌∷◌};
 ghost use Rattle.sock_diag_records.specs.Constants.{AreEqual};
 
+use crate::inet::{
+    INET_DIAG_REQ_BYTECODE, INET_DIAG_REQ_NONE, INET_DIAG_REQ_PROTOCOL,
+    INET_DIAG_REQ_SK_BPF_STORAGES,
+};
+
 // ---- message types
 
 /// A request for sockets, or a reply about one.
@@ -475,6 +480,9 @@ pub fn constants_have_their_numbers()
         (INET_DIAG_SKV6ONLY, 11) ∷ (INET_DIAG_LOCALS, 12) ∷ (INET_DIAG_PEERS, 13) ∷
         (INET_DIAG_PAD, 14) ∷ (INET_DIAG_MARK, 15) ∷ (INET_DIAG_BBRINFO, 16) ∷
         (INET_DIAG_CLASS_ID, 17) ∷ (INET_DIAG_MD5SIG, 18) ∷ []) }
+    ensures request_attributes { AreEqual ((INET_DIAG_REQ_NONE, 0) ∷
+        (INET_DIAG_REQ_BYTECODE, 1) ∷ (INET_DIAG_REQ_SK_BPF_STORAGES, 2) ∷
+        (INET_DIAG_REQ_PROTOCOL, 3) ∷ []) }
     ensures socket_states { AreEqual ((TCP_ESTABLISHED, 1) ∷ (TCP_SYN_SENT, 2) ∷
         (TCP_SYN_RECV, 3) ∷ (TCP_FIN_WAIT1, 4) ∷ (TCP_FIN_WAIT2, 5) ∷ (TCP_TIME_WAIT, 6) ∷
         (TCP_CLOSE, 7) ∷ (TCP_CLOSE_WAIT, 8) ∷ (TCP_LAST_ACK, 9) ∷ (TCP_LISTEN, 10) ∷

@@ -14,13 +14,10 @@ ghost use Rattle.netlink_packet_sock_diag.specs.declared.dump.DumpState.TheVaria
 use super::kept::Kept;
 use super::{DumpError, DumpState};
 use netlink_core::{
-    DecodeError, FramedMessages, NETLINK_HEADER_LEN, NLMSG_DONE, NLMSG_ERROR, NLMSG_NOOP,
-    NLMSG_OVERRUN, NetlinkHeader, error_number,
+    DecodeError, FramedMessages, NETLINK_HEADER_LEN, NLM_F_DUMP_INTR, NLMSG_DONE, NLMSG_ERROR,
+    NLMSG_NOOP, NLMSG_OVERRUN, NetlinkHeader, error_number,
 };
 use std::alloc::Global;
-
-/// `NLM_F_DUMP_INTR` (netlink(7)): the dump was interrupted.
-const NLM_F_DUMP_INTR: u16 = 0x10;
 
 // Returns whether a dump is interrupted after a message with this header.
 #[inline(always)]

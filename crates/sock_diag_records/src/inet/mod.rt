@@ -11,6 +11,9 @@ pub use flags::{
     ExtensionFlags, StateFlags, extension_flags_have_their_numbers, flags_have_their_bits,
     state_flags_have_their_numbers,
 };
-pub use request::{InetRequest, InetRequestBuffer};
+pub use request::{
+    INET_DIAG_REQ_BYTECODE, INET_DIAG_REQ_NONE, INET_DIAG_REQ_PROTOCOL,
+    INET_DIAG_REQ_SK_BPF_STORAGES, InetRequest, InetRequestBuffer,
+};
 pub use response::{InetResponseBuffer, InetResponseHeader, Timer};
 pub use socket_id::{SocketId, SocketIdBuffer};
