@@ -1,7 +1,7 @@
 //! The owned attributes of a reply. A list of up to eight attributes needs no allocation by itself.
 #![tactic(auto, using(crate::proofs::EncodedAttributes::attributes_of_values))]
 
-ghost use Rattle.std.specs.Prelude.{◌≡◌, ◌≤◌, ◌++◌, ◌∷◌, [], length, drop, map, Ok, IfOk, IsOk};
+ghost use Rattle.std.specs.Prelude.{◌≡◌, ◌≤◌, ◌++◌, ◌∷◌, [], length, map, Ok, IfOk, IsOk};
 ghost use Rattle.std.specs.Prelude.{OnOk, OnErr, SomeIff};
 ghost use Rattle.std.specs.List.{AllByRecursion, flat_map};
 ghost use Rattle.netlink_core.specs.Bytes.{HoldsAtStart};

@@ -82,7 +82,8 @@ abbrev pub ValueAt : AttributeSet → ℕ → Type 0
 ValueAt [] k = Attribute
 ValueAt (spec ∷ others) k = cond (spec.number == k) spec.value.Value (ValueAt others k)
 
--- injects into a sum: into the left if `t` is true, else by `later` and into the right
+-- One step of `of_type`, below: `x` is a value of the first type if `t` is true, else a value for
+-- the rest of the set, which `later` makes. The type `cond t A B` is A if `t` is true, else B.
 abbrev pub put : {A B C : Type 0} → (t : Bool) → (B → C) → cond t A B → A ⊎ C
 put true later x = inl x
 put false later x = inr (later x)
@@ -92,8 +93,8 @@ abbrev pub of_type : (F : AttributeSet) → (k : ℕ) → ValueAt F k → Attrib
 of_type [] k a = a
 of_type (spec ∷ others) k x = put (spec.number == k) (of_type others k) x
 
--- projects from a sum: from the left if `t` is true, else from the right and by `later`; `None` if
--- the value is on the other side
+-- One step of `content`, below: the value of the first type if `t` is true, else what `later` finds
+-- in the rest of the set; `None` if the value is on the other side.
 abbrev pub got : {A B C : Type 0} → (t : Bool) → (C → Option B) → A ⊎ C → Option (cond t A B)
 got true later (inl x) = Some x
 got false later (inr v) = later v

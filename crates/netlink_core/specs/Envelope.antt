@@ -12,7 +12,7 @@ use Rattle.netlink_core.specs.declared.message.TheConstants.{NLMSG_NOOP, NLMSG_E
 use Rattle.netlink_core.specs.declared.message.TheConstants.{NLMSG_OVERRUN}
 use Rattle.netlink_core.specs.Table.{Fit}
 use Rattle.netlink_core.specs.Header.{header_bytes, header_fields, header_values}
-use Rattle.netlink_core.specs.Header.{HasHeader, IsEnvelopeFault}
+use Rattle.netlink_core.specs.Header.{HasHeader, IsEnvelopeFault, message_type_in}
 use Rattle.netlink_core.specs.Codec.{Codec}
 
 -- the payload of a message; the raw bytes of a control message are a list
@@ -111,7 +111,7 @@ envelope_codec C = record {
   idle = λ p b c.
       let payload : List ℕ → List ℕ = λ x. take (little_number 4 x - 16) (drop 16 x) in
       (take 16 b ≡ take 16 c)
-      × AreEquivalentPayloads C.idle (little_number 2 (drop 4 b)) (payload b) (payload c);
+      × AreEquivalentPayloads C.idle (message_type_in b) (payload b) (payload c);
   -- an inner message is in normal form, and the header's type is not that of a control message
   is_normal = λ p e. let t = e.header.message_type in
       OfInner (λ m. IsInnerType t × C.is_normal t m) e.payload;

@@ -1,5 +1,5 @@
 -- The header of a netlink message, and the first error of bytes that do not begin with a message.
-use Rattle.std.specs.Prelude.{◌≡◌, ℕ, ◌<◌, ◌≤◌, List, [], ◌∷◌, length}
+use Rattle.std.specs.Prelude.{◌≡◌, ℕ, ◌<◌, ◌≤◌, List, [], ◌∷◌, length, drop}
 use Rattle.byteorder.specs.Endian.{little_number}
 use Rattle.netlink_core.specs.Table.{Field, values_of, bytes_of}
 use Rattle.netlink_core.specs.Rows.{Row, u16, u32, fields_of, numbers_of}
@@ -37,6 +37,10 @@ header_bytes h = bytes_of header_fields (header_values h)
 abbrev pub HasHeader : List ℕ → NetlinkHeader → Type 0
 HasHeader bytes h = (values_of header_fields bytes ≡ header_values h)
     × Fit header_fields (header_values h) × (16 ≤ h.length) × (h.length ≤ length bytes)
+
+-- `nlmsg_type` of the header at the start of the bytes, at offset 4
+abbrev pub message_type_in : List ℕ → ℕ
+message_type_in bytes = little_number 2 (drop 4 bytes)
 
 -- The first error of bytes that do not begin with a message: fewer than 16 bytes; else `nlmsg_len`
 -- is below 16; else `nlmsg_len` is above the number of bytes. The error contains `nlmsg_len`

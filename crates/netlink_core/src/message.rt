@@ -1,11 +1,11 @@
 //! Netlink messages: a header and a payload.
 
-ghost use Rattle.std.specs.Prelude.{◌≡◌, ◌≢◌, ◌≤◌, ◌<◌, ◌++◌, ◌↔◌, length, drop, IfOk, IfErr};
+ghost use Rattle.std.specs.Prelude.{◌≡◌, ◌≢◌, ◌≤◌, ◌<◌, ◌↔◌, length, IfOk, IfErr};
 ghost use Rattle.std.specs.Prelude.{IsTrue, List, ℕ, vec_items, ⊤};
 ghost use Rattle.std.specs.Borrow.{Bor};
-ghost use Rattle.byteorder.specs.Endian.{little_number};
 ghost use Rattle.netlink_core.specs.Bytes.{HoldsAtStart};
 ghost use Rattle.netlink_core.specs.declared.fault.DecodeError.TheVariants.{Memory};
+ghost use Rattle.netlink_core.specs.Header.{message_type_in};
 ghost use Rattle.netlink_core.specs.Envelope.{Payload, Envelope, leading_number, error_number_of};
 ghost use Rattle.netlink_core.specs.Envelope.{PayloadIs, IsInnerType, payload_bytes, payload_type};
 ghost use Rattle.netlink_core.specs.Envelope.{OfInner, finalized, envelope_codec};
@@ -305,14 +305,16 @@ impl<I: NetlinkDeserializable> NetlinkMessage<I> {
     ///
     /// Fails with `EnvelopeCut` if there are fewer than 16 bytes, then with `EnvelopeLengthUnder16`
     /// if the length field is below 16, then with `EnvelopeLengthPast` if it is above the number of
-    /// bytes, then with the error of the inner message. For a message of type `NLMSG_NOOP` the
-    /// payload is dropped, and nothing is allocated.
+    /// bytes, then with the error of the inner message. Fails with `Memory` only if the bytes have a
+    /// message, and its type is not `NLMSG_NOOP`, whose payload is dropped.
     pub fn deserialize(alloc: Global, bytes: &[u8]) -> Result<Self, DecodeError>
+        // The bytes start with this header, and the payload up to the header's length parses by its
+        // type.
         ensures value { IfOk result
             (λ m. (envelope_codec I.codec).reads bytes.now tt (envelope_of I.model m)) }
         ensures fault { IfErr result (λ e. e ≢ Memory
             → (envelope_codec I.codec).refuses bytes.now tt e) }
-        ensures memory { IfErr result (λ e. e ≡ Memory → little_number 2 (drop 4 bytes.now) ≢ 1) }
+        ensures memory { IfErr result (λ e. e ≡ Memory → message_type_in bytes.now ≢ NLMSG_NOOP) }
         // `Memory` only if the bytes have a message.
         ensures wanted { IfErr result (λ e. e ≡ Memory → (m : Envelope I.codec.Value)
             × (envelope_codec I.codec).reads bytes.now tt m) }

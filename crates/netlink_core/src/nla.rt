@@ -1,6 +1,6 @@
 //! Serializing attributes, and the attribute of any kind.
 
-ghost use Rattle.std.specs.Prelude.{◌≡◌, ◌≤◌, ◌<◌, ◌↔◌, replicate, ◌++◌, length, drop, [], map};
+ghost use Rattle.std.specs.Prelude.{◌≡◌, ◌≤◌, ◌<◌, ◌↔◌, replicate, length, [], map};
 ghost use Rattle.std.specs.Prelude.{true, refl, IsTrue, IsOk, IfOk, SomeIff};
 ghost use Rattle.std.specs.List.{flat_map};
 ghost use Rattle.std.proofs.Common.{rules};

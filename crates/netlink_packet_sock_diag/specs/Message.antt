@@ -27,6 +27,10 @@ pub data Message : Type 0 where
 abbrev pub by_kind {ℓ} : {T : Type ℓ} → ((k : MessageKind) → (codec_of k).Value → T) → Message → T
 by_kind tells (message_of kind v) = tells kind v
 
+-- the kind of a message
+abbrev pub kind_of : Message → MessageKind
+kind_of m = by_kind (λ kind v. kind) m
+
 -- the codec of messages; the parameter `t` is the 16-bit message type in the netlink header
 abbrev pub message_codec : Codec ℕ
 message_codec = record {

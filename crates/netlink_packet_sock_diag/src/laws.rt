@@ -37,7 +37,7 @@ ghost use Rattle.sock_diag_replies.specs.InetResponseSpec.{inet_response_spec};
 ghost use Rattle.sock_diag_replies.specs.ViewModel.{view_model};
 ghost use Rattle.netlink_packet_sock_diag.specs.MessageViewModel.{message_view_model};
 ghost use Rattle.netlink_packet_sock_diag.specs.Lossy.{EntryIs};
-ghost use Rattle.netlink_packet_sock_diag.specs.Message.{Message, message_codec, by_kind};
+ghost use Rattle.netlink_packet_sock_diag.specs.Message.{Message, kind_of, message_codec};
 ghost use Rattle.netlink_packet_sock_diag.specs.Message.{netlink_message_codec};
 ghost use Rattle.sock_diag_records.specs.ResponseKind.{MessageKind, inet_request, inet_response};
 ghost use Rattle.sock_diag_records.specs.ResponseKind.{unix_request, unix_response};
@@ -63,15 +63,15 @@ pub fn reply_lengths_are_multiples_of_four()
 /// exactly one of the four tests is true.
 pub fn one_kind()
     ensures { (m : Message) (tests : MessageKind → Bool)
-        → ((kind : MessageKind) → IsTrue (tests kind) ↔ (by_kind (λ kind v. kind) m ≡ kind))
+        → ((kind : MessageKind) → IsTrue (tests kind) ↔ (kind_of m ≡ kind))
         → count_by tests (inet_request ∷ inet_response ∷ unix_request ∷ unix_response ∷ []) ≡ 1 }
 {}
 
 /// Every parsed message is a reply.
 pub fn read_messages_are_replies()
     ensures { (b : List ℕ) (t : ℕ) (m : Message) → message_codec.reads b t m
-        → (by_kind (λ kind v. kind) m ≡ inet_response)
-        ⊎ (by_kind (λ kind v. kind) m ≡ unix_response) }
+        → (kind_of m ≡ inet_response)
+        ⊎ (kind_of m ≡ unix_response) }
 {}
 
 /// A request to close sockets is serialized under the type 21 (`SOCK_DESTROY`), and a message under
@@ -314,8 +314,9 @@ pub fn lossy_dump_keeps_messages()
         → (rest : List ℕ) × IsEnvelopeFault rest fault }
 {}
 
-/// A complete iteration over a datagram yields its items in order: the payload or the error of each
-/// message, and last the error of bytes that are not a message, if there are such bytes.
+/// If an iterator yields exactly `given`, and then `None`, these are the items of the bytes that
+/// were left to it, in order: the payload or the error of each message, and last the error of bytes
+/// that are not a message, if there are such bytes.
 pub fn whole_views_are_the_datagram()
     ensures { (walk : DumpViews) (given : List (Result PayloadView DecodeError))
         → Drains GivesView walk given

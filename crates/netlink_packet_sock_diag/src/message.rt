@@ -3,7 +3,7 @@
 ghost use Rattle.std.specs.Prelude.{◌≡◌, ◌≢◌, ◌<◌, ◌↔◌, ◌⊎◌, true, refl, IsTrue, IfOk, IfErr, IsOk};
 ghost use Rattle.netlink_core.specs.declared.fault.DecodeError.TheVariants.{Memory};
 ghost use Rattle.netlink_core.specs.declared.message.NetlinkPayload.TheVariants.{InnerMessage};
-ghost use Rattle.netlink_packet_sock_diag.specs.Message.{Message, message_codec, by_kind};
+ghost use Rattle.netlink_packet_sock_diag.specs.Message.{Message, kind_of, message_codec};
 ghost use Rattle.sock_diag_records.specs.ResponseKind.{inet_request, inet_response, unix_request};
 ghost use Rattle.sock_diag_records.specs.ResponseKind.{unix_response};
 
@@ -35,7 +35,7 @@ impl SockDiagMessage {
     /// Returns whether the message is a request for IPv4 or IPv6 sockets.
     pub fn is_inet_request(&self) -> bool
         ensures { IsTrue result
-            ↔ (by_kind (λ kind v. kind) (message_model self.now) ≡ inet_request) }
+            ↔ (kind_of (message_model self.now) ≡ inet_request) }
     {
         matches!(self, SockDiagMessage::InetRequest(_))
     }
@@ -43,7 +43,7 @@ impl SockDiagMessage {
     /// Returns whether the message is a reply describing an IPv4 or IPv6 socket.
     pub fn is_inet_response(&self) -> bool
         ensures { IsTrue result
-            ↔ (by_kind (λ kind v. kind) (message_model self.now) ≡ inet_response) }
+            ↔ (kind_of (message_model self.now) ≡ inet_response) }
     {
         matches!(self, SockDiagMessage::InetResponse(_))
     }
@@ -51,7 +51,7 @@ impl SockDiagMessage {
     /// Returns whether the message is a request for UNIX sockets.
     pub fn is_unix_request(&self) -> bool
         ensures { IsTrue result
-            ↔ (by_kind (λ kind v. kind) (message_model self.now) ≡ unix_request) }
+            ↔ (kind_of (message_model self.now) ≡ unix_request) }
     {
         matches!(self, SockDiagMessage::UnixRequest(_))
     }
@@ -59,7 +59,7 @@ impl SockDiagMessage {
     /// Returns whether the message is a reply describing a UNIX socket.
     pub fn is_unix_response(&self) -> bool
         ensures { IsTrue result
-            ↔ (by_kind (λ kind v. kind) (message_model self.now) ≡ unix_response) }
+            ↔ (kind_of (message_model self.now) ≡ unix_response) }
     {
         matches!(self, SockDiagMessage::UnixResponse(_))
     }
@@ -75,8 +75,8 @@ impl SockDiagMessage {
     /// Returns an equal message. Fails only if an allocation fails. Cloning a request never fails.
     pub fn clone(&self, alloc: Global) -> Result<Self, AllocError>
         ensures equal { IfOk result (λ copy. message_model copy ≡ message_model self.now) }
-        ensures spare { let kind = by_kind (λ kind v. kind) (message_model self.now) in
-            (kind ≡ inet_request) ⊎ (kind ≡ unix_request) → IsOk result }
+        ensures of_request { (kind_of (message_model self.now) ≡ inet_request)
+            ⊎ (kind_of (message_model self.now) ≡ unix_request) → IsOk result }
     {
         Ok(match self {
             SockDiagMessage::InetRequest(request) => {
@@ -270,8 +270,8 @@ impl SockDiagDestroy {
     /// `InetRequest` or a `UnixRequest`.
     pub fn clone(&self, alloc: Global) -> Result<Self, AllocError>
         ensures equal { IfOk result (λ copy. message_model copy.0 ≡ message_model self.now.0) }
-        ensures spare { let kind = by_kind (λ kind v. kind) (message_model self.now.0) in
-            (kind ≡ inet_request) ⊎ (kind ≡ unix_request) → IsOk result }
+        ensures of_request { (kind_of (message_model self.now.0) ≡ inet_request)
+            ⊎ (kind_of (message_model self.now.0) ≡ unix_request) → IsOk result }
     {
         Ok(SockDiagDestroy(self.0.clone(alloc)?))
     }

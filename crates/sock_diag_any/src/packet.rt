@@ -1,4 +1,5 @@
-//! Borrowed replies about packet sockets.
+//! Borrowed replies about packet sockets. Each getter decodes the first attribute of its kind, and
+//! returns `None` if the reply has none.
 
 ghost use Rattle.std.specs.Prelude.{◌≡◌, option_map};
 ghost use Rattle.netlink_core.specs.Layout.{read};

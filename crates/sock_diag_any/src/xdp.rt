@@ -1,4 +1,5 @@
-//! Borrowed replies about XDP sockets.
+//! Borrowed replies about XDP sockets. Each getter decodes the first attribute of its kind, and
+//! returns `None` if the reply has none.
 
 ghost use Rattle.std.specs.Prelude.{◌≡◌};
 ghost use Rattle.netlink_core.specs.Layout.{read};
@@ -41,8 +42,8 @@ pub fn info(reply: &XdpResponseView<'_>) -> Result<Option<XdpInfo>, DecodeError>
     }
 }
 
-/// Returns the user id of the socket's owner, `XDP_DIAG_UID`. A length other than 4 is
-/// `WrongLength`.
+/// Returns the user id of the socket's owner: the little-endian `u32` in the first
+/// `XDP_DIAG_UID`, or `None` if the reply has none. A length other than 4 is `WrongLength`.
 pub fn owner(reply: &XdpResponseView<'_>) -> Result<Option<u32>, DecodeError>
     ensures { result ≡ within (exact_number None 4)
         (first_value XDP_DIAG_UID (view_model reply.now).nlas) }
@@ -50,7 +51,8 @@ pub fn owner(reply: &XdpResponseView<'_>) -> Result<Option<u32>, DecodeError>
     reply.number_of(XDP_DIAG_UID)
 }
 
-/// Returns the number of entries of the receive ring, `XDP_DIAG_RX_RING`. A length other than 4 is
+/// Returns the number of entries of the receive ring (`struct xdp_diag_ring`): the little-endian
+/// `u32` in the first `XDP_DIAG_RX_RING`, or `None` if the reply has none. A length other than 4 is
 /// `WrongLength`.
 pub fn receive_ring(reply: &XdpResponseView<'_>) -> Result<Option<u32>, DecodeError>
     ensures { result ≡ within (exact_number None 4)
@@ -59,7 +61,8 @@ pub fn receive_ring(reply: &XdpResponseView<'_>) -> Result<Option<u32>, DecodeEr
     reply.number_of(XDP_DIAG_RX_RING)
 }
 
-/// Returns the number of entries of the transmit ring, `XDP_DIAG_TX_RING`. A length other than 4 is
+/// Returns the number of entries of the transmit ring (`struct xdp_diag_ring`): the little-endian
+/// `u32` in the first `XDP_DIAG_TX_RING`, or `None` if the reply has none. A length other than 4 is
 /// `WrongLength`.
 pub fn send_ring(reply: &XdpResponseView<'_>) -> Result<Option<u32>, DecodeError>
     ensures { result ≡ within (exact_number None 4)

@@ -83,7 +83,7 @@ pub fn copied_name_view<'a>(view: &NameView<'a>) -> Result<NameView<'a>, AllocEr
     view.clone()
 }
 
-/// The clone of borrowed numbers has the same numbers.
+/// Clones borrowed numbers, which never fails and returns the same numbers.
 pub fn copied_numbers_view<'a>(view: &NumbersView<'a>) -> Result<NumbersView<'a>, AllocError>
     ensures ok { IsOk result }
     ensures same { IfOk result (λ copy. numbers_view_model copy ≡ numbers_view_model view.now) }
@@ -91,7 +91,8 @@ pub fn copied_numbers_view<'a>(view: &NumbersView<'a>) -> Result<NumbersView<'a>
     view.clone()
 }
 
-/// The clone of an iterator over numbers has the same numbers left.
+/// Clones an iterator over numbers, which never fails and returns an iterator with the same numbers
+/// left.
 pub fn copied_numbers_walk<'a>(
     walk: &NumbersIterator<'a>,
 ) -> Result<NumbersIterator<'a>, AllocError>
@@ -101,7 +102,8 @@ pub fn copied_numbers_walk<'a>(
     walk.clone()
 }
 
-/// The clone of a borrowed attribute of a reply about a UNIX socket has the same model.
+/// Clones a borrowed attribute of a reply about a UNIX socket, which never fails and returns an
+/// attribute of the same kind with the same value. A raw attribute keeps its type field and bytes.
 pub fn copied_unix_view<'a>(view: &UnixNlaView<'a>) -> Result<UnixNlaView<'a>, AllocError>
     ensures ok { IsOk result }
     ensures same { IfOk result (λ copy. unix_view_model copy ≡ unix_view_model view.now) }
@@ -109,7 +111,9 @@ pub fn copied_unix_view<'a>(view: &UnixNlaView<'a>) -> Result<UnixNlaView<'a>, A
     view.clone()
 }
 
-/// The clone of a borrowed attribute of a reply about an IPv4 or IPv6 socket has the same model.
+/// Clones a borrowed attribute of a reply about an IPv4 or IPv6 socket, which never fails and
+/// returns an attribute of the same kind with the same value. A raw attribute keeps its type field
+/// and bytes.
 pub fn copied_inet_view<'a>(view: &InetNlaView<'a>) -> Result<InetNlaView<'a>, AllocError>
     ensures ok { IsOk result }
     ensures same { IfOk result (λ copy. inet_view_model copy ≡ inet_view_model view.now) }

@@ -1,6 +1,6 @@
 //! Texts that make up the complete value of an attribute.
 
-ghost use Rattle.std.specs.Prelude.{◌≡◌, ◌≤◌, [], ◌∷◌, ◌++◌, length, drop, IsUtf8};
+ghost use Rattle.std.specs.Prelude.{◌≤◌, [], ◌∷◌, ◌++◌, length, IsUtf8};
 ghost use Rattle.netlink_core.specs.Bytes.{HoldsAtStart, IsBytes};
 
 /// Writes the text and a terminating NUL at the start of `buffer`. The bytes after them are

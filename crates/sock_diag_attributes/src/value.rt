@@ -1,6 +1,6 @@
 //! The value of an attribute, whatever its kind.
 
-ghost use Rattle.std.specs.Prelude.{◌≡◌, ◌≤◌, ◌++◌, length, drop};
+ghost use Rattle.std.specs.Prelude.{◌≡◌, ◌≤◌, length};
 ghost use Rattle.sock_diag_attributes.specs.private.Value.{value_bytes, IsValueInRange};
 ghost use Rattle.netlink_core.specs.Bytes.{HoldsAtStart};
 

@@ -1,6 +1,6 @@
 //! Comparing, measuring and serializing replies of every family: a header followed by attributes.
 
-ghost use Rattle.std.specs.Prelude.{◌≡◌, ◌≤◌, ◌↔◌, ◌++◌, length, drop, map, Bool, IsSome, IfSome};
+ghost use Rattle.std.specs.Prelude.{◌≡◌, ◌≤◌, ◌↔◌, length, drop, map, Bool, IsSome, IfSome};
 ghost use Rattle.std.specs.Prelude.{SomeIff};
 ghost use lib.Pointwise.{pointwise};
 ghost use Rattle.attribute_lists.specs.AttributesIn.{HasNoFault, values_in};

@@ -1,6 +1,6 @@
 //! Requests followed by attributes of the caller, such as the bytecode of a filter.
 
-ghost use Rattle.std.specs.Prelude.{◌≡◌, ◌+◌, ◌≤◌, ◌⊎◌, ◌++◌, List, [], length, drop, OnOk, IfErr};
+ghost use Rattle.std.specs.Prelude.{◌≡◌, ◌+◌, ◌≤◌, ◌⊎◌, ◌++◌, List, [], length, OnOk, IfErr};
 ghost use Rattle.netlink_core.specs.Bytes.{HoldsAtStart};
 ghost use Rattle.netlink_core.specs.Attribute.{Attribute, Cut, fill};
 ghost use Rattle.netlink_core.specs.Layout.{bytes};

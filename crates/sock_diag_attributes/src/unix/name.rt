@@ -1,6 +1,6 @@
 //! The name of a UNIX socket.
 
-ghost use Rattle.std.specs.Prelude.{◌≡◌, ◌<◌, ◌≤◌, ◌++◌, length, take, drop, slice_index, IfOk};
+ghost use Rattle.std.specs.Prelude.{◌≡◌, ◌<◌, ◌≤◌, length, take, slice_index, IfOk};
 ghost use Rattle.std.specs.Prelude.{IsOk, MatchOption, MatchResult, Ok, Err, true, refl, vec_items};
 ghost use Rattle.std.specs.Prelude.{⊤};
 ghost use Rattle.netlink_core.specs.Bytes.{HoldsAtStart, IsBytes};
