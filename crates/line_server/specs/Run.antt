@@ -17,9 +17,9 @@ abbrev pub SendsOrFails : Option (List ℕ) → Option (List ℕ) → Type 0 →
 SendsOrFails held held' failed text = (sent more : List ℕ) × (text ≡ sent ++ more)
     × Appends held held' sent × ((more ≡ []) ⊎ failed)
 
--- Given the answer to each line (`answer`), the bytes that are left to read before and after a run (`left`,
--- `left'`), and the bytes that have been written before and after it (`held`, `held'`). They are
--- `None` if they are not known.
+-- Given the answer to each line (`answer`), the bytes that are left to read before and after a run
+-- (`left`, `left'`), and the bytes that have been written before and after it (`held`, `held'`).
+-- The bytes are `None` if they are not known.
 module _ (answer : List ℕ → List ℕ) (left left' held held' : Option (List ℕ)) where
   -- What a run with this result has written, given the complete lines and all lines that it has
   -- read; these include a last line without a line feed. If it succeeds: the answers to all lines.

@@ -305,8 +305,8 @@ impl<I: NetlinkDeserializable> NetlinkMessage<I> {
     ///
     /// Fails with `EnvelopeCut` if there are fewer than 16 bytes, then with `EnvelopeLengthUnder16`
     /// if the length field is below 16, then with `EnvelopeLengthPast` if it is above the number of
-    /// bytes, then with the error of the inner message. Fails with `Memory` only if the bytes have a
-    /// message, and its type is not `NLMSG_NOOP`, whose payload is dropped.
+    /// bytes, then with the error of the inner message. Fails with `Memory` only if the bytes have
+    /// a message, and its type is not `NLMSG_NOOP`, whose payload is dropped.
     pub fn deserialize(alloc: Global, bytes: &[u8]) -> Result<Self, DecodeError>
         // The bytes start with this header, and the payload up to the header's length parses by its
         // type.

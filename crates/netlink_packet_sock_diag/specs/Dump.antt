@@ -40,9 +40,9 @@ module _ {A : Type 0} where
       × AllByRecursion (λ one. end_of one ≡ None) passed × (after ≡ before ++ flat_map kept passed)
       × MatchOption (slice_get later 0) (end ≡ Ok (Reading, None)) (λ item. end_of item ≡ Some end)
 
-  -- `DatagramsDump is before datagrams after end`: each datagram has its list of items (`ItemsAre is`,
-  -- where `is` relates a message to its item), and the concatenation of these lists takes a dump from
-  -- the messages `before` to the messages `after`, with the end `end`
+  -- `DatagramsDump is before datagrams after end`: each datagram has its list of items (`ItemsAre
+  -- is`, where `is` relates a message to its item), and the concatenation of these lists takes a
+  -- dump from the messages `before` to the messages `after`, with the end `end`
   abbrev pub DatagramsDump : (List ℕ → Item A → Type 0) → List A → List (List ℕ) → List A
       → Result Standing DecodeError → Type 0
   DatagramsDump is before datagrams after end = (items : List (List (Item A)))

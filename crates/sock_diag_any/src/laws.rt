@@ -24,9 +24,9 @@ pub fn equal_whole_views<H: FamilyHeader>(v: &WholeView<'_, H>, w: &WholeView<'_
 }
 
 /// Compares two borrowed replies of any family by `==`, which is true if and only if their models
-/// are equal: replies of the same family with equal headers, and equal attributes in the same order.
-/// Two attributes are equal by their decoded values for IPv4, IPv6 and UNIX sockets, and by their
-/// type fields and bytes for the other families.
+/// are equal: replies of the same family with equal headers, and equal attributes in the same
+/// order. Two attributes are equal by their decoded values for IPv4, IPv6 and UNIX sockets, and by
+/// their type fields and bytes for the other families.
 #[tactic(auto, using(crate::proofs::EqualAny::any_equal))]
 pub fn equal_any_views(v: &AnySockDiagView<'_>, w: &AnySockDiagView<'_>) -> bool
     ensures { IsTrue result ↔ (viewed_any v.now ≡ viewed_any w.now) }
