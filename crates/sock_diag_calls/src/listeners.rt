@@ -2,10 +2,12 @@
 
 ghost use Rattle.std.specs.Prelude.{◌≡◌, ◌∷◌, ◌++◌, [], replicate};
 
-use sock_diag_records::unix::{ShowFlags, StateFlags, UnixRequest, UnixRequestBuffer};
+use sock_diag_records::unix::{
+    ShowFlags, StateFlags, UNIX_REQUEST_LEN, UnixRequest, UnixRequestBuffer,
+};
 
 /// The bytes of the request for all UNIX sockets that listen, with their names.
-pub fn listening_sockets() -> [u8; 24]
+pub fn listening_sockets() -> [u8; UNIX_REQUEST_LEN]
     ensures { result ≡ (1 ∷ 0 ∷ 0 ∷ 0 ∷ []) ++ (0 ∷ 4 ∷ 0 ∷ 0 ∷ []) ++ (0 ∷ 0 ∷ 0 ∷ 0 ∷ [])
         ++ (1 ∷ 0 ∷ 0 ∷ 0 ∷ []) ++ replicate 8 255 }
 {

@@ -11,6 +11,6 @@ pub use flags::{
     ExtensionFlags, StateFlags, extension_flags_have_their_numbers, flags_have_their_bits,
     state_flags_have_their_numbers,
 };
-pub use request::{InetRequest, InetRequestBuffer};
-pub use response::{InetResponseBuffer, InetResponseHeader, Timer};
-pub use socket_id::{SocketId, SocketIdBuffer};
+pub use request::{INET_REQUEST_LEN, InetRequest, InetRequestBuffer};
+pub use response::{INET_RESPONSE_HEADER_LEN, InetResponseBuffer, InetResponseHeader, Timer};
+pub use socket_id::{SOCKET_ID_LEN, SocketId, SocketIdBuffer};

@@ -11,6 +11,9 @@ use byteorder::{ByteOrder, LittleEndian};
 use netlink_core::fields::words_at;
 use netlink_core::{DecodeError, Fills, Record, RecordBuffer, RecordName};
 
+/// Size of `struct inet_diag_req_v2` in bytes.
+pub const INET_REQUEST_LEN: usize = 56;
+
 /// The request for IPv4 or IPv6 sockets: `struct inet_diag_req_v2` of sock_diag(7), 56 bytes. The
 /// byte at 3 is not read, and is written 0.
 #[derive(Clone, Debug, Drop, PartialEq, Eq)]
@@ -28,7 +31,7 @@ pub struct InetRequest {
 }
 
 /// The bytes of an [`InetRequest`], in the order that they came, those too that no reader looks at.
-pub type InetRequestBuffer = RecordBuffer<InetRequest, 56>;
+pub type InetRequestBuffer = RecordBuffer<InetRequest, INET_REQUEST_LEN>;
 
 impl Record for InetRequest {
     type Param = ();
@@ -39,12 +42,12 @@ impl Record for InetRequest {
 
     #[tactic(auto, unfolding(crate::specs::InetRequest::inet_request))]
     fn name_and_least() -> (RecordName, usize) {
-        (RecordName::InetRequest, 56)
+        (RecordName::InetRequest, INET_REQUEST_LEN)
     }
 
     #[tactic(auto, unfolding(crate::specs::InetRequest::inet_request))]
     fn size(&self) -> usize {
-        56
+        INET_REQUEST_LEN
     }
 
     /// Reads the first 56 bytes. What follows them is ignored. Fewer are
@@ -85,6 +88,6 @@ impl Record for InetRequest {
     ghost laws = { record_laws inet_request inet_request_sound };
 }
 
-impl Fills<56> for InetRequest {
+impl Fills<INET_REQUEST_LEN> for InetRequest {
     ghost fills = { inet_request_size };
 }

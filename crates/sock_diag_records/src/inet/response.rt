@@ -11,7 +11,7 @@ ghost use Rattle.sock_diag_records.specs.inverse.InetResponse.{timer_of};
 ghost use Rattle.sock_diag_records.specs.Timer.{class_of_byte, timer_data, milliseconds};
 ghost use Rattle.sock_diag_records.specs.laws.InetResponse.{header_sound, header_size};
 
-use super::SocketId;
+use super::{SOCKET_ID_LEN, SocketId};
 use byteorder::{ByteOrder, LittleEndian};
 use netlink_core::fields::words_at;
 use netlink_core::{DecodeError, Exact, Fills, Record, RecordBuffer, RecordName, read_record};
@@ -33,6 +33,9 @@ pub enum Timer {
     /// 4: a closed window will be probed.
     Probe(Duration),
 }
+
+/// Size of `struct inet_diag_msg` in bytes.
+pub const INET_RESPONSE_HEADER_LEN: usize = 72;
 
 /// The header of a reply about an IPv4 or IPv6 socket: `struct inet_diag_msg` of sock_diag(7), 72
 /// bytes.
@@ -62,7 +65,7 @@ pub struct InetResponseHeader {
 
 /// The bytes of an [`InetResponseHeader`], in the order that they came, those too that no reader
 /// looks at.
-pub type InetResponseBuffer = RecordBuffer<InetResponseHeader, 72>;
+pub type InetResponseBuffer = RecordBuffer<InetResponseHeader, INET_RESPONSE_HEADER_LEN>;
 
 impl Exact for Timer {
     ghost exact = { Prim.search rules };
@@ -77,12 +80,12 @@ impl Record for InetResponseHeader {
 
     #[tactic(auto, unfolding(crate::specs::InetResponse::inet_response_header))]
     fn name_and_least() -> (RecordName, usize) {
-        (RecordName::InetResponseHeader, 72)
+        (RecordName::InetResponseHeader, INET_RESPONSE_HEADER_LEN)
     }
 
     #[tactic(auto, unfolding(crate::specs::InetResponse::inet_response_header))]
     fn size(&self) -> usize {
-        72
+        INET_RESPONSE_HEADER_LEN
     }
 
     /// Reads the first 72 bytes. What follows them is ignored. Fewer are
@@ -110,7 +113,7 @@ impl Record for InetResponseHeader {
     fn write_fields(&self, buffer: &mut [u8]) {
         let (timer, retransmits, expires) = timer_words(&self.timer);
         let (start, rest) = buffer.split_at_mut(4);
-        let (socket_id, rest) = rest.split_at_mut(48);
+        let (socket_id, rest) = rest.split_at_mut(SOCKET_ID_LEN);
         start.copy_from_slice(&[self.family, self.state, timer, retransmits]);
         self.socket_id.write_fields(socket_id);
         let words = [
@@ -138,7 +141,7 @@ impl Record for InetResponseHeader {
     ghost laws = { record_laws inet_response_header header_sound };
 }
 
-impl Fills<72> for InetResponseHeader {
+impl Fills<INET_RESPONSE_HEADER_LEN> for InetResponseHeader {
     ghost fills = { header_size };
 }
 

@@ -25,6 +25,9 @@ use netlink_core::{
 };
 use std::net::{IpAddr, Ipv4Addr, Ipv6Addr};
 
+/// Size of `struct inet_diag_sockid` in bytes.
+pub const SOCKET_ID_LEN: usize = 48;
+
 /// The identity of an IPv4 or IPv6 socket: `struct inet_diag_sockid` of sock_diag(7), 48 bytes.
 ///
 /// The family isn't among them, so the reader takes it as a parameter: AF_INET (2) or AF_INET6
@@ -93,7 +96,7 @@ impl SocketId {
 }
 
 /// The bytes of a [`SocketId`], in the order that they came, those too that no reader looks at.
-pub type SocketIdBuffer = RecordBuffer<SocketId, 48>;
+pub type SocketIdBuffer = RecordBuffer<SocketId, SOCKET_ID_LEN>;
 
 // The IPv4 address at an offset.
 fn ipv4_at(bytes: &[u8], offset: usize) -> Ipv4Addr
@@ -143,12 +146,12 @@ impl Record for SocketId {
 
     #[tactic(auto, unfolding(crate::specs::SocketId::socket_id))]
     fn name_and_least() -> (RecordName, usize) {
-        (RecordName::SocketId, 48)
+        (RecordName::SocketId, SOCKET_ID_LEN)
     }
 
     #[tactic(auto, unfolding(crate::specs::SocketId::socket_id))]
     fn size(&self) -> usize {
-        48
+        SOCKET_ID_LEN
     }
 
     /// Reads the first 48 bytes under the family. What follows them is ignored. Fewer are
@@ -218,7 +221,7 @@ impl SocketId {
     }
 }
 
-impl Fills<48> for SocketId {
+impl Fills<SOCKET_ID_LEN> for SocketId {
     ghost fills = { socket_id_size };
 }
 

@@ -13,6 +13,9 @@ use byteorder::{ByteOrder, LittleEndian};
 use netlink_core::fields::{array_at, words_at};
 use netlink_core::{DecodeError, Exact, Fills, Record, RecordBuffer, RecordName, bytes_in_range};
 
+/// Size of `struct unix_diag_req` in bytes.
+pub const UNIX_REQUEST_LEN: usize = 24;
+
 /// The request for UNIX sockets: `struct unix_diag_req` of sock_diag(7), 24 bytes, numbers low byte
 /// first. The bytes at 0 to 3 are not read, and are written AF_UNIX (1), 0, 0, 0.
 #[derive(Clone, Debug, Drop, PartialEq, Eq)]
@@ -30,7 +33,7 @@ pub struct UnixRequest {
 }
 
 /// The bytes of a [`UnixRequest`], in the order that they came, those too that no reader looks at.
-pub type UnixRequestBuffer = RecordBuffer<UnixRequest, 24>;
+pub type UnixRequestBuffer = RecordBuffer<UnixRequest, UNIX_REQUEST_LEN>;
 
 impl Exact for UnixRequest {
     ghost exact = { Prim.search rules };
@@ -42,11 +45,11 @@ impl Record for UnixRequest {
     ghost layout = { unix_request };
 
     fn name_and_least() -> (RecordName, usize) {
-        (RecordName::UnixRequest, 24)
+        (RecordName::UnixRequest, UNIX_REQUEST_LEN)
     }
 
     fn size(&self) -> usize {
-        24
+        UNIX_REQUEST_LEN
     }
 
     /// Reads the first 24 bytes. What follows them is ignored, and fewer are
@@ -82,6 +85,6 @@ impl Record for UnixRequest {
     ghost laws = { record_laws unix_request unix_request_sound };
 }
 
-impl Fills<24> for UnixRequest {
+impl Fills<UNIX_REQUEST_LEN> for UnixRequest {
     ghost fills = { (refl, λ _. refl) };
 }

@@ -14,6 +14,9 @@ use netlink_core::{
     DecodeError, Exact, Fills, Record, RecordBuffer, RecordName, bytes_in_range, read_record,
 };
 
+/// Size of `struct unix_diag_msg` in bytes.
+pub const UNIX_RESPONSE_HEADER_LEN: usize = 16;
+
 /// The header of a reply about a UNIX socket: `struct unix_diag_msg` of sock_diag(7), 16 bytes. The
 /// bytes at 0 and 3 are not read, and are written AF_UNIX (1) and 0.
 #[derive(Clone, Debug, Drop, PartialEq, Eq)]
@@ -31,7 +34,7 @@ pub struct UnixResponseHeader {
 
 /// The bytes of a [`UnixResponseHeader`], in the order that they came, those too that no reader
 /// looks at.
-pub type UnixResponseBuffer = RecordBuffer<UnixResponseHeader, 16>;
+pub type UnixResponseBuffer = RecordBuffer<UnixResponseHeader, UNIX_RESPONSE_HEADER_LEN>;
 
 impl Exact for UnixResponseHeader {
     ghost exact = { Prim.search rules };
@@ -43,11 +46,11 @@ impl Record for UnixResponseHeader {
     ghost layout = { unix_response_header };
 
     fn name_and_least() -> (RecordName, usize) {
-        (RecordName::UnixResponseHeader, 16)
+        (RecordName::UnixResponseHeader, UNIX_RESPONSE_HEADER_LEN)
     }
 
     fn size(&self) -> usize {
-        16
+        UNIX_RESPONSE_HEADER_LEN
     }
 
     /// Reads the first 16 bytes. What follows them is ignored, and fewer are
@@ -88,6 +91,6 @@ impl UnixResponseHeader {
     }
 }
 
-impl Fills<16> for UnixResponseHeader {
+impl Fills<UNIX_RESPONSE_HEADER_LEN> for UnixResponseHeader {
     ghost fills = { (refl, λ _. refl) };
 }

@@ -10,6 +10,9 @@ use byteorder::{ByteOrder, LittleEndian};
 use netlink_core::fields::words_at;
 use netlink_core::{DecodeError, Exact, Fills, Record, RecordBuffer, RecordName, read_record};
 
+/// Size of `struct inet_diag_meminfo` in bytes.
+pub const LEGACY_MEM_INFO_LEN: usize = 16;
+
 /// The memory of a socket, as the attribute `INET_DIAG_MEMINFO` tells it: `struct
 /// inet_diag_meminfo` of sock_diag(7). It is 16 bytes, each word a `u32`, low byte first. Newer
 /// kernels tell of memory by [`MemInfo`](super::MemInfo).
@@ -26,7 +29,7 @@ pub struct LegacyMemInfo {
 }
 
 /// The bytes of a [`LegacyMemInfo`], each one that was read, in the order that they came.
-pub type LegacyMemInfoBuffer = RecordBuffer<LegacyMemInfo, 16>;
+pub type LegacyMemInfoBuffer = RecordBuffer<LegacyMemInfo, LEGACY_MEM_INFO_LEN>;
 
 impl Exact for LegacyMemInfo {
     ghost exact = { Prim.search rules };
@@ -38,11 +41,11 @@ impl Record for LegacyMemInfo {
     ghost layout = { legacy_mem_info };
 
     fn name_and_least() -> (RecordName, usize) {
-        (RecordName::LegacyMemInfo, 16)
+        (RecordName::LegacyMemInfo, LEGACY_MEM_INFO_LEN)
     }
 
     fn size(&self) -> usize {
-        16
+        LEGACY_MEM_INFO_LEN
     }
 
     fn from_fields(payload: &[u8], _param: ()) -> Result<Self, DecodeError> {
@@ -80,7 +83,7 @@ impl Record for LegacyMemInfo {
         (λ _ _. refl)) };
 }
 
-impl Fills<16> for LegacyMemInfo {
+impl Fills<LEGACY_MEM_INFO_LEN> for LegacyMemInfo {
     ghost fills = { (refl, λ _. refl) };
 }
 

@@ -17,6 +17,15 @@ use byteorder::{ByteOrder, LittleEndian};
 use netlink_core::fields::words_at;
 use netlink_core::{DecodeError, Exact, Record, RecordName, read_record, word_in_range};
 
+/// Size of the attribute `INET_DIAG_SKMEMINFO` in bytes, with all nine words.
+pub const MEM_INFO_LEN: usize = 36;
+
+/// Size in bytes of the attribute without drops: eight words.
+pub const MEM_INFO_EIGHT_LEN: usize = 32;
+
+/// Size in bytes of the attribute without backlog and drops: seven words, the fewest that are read.
+pub const MEM_INFO_SEVEN_LEN: usize = 28;
+
 /// The memory of a socket, as the attribute `INET_DIAG_SKMEMINFO` tells it: the nine words
 /// `SK_MEMINFO_..` of `linux/sock_diag.h`. It is 36 bytes, each word a `u32`, low byte first. Older
 /// kernels tell seven words, 28 bytes, or eight, 32 bytes.
@@ -56,11 +65,11 @@ pub struct MemInfoBuffer {
 #[derive(Clone, Copy, Debug, PartialEq, Eq)]
 pub enum MemInfoBytes {
     /// Neither backlog nor drops.
-    Seven([u8; 28]),
+    Seven([u8; MEM_INFO_SEVEN_LEN]),
     /// No drops.
-    Eight([u8; 32]),
+    Eight([u8; MEM_INFO_EIGHT_LEN]),
     /// All words.
-    Nine([u8; 36]),
+    Nine([u8; MEM_INFO_LEN]),
 }
 
 impl Exact for MemInfo {
@@ -83,14 +92,14 @@ impl Record for MemInfo {
     ghost layout = { mem_info };
 
     fn name_and_least() -> (RecordName, usize) {
-        (RecordName::MemInfo, 28)
+        (RecordName::MemInfo, MEM_INFO_SEVEN_LEN)
     }
 
     fn size(&self) -> usize {
         match (self.backlog_queue_length, self.drops) {
-            (_, Some(_)) => 36,
-            (Some(_), None) => 32,
-            (None, None) => 28,
+            (_, Some(_)) => MEM_INFO_LEN,
+            (Some(_), None) => MEM_INFO_EIGHT_LEN,
+            (None, None) => MEM_INFO_SEVEN_LEN,
         }
     }
 
@@ -118,7 +127,7 @@ impl Record for MemInfo {
     }
 
     fn write_fields(&self, buffer: &mut [u8]) {
-        let (words, rest) = buffer.split_at_mut(28);
+        let (words, rest) = buffer.split_at_mut(MEM_INFO_SEVEN_LEN);
         LittleEndian::write_u32_into(
             &[
                 self.receive_queue,

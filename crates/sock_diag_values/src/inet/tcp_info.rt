@@ -20,6 +20,9 @@ use netlink_core::{
 };
 use std::alloc::AllocError;
 
+/// Size in bytes of the part of `struct tcp_info` that [`TcpInfo`] has.
+pub const TCP_INFO_LEN: usize = 232;
+
 /// A TCP connection, as the attribute `INET_DIAG_INFO` tells it: `struct tcp_info` of
 /// `linux/tcp.h`, 232 bytes, numbers of 8, 32 and 64 bits, low byte first.
 #[derive(Debug, Drop, PartialEq, Eq)]
@@ -145,7 +148,7 @@ pub struct TcpInfo {
 }
 
 /// The bytes of a [`TcpInfo`], in the order that they came.
-pub type TcpInfoBuffer = RecordBuffer<TcpInfo, 232>;
+pub type TcpInfoBuffer = RecordBuffer<TcpInfo, TCP_INFO_LEN>;
 
 // By hand: a derived one has a branch for each number that is copied, and takes a minute to prove.
 impl Clone for TcpInfo {
@@ -169,12 +172,12 @@ impl Record for TcpInfo {
 
     #[tactic(auto, unfolding(crate::specs::TcpInfo::tcp_info))]
     fn name_and_least() -> (RecordName, usize) {
-        (RecordName::TcpInfo, 232)
+        (RecordName::TcpInfo, TCP_INFO_LEN)
     }
 
     #[tactic(auto, unfolding(crate::specs::TcpInfo::tcp_info))]
     fn size(&self) -> usize {
-        232
+        TCP_INFO_LEN
     }
 
     #[tactic(auto, unfolding(crate::specs::TcpInfo::tcp_info))]
@@ -274,7 +277,7 @@ impl Record for TcpInfo {
     ghost laws = { record_laws tcp_info tcp_info_sound };
 }
 
-impl Fills<232> for TcpInfo {
+impl Fills<TCP_INFO_LEN> for TcpInfo {
     ghost use Rattle.sock_diag_values.specs.laws.TcpInfo.{tcp_info_long};
 
     ghost fills = { tcp_info_long };

@@ -10,6 +10,9 @@ use byteorder::{ByteOrder, LittleEndian};
 use netlink_core::fields::words_at;
 use netlink_core::{DecodeError, Exact, Fills, Record, RecordBuffer, RecordName, read_record};
 
+/// Size of the attribute `UNIX_DIAG_MEMINFO` in bytes.
+pub const MEM_INFO_LEN: usize = 36;
+
 /// The memory of a UNIX socket, as the attribute `UNIX_DIAG_MEMINFO` tells it: the nine words
 /// `SK_MEMINFO_..` of `linux/sock_diag.h`, 36 bytes, each a `u32`, low byte first.
 ///
@@ -29,7 +32,7 @@ pub struct MemInfo {
 }
 
 /// The bytes of a [`MemInfo`], each one that was read, in the words that no reader looks at too.
-pub type MemInfoBuffer = RecordBuffer<MemInfo, 36>;
+pub type MemInfoBuffer = RecordBuffer<MemInfo, MEM_INFO_LEN>;
 
 impl Exact for MemInfo {
     ghost exact = { Prim.search rules };
@@ -41,11 +44,11 @@ impl Record for MemInfo {
     ghost layout = { unix_mem_info };
 
     fn name_and_least() -> (RecordName, usize) {
-        (RecordName::UnixMemInfo, 36)
+        (RecordName::UnixMemInfo, MEM_INFO_LEN)
     }
 
     fn size(&self) -> usize {
-        36
+        MEM_INFO_LEN
     }
 
     fn from_fields(payload: &[u8], _param: ()) -> Result<Self, DecodeError> {
@@ -84,7 +87,7 @@ impl Record for MemInfo {
         (λ _ _. refl)) };
 }
 
-impl Fills<36> for MemInfo {
+impl Fills<MEM_INFO_LEN> for MemInfo {
     ghost fills = { (refl, λ _. refl) };
 }
 

@@ -10,6 +10,9 @@ use byteorder::{ByteOrder, LittleEndian};
 use netlink_core::fields::words_at;
 use netlink_core::{DecodeError, Exact, Fills, Record, RecordBuffer, RecordName, read_record};
 
+/// Size of `struct unix_diag_vfs` in bytes.
+pub const VFS_LEN: usize = 8;
+
 /// The file that a UNIX socket is bound to, as the attribute `UNIX_DIAG_VFS` tells it: `struct
 /// unix_diag_vfs` of sock_diag(7). It is 8 bytes: the inode at 0 and the device at 4, each a `u32`,
 /// low byte first.
@@ -22,7 +25,7 @@ pub struct Vfs {
 }
 
 /// The bytes of a [`Vfs`], each one that was read, in the order that they came.
-pub type VfsBuffer = RecordBuffer<Vfs, 8>;
+pub type VfsBuffer = RecordBuffer<Vfs, VFS_LEN>;
 
 impl Exact for Vfs {
     ghost exact = { Prim.search rules };
@@ -34,11 +37,11 @@ impl Record for Vfs {
     ghost layout = { vfs };
 
     fn name_and_least() -> (RecordName, usize) {
-        (RecordName::Vfs, 8)
+        (RecordName::Vfs, VFS_LEN)
     }
 
     fn size(&self) -> usize {
-        8
+        VFS_LEN
     }
 
     fn from_fields(payload: &[u8], _param: ()) -> Result<Self, DecodeError> {
@@ -58,7 +61,7 @@ impl Record for Vfs {
         (λ _ _. refl)) };
 }
 
-impl Fills<8> for Vfs {
+impl Fills<VFS_LEN> for Vfs {
     ghost fills = { (refl, λ _. refl) };
 }
 
