@@ -9,6 +9,9 @@ use byteorder::{ByteOrder, LittleEndian};
 use netlink_core::fields::{long_words_at, words_at};
 use netlink_core::{DecodeError, Exact, Record, RecordName};
 
+/// Size of `struct netlink_diag_req`, `packet_diag_req` and `xdp_diag_req` in bytes.
+pub const SHOW_REQUEST_LEN: usize = 20;
+
 /// A request for the sockets of the family: 20 bytes, numbers low byte first. The byte at 0 is not
 /// read, and is written the family; those at 2 and 3 are not read, and are written 0.
 #[derive(Clone, Copy, Debug, PartialEq, Eq)]
@@ -33,11 +36,14 @@ impl<const FAMILY: u8> Record for ShowRequest<FAMILY> {
     ghost layout = { show_request FAMILY };
 
     fn name_and_least() -> (RecordName, usize) {
-        (RecordName::FamilyRequest { family: FAMILY }, 20)
+        (
+            RecordName::FamilyRequest { family: FAMILY },
+            SHOW_REQUEST_LEN,
+        )
     }
 
     fn size(&self) -> usize {
-        20
+        SHOW_REQUEST_LEN
     }
 
     /// Reads the first 20 bytes. What follows them is ignored, and fewer are

@@ -10,6 +10,9 @@ use netlink_core::fields::{long_words_at, words_at};
 use netlink_core::{DecodeError, Exact, Record, RecordName};
 use sock_diag_records::constants::AF_NETLINK;
 
+/// Size of `struct netlink_diag_msg` in bytes.
+pub const NETLINK_RESPONSE_HEADER_LEN: usize = 28;
+
 /// The header of a reply about a netlink socket: `struct netlink_diag_msg`, 28 bytes, numbers low
 /// byte first. The byte at 0 is not read, and is written AF_NETLINK (16).
 #[repr(C)]
@@ -43,11 +46,14 @@ impl Record for NetlinkResponseHeader {
     ghost layout = { netlink_header };
 
     fn name_and_least() -> (RecordName, usize) {
-        (RecordName::FamilyResponseHeader { family: AF_NETLINK }, 28)
+        (
+            RecordName::FamilyResponseHeader { family: AF_NETLINK },
+            NETLINK_RESPONSE_HEADER_LEN,
+        )
     }
 
     fn size(&self) -> usize {
-        28
+        NETLINK_RESPONSE_HEADER_LEN
     }
 
     /// Reads the first 28 bytes. What follows them is ignored, and fewer are

@@ -10,6 +10,9 @@ use netlink_core::fields::{long_words_at, words_at};
 use netlink_core::{DecodeError, Exact, Record, RecordName};
 use sock_diag_records::constants::AF_PACKET;
 
+/// Size of `struct packet_diag_msg` in bytes.
+pub const PACKET_RESPONSE_HEADER_LEN: usize = 16;
+
 /// The header of a reply about a packet socket: `struct packet_diag_msg`, 16 bytes, numbers low
 /// byte first. The byte at 0 is not read, and is written AF_PACKET (17).
 #[repr(C)]
@@ -35,11 +38,14 @@ impl Record for PacketResponseHeader {
     ghost layout = { packet_header };
 
     fn name_and_least() -> (RecordName, usize) {
-        (RecordName::FamilyResponseHeader { family: AF_PACKET }, 16)
+        (
+            RecordName::FamilyResponseHeader { family: AF_PACKET },
+            PACKET_RESPONSE_HEADER_LEN,
+        )
     }
 
     fn size(&self) -> usize {
-        16
+        PACKET_RESPONSE_HEADER_LEN
     }
 
     /// Reads the first 16 bytes. What follows them is ignored, and fewer are

@@ -10,6 +10,9 @@ use byteorder::{ByteOrder, LittleEndian};
 use netlink_core::fields::{long_words_at, words_at};
 use netlink_core::{DecodeError, Exact, Record, RecordName};
 
+/// Size of `struct vsock_diag_req` in bytes.
+pub const VSOCK_REQUEST_LEN: usize = 24;
+
 /// The request for vsock sockets: `struct vsock_diag_req`, 24 bytes, numbers low byte first. The
 /// bytes at 0 to 3 and 8 to 15 are not read; they are written AF_VSOCK (40) and zeros, as the
 /// kernel asks. It lists sockets alone: none is asked for by itself.
@@ -32,11 +35,14 @@ impl Record for VsockRequest {
     ghost layout = { vsock_request };
 
     fn name_and_least() -> (RecordName, usize) {
-        (RecordName::FamilyRequest { family: AF_VSOCK }, 24)
+        (
+            RecordName::FamilyRequest { family: AF_VSOCK },
+            VSOCK_REQUEST_LEN,
+        )
     }
 
     fn size(&self) -> usize {
-        24
+        VSOCK_REQUEST_LEN
     }
 
     /// Reads the first 24 bytes. What follows them is ignored, and fewer are

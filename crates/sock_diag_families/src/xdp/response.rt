@@ -10,6 +10,9 @@ use byteorder::{ByteOrder, LittleEndian};
 use netlink_core::fields::{long_words_at, words_at};
 use netlink_core::{DecodeError, Exact, Record, RecordName};
 
+/// Size of `struct xdp_diag_msg` in bytes.
+pub const XDP_RESPONSE_HEADER_LEN: usize = 16;
+
 /// The header of a reply about an XDP socket: `struct xdp_diag_msg`, 16 bytes, numbers low
 /// byte first. The bytes at 0, 2 and 3 are not read, and are written AF_XDP (44) and zeros.
 #[repr(C)]
@@ -33,11 +36,14 @@ impl Record for XdpResponseHeader {
     ghost layout = { xdp_header };
 
     fn name_and_least() -> (RecordName, usize) {
-        (RecordName::FamilyResponseHeader { family: AF_XDP }, 16)
+        (
+            RecordName::FamilyResponseHeader { family: AF_XDP },
+            XDP_RESPONSE_HEADER_LEN,
+        )
     }
 
     fn size(&self) -> usize {
-        16
+        XDP_RESPONSE_HEADER_LEN
     }
 
     /// Reads the first 16 bytes. What follows them is ignored, and fewer are
