@@ -9,7 +9,7 @@ use byteorder::{ByteOrder, LittleEndian};
 use netlink_core::{
     Emitable, NETLINK_HEADER_LEN, NetlinkHeader, Nla, emit_nlas, nlas_len, nlas_len_within,
 };
-use sock_diag_records::inet::InetRequest;
+use sock_diag_records::inet::{INET_REQUEST_LEN, InetRequest};
 
 /// The kind of the attribute that carries a filter's program.
 pub const INET_DIAG_REQ_BYTECODE: u16 = 1;
@@ -19,7 +19,7 @@ pub const INET_DIAG_REQ_PROTOCOL: u16 = 3;
 
 /// How many bytes stand in front of the attributes: the netlink header and
 /// `struct inet_diag_req_v2`.
-pub const REQUEST_FRONT: usize = 72;
+pub const REQUEST_FRONT: usize = NETLINK_HEADER_LEN + INET_REQUEST_LEN;
 
 // How many bytes the attributes may have, so that the header's length counts the whole.
 const MOST_ATTRIBUTES: usize = 4294967223;
