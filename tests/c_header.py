@@ -68,8 +68,16 @@ PLAIN.update({f"u{bits}": f"uint{bits}_t" for bits in (8, 16, 32, 64)})
 # Byte arrays that the header declares as a struct: by the type of the parameter, the struct, and the
 # record of another crate that has its fields.
 DECLARED_AS = {
-    "&mut [u8; 232]": ("sockdiag_tcp_info", "TcpInfo", "sock_diag_values/src/inet/tcp_info.rt"),
-    "&mut [u8; 36]": ("sockdiag_inet_memory", "MemInfo", "sock_diag_values/src/inet/mem_info.rt"),
+    "&mut [u8; TCP_INFO_LEN]": (
+        "sockdiag_tcp_info",
+        "TcpInfo",
+        "sock_diag_values/src/inet/tcp_info.rt",
+    ),
+    "&mut [u8; MEM_INFO_LEN]": (
+        "sockdiag_inet_memory",
+        "MemInfo",
+        "sock_diag_values/src/inet/mem_info.rt",
+    ),
 }
 # Records of FAMILIES that the C API uses, by their names in Rattle.
 SHARED = {

@@ -7,9 +7,8 @@ ghost use Rattle.sockdiag_c.specs.TcpInfo.{StandIn, filled, value_of};
 
 use netlink_core::NlasIterator;
 use netlink_packet_sock_diag::constants::{INET_DIAG_INFO, INET_DIAG_SKMEMINFO};
-
-/// How many bytes stand in front of the attributes of a reply about an IPv4 or IPv6 socket.
-const ATTRIBUTES: usize = 72;
+use netlink_packet_sock_diag::inet::INET_RESPONSE_HEADER_LEN;
+use netlink_packet_sock_diag::inet::nlas::{MEM_INFO_LEN, TCP_INFO_LEN};
 
 /// Tells what is known of the TCP connection, the bytes of the first `INET_DIAG_INFO` behind the
 /// header of the payload, and zeros behind them. What has more bytes is cut. The answer is how many
@@ -18,7 +17,7 @@ const ATTRIBUTES: usize = 72;
 /// The values are not checked, so that a value is told too that is shorter than this kernel's.
 /// Behind a fault of the framing nothing is looked for.
 #[unsafe(no_mangle)]
-pub extern "C" fn sockdiag_inet_get_tcp_info(payload: &[u8], info: &mut [u8; 232]) -> usize
+pub extern "C" fn sockdiag_inet_get_tcp_info(payload: &[u8], info: &mut [u8; TCP_INFO_LEN]) -> usize
     ensures { (attributes : List Attribute) → StandIn (drop 72 payload.now) attributes
         → let value = unwrap_or (first_of (value_of 2) attributes) [] in
         (result ≡ length value) × (info.new ≡ filled 232 value) }
@@ -31,7 +30,7 @@ pub extern "C" fn sockdiag_inet_get_tcp_info(payload: &[u8], info: &mut [u8; 232
 /// The same of the memory, of the first `INET_DIAG_SKMEMINFO`: nine words `SK_MEMINFO_..`, of which
 /// older kernels tell seven or eight.
 #[unsafe(no_mangle)]
-pub extern "C" fn sockdiag_inet_get_memory(payload: &[u8], memory: &mut [u8; 36]) -> usize
+pub extern "C" fn sockdiag_inet_get_memory(payload: &[u8], memory: &mut [u8; MEM_INFO_LEN]) -> usize
     ensures { (attributes : List Attribute) → StandIn (drop 72 payload.now) attributes
         → let value = unwrap_or (first_of (value_of 7) attributes) [] in
         (result ≡ length value) × (memory.new ≡ filled 36 value) }
@@ -45,10 +44,10 @@ pub extern "C" fn sockdiag_inet_get_memory(payload: &[u8], memory: &mut [u8; 36]
 fn behind_header(payload: &[u8]) -> &[u8]
     ensures { result.now ≡ drop 72 payload.entry.now }
 {
-    if payload.len() < ATTRIBUTES {
+    if payload.len() < INET_RESPONSE_HEADER_LEN {
         return &[];
     }
-    &payload[ATTRIBUTES..]
+    &payload[INET_RESPONSE_HEADER_LEN..]
 }
 
 // The first value of the kind, or no bytes where there is none.
