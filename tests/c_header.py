@@ -25,10 +25,9 @@ TOP = Path(__file__).resolve().parent.parent
 HEADER = TOP / "include" / "sockdiag.h"
 RUST = TOP / "rust" / "sockdiag"
 FAMILIES = "sock_diag_families/src"
-# Patterns of code with a number: a constant; the size of a record; the size of the message that a
-# function writes, by its contract; and the attribute that `write_inet` adds to it.
+# Patterns of code with a number: a constant; the size of the message that a function writes, by its
+# contract; and the attribute that `write_inet` adds to it.
 CONSTANT = r"const {}: \w+ = (\d+);"
-SIZE = r"fn size\(&self\) -> usize \{\s*(\d+)\s*\}"
 WRITTEN = r"fn {}\((?:(?!\bfn ).)*?\bWritesWhole \(?(\d+)\b"
 ATTRIBUTE = r"(?:(?!\bfn ).)*?\blet mut attribute = \[(\d+), 0, PROTOCOL,"
 REQUESTS, FAMILY_REQUESTS = "sockdiag_c/src/requests.rt", "sockdiag_c/src/family_requests.rt"
@@ -42,16 +41,25 @@ NUMBERS = {
     "SOCKDIAG_ABSTRACT": ("sockdiag_c/src/details.rt", CONSTANT.format("ABSTRACT")),
     "SOCKDIAG_BYTES": ("sockdiag_c/src/details.rt", CONSTANT.format("BYTES")),
     "SOCKDIAG_UNIX_ATTRIBUTES": (
-        "sock_diag_replies/src/unix/reply.rt",
-        CONSTANT.format("LENGTH"),
+        "sock_diag_records/src/unix/response.rt",
+        CONSTANT.format("UNIX_RESPONSE_HEADER_LEN"),
     ),
     "SOCKDIAG_INET_ATTRIBUTES": (
-        "sock_diag_replies/src/inet/reply.rt",
-        CONSTANT.format("LENGTH"),
+        "sock_diag_records/src/inet/response.rt",
+        CONSTANT.format("INET_RESPONSE_HEADER_LEN"),
     ),
-    "SOCKDIAG_NETLINK_ATTRIBUTES": (f"{FAMILIES}/netlink/response.rt", SIZE),
-    "SOCKDIAG_PACKET_ATTRIBUTES": (f"{FAMILIES}/packet/response.rt", SIZE),
-    "SOCKDIAG_XDP_ATTRIBUTES": (f"{FAMILIES}/xdp/response.rt", SIZE),
+    "SOCKDIAG_NETLINK_ATTRIBUTES": (
+        f"{FAMILIES}/netlink/response.rt",
+        CONSTANT.format("NETLINK_RESPONSE_HEADER_LEN"),
+    ),
+    "SOCKDIAG_PACKET_ATTRIBUTES": (
+        f"{FAMILIES}/packet/response.rt",
+        CONSTANT.format("PACKET_RESPONSE_HEADER_LEN"),
+    ),
+    "SOCKDIAG_XDP_ATTRIBUTES": (
+        f"{FAMILIES}/xdp/response.rt",
+        CONSTANT.format("XDP_RESPONSE_HEADER_LEN"),
+    ),
     "SOCKDIAG_UNIX": ("sockdiag_c/src/headers.rt", CONSTANT.format("UNIX")),
     "SOCKDIAG_INET": ("sockdiag_c/src/headers.rt", CONSTANT.format("INET")),
     "SOCKDIAG_UNIX_REQUEST_LENGTH": (REQUESTS, WRITTEN.format("sockdiag_write_unix_request")),
@@ -72,8 +80,16 @@ PLAIN.update({f"u{bits}": f"uint{bits}_t" for bits in (8, 16, 32, 64)})
 # Byte arrays that the header declares as a struct: by the type of the parameter, the struct, and
 # the record of another crate that has its fields.
 DECLARED_AS = {
-    "&mut [u8; 232]": ("sockdiag_tcp_info", "TcpInfo", "sock_diag_values/src/inet/tcp_info.rt"),
-    "&mut [u8; 36]": ("sockdiag_inet_memory", "MemInfo", "sock_diag_values/src/inet/mem_info.rt"),
+    "&mut [u8; TCP_INFO_LEN]": (
+        "sockdiag_tcp_info",
+        "TcpInfo",
+        "sock_diag_values/src/inet/tcp_info.rt",
+    ),
+    "&mut [u8; MEM_INFO_LEN]": (
+        "sockdiag_inet_memory",
+        "MemInfo",
+        "sock_diag_values/src/inet/mem_info.rt",
+    ),
 }
 # Records of FAMILIES that the C API uses, by their names in Rattle.
 SHARED = {

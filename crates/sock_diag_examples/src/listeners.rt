@@ -2,10 +2,12 @@
 
 ghost use Rattle.std.specs.Prelude.{◌≡◌, ◌∷◌, ◌++◌, [], replicate};
 
-use sock_diag_records::unix::{ShowFlags, StateFlags, UnixRequest, UnixRequestBuffer};
+use sock_diag_records::unix::{
+    ShowFlags, StateFlags, UNIX_REQUEST_LEN, UnixRequest, UnixRequestBuffer,
+};
 
 /// Returns the request for the names of all listening UNIX sockets, without a netlink header.
-pub fn listening_sockets() -> [u8; 24]
+pub fn listening_sockets() -> [u8; UNIX_REQUEST_LEN]
     ensures { result ≡ (1 ∷ 0 ∷ 0 ∷ 0 ∷ []) ++ (0 ∷ 4 ∷ 0 ∷ 0 ∷ []) ++ (0 ∷ 0 ∷ 0 ∷ 0 ∷ [])
         ++ (1 ∷ 0 ∷ 0 ∷ 0 ∷ []) ++ replicate 8 255 }
 {

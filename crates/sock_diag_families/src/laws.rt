@@ -2,27 +2,35 @@
 //!
 //! Proof only: the contract of each function states the property.
 
-ghost use Rattle.std.specs.Prelude.{◌≡◌, ◌↔◌, [], ◌∷◌, IfOk, IsOk, IsTrue};
+ghost use Rattle.std.specs.Prelude.{◌≡◌, ◌↔◌, ℕ, [], ◌∷◌, IfOk, IsOk, IsTrue};
 ghost use Rattle.netlink_core.specs.Walk.{attribute_of};
+ghost use Rattle.sock_diag_families.specs.NetlinkResponseHeader.{netlink_header};
+ghost use Rattle.sock_diag_families.specs.PacketResponseHeader.{packet_header};
+ghost use Rattle.sock_diag_families.specs.ShowRequest.{show_request};
+ghost use Rattle.sock_diag_families.specs.VsockRequest.{vsock_request};
+ghost use Rattle.sock_diag_families.specs.VsockResponseHeader.{vsock_header};
+ghost use Rattle.sock_diag_families.specs.XdpResponseHeader.{xdp_header};
 ghost use Rattle.sock_diag_records.specs.Constants.{AreEqual};
 
-use crate::WholeNla;
 use crate::netlink::{
     NDIAG_PROTO_ALL, NDIAG_SHOW_FLAGS, NDIAG_SHOW_GROUPS, NDIAG_SHOW_MEMINFO, NETLINK_DIAG_FLAGS,
     NETLINK_DIAG_GROUPS, NETLINK_DIAG_MEMINFO, NETLINK_DIAG_RX_RING, NETLINK_DIAG_TX_RING,
+    NETLINK_RESPONSE_HEADER_LEN,
 };
 use crate::packet::{
     PACKET_DIAG_FANOUT, PACKET_DIAG_FILTER, PACKET_DIAG_INFO, PACKET_DIAG_MCLIST,
     PACKET_DIAG_MEMINFO, PACKET_DIAG_RX_RING, PACKET_DIAG_TX_RING, PACKET_DIAG_UID,
-    PACKET_SHOW_FANOUT, PACKET_SHOW_FILTER, PACKET_SHOW_INFO, PACKET_SHOW_MCLIST,
-    PACKET_SHOW_MEMINFO, PACKET_SHOW_RING_CFG,
+    PACKET_RESPONSE_HEADER_LEN, PACKET_SHOW_FANOUT, PACKET_SHOW_FILTER, PACKET_SHOW_INFO,
+    PACKET_SHOW_MCLIST, PACKET_SHOW_MEMINFO, PACKET_SHOW_RING_CFG,
 };
-use crate::vsock::AF_VSOCK;
+use crate::vsock::{AF_VSOCK, VSOCK_REQUEST_LEN, VSOCK_RESPONSE_HEADER_LEN};
 use crate::xdp::{
     AF_XDP, XDP_DIAG_INFO, XDP_DIAG_MEMINFO, XDP_DIAG_RX_RING, XDP_DIAG_STATS, XDP_DIAG_TX_RING,
     XDP_DIAG_UID, XDP_DIAG_UMEM, XDP_DIAG_UMEM_COMPLETION_RING, XDP_DIAG_UMEM_FILL_RING,
-    XDP_SHOW_INFO, XDP_SHOW_MEMINFO, XDP_SHOW_RING_CFG, XDP_SHOW_STATS, XDP_SHOW_UMEM,
+    XDP_RESPONSE_HEADER_LEN, XDP_SHOW_INFO, XDP_SHOW_MEMINFO, XDP_SHOW_RING_CFG, XDP_SHOW_STATS,
+    XDP_SHOW_UMEM,
 };
+use crate::{SHOW_REQUEST_LEN, WholeNla};
 use std::alloc::AllocError;
 
 /// States that `==` of two attributes returns true if and only if they have the same type field and
@@ -42,7 +50,7 @@ pub fn copied_whole_nla<'a>(nla: &WholeNla<'a>) -> Result<WholeNla<'a>, AllocErr
     nla.clone()
 }
 
-/// States the value of each constant.
+/// States the value of each constant, and that each size is the size in its layout.
 pub fn family_constants_have_their_numbers()
     ensures families { AreEqual ((AF_VSOCK, 40) ∷ (AF_XDP, 44) ∷ []) }
     ensures netlink_requests { AreEqual ((NDIAG_PROTO_ALL, 255) ∷ (NDIAG_SHOW_MEMINFO, 1) ∷
@@ -61,4 +69,10 @@ pub fn family_constants_have_their_numbers()
         (XDP_DIAG_RX_RING, 3) ∷ (XDP_DIAG_TX_RING, 4) ∷ (XDP_DIAG_UMEM, 5) ∷
         (XDP_DIAG_UMEM_FILL_RING, 6) ∷ (XDP_DIAG_UMEM_COMPLETION_RING, 7) ∷
         (XDP_DIAG_MEMINFO, 8) ∷ (XDP_DIAG_STATS, 9) ∷ []) }
+    ensures show_request_size { (family : ℕ) → SHOW_REQUEST_LEN ≡ (show_request family).least }
+    ensures sizes { AreEqual ((VSOCK_REQUEST_LEN, vsock_request.least) ∷
+        (NETLINK_RESPONSE_HEADER_LEN, netlink_header.least) ∷
+        (PACKET_RESPONSE_HEADER_LEN, packet_header.least) ∷
+        (VSOCK_RESPONSE_HEADER_LEN, vsock_header.least) ∷
+        (XDP_RESPONSE_HEADER_LEN, xdp_header.least) ∷ []) }
 {}

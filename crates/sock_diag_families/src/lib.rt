@@ -11,5 +11,5 @@ pub mod vsock;
 mod whole;
 pub mod xdp;
 
-pub use request::ShowRequest;
+pub use request::{SHOW_REQUEST_LEN, ShowRequest};
 pub use whole::WholeNla;

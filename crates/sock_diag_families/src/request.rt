@@ -9,6 +9,9 @@ use byteorder::{ByteOrder, LittleEndian};
 use netlink_core::fields::{long_words_at, words_at};
 use netlink_core::{DecodeError, Exact, Record, RecordName};
 
+/// Size of `struct netlink_diag_req`, `packet_diag_req` and `xdp_diag_req` in bytes.
+pub const SHOW_REQUEST_LEN: usize = 20;
+
 /// A request for the sockets of `FAMILY`: `struct netlink_diag_req`, `packet_diag_req` or
 /// `xdp_diag_req`, 20 bytes, little-endian. The bytes at offsets 0 (`sdiag_family`), 2 and 3
 /// (`pad`) are ignored, and serialized as the family and 0.
@@ -36,11 +39,14 @@ impl<const FAMILY: u8> Record for ShowRequest<FAMILY> {
     ghost layout = { show_request FAMILY };
 
     fn name_and_least() -> (RecordName, usize) {
-        (RecordName::FamilyRequest { family: FAMILY }, 20)
+        (
+            RecordName::FamilyRequest { family: FAMILY },
+            SHOW_REQUEST_LEN,
+        )
     }
 
     fn size(&self) -> usize {
-        20
+        SHOW_REQUEST_LEN
     }
 
     /// Parses the first 20 bytes, and ignores the bytes after them. There have to be 20 bytes: the

@@ -9,12 +9,12 @@ use byteorder::{ByteOrder, LittleEndian};
 use netlink_core::{
     Emitable, NETLINK_HEADER_LEN, NetlinkHeader, Nla, emit_nlas, nlas_len, nlas_len_within,
 };
-use sock_diag_records::inet::InetRequest;
+use sock_diag_records::inet::{INET_REQUEST_LEN, InetRequest};
 pub use sock_diag_records::inet::{INET_DIAG_REQ_BYTECODE, INET_DIAG_REQ_PROTOCOL};
 
 /// The number of bytes before the attributes: 16 of the netlink header and 56 of
 /// `struct inet_diag_req_v2`.
-pub const REQUEST_FRONT: usize = 72;
+pub const REQUEST_FRONT: usize = NETLINK_HEADER_LEN + INET_REQUEST_LEN;
 
 // The maximum number of bytes of the attributes, so that the length of the message fits the length
 // field of its header.

@@ -14,14 +14,12 @@ ghost use Rattle.sock_diag_filters.specs.Asked.{
 ghost use Rattle.sock_diag_filters.specs.Asked.{RefusesRequest};
 ghost use Rattle.sock_diag_filters.specs.private.Asked.{found_with, asked_or_nothing};
 
-use crate::request::{
-    INET_DIAG_REQ_BYTECODE, INET_DIAG_REQ_PROTOCOL, REQUEST_FRONT, RequestAttribute,
-};
+use crate::request::{INET_DIAG_REQ_BYTECODE, INET_DIAG_REQ_PROTOCOL, RequestAttribute};
 use netlink_core::{
     DecodeError, NETLINK_HEADER_LEN, NetlinkHeader, NlaBuffer, NlasIterator, parse_u32, read_record,
 };
 use sock_diag_records::constants::{SOCK_DESTROY, SOCK_DIAG_BY_FAMILY};
-use sock_diag_records::inet::InetRequest;
+use sock_diag_records::inet::{INET_REQUEST_LEN, InetRequest};
 
 /// A borrowed request for IPv4 or IPv6 sockets.
 #[derive(Debug, Drop, PartialEq, Eq)]
@@ -60,7 +58,7 @@ impl<'a> RequestView<'a> {
         }
         let payload = &message[NETLINK_HEADER_LEN..header.length as usize];
         let request = read_record::<InetRequest>(payload, ())?;
-        let (_, behind) = payload.split_at(REQUEST_FRONT - NETLINK_HEADER_LEN);
+        let (_, behind) = payload.split_at(INET_REQUEST_LEN);
         let found = find_attributes(behind)?;
         Ok(RequestView {
             header,

@@ -1,19 +1,27 @@
-//! Laws of equivalence (`idle`) of the five records, stated on bytes. A mask for each byte defines
-//! the significant bits.
+//! Laws of the five records: their equivalence (`idle`), stated on bytes, and their sizes. A mask
+//! for each byte defines the significant bits.
 //!
 //! Proof only: the contracts state the property.
 
 ghost use Rattle.std.specs.Prelude.{◌≡◌, ◌↔◌, ◌≤◌, ℕ, List, length, slice_index};
 ghost use Rattle.netlink_core.specs.Bytes.{IsBytes};
 ghost use Rattle.netlink_core.specs.SignificantBits.{EqualUnder};
+ghost use Rattle.sock_diag_records.specs.InetRequest.{inet_request};
+ghost use Rattle.sock_diag_records.specs.InetResponse.{inet_response_header};
 ghost use Rattle.sock_diag_records.specs.SignificantBits.{inet_request_masks, IsInetFamily};
 ghost use Rattle.sock_diag_records.specs.SignificantBits.{inet_response_header_masks};
 ghost use Rattle.sock_diag_records.specs.SignificantBits.{SameTimerClass, socket_id_masks};
 ghost use Rattle.sock_diag_records.specs.SignificantBits.{unix_request_masks};
 ghost use Rattle.sock_diag_records.specs.SignificantBits.{unix_response_header_masks};
+ghost use Rattle.sock_diag_records.specs.SocketId.{socket_id};
+ghost use Rattle.sock_diag_records.specs.UnixRequest.{unix_request};
+ghost use Rattle.sock_diag_records.specs.UnixResponseHeader.{unix_response_header};
 
-use crate::inet::{InetRequest, InetResponseHeader, SocketId};
-use crate::unix::{UnixRequest, UnixResponseHeader};
+use crate::inet::{
+    INET_REQUEST_LEN, INET_RESPONSE_HEADER_LEN, InetRequest, InetResponseHeader, SOCKET_ID_LEN,
+    SocketId,
+};
+use crate::unix::{UNIX_REQUEST_LEN, UNIX_RESPONSE_HEADER_LEN, UnixRequest, UnixResponseHeader};
 use netlink_core::Coded;
 
 /// States that two byte strings are equivalent as [`SocketId`] of a family if and only if both have
@@ -62,4 +70,14 @@ pub fn equivalent_unix_response_headers()
     ensures { (b c : List ℕ) → IsBytes b → IsBytes c
         → ⟦<UnixResponseHeader as Coded>⟧.codec.idle tt b c
         ↔ ((16 ≤ length b) × (16 ≤ length c) × EqualUnder unix_response_header_masks b c) }
+{}
+
+/// States that the constants are the sizes of the layouts.
+#[tactic(auto, unfolding(crate::specs::InetRequest::inet_request, crate::specs::InetResponse::inet_response_header, crate::specs::SocketId::socket_id))]
+pub fn sizes_are_those_of_layouts()
+    ensures inet_request { INET_REQUEST_LEN ≡ inet_request.least }
+    ensures inet_response_header { INET_RESPONSE_HEADER_LEN ≡ inet_response_header.least }
+    ensures socket_id { SOCKET_ID_LEN ≡ socket_id.least }
+    ensures unix_request { UNIX_REQUEST_LEN ≡ unix_request.least }
+    ensures unix_response_header { UNIX_RESPONSE_HEADER_LEN ≡ unix_response_header.least }
 {}

@@ -1,16 +1,24 @@
-//! Laws of equivalence (`idle`) of the five records, stated on bytes.
+//! Laws of the five records: their equivalence (`idle`), stated on bytes, and their sizes.
 //!
 //! Proof only: the contracts state the property.
 
-ghost use Rattle.std.specs.Prelude.{◌≡◌, ◌↔◌, ◌≤◌, ℕ, List, length};
+ghost use Rattle.std.specs.Prelude.{◌≡◌, ◌↔◌, ◌≤◌, ◌*◌, ℕ, List, length};
 ghost use Rattle.netlink_core.specs.Bytes.{IsBytes};
 ghost use Rattle.netlink_core.specs.SignificantBits.{EqualUnder};
+ghost use Rattle.sock_diag_values.specs.LegacyMemInfo.{legacy_mem_info};
+ghost use Rattle.sock_diag_values.specs.MemInfo.{mem_info};
 ghost use Rattle.sock_diag_values.specs.SignificantBits.{legacy_mem_info_masks, mem_info_masks};
 ghost use Rattle.sock_diag_values.specs.SignificantBits.{tcp_info_masks, unix_mem_info_masks};
 ghost use Rattle.sock_diag_values.specs.SignificantBits.{vfs_masks, word_count};
+ghost use Rattle.sock_diag_values.specs.TcpInfo.{tcp_info};
+ghost use Rattle.sock_diag_values.specs.UnixMemInfo.{unix_mem_info};
+ghost use Rattle.sock_diag_values.specs.Vfs.{vfs};
 
-use crate::inet::{LegacyMemInfo, MemInfo, TcpInfo};
-use crate::unix::{MemInfo as UnixMemInfo, Vfs};
+use crate::inet::{
+    LEGACY_MEM_INFO_LEN, LegacyMemInfo, MEM_INFO_EIGHT_LEN, MEM_INFO_LEN, MEM_INFO_SEVEN_LEN,
+    MemInfo, TCP_INFO_LEN, TcpInfo,
+};
+use crate::unix::{MEM_INFO_LEN as UNIX_MEM_INFO_LEN, MemInfo as UnixMemInfo, VFS_LEN, Vfs};
 use netlink_core::Coded;
 
 /// States that two byte strings are equivalent as [`Vfs`] if and only if both have at least 8
@@ -48,4 +56,17 @@ pub fn equivalent_mem_infos()
 pub fn equivalent_tcp_infos()
     ensures { (b c : List ℕ) → IsBytes b → IsBytes c → ⟦<TcpInfo as Coded>⟧.codec.idle tt b c
         ↔ ((232 ≤ length b) × (232 ≤ length c) × EqualUnder tcp_info_masks b c) }
+{}
+
+/// States that the constants are the sizes of the layouts, of [`MemInfo`] with seven, eight or nine
+/// `u32`.
+#[tactic(auto, unfolding(crate::specs::TcpInfo::tcp_info))]
+pub fn sizes_are_those_of_layouts()
+    ensures legacy_mem_info { LEGACY_MEM_INFO_LEN ≡ legacy_mem_info.least }
+    ensures tcp_info { TCP_INFO_LEN ≡ tcp_info.least }
+    ensures unix_mem_info { UNIX_MEM_INFO_LEN ≡ unix_mem_info.least }
+    ensures vfs { VFS_LEN ≡ vfs.least }
+    ensures seven { MEM_INFO_SEVEN_LEN ≡ mem_info.least }
+    ensures eight { MEM_INFO_EIGHT_LEN ≡ 4 * 8 }
+    ensures nine { MEM_INFO_LEN ≡ 4 * 9 }
 {}

@@ -14,8 +14,9 @@ ghost use Rattle.sockdiag_c.specs.Rewriting.{Rewrites};
 use crate::requests::{InetRequest, write_inet};
 use crate::rewriting::{Outcome, refuse, write_value};
 use byteorder::{ByteOrder, LittleEndian};
-use netlink_core::{DecodeError, Emitable, NlasIterator, padded};
+use netlink_core::{DecodeError, Emitable, NETLINK_HEADER_LEN, NlasIterator, padded};
 use netlink_packet_sock_diag::constants::{AF_INET, AF_INET6, SOCK_DIAG_BY_FAMILY};
+use netlink_packet_sock_diag::inet::INET_REQUEST_LEN;
 
 /// Writes a request for IPv4 or IPv6 sockets as `sockdiag_write_inet_request` does, followed by the
 /// attributes and zeros up to a multiple of 4. Such an attribute is the bytecode of a filter,
@@ -103,9 +104,10 @@ fn front_len(protocol: u32) -> usize
     ensures few { result ≤ 80 }
 {
     if protocol < 256 {
-        return 72;
+        return NETLINK_HEADER_LEN + INET_REQUEST_LEN;
     }
-    80
+    // The attribute of the protocol has 8 bytes.
+    NETLINK_HEADER_LEN + INET_REQUEST_LEN + 8
 }
 
 // Writes the request as the start of a message of `len` bytes.

@@ -13,8 +13,8 @@ ghost use Rattle.sockdiag_c.specs.private.FirstNumber.{first_of_two};
 use crate::details::{KeepsDetails, NO_NUMBER, Number, TEXT, Text};
 use crate::headers::InetHeader;
 use netlink_core::{DecodeError, NlaBuffer};
-use netlink_packet_sock_diag::inet::InetResponseHeader;
 use netlink_packet_sock_diag::inet::nlas::NlaView;
+use netlink_packet_sock_diag::inet::{INET_RESPONSE_HEADER_LEN, InetResponseHeader};
 
 /// The contents of a reply about an IPv4 or IPv6 socket: `struct sockdiag_inet_details` of
 /// `include/sockdiag.h`.
@@ -72,7 +72,7 @@ impl<'a> KeepsDetails<'a> for InetDetails<'a> {
 
     ghost describes = { λ h found vs. HasInetDetails (inet_header_of h) found vs };
 
-    #[tactic(auto, using(sock_diag_replies::specs::InetResponseSpecLaws::header_enough))]
+    #[tactic(auto, using(sock_diag_replies::specs::laws::InetResponseSpec::header_enough))]
     fn tell_header(payload: &'a [u8]) -> Result<(Self, &'a [u8]), DecodeError> {
         let header = InetResponseHeader::from_prefix(payload)?;
         let found = InetDetails {
@@ -86,7 +86,7 @@ impl<'a> KeepsDetails<'a> for InetDetails<'a> {
             mark: NO_NUMBER,
             class_id: NO_NUMBER,
         };
-        Ok((found, &payload[72..]))
+        Ok((found, &payload[INET_RESPONSE_HEADER_LEN..]))
     }
 
     fn set_detail(&mut self, nla: &NlaBuffer<'a>) -> Result<(), DecodeError> {

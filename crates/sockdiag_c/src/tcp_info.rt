@@ -8,10 +8,8 @@ ghost use Rattle.sockdiag_c.specs.TcpInfo.{StandIn, filled, value_of};
 
 use netlink_core::NlasIterator;
 use netlink_packet_sock_diag::constants::{INET_DIAG_INFO, INET_DIAG_SKMEMINFO};
-
-/// Offset of the attributes in a reply about an IPv4 or IPv6 socket: the size of
-/// `struct inet_diag_msg`.
-const ATTRIBUTES: usize = 72;
+use netlink_packet_sock_diag::inet::INET_RESPONSE_HEADER_LEN;
+use netlink_packet_sock_diag::inet::nlas::{MEM_INFO_LEN, TCP_INFO_LEN};
 
 /// Copies the value of the first `INET_DIAG_INFO` after the header, at most 232 bytes
 /// (`struct tcp_info`). The remaining bytes are set to 0. Returns the length of the value in bytes,
@@ -20,7 +18,7 @@ const ATTRIBUTES: usize = 72;
 /// The values of attributes are not checked, so a value that is shorter or longer than 232 bytes is
 /// returned too. Attributes after a framing error are not found.
 #[unsafe(no_mangle)]
-pub extern "C" fn sockdiag_inet_get_tcp_info(payload: &[u8], info: &mut [u8; 232]) -> usize
+pub extern "C" fn sockdiag_inet_get_tcp_info(payload: &[u8], info: &mut [u8; TCP_INFO_LEN]) -> usize
     ensures { (attributes : List Attribute) → StandIn (drop 72 payload.now) attributes
         → let value = unwrap_or (first_of (value_of 2) attributes) [] in
         (result ≡ length value) × (info.new ≡ filled 232 value) }
@@ -33,7 +31,7 @@ pub extern "C" fn sockdiag_inet_get_tcp_info(payload: &[u8], info: &mut [u8; 232
 /// Copies the value of the first `INET_DIAG_SKMEMINFO` in the same way, at most 36 bytes: nine
 /// fields `SK_MEMINFO_..`, of which older kernels send seven or eight.
 #[unsafe(no_mangle)]
-pub extern "C" fn sockdiag_inet_get_memory(payload: &[u8], memory: &mut [u8; 36]) -> usize
+pub extern "C" fn sockdiag_inet_get_memory(payload: &[u8], memory: &mut [u8; MEM_INFO_LEN]) -> usize
     ensures { (attributes : List Attribute) → StandIn (drop 72 payload.now) attributes
         → let value = unwrap_or (first_of (value_of 7) attributes) [] in
         (result ≡ length value) × (memory.new ≡ filled 36 value) }
@@ -47,10 +45,10 @@ pub extern "C" fn sockdiag_inet_get_memory(payload: &[u8], memory: &mut [u8; 36]
 fn behind_header(payload: &[u8]) -> &[u8]
     ensures { result.now ≡ drop 72 payload.entry.now }
 {
-    if payload.len() < ATTRIBUTES {
+    if payload.len() < INET_RESPONSE_HEADER_LEN {
         return &[];
     }
-    &payload[ATTRIBUTES..]
+    &payload[INET_RESPONSE_HEADER_LEN..]
 }
 
 // Returns the value of the first attribute of the kind, or no bytes if there is none.

@@ -12,8 +12,8 @@ ghost use Rattle.sockdiag_c.specs.private.UnixDetails.{unix_with};
 use crate::details::{ABSTRACT, KeepsDetails, NO_NUMBER, Number, TEXT, Text};
 use crate::headers::UnixHeader;
 use netlink_core::{DecodeError, NlaBuffer};
-use netlink_packet_sock_diag::unix::UnixResponseHeader;
 use netlink_packet_sock_diag::unix::nlas::{NameView, NlaView};
+use netlink_packet_sock_diag::unix::{UNIX_RESPONSE_HEADER_LEN, UnixResponseHeader};
 
 /// The contents of a reply about a UNIX socket: `struct sockdiag_unix_details` of
 /// `include/sockdiag.h`.
@@ -101,7 +101,7 @@ impl<'a> KeepsDetails<'a> for UnixDetails<'a> {
             queued: NO_NUMBER,
             shutdown: NO_NUMBER,
         };
-        Ok((found, &payload[16..]))
+        Ok((found, &payload[UNIX_RESPONSE_HEADER_LEN..]))
     }
 
     fn set_detail(&mut self, nla: &NlaBuffer<'a>) -> Result<(), DecodeError> {

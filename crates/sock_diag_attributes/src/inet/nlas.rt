@@ -16,8 +16,8 @@ use netlink_core::{
 };
 use sock_diag_records::constants::*;
 pub use sock_diag_records::inet::nlas::{
-    LegacyMemInfo, LegacyMemInfoBuffer, MemInfo, MemInfoBuffer, MemInfoBytes, TcpInfo,
-    TcpInfoBuffer,
+    LEGACY_MEM_INFO_LEN, LegacyMemInfo, LegacyMemInfoBuffer, MEM_INFO_EIGHT_LEN, MEM_INFO_LEN,
+    MEM_INFO_SEVEN_LEN, MemInfo, MemInfoBuffer, MemInfoBytes, TCP_INFO_LEN, TcpInfo, TcpInfoBuffer,
 };
 use std::alloc::{AllocError, Global};
 use std::convert::AsStr;

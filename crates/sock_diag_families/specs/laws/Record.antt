@@ -3,6 +3,7 @@ use Rattle.std.proofs.Common.{◌<◌, ℕ, ◌%◌, IsTrue, lt-ltb, refl, arith
 use Rattle.netlink_core.specs.Layout.{table}
 use Rattle.netlink_core.specs.laws.Sound.{IsSound, is_table}
 use Rattle.netlink_core.proofs.LayoutLaws.{plain_sound}
+use Rattle.sock_diag_families.specs.declared.request.TheConstants.{SHOW_REQUEST_LEN}
 use Rattle.sock_diag_families.specs.NetlinkResponseHeader.{netlink_header}
 use Rattle.sock_diag_families.specs.PacketResponseHeader.{packet_header}
 use Rattle.sock_diag_families.specs.ShowRequest.{show_request}
@@ -10,7 +11,7 @@ use Rattle.sock_diag_families.specs.VsockRequest.{vsock_request}
 use Rattle.sock_diag_families.specs.VsockResponseHeader.{vsock_header}
 use Rattle.sock_diag_families.specs.XdpResponseHeader.{xdp_header}
 
-rows_stand : (family : ℕ) → IsTrue (is_table 0 (table (show_request family) tt) 20)
+rows_stand : (family : ℕ) → IsTrue (is_table 0 (table (show_request family) tt) SHOW_REQUEST_LEN)
 rows_stand family =
     let byte : family % 256 < 256 = omega arith in
     rw (lt-ltb (family % 256) 256 byte) refl

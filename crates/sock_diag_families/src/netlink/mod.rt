@@ -3,7 +3,7 @@
 mod response;
 
 use crate::ShowRequest;
-pub use response::NetlinkResponseHeader;
+pub use response::{NETLINK_RESPONSE_HEADER_LEN, NetlinkResponseHeader};
 use sock_diag_records::constants::AF_NETLINK;
 
 /// A request for netlink sockets: `struct netlink_diag_req`. `protocol` is `NETLINK_*` of

@@ -10,6 +10,9 @@ use netlink_core::fields::{long_words_at, words_at};
 use netlink_core::{DecodeError, Exact, Record, RecordName};
 use sock_diag_records::constants::AF_NETLINK;
 
+/// Size of `struct netlink_diag_msg` in bytes.
+pub const NETLINK_RESPONSE_HEADER_LEN: usize = 28;
+
 /// The header of a reply about a netlink socket: `struct netlink_diag_msg`, 28 bytes,
 /// little-endian. The byte at offset 0 (`ndiag_family`) is ignored, and serialized as AF_NETLINK
 /// (16).
@@ -45,11 +48,14 @@ impl Record for NetlinkResponseHeader {
     ghost layout = { netlink_header };
 
     fn name_and_least() -> (RecordName, usize) {
-        (RecordName::FamilyResponseHeader { family: AF_NETLINK }, 28)
+        (
+            RecordName::FamilyResponseHeader { family: AF_NETLINK },
+            NETLINK_RESPONSE_HEADER_LEN,
+        )
     }
 
     fn size(&self) -> usize {
-        28
+        NETLINK_RESPONSE_HEADER_LEN
     }
 
     /// Parses the first 28 bytes, and ignores the bytes after them. There have to be 28 bytes: the

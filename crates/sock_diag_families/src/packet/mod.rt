@@ -5,7 +5,7 @@ mod response;
 
 use crate::ShowRequest;
 pub use attributes::{PacketInfo, PacketRing};
-pub use response::PacketResponseHeader;
+pub use response::{PACKET_RESPONSE_HEADER_LEN, PacketResponseHeader};
 use sock_diag_records::constants::AF_PACKET;
 
 /// A request for packet sockets: `struct packet_diag_req`. `protocol` is 0. `show` has bits

@@ -10,6 +10,9 @@ use netlink_core::fields::{long_words_at, words_at};
 use netlink_core::{DecodeError, Exact, Record, RecordName};
 use sock_diag_records::constants::AF_PACKET;
 
+/// Size of `struct packet_diag_msg` in bytes.
+pub const PACKET_RESPONSE_HEADER_LEN: usize = 16;
+
 /// The header of a reply about a packet socket: `struct packet_diag_msg`, 16 bytes, little-endian.
 /// The byte at offset 0 (`pdiag_family`) is ignored, and serialized as AF_PACKET (17).
 #[repr(C)]
@@ -36,11 +39,14 @@ impl Record for PacketResponseHeader {
     ghost layout = { packet_header };
 
     fn name_and_least() -> (RecordName, usize) {
-        (RecordName::FamilyResponseHeader { family: AF_PACKET }, 16)
+        (
+            RecordName::FamilyResponseHeader { family: AF_PACKET },
+            PACKET_RESPONSE_HEADER_LEN,
+        )
     }
 
     fn size(&self) -> usize {
-        16
+        PACKET_RESPONSE_HEADER_LEN
     }
 
     /// Parses the first 16 bytes, and ignores the bytes after them. There have to be 16 bytes: the

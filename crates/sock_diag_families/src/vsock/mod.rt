@@ -3,8 +3,8 @@
 mod request;
 mod response;
 
-pub use request::VsockRequest;
-pub use response::VsockResponseHeader;
+pub use request::{VSOCK_REQUEST_LEN, VsockRequest};
+pub use response::{VSOCK_RESPONSE_HEADER_LEN, VsockResponseHeader};
 
 /// The address family of vsock sockets, `AF_VSOCK` of `linux/socket.h`.
 pub const AF_VSOCK: u8 = 40;

@@ -10,6 +10,9 @@ use byteorder::{ByteOrder, LittleEndian};
 use netlink_core::fields::{long_words_at, words_at};
 use netlink_core::{DecodeError, Exact, Record, RecordName};
 
+/// Size of `struct vsock_diag_req` in bytes.
+pub const VSOCK_REQUEST_LEN: usize = 24;
+
 /// A request for vsock sockets: `struct vsock_diag_req`, 24 bytes, little-endian. The bytes at
 /// offsets 0 to 3 (`sdiag_family`, `sdiag_protocol`, `pad`) and 8 to 15 (`vdiag_ino`, `vdiag_show`)
 /// are ignored. They are serialized as AF_VSOCK (40) and zeros, as the kernel requires. Linux only
@@ -33,11 +36,14 @@ impl Record for VsockRequest {
     ghost layout = { vsock_request };
 
     fn name_and_least() -> (RecordName, usize) {
-        (RecordName::FamilyRequest { family: AF_VSOCK }, 24)
+        (
+            RecordName::FamilyRequest { family: AF_VSOCK },
+            VSOCK_REQUEST_LEN,
+        )
     }
 
     fn size(&self) -> usize {
-        24
+        VSOCK_REQUEST_LEN
     }
 
     /// Parses the first 24 bytes, and ignores the bytes after them. There have to be 24 bytes: the

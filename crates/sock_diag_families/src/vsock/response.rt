@@ -10,6 +10,9 @@ use byteorder::{ByteOrder, LittleEndian};
 use netlink_core::fields::{long_words_at, long_words_in_range, words_at};
 use netlink_core::{DecodeError, Exact, Record, RecordName};
 
+/// Size of `struct vsock_diag_msg` in bytes.
+pub const VSOCK_RESPONSE_HEADER_LEN: usize = 32;
+
 /// The header of a reply about a vsock socket: `struct vsock_diag_msg`, 32 bytes, little-endian.
 /// The byte at offset 0 (`vdiag_family`) is ignored, and serialized as AF_VSOCK (40). No attributes
 /// follow the header.
@@ -47,11 +50,14 @@ impl Record for VsockResponseHeader {
     ghost layout = { vsock_header };
 
     fn name_and_least() -> (RecordName, usize) {
-        (RecordName::FamilyResponseHeader { family: AF_VSOCK }, 32)
+        (
+            RecordName::FamilyResponseHeader { family: AF_VSOCK },
+            VSOCK_RESPONSE_HEADER_LEN,
+        )
     }
 
     fn size(&self) -> usize {
-        32
+        VSOCK_RESPONSE_HEADER_LEN
     }
 
     /// Parses the first 32 bytes, and ignores the bytes after them. There have to be 32 bytes: the

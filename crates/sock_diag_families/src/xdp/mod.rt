@@ -5,7 +5,7 @@ mod response;
 
 use crate::ShowRequest;
 pub use attributes::{XdpInfo, XdpStatistics, XdpUmem};
-pub use response::XdpResponseHeader;
+pub use response::{XDP_RESPONSE_HEADER_LEN, XdpResponseHeader};
 
 /// The address family of XDP sockets, `AF_XDP` of `linux/socket.h`.
 pub const AF_XDP: u8 = 44;

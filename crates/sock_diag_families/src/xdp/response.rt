@@ -10,6 +10,9 @@ use byteorder::{ByteOrder, LittleEndian};
 use netlink_core::fields::{long_words_at, words_at};
 use netlink_core::{DecodeError, Exact, Record, RecordName};
 
+/// Size of `struct xdp_diag_msg` in bytes.
+pub const XDP_RESPONSE_HEADER_LEN: usize = 16;
+
 /// The header of a reply about an XDP socket: `struct xdp_diag_msg`, 16 bytes, little-endian. The
 /// bytes at offsets 0 (`xdiag_family`), 2 and 3 (`pad`) are ignored, and serialized as AF_XDP (44)
 /// and 0.
@@ -34,11 +37,14 @@ impl Record for XdpResponseHeader {
     ghost layout = { xdp_header };
 
     fn name_and_least() -> (RecordName, usize) {
-        (RecordName::FamilyResponseHeader { family: AF_XDP }, 16)
+        (
+            RecordName::FamilyResponseHeader { family: AF_XDP },
+            XDP_RESPONSE_HEADER_LEN,
+        )
     }
 
     fn size(&self) -> usize {
-        16
+        XDP_RESPONSE_HEADER_LEN
     }
 
     /// Parses the first 16 bytes, and ignores the bytes after them. There have to be 16 bytes: the

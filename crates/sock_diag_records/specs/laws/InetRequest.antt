@@ -5,6 +5,7 @@ use Rattle.netlink_core.specs.laws.Sound.{IsSound, IsFixed}
 use Rattle.netlink_core.specs.Layout.{bytes}
 use Rattle.byteorder.specs.Endian.{little_bytes}
 use Rattle.sock_diag_records.specs.declared.inet.request.InetRequest.{InetRequest}
+use Rattle.sock_diag_records.specs.declared.inet.request.TheConstants.{INET_REQUEST_LEN}
 use Rattle.sock_diag_records.specs.SocketId.{socket_id}
 use Rattle.sock_diag_records.specs.InetRequest.{inet_request}
 use Rattle.sock_diag_records.specs.laws.SocketId.{socket_id_back}
@@ -16,14 +17,14 @@ pub request_pieces : (value : InetRequest)
 unfolding inet_request socket_id
 request_pieces value = grind arith
 
-pub request_length : (value : InetRequest) → length (bytes inet_request value) ≡ 56
+pub request_length : (value : InetRequest) → length (bytes inet_request value) ≡ INET_REQUEST_LEN
 unfolding inet_request
 request_length value = grind arith
 
 pub inet_request_sound : IsSound inet_request
 unfolding inet_request
 inet_request_sound = record {
-  size = λ versions. 56;
+  size = λ versions. INET_REQUEST_LEN;
   tables = λ param versions left e. grind arith;
   own_table = λ value. grind arith;
   enough = λ value. omega arith;
@@ -38,6 +39,6 @@ inet_request_sound = record {
   tag_written = λ param value t n. n.1;
 }
 
-pub inet_request_size : IsFixed inet_request 56
+pub inet_request_size : IsFixed inet_request INET_REQUEST_LEN
 unfolding inet_request
 inet_request_size = (refl, request_length)

@@ -15,6 +15,7 @@ use Rattle.sock_diag_records.specs.declared.inet.response.Timer.TheVariants.{Ret
 use Rattle.sock_diag_records.specs.declared.inet.response.Timer.TheVariants.{TimeWait, Probe}
 use Rattle.std.specs.declared.time.Duration.{Duration}
 use Rattle.sock_diag_records.specs.declared.inet.response.InetResponseHeader.{InetResponseHeader}
+use Rattle.sock_diag_records.specs.declared.inet.response.TheConstants.{INET_RESPONSE_HEADER_LEN}
 use Rattle.sock_diag_records.specs.declared.inet.socket_id.SocketId.{SocketId}
 use Rattle.netlink_core.specs.declared.fault.DecodeError.{DecodeError}
 use Rattle.sock_diag_records.specs.laws.SocketId.{socket_id_fields, socket_id_values}
@@ -49,7 +50,7 @@ class_lt timer = grind arith
 
 -- the fields of each tag are consecutive, and end at 72
 tables_are : (versions : IpVersions) (class : ℕ) → class < 5
-    → IsTrue (is_table 0 (table inet_response_header (versions, class)) 72)
+    → IsTrue (is_table 0 (table inet_response_header (versions, class)) INET_RESPONSE_HEADER_LEN)
 unfolding inet_response_header
 tables_are = by_versions _ (each _ refl refl refl refl refl) (each _ refl refl refl refl refl)
     (each _ refl refl refl refl refl) (each _ refl refl refl refl refl)
@@ -135,14 +136,15 @@ header_back (Some (Probe time)) family state socket recv send uid inode shaped w
 -- ---- soundness
 
 -- a header serializes to 72 bytes
-pub header_long : (value : InetResponseHeader) → length (bytes inet_response_header value) ≡ 72
+pub header_long : (value : InetResponseHeader)
+    → length (bytes inet_response_header value) ≡ INET_RESPONSE_HEADER_LEN
 unfolding inet_response_header
 header_long value = grind arith
 
 pub header_sound : IsSound inet_response_header
 unfolding inet_response_header
 header_sound = record {
-  size = λ tag. 72;
+  size = λ tag. INET_RESPONSE_HEADER_LEN;
   tables = λ param t left e. tables_are t.0 t.1 (grind arith);
   own_table = λ value.
       tables_are (versions_of value.socket_id) (timer_data value.timer).0 (class_of_lt value.timer);
@@ -159,6 +161,6 @@ header_sound = record {
   tag_written = λ param value t n. rw n.1.0 (grind arith);
 }
 
-pub header_size : IsFixed inet_response_header 72
+pub header_size : IsFixed inet_response_header INET_RESPONSE_HEADER_LEN
 unfolding inet_response_header
 header_size = (refl, header_long)

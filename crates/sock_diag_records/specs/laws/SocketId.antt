@@ -13,6 +13,7 @@ use Rattle.netlink_core.specs.Table.{first, Fit}
 use Rattle.netlink_core.specs.laws.Sound.{IsSound, IsFixed}
 use Rattle.netlink_core.specs.Layout.{IsInRange, bytes}
 use Rattle.sock_diag_records.specs.declared.inet.socket_id.SocketId.{SocketId}
+use Rattle.sock_diag_records.specs.declared.inet.socket_id.TheConstants.{SOCKET_ID_LEN}
 use Rattle.sock_diag_records.specs.SocketId.{address_values}
 use Rattle.sock_diag_records.specs.private.SocketId.{address_bytes}
 use Rattle.sock_diag_records.specs.SocketId.{socket_id_rows, socket_id}
@@ -72,14 +73,14 @@ unfolding socket_id
 bytes_alone value = grind arith
 
 -- a socket id serializes to 48 bytes
-pub socket_id_long : (value : SocketId) → length (bytes socket_id value) ≡ 48
+pub socket_id_long : (value : SocketId) → length (bytes socket_id value) ≡ SOCKET_ID_LEN
 unfolding socket_id
 socket_id_long value = grind arith
 
 pub socket_id_sound : IsSound socket_id
 unfolding socket_id
 socket_id_sound = record {
-  size = λ versions. 48;
+  size = λ versions. SOCKET_ID_LEN;
   tables = λ family versions left e. grind arith;
   own_table = λ value. grind arith;
   enough = λ value. omega arith;
@@ -94,7 +95,7 @@ socket_id_sound = record {
   tag_written = λ family value t n. n.1;
 }
 
-pub socket_id_size : IsFixed socket_id 48
+pub socket_id_size : IsFixed socket_id SOCKET_ID_LEN
 unfolding socket_id
 socket_id_size = (refl, socket_id_long)
 

@@ -13,7 +13,7 @@ pub use flags::{
 };
 pub use request::{
     INET_DIAG_REQ_BYTECODE, INET_DIAG_REQ_NONE, INET_DIAG_REQ_PROTOCOL,
-    INET_DIAG_REQ_SK_BPF_STORAGES, InetRequest, InetRequestBuffer,
+    INET_DIAG_REQ_SK_BPF_STORAGES, INET_REQUEST_LEN, InetRequest, InetRequestBuffer,
 };
-pub use response::{InetResponseBuffer, InetResponseHeader, Timer};
-pub use socket_id::{SocketId, SocketIdBuffer};
+pub use response::{INET_RESPONSE_HEADER_LEN, InetResponseBuffer, InetResponseHeader, Timer};
+pub use socket_id::{SOCKET_ID_LEN, SocketId, SocketIdBuffer};

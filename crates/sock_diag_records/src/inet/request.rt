@@ -25,6 +25,9 @@ pub const INET_DIAG_REQ_SK_BPF_STORAGES: u16 = 2;
 /// Kind of the protocol as a `u32`, for a protocol above 255 such as `IPPROTO_MPTCP`.
 pub const INET_DIAG_REQ_PROTOCOL: u16 = 3;
 
+/// Size of `struct inet_diag_req_v2` in bytes.
+pub const INET_REQUEST_LEN: usize = 56;
+
 /// A request for IPv4 or IPv6 sockets: `struct inet_diag_req_v2` (sock_diag(7)), 56 bytes. The byte
 /// at offset 3 (`pad`) is ignored, and serialized as 0.
 #[derive(Clone, Debug, Drop, PartialEq, Eq)]
@@ -44,7 +47,7 @@ pub struct InetRequest {
 }
 
 /// The 56 bytes of an [`InetRequest`], including the ignored ones.
-pub type InetRequestBuffer = RecordBuffer<InetRequest, 56>;
+pub type InetRequestBuffer = RecordBuffer<InetRequest, INET_REQUEST_LEN>;
 
 impl Record for InetRequest {
     type Param = ();
@@ -55,12 +58,12 @@ impl Record for InetRequest {
 
     #[tactic(auto, unfolding(crate::specs::InetRequest::inet_request))]
     fn name_and_least() -> (RecordName, usize) {
-        (RecordName::InetRequest, 56)
+        (RecordName::InetRequest, INET_REQUEST_LEN)
     }
 
     #[tactic(auto, unfolding(crate::specs::InetRequest::inet_request))]
     fn size(&self) -> usize {
-        56
+        INET_REQUEST_LEN
     }
 
     /// Parses the first 56 bytes, and ignores the bytes after them. A family other than AF_INET and
@@ -101,6 +104,6 @@ impl Record for InetRequest {
     ghost laws = { record_laws inet_request inet_request_sound };
 }
 
-impl Fills<56> for InetRequest {
+impl Fills<INET_REQUEST_LEN> for InetRequest {
     ghost fills = { inet_request_size };
 }

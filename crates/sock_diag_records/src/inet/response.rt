@@ -11,7 +11,7 @@ ghost use Rattle.sock_diag_records.specs.inverse.InetResponse.{timer_of};
 ghost use Rattle.sock_diag_records.specs.Timer.{class_of_byte, timer_data, milliseconds};
 ghost use Rattle.sock_diag_records.specs.laws.InetResponse.{header_sound, header_size};
 
-use super::SocketId;
+use super::{SOCKET_ID_LEN, SocketId};
 use byteorder::{ByteOrder, LittleEndian};
 use netlink_core::fields::words_at;
 use netlink_core::{DecodeError, Exact, Fills, Record, RecordBuffer, RecordName, read_record};
@@ -34,6 +34,9 @@ pub enum Timer {
     /// 4: the zero-window probe timer.
     Probe(Duration),
 }
+
+/// Size of `struct inet_diag_msg` in bytes.
+pub const INET_RESPONSE_HEADER_LEN: usize = 72;
 
 /// The header of a reply about an IPv4 or IPv6 socket: `struct inet_diag_msg` (sock_diag(7)), 72
 /// bytes.
@@ -65,7 +68,7 @@ pub struct InetResponseHeader {
 }
 
 /// The 72 bytes of an [`InetResponseHeader`], including the ignored ones.
-pub type InetResponseBuffer = RecordBuffer<InetResponseHeader, 72>;
+pub type InetResponseBuffer = RecordBuffer<InetResponseHeader, INET_RESPONSE_HEADER_LEN>;
 
 impl Exact for Timer {
     ghost exact = { Prim.search rules };
@@ -80,12 +83,12 @@ impl Record for InetResponseHeader {
 
     #[tactic(auto, unfolding(crate::specs::InetResponse::inet_response_header))]
     fn name_and_least() -> (RecordName, usize) {
-        (RecordName::InetResponseHeader, 72)
+        (RecordName::InetResponseHeader, INET_RESPONSE_HEADER_LEN)
     }
 
     #[tactic(auto, unfolding(crate::specs::InetResponse::inet_response_header))]
     fn size(&self) -> usize {
-        72
+        INET_RESPONSE_HEADER_LEN
     }
 
     /// Parses the first 72 bytes, and ignores the bytes after them. A family other than AF_INET and
@@ -113,7 +116,7 @@ impl Record for InetResponseHeader {
     fn write_fields(&self, buffer: &mut [u8]) {
         let (timer, retransmits, expires) = timer_words(&self.timer);
         let (start, rest) = buffer.split_at_mut(4);
-        let (socket_id, rest) = rest.split_at_mut(48);
+        let (socket_id, rest) = rest.split_at_mut(SOCKET_ID_LEN);
         start.copy_from_slice(&[self.family, self.state, timer, retransmits]);
         self.socket_id.write_fields(socket_id);
         let words = [
@@ -141,7 +144,7 @@ impl Record for InetResponseHeader {
     ghost laws = { record_laws inet_response_header header_sound };
 }
 
-impl Fills<72> for InetResponseHeader {
+impl Fills<INET_RESPONSE_HEADER_LEN> for InetResponseHeader {
     ghost fills = { header_size };
 }
 

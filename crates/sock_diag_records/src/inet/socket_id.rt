@@ -25,6 +25,9 @@ use netlink_core::{
 };
 use std::net::{IpAddr, Ipv4Addr, Ipv6Addr};
 
+/// Size of `struct inet_diag_sockid` in bytes.
+pub const SOCKET_ID_LEN: usize = 48;
+
 /// The id of an IPv4 or IPv6 socket: `struct inet_diag_sockid` (sock_diag(7)), 48 bytes.
 ///
 /// The bytes do not contain the address family. The parser has it as a parameter: AF_INET (2) or
@@ -96,7 +99,7 @@ impl SocketId {
 }
 
 /// The 48 bytes of a [`SocketId`], including the ignored ones.
-pub type SocketIdBuffer = RecordBuffer<SocketId, 48>;
+pub type SocketIdBuffer = RecordBuffer<SocketId, SOCKET_ID_LEN>;
 
 // Parses the IPv4 address at the offset.
 fn ipv4_at(bytes: &[u8], offset: usize) -> Ipv4Addr
@@ -146,12 +149,12 @@ impl Record for SocketId {
 
     #[tactic(auto, unfolding(crate::specs::SocketId::socket_id))]
     fn name_and_least() -> (RecordName, usize) {
-        (RecordName::SocketId, 48)
+        (RecordName::SocketId, SOCKET_ID_LEN)
     }
 
     #[tactic(auto, unfolding(crate::specs::SocketId::socket_id))]
     fn size(&self) -> usize {
-        48
+        SOCKET_ID_LEN
     }
 
     /// Parses the first 48 bytes for the family, and ignores the bytes after them. A family other
@@ -221,7 +224,7 @@ impl SocketId {
     }
 }
 
-impl Fills<48> for SocketId {
+impl Fills<SOCKET_ID_LEN> for SocketId {
     ghost fills = { socket_id_size };
 }
 

@@ -9,5 +9,5 @@ pub use flags::{
     ShowFlags, StateFlags, flags_have_their_bits, show_flags_have_their_numbers,
     state_flags_have_their_numbers,
 };
-pub use request::{UnixRequest, UnixRequestBuffer};
-pub use response::{UnixResponseBuffer, UnixResponseHeader};
+pub use request::{UNIX_REQUEST_LEN, UnixRequest, UnixRequestBuffer};
+pub use response::{UNIX_RESPONSE_HEADER_LEN, UnixResponseBuffer, UnixResponseHeader};

@@ -13,6 +13,9 @@ use byteorder::{ByteOrder, LittleEndian};
 use netlink_core::fields::{array_at, words_at};
 use netlink_core::{DecodeError, Exact, Fills, Record, RecordBuffer, RecordName, bytes_in_range};
 
+/// Size of `struct unix_diag_req` in bytes.
+pub const UNIX_REQUEST_LEN: usize = 24;
+
 /// A request for UNIX sockets: `struct unix_diag_req` (sock_diag(7)), 24 bytes, little-endian. The
 /// bytes at offsets 0 to 3 (`sdiag_family`, `sdiag_protocol`, `pad`) are ignored, and serialized as
 /// AF_UNIX (1), 0, 0, 0.
@@ -32,7 +35,7 @@ pub struct UnixRequest {
 }
 
 /// The 24 bytes of a [`UnixRequest`], including the ignored ones.
-pub type UnixRequestBuffer = RecordBuffer<UnixRequest, 24>;
+pub type UnixRequestBuffer = RecordBuffer<UnixRequest, UNIX_REQUEST_LEN>;
 
 impl Exact for UnixRequest {
     ghost exact = { Prim.search rules };
@@ -44,11 +47,11 @@ impl Record for UnixRequest {
     ghost layout = { unix_request };
 
     fn name_and_least() -> (RecordName, usize) {
-        (RecordName::UnixRequest, 24)
+        (RecordName::UnixRequest, UNIX_REQUEST_LEN)
     }
 
     fn size(&self) -> usize {
-        24
+        UNIX_REQUEST_LEN
     }
 
     /// Parses the first 24 bytes, and ignores the bytes after them. There have to be 24 bytes: the
@@ -84,6 +87,6 @@ impl Record for UnixRequest {
     ghost laws = { record_laws unix_request unix_request_sound };
 }
 
-impl Fills<24> for UnixRequest {
+impl Fills<UNIX_REQUEST_LEN> for UnixRequest {
     ghost fills = { (refl, λ _. refl) };
 }

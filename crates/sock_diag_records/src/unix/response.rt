@@ -14,6 +14,9 @@ use netlink_core::{
     DecodeError, Exact, Fills, Record, RecordBuffer, RecordName, bytes_in_range, read_record,
 };
 
+/// Size of `struct unix_diag_msg` in bytes.
+pub const UNIX_RESPONSE_HEADER_LEN: usize = 16;
+
 /// The header of a reply about a UNIX socket: `struct unix_diag_msg` (sock_diag(7)), 16 bytes. The
 /// bytes at offsets 0 (`udiag_family`) and 3 (`pad`) are ignored, and serialized as AF_UNIX (1) and
 /// 0.
@@ -31,7 +34,7 @@ pub struct UnixResponseHeader {
 }
 
 /// The 16 bytes of a [`UnixResponseHeader`], including the ignored ones.
-pub type UnixResponseBuffer = RecordBuffer<UnixResponseHeader, 16>;
+pub type UnixResponseBuffer = RecordBuffer<UnixResponseHeader, UNIX_RESPONSE_HEADER_LEN>;
 
 impl Exact for UnixResponseHeader {
     ghost exact = { Prim.search rules };
@@ -43,11 +46,11 @@ impl Record for UnixResponseHeader {
     ghost layout = { unix_response_header };
 
     fn name_and_least() -> (RecordName, usize) {
-        (RecordName::UnixResponseHeader, 16)
+        (RecordName::UnixResponseHeader, UNIX_RESPONSE_HEADER_LEN)
     }
 
     fn size(&self) -> usize {
-        16
+        UNIX_RESPONSE_HEADER_LEN
     }
 
     /// Parses the first 16 bytes, and ignores the bytes after them. There have to be 16 bytes: the
@@ -88,6 +91,6 @@ impl UnixResponseHeader {
     }
 }
 
-impl Fills<16> for UnixResponseHeader {
+impl Fills<UNIX_RESPONSE_HEADER_LEN> for UnixResponseHeader {
     ghost fills = { (refl, λ _. refl) };
 }

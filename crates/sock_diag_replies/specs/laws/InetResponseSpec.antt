@@ -8,6 +8,7 @@ use Rattle.netlink_core.specs.laws.Shown.{ResponseLaws}
 use Rattle.sock_diag_records.specs.contracts.inet.exact.InetResponseHeaderExact.TheImpl.Laws.{exact-law as exact_header}
 use Rattle.sock_diag_records.specs.contracts.inet.response.InetResponseHeaderPartialEq.TheImpl.{ghosts as headers}
 use Rattle.sock_diag_records.specs.declared.inet.response.InetResponseHeader.{InetResponseHeader}
+use Rattle.sock_diag_records.specs.declared.inet.response.TheConstants.{INET_RESPONSE_HEADER_LEN}
 use Rattle.sock_diag_records.specs.IpVersions.{IpVersions}
 use Rattle.sock_diag_records.specs.InetResponse.{inet_response_header}
 use Rattle.sock_diag_records.specs.Timer.{class_of_byte}
@@ -35,7 +36,7 @@ goes_on tag left rest long e =
 
 -- bytes with a valid header have at least 72 bytes
 pub header_enough : (b : List ℕ) (h : InetResponseHeader) → read inet_response_header tt b ≡ Ok h
-    → 72 ≤ length b
+    → INET_RESPONSE_HEADER_LEN ≤ length b
 header_enough = enough inet_response_header header_size
 
 -- the codec laws of the header and of the attributes

@@ -5,6 +5,7 @@ use Rattle.netlink_core.specs.Response.{ValueOf}
 use Rattle.netlink_core.specs.laws.Shown.{ResponseLaws}
 use Rattle.sock_diag_records.specs.contracts.unix.response.UnixResponseHeaderExact.TheImpl.Laws.{exact-law as exact_header}
 use Rattle.sock_diag_records.specs.contracts.unix.response.UnixResponseHeaderPartialEq.TheImpl.{ghosts as headers}
+use Rattle.sock_diag_records.specs.declared.unix.response.TheConstants.{UNIX_RESPONSE_HEADER_LEN}
 use Rattle.sock_diag_records.specs.declared.unix.response.UnixResponseHeader.{UnixResponseHeader}
 use Rattle.sock_diag_records.specs.UnixResponseHeader.{unix_response_header}
 use Rattle.sock_diag_records.specs.laws.UnixResponseHeader.{unix_response_header_sound}
@@ -17,7 +18,7 @@ use Rattle.sock_diag_replies.specs.UnixResponseSpec.{unix_response_spec}
 
 -- bytes with a valid header have at least 16 bytes
 pub header_enough : (b : List ℕ) (h : UnixResponseHeader) → read unix_response_header tt b ≡ Ok h
-    → 16 ≤ length b
+    → UNIX_RESPONSE_HEADER_LEN ≤ length b
 header_enough = enough unix_response_header (refl, λ tag. refl)
 
 -- the codec laws of the header and of the attributes

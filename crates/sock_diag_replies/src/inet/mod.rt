@@ -5,6 +5,7 @@ mod reply;
 
 pub use reply::{InetResponse, InetResponseView};
 pub use sock_diag_records::inet::{
-    ExtensionFlags, InetRequest, InetRequestBuffer, InetResponseBuffer, InetResponseHeader,
-    SocketId, SocketIdBuffer, StateFlags, Timer,
+    ExtensionFlags, INET_REQUEST_LEN, INET_RESPONSE_HEADER_LEN, InetRequest, InetRequestBuffer,
+    InetResponseBuffer, InetResponseHeader, SOCKET_ID_LEN, SocketId, SocketIdBuffer, StateFlags,
+    Timer,
 };

@@ -2,6 +2,7 @@
 
 pub use crate::inet::reply::NlaViews;
 pub use sock_diag_attributes::inet::nlas::{
-    LegacyMemInfo, LegacyMemInfoBuffer, MemInfo, MemInfoBuffer, MemInfoBytes, Nla, NlaView,
-    TcpInfo, TcpInfoBuffer,
+    LEGACY_MEM_INFO_LEN, LegacyMemInfo, LegacyMemInfoBuffer, MEM_INFO_EIGHT_LEN, MEM_INFO_LEN,
+    MEM_INFO_SEVEN_LEN, MemInfo, MemInfoBuffer, MemInfoBytes, Nla, NlaView, TCP_INFO_LEN, TcpInfo,
+    TcpInfoBuffer,
 };

@@ -8,16 +8,13 @@ ghost use Rattle.sock_diag_replies.specs.laws.InetResponseSpec.{inet_response_la
 ghost use Rattle.sock_diag_replies.specs.laws.InetResponseSpec.{inet_test, inet_test_decides};
 ghost use Rattle.sock_diag_records.specs.contracts.inet.exact.InetResponseHeaderExact.TheImpl.Laws.{exact-law as exact_header};
 
-use crate::inet::InetResponseHeader;
 use crate::inet::nlas::{Nla, NlaView};
+use crate::inet::{INET_RESPONSE_HEADER_LEN, InetResponseHeader};
 use crate::reply::{emit_reply_view, reply_view_len, same_views};
 use crate::response::{Reply, ReplyOwned};
 use crate::view::{AttributeViews, ReplyHeader, ReplyView, ReplyViews};
 use attribute_lists::check_nlas;
 use netlink_core::{Coded, DecodeError};
-
-/// The length of the header (`inet_diag_msg`) in bytes.
-const LENGTH: usize = 72;
 
 /// A reply about one IPv4 or IPv6 socket: the header (`inet_diag_msg`) and the attributes, in wire
 /// order.
@@ -49,7 +46,7 @@ impl ReplyHeader for InetResponseHeader {
 
     #[inline(always)]
     fn length() -> usize {
-        LENGTH
+        INET_RESPONSE_HEADER_LEN
     }
 
     #[inline(always)]

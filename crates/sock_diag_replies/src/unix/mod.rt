@@ -7,5 +7,6 @@ mod view_getters;
 
 pub use reply::{UnixResponse, UnixResponseView};
 pub use sock_diag_records::unix::{
-    ShowFlags, StateFlags, UnixRequest, UnixRequestBuffer, UnixResponseBuffer, UnixResponseHeader,
+    ShowFlags, StateFlags, UNIX_REQUEST_LEN, UNIX_RESPONSE_HEADER_LEN, UnixRequest,
+    UnixRequestBuffer, UnixResponseBuffer, UnixResponseHeader,
 };

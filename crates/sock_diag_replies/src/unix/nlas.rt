@@ -2,6 +2,6 @@
 
 pub use crate::unix::reply::NlaViews;
 pub use sock_diag_attributes::unix::nlas::{
-    MemInfo, MemInfoBuffer, NameView, Nla, NlaView, NumbersIterator, NumbersView, UnixDiagName,
-    Vfs, VfsBuffer,
+    MEM_INFO_LEN, MemInfo, MemInfoBuffer, NameView, Nla, NlaView, NumbersIterator, NumbersView,
+    UnixDiagName, VFS_LEN, Vfs, VfsBuffer,
 };

@@ -10,14 +10,11 @@ ghost use Rattle.sock_diag_records.specs.contracts.unix.response.UnixResponseHea
 
 use crate::reply::{emit_reply_view, reply_view_len, same_views};
 use crate::response::{Reply, ReplyOwned};
-use crate::unix::UnixResponseHeader;
 use crate::unix::nlas::{Nla, NlaView};
+use crate::unix::{UNIX_RESPONSE_HEADER_LEN, UnixResponseHeader};
 use crate::view::{AttributeViews, ReplyHeader, ReplyView, ReplyViews};
 use attribute_lists::check_nlas;
 use netlink_core::{Coded, DecodeError};
-
-/// The length of the header (`unix_diag_msg`) in bytes.
-const LENGTH: usize = 16;
 
 /// A reply about one UNIX socket: the header (`unix_diag_msg`) and the attributes, in wire order.
 ///
@@ -46,7 +43,7 @@ impl ReplyHeader for UnixResponseHeader {
 
     #[inline(always)]
     fn length() -> usize {
-        LENGTH
+        UNIX_RESPONSE_HEADER_LEN
     }
 
     #[inline(always)]

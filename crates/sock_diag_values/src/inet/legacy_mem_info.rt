@@ -10,6 +10,9 @@ use byteorder::{ByteOrder, LittleEndian};
 use netlink_core::fields::words_at;
 use netlink_core::{DecodeError, Exact, Fills, Record, RecordBuffer, RecordName, read_record};
 
+/// Size of `struct inet_diag_meminfo` in bytes.
+pub const LEGACY_MEM_INFO_LEN: usize = 16;
+
 /// The memory of a socket in the format of old kernels: `struct inet_diag_meminfo` (sock_diag(7)),
 /// the value of the attribute `INET_DIAG_MEMINFO`. It has 16 bytes: four `u32`, little-endian.
 /// Newer kernels also send [`MemInfo`](super::MemInfo).
@@ -27,7 +30,7 @@ pub struct LegacyMemInfo {
 }
 
 /// The 16 bytes of a [`LegacyMemInfo`].
-pub type LegacyMemInfoBuffer = RecordBuffer<LegacyMemInfo, 16>;
+pub type LegacyMemInfoBuffer = RecordBuffer<LegacyMemInfo, LEGACY_MEM_INFO_LEN>;
 
 impl Exact for LegacyMemInfo {
     ghost exact = { Prim.search rules };
@@ -39,11 +42,11 @@ impl Record for LegacyMemInfo {
     ghost layout = { legacy_mem_info };
 
     fn name_and_least() -> (RecordName, usize) {
-        (RecordName::LegacyMemInfo, 16)
+        (RecordName::LegacyMemInfo, LEGACY_MEM_INFO_LEN)
     }
 
     fn size(&self) -> usize {
-        16
+        LEGACY_MEM_INFO_LEN
     }
 
     fn from_fields(payload: &[u8], _param: ()) -> Result<Self, DecodeError> {
@@ -81,7 +84,7 @@ impl Record for LegacyMemInfo {
         (λ _ _. refl)) };
 }
 
-impl Fills<16> for LegacyMemInfo {
+impl Fills<LEGACY_MEM_INFO_LEN> for LegacyMemInfo {
     ghost fills = { (refl, λ _. refl) };
 }
 

@@ -17,6 +17,16 @@ use byteorder::{ByteOrder, LittleEndian};
 use netlink_core::fields::words_at;
 use netlink_core::{DecodeError, Exact, Record, RecordName, read_record, word_in_range};
 
+/// Size of the value of `INET_DIAG_SKMEMINFO` in bytes, with all nine `u32`.
+pub const MEM_INFO_LEN: usize = 36;
+
+/// Size in bytes of the value of `INET_DIAG_SKMEMINFO` with eight `u32`: no drops.
+pub const MEM_INFO_EIGHT_LEN: usize = 32;
+
+/// Size in bytes of the value of `INET_DIAG_SKMEMINFO` with seven `u32`, the fewest that are
+/// accepted: neither backlog nor drops.
+pub const MEM_INFO_SEVEN_LEN: usize = 28;
+
 /// The memory of a socket, the value of the attribute `INET_DIAG_SKMEMINFO`: an array of `u32`,
 /// little-endian, indexed by `SK_MEMINFO_*` (linux/sock_diag.h). It has nine elements, 36 bytes.
 /// Older kernels send seven (28 bytes) or eight (32 bytes).
@@ -58,11 +68,11 @@ pub struct MemInfoBuffer {
 #[derive(Clone, Copy, Debug, PartialEq, Eq)]
 pub enum MemInfoBytes {
     /// Seven fields: neither backlog nor drops.
-    Seven([u8; 28]),
+    Seven([u8; MEM_INFO_SEVEN_LEN]),
     /// Eight fields: a backlog, and no drops.
-    Eight([u8; 32]),
+    Eight([u8; MEM_INFO_EIGHT_LEN]),
     /// All nine fields.
-    Nine([u8; 36]),
+    Nine([u8; MEM_INFO_LEN]),
 }
 
 impl Exact for MemInfo {
@@ -85,14 +95,14 @@ impl Record for MemInfo {
     ghost layout = { mem_info };
 
     fn name_and_least() -> (RecordName, usize) {
-        (RecordName::MemInfo, 28)
+        (RecordName::MemInfo, MEM_INFO_SEVEN_LEN)
     }
 
     fn size(&self) -> usize {
         match (self.backlog_queue_length, self.drops) {
-            (_, Some(_)) => 36,
-            (Some(_), None) => 32,
-            (None, None) => 28,
+            (_, Some(_)) => MEM_INFO_LEN,
+            (Some(_), None) => MEM_INFO_EIGHT_LEN,
+            (None, None) => MEM_INFO_SEVEN_LEN,
         }
     }
 
@@ -120,7 +130,7 @@ impl Record for MemInfo {
     }
 
     fn write_fields(&self, buffer: &mut [u8]) {
-        let (words, rest) = buffer.split_at_mut(28);
+        let (words, rest) = buffer.split_at_mut(MEM_INFO_SEVEN_LEN);
         LittleEndian::write_u32_into(
             &[
                 self.receive_queue,

@@ -20,6 +20,10 @@ use netlink_core::{
 };
 use std::alloc::AllocError;
 
+/// Size in bytes of the part of `struct tcp_info` that [`TcpInfo`] represents. Newer kernels append
+/// fields.
+pub const TCP_INFO_LEN: usize = 232;
+
 /// The state of a TCP connection: `struct tcp_info` (linux/tcp.h), the value of the attribute
 /// `INET_DIAG_INFO`. It has 232 bytes: `u8`, `u32` and `u64` fields, little-endian. Newer kernels
 /// append fields, which are ignored.
@@ -158,7 +162,7 @@ pub struct TcpInfo {
 }
 
 /// The 232 bytes of a [`TcpInfo`].
-pub type TcpInfoBuffer = RecordBuffer<TcpInfo, 232>;
+pub type TcpInfoBuffer = RecordBuffer<TcpInfo, TCP_INFO_LEN>;
 
 // Implemented by hand: a derived `clone` has a branch for each copied field, and takes a minute to
 // prove.
@@ -183,12 +187,12 @@ impl Record for TcpInfo {
 
     #[tactic(auto, unfolding(crate::specs::TcpInfo::tcp_info))]
     fn name_and_least() -> (RecordName, usize) {
-        (RecordName::TcpInfo, 232)
+        (RecordName::TcpInfo, TCP_INFO_LEN)
     }
 
     #[tactic(auto, unfolding(crate::specs::TcpInfo::tcp_info))]
     fn size(&self) -> usize {
-        232
+        TCP_INFO_LEN
     }
 
     #[tactic(auto, unfolding(crate::specs::TcpInfo::tcp_info))]
@@ -288,7 +292,7 @@ impl Record for TcpInfo {
     ghost laws = { record_laws tcp_info tcp_info_sound };
 }
 
-impl Fills<232> for TcpInfo {
+impl Fills<TCP_INFO_LEN> for TcpInfo {
     ghost use Rattle.sock_diag_values.specs.laws.TcpInfo.{tcp_info_long};
 
     ghost fills = { tcp_info_long };

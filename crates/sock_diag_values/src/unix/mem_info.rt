@@ -10,6 +10,9 @@ use byteorder::{ByteOrder, LittleEndian};
 use netlink_core::fields::words_at;
 use netlink_core::{DecodeError, Exact, Fills, Record, RecordBuffer, RecordName, read_record};
 
+/// Size of the value of `UNIX_DIAG_MEMINFO` in bytes.
+pub const MEM_INFO_LEN: usize = 36;
+
 /// The memory of a UNIX socket, the value of the attribute `UNIX_DIAG_MEMINFO`: an array of nine
 /// `u32`, little-endian, indexed by `SK_MEMINFO_*` (linux/sock_diag.h). It has 36 bytes.
 ///
@@ -30,7 +33,7 @@ pub struct MemInfo {
 }
 
 /// The 36 bytes of a [`MemInfo`], including the ignored fields.
-pub type MemInfoBuffer = RecordBuffer<MemInfo, 36>;
+pub type MemInfoBuffer = RecordBuffer<MemInfo, MEM_INFO_LEN>;
 
 impl Exact for MemInfo {
     ghost exact = { Prim.search rules };
@@ -42,11 +45,11 @@ impl Record for MemInfo {
     ghost layout = { unix_mem_info };
 
     fn name_and_least() -> (RecordName, usize) {
-        (RecordName::UnixMemInfo, 36)
+        (RecordName::UnixMemInfo, MEM_INFO_LEN)
     }
 
     fn size(&self) -> usize {
-        36
+        MEM_INFO_LEN
     }
 
     fn from_fields(payload: &[u8], _param: ()) -> Result<Self, DecodeError> {
@@ -85,7 +88,7 @@ impl Record for MemInfo {
         (λ _ _. refl)) };
 }
 
-impl Fills<36> for MemInfo {
+impl Fills<MEM_INFO_LEN> for MemInfo {
     ghost fills = { (refl, λ _. refl) };
 }
 

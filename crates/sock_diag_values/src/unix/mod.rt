@@ -3,5 +3,5 @@
 mod mem_info;
 mod vfs;
 
-pub use mem_info::{MemInfo, MemInfoBuffer};
-pub use vfs::{Vfs, VfsBuffer};
+pub use mem_info::{MEM_INFO_LEN, MemInfo, MemInfoBuffer};
+pub use vfs::{VFS_LEN, Vfs, VfsBuffer};

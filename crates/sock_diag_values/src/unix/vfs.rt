@@ -10,6 +10,9 @@ use byteorder::{ByteOrder, LittleEndian};
 use netlink_core::fields::words_at;
 use netlink_core::{DecodeError, Exact, Fills, Record, RecordBuffer, RecordName, read_record};
 
+/// Size of `struct unix_diag_vfs` in bytes.
+pub const VFS_LEN: usize = 8;
+
 /// The file that a UNIX socket is bound to: `struct unix_diag_vfs` (linux/unix_diag.h), the value
 /// of the attribute `UNIX_DIAG_VFS`. It has 8 bytes: two `u32`, little-endian. The inode precedes
 /// the device, although sock_diag(7) lists the device first.
@@ -23,7 +26,7 @@ pub struct Vfs {
 }
 
 /// The 8 bytes of a [`Vfs`].
-pub type VfsBuffer = RecordBuffer<Vfs, 8>;
+pub type VfsBuffer = RecordBuffer<Vfs, VFS_LEN>;
 
 impl Exact for Vfs {
     ghost exact = { Prim.search rules };
@@ -35,11 +38,11 @@ impl Record for Vfs {
     ghost layout = { vfs };
 
     fn name_and_least() -> (RecordName, usize) {
-        (RecordName::Vfs, 8)
+        (RecordName::Vfs, VFS_LEN)
     }
 
     fn size(&self) -> usize {
-        8
+        VFS_LEN
     }
 
     fn from_fields(payload: &[u8], _param: ()) -> Result<Self, DecodeError> {
@@ -59,7 +62,7 @@ impl Record for Vfs {
         (λ _ _. refl)) };
 }
 
-impl Fills<8> for Vfs {
+impl Fills<VFS_LEN> for Vfs {
     ghost fills = { (refl, λ _. refl) };
 }
 
