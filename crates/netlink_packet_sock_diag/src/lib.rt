@@ -6,226 +6,118 @@
 //! text, and which nonzero byte means true.
 #![tactic(auto)]
 
-ghost use Rattle.std.specs.Prelude.{◌≡◌, [], ◌∷◌};
+ghost use Rattle.std.specs.Prelude.{[], ◌∷◌};
+ghost use Rattle.sock_diag_records.specs.Constants.{AreEqual};
 
 mod coded;
 mod dump;
 pub mod laws;
 pub mod message;
 
-pub use dump::DumpError;
-pub use dump::DumpReader;
-pub use dump::DumpState;
-pub use dump::DumpViews;
-pub use dump::LossyDump;
-pub use dump::MessageView;
-pub use dump::PayloadView;
-pub use message::SockDiagDestroy;
-pub use message::SockDiagMessage;
-pub use message::SockDiagView;
+pub use dump::{DumpError, DumpReader, DumpState, DumpViews, LossyDump, MessageView, PayloadView};
+pub use message::{SockDiagDestroy, SockDiagMessage, SockDiagView};
 pub use sock_diag_records::constants;
-pub use sock_diag_records::constants::AF_ALG;
-pub use sock_diag_records::constants::AF_APPLETALK;
-pub use sock_diag_records::constants::AF_ASH;
-pub use sock_diag_records::constants::AF_ATMPVC;
-pub use sock_diag_records::constants::AF_ATMSVC;
-pub use sock_diag_records::constants::AF_AX25;
-pub use sock_diag_records::constants::AF_BLUETOOTH;
-pub use sock_diag_records::constants::AF_BRIDGE;
-pub use sock_diag_records::constants::AF_CAIF;
-pub use sock_diag_records::constants::AF_CAN;
-pub use sock_diag_records::constants::AF_DECNET;
-pub use sock_diag_records::constants::AF_ECONET;
-pub use sock_diag_records::constants::AF_IEEE802154;
-pub use sock_diag_records::constants::AF_INET;
-pub use sock_diag_records::constants::AF_INET6;
-pub use sock_diag_records::constants::AF_IPX;
-pub use sock_diag_records::constants::AF_IRDA;
-pub use sock_diag_records::constants::AF_ISDN;
-pub use sock_diag_records::constants::AF_IUCV;
-pub use sock_diag_records::constants::AF_KEY;
-pub use sock_diag_records::constants::AF_LLC;
-pub use sock_diag_records::constants::AF_NETBEUI;
-pub use sock_diag_records::constants::AF_NETLINK;
-pub use sock_diag_records::constants::AF_NETROM;
-pub use sock_diag_records::constants::AF_PACKET;
-pub use sock_diag_records::constants::AF_PHONET;
-pub use sock_diag_records::constants::AF_PPPOX;
-pub use sock_diag_records::constants::AF_RDS;
-pub use sock_diag_records::constants::AF_ROSE;
-pub use sock_diag_records::constants::AF_RXRPC;
-pub use sock_diag_records::constants::AF_SECURITY;
-pub use sock_diag_records::constants::AF_SNA;
-pub use sock_diag_records::constants::AF_TIPC;
-pub use sock_diag_records::constants::AF_UNIX;
-pub use sock_diag_records::constants::AF_UNSPEC;
-pub use sock_diag_records::constants::AF_WANPIPE;
-pub use sock_diag_records::constants::AF_X25;
-pub use sock_diag_records::constants::INET_DIAG_BBRINFO;
-pub use sock_diag_records::constants::INET_DIAG_CLASS_ID;
-pub use sock_diag_records::constants::INET_DIAG_CONG;
-pub use sock_diag_records::constants::INET_DIAG_DCTCPINFO;
-pub use sock_diag_records::constants::INET_DIAG_INFO;
-pub use sock_diag_records::constants::INET_DIAG_LOCALS;
-pub use sock_diag_records::constants::INET_DIAG_MARK;
-pub use sock_diag_records::constants::INET_DIAG_MD5SIG;
-pub use sock_diag_records::constants::INET_DIAG_MEMINFO;
-pub use sock_diag_records::constants::INET_DIAG_NONE;
-pub use sock_diag_records::constants::INET_DIAG_PAD;
-pub use sock_diag_records::constants::INET_DIAG_PEERS;
-pub use sock_diag_records::constants::INET_DIAG_PROTOCOL;
-pub use sock_diag_records::constants::INET_DIAG_SHUTDOWN;
-pub use sock_diag_records::constants::INET_DIAG_SKMEMINFO;
-pub use sock_diag_records::constants::INET_DIAG_SKV6ONLY;
-pub use sock_diag_records::constants::INET_DIAG_TCLASS;
-pub use sock_diag_records::constants::INET_DIAG_TOS;
-pub use sock_diag_records::constants::INET_DIAG_VEGASINFO;
-pub use sock_diag_records::constants::IPPROTO_AH;
-pub use sock_diag_records::constants::IPPROTO_BEETPH;
-pub use sock_diag_records::constants::IPPROTO_COMP;
-pub use sock_diag_records::constants::IPPROTO_DCCP;
-pub use sock_diag_records::constants::IPPROTO_DSTOPTS;
-pub use sock_diag_records::constants::IPPROTO_EGP;
-pub use sock_diag_records::constants::IPPROTO_ENCAP;
-pub use sock_diag_records::constants::IPPROTO_ESP;
-pub use sock_diag_records::constants::IPPROTO_FRAGMENT;
-pub use sock_diag_records::constants::IPPROTO_GRE;
-pub use sock_diag_records::constants::IPPROTO_HOPOPTS;
-pub use sock_diag_records::constants::IPPROTO_ICMP;
-pub use sock_diag_records::constants::IPPROTO_ICMPV6;
-pub use sock_diag_records::constants::IPPROTO_IDP;
-pub use sock_diag_records::constants::IPPROTO_IGMP;
-pub use sock_diag_records::constants::IPPROTO_IP;
-pub use sock_diag_records::constants::IPPROTO_IPIP;
-pub use sock_diag_records::constants::IPPROTO_IPV6;
-pub use sock_diag_records::constants::IPPROTO_MH;
-pub use sock_diag_records::constants::IPPROTO_MPLS;
-pub use sock_diag_records::constants::IPPROTO_MTP;
-pub use sock_diag_records::constants::IPPROTO_NONE;
-pub use sock_diag_records::constants::IPPROTO_PIM;
-pub use sock_diag_records::constants::IPPROTO_PUP;
-pub use sock_diag_records::constants::IPPROTO_RAW;
-pub use sock_diag_records::constants::IPPROTO_ROUTING;
-pub use sock_diag_records::constants::IPPROTO_RSVP;
-pub use sock_diag_records::constants::IPPROTO_SCTP;
-pub use sock_diag_records::constants::IPPROTO_TCP;
-pub use sock_diag_records::constants::IPPROTO_TP;
-pub use sock_diag_records::constants::IPPROTO_UDP;
-pub use sock_diag_records::constants::IPPROTO_UDPLITE;
-pub use sock_diag_records::constants::SHUT_RD;
-pub use sock_diag_records::constants::SHUT_RDWR;
-pub use sock_diag_records::constants::SHUT_WR;
-pub use sock_diag_records::constants::SOCK_DESTROY;
-pub use sock_diag_records::constants::SOCK_DGRAM;
-pub use sock_diag_records::constants::SOCK_DIAG_BY_FAMILY;
-pub use sock_diag_records::constants::SOCK_PACKET;
-pub use sock_diag_records::constants::SOCK_RAW;
-pub use sock_diag_records::constants::SOCK_RDM;
-pub use sock_diag_records::constants::SOCK_SEQPACKET;
-pub use sock_diag_records::constants::SOCK_STREAM;
-pub use sock_diag_records::constants::TCP_CA_CWR;
-pub use sock_diag_records::constants::TCP_CA_DISORDER;
-pub use sock_diag_records::constants::TCP_CA_LOSS;
-pub use sock_diag_records::constants::TCP_CA_OPEN;
-pub use sock_diag_records::constants::TCP_CA_RECOVERY;
-pub use sock_diag_records::constants::TCP_CLOSE;
-pub use sock_diag_records::constants::TCP_CLOSE_WAIT;
-pub use sock_diag_records::constants::TCP_CLOSING;
-pub use sock_diag_records::constants::TCP_ESTABLISHED;
-pub use sock_diag_records::constants::TCP_FIN_WAIT1;
-pub use sock_diag_records::constants::TCP_FIN_WAIT2;
-pub use sock_diag_records::constants::TCP_LAST_ACK;
-pub use sock_diag_records::constants::TCP_LISTEN;
-pub use sock_diag_records::constants::TCP_SYN_RECV;
-pub use sock_diag_records::constants::TCP_SYN_SENT;
-pub use sock_diag_records::constants::TCP_TIME_WAIT;
-pub use sock_diag_records::constants::TCPF_CA_CWR;
-pub use sock_diag_records::constants::TCPF_CA_DISORDER;
-pub use sock_diag_records::constants::TCPF_CA_LOSS;
-pub use sock_diag_records::constants::TCPF_CA_OPEN;
-pub use sock_diag_records::constants::TCPF_CA_RECOVERY;
-pub use sock_diag_records::constants::TCPI_OPT_ECN;
-pub use sock_diag_records::constants::TCPI_OPT_ECN_SEEN;
-pub use sock_diag_records::constants::TCPI_OPT_SACK;
-pub use sock_diag_records::constants::TCPI_OPT_SYN_DATA;
-pub use sock_diag_records::constants::TCPI_OPT_TIMESTAMPS;
-pub use sock_diag_records::constants::TCPI_OPT_WSCALE;
-pub use sock_diag_records::constants::UDIAG_SHOW_ICONS;
-pub use sock_diag_records::constants::UDIAG_SHOW_MEMINFO;
-pub use sock_diag_records::constants::UDIAG_SHOW_NAME;
-pub use sock_diag_records::constants::UDIAG_SHOW_PEER;
-pub use sock_diag_records::constants::UDIAG_SHOW_RQLEN;
-pub use sock_diag_records::constants::UDIAG_SHOW_VFS;
-pub use sock_diag_records::constants::UNIX_DIAG_ICONS;
-pub use sock_diag_records::constants::UNIX_DIAG_MEMINFO;
-pub use sock_diag_records::constants::UNIX_DIAG_NAME;
-pub use sock_diag_records::constants::UNIX_DIAG_PEER;
-pub use sock_diag_records::constants::UNIX_DIAG_RQLEN;
-pub use sock_diag_records::constants::UNIX_DIAG_SHUTDOWN;
-pub use sock_diag_records::constants::UNIX_DIAG_VFS;
-pub use sock_diag_replies::AttributeViews;
-pub use sock_diag_replies::CheckedNlas;
-pub use sock_diag_replies::ReplyHeader;
-pub use sock_diag_replies::ReplyView;
-pub use sock_diag_replies::ReplyViews;
-pub use sock_diag_replies::inet;
-pub use sock_diag_replies::same_views;
-pub use sock_diag_replies::unix;
+pub use sock_diag_replies::{
+    AttributeViews, CheckedNlas, ReplyHeader, ReplyView, ReplyViews, inet, same_views, unix,
+};
+
+// Address families.
+pub use sock_diag_records::constants::{
+    AF_ALG, AF_APPLETALK, AF_ASH, AF_ATMPVC, AF_ATMSVC, AF_AX25, AF_BLUETOOTH, AF_BRIDGE, AF_CAIF,
+    AF_CAN, AF_DECNET, AF_ECONET, AF_IEEE802154, AF_INET, AF_INET6, AF_IPX, AF_IRDA, AF_ISDN,
+    AF_IUCV, AF_KEY, AF_LLC, AF_NETBEUI, AF_NETLINK, AF_NETROM, AF_PACKET, AF_PHONET, AF_PPPOX,
+    AF_RDS, AF_ROSE, AF_RXRPC, AF_SECURITY, AF_SNA, AF_TIPC, AF_UNIX, AF_UNSPEC, AF_WANPIPE,
+    AF_X25,
+};
+
+// Kinds of the attributes of replies about IPv4 and IPv6 sockets.
+pub use sock_diag_records::constants::{
+    INET_DIAG_BBRINFO, INET_DIAG_CLASS_ID, INET_DIAG_CONG, INET_DIAG_DCTCPINFO, INET_DIAG_INFO,
+    INET_DIAG_LOCALS, INET_DIAG_MARK, INET_DIAG_MD5SIG, INET_DIAG_MEMINFO, INET_DIAG_NONE,
+    INET_DIAG_PAD, INET_DIAG_PEERS, INET_DIAG_PROTOCOL, INET_DIAG_SHUTDOWN, INET_DIAG_SKMEMINFO,
+    INET_DIAG_SKV6ONLY, INET_DIAG_TCLASS, INET_DIAG_TOS, INET_DIAG_VEGASINFO,
+};
+
+// Protocols.
+pub use sock_diag_records::constants::{
+    IPPROTO_AH, IPPROTO_BEETPH, IPPROTO_COMP, IPPROTO_DCCP, IPPROTO_DSTOPTS, IPPROTO_EGP,
+    IPPROTO_ENCAP, IPPROTO_ESP, IPPROTO_FRAGMENT, IPPROTO_GRE, IPPROTO_HOPOPTS, IPPROTO_ICMP,
+    IPPROTO_ICMPV6, IPPROTO_IDP, IPPROTO_IGMP, IPPROTO_IP, IPPROTO_IPIP, IPPROTO_IPV6, IPPROTO_MH,
+    IPPROTO_MPLS, IPPROTO_MTP, IPPROTO_NONE, IPPROTO_PIM, IPPROTO_PUP, IPPROTO_RAW,
+    IPPROTO_ROUTING, IPPROTO_RSVP, IPPROTO_SCTP, IPPROTO_TCP, IPPROTO_TP, IPPROTO_UDP,
+    IPPROTO_UDPLITE,
+};
+
+// Arguments of shutdown(2).
+pub use sock_diag_records::constants::{SHUT_RD, SHUT_RDWR, SHUT_WR};
+
+// Message types, and types of sockets.
+pub use sock_diag_records::constants::{
+    SOCK_DESTROY, SOCK_DGRAM, SOCK_DIAG_BY_FAMILY, SOCK_PACKET, SOCK_RAW, SOCK_RDM, SOCK_SEQPACKET,
+    SOCK_STREAM,
+};
+
+// States and options of TCP.
+pub use sock_diag_records::constants::{
+    TCP_CA_CWR, TCP_CA_DISORDER, TCP_CA_LOSS, TCP_CA_OPEN, TCP_CA_RECOVERY, TCP_CLOSE,
+    TCP_CLOSE_WAIT, TCP_CLOSING, TCP_ESTABLISHED, TCP_FIN_WAIT1, TCP_FIN_WAIT2, TCP_LAST_ACK,
+    TCP_LISTEN, TCP_SYN_RECV, TCP_SYN_SENT, TCP_TIME_WAIT, TCPF_CA_CWR, TCPF_CA_DISORDER,
+    TCPF_CA_LOSS, TCPF_CA_OPEN, TCPF_CA_RECOVERY, TCPI_OPT_ECN, TCPI_OPT_ECN_SEEN, TCPI_OPT_SACK,
+    TCPI_OPT_SYN_DATA, TCPI_OPT_TIMESTAMPS, TCPI_OPT_WSCALE,
+};
+
+// Requested attributes, and kinds of the attributes of replies, for UNIX sockets.
+pub use sock_diag_records::constants::{
+    UDIAG_SHOW_ICONS, UDIAG_SHOW_MEMINFO, UDIAG_SHOW_NAME, UDIAG_SHOW_PEER, UDIAG_SHOW_RQLEN,
+    UDIAG_SHOW_VFS, UNIX_DIAG_ICONS, UNIX_DIAG_MEMINFO, UNIX_DIAG_NAME, UNIX_DIAG_PEER,
+    UNIX_DIAG_RQLEN, UNIX_DIAG_SHUTDOWN, UNIX_DIAG_VFS,
+};
 
 /// The constants that are re-exported at the root have these numeric values. Proof only: the
 /// contract states the property.
 pub fn root_constants_have_their_numbers()
-    ensures { (AF_ALG ∷ AF_APPLETALK ∷ AF_ASH ∷ AF_ATMPVC ∷ AF_ATMSVC ∷ AF_AX25 ∷ AF_BLUETOOTH
-        ∷ AF_BRIDGE ∷ AF_CAIF ∷
-        AF_CAN ∷ AF_DECNET ∷ AF_ECONET ∷ AF_IEEE802154 ∷ AF_INET ∷ AF_INET6 ∷ AF_IPX ∷ AF_IRDA
-        ∷ AF_ISDN ∷ AF_IUCV ∷
-        AF_KEY ∷ AF_LLC ∷ AF_NETBEUI ∷ AF_NETLINK ∷ AF_NETROM ∷ AF_PACKET ∷ AF_PHONET ∷ AF_PPPOX
-        ∷ AF_RDS ∷ AF_ROSE ∷
-        AF_RXRPC ∷ AF_SECURITY ∷ AF_SNA ∷ AF_TIPC ∷ AF_UNIX ∷ AF_UNSPEC ∷ AF_WANPIPE ∷ AF_X25
-        ∷ INET_DIAG_BBRINFO ∷
-        INET_DIAG_CLASS_ID ∷ INET_DIAG_CONG ∷ INET_DIAG_DCTCPINFO ∷ INET_DIAG_INFO
-        ∷ INET_DIAG_LOCALS ∷
-        INET_DIAG_MARK ∷ INET_DIAG_MD5SIG ∷ INET_DIAG_MEMINFO ∷ INET_DIAG_NONE ∷ INET_DIAG_PAD
-        ∷ INET_DIAG_PEERS ∷
-        INET_DIAG_PROTOCOL ∷ INET_DIAG_SHUTDOWN ∷ INET_DIAG_SKMEMINFO ∷ INET_DIAG_SKV6ONLY
-        ∷ INET_DIAG_TCLASS ∷
-        INET_DIAG_TOS ∷ INET_DIAG_VEGASINFO ∷ IPPROTO_AH ∷ IPPROTO_BEETPH ∷ IPPROTO_COMP
-        ∷ IPPROTO_DCCP ∷
-        IPPROTO_DSTOPTS ∷ IPPROTO_EGP ∷ IPPROTO_ENCAP ∷ IPPROTO_ESP ∷ IPPROTO_FRAGMENT ∷ IPPROTO_GRE
-        ∷
-        IPPROTO_HOPOPTS ∷ IPPROTO_ICMP ∷ IPPROTO_ICMPV6 ∷ IPPROTO_IDP ∷ IPPROTO_IGMP ∷ IPPROTO_IP
-        ∷ IPPROTO_IPIP ∷
-        IPPROTO_IPV6 ∷ IPPROTO_MH ∷ IPPROTO_MPLS ∷ IPPROTO_MTP ∷ IPPROTO_NONE ∷ IPPROTO_PIM
-        ∷ IPPROTO_PUP ∷
-        IPPROTO_RAW ∷ IPPROTO_ROUTING ∷ IPPROTO_RSVP ∷ IPPROTO_SCTP ∷ IPPROTO_TCP ∷ IPPROTO_TP
-        ∷ IPPROTO_UDP ∷
-        IPPROTO_UDPLITE ∷ SHUT_RD ∷ SHUT_RDWR ∷ SHUT_WR ∷ SOCK_DESTROY ∷ SOCK_DGRAM
-        ∷ SOCK_DIAG_BY_FAMILY ∷
-        SOCK_PACKET ∷ SOCK_RAW ∷ SOCK_RDM ∷ SOCK_SEQPACKET ∷ SOCK_STREAM ∷ TCP_CA_CWR
-        ∷ TCP_CA_DISORDER ∷
-        TCP_CA_LOSS ∷ TCP_CA_OPEN ∷ TCP_CA_RECOVERY ∷ TCP_CLOSE ∷ TCP_CLOSE_WAIT ∷ TCP_CLOSING
-        ∷ TCP_ESTABLISHED ∷
-        TCP_FIN_WAIT1 ∷ TCP_FIN_WAIT2 ∷ TCP_LAST_ACK ∷ TCP_LISTEN ∷ TCP_SYN_RECV ∷ TCP_SYN_SENT
-        ∷ TCP_TIME_WAIT ∷
-        TCPF_CA_CWR ∷ TCPF_CA_DISORDER ∷ TCPF_CA_LOSS ∷ TCPF_CA_OPEN ∷ TCPF_CA_RECOVERY
-        ∷ TCPI_OPT_ECN ∷
-        TCPI_OPT_ECN_SEEN ∷ TCPI_OPT_SACK ∷ TCPI_OPT_SYN_DATA ∷ TCPI_OPT_TIMESTAMPS
-        ∷ TCPI_OPT_WSCALE ∷
-        UDIAG_SHOW_ICONS ∷ UDIAG_SHOW_MEMINFO ∷ UDIAG_SHOW_NAME ∷ UDIAG_SHOW_PEER ∷ UDIAG_SHOW_RQLEN
-        ∷
-        UDIAG_SHOW_VFS ∷ UNIX_DIAG_ICONS ∷ UNIX_DIAG_MEMINFO ∷ UNIX_DIAG_NAME ∷ UNIX_DIAG_PEER
-        ∷ UNIX_DIAG_RQLEN ∷
-        UNIX_DIAG_SHUTDOWN ∷ UNIX_DIAG_VFS ∷ [])
-        ≡ (38 ∷ 5 ∷ 18 ∷ 8 ∷ 20 ∷ 3 ∷ 31 ∷ 7 ∷ 37 ∷ 29 ∷ 12 ∷ 19 ∷ 36 ∷ 2 ∷ 10 ∷ 4 ∷ 23 ∷ 34 ∷ 32
-        ∷ 15 ∷ 26 ∷ 13 ∷ 16 ∷
-        6 ∷ 17 ∷ 35 ∷ 24 ∷ 21 ∷ 11 ∷ 33 ∷ 14 ∷ 22 ∷ 30 ∷ 1 ∷ 0 ∷ 25 ∷ 9 ∷ 16 ∷ 17 ∷ 4 ∷ 9 ∷ 2 ∷ 12
-        ∷ 15 ∷ 18 ∷ 1 ∷
-        0 ∷ 14 ∷ 13 ∷ 10 ∷ 8 ∷ 7 ∷ 11 ∷ 6 ∷ 5 ∷ 3 ∷ 51 ∷ 94 ∷ 108 ∷ 33 ∷ 60 ∷ 8 ∷ 98 ∷ 50 ∷ 44 ∷ 47
-        ∷ 0 ∷ 1 ∷ 58 ∷
-        22 ∷ 2 ∷ 0 ∷ 4 ∷ 41 ∷ 135 ∷ 137 ∷ 92 ∷ 59 ∷ 103 ∷ 12 ∷ 255 ∷ 43 ∷ 46 ∷ 132 ∷ 6 ∷ 29 ∷ 17
-        ∷ 136 ∷ 0 ∷ 2 ∷ 1 ∷
-        21 ∷ 2 ∷ 20 ∷ 10 ∷ 3 ∷ 4 ∷ 5 ∷ 1 ∷ 2 ∷ 1 ∷ 4 ∷ 0 ∷ 3 ∷ 7 ∷ 8 ∷ 11 ∷ 1 ∷ 4 ∷ 5 ∷ 9 ∷ 10 ∷ 3
-        ∷ 2 ∷ 6 ∷ 4 ∷ 2 ∷
-        16 ∷ 1 ∷ 8 ∷ 8 ∷ 16 ∷ 2 ∷ 32 ∷ 1 ∷ 4 ∷ 8 ∷ 32 ∷ 1 ∷ 4 ∷ 16 ∷ 2 ∷ 3 ∷ 5 ∷ 0 ∷ 2 ∷ 4 ∷ 6 ∷ 1
-        ∷ []) }
+    ensures families { AreEqual ((AF_ALG, 38) ∷ (AF_APPLETALK, 5) ∷ (AF_ASH, 18) ∷
+        (AF_ATMPVC, 8) ∷ (AF_ATMSVC, 20) ∷ (AF_AX25, 3) ∷ (AF_BLUETOOTH, 31) ∷ (AF_BRIDGE, 7) ∷
+        (AF_CAIF, 37) ∷ (AF_CAN, 29) ∷ (AF_DECNET, 12) ∷ (AF_ECONET, 19) ∷ (AF_IEEE802154, 36) ∷
+        (AF_INET, 2) ∷ (AF_INET6, 10) ∷ (AF_IPX, 4) ∷ (AF_IRDA, 23) ∷ (AF_ISDN, 34) ∷
+        (AF_IUCV, 32) ∷ (AF_KEY, 15) ∷ (AF_LLC, 26) ∷ (AF_NETBEUI, 13) ∷ (AF_NETLINK, 16) ∷
+        (AF_NETROM, 6) ∷ (AF_PACKET, 17) ∷ (AF_PHONET, 35) ∷ (AF_PPPOX, 24) ∷ (AF_RDS, 21) ∷
+        (AF_ROSE, 11) ∷ (AF_RXRPC, 33) ∷ (AF_SECURITY, 14) ∷ (AF_SNA, 22) ∷ (AF_TIPC, 30) ∷
+        (AF_UNIX, 1) ∷ (AF_UNSPEC, 0) ∷ (AF_WANPIPE, 25) ∷ (AF_X25, 9) ∷ []) }
+    ensures inet_attributes { AreEqual ((INET_DIAG_BBRINFO, 16) ∷ (INET_DIAG_CLASS_ID, 17) ∷
+        (INET_DIAG_CONG, 4) ∷ (INET_DIAG_DCTCPINFO, 9) ∷ (INET_DIAG_INFO, 2) ∷
+        (INET_DIAG_LOCALS, 12) ∷ (INET_DIAG_MARK, 15) ∷ (INET_DIAG_MD5SIG, 18) ∷
+        (INET_DIAG_MEMINFO, 1) ∷ (INET_DIAG_NONE, 0) ∷ (INET_DIAG_PAD, 14) ∷
+        (INET_DIAG_PEERS, 13) ∷ (INET_DIAG_PROTOCOL, 10) ∷ (INET_DIAG_SHUTDOWN, 8) ∷
+        (INET_DIAG_SKMEMINFO, 7) ∷ (INET_DIAG_SKV6ONLY, 11) ∷ (INET_DIAG_TCLASS, 6) ∷
+        (INET_DIAG_TOS, 5) ∷ (INET_DIAG_VEGASINFO, 3) ∷ []) }
+    ensures protocols { AreEqual ((IPPROTO_AH, 51) ∷ (IPPROTO_BEETPH, 94) ∷ (IPPROTO_COMP, 108) ∷
+        (IPPROTO_DCCP, 33) ∷ (IPPROTO_DSTOPTS, 60) ∷ (IPPROTO_EGP, 8) ∷ (IPPROTO_ENCAP, 98) ∷
+        (IPPROTO_ESP, 50) ∷ (IPPROTO_FRAGMENT, 44) ∷ (IPPROTO_GRE, 47) ∷ (IPPROTO_HOPOPTS, 0) ∷
+        (IPPROTO_ICMP, 1) ∷ (IPPROTO_ICMPV6, 58) ∷ (IPPROTO_IDP, 22) ∷ (IPPROTO_IGMP, 2) ∷
+        (IPPROTO_IP, 0) ∷ (IPPROTO_IPIP, 4) ∷ (IPPROTO_IPV6, 41) ∷ (IPPROTO_MH, 135) ∷
+        (IPPROTO_MPLS, 137) ∷ (IPPROTO_MTP, 92) ∷ (IPPROTO_NONE, 59) ∷ (IPPROTO_PIM, 103) ∷
+        (IPPROTO_PUP, 12) ∷ (IPPROTO_RAW, 255) ∷ (IPPROTO_ROUTING, 43) ∷ (IPPROTO_RSVP, 46) ∷
+        (IPPROTO_SCTP, 132) ∷ (IPPROTO_TCP, 6) ∷ (IPPROTO_TP, 29) ∷ (IPPROTO_UDP, 17) ∷
+        (IPPROTO_UDPLITE, 136) ∷ []) }
+    ensures directions { AreEqual ((SHUT_RD, 0) ∷ (SHUT_RDWR, 2) ∷ (SHUT_WR, 1) ∷ []) }
+    ensures messages_and_sockets { AreEqual ((SOCK_DESTROY, 21) ∷ (SOCK_DGRAM, 2) ∷
+        (SOCK_DIAG_BY_FAMILY, 20) ∷ (SOCK_PACKET, 10) ∷ (SOCK_RAW, 3) ∷ (SOCK_RDM, 4) ∷
+        (SOCK_SEQPACKET, 5) ∷ (SOCK_STREAM, 1) ∷ []) }
+    ensures congestion_states { AreEqual ((TCP_CA_CWR, 2) ∷ (TCP_CA_DISORDER, 1) ∷
+        (TCP_CA_LOSS, 4) ∷ (TCP_CA_OPEN, 0) ∷ (TCP_CA_RECOVERY, 3) ∷ (TCPF_CA_CWR, 4) ∷
+        (TCPF_CA_DISORDER, 2) ∷ (TCPF_CA_LOSS, 16) ∷ (TCPF_CA_OPEN, 1) ∷ (TCPF_CA_RECOVERY, 8) ∷
+        []) }
+    ensures socket_states { AreEqual ((TCP_CLOSE, 7) ∷ (TCP_CLOSE_WAIT, 8) ∷ (TCP_CLOSING, 11) ∷
+        (TCP_ESTABLISHED, 1) ∷ (TCP_FIN_WAIT1, 4) ∷ (TCP_FIN_WAIT2, 5) ∷ (TCP_LAST_ACK, 9) ∷
+        (TCP_LISTEN, 10) ∷ (TCP_SYN_RECV, 3) ∷ (TCP_SYN_SENT, 2) ∷ (TCP_TIME_WAIT, 6) ∷ []) }
+    ensures negotiated_options { AreEqual ((TCPI_OPT_ECN, 8) ∷ (TCPI_OPT_ECN_SEEN, 16) ∷
+        (TCPI_OPT_SACK, 2) ∷ (TCPI_OPT_SYN_DATA, 32) ∷ (TCPI_OPT_TIMESTAMPS, 1) ∷
+        (TCPI_OPT_WSCALE, 4) ∷ []) }
+    ensures requested_attributes { AreEqual ((UDIAG_SHOW_ICONS, 8) ∷ (UDIAG_SHOW_MEMINFO, 32) ∷
+        (UDIAG_SHOW_NAME, 1) ∷ (UDIAG_SHOW_PEER, 4) ∷ (UDIAG_SHOW_RQLEN, 16) ∷
+        (UDIAG_SHOW_VFS, 2) ∷ []) }
+    ensures unix_attributes { AreEqual ((UNIX_DIAG_ICONS, 3) ∷ (UNIX_DIAG_MEMINFO, 5) ∷
+        (UNIX_DIAG_NAME, 0) ∷ (UNIX_DIAG_PEER, 2) ∷ (UNIX_DIAG_RQLEN, 4) ∷
+        (UNIX_DIAG_SHUTDOWN, 6) ∷ (UNIX_DIAG_VFS, 1) ∷ []) }
 {}
