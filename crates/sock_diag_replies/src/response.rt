@@ -104,20 +104,28 @@ impl<H, N> Readable for Reply<H, N> {
     ghost TAKES_MEMORY = { true };
 }
 
-impl<'a, H: ReplyOwned> Parseable<&'a [u8]> for Reply<H, H::Nla> {
-    /// Reads the header, and then the attributes up to the end of the bytes. A fault of the header
-    /// is returned, or else the first fault of an attribute.
-    #[inline(always)]
-    fn parse(alloc: Global, payload: &'a [u8]) -> Result<Self, DecodeError> {
-        let view = ReplyView::<H>::parse(payload)?;
-        let mut nlas = SmallVec::new(alloc);
-        if view.own_into(alloc, &mut nlas).is_err() {
+/// Reads the reply in the bytes, with memory of its own, or returns the first fault. A function in
+/// place of the macro would move the reply, of 2,000 bytes, once more.
+macro_rules! read_reply {
+    ($alloc:expr, $bytes:expr) => {{
+        let view = ReplyView::<H>::parse($bytes)?;
+        let mut nlas = SmallVec::new($alloc);
+        if view.own_into($alloc, &mut nlas).is_err() {
             return Err(without_memory(nlas));
         }
         Ok(Reply {
             header: view.header(),
             nlas,
         })
+    }};
+}
+
+impl<'a, H: ReplyOwned> Parseable<&'a [u8]> for Reply<H, H::Nla> {
+    /// Reads the header, and then the attributes up to the end of the bytes. A fault of the header
+    /// is returned, or else the first fault of an attribute.
+    #[inline(always)]
+    fn parse(alloc: Global, payload: &'a [u8]) -> Result<Self, DecodeError> {
+        read_reply!(alloc, payload)
     }
 }
 
@@ -238,18 +246,8 @@ impl<H: ReplyOwned> Coded for Reply<H, H::Nla> {
 }
 
 impl<H: ReplyOwned> Wire for Reply<H, H::Nla> {
-    // The same as `parse`, which is inlined where it is called: a reply that is passed on takes a
-    // move of 2,000 bytes.
     fn read(alloc: Global, bytes: &[u8], _param: ()) -> Result<Self, DecodeError> {
-        let view = ReplyView::<H>::parse(bytes)?;
-        let mut nlas = SmallVec::new(alloc);
-        if view.own_into(alloc, &mut nlas).is_err() {
-            return Err(without_memory(nlas));
-        }
-        Ok(Reply {
-            header: view.header(),
-            nlas,
-        })
+        read_reply!(alloc, bytes)
     }
 
     // The view is written: an owned reply could run out of memory though it can't be written.
