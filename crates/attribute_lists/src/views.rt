@@ -1,7 +1,8 @@
 //! The attributes of a reply, read in place.
 
-ghost use Rattle.std.specs.Prelude.{◌≡◌, ◌≤◌, ◌↔◌, ◌+◌, ◌++◌, length, drop, map, Err, OnOk};
-ghost use Rattle.std.specs.Prelude.{IfOk, IfErr, IsSome, IfSome};
+ghost use Rattle.std.specs.Prelude.{◌≡◌, ◌≤◌, ◌↔◌, ◌+◌, ◌-◌, ◌++◌, ℕ, length, drop, map};
+ghost use Rattle.std.specs.Prelude.{Err, OnOk, IfOk, IfErr, IsSome, IfSome, None, Some, SomeIff};
+ghost use Rattle.std.specs.Prelude.{MatchOption};
 ghost use Rattle.std.specs.List.{AllByRecursion, flat_map};
 ghost use Rattle.std.specs.Iterator.{YieldsFirstBy};
 ghost use Rattle.netlink_core.specs.Attribute.{AreWritable, AttributeFault, HasFittingValue};
@@ -10,10 +11,9 @@ ghost use Rattle.netlink_core.specs.AttributeSet.{decodes, encodes};
 ghost use Rattle.netlink_core.specs.Walk.{bytes_left};
 ghost use Rattle.attribute_lists.specs.AttributesIn.{HasNoFault, values_in};
 
-use netlink_core::{DecodeError, FamilyView, NlasIterator, emit_nla, nla_len};
+use netlink_core::{DecodeError, FamilyView, Nla, NlasIterator, emit_nla, nla_len};
 
 /// Reads each attribute and counts them, or returns the first fault. It takes no memory.
-#[tactic(auto, using(crate::proofs::Finding::finding))]
 #[inline(always)]
 pub fn check_nlas<'a, V: FamilyView<'a> + Drop>(bytes: &'a [u8]) -> Result<usize, DecodeError>
     ensures clean { OnOk result (HasNoFault (decodes V.attribute_set) bytes.entry.now) }
@@ -21,12 +21,66 @@ pub fn check_nlas<'a, V: FamilyView<'a> + Drop>(bytes: &'a [u8]) -> Result<usize
         (λ count. count ≡ length (values_in (decodes V.attribute_set) bytes.entry.now)) }
     ensures fault { IfErr result (AttributeFault (decodes V.attribute_set) bytes.entry.now) }
 {
+    match check_nlas_len::<V>(bytes, None) {
+        Ok((count, _)) => Ok(count),
+        Err(fault) => Err(fault),
+    }
+}
+
+/// Reads each attribute and counts them, or returns the first fault. Where a limit is given,
+/// returns also how many bytes they are written as, if each value fits and they have so many at
+/// most. It takes no memory.
+// The limit is known where it is inlined, so that what only counts measures nothing.
+#[tactic(auto, using(crate::proofs::Finding::finding))]
+#[inline(always)]
+pub fn check_nlas_len<'a, V: FamilyView<'a> + Drop>(
+    bytes: &'a [u8],
+    limit: Option<usize>,
+) -> Result<(usize, Option<usize>), DecodeError>
+    ensures clean { OnOk result (HasNoFault (decodes V.attribute_set) bytes.entry.now) }
+    ensures count { IfOk result
+        (λ told. told.0 ≡ length (values_in (decodes V.attribute_set) bytes.entry.now)) }
+    ensures len { let attributes = map (encodes V.attribute_set)
+        (values_in (decodes V.attribute_set) bytes.entry.now) in
+        IfOk result (λ told. MatchOption limit (told.1 ≡ None) (λ limit.
+        SomeIff told.1 (AreWritable attributes limit) (length (flat_map written attributes)))) }
+    ensures fault { IfErr result (AttributeFault (decodes V.attribute_set) bytes.entry.now) }
+{
     let mut count = 0;
+    let mut room = limit;
     for item in NlasIterator::new(bytes) {
-        let _view = V::read_view(&item?)?;
+        let view = V::read_view(&item?)?;
+        room = room_behind(&view, room);
         count += 1;
     }
-    Ok(count)
+    Ok((count, used(limit, room)))
+}
+
+// What one more attribute leaves of the room as it is written, or none if it doesn't fit.
+#[inline(always)]
+fn room_behind<V: Nla>(view: &V, room: Option<usize>) -> Option<usize>
+    ensures { MatchOption room (result ≡ None) (λ room.
+        SomeIff result (HasFittingValue (V.attribute view.now)
+        × (length (written (V.attribute view.now)) ≤ room))
+        (room - length (written (V.attribute view.now)))) }
+{
+    match room {
+        Some(room) if view.value_fits() => room.checked_sub(nla_len(view)),
+        _ => None,
+    }
+}
+
+// How much of the limit is used where so much room is left of it.
+#[inline(always)]
+fn used(limit: Option<usize>, room: Option<usize>) -> Option<usize>
+    requires { IfSome limit (λ limit. IfSome room (λ room. room ≤ limit)) }
+    ensures { MatchOption limit (result ≡ None) (λ limit.
+        MatchOption room (result ≡ None) (λ room. result ≡ Some (limit - room))) }
+{
+    match (limit, room) {
+        (Some(limit), Some(room)) => Some(limit - room),
+        _ => None,
+    }
 }
 
 /// The next attribute of bytes that have no fault.

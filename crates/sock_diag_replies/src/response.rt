@@ -15,7 +15,6 @@ use crate::view::{ReplyHeader, ReplyView};
 use attribute_lists::{copy_nlas, nlas_in_range, own_nlas};
 use netlink_core::{
     CanonError, Coded, DecodeError, Emitable, Exact, FamilyNla, Parseable, Readable, Wire,
-    write_new,
 };
 use smallvec::SmallVec;
 use std::alloc::{AllocError, Global};
@@ -250,15 +249,43 @@ impl<H: ReplyOwned> Wire for Reply<H, H::Nla> {
         read_reply!(alloc, bytes)
     }
 
-    // The view is written: an owned reply could run out of memory though it can't be written.
+    // The attributes are written from where they stand: an owned reply could run out of memory
+    // though it can't be written.
     fn rewrite(alloc: Global, bytes: &[u8], _param: ()) -> Result<Vec<u8>, CanonError> {
-        match ReplyView::<H>::parse(bytes) {
-            Ok(view) => write_new(alloc, &view),
-            Err(fault) => Err(CanonError::Refused(fault)),
-        }
+        let header = match H::read_header(bytes) {
+            Ok(header) => header,
+            Err(fault) => return Err(CanonError::Refused(fault)),
+        };
+        let attributes = &bytes[H::length()..];
+        let len = match header.check_len(attributes) {
+            Ok(Some(len)) => len,
+            Ok(None) => return Err(CanonError::Unwritable),
+            Err(fault) => return Err(CanonError::Refused(fault)),
+        };
+        Ok(write_reply(alloc, &header, attributes, len)?)
     }
 
     ghost written_is = { λ _. refl };
 
     ghost fits_is = { λ _. (λ h. h, λ h. h) };
+}
+
+// The header and the attributes behind it as they are written, in so many bytes.
+fn write_reply<H: ReplyHeader>(
+    alloc: Global,
+    header: &H,
+    bytes: &[u8],
+    len: usize,
+) -> Result<Vec<u8>, AllocError>
+    requires clean { HasNoFault (decodes H.reply.attribute_set) bytes.now }
+    requires fits { (response_codec H.reply).fits
+        (response_behind H.reply (H.header_model header.now) bytes.now) }
+    requires len { len ≡ length (response_bytes H.reply
+        (response_behind H.reply (H.header_model header.now) bytes.now)) }
+    ensures { IfOk result (λ form. form.items ≡ response_bytes H.reply
+        (response_behind H.reply (H.header_model header.now) bytes.now)) }
+{
+    let mut form = vec![in alloc; 0; len]?;
+    header.emit_with(bytes, &mut form);
+    Ok(form)
 }

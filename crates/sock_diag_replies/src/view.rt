@@ -52,6 +52,16 @@ pub trait ReplyHeader: Drop + Sized {
             count ≡ length (values_in (decodes reply.attribute_set) bytes.now)) }
         ensures fault { IfErr result (AttributeFault (decodes reply.attribute_set) bytes.now) };
 
+    /// Reads each attribute, or returns the first fault. Returns how many bytes the header and the
+    /// attributes are written as, where each value and the whole fit their lengths. It takes no
+    /// memory.
+    fn check_len(&self, bytes: &[u8]) -> Result<Option<usize>, DecodeError>
+        ensures clean { OnOk result (HasNoFault (decodes reply.attribute_set) bytes.now) }
+        ensures len { let v = response_behind reply (header_model self.now) bytes.now in
+            IfOk result (λ len. SomeIff len ((response_codec reply).fits v)
+            (length (response_bytes reply v))) }
+        ensures fault { IfErr result (AttributeFault (decodes reply.attribute_set) bytes.now) };
+
     /// Whether the headers are equal, and the same attributes stand in both places.
     fn is_same(&self, left: &[u8], other: &Self, right: &[u8]) -> bool
         requires left { HasNoFault (decodes reply.attribute_set) left.now }

@@ -10,7 +10,7 @@ ghost use Rattle.sock_diag_records.specs.contracts.inet.exact.InetResponseHeader
 
 use crate::inet::InetResponseHeader;
 use crate::inet::nlas::{Nla, NlaView};
-use crate::reply::{emit_reply_view, reply_view_len, same_views};
+use crate::reply::{check_reply_len, emit_reply_view, reply_view_len, same_views};
 use crate::response::{Reply, ReplyOwned};
 use crate::view::{AttributeViews, ReplyHeader, ReplyView, ReplyViews};
 use attribute_lists::check_nlas;
@@ -59,6 +59,11 @@ impl ReplyHeader for InetResponseHeader {
     #[inline(always)]
     fn check(bytes: &[u8]) -> Result<usize, DecodeError> {
         check_nlas::<NlaView<'_>>(bytes)
+    }
+
+    #[inline(always)]
+    fn check_len(&self, bytes: &[u8]) -> Result<Option<usize>, DecodeError> {
+        check_reply_len::<_, NlaView<'_>>(self, bytes)
     }
 
     fn is_same(&self, left: &[u8], other: &Self, right: &[u8]) -> bool {
