@@ -1,18 +1,19 @@
 //! The messages of sock_diag(7): requests and replies, and the request to close sockets.
 
 ghost use Rattle.std.specs.Prelude.{◌≡◌, ◌≢◌, ◌<◌, ◌↔◌, ◌⊎◌, true, refl, IsTrue, IfOk, IfErr, IsOk};
+ghost use Rattle.std.specs.Prelude.{Ok, Err, if◌then◌else◌};
 ghost use Rattle.netlink_core.specs.declared.fault.DecodeError.TheVariants.{Memory};
 ghost use Rattle.netlink_core.specs.declared.message.NetlinkPayload.TheVariants.{InnerMessage};
 ghost use Rattle.netlink_packet_sock_diag.specs.Message.{Message, message_codec, by_kind};
 ghost use Rattle.sock_diag_records.specs.ResponseKind.{inet_request, inet_response, unix_request};
-ghost use Rattle.sock_diag_records.specs.ResponseKind.{unix_response};
+ghost use Rattle.sock_diag_records.specs.ResponseKind.{unix_response, response_kind};
 
 use crate::constants::{AF_INET, AF_INET6, AF_UNIX, SOCK_DESTROY, SOCK_DIAG_BY_FAMILY};
 use crate::inet::{InetRequest, InetResponse, InetResponseView};
 use crate::unix::{UnixRequest, UnixResponse, UnixResponseView};
 use netlink_core::{
     CanonError, DecodeError, Emitable, NetlinkDeserializable, NetlinkHeader, NetlinkPayload,
-    NetlinkSerializable, ParseableParametrized, Readable, Wire, write_new,
+    NetlinkSerializable, ParseableParametrized, Readable, Wire, canonical,
 };
 use std::alloc::{AllocError, Global};
 
@@ -110,6 +111,27 @@ impl SockDiagMessage {
     {
         Ok(SockDiagView::parse(payload, message_type)?.to_owned(alloc)?)
     }
+
+    // Whether the bytes under the message type are a reply about a UNIX socket, and not about an
+    // IPv4 or IPv6 socket, or the fault if they are neither.
+    #[inline(always)]
+    fn holds_unix_reply(payload: &[u8], message_type: u16) -> Result<bool, DecodeError>
+        ensures kind { IfOk result (λ unix. response_kind payload.now message_type
+            ≡ Ok (if unix then unix_response else inet_response)) }
+        ensures fault { IfErr result (λ fault. response_kind payload.now message_type ≡ Err fault) }
+    {
+        if payload.len() < 2 {
+            return Err(DecodeError::MessageTooShort { got: payload.len() });
+        }
+        if message_type != SOCK_DIAG_BY_FAMILY {
+            return Err(DecodeError::UnknownMessageType { message_type });
+        }
+        match payload[0] {
+            AF_UNIX => Ok(true),
+            AF_INET | AF_INET6 => Ok(false),
+            family => Err(DecodeError::UnknownFamily { family }),
+        }
+    }
 }
 
 /// A message of sock_diag(7), read in place: a [`SockDiagMessage`] whose bytes are borrowed.
@@ -135,16 +157,10 @@ impl<'a> SockDiagView<'a> {
             (λ view. message_codec.reads payload.entry.now message_type (message_view_model view)) }
         ensures fault { IfErr result (message_codec.refuses payload.entry.now message_type) }
     {
-        if payload.len() < 2 {
-            return Err(DecodeError::MessageTooShort { got: payload.len() });
-        }
-        if message_type != SOCK_DIAG_BY_FAMILY {
-            return Err(DecodeError::UnknownMessageType { message_type });
-        }
-        match payload[0] {
-            AF_UNIX => Ok(SockDiagView::UnixResponse(UnixResponseView::parse(payload)?)),
-            AF_INET | AF_INET6 => Ok(SockDiagView::InetResponse(InetResponseView::parse(payload)?)),
-            family => Err(DecodeError::UnknownFamily { family }),
+        match SockDiagMessage::holds_unix_reply(payload, message_type) {
+            Ok(true) => Ok(SockDiagView::UnixResponse(UnixResponseView::parse(payload)?)),
+            Ok(false) => Ok(SockDiagView::InetResponse(InetResponseView::parse(payload)?)),
+            Err(fault) => Err(fault),
         }
     }
 
@@ -188,10 +204,12 @@ impl Wire for SockDiagMessage {
         SockDiagMessage::read_under(alloc, bytes, param)
     }
 
-    // The view is written: an owned message could run out of memory though it can't be written.
+    // The bytes are rewritten as a reply of their family. An owned message could run out of memory
+    // though it can't be written.
     fn rewrite(alloc: Global, bytes: &[u8], param: u16) -> Result<Vec<u8>, CanonError> {
-        match SockDiagView::parse(bytes, param) {
-            Ok(view) => write_new(alloc, &view),
+        match SockDiagMessage::holds_unix_reply(bytes, param) {
+            Ok(true) => canonical::<UnixResponse>(alloc, bytes, ()),
+            Ok(false) => canonical::<InetResponse>(alloc, bytes, ()),
             Err(fault) => Err(CanonError::Refused(fault)),
         }
     }
