@@ -4,3 +4,4 @@ pub mod Checking
 pub mod Kept
 mod EncodedAttributes
 mod Emitting
+mod Measuring

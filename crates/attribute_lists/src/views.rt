@@ -1,7 +1,8 @@
 //! The borrowed attributes of a reply.
 
-ghost use Rattle.std.specs.Prelude.{◌≡◌, ◌≤◌, ◌↔◌, ◌+◌, length, map, Err, OnOk};
-ghost use Rattle.std.specs.Prelude.{IfOk, IfErr, IsSome, IfSome};
+ghost use Rattle.std.specs.Prelude.{◌≡◌, ◌≤◌, ◌↔◌, ◌+◌, ◌-◌, length, map};
+ghost use Rattle.std.specs.Prelude.{Err, OnOk, IfOk, IfErr, IsSome, IfSome, None, Some, SomeIff};
+ghost use Rattle.std.specs.Prelude.{MatchOption};
 ghost use Rattle.std.specs.List.{AllByRecursion, flat_map};
 ghost use Rattle.std.specs.Iterator.{YieldsFirstBy};
 ghost use Rattle.netlink_core.specs.Bytes.{HoldsAtStart};
@@ -11,11 +12,10 @@ ghost use Rattle.netlink_core.specs.AttributeSet.{decodes, encodes};
 ghost use Rattle.netlink_core.specs.Walk.{bytes_left};
 ghost use Rattle.attribute_lists.specs.AttributesIn.{HasNoFault, values_in};
 
-use netlink_core::{DecodeError, FamilyView, NlasIterator, emit_nla, nla_len};
+use netlink_core::{DecodeError, FamilyView, Nla, NlasIterator, emit_nla, nla_len};
 
 /// Checks each attribute and returns how many there are, or returns the first error. Does not
 /// allocate.
-#[tactic(auto, using(crate::proofs::Finding::finding))]
 #[inline(always)]
 pub fn check_nlas<'a, V: FamilyView<'a> + Drop>(bytes: &'a [u8]) -> Result<usize, DecodeError>
     ensures clean { OnOk result (HasNoFault (decodes V.attribute_set) bytes.entry.now) }
@@ -23,12 +23,67 @@ pub fn check_nlas<'a, V: FamilyView<'a> + Drop>(bytes: &'a [u8]) -> Result<usize
         (λ count. count ≡ length (values_in (decodes V.attribute_set) bytes.entry.now)) }
     ensures fault { IfErr result (AttributeFault (decodes V.attribute_set) bytes.entry.now) }
 {
+    match check_nlas_len::<V>(bytes, None) {
+        Ok((count, _)) => Ok(count),
+        Err(fault) => Err(fault),
+    }
+}
+
+/// Checks each attribute and returns how many there are, or returns the first error. If a limit is
+/// given, it also returns the number of bytes that the attributes serialize to, or `None` if a
+/// value does not fit its length field or if this number is above the limit. Does not allocate.
+// A caller passes a constant `None` to count only: inlined, it then measures nothing.
+#[tactic(auto, using(crate::proofs::Finding::finding))]
+#[inline(always)]
+pub fn check_nlas_len<'a, V: FamilyView<'a> + Drop>(
+    bytes: &'a [u8],
+    limit: Option<usize>,
+) -> Result<(usize, Option<usize>), DecodeError>
+    ensures clean { OnOk result (HasNoFault (decodes V.attribute_set) bytes.entry.now) }
+    ensures count { IfOk result
+        (λ found. found.0 ≡ length (values_in (decodes V.attribute_set) bytes.entry.now)) }
+    ensures len { let attributes = map (encodes V.attribute_set)
+        (values_in (decodes V.attribute_set) bytes.entry.now) in
+        IfOk result (λ found. MatchOption limit (found.1 ≡ None) (λ limit.
+        SomeIff found.1 (AreWritable attributes limit) (length (flat_map written attributes)))) }
+    ensures fault { IfErr result (AttributeFault (decodes V.attribute_set) bytes.entry.now) }
+{
     let mut count = 0;
+    let mut room = limit;
     for item in NlasIterator::new(bytes) {
-        let _view = V::read_view(&item?)?;
+        let view = V::read_view(&item?)?;
+        room = room_after(&view, room);
         count += 1;
     }
-    Ok(count)
+    Ok((count, used(limit, room)))
+}
+
+// Returns the room that is left after one more attribute is serialized, or `None` if it does not
+// fit.
+#[inline(always)]
+fn room_after<V: Nla>(view: &V, room: Option<usize>) -> Option<usize>
+    ensures { MatchOption room (result ≡ None) (λ room.
+        SomeIff result (HasFittingValue (V.attribute view.now)
+        × (length (written (V.attribute view.now)) ≤ room))
+        (room - length (written (V.attribute view.now)))) }
+{
+    match room {
+        Some(room) if view.value_fits() => room.checked_sub(nla_len(view)),
+        _ => None,
+    }
+}
+
+// Returns how much of the limit is used if this room is left of it.
+#[inline(always)]
+fn used(limit: Option<usize>, room: Option<usize>) -> Option<usize>
+    requires { IfSome limit (λ limit. IfSome room (λ room. room ≤ limit)) }
+    ensures { MatchOption limit (result ≡ None) (λ limit.
+        MatchOption room (result ≡ None) (λ room. result ≡ Some (limit - room))) }
+{
+    match (limit, room) {
+        (Some(limit), Some(room)) => Some(limit - room),
+        _ => None,
+    }
 }
 
 /// Returns the next attribute of bytes that have no error, or `None` at their end.

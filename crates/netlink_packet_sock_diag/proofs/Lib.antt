@@ -6,3 +6,4 @@ pub mod LossyDumps
 pub mod Feeding
 pub mod WholeViews
 mod EqualPayloads
+mod Rewriting

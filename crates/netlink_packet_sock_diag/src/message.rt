@@ -1,18 +1,19 @@
 //! The messages of sock_diag(7): requests, replies, and the request to close sockets.
 
 ghost use Rattle.std.specs.Prelude.{◌≡◌, ◌≢◌, ◌<◌, ◌↔◌, ◌⊎◌, true, refl, IsTrue, IfOk, IfErr, IsOk};
+ghost use Rattle.std.specs.Prelude.{Ok, Err, if◌then◌else◌};
 ghost use Rattle.netlink_core.specs.declared.fault.DecodeError.TheVariants.{Memory};
 ghost use Rattle.netlink_core.specs.declared.message.NetlinkPayload.TheVariants.{InnerMessage};
 ghost use Rattle.netlink_packet_sock_diag.specs.Message.{Message, kind_of, message_codec};
 ghost use Rattle.sock_diag_records.specs.ResponseKind.{inet_request, inet_response, unix_request};
-ghost use Rattle.sock_diag_records.specs.ResponseKind.{unix_response};
+ghost use Rattle.sock_diag_records.specs.ResponseKind.{unix_response, response_kind};
 
 use crate::constants::{AF_INET, AF_INET6, AF_UNIX, SOCK_DESTROY, SOCK_DIAG_BY_FAMILY};
 use crate::inet::{InetRequest, InetResponse, InetResponseView};
 use crate::unix::{UnixRequest, UnixResponse, UnixResponseView};
 use netlink_core::{
     CanonError, DecodeError, Emitable, NetlinkDeserializable, NetlinkHeader, NetlinkPayload,
-    NetlinkSerializable, ParseableParametrized, Readable, Wire, write_new,
+    NetlinkSerializable, ParseableParametrized, Readable, Wire, canonical,
 };
 use std::alloc::{AllocError, Global};
 
@@ -111,6 +112,28 @@ impl SockDiagMessage {
     {
         Ok(SockDiagView::parse(payload, message_type)?.to_owned(alloc)?)
     }
+
+    // Returns `true` if the bytes under the message type are a reply about a UNIX socket, `false`
+    // if they are one about an IPv4 or IPv6 socket, and the error if they are neither. It looks at
+    // the first byte only.
+    #[inline(always)]
+    fn holds_unix_reply(payload: &[u8], message_type: u16) -> Result<bool, DecodeError>
+        ensures kind { IfOk result (λ unix. response_kind payload.now message_type
+            ≡ Ok (if unix then unix_response else inet_response)) }
+        ensures fault { IfErr result (λ fault. response_kind payload.now message_type ≡ Err fault) }
+    {
+        if payload.len() < 2 {
+            return Err(DecodeError::MessageTooShort { got: payload.len() });
+        }
+        if message_type != SOCK_DIAG_BY_FAMILY {
+            return Err(DecodeError::UnknownMessageType { message_type });
+        }
+        match payload[0] {
+            AF_UNIX => Ok(true),
+            AF_INET | AF_INET6 => Ok(false),
+            family => Err(DecodeError::UnknownFamily { family }),
+        }
+    }
 }
 
 /// A borrowed message of sock_diag(7): the bytes of a [`SockDiagMessage`], checked. Only replies
@@ -140,16 +163,10 @@ impl<'a> SockDiagView<'a> {
             (λ view. message_codec.reads payload.entry.now message_type (message_view_model view)) }
         ensures fault { IfErr result (message_codec.refuses payload.entry.now message_type) }
     {
-        if payload.len() < 2 {
-            return Err(DecodeError::MessageTooShort { got: payload.len() });
-        }
-        if message_type != SOCK_DIAG_BY_FAMILY {
-            return Err(DecodeError::UnknownMessageType { message_type });
-        }
-        match payload[0] {
-            AF_UNIX => Ok(SockDiagView::UnixResponse(UnixResponseView::parse(payload)?)),
-            AF_INET | AF_INET6 => Ok(SockDiagView::InetResponse(InetResponseView::parse(payload)?)),
-            family => Err(DecodeError::UnknownFamily { family }),
+        match SockDiagMessage::holds_unix_reply(payload, message_type) {
+            Ok(true) => Ok(SockDiagView::UnixResponse(UnixResponseView::parse(payload)?)),
+            Ok(false) => Ok(SockDiagView::InetResponse(InetResponseView::parse(payload)?)),
+            Err(fault) => Err(fault),
         }
     }
 
@@ -198,11 +215,12 @@ impl Wire for SockDiagMessage {
         SockDiagMessage::read_under(alloc, bytes, param)
     }
 
-    // Serializes the view. Building an owned message first could fail with `Memory` for a message
-    // that is not writable.
+    // Rewrites the bytes as a reply of their family. Building an owned message first could fail
+    // with `Memory` for a message that is not writable.
     fn rewrite(alloc: Global, bytes: &[u8], param: u16) -> Result<Vec<u8>, CanonError> {
-        match SockDiagView::parse(bytes, param) {
-            Ok(view) => write_new(alloc, &view),
+        match SockDiagMessage::holds_unix_reply(bytes, param) {
+            Ok(true) => canonical::<UnixResponse>(alloc, bytes, ()),
+            Ok(false) => canonical::<InetResponse>(alloc, bytes, ()),
             Err(fault) => Err(CanonError::Refused(fault)),
         }
     }

@@ -8,7 +8,7 @@ ghost use Rattle.sock_diag_replies.specs.laws.EqualResponse.{response_test};
 ghost use Rattle.sock_diag_replies.specs.laws.EqualResponse.{response_test_decides};
 ghost use Rattle.sock_diag_any.specs.WholeReply.{whole_reply};
 
-use attribute_lists::{check_nlas, emit_views, views_len};
+use attribute_lists::{check_nlas, check_nlas_len, emit_views, views_len};
 use netlink_core::{DecodeError, Emitable, Record, read_record};
 use sock_diag_families::WholeNla;
 use sock_diag_replies::{ReplyHeader, ReplyView, ReplyViews, same_views};
@@ -52,6 +52,16 @@ impl<H: FamilyHeader> ReplyHeader for Whole<H> {
     #[inline(always)]
     fn check(bytes: &[u8]) -> Result<usize, DecodeError> {
         check_nlas::<WholeNla<'_>>(bytes)
+    }
+
+    #[inline(always)]
+    fn check_len(&self, bytes: &[u8]) -> Result<Option<usize>, DecodeError> {
+        let len = self.0.buffer_len();
+        match check_nlas_len::<WholeNla<'_>>(bytes, (u32::MAX as usize).checked_sub(len)) {
+            Ok((_, Some(attributes))) => Ok(Some(len + attributes)),
+            Ok((_, None)) => Ok(None),
+            Err(fault) => Err(fault),
+        }
     }
 
     fn is_same(&self, left: &[u8], other: &Self, right: &[u8]) -> bool {

@@ -1,2 +1,3 @@
 mod FirstFound
 mod NoFault
+mod Owning

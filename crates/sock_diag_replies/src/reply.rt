@@ -1,16 +1,17 @@
 //! Comparing, measuring and serializing replies of every family: a header followed by attributes.
 
-ghost use Rattle.std.specs.Prelude.{◌≡◌, ◌≤◌, ◌↔◌, length, drop, map, Bool, IsSome, IfSome};
-ghost use Rattle.std.specs.Prelude.{SomeIff};
+ghost use Rattle.std.specs.Prelude.{◌≡◌, ◌≤◌, ◌↔◌, length, map, Bool, IsSome, IfSome};
+ghost use Rattle.std.specs.Prelude.{IfErr, IfOk, OnOk, SomeIff};
 ghost use lib.Pointwise.{pointwise};
 ghost use Rattle.attribute_lists.specs.AttributesIn.{HasNoFault, values_in};
+ghost use Rattle.netlink_core.specs.Attribute.{AttributeFault};
 ghost use Rattle.netlink_core.specs.Bytes.{HoldsAtStart};
 ghost use Rattle.netlink_core.specs.declared.fault.DecodeError.TheVariants.{Memory};
 ghost use Rattle.netlink_core.specs.AttributeSet.{AttributeValue, decodes, encodes};
 ghost use Rattle.netlink_core.specs.private.Response.{framed, FramedFits};
 
 use attribute_lists::{
-    emit_values, emit_views, next_view, values_len, values_len_within, views_len,
+    check_nlas_len, emit_values, emit_views, next_view, values_len, values_len_within, views_len,
 };
 use netlink_core::{DecodeError, Emitable, FamilyNla, FamilyView, NlasIterator};
 
@@ -83,6 +84,30 @@ pub(crate) fn emit_reply<H: Emitable, T: FamilyNla>(header: &H, nlas: &[T], buff
     let (front, rest) = buffer.split_at_mut(header.buffer_len());
     header.emit(front);
     emit_values(nlas, rest);
+}
+
+/// Checks each attribute after the header, or returns the first error. Returns the length that the
+/// header and the attributes have in canonical form, or `None` if the value of an attribute then
+/// has more than 65,531 bytes, or if the whole has more than 4,294,967,295 bytes.
+#[inline(always)]
+pub(crate) fn check_reply_len<'a, H: Emitable, V: FamilyView<'a> + Drop>(
+    header: &H,
+    bytes: &'a [u8],
+) -> Result<Option<usize>, DecodeError>
+    requires { H.writable header.now }
+    ensures clean { OnOk result (HasNoFault (decodes V.attribute_set) bytes.entry.now) }
+    ensures len { let attributes = map (encodes V.attribute_set)
+        (values_in (decodes V.attribute_set) bytes.entry.now) in
+        IfOk result (λ len. SomeIff len (FramedFits (H.bytes header.now) attributes)
+        (length (framed (H.bytes header.now) attributes))) }
+    ensures fault { IfErr result (AttributeFault (decodes V.attribute_set) bytes.entry.now) }
+{
+    let len = header.buffer_len();
+    match check_nlas_len::<V>(bytes, (u32::MAX as usize).checked_sub(len)) {
+        Ok((_, Some(attributes))) => Ok(Some(len + attributes)),
+        Ok((_, None)) => Ok(None),
+        Err(fault) => Err(fault),
+    }
 }
 
 /// Returns the length that the header and the attributes in `bytes` have in canonical form. Returns

@@ -1,6 +1,6 @@
 //! Owned replies of any family.
 
-ghost use Rattle.std.specs.Prelude.{◌≡◌, ◌≤◌, ◌↔◌, ℕ, List, [], length, drop, map, IfOk, IsOk};
+ghost use Rattle.std.specs.Prelude.{◌≡◌, ◌≤◌, ◌↔◌, ℕ, List, [], length, map, IfOk, IsOk};
 ghost use Rattle.std.specs.Prelude.{OnOk, IsTrue, true, refl};
 ghost use Rattle.std.specs.List.{AllByRecursion};
 ghost use Rattle.netlink_core.specs.Attribute.{AttributeFault};
@@ -15,7 +15,6 @@ use crate::view::{ReplyHeader, ReplyView};
 use attribute_lists::{copy_nlas, nlas_in_range, own_nlas};
 use netlink_core::{
     CanonError, Coded, DecodeError, Emitable, Exact, FamilyNla, Parseable, Readable, Wire,
-    write_new,
 };
 use smallvec::SmallVec;
 use std::alloc::{AllocError, Global};
@@ -108,21 +107,29 @@ impl<H, N> Readable for Reply<H, N> {
     ghost TAKES_MEMORY = { true };
 }
 
-impl<'a, H: ReplyOwned> Parseable<&'a [u8]> for Reply<H, H::Nla> {
-    /// Parses the header, and then the attributes up to the end of the bytes. Returns the error of
-    /// the header, or else the first error of an attribute. Returns `Memory` if an allocation
-    /// fails.
-    #[inline(always)]
-    fn parse(alloc: Global, payload: &'a [u8]) -> Result<Self, DecodeError> {
-        let view = ReplyView::<H>::parse(payload)?;
-        let mut nlas = SmallVec::new(alloc);
-        if view.own_into(alloc, &mut nlas).is_err() {
+/// Parses the reply in the bytes, owned, or returns the first error. It is a macro because a
+/// function would move the reply, of 2,000 bytes, once more.
+macro_rules! read_reply {
+    ($alloc:expr, $bytes:expr) => {{
+        let view = ReplyView::<H>::parse($bytes)?;
+        let mut nlas = SmallVec::new($alloc);
+        if view.own_into($alloc, &mut nlas).is_err() {
             return Err(without_memory(nlas));
         }
         Ok(Reply {
             header: view.header(),
             nlas,
         })
+    }};
+}
+
+impl<'a, H: ReplyOwned> Parseable<&'a [u8]> for Reply<H, H::Nla> {
+    /// Parses the header, and then the attributes up to the end of the bytes. Returns the error of
+    /// the header, or else the first error of an attribute. Returns `Memory` if an allocation
+    /// fails.
+    #[inline(always)]
+    fn parse(alloc: Global, payload: &'a [u8]) -> Result<Self, DecodeError> {
+        read_reply!(alloc, payload)
     }
 }
 
@@ -243,30 +250,47 @@ impl<H: ReplyOwned> Coded for Reply<H, H::Nla> {
 }
 
 impl<H: ReplyOwned> Wire for Reply<H, H::Nla> {
-    // Repeats the body of `parse`, which is inlined into its callers: returning the reply of a call
-    // to `parse` would move 2,000 bytes.
     fn read(alloc: Global, bytes: &[u8], _param: ()) -> Result<Self, DecodeError> {
-        let view = ReplyView::<H>::parse(bytes)?;
-        let mut nlas = SmallVec::new(alloc);
-        if view.own_into(alloc, &mut nlas).is_err() {
-            return Err(without_memory(nlas));
-        }
-        Ok(Reply {
-            header: view.header(),
-            nlas,
-        })
+        read_reply!(alloc, bytes)
     }
 
-    // Serializes the view. Building an owned reply first could fail with `Memory` for a reply that
-    // is not writable.
+    // Serializes the borrowed attributes. Building an owned reply first could fail with `Memory`
+    // for a reply that is not writable.
     fn rewrite(alloc: Global, bytes: &[u8], _param: ()) -> Result<Vec<u8>, CanonError> {
-        match ReplyView::<H>::parse(bytes) {
-            Ok(view) => write_new(alloc, &view),
-            Err(fault) => Err(CanonError::Refused(fault)),
-        }
+        let header = match H::read_header(bytes) {
+            Ok(header) => header,
+            Err(fault) => return Err(CanonError::Refused(fault)),
+        };
+        let attributes = &bytes[H::length()..];
+        let len = match header.check_len(attributes) {
+            Ok(Some(len)) => len,
+            Ok(None) => return Err(CanonError::Unwritable),
+            Err(fault) => return Err(CanonError::Refused(fault)),
+        };
+        Ok(write_reply(alloc, &header, attributes, len)?)
     }
 
     ghost written_is = { λ _. refl };
 
     ghost fits_is = { λ _. (λ h. h, λ h. h) };
+}
+
+// Returns the canonical form of the header and the attributes after it, which has this length.
+fn write_reply<H: ReplyHeader>(
+    alloc: Global,
+    header: &H,
+    bytes: &[u8],
+    len: usize,
+) -> Result<Vec<u8>, AllocError>
+    requires clean { HasNoFault (decodes H.reply.attribute_set) bytes.now }
+    requires fits { (response_codec H.reply).fits
+        (response_behind H.reply (H.header_model header.now) bytes.now) }
+    requires len { len ≡ length (response_bytes H.reply
+        (response_behind H.reply (H.header_model header.now) bytes.now)) }
+    ensures { IfOk result (λ form. form.items ≡ response_bytes H.reply
+        (response_behind H.reply (H.header_model header.now) bytes.now)) }
+{
+    let mut form = vec![in alloc; 0; len]?;
+    header.emit_with(bytes, &mut form);
+    Ok(form)
 }

@@ -54,6 +54,16 @@ pub trait ReplyHeader: Drop + Sized {
             count ≡ length (values_in (decodes reply.attribute_set) bytes.now)) }
         ensures fault { IfErr result (AttributeFault (decodes reply.attribute_set) bytes.now) };
 
+    /// Checks each attribute, or returns the first error. Returns the length that the header and
+    /// the attributes have in canonical form, or `None` if a length does not fit its field. Does
+    /// not allocate.
+    fn check_len(&self, bytes: &[u8]) -> Result<Option<usize>, DecodeError>
+        ensures clean { OnOk result (HasNoFault (decodes reply.attribute_set) bytes.now) }
+        ensures len { let v = response_behind reply (header_model self.now) bytes.now in
+            IfOk result (λ len. SomeIff len ((response_codec reply).fits v)
+            (length (response_bytes reply v))) }
+        ensures fault { IfErr result (AttributeFault (decodes reply.attribute_set) bytes.now) };
+
     /// Returns whether the headers are equal, and `left` and `right` contain equal attributes in
     /// the same order.
     fn is_same(&self, left: &[u8], other: &Self, right: &[u8]) -> bool

@@ -10,7 +10,7 @@ ghost use Rattle.sock_diag_records.specs.contracts.inet.exact.InetResponseHeader
 
 use crate::inet::nlas::{Nla, NlaView};
 use crate::inet::{INET_RESPONSE_HEADER_LEN, InetResponseHeader};
-use crate::reply::{emit_reply_view, reply_view_len, same_views};
+use crate::reply::{check_reply_len, emit_reply_view, reply_view_len, same_views};
 use crate::response::{Reply, ReplyOwned};
 use crate::view::{AttributeViews, ReplyHeader, ReplyView, ReplyViews};
 use attribute_lists::check_nlas;
@@ -59,8 +59,9 @@ impl ReplyHeader for InetResponseHeader {
         check_nlas::<NlaView<'_>>(bytes)
     }
 
-    fn is_same(&self, left: &[u8], other: &Self, right: &[u8]) -> bool {
-        self == other && same_views::<NlaView<'_>>(left, right)
+    #[inline(always)]
+    fn check_len(&self, bytes: &[u8]) -> Result<Option<usize>, DecodeError> {
+        check_reply_len::<_, NlaView<'_>>(self, bytes)
     }
 
     #[inline(always)]
@@ -71,6 +72,10 @@ impl ReplyHeader for InetResponseHeader {
     #[inline(always)]
     fn emit_with(&self, bytes: &[u8], buffer: &mut [u8]) {
         emit_reply_view::<_, NlaView<'_>>(self, bytes, buffer);
+    }
+
+    fn is_same(&self, left: &[u8], other: &Self, right: &[u8]) -> bool {
+        self == other && same_views::<NlaView<'_>>(left, right)
     }
 
     ghost enough = { header_enough };

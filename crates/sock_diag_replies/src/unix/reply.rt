@@ -8,7 +8,7 @@ ghost use Rattle.sock_diag_replies.specs.laws.UnixResponseSpec.{unix_response_la
 ghost use Rattle.sock_diag_replies.specs.laws.UnixResponseSpec.{unix_test, unix_test_decides};
 ghost use Rattle.sock_diag_records.specs.contracts.unix.response.UnixResponseHeaderExact.TheImpl.Laws.{exact-law as exact_header};
 
-use crate::reply::{emit_reply_view, reply_view_len, same_views};
+use crate::reply::{check_reply_len, emit_reply_view, reply_view_len, same_views};
 use crate::response::{Reply, ReplyOwned};
 use crate::unix::nlas::{Nla, NlaView};
 use crate::unix::{UNIX_RESPONSE_HEADER_LEN, UnixResponseHeader};
@@ -54,6 +54,11 @@ impl ReplyHeader for UnixResponseHeader {
     #[inline(always)]
     fn check(bytes: &[u8]) -> Result<usize, DecodeError> {
         check_nlas::<NlaView<'_>>(bytes)
+    }
+
+    #[inline(always)]
+    fn check_len(&self, bytes: &[u8]) -> Result<Option<usize>, DecodeError> {
+        check_reply_len::<_, NlaView<'_>>(self, bytes)
     }
 
     fn is_same(&self, left: &[u8], other: &Self, right: &[u8]) -> bool {

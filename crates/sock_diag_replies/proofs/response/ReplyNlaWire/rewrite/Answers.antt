@@ -1,46 +1,59 @@
-use Rattle.std.proofs.Common.{drop, arith, ◌∙◌}
-use Rattle.std.proofs.lemmas.Result.{IfOk-weaker, IfErr-weaker}
+use Rattle.std.proofs.Common.{ℕ, drop, ap, refl, arith, ◌∙◌}
+use Rattle.std.proofs.lemmas.List.{take_rest}
+use Rattle.std.proofs.lemmas.Result.{err_from_is_err_and}
 use Rattle.netlink_core.specs.Bytes.{IsBytes}
-use Rattle.netlink_core.specs.Response.{response_codec}
-use Rattle.netlink_core.proofs.Rewriting.{gives_up}
-use Rattle.attribute_lists.specs.AttributesIn.{response_behind}
-use Rattle.sock_diag_replies.specs.ViewModel.{view_model}
+use Rattle.attribute_lists.proofs.Finding.{behind_refused}
 use Rattle.attribute_lists.proofs.Kept.{kept_bytes, kept_fits, kept_reads, kept_refused}
 use Rattle.sock_diag_replies.proofs.response.ReplyNlaWire.rewrite.Goals as goal
 
-pub returns-in-Ok-clause-written : goal.returns-in-Ok-clause-written
-returns-in-Ok-clause-written g c =
+pub returns-in-Ok-None-clause-err : goal.returns-in-Ok-None-clause-err
+returns-in-Ok-None-clause-err g c =
     let R = g.H.ReplyHeader.reply in
     let F = g.H.Nla.FamilyNla.attribute_set in
-    let view = c.in-Ok.view in
-    let same = g.met.H.ReplyOwned.same in
-    let in_range : IsBytes c.args.bytes.now = λ i. omega (arith, c.type_inv.bytes i) in
-    let reads = kept_reads R F same.1 _ _ view.head view.clean c.in-Ok.ensures.kept in_range in
-    let bytes = kept_bytes R F same.3 (view_model view).header (drop R.size view.bytes.now) in
-    let fit = kept_fits R F same.3 (view_model view).header (drop R.size view.bytes.now) in
-    IfOk-weaker c.write_new.result _ _
-    (λ w (fits, written). (_, reads, fit.0 fits, written ∙ bytes))
-    c.write_new.ensures.written
-
-pub returns-in-Ok-clause-err : goal.returns-in-Ok-clause-err
-returns-in-Ok-clause-err g c =
-    let R = g.H.ReplyHeader.reply in
-    let F = g.H.Nla.FamilyNla.attribute_set in
-    let codec = response_codec (record R { attribute_set = F }) in
     let same = g.met.H.ReplyOwned.same in
     let bytes = c.args.bytes.now in
+    let part = take_rest bytes _ ∙ ap (λ (n : ℕ). drop n bytes) c.length.ensures in
     let in_range : IsBytes bytes = λ i. omega (arith, c.type_inv.bytes i) in
-    let reads = kept_reads R F same.1 _ _ c.in-Ok.view.head c.in-Ok.view.clean c.in-Ok.ensures.kept
-    in_range in
-    IfErr-weaker c.write_new.result _ _
-    (gives_up (λ view. response_behind (record R { attribute_set = F }) (view_model view).header
-    (drop R.size view.bytes.now))
-    (codec.reads bytes tt) (codec.refuses bytes tt) codec.fits _ c.in-Ok.view reads
-    (kept_fits R F same.3 (view_model c.in-Ok.view).header (drop R.size c.in-Ok.view.bytes.now)))
-    c.write_new.ensures.err
+    let clean = rw part at c.in-Ok-None.ensures.clean in
+    let reads = kept_reads R F same.1 bytes bytes (_, c.in-Ok.ensures.value) clean refl in_range in
+    let long = rw (c.in-Ok-None.field-0-is, part) at c.in-Ok-None.ensures.len in
+    (_, reads, λ fits. long ((kept_fits R F same.3 _ _).1 fits))
 
-pub returns-in-Err-clause-err : goal.returns-in-Err-clause-err
-returns-in-Err-clause-err g c =
-    let refused = kept_refused g.H.ReplyHeader.reply g.H.Nla.FamilyNla.attribute_set
-    g.met.H.ReplyOwned.same.0 _ _ c.in-Err.ensures.fault in
-    (refused, c.in-Err.ensures.named)
+pub returns-in-Err-check_len-clause-err : goal.returns-in-Err-check_len-clause-err
+returns-in-Err-check_len-clause-err g c =
+    let R = g.H.ReplyHeader.reply in
+    let bytes = c.args.bytes.now in
+    let part = take_rest bytes _ ∙ ap (λ (n : ℕ). drop n bytes) c.length.ensures in
+    let refused = behind_refused R bytes _ part _ _ c.in-Ok.ensures.value
+    c.in-Err-check_len.ensures.fault in (
+      kept_refused R g.H.Nla.FamilyNla.attribute_set g.met.H.ReplyOwned.same.0 _ _ refused,
+      λ memory. g.met.H.ReplyHeader.keeps.named_fault _ tt (rw memory at refused),
+    )
+
+pub returns-in_err-write_reply-clause-err : goal.returns-in_err-write_reply-clause-err
+returns-in_err-write_reply-clause-err g c =
+    let R = g.H.ReplyHeader.reply in
+    let F = g.H.Nla.FamilyNla.attribute_set in
+    let same = g.met.H.ReplyOwned.same in
+    let bytes = c.args.bytes.now in
+    let part = take_rest bytes _ ∙ ap (λ (n : ℕ). drop n bytes) c.length.ensures in
+    let in_range : IsBytes bytes = λ i. omega (arith, c.type_inv.bytes i) in
+    let clean = rw part at c.in-Ok-Some.ensures.clean in
+    let reads = kept_reads R F same.1 bytes bytes (_, c.in-Ok.ensures.value) clean refl in_range in
+    let fit = rw (c.in-Ok-Some.field-0-is, part) at c.in-Ok-Some.ensures.len in
+    let p = err_from_is_err_and c.from_residual.result c.from_residual.ensures.1 in
+    rw (p.1, p.2) (_, reads, (kept_fits R F same.3 _ _).0 fit.0)
+
+pub returns-clause-written : goal.returns-clause-written
+returns-clause-written g c =
+    let R = g.H.ReplyHeader.reply in
+    let F = g.H.Nla.FamilyNla.attribute_set in
+    let same = g.met.H.ReplyOwned.same in
+    let bytes = c.args.bytes.now in
+    let part = take_rest bytes _ ∙ ap (λ (n : ℕ). drop n bytes) c.length.ensures in
+    let in_range : IsBytes bytes = λ i. omega (arith, c.type_inv.bytes i) in
+    let clean = rw part at c.in-Ok-Some.ensures.clean in
+    let reads = kept_reads R F same.1 bytes bytes (_, c.in-Ok.ensures.value) clean refl in_range in
+    let fit = rw (c.in-Ok-Some.field-0-is, part) at c.in-Ok-Some.ensures.len in
+    let form = rw part at c.in_ok-write_reply.ensures in
+    (_, reads, (kept_fits R F same.3 _ _).0 fit.0, form ∙ kept_bytes R F same.3 _ _)

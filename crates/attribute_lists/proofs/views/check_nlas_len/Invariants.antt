@@ -4,10 +4,12 @@ use Rattle.netlink_core.specs.Attribute.{AttributesMean, AttributeFault}
 use Rattle.netlink_core.specs.Walk.{bytes_left}
 use Rattle.netlink_core.specs.AttributeSet.{AttributeValue, decodes}
 use Rattle.attribute_lists.specs.AttributesIn.{values_in}
-use Rattle.attribute_lists.proofs.views.check_nlas.Given as goal
+use Rattle.attribute_lists.proofs.Emitting.{attributes_in}
+use Rattle.attribute_lists.proofs.Measuring.{Leaves}
+use Rattle.attribute_lists.proofs.views.check_nlas_len.Given as goal
 
 -- if the remaining bytes have values or an error, so do all bytes; and `count` attributes were
--- read, of at least four bytes each
+-- read, of at least four bytes each, and measured if a limit is given
 abbrev pub invariant-loop-item : goal.invariant-loop-item
 invariant-loop-item g l =
     let F = g.V.FamilyView.attribute_set in
@@ -19,5 +21,6 @@ invariant-loop-item g l =
           → AttributeFault (decodes F) l.bytes e;
       many : l.count + length (values_in (decodes F) left)
           ≡ length (values_in (decodes F) l.bytes);
-      room : 4 * l.count + length left ≤ length l.bytes;
+      few : 4 * l.count + length left ≤ length l.bytes;
+      room : Leaves l.limit (attributes_in F l.bytes) l.room (attributes_in F left);
     }
