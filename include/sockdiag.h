@@ -77,47 +77,50 @@ enum sockdiag_fault {
     SOCKDIAG_ENVELOPE_LENGTH_PAST = 18      /* a message's length field points past the end */
 };
 
-/* Returns a text that describes a decode error to people: a constant string in English, for any
- * number. */
+/* Returns the text of a decode error: a constant string in English, the text of `DecodeError` in
+ * crates/netlink_core without the values. Any number may be passed. The text of 0 is "no error",
+ * and that of a number that is not the code of an error is "unknown error code". */
 static inline const char *sockdiag_fault_text(uint32_t fault)
 {
     switch (fault) {
+    case SOCKDIAG_OK:
+        return "no error";
     case SOCKDIAG_BUFFER_TOO_SMALL:
-        return "a record is cut";
+        return "buffer of too few bytes";
     case SOCKDIAG_UNSUPPORTED_FAMILY:
-        return "an internet socket is of an unknown address family";
+        return "unsupported address family: expected AF_INET (2) or AF_INET6 (10)";
     case SOCKDIAG_MESSAGE_TOO_SHORT:
-        return "a message has no byte for its family";
+        return "invalid buffer: packets are at least 2 bytes";
     case SOCKDIAG_UNKNOWN_FAMILY:
-        return "a message is of an unknown address family";
+        return "unknown address family";
     case SOCKDIAG_UNKNOWN_MESSAGE_TYPE:
-        return "a message is of an unknown type";
+        return "unknown message type";
     case SOCKDIAG_ATTRIBUTE_HEADER_CUT:
-        return "the header of an attribute is cut";
+        return "attribute header cut";
     case SOCKDIAG_ATTRIBUTE_LENGTH_UNDER_4:
-        return "the length of an attribute is under 4";
+        return "attribute length is under 4";
     case SOCKDIAG_ATTRIBUTE_LENGTH_PAST:
-        return "an attribute is cut";
+        return "attribute length is past the bytes left";
     case SOCKDIAG_WRONG_LENGTH:
-        return "a value has a wrong length";
+        return "value of the wrong number of bytes";
     case SOCKDIAG_NOT_MULTIPLE_OF_FOUR:
-        return "a list of numbers is cut";
+        return "value length is no multiple of 4";
     case SOCKDIAG_NOT_UTF8:
-        return "a text is not UTF-8";
+        return "text is not UTF-8";
     case SOCKDIAG_NAME_EMPTY:
-        return "the name of a socket is empty";
+        return "name is empty";
     case SOCKDIAG_NAME_INNER_ZERO:
-        return "a pathname holds a zero";
+        return "pathname holds a zero";
     case SOCKDIAG_NAME_WITHOUT_END:
-        return "a pathname has no zero at its end";
+        return "pathname is not null-terminated";
     case SOCKDIAG_ENVELOPE_CUT:
-        return "the header of a message is cut";
+        return "message header cut";
     case SOCKDIAG_ENVELOPE_LENGTH_UNDER_16:
-        return "the length of a message is under 16";
+        return "message length is under 16";
     case SOCKDIAG_ENVELOPE_LENGTH_PAST:
-        return "a message is cut";
+        return "message length is past the bytes given";
     default:
-        return fault == SOCKDIAG_OK ? "no fault" : "an unknown fault";
+        return "unknown error code";
     }
 }
 

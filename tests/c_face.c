@@ -337,7 +337,9 @@ static void tells_numbers_in_words(void) {
     for (fault = SOCKDIAG_BUFFER_TOO_SMALL; fault <= SOCKDIAG_ENVELOPE_LENGTH_PAST; fault++)
         check(strcmp(sockdiag_fault_text(fault), sockdiag_fault_text(fault + 1)) != 0,
               "the text of an error");
-    check(strcmp(sockdiag_fault_text(19), "an unknown fault") == 0, "the text of an unknown error");
+    check(strcmp(sockdiag_fault_text(SOCKDIAG_OK), "no error") == 0, "the text of no error");
+    check(strcmp(sockdiag_fault_text(19), "unknown error code") == 0,
+          "the text of an unknown error");
 }
 
 static void walks_attributes(void) {

@@ -1,8 +1,12 @@
 #!/usr/bin/env python3
-"""Fails, with status 1, if include/sockdiag.h does not declare what crates/sockdiag_c exports.
+"""Fails, with status 1, if include/sockdiag.h does not declare what crates/sockdiag_c exports, or if
+C or Rust has another text of a decode error.
 
 - The script derives the structs, prototypes and constants of the header from the Rattle code, and
   compares them. The fields of a struct are compared in order. Comments are not read.
+- It derives the text of each decode error from its `#[error]` text in netlink_core, by leaving out
+  the values (`without_values`). It compares these texts with those of `sockdiag_fault_text` in the
+  header and of `Display` in rust/sockdiag/src/fault.rs. It also compares the codes in that file.
 - With a C compiler, `$CC` or `cc`, it compiles the header with assertions on the offset of each
   field and the size of each struct, and compiles tests/c_face.c and examples/list_sockets.c.
 - If the library takes only seconds to build, because its dependencies are built and its own proof
@@ -75,6 +79,23 @@ NUMBERS = {
 }
 # Variants of `DecodeError` that no call returns.
 NOT_RETURNED = {"MEMORY"}
+# The parts of `#[error]` texts that need other words if their values are left out.
+WITHOUT_VALUES = {
+    "{which}: ": "",
+    "{got} bytes, at least {need} needed": "too few bytes",
+    "{got} bytes, {need} needed": "the wrong number of bytes",
+    "value of {got} bytes is": "value length is",
+    "length is {got} but ": "",
+    ": {left} bytes left": "",
+    ": {got} bytes": "",
+    " at {index}": "",
+}
+# The texts of codes that are not of a decode error.
+OTHER_TEXTS = {
+    "C: SOCKDIAG_OK": "no error",
+    "C: default": "unknown error code",
+    "Rust: Other": "unknown error code",
+}
 PLAIN = {"usize": "size_t", "i32": "int32_t"}
 PLAIN.update({f"u{bits}": f"uint{bits}_t" for bits in (8, 16, 32, 64)})
 # Byte arrays that the header declares as a struct: by the type of the parameter, the struct, and
@@ -251,15 +272,43 @@ def declared():
         found = re.search(pattern, text_of(path), re.S)
         yield f"{name} {sum(map(int, found.groups())) if found else f'is not in {path}'}"
     numbered = r"DecodeError::(\w+)(?: \{ \.\. \})? => (\d+),"
-    for fault, number in re.findall(numbered, text_of("netlink_core/src/fault.rt")):
+    faults = text_of("netlink_core/src/fault.rt")
+    texts = {fault: text for text, fault in re.findall(r'#\[error\("(.*)"\)\]\s+(\w+)', faults)}
+    for fault, number in re.findall(numbered, faults):
         name = re.sub(r"(?<=[a-z])(?=[A-Z])|(?<=Under)(?=\d)", "_", fault).upper()
         if name not in NOT_RETURNED:
+            text = without_values(texts[fault])
             yield f"SOCKDIAG_{name} {number}"
+            yield f"Rust: {fault} {number}"
+            yield from (f"C: SOCKDIAG_{name}: {text}", f"Rust: {fault}: {text}")
+    yield from (f"{code}: {text}" for code, text in OTHER_TEXTS.items())
+
+
+def without_values(text):
+    """Returns an `#[error]` text without its values: the parts in WITHOUT_VALUES are replaced, then
+    each placeholder that is left is dropped with the space before it."""
+    for part, other in WITHOUT_VALUES.items():
+        text = text.replace(part, other)
+    return re.sub(r" \{\w+\}", "", text)
+
+
+def found_in_rust():
+    """Yields the code and the text of each decode error in rust/sockdiag."""
+    numbers, texts = code_of(RUST / "src/fault.rs").split("impl fmt::Display for DecodeError")
+    for number, fault in re.findall(r"\b(\d+) => DecodeError::(\w+),", numbers):
+        yield f"Rust: {fault} {number}"
+    # A string without a variant is yielded too. It is not in the source, so it is reported.
+    shown = r'(?:DecodeError::(\w+)(?:\(_\))? => (?:\{\s*)?)?"(.*?)"'
+    yield from (f"Rust: {fault}: {text}" for fault, text in re.findall(shown, texts))
 
 
 def found_in_header():
-    """Yields each declaration and each constant of the header."""
+    """Yields each declaration, each constant and the text of each decode error of the header."""
     text = re.sub(r"/\*.*?\*/", "", HEADER.read_text(encoding="utf-8"), flags=re.S)
+    texts = re.search(r"^static inline const char \*sockdiag_fault_text.*?^}$", text, re.M | re.S)
+    # As in Rust, a string without a code is yielded too.
+    shown = r'(?:(\w+):\s*return )?"(.*?)"'
+    yield from (f"C: {code}: {text}" for code, text in re.findall(shown, texts[0]))
     yield from (" ".join(it) for it in re.findall(r"^#define (\w+) (\d+)$", text, re.M))
     yield from (" ".join(it) for it in re.findall(r"^ +(SOCKDIAG_\w+) = (\d+),?", text, re.M))
     text = re.sub(r"^static inline .*?^}$", "", text, flags=re.M | re.S)
@@ -338,10 +387,10 @@ def has_cargo():
 
 
 def main():
-    expected, header = sorted(declared()), sorted(found_in_header())
-    for line in difflib.unified_diff(header, expected, "header", "source", n=0, lineterm=""):
+    expected, found = sorted(declared()), sorted([*found_in_header(), *found_in_rust()])
+    for line in difflib.unified_diff(found, expected, "bindings", "source", n=0, lineterm=""):
         print(line)
-    return int(expected != header or call() != 0)
+    return int(expected != found or call() != 0)
 
 
 if __name__ == "__main__":

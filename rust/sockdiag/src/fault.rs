@@ -3,7 +3,7 @@
 use core::fmt;
 
 /// The reason why bytes were rejected: `enum sockdiag_fault` of `sockdiag.h`. If the bytes have
-/// several errors, this is the first one.
+/// several errors, this is the first one. It displays the text that `sockdiag_fault_text` returns.
 #[derive(Clone, Copy, Debug, PartialEq, Eq, Hash)]
 #[non_exhaustive]
 pub enum DecodeError {
@@ -74,24 +74,26 @@ impl DecodeError {
 impl fmt::Display for DecodeError {
     fn fmt(&self, f: &mut fmt::Formatter<'_>) -> fmt::Result {
         f.write_str(match self {
-            DecodeError::BufferTooSmall => "a record is cut",
-            DecodeError::UnsupportedFamily => "an internet socket is of an unknown address family",
-            DecodeError::MessageTooShort => "a message has no byte for its family",
-            DecodeError::UnknownFamily => "a message is of an unknown address family",
-            DecodeError::UnknownMessageType => "a message is of an unknown type",
-            DecodeError::AttributeHeaderCut => "the header of an attribute is cut",
-            DecodeError::AttributeLengthUnder4 => "the length of an attribute is under 4",
-            DecodeError::AttributeLengthPast => "an attribute is cut",
-            DecodeError::WrongLength => "a value has a wrong length",
-            DecodeError::NotMultipleOfFour => "a list of numbers is cut",
-            DecodeError::NotUtf8 => "a text is not UTF-8",
-            DecodeError::NameEmpty => "the name of a socket is empty",
-            DecodeError::NameInnerZero => "a pathname holds a zero",
-            DecodeError::NameWithoutEnd => "a pathname has no zero at its end",
-            DecodeError::EnvelopeCut => "the header of a message is cut",
-            DecodeError::EnvelopeLengthUnder16 => "the length of a message is under 16",
-            DecodeError::EnvelopeLengthPast => "a message is cut",
-            DecodeError::Other(number) => return write!(f, "fault {number}"),
+            DecodeError::BufferTooSmall => "buffer of too few bytes",
+            DecodeError::UnsupportedFamily => {
+                "unsupported address family: expected AF_INET (2) or AF_INET6 (10)"
+            }
+            DecodeError::MessageTooShort => "invalid buffer: packets are at least 2 bytes",
+            DecodeError::UnknownFamily => "unknown address family",
+            DecodeError::UnknownMessageType => "unknown message type",
+            DecodeError::AttributeHeaderCut => "attribute header cut",
+            DecodeError::AttributeLengthUnder4 => "attribute length is under 4",
+            DecodeError::AttributeLengthPast => "attribute length is past the bytes left",
+            DecodeError::WrongLength => "value of the wrong number of bytes",
+            DecodeError::NotMultipleOfFour => "value length is no multiple of 4",
+            DecodeError::NotUtf8 => "text is not UTF-8",
+            DecodeError::NameEmpty => "name is empty",
+            DecodeError::NameInnerZero => "pathname holds a zero",
+            DecodeError::NameWithoutEnd => "pathname is not null-terminated",
+            DecodeError::EnvelopeCut => "message header cut",
+            DecodeError::EnvelopeLengthUnder16 => "message length is under 16",
+            DecodeError::EnvelopeLengthPast => "message length is past the bytes given",
+            DecodeError::Other(_) => "unknown error code",
         })
     }
 }

@@ -93,7 +93,7 @@
 //! | an `InetRequest` with a family other than `AF_INET` and `AF_INET6` is serialized | such a request has a message of zero bytes |
 //! | `SocketId::new_v4()` has a cookie of zeros | its cookie is `[0xff; 8]`, which matches any. The kernel compares it if a single socket is requested |
 //! | flags have the methods of `bitflags` | flags have `empty`, `all`, `from_bits`, `from_bits_retain`, `from_bits_truncate`, `bits`, `is_empty`, `contains`, `insert`, `remove`, `\|` and `\|=` |
-//! | `DecodeError` contains texts | [`DecodeError`] is an enum of the errors; both implement `Display` |
+//! | `DecodeError` contains texts | [`DecodeError`] is an enum of the errors; both implement `Display`. The texts here are those of `sockdiag_fault_text`, without values |
 //! | panics on some input | does not panic |
 //!
 //! In addition, [`Dump`] iterates over a whole datagram, and [`Attributes`] over attributes as

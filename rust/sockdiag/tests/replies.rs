@@ -369,7 +369,7 @@ fn walks_over_a_datagram() {
     ));
     let fault = dump.next().unwrap().unwrap_err();
     assert_eq!(fault, DecodeError::EnvelopeCut);
-    assert_eq!(fault.to_string(), "the header of a message is cut");
+    assert_eq!(fault.to_string(), "message header cut");
     assert!(dump.next().is_none());
 }
 
