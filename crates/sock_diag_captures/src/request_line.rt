@@ -9,14 +9,16 @@ use crate::others::family_numbered;
 use crate::requests::{Asked, find_request};
 use byteorder::{ByteOrder, LittleEndian};
 use capture_tables::{Family, Options, PacketHeader, push_hex_detail, push_time};
+use netlink_core::NETLINK_HEADER_LEN;
 use sock_diag_records::constants::{AF_UNIX, SOCK_DIAG_BY_FAMILY};
+use sock_diag_records::unix::UNIX_REQUEST_LEN;
 use std::alloc::AllocError;
 
 /// How many bytes the two headers of a request for UNIX sockets have.
-const UNIX_REQUEST: usize = 40;
+const UNIX_REQUEST: usize = NETLINK_HEADER_LEN + UNIX_REQUEST_LEN;
 
 /// How many bytes the header of a message and the family behind it have.
-const FAMILY_REQUEST: usize = 17;
+const FAMILY_REQUEST: usize = NETLINK_HEADER_LEN + 1;
 
 /// Adds the line of a request, where such lines are asked for.
 pub(crate) fn push_shown_request(

@@ -8,12 +8,13 @@ ghost use Rattle.sock_diag_captures.specs.Requests.{protocol_by, request_in};
 
 use crate::pieces::find_kind;
 use byteorder::{ByteOrder, LittleEndian};
-use netlink_core::{Exact, NLM_F_REQUEST, NlaBuffer};
+use netlink_core::{Exact, NETLINK_HEADER_LEN, NLM_F_REQUEST, NlaBuffer};
 use sock_diag_records::constants::{AF_INET, AF_INET6, SOCK_DIAG_BY_FAMILY};
+use sock_diag_records::inet::INET_REQUEST_LEN;
 use std::alloc::{AllocError, Global};
 
 /// How many bytes the two headers of a request for IPv4 and IPv6 sockets have.
-const REQUEST: usize = 72;
+const REQUEST: usize = NETLINK_HEADER_LEN + INET_REQUEST_LEN;
 
 /// The kind of the attribute that tells a protocol past 255, `INET_DIAG_REQ_PROTOCOL`.
 const PROTOCOL: u16 = 3;
