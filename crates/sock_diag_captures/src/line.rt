@@ -29,15 +29,9 @@ use sock_diag_records::constants::{
     AF_INET, AF_INET6, AF_UNIX, SOCK_DGRAM, SOCK_DIAG_BY_FAMILY, SOCK_SEQPACKET, SOCK_STREAM,
     UNIX_DIAG_NAME, UNIX_DIAG_PEER, UNIX_DIAG_RQLEN,
 };
-use sock_diag_records::inet::InetResponseHeader;
-use sock_diag_records::unix::UnixResponseHeader;
+use sock_diag_records::inet::{INET_RESPONSE_HEADER_LEN, InetResponseHeader};
+use sock_diag_records::unix::{UNIX_RESPONSE_HEADER_LEN, UnixResponseHeader};
 use std::alloc::AllocError;
-
-/// Length in bytes of the header of a reply about a UNIX socket (`unix_diag_msg`).
-const UNIX_HEADER: usize = 16;
-
-/// Length in bytes of the header of a reply about an IPv4 or IPv6 socket (`inet_diag_msg`).
-const INET_HEADER: usize = 72;
 
 /// Heading of the table.
 pub const HEADING: &[u8] =
@@ -92,7 +86,7 @@ fn push_unix(
 {
     match UnixResponseHeader::from_prefix(payload) {
         Ok(header) => {
-            let attributes = &payload[UNIX_HEADER..];
+            let attributes = &payload[UNIX_RESPONSE_HEADER_LEN..];
             push_unix_lines(text, options, &header, attributes)?;
             Ok(find_fault(attributes))
         }
@@ -231,7 +225,7 @@ fn push_inet(
 {
     match InetResponseHeader::from_prefix(payload) {
         Ok(header) => {
-            let attributes = &payload[INET_HEADER..];
+            let attributes = &payload[INET_RESPONSE_HEADER_LEN..];
             let timer = timer_of(payload);
             push_inet_lines(text, options, protocol, &timer, &header, attributes)?;
             Ok(find_fault(attributes))

@@ -9,14 +9,16 @@ use crate::others::family_numbered;
 use crate::requests::{Asked, find_request};
 use byteorder::{ByteOrder, LittleEndian};
 use capture_tables::{Family, Options, PacketHeader, push_hex_detail, push_time};
+use netlink_core::NETLINK_HEADER_LEN;
 use sock_diag_records::constants::{AF_UNIX, SOCK_DIAG_BY_FAMILY};
+use sock_diag_records::unix::UNIX_REQUEST_LEN;
 use std::alloc::AllocError;
 
 /// Length in bytes of a netlink header and a request for UNIX sockets (`unix_diag_req`).
-const UNIX_REQUEST: usize = 40;
+const UNIX_REQUEST: usize = NETLINK_HEADER_LEN + UNIX_REQUEST_LEN;
 
 /// Length in bytes of a netlink header and the family after it (`sdiag_family`).
-const FAMILY_REQUEST: usize = 17;
+const FAMILY_REQUEST: usize = NETLINK_HEADER_LEN + 1;
 
 /// Appends the line of a request, if `--requests` is set.
 pub(crate) fn push_shown_request(

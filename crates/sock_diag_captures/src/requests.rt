@@ -8,13 +8,14 @@ ghost use Rattle.sock_diag_captures.specs.Requests.{protocol_by, request_in};
 
 use crate::pieces::find_kind;
 use byteorder::{ByteOrder, LittleEndian};
-use netlink_core::{Exact, NLM_F_REQUEST, NlaBuffer};
+use netlink_core::{Exact, NETLINK_HEADER_LEN, NLM_F_REQUEST, NlaBuffer};
 use sock_diag_records::constants::{AF_INET, AF_INET6, SOCK_DIAG_BY_FAMILY};
+use sock_diag_records::inet::INET_REQUEST_LEN;
 use std::alloc::{AllocError, Global};
 
 /// Length in bytes of a netlink header and a request for IPv4 and IPv6 sockets
 /// (`inet_diag_req_v2`).
-const REQUEST: usize = 72;
+const REQUEST: usize = NETLINK_HEADER_LEN + INET_REQUEST_LEN;
 
 /// `INET_DIAG_REQ_PROTOCOL`, the type of the attribute with a protocol above 255.
 const PROTOCOL: u16 = 3;

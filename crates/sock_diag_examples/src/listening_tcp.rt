@@ -10,14 +10,17 @@ ghost use Rattle.sock_diag_examples.specs.ListeningTcp.{family_number, listening
 
 use bitflags::Flags;
 use netlink_core::{
-    Exact, NLM_F_DUMP, NLM_F_REQUEST, NetlinkHeader, NetlinkMessage, NetlinkPayload,
+    Exact, NETLINK_HEADER_LEN, NLM_F_DUMP, NLM_F_REQUEST, NetlinkHeader, NetlinkMessage,
+    NetlinkPayload,
 };
 use netlink_packet_sock_diag::SockDiagMessage;
 use netlink_packet_sock_diag::constants::{AF_INET, AF_INET6, IPPROTO_TCP};
-use netlink_packet_sock_diag::inet::{ExtensionFlags, InetRequest, SocketId, StateFlags};
+use netlink_packet_sock_diag::inet::{
+    ExtensionFlags, INET_REQUEST_LEN, InetRequest, SocketId, StateFlags,
+};
 
 /// Length of the request in bytes: 16 of the netlink header and 56 of `struct inet_diag_req_v2`.
-pub const REQUEST_LENGTH: usize = 72;
+pub const REQUEST_LENGTH: usize = NETLINK_HEADER_LEN + INET_REQUEST_LEN;
 
 /// Address family of the sockets that are requested.
 #[derive(Clone, Copy, Debug, PartialEq, Eq)]
