@@ -59,9 +59,9 @@ LEMMAS, PRIVATE, INVERSE = ".specs.laws.", ".specs.private.", ".specs.inverse."
 # Definitions that a law determines, and the function whose contract is the law. Whoever believes
 # the law need not read how they are computed. Their types are followed, their equations are not.
 DETERMINED = {
-    "attribute_lists.specs.AttributesIn: values_in":
+    "attribute_lists.specs.AttributesIn: decoded_in":
         "attribute_lists::laws::found_values_are_the_attributes",
-    "netlink_core.specs.AttributeSet: content": "netlink_core::laws::content_is_of_its_type",
+    "netlink_core.specs.AttributeSet: value_of_kind": "netlink_core::laws::content_is_of_its_type",
     "sock_diag_attributes.specs.InetModel: inet_variant":
         "sock_diag_attributes::laws::inet_values_are_variants",
     "sock_diag_attributes.specs.UnixModel: unix_variant":

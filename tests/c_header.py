@@ -32,7 +32,7 @@ FAMILIES = "sock_diag_families/src"
 # Patterns of code with a number: a constant; the size of the message that a function writes, by its
 # contract; and the attribute that `write_inet` adds to it.
 CONSTANT = r"const {}: \w+ = (\d+);"
-WRITTEN = r"fn {}\((?:(?!\bfn ).)*?\bWritesWhole \(?(\d+)\b"
+WRITTEN = r"fn {}\((?:(?!\bfn ).)*?\bWritesMessage \(?(\d+)\b"
 ATTRIBUTE = r"(?:(?!\bfn ).)*?\blet mut attribute = \[(\d+), 0, PROTOCOL,"
 REQUESTS, FAMILY_REQUESTS = "sockdiag_c/src/requests.rt", "sockdiag_c/src/family_requests.rt"
 # The constants of the header, except the error codes. Each has a file, and a pattern of the code

@@ -2,12 +2,13 @@
 use Rattle.std.proofs.Common.{arith}
 use Rattle.std.proofs.Common.{◌≡◌, List, [], ◌∷◌, map, refl}
 use Rattle.netlink_core.specs.Attribute.{Attribute}
-use Rattle.netlink_core.specs.AttributeSet.{AttributeSet, AttributeValue, encodes}
+use Rattle.netlink_core.specs.AttributeSet.{AttributeSet, AttributeValue, encode_attribute}
 
-pub attributes_of_values : {N : Type 0} (F : AttributeSet) (attribute : N → Attribute) (model : N
+pub encoded_attributes_of_views : {N : Type 0} (F : AttributeSet) (attribute : N
+    → Attribute) (model : N
     → AttributeValue F)
-    → ((n : N) → attribute n ≡ encodes F (model n)) → (nlas : List N)
-    → map attribute nlas ≡ map (encodes F) (map model nlas)
-attributes_of_values F attribute model each [] = refl
-attributes_of_values F attribute model each (n ∷ nlas) =
-    grind (arith, attributes_of_values F attribute model each nlas)
+    → ((n : N) → attribute n ≡ encode_attribute F (model n)) → (nlas : List N)
+    → map attribute nlas ≡ map (encode_attribute F) (map model nlas)
+encoded_attributes_of_views F attribute model each [] = refl
+encoded_attributes_of_views F attribute model each (n ∷ nlas) =
+    grind (arith, encoded_attributes_of_views F attribute model each nlas)

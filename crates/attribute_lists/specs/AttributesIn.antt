@@ -5,29 +5,33 @@ use Rattle.std.specs.List.{filter_map}
 use Rattle.std.specs.Result.{result_ok}
 use Rattle.byteorder.specs.Endian.{little_number}
 use Rattle.netlink_core.specs.declared.fault.DecodeError.{DecodeError}
-use Rattle.netlink_core.specs.Attribute.{Attribute, AttributeFault, fill}
-use Rattle.netlink_core.specs.AttributeSet.{decodes}
-use Rattle.netlink_core.specs.Response.{ResponseSpec, ValueOf}
+use Rattle.netlink_core.specs.Attribute.{Attribute, HasAttributeError, padding_length}
+use Rattle.netlink_core.specs.AttributeSet.{decode_attribute}
+use Rattle.netlink_core.specs.Response.{ResponseSpec, ReplyValue}
 
 -- The attributes in the bytes after the first `n` bytes. An attribute is `nla_len` and `nla_type`,
 -- both little-endian with 16 bits, and a value of `nla_len - 4` bytes. The next attribute begins
 -- `nla_len` bytes later, rounded up to a multiple of four.
-unfoldable pub attributes_behind : ℕ → List ℕ → List Attribute
-attributes_behind n [] = []
-attributes_behind (suc n) (byte ∷ bytes) = attributes_behind n bytes
-attributes_behind zero (byte ∷ bytes) = let word = little_number 2 (byte ∷ bytes) in
+unfoldable pub attributes_after : ℕ → List ℕ → List Attribute
+attributes_after n [] = []
+attributes_after (suc n) (byte ∷ bytes) = attributes_after n bytes
+attributes_after zero (byte ∷ bytes) = let word = little_number 2 (byte ∷ bytes) in
     record { type_word = little_number 2 (drop 1 bytes); value = take (word - 4) (drop 3 bytes) }
-    ∷ attributes_behind (word + fill word - 1) bytes
+    ∷ attributes_after (word + padding_length word - 1) bytes
 
 -- the bytes have no error: neither in their framing nor in a value
-pub record HasNoFault {A : Type 0} (reads : Attribute → Result A DecodeError) (bytes : List ℕ)
+pub record HasNoAttributeError {A : Type 0} (reads : Attribute
+    → Result A DecodeError) (bytes : List ℕ)
     : Type 0 where
-  pub none : (e : DecodeError) → AttributeFault reads bytes e → ⊥
+  pub none : (e : DecodeError) → HasAttributeError reads bytes e → ⊥
 
 -- what the attributes in the bytes decode to, in order; attributes that are rejected are skipped
-abbrev pub values_in : {A : Type 0} → (Attribute → Result A DecodeError) → List ℕ → List A
-values_in reads bytes = filter_map (λ a. result_ok (reads a)) (attributes_behind 0 bytes)
+abbrev pub decoded_in : {A : Type 0} → (Attribute → Result A DecodeError) → List ℕ → List A
+decoded_in reads bytes = filter_map (λ a. result_ok (reads a)) (attributes_after 0 bytes)
 
 -- the reply with the header `h` and the values of the attributes in the bytes after the header
-abbrev pub response_behind : (R : ResponseSpec) → R.header.Value → List ℕ → ValueOf R
-response_behind R h bytes = record { header = h; nlas = values_in (decodes R.attribute_set) bytes }
+abbrev pub reply_after : (R : ResponseSpec) → R.header.Value → List ℕ → ReplyValue R
+reply_after R h bytes = record {
+  header = h;
+  nlas = decoded_in (decode_attribute R.attribute_set) bytes;
+}

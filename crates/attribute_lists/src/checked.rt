@@ -3,10 +3,11 @@
 ghost use Rattle.std.specs.Prelude.{◌≡◌, ◌+◌, ◌/◌, length, None, IfSome, Ok};
 ghost use Rattle.std.specs.Iterator.{UpTo, at_most};
 ghost use Rattle.std.specs.Iterator.SizeHint.{IsWithinCount};
-ghost use Rattle.netlink_core.specs.Attribute.{Attribute, IsPrefixFault, StartsWith};
-ghost use Rattle.netlink_core.specs.AttributeSet.{decodes};
-ghost use Rattle.netlink_core.specs.Gives.{Gives};
-ghost use Rattle.attribute_lists.specs.CheckedModel.{checked_left};
+ghost use Rattle.netlink_core.specs.Attribute.{Attribute, IsFirstAttributeError};
+ghost use Rattle.netlink_core.specs.Attribute.{StartsWithAttribute};
+ghost use Rattle.netlink_core.specs.AttributeSet.{decode_attribute};
+ghost use Rattle.netlink_core.specs.Gives.{YieldsPart};
+ghost use Rattle.attribute_lists.specs.CheckedModel.{unchecked_bytes};
 
 use netlink_core::{DecodeError, FamilyView, NlasIterator};
 use std::marker::PhantomData;
@@ -25,7 +26,7 @@ pub struct CheckedNlas<'a, V> {
 impl<'a, V> CheckedNlas<'a, V> {
     /// Returns an iterator over the attributes in the bytes.
     pub fn new(bytes: &'a [u8]) -> CheckedNlas<'a, V>
-        ensures { checked_left result ≡ bytes.entry.now }
+        ensures { unchecked_bytes result ≡ bytes.entry.now }
     {
         CheckedNlas {
             walk: NlasIterator::new(bytes),
@@ -39,14 +40,14 @@ impl<'a, V: FamilyView<'a>> Iterator for CheckedNlas<'a, V> {
 
     // A step yields the value of the first attribute, and the bytes after its padding are left
     // then; or it yields the first error of these bytes, and no bytes are left.
-    ghost next_gives = { λ old given new. Gives
-        (λ left view later. (a : Attribute) × StartsWith left a later
-        × (decodes V.attribute_set a ≡ Ok (V.model view)))
-        (IsPrefixFault (decodes V.attribute_set)) (checked_left old) given
-        (checked_left new) };
+    ghost next_gives = { λ old given new. YieldsPart
+        (λ left view later. (a : Attribute) × StartsWithAttribute left a later
+        × (decode_attribute V.attribute_set a ≡ Ok (V.model view)))
+        (IsFirstAttributeError (decode_attribute V.attribute_set)) (unchecked_bytes old) given
+        (unchecked_bytes new) };
 
     // At most one item for each four bytes, rounded up.
-    ghost remaining = { λ nlas. at_most ((length (checked_left nlas) + 3) / 4) };
+    ghost remaining = { λ nlas. at_most ((length (unchecked_bytes nlas) + 3) / 4) };
 
     #[inline(always)]
     fn next(&mut self) -> Option<Result<V, DecodeError>> {
@@ -64,9 +65,9 @@ impl<'a, V: FamilyView<'a>> Iterator for CheckedNlas<'a, V> {
     /// Returns `(0, None)`: the number of items is known only after iterating.
     fn size_hint(&self) -> (usize, Option<usize>)
         ensures lower { IsWithinCount result.0
-            (at_most ((length (checked_left self.now) + 3) / 4)) }
+            (at_most ((length (unchecked_bytes self.now) + 3) / 4)) }
         ensures upper { IfSome result.1
-            (UpTo (at_most ((length (checked_left self.now) + 3) / 4))) }
+            (UpTo (at_most ((length (unchecked_bytes self.now) + 3) / 4))) }
         ensures unknown { result ≡ (0, None) }
     {
         (0, None)

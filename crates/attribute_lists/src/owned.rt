@@ -1,15 +1,15 @@
 //! The owned attributes of a reply. A list of up to eight attributes needs no allocation by itself.
-#![tactic(auto, using(crate::proofs::EncodedAttributes::attributes_of_values))]
+#![tactic(auto, using(crate::proofs::EncodedAttributes::encoded_attributes_of_views))]
 
 ghost use Rattle.std.specs.Prelude.{◌≡◌, ◌≤◌, ◌++◌, ◌∷◌, [], length, map, Ok, IfOk, IsOk};
 ghost use Rattle.std.specs.Prelude.{OnOk, OnErr, SomeIff};
 ghost use Rattle.std.specs.List.{AllByRecursion, flat_map};
 ghost use Rattle.netlink_core.specs.Bytes.{HoldsAtStart};
-ghost use Rattle.netlink_core.specs.Attribute.{AreWritable, written};
-ghost use Rattle.netlink_core.specs.AttributeSet.{AttributeValue, decodes, encodes};
-ghost use Rattle.netlink_core.specs.AttributeSet.{IsSpareBy, IsInRangeBy};
-ghost use Rattle.netlink_core.specs.Walk.{attribute_of};
-ghost use Rattle.attribute_lists.specs.AttributesIn.{HasNoFault, values_in};
+ghost use Rattle.netlink_core.specs.Attribute.{AreWritableWithin, attribute_bytes};
+ghost use Rattle.netlink_core.specs.AttributeSet.{AttributeValue, decode_attribute};
+ghost use Rattle.netlink_core.specs.AttributeSet.{encode_attribute, NeedsNoMemoryIn, IsInRangeIn};
+ghost use Rattle.netlink_core.specs.Walk.{buffered_attribute};
+ghost use Rattle.attribute_lists.specs.AttributesIn.{HasNoAttributeError, decoded_in};
 ghost use Rattle.smallvec.specs.SmallVec.{HasRoomFor};
 
 use netlink_core::{FamilyNla, NlaBuffer, NlasIterator, emit_nlas, nlas_len, nlas_len_within};
@@ -23,7 +23,7 @@ use std::default::MadeWith;
 pub fn copy_nlas<T: FamilyNla>(alloc: Global, nlas: &[T]) -> Result<SmallVec<T, 8>, AllocError>
     ensures equal { IfOk result (λ copy. map T.model copy.items ≡ map T.model nlas.now) }
     ensures spare { length nlas.now ≤ 8
-        → AllByRecursion (IsSpareBy T.attribute_set) (map T.model nlas.now)
+        → AllByRecursion (NeedsNoMemoryIn T.attribute_set) (map T.model nlas.now)
         → IsOk result }
 {
     let mut copy = SmallVec::with_capacity(alloc, nlas.len())?;
@@ -38,7 +38,7 @@ pub fn copy_nlas<T: FamilyNla>(alloc: Global, nlas: &[T]) -> Result<SmallVec<T, 
 /// none of them needs memory.
 // Never inlined: for the caller, a list that is passed by reference costs less than a list that is
 // filled inline.
-#[tactic(auto, using(crate::proofs::Finding::finding))]
+#[tactic(auto, using(crate::proofs::Finding::attributes_without_error_rules))]
 #[inline(never)]
 pub fn own_nlas<T: FamilyNla>(
     alloc: Global,
@@ -46,14 +46,14 @@ pub fn own_nlas<T: FamilyNla>(
     count: usize,
     nlas: &mut SmallVec<T, 8>,
 ) -> Result<(), AllocError>
-    requires clean { HasNoFault (decodes T.attribute_set) bytes.now }
-    requires count { count ≡ length (values_in (decodes T.attribute_set) bytes.now) }
+    requires clean { HasNoAttributeError (decode_attribute T.attribute_set) bytes.now }
+    requires count { count ≡ length (decoded_in (decode_attribute T.attribute_set) bytes.now) }
     requires empty { nlas.old.items ≡ [] }
     ensures equal { OnOk result (map T.model nlas.new.items
-        ≡ values_in (decodes T.attribute_set) bytes.now) }
+        ≡ decoded_in (decode_attribute T.attribute_set) bytes.now) }
     ensures spare { count ≤ nlas.old.capacity
-        → AllByRecursion (IsSpareBy T.attribute_set)
-        (values_in (decodes T.attribute_set) bytes.now)
+        → AllByRecursion (NeedsNoMemoryIn T.attribute_set)
+        (decoded_in (decode_attribute T.attribute_set) bytes.now)
         → IsOk result }
 {
     if count > nlas.capacity() {
@@ -76,15 +76,15 @@ fn push_accepted<T: FamilyNla>(
     nla: &NlaBuffer<'_>,
     nlas: &mut SmallVec<T, 8>,
 ) -> Result<(), AllocError>
-    requires accepted { IsOk (decodes T.attribute_set (attribute_of nla.now)) }
+    requires accepted { IsOk (decode_attribute T.attribute_set (buffered_attribute nla.now)) }
     requires room { HasRoomFor nlas.old 1 }
     ensures pushed { OnOk result ((own : T) × (nlas.new.items ≡ nlas.old.items ++ own ∷ [])
-        × (decodes T.attribute_set (attribute_of nla.now) ≡ Ok (T.model own))) }
+        × (decode_attribute T.attribute_set (buffered_attribute nla.now) ≡ Ok (T.model own))) }
     ensures capacity { nlas.new.capacity ≡ nlas.old.capacity }
     ensures kept { OnErr result (nlas.new ≡ nlas.old) }
     ensures spare { (value : AttributeValue T.attribute_set)
-        → decodes T.attribute_set (attribute_of nla.now) ≡ Ok value
-        → IsSpareBy T.attribute_set value → IsOk result }
+        → decode_attribute T.attribute_set (buffered_attribute nla.now) ≡ Ok value
+        → NeedsNoMemoryIn T.attribute_set value → IsOk result }
 {
     match T::LARGE_KIND {
         Some(kind) if kind == nla.kind() => nlas.push_reserved(T::own_accepted(alloc, nla)?),
@@ -109,7 +109,7 @@ fn make_room<T: MadeWith<Global> + Drop>(
 
 /// Proof only: puts the range of each number in scope. No run-time effect.
 pub fn nlas_in_range<T: FamilyNla>(nlas: &[T])
-    ensures { AllByRecursion (IsInRangeBy T.attribute_set) (map T.model nlas.now) }
+    ensures { AllByRecursion (IsInRangeIn T.attribute_set) (map T.model nlas.now) }
 {
     for nla in nlas {
         nla.value_in_range();
@@ -119,17 +119,19 @@ pub fn nlas_in_range<T: FamilyNla>(nlas: &[T])
 /// Returns the number of bytes that the attributes serialize to, or `None` if a value does not fit
 /// its length field or the attributes have more than `limit` bytes.
 pub fn values_len_within<T: FamilyNla>(nlas: &[T], limit: usize) -> Option<usize>
-    ensures { let attributes = map (encodes T.attribute_set) (map T.model nlas.now) in
-        SomeIff result (AreWritable attributes limit) (length (flat_map written attributes)) }
+    ensures { let attributes = map (encode_attribute T.attribute_set) (map T.model nlas.now) in
+        SomeIff result (AreWritableWithin attributes limit)
+        (length (flat_map attribute_bytes attributes)) }
 {
     nlas_len_within(nlas, limit)
 }
 
 /// Returns the number of bytes that the attributes serialize to.
 pub fn values_len<T: FamilyNla>(nlas: &[T]) -> usize
-    requires { AreWritable (map (encodes T.attribute_set) (map T.model nlas.now)) 4294967295 }
+    requires { AreWritableWithin (map (encode_attribute T.attribute_set) (map T.model nlas.now))
+        4294967295 }
     ensures { result ≡ length
-        (flat_map written (map (encodes T.attribute_set) (map T.model nlas.now))) }
+        (flat_map attribute_bytes (map (encode_attribute T.attribute_set) (map T.model nlas.now))) }
 {
     nlas_len(nlas)
 }
@@ -137,10 +139,12 @@ pub fn values_len<T: FamilyNla>(nlas: &[T]) -> usize
 /// Serializes the attributes, in order, to the start of the buffer. The bytes after them are
 /// unchanged.
 pub fn emit_values<T: FamilyNla>(nlas: &[T], buffer: &mut [u8])
-    requires fits { AreWritable (map (encodes T.attribute_set) (map T.model nlas.now)) 4294967295 }
-    requires room { length (flat_map written (map (encodes T.attribute_set) (map T.model nlas.now)))
+    requires fits { AreWritableWithin
+        (map (encode_attribute T.attribute_set) (map T.model nlas.now)) 4294967295 }
+    requires room { length (flat_map attribute_bytes
+        (map (encode_attribute T.attribute_set) (map T.model nlas.now)))
         ≤ length buffer.old }
-    ensures { HoldsAtStart (flat_map written (map (encodes T.attribute_set)
+    ensures { HoldsAtStart (flat_map attribute_bytes (map (encode_attribute T.attribute_set)
         (map T.model nlas.now))) buffer.old buffer.new }
 {
     emit_nlas(nlas, buffer);

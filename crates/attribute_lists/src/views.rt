@@ -6,11 +6,11 @@ ghost use Rattle.std.specs.Prelude.{MatchOption};
 ghost use Rattle.std.specs.List.{AllByRecursion, flat_map};
 ghost use Rattle.std.specs.Iterator.{YieldsFirstBy};
 ghost use Rattle.netlink_core.specs.Bytes.{HoldsAtStart};
-ghost use Rattle.netlink_core.specs.Attribute.{AreWritable, AttributeFault, HasFittingValue};
-ghost use Rattle.netlink_core.specs.Attribute.{written};
-ghost use Rattle.netlink_core.specs.AttributeSet.{decodes, encodes};
-ghost use Rattle.netlink_core.specs.Walk.{bytes_left};
-ghost use Rattle.attribute_lists.specs.AttributesIn.{HasNoFault, values_in};
+ghost use Rattle.netlink_core.specs.Attribute.{AreWritableWithin, HasAttributeError};
+ghost use Rattle.netlink_core.specs.Attribute.{FitsLengthField, attribute_bytes};
+ghost use Rattle.netlink_core.specs.AttributeSet.{decode_attribute, encode_attribute};
+ghost use Rattle.netlink_core.specs.Walk.{unread_bytes};
+ghost use Rattle.attribute_lists.specs.AttributesIn.{HasNoAttributeError, decoded_in};
 
 use netlink_core::{DecodeError, FamilyView, Nla, NlasIterator, emit_nla, nla_len};
 
@@ -18,10 +18,12 @@ use netlink_core::{DecodeError, FamilyView, Nla, NlasIterator, emit_nla, nla_len
 /// allocate.
 #[inline(always)]
 pub fn check_nlas<'a, V: FamilyView<'a> + Drop>(bytes: &'a [u8]) -> Result<usize, DecodeError>
-    ensures clean { OnOk result (HasNoFault (decodes V.attribute_set) bytes.entry.now) }
+    ensures clean { OnOk result (HasNoAttributeError
+        (decode_attribute V.attribute_set) bytes.entry.now) }
     ensures count { IfOk result
-        (λ count. count ≡ length (values_in (decodes V.attribute_set) bytes.entry.now)) }
-    ensures fault { IfErr result (AttributeFault (decodes V.attribute_set) bytes.entry.now) }
+        (λ count. count ≡ length (decoded_in (decode_attribute V.attribute_set) bytes.entry.now)) }
+    ensures fault { IfErr result (HasAttributeError
+        (decode_attribute V.attribute_set) bytes.entry.now) }
 {
     match check_nlas_len::<V>(bytes, None) {
         Ok((count, _)) => Ok(count),
@@ -33,20 +35,24 @@ pub fn check_nlas<'a, V: FamilyView<'a> + Drop>(bytes: &'a [u8]) -> Result<usize
 /// given, it also returns the number of bytes that the attributes serialize to, or `None` if a
 /// value does not fit its length field or if this number is above the limit. Does not allocate.
 // A caller passes a constant `None` to count only: inlined, it then measures nothing.
-#[tactic(auto, using(crate::proofs::Finding::finding))]
+#[tactic(auto, using(crate::proofs::Finding::attributes_without_error_rules))]
 #[inline(always)]
 pub fn check_nlas_len<'a, V: FamilyView<'a> + Drop>(
     bytes: &'a [u8],
     limit: Option<usize>,
 ) -> Result<(usize, Option<usize>), DecodeError>
-    ensures clean { OnOk result (HasNoFault (decodes V.attribute_set) bytes.entry.now) }
+    ensures clean { OnOk result (HasNoAttributeError
+        (decode_attribute V.attribute_set) bytes.entry.now) }
     ensures count { IfOk result
-        (λ found. found.0 ≡ length (values_in (decodes V.attribute_set) bytes.entry.now)) }
-    ensures len { let attributes = map (encodes V.attribute_set)
-        (values_in (decodes V.attribute_set) bytes.entry.now) in
+        (λ found. found.0
+        ≡ length (decoded_in (decode_attribute V.attribute_set) bytes.entry.now)) }
+    ensures len { let attributes = map (encode_attribute V.attribute_set)
+        (decoded_in (decode_attribute V.attribute_set) bytes.entry.now) in
         IfOk result (λ found. MatchOption limit (found.1 ≡ None) (λ limit.
-        SomeIff found.1 (AreWritable attributes limit) (length (flat_map written attributes)))) }
-    ensures fault { IfErr result (AttributeFault (decodes V.attribute_set) bytes.entry.now) }
+        SomeIff found.1 (AreWritableWithin attributes limit)
+        (length (flat_map attribute_bytes attributes)))) }
+    ensures fault { IfErr result (HasAttributeError
+        (decode_attribute V.attribute_set) bytes.entry.now) }
 {
     let mut count = 0;
     let mut room = limit;
@@ -63,9 +69,9 @@ pub fn check_nlas_len<'a, V: FamilyView<'a> + Drop>(
 #[inline(always)]
 fn room_after<V: Nla>(view: &V, room: Option<usize>) -> Option<usize>
     ensures { MatchOption room (result ≡ None) (λ room.
-        SomeIff result (HasFittingValue (V.attribute view.now)
-        × (length (written (V.attribute view.now)) ≤ room))
-        (room - length (written (V.attribute view.now)))) }
+        SomeIff result (FitsLengthField (V.attribute view.now)
+        × (length (attribute_bytes (V.attribute view.now)) ≤ room))
+        (room - length (attribute_bytes (V.attribute view.now)))) }
 {
     match room {
         Some(room) if view.value_fits() => room.checked_sub(nla_len(view)),
@@ -87,14 +93,14 @@ fn used(limit: Option<usize>, room: Option<usize>) -> Option<usize>
 }
 
 /// Returns the next attribute of bytes that have no error, or `None` at their end.
-#[tactic(auto, using(crate::proofs::Finding::finding))]
+#[tactic(auto, using(crate::proofs::Finding::attributes_without_error_rules))]
 #[inline(always)]
 pub fn next_view<'a, V: FamilyView<'a>>(walk: &mut NlasIterator<'a>) -> Option<V>
-    requires { HasNoFault (decodes V.attribute_set) (bytes_left walk.old) }
+    requires { HasNoAttributeError (decode_attribute V.attribute_set) (unread_bytes walk.old) }
     ensures next { YieldsFirstBy V.model (λ s.
-        values_in (decodes V.attribute_set) (bytes_left s)) walk.old
+        decoded_in (decode_attribute V.attribute_set) (unread_bytes s)) walk.old
         result walk.new }
-    ensures rest { HasNoFault (decodes V.attribute_set) (bytes_left walk.new) }
+    ensures rest { HasNoAttributeError (decode_attribute V.attribute_set) (unread_bytes walk.new) }
 {
     match walk.next() {
         None => None,
@@ -107,15 +113,15 @@ pub fn next_view<'a, V: FamilyView<'a>>(walk: &mut NlasIterator<'a>) -> Option<V
 /// serialize to. Returns `None` if a value does not fit its length field or the whole has more than
 /// 4,294,967,295 bytes.
 pub fn views_len<'a, V: FamilyView<'a> + Drop>(header: usize, bytes: &'a [u8]) -> Option<usize>
-    requires clean { HasNoFault (decodes V.attribute_set) bytes.now }
+    requires clean { HasNoAttributeError (decode_attribute V.attribute_set) bytes.now }
     requires small { header ≤ 4294967295 }
-    ensures fits { let attributes = map (encodes V.attribute_set)
-        (values_in (decodes V.attribute_set) bytes.entry.now) in
-        IsSome result ↔ (AllByRecursion HasFittingValue attributes
-        × (header + length (flat_map written attributes) ≤ 4294967295)) }
-    ensures len { let attributes = map (encodes V.attribute_set)
-        (values_in (decodes V.attribute_set) bytes.entry.now) in
-        IfSome result (λ len. len ≡ header + length (flat_map written attributes)) }
+    ensures fits { let attributes = map (encode_attribute V.attribute_set)
+        (decoded_in (decode_attribute V.attribute_set) bytes.entry.now) in
+        IsSome result ↔ (AllByRecursion FitsLengthField attributes
+        × (header + length (flat_map attribute_bytes attributes) ≤ 4294967295)) }
+    ensures len { let attributes = map (encode_attribute V.attribute_set)
+        (decoded_in (decode_attribute V.attribute_set) bytes.entry.now) in
+        IfSome result (λ len. len ≡ header + length (flat_map attribute_bytes attributes)) }
 {
     let mut len = header;
     let mut walk = NlasIterator::new(bytes);
@@ -134,14 +140,17 @@ pub fn views_len<'a, V: FamilyView<'a> + Drop>(header: usize, bytes: &'a [u8]) -
 /// Serializes the attributes in the bytes, in order, to the start of the buffer. The bytes after
 /// them are unchanged.
 pub fn emit_views<'a, V: FamilyView<'a> + Drop>(bytes: &'a [u8], buffer: &mut [u8])
-    requires clean { HasNoFault (decodes V.attribute_set) bytes.now }
-    requires fits { AreWritable
-        (map (encodes V.attribute_set) (values_in (decodes V.attribute_set) bytes.now)) 4294967295 }
-    requires room { length (flat_map written
-        (map (encodes V.attribute_set) (values_in (decodes V.attribute_set) bytes.now)))
+    requires clean { HasNoAttributeError (decode_attribute V.attribute_set) bytes.now }
+    requires fits { AreWritableWithin
+        (map (encode_attribute V.attribute_set)
+        (decoded_in (decode_attribute V.attribute_set) bytes.now)) 4294967295 }
+    requires room { length (flat_map attribute_bytes
+        (map (encode_attribute V.attribute_set)
+        (decoded_in (decode_attribute V.attribute_set) bytes.now)))
         ≤ length buffer.old }
-    ensures { HoldsAtStart (flat_map written (map (encodes V.attribute_set) (values_in
-        (decodes V.attribute_set) bytes.entry.now))) buffer.old buffer.new }
+    ensures { HoldsAtStart (flat_map attribute_bytes
+        (map (encode_attribute V.attribute_set) (decoded_in
+        (decode_attribute V.attribute_set) bytes.entry.now))) buffer.old buffer.new }
 {
     let mut at = 0;
     let mut walk = NlasIterator::new(bytes);

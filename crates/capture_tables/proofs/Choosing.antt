@@ -7,7 +7,8 @@ use Rattle.std.proofs.lemmas.Bool.{false_from_ne_true, ne_eqb}
 use Rattle.std.proofs.lemmas.List.{drop_more}
 use Rattle.std.proofs.lemmas.List.Sums.{AllPass-from_list_all, list_all-from_AllPass}
 use Rattle.std.proofs.lemmas.Slice.Eq.{bytes_eq-Decides}
-use Rattle.capture_tables.specs.Choice.{are_letters, decides, is_letter, with_word}
+use Rattle.capture_tables.specs.Choice.{are_letters, decides_command, is_letter}
+use Rattle.capture_tables.specs.Choice.{with_argument_bytes}
 use Rattle.capture_tables.specs.Words.{AreLetters, IsArgument, with_argument}
 use Rattle.capture_tables.specs.declared.options.Options.{Options}
 use Rattle.capture_tables.specs.declared.words.Argument.{Argument}
@@ -36,15 +37,17 @@ decides_as Unknown = true
 decides_as _ = false
 
 -- An argument decides if and only if it is parsed as one that does.
-pub decides_by : (word : List ℕ) (a : Argument) → IsArgument word a → decides word ≡ decides_as a
-decides_by word Help h = ap decides h
-decides_by word Version h = ap decides h
-decides_by word Utf8 h = ap decides h
-decides_by word Requests h = ap decides h
-decides_by word Netlink h = ap decides h
-decides_by word Vsock h = ap decides h
-decides_by word Xdp h = ap decides h
-decides_by word (Letters letters) h = ap decides h.7.0 ∙ (rw (letters_pass letters.now h.7.1) refl)
+pub decides_by : (word : List ℕ) (a : Argument) → IsArgument word a
+    → decides_command word ≡ decides_as a
+decides_by word Help h = ap decides_command h
+decides_by word Version h = ap decides_command h
+decides_by word Utf8 h = ap decides_command h
+decides_by word Requests h = ap decides_command h
+decides_by word Netlink h = ap decides_command h
+decides_by word Vsock h = ap decides_command h
+decides_by word Xdp h = ap decides_command h
+decides_by word (Letters letters) h =
+    ap decides_command h.7.0 ∙ (rw (letters_pass letters.now h.7.1) refl)
 decides_by [] File h = refl
 decides_by (c ∷ rest) File h = rw (ne_eqb c 45 (λ is. h.7 rest (ap (λ (k : ℕ). k ∷ rest) is))) refl
 decides_by word Unknown h =
@@ -60,17 +63,17 @@ decides_by word Unknown h =
     ) refl
 
 -- An argument that does not decide sets the options that it is parsed as.
-pub adds_by : (word : List ℕ) (a : Argument) (o : Options) → IsArgument word a
-    → decides_as a ≡ false → with_word o word ≡ with_argument a o
-adds_by word Help o h unmet = absurd (cc)
-adds_by word Version o h unmet = absurd (cc)
-adds_by word Unknown o h unmet = absurd (cc)
-adds_by word Utf8 o h unmet = ap (with_word o) h
-adds_by word Requests o h unmet = ap (with_word o) h
-adds_by word Netlink o h unmet = ap (with_word o) h
-adds_by word Vsock o h unmet = ap (with_word o) h
-adds_by word Xdp o h unmet = ap (with_word o) h
-adds_by word (Letters letters) o h unmet =
+pub with_argument_by_kind : (word : List ℕ) (a : Argument) (o : Options) → IsArgument word a
+    → decides_as a ≡ false → with_argument_bytes o word ≡ with_argument a o
+with_argument_by_kind word Help o h unmet = absurd (cc)
+with_argument_by_kind word Version o h unmet = absurd (cc)
+with_argument_by_kind word Unknown o h unmet = absurd (cc)
+with_argument_by_kind word Utf8 o h unmet = ap (with_argument_bytes o) h
+with_argument_by_kind word Requests o h unmet = ap (with_argument_bytes o) h
+with_argument_by_kind word Netlink o h unmet = ap (with_argument_bytes o) h
+with_argument_by_kind word Vsock o h unmet = ap (with_argument_bytes o) h
+with_argument_by_kind word Xdp o h unmet = ap (with_argument_bytes o) h
+with_argument_by_kind word (Letters letters) o h unmet =
     rw (
       differ word (codes "--utf8") h.2,
       differ word (codes "--requests") h.3,
@@ -80,49 +83,56 @@ adds_by word (Letters letters) o h unmet =
       h.7.0,
       letters_pass letters.now h.7.1,
     ) refl
-adds_by [] File o h unmet = refl
-adds_by (c ∷ rest) File o h unmet =
+with_argument_by_kind [] File o h unmet = refl
+with_argument_by_kind (c ∷ rest) File o h unmet =
     rw (ne_eqb c 45 (λ is. h.7 rest (ap (λ (k : ℕ). k ∷ rest) is))) refl
 
 -- ---- one step of the loop over the arguments
 
 -- After the first `i` arguments: none of them decides, and the options `o` with those of the
 -- remaining arguments are the options of all.
-pub record Passed {X : Type 0} (f : X → List ℕ) (xs : List X) (i : ℕ) (o all : Options)
+pub record NoneDecidesSoFar {X : Type 0} (f : X → List ℕ) (xs : List X) (i : ℕ) (o all : Options)
     : Type 0 where
-  pub first : find decides (map f (drop i xs)) ≡ find decides (map f xs)
-  pub options : fold with_word o (map f (drop i xs)) ≡ all
+  pub first : find decides_command (map f (drop i xs)) ≡ find decides_command (map f xs)
+  pub options : fold with_argument_bytes o (map f (drop i xs)) ≡ all
 
 -- An argument that is neither `--help`, `--version` nor unknown does not decide.
-pub passes : (a : Argument) → (a ≢ Help) → (a ≢ Version) → (a ≢ Unknown) → decides_as a ≡ false
-passes Help h v u = absurd (h refl)
-passes Version h v u = absurd (v refl)
-passes Unknown h v u = absurd (u refl)
-passes (Letters letters) h v u = refl
-passes File h v u = refl
-passes Utf8 h v u = refl
-passes Requests h v u = refl
-passes Netlink h v u = refl
-passes Vsock h v u = refl
-passes Xdp h v u = refl
+pub argument_does_not_decide : (a : Argument) → (a ≢ Help) → (a ≢ Version) → (a ≢ Unknown)
+    → decides_as a ≡ false
+argument_does_not_decide Help h v u = absurd (h refl)
+argument_does_not_decide Version h v u = absurd (v refl)
+argument_does_not_decide Unknown h v u = absurd (u refl)
+argument_does_not_decide (Letters letters) h v u = refl
+argument_does_not_decide File h v u = refl
+argument_does_not_decide Utf8 h v u = refl
+argument_does_not_decide Requests h v u = refl
+argument_does_not_decide Netlink h v u = refl
+argument_does_not_decide Vsock h v u = refl
+argument_does_not_decide Xdp h v u = refl
 
 -- The first argument that decides is found.
-pub decided : {X : Type 0} (f : X → List ℕ) (xs : List X) (i : ℕ) (o all : Options) (x : X)
-    (a : Argument) (word : List ℕ) → Passed f xs i o all → i < length xs → x ≡ get_or xs i x
-    → word ≡ f x → IsArgument word a → decides_as a ≡ true → find decides (map f xs) ≡ Some word
-decided f xs i o all x a word passed low is same kind held =
-    sym passed.first ∙ ap (λ l. find decides (map f l)) (drop_more xs i x low)
+pub first_deciding_argument_found : {X : Type 0} (f : X
+    → List ℕ) (xs : List X) (i : ℕ) (o all : Options) (x : X)
+    (a : Argument) (word : List ℕ) → NoneDecidesSoFar f xs i o all → i < length xs
+    → x ≡ get_or xs i x
+    → word ≡ f x → IsArgument word a → decides_as a ≡ true
+    → find decides_command (map f xs) ≡ Some word
+first_deciding_argument_found f xs i o all x a word passed low is same kind held =
+    sym passed.first ∙ ap (λ l. find decides_command (map f l)) (drop_more xs i x low)
     ∙ (rw (sym is, sym same, decides_by word a kind, held) refl)
 
 -- An argument that does not decide is added to the options.
-pub added : {X : Type 0} (f : X → List ℕ) (xs : List X) (i : ℕ) (o o' all : Options) (x : X)
-    (a : Argument) (word : List ℕ) → Passed f xs i o all → i < length xs → x ≡ get_or xs i x
+pub argument_is_added : {X : Type 0} (f : X → List ℕ) (xs : List X) (i : ℕ) (o o' all : Options)
+    (x : X)
+    (a : Argument) (word : List ℕ) → NoneDecidesSoFar f xs i o all → i < length xs
+    → x ≡ get_or xs i x
     → word ≡ f x → IsArgument word a → decides_as a ≡ false → o' ≡ with_argument a o
-    → Passed f xs (i + 1) o' all
-added f xs i o o' all x a word passed low is same kind unmet more = record {
-  first = sym (ap (λ l. find decides (map f l)) (drop_more xs i x low)
+    → NoneDecidesSoFar f xs (i + 1) o' all
+argument_is_added f xs i o o' all x a word passed low is same kind unmet more = record {
+  first = sym (ap (λ l. find decides_command (map f l)) (drop_more xs i x low)
       ∙ (rw (sym is, sym same, decides_by word a kind, unmet) refl)) ∙ passed.first;
-  options = sym (ap (λ l. fold with_word o (map f l)) (drop_more xs i x low)
-      ∙ (rw (sym is, sym same) (ap (λ (p : Options). fold with_word p (map f (drop (i + 1) xs)))
-      (adds_by word a o kind unmet ∙ sym more)))) ∙ passed.options;
+  options = sym (ap (λ l. fold with_argument_bytes o (map f l)) (drop_more xs i x low)
+      ∙ (rw (sym is, sym same)
+      (ap (λ (p : Options). fold with_argument_bytes p (map f (drop (i + 1) xs)))
+      (with_argument_by_kind word a o kind unmet ∙ sym more)))) ∙ passed.options;
 }

@@ -6,10 +6,10 @@ use Rattle.capture_tables.specs.declared.options.Options.{Options}
 use Rattle.capture_tables.specs.contracts.options.OptionsPartialEq.TheImpl.{ghosts}
 
 -- the first two values are equal, and so are all later pairs
-abbrev equal_from : Bool → Bool → List Bool → List Bool → Bool
-equal_from x y [] [] = beq x y
-equal_from x y (a ∷ xs) (b ∷ ys) = beq x y && equal_from a b xs ys
-equal_from x y xs ys = false
+abbrev first_and_later_equal : Bool → Bool → List Bool → List Bool → Bool
+first_and_later_equal x y [] [] = beq x y
+first_and_later_equal x y (a ∷ xs) (b ∷ ys) = beq x y && first_and_later_equal a b xs ys
+first_and_later_equal x y xs ys = false
 
 same : (x y : Bool) → IsTrue (beq x y) → x ≡ y
 same true true h = refl
@@ -23,20 +23,22 @@ parts false false z h = (refl, h)
 parts true false z h = search rules
 parts false true z h = search rules
 
-same_from : (x y : Bool) (xs ys : List Bool) → IsTrue (equal_from x y xs ys)
+first_and_later_identical : (x y : Bool) (xs ys : List Bool)
+    → IsTrue (first_and_later_equal x y xs ys)
     → (x ∷ xs) ≡ (y ∷ ys)
-same_from x y [] [] h = ap (λ (b : Bool). b ∷ []) (same x y h)
-same_from x y [] (b ∷ ys) h = search rules
-same_from x y (a ∷ xs) [] h = search rules
-same_from x y (a ∷ xs) (b ∷ ys) h =
-    let (first, later) = parts x y (equal_from a b xs ys) h in
-    let rest = same_from a b xs ys later in cc
+first_and_later_identical x y [] [] h = ap (λ (b : Bool). b ∷ []) (same x y h)
+first_and_later_identical x y [] (b ∷ ys) h = search rules
+first_and_later_identical x y (a ∷ xs) [] h = search rules
+first_and_later_identical x y (a ∷ xs) (b ∷ ys) h =
+    let (first, later) = parts x y (first_and_later_equal a b xs ys) h in
+    let rest = first_and_later_identical a b xs ys later in cc
 
-itself_from : (x : Bool) (xs : List Bool) → IsTrue (equal_from x x xs xs)
-itself_from true [] = refl
-itself_from false [] = refl
-itself_from true (a ∷ xs) = itself_from a xs
-itself_from false (a ∷ xs) = itself_from a xs
+first_and_later_equal_themselves : (x : Bool) (xs : List Bool)
+    → IsTrue (first_and_later_equal x x xs xs)
+first_and_later_equal_themselves true [] = refl
+first_and_later_equal_themselves false [] = refl
+first_and_later_equal_themselves true (a ∷ xs) = first_and_later_equal_themselves a xs
+first_and_later_equal_themselves false (a ∷ xs) = first_and_later_equal_themselves a xs
 
 -- the fields after the first, in the order of the declaration
 abbrev later : Options → List Bool
@@ -65,6 +67,6 @@ options_from bs = record {
 
 pub options_equal : (v w : Options) → IsTrue (ghosts.eq v w) ↔ (v ≡ w)
 options_equal v w = (
-  (λ h. ap options_from (same_from v.timer w.timer (later v) (later w) h)),
-  (λ is. rw is (itself_from w.timer (later w))),
+  (λ h. ap options_from (first_and_later_identical v.timer w.timer (later v) (later w) h)),
+  (λ is. rw is (first_and_later_equal_themselves w.timer (later w))),
 )

@@ -5,7 +5,7 @@ use Rattle.std.proofs.Common.{◌∷◌, Ok, Err, Result}
 use Rattle.std.specs.Prelude.{IsOk, OnOk, Option, ⊤}
 use Rattle.std.specs.Io.KnownBytes.{Appends}
 use Rattle.std.proofs.KnownBytes.{Appends-nil, Appends-trans}
-use Rattle.capture_tables.specs.Reports.{Reports, ReportsMore, WritesPrefix, closing_line}
+use Rattle.capture_tables.specs.Reports.{ReportsText, ReportsMore, WritesPrefix, closing_line}
 use Rattle.capture_tables.specs.Reports.{run_error_text}
 use Rattle.capture_tables.specs.declared.run.RunError.{RunError}
 use Rattle.capture_tables.specs.declared.run.RunError.TheVariants.{Header, Packet, Memory}
@@ -15,14 +15,14 @@ use Rattle.capture_tables.specs.declared.run.RunError.TheVariants.{Write, Closed
 pub reports_then : (a b c : Option (List ℕ)) (f g h : Type 0) (o p q : Bool) (x y : List ℕ)
     → ReportsMore a f o b g p x → ReportsMore b g p c h q y → ReportsMore a f o c h q (x ++ y)
 reports_then a b c f g h o p q x y first second = λ start before so_far.
-    subst (λ (t : List ℕ). Reports start c h t q) (append_assoc before x y)
+    subst (λ (t : List ℕ). ReportsText start c h t q) (append_assoc before x y)
     (second start (before ++ x) (first start before so_far))
 
 -- Reporting the empty text changes nothing.
 pub reports_nothing : (a : Option (List ℕ)) (f : Type 0) (o : Bool)
     → ReportsMore a f o a f o []
 reports_nothing a f o = λ start before so_far.
-    subst (λ (t : List ℕ). Reports start a f t o) (sym (append-nil before)) so_far
+    subst (λ (t : List ℕ). ReportsText start a f t o) (sym (append-nil before)) so_far
 
 -- Three texts that are reported are their concatenation.
 pub reports_three : (a b c d : Option (List ℕ)) (f g h k : Type 0) (o p q r : Bool)
@@ -63,12 +63,12 @@ reports_none a f text = λ start before (sent, more, split, appended, failed). (
 
 -- A report from the start is the whole report.
 pub reports_from_start : (a b : Option (List ℕ)) (f g : Type 0) (p : Bool) (text : List ℕ)
-    → ReportsMore a f true b g p text → Reports a b g text p
+    → ReportsMore a f true b g p text → ReportsText a b g text p
 reports_from_start a b f g p text more = more a [] (Appends-nil a)
 
 -- What was reported is a prefix of the text.
 pub reports_prefix : (a b : Option (List ℕ)) (g : Type 0) (p : Bool) (text : List ℕ)
-    → Reports a b g text p → WritesPrefix a b text
+    → ReportsText a b g text p → WritesPrefix a b text
 reports_prefix a b g true text appended = (text, [], sym (append-nil text), appended)
 reports_prefix a b g false text (sent, more, split, appended, failed) =
     (sent, more, split, appended)

@@ -4,38 +4,42 @@ use Rattle.std.proofs.Common.{ap, subst, ◌∙◌, append-nil, arith}
 use Rattle.std.specs.Prelude.{Option}
 use Rattle.std.specs.Io.KnownBytes.{Consumes}
 use Rattle.std.proofs.KnownBytes.{Consumes-trans}
-use Rattle.capture_tables.specs.Capture.{IsPacketStop, IsStartStop, IsStop, number_at}
+use Rattle.capture_tables.specs.Capture.{IsPacketStop, IsEarlyReadStop, IsReadStop}
+use Rattle.capture_tables.specs.Capture.{number_at_offset}
 use Rattle.capture_tables.specs.declared.capture.CaptureError.{CaptureError}
 use Rattle.capture_tables.specs.declared.capture.CaptureError.TheVariants.{Memory, Cut}
 use Rattle.capture_tables.specs.Streams.{IsReadFailure}
 use Rattle.capture_tables.specs.declared.capture.FileHeader.{FileHeader}
 
-within : (file : FileHeader) (left : Option (List ℕ)) (failed : Type 0) (header part : List ℕ)
+stop_within_packet : (file : FileHeader) (left : Option (List ℕ)) (failed : Type 0)
+    (header part : List ℕ)
     (e : CaptureError)
-    → length header ≡ 16 → length part < number_at file.order 4 8 header → IsStop left failed e
+    → length header ≡ 16 → length part < number_at_offset file.order 4 8 header
+    → IsReadStop left failed e
     → IsPacketStop file left failed (header ++ part) e
-within file left failed header part e long short stop =
+stop_within_packet file left failed header part e long short stop =
     grind arith
 
 -- A failed read is a reason to stop.
-pub failure_stops : (left : Option (List ℕ)) (failed : Type 0) (e : CaptureError) → IsReadFailure e
-    → failed → IsStop left failed e
-failure_stops left failed e is cause =
+pub failed_read_is_stop : (left : Option (List ℕ)) (failed : Type 0) (e : CaptureError)
+    → IsReadFailure e
+    → failed → IsReadStop left failed e
+failed_read_is_stop left failed e is cause =
     grind arith
 
 -- A stop within the file header is one of its reasons to stop.
 pub start_stops : (left : Option (List ℕ)) (failed : Type 0) (part : List ℕ) (e : CaptureError)
-    → (e ≡ Cut → 0 < length part) → IsStop left failed e → IsStartStop left failed part e
+    → (e ≡ Cut → 0 < length part) → IsReadStop left failed e → IsEarlyReadStop left failed part e
 start_stops left failed part e some stop =
     grind arith
 
 -- A stop after a packet header, while its packet is read, is a reason why no packet was read.
 pub packet_stops : (file : FileHeader) (a b c : Option (List ℕ)) (failed : Type 0) (header : List ℕ)
     (e : CaptureError)
-    → length header ≡ 16 → number_at file.order 4 8 header ≤ 262144 → Consumes a b header
+    → length header ≡ 16 → number_at_offset file.order 4 8 header ≤ 262144 → Consumes a b header
     → ((part : List ℕ) × Consumes b c part
-    × (((e ≡ Memory) × (part ≡ [])) ⊎ ((length part < number_at file.order 4 8 header)
-    × IsStop c failed e)))
+    × (((e ≡ Memory) × (part ≡ [])) ⊎ ((length part < number_at_offset file.order 4 8 header)
+    × IsReadStop c failed e)))
     → (part : List ℕ) × Consumes a c part × IsPacketStop file c failed part e
 packet_stops file a b c failed header e long most first (part, read, stop) = elim stop [
   | inl m ↦
@@ -49,6 +53,6 @@ packet_stops file a b c failed header e long most first (part, read, stop) = eli
   | inr s ↦ (
     header ++ part,
     Consumes-trans a b c header part first read,
-    within file c failed header part e long s.0 s.1,
+    stop_within_packet file c failed header part e long s.0 s.1,
   )
 ]

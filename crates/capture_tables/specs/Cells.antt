@@ -32,9 +32,9 @@ peer_cell None = codes "*"
 peer_cell (Some n) = decimal n
 
 -- an address, in brackets (91 and 93) if it is an IPv6 address
-abbrev pub host : IpAddr → List ℕ
-host (V4 a) = ip_text (V4 a)
-host (V6 a) = 91 ∷ ip_text (V6 a) ++ 93 ∷ []
+abbrev pub bracketed_address : IpAddr → List ℕ
+bracketed_address (V4 a) = ip_text (V4 a)
+bracketed_address (V6 a) = 91 ∷ ip_text (V6 a) ++ 93 ∷ []
 
 -- a port in decimal, or `*` for 0
 abbrev pub port_text : ℕ → List ℕ
@@ -43,7 +43,8 @@ port_text port = if port == 0 then codes "*" else decimal port
 -- An address, a scope, a colon (58) and a port. The scope is `%` and the interface number, or
 -- nothing if the number is 0.
 abbrev pub endpoint : IpAddr → ℕ → ℕ → List ℕ
-endpoint address interface port = host address ++ scope_text interface ++ 58 ∷ port_text port
+endpoint address interface port =
+    bracketed_address address ++ scope_text interface ++ 58 ∷ port_text port
 
 -- The content of the first columns of a line: Netid, State, Recv-Q, Send-Q, Inode and Uid. `state`
 -- is the kernel's number. None means that the reply does not contain the value.
@@ -68,5 +69,5 @@ first_columns c =
 
 -- A line without its details: the first columns, then the local address, padded to 30 characters,
 -- then the peer's, which is not padded.
-abbrev pub line : FirstColumns → List ℕ → List ℕ → List ℕ
-line c local peer = first_columns c ++ column 30 local ++ peer
+abbrev pub table_line : FirstColumns → List ℕ → List ℕ → List ℕ
+table_line c local peer = first_columns c ++ column 30 local ++ peer

@@ -6,16 +6,16 @@ use Rattle.std.specs.Str.{is_utf8}
 use Rattle.hex.specs.Hex.{encode_lower}
 
 -- a byte that is shown unchanged: from `!` (33) to `~` (126), except the backslash (92)
-abbrev pub is_plain : ℕ → Bool
-is_plain c = (nat_le 33 c && nat_le c 126) && (if c == 92 then false else true)
+abbrev pub is_printable_byte : ℕ → Bool
+is_printable_byte c = (nat_le 33 c && nat_le c 126) && (if c == 92 then false else true)
 
 -- a backslash (92), `x` (120) and the two lowercase hexadecimal digits of a byte
 abbrev pub byte_digits : ℕ → List ℕ
 byte_digits c = 92 ∷ 120 ∷ encode_lower (c ∷ [])
 
 -- a plain byte unchanged, any other as `\x` and two digits
-abbrev pub escaped : ℕ → List ℕ
-escaped c = if is_plain c then c ∷ [] else byte_digits c
+abbrev pub escaped_byte : ℕ → List ℕ
+escaped_byte c = if is_printable_byte c then c ∷ [] else byte_digits c
 
 -- ---- names under `--utf8`
 
@@ -31,35 +31,37 @@ shown_ranges =
     ∷ (0x3400, 0x9fff) ∷ (0xac00, 0xd7a3) ∷ []
 
 -- a character that is not ASCII and is in one of these ranges
-abbrev pub is_shown : ℕ → Bool
-is_shown c = nat_le 0x80 c && list_any (λ r. nat_le r.0 c && nat_le c r.1) shown_ranges
+abbrev pub is_shown_character : ℕ → Bool
+is_shown_character c = nat_le 0x80 c && list_any (λ r. nat_le r.0 c && nat_le c r.1) shown_ranges
 
 -- The UTF-8 bytes of a character, unchanged if it is shown. Else each byte is escaped if it is not
 -- plain.
-abbrev pub char_text : ℕ → List ℕ
-char_text c = if is_shown c then encode_utf8 c else flat_map escaped (encode_utf8 c)
+abbrev pub shown_character : ℕ → List ℕ
+shown_character c = if is_shown_character c then encode_utf8 c
+    else flat_map escaped_byte (encode_utf8 c)
 
 -- A name as it is shown: character by character if `utf8` is set and the bytes are valid UTF-8, or
 -- else byte by byte.
-abbrev pub shown : Bool → List ℕ → List ℕ
-shown utf8 bytes =
-    if utf8 && is_utf8 bytes then flat_map char_text (chars bytes) else flat_map escaped bytes
+abbrev pub shown_name : Bool → List ℕ → List ℕ
+shown_name utf8 bytes =
+    if utf8 && is_utf8 bytes then flat_map shown_character (chars bytes)
+    else flat_map escaped_byte bytes
 
 -- ---- the name that a shown text represents
 
 -- the value of a hexadecimal digit: `a` to `f` are 97 to 102, `0` to `9` are 48 to 57
-abbrev pub digit_worth : ℕ → ℕ
-digit_worth d = if nat_le 97 d then d - 87 else d - 48
+abbrev pub hex_digit_value : ℕ → ℕ
+hex_digit_value d = if nat_le 97 d then d - 87 else d - 48
 
 -- The bytes that a shown text represents, up to the first space (32). A backslash (92) is followed
 -- by `x` and two hexadecimal digits, which represent one byte. Every other byte represents itself.
 -- `n` is the number of bytes that are skipped first.
-unfoldable pub bytes_told : ℕ → List ℕ → List ℕ
-bytes_told n [] = []
-bytes_told (suc n) (c ∷ text) = bytes_told n text
-bytes_told zero (c ∷ text) =
+unfoldable pub unescaped_bytes : ℕ → List ℕ → List ℕ
+unescaped_bytes n [] = []
+unescaped_bytes (suc n) (c ∷ text) = unescaped_bytes n text
+unescaped_bytes zero (c ∷ text) =
     if c == 32 then []
     else if c == 92
-    then (16 * digit_worth (slice_index text 1) + digit_worth (slice_index text 2))
-    ∷ bytes_told 3 text
-    else c ∷ bytes_told 0 text
+    then (16 * hex_digit_value (slice_index text 1) + hex_digit_value (slice_index text 2))
+    ∷ unescaped_bytes 3 text
+    else c ∷ unescaped_bytes 0 text

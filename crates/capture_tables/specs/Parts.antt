@@ -4,7 +4,7 @@ use Rattle.std.specs.Prelude.{ℕ, ◌==◌, if◌then◌else◌, List, [], ◌�
 use Rattle.std.specs.Prelude.{bit_and, Option, None, Some}
 use Rattle.std.specs.Fmt.{digits}
 use Rattle.byteorder.specs.Endian.{little_number}
-use Rattle.capture_tables.specs.Options.{shows}
+use Rattle.capture_tables.specs.Options.{shows_detail}
 use Rattle.capture_tables.specs.declared.options.Detail.TheVariants.{Timer, Extended}
 use Rattle.capture_tables.specs.declared.options.Options.{Options}
 use Rattle.capture_tables.specs.declared.parts.TimerWords.{TimerWords}
@@ -22,17 +22,17 @@ abbrev pub pair_detail : List ℕ → ℕ → ℕ → List ℕ
 pair_detail word n m = 32 ∷ word ++ codes ":(" ++ decimal n ++ 44 ∷ decimal m ++ 41 ∷ []
 
 -- a detail with a number, if the number is not 0
-abbrev pub some_detail : List ℕ → ℕ → List ℕ
-some_detail word n = if n == 0 then [] else detail word n
+abbrev pub nonzero_detail : List ℕ → ℕ → List ℕ
+nonzero_detail word n = if n == 0 then [] else detail word n
 
 -- a space and the name, if the number `n` has one of these bits
 abbrev pub flag_detail : List ℕ → ℕ → ℕ → List ℕ
 flag_detail word bits n = if bit_and n bits == 0 then [] else 32 ∷ word
 
 -- a comma, the name and a number, or nothing for None
-abbrev pub memory_part : List ℕ → Option ℕ → List ℕ
-memory_part word None = []
-memory_part word (Some n) = 44 ∷ word ++ decimal n
+abbrev pub optional_part : List ℕ → Option ℕ → List ℕ
+optional_part word None = []
+optional_part word (Some n) = 44 ∷ word ++ decimal n
 
 -- The directions that are not shut down, by the bits of `sk_shutdown`: `<->` if none is shut down.
 -- `<` (60) is `-` (45) if bit 1 (RCV_SHUTDOWN) is set, and `>` (62) is `-` if bit 2 (SEND_SHUTDOWN)
@@ -69,13 +69,13 @@ abbrev pub no_timer : TimerWords
 no_timer = record { class = 0; retransmits = 0; expires = 0 }
 
 -- the timer, if its group of details is shown
-abbrev pub timer_if_asked : Options → TimerWords → List ℕ
-timer_if_asked o timer = if shows o Timer then timer_text timer else []
+abbrev pub timer_if_shown : Options → TimerWords → List ℕ
+timer_if_shown o timer = if shows_detail o Timer then timer_text timer else []
 
 -- the cookie as a little-endian number of eight bytes, if its group of details is shown
-abbrev pub cookie_if_asked : Options → List ℕ → List ℕ
-cookie_if_asked o cookie =
-    if shows o Extended then codes " sk:" ++ digits 16 false (little_number 8 cookie) else []
+abbrev pub cookie_if_shown : Options → List ℕ → List ℕ
+cookie_if_shown o cookie =
+    if shows_detail o Extended then codes " sk:" ++ digits 16 false (little_number 8 cookie) else []
 
 -- what separates the columns from the details: nothing with `-O`, or else a line feed (10) and a
 -- tab (9)
@@ -83,6 +83,6 @@ abbrev pub separator : Options → List ℕ
 separator o = if o.one_line then [] else 10 ∷ 9 ∷ []
 
 -- the separator and the details, or nothing if there are no details
-abbrev pub set_apart : Options → List ℕ → List ℕ
-set_apart o [] = []
-set_apart o (c ∷ told) = separator o ++ c ∷ told
+abbrev pub details_after_separator : Options → List ℕ → List ℕ
+details_after_separator o [] = []
+details_after_separator o (c ∷ told) = separator o ++ c ∷ told

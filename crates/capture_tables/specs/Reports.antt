@@ -24,14 +24,14 @@ packet_line front packet text =
     front ++ codes "packet " ++ decimal packet ++ codes ": " ++ text ++ 10 ∷ []
 
 -- the text about a truncated packet: how many of its bytes were captured, and its original length
-abbrev pub cut_text : ℕ → ℕ → List ℕ
-cut_text captured whole =
+abbrev pub truncation_text : ℕ → ℕ → List ℕ
+truncation_text captured whole =
     codes "truncated to " ++ decimal captured ++ codes " of " ++ decimal whole ++ codes " bytes"
 
 -- the line about a packet with this captured length and this original length, if it was truncated
-abbrev pub cut_line : List ℕ → ℕ → ℕ → ℕ → List ℕ
-cut_line front packet captured whole =
-    if nat_lt captured whole then packet_line front packet (cut_text captured whole) else []
+abbrev pub truncation_line : List ℕ → ℕ → ℕ → ℕ → List ℕ
+truncation_line front packet captured whole =
+    if nat_lt captured whole then packet_line front packet (truncation_text captured whole) else []
 
 -- the line about a packet that is shorter than the cooked header
 abbrev pub short_line : List ℕ → ℕ → List ℕ
@@ -75,9 +75,9 @@ closing_line front error = front ++ run_error_text error ++ 10 ∷ []
 
 -- If the last argument is true: the text was written, and no write failed. If it is false: a prefix
 -- of the text was written, and then a write failed. `failed` states that a write failed.
-abbrev pub Reports : Option (List ℕ) → Option (List ℕ) → Type 0 → List ℕ → Bool → Type 0
-Reports held held' failed text true = Appends held held' text
-Reports held held' failed text false =
+abbrev pub ReportsText : Option (List ℕ) → Option (List ℕ) → Type 0 → List ℕ → Bool → Type 0
+ReportsText held held' failed text true = Appends held held' text
+ReportsText held held' failed text false =
     (sent more : List ℕ) × (text ≡ sent ++ more) × Appends held held' sent × failed
 
 -- a prefix of the text was written, perhaps all of it
@@ -91,5 +91,5 @@ WritesPrefix held held' text =
 abbrev pub ReportsMore : Option (List ℕ) → Type 0 → Bool → Option (List ℕ) → Type 0 → Bool
     → List ℕ → Type 0
 ReportsMore held failed is_open held' failed' is_open' text =
-    (start : Option (List ℕ)) → (before : List ℕ) → Reports start held failed before is_open
-    → Reports start held' failed' (before ++ text) is_open'
+    (start : Option (List ℕ)) → (before : List ℕ) → ReportsText start held failed before is_open
+    → ReportsText start held' failed' (before ++ text) is_open'

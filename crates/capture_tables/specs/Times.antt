@@ -5,13 +5,13 @@ use Rattle.capture_tables.specs.declared.capture.TimeUnit.{TimeUnit}
 use Rattle.capture_tables.specs.declared.capture.TimeUnit.TheVariants.{Microseconds, Nanoseconds}
 
 -- a number in decimal, padded with leading zeros (48) to at least `width` digits
-abbrev pub zero_filled : ℕ → ℕ → List ℕ
-zero_filled width n = replicate (width - length (decimal n)) 48 ++ decimal n
+abbrev pub zero_padded : ℕ → ℕ → List ℕ
+zero_padded width n = replicate (width - length (decimal n)) 48 ++ decimal n
 
 -- a fraction of a second in at least six digits for microseconds, and at least nine for nanoseconds
 abbrev pub fraction_text : TimeUnit → ℕ → List ℕ
-fraction_text Microseconds n = zero_filled 6 n
-fraction_text Nanoseconds n = zero_filled 9 n
+fraction_text Microseconds n = zero_padded 6 n
+fraction_text Nanoseconds n = zero_padded 9 n
 
 -- the seconds since 1970, a point (46) and the fraction of a second
 abbrev pub time_text : PacketHeader → List ℕ

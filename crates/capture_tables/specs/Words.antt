@@ -15,11 +15,11 @@ AreLetters letters = (0 < length letters) × AllPass is_letter letters
 -- An argument that is not a long option is parsed by its first byte. With a hyphen (45) it is
 -- Letters if at least one letter follows, each of which is an option, and else Unknown. Without a
 -- hyphen it is a File.
-abbrev pub IsOther : List ℕ → Argument → Type 0
-IsOther word (Letters letters) = (word ≡ 45 ∷ letters.now) × AreLetters letters.now
-IsOther word File = (rest : List ℕ) → word ≢ 45 ∷ rest
-IsOther word Unknown = (letters : List ℕ) × (word ≡ 45 ∷ letters) × ¬ AreLetters letters
-IsOther word _ = ⊥
+abbrev pub IsShortArgument : List ℕ → Argument → Type 0
+IsShortArgument word (Letters letters) = (word ≡ 45 ∷ letters.now) × AreLetters letters.now
+IsShortArgument word File = (rest : List ℕ) → word ≢ 45 ∷ rest
+IsShortArgument word Unknown = (letters : List ℕ) × (word ≡ 45 ∷ letters) × ¬ AreLetters letters
+IsShortArgument word _ = ⊥
 
 -- what an argument is parsed as
 abbrev pub IsArgument : List ℕ → Argument → Type 0
@@ -33,7 +33,7 @@ IsArgument word Xdp = word ≡ codes "--xdp"
 IsArgument word other =
     (word ≢ codes "--help") × (word ≢ codes "--version") × (word ≢ codes "--utf8")
     × (word ≢ codes "--requests") × (word ≢ codes "--family=netlink") × (word ≢ codes "--vsock")
-    × (word ≢ codes "--xdp") × IsOther word other
+    × (word ≢ codes "--xdp") × IsShortArgument word other
 
 -- the options `o`, and those of this argument
 abbrev pub with_argument : Argument → Options → Options

@@ -4,11 +4,12 @@
 ghost use Rattle.std.specs.Prelude.{◌≡◌, ◌↔◌, ◌+◌, ◌<◌, ◌≤◌, ◌++◌, ◌⊎◌, ℕ, List, [], length, IfOk};
 ghost use Rattle.std.specs.Prelude.{IfErr, OnOk, IsTrue, MatchBool, MatchOption, MatchResult};
 ghost use Rattle.std.specs.Io.KnownBytes.{Consumes, IsAtEnd, Keeps};
-ghost use Rattle.capture_tables.specs.Capture.{IsFileHeader, IsFileHeaderFault, IsHeaderStop};
-ghost use Rattle.capture_tables.specs.Capture.{IsMagic, IsOtherFile, IsPacketStop, IsRecord};
-ghost use Rattle.capture_tables.specs.Capture.{IsStop, number_at, packet_header, recorded, unit_of};
+ghost use Rattle.capture_tables.specs.Capture.{IsFileHeader, IsFileHeaderError, IsFileHeaderStop};
+ghost use Rattle.capture_tables.specs.Capture.{IsPcapMagic, IsMagicError, IsPacketStop};
+ghost use Rattle.capture_tables.specs.Capture.{IsPacketRecord, IsReadStop, number_at_offset};
+ghost use Rattle.capture_tables.specs.Capture.{packet_header_fields, captured_packet, unit_of};
 ghost use Rattle.capture_tables.specs.Reports.{capture_error_text};
-ghost use Rattle.capture_tables.specs.private.Report.{joined};
+ghost use Rattle.capture_tables.specs.private.Report.{error_text_bytes};
 ghost use Rattle.capture_tables.specs.declared.capture.CaptureError.TheVariants.{Memory};
 
 use crate::reports::ErrorText;
@@ -91,7 +92,7 @@ pub enum CaptureError {
 impl CaptureError {
     /// Returns the error's text.
     pub(crate) fn text(&self) -> ErrorText
-        ensures { joined result ≡ capture_error_text self.now }
+        ensures { error_text_bytes result ≡ capture_error_text self.now }
     {
         match self {
             CaptureError::Read => ErrorText::Plain("reading failed"),
@@ -157,7 +158,7 @@ impl ByteOrder {
     /// Returns the `u16` at an offset.
     fn short_at(self, bytes: &[u8], offset: usize) -> u16
         requires { offset + 2 ≤ length bytes.now }
-        ensures { result ≡ number_at self 2 offset bytes.now }
+        ensures { result ≡ number_at_offset self 2 offset bytes.now }
     {
         match self {
             ByteOrder::LowFirst => LittleEndian::read_u16(&bytes[offset..]),
@@ -168,7 +169,7 @@ impl ByteOrder {
     /// Returns the `u32` at an offset.
     fn word_at(self, bytes: &[u8], offset: usize) -> u32
         requires { offset + 4 ≤ length bytes.now }
-        ensures { result ≡ number_at self 4 offset bytes.now }
+        ensures { result ≡ number_at_offset self 4 offset bytes.now }
     {
         match self {
             ByteOrder::LowFirst => LittleEndian::read_u32(&bytes[offset..]),
@@ -181,9 +182,9 @@ impl ByteOrder {
     fn find(bytes: &[u8]) -> Option<ByteOrder>
         requires { 4 ≤ length bytes.now }
         ensures { MatchOption result
-            (¬ IsMagic (number_at ByteOrder.HighFirst 4 0 bytes.now)
-            × ¬ IsMagic (number_at ByteOrder.LowFirst 4 0 bytes.now))
-            (λ order. IsMagic (number_at order 4 0 bytes.now)) }
+            (¬ IsPcapMagic (number_at_offset ByteOrder.HighFirst 4 0 bytes.now)
+            × ¬ IsPcapMagic (number_at_offset ByteOrder.LowFirst 4 0 bytes.now))
+            (λ order. IsPcapMagic (number_at_offset order 4 0 bytes.now)) }
     {
         if is_magic(ByteOrder::LowFirst.word_at(bytes, 0)) {
             Some(ByteOrder::LowFirst)
@@ -197,7 +198,7 @@ impl ByteOrder {
 
 /// Returns whether the number is a magic number of pcap.
 fn is_magic(number: u32) -> bool
-    ensures { IsTrue result ↔ IsMagic number }
+    ensures { IsTrue result ↔ IsPcapMagic number }
 {
     number == MICROSECONDS || number == NANOSECONDS
 }
@@ -205,7 +206,7 @@ fn is_magic(number: u32) -> bool
 /// Returns the error of a file that is not a pcap file. `magic` has its first four bytes, as a
 /// big-endian number.
 fn no_capture(magic: u32) -> CaptureError
-    ensures { IsOtherFile magic result }
+    ensures { IsMagicError magic result }
 {
     match magic {
         NEW_FORMAT => CaptureError::NewFormat,
@@ -265,7 +266,7 @@ impl FileHeader {
     /// not 253, `OtherLinkType`.
     pub fn parse(bytes: &[u8]) -> Result<FileHeader, CaptureError>
         requires { 24 ≤ length bytes.now }
-        ensures { MatchResult result (IsFileHeader bytes.now) (IsFileHeaderFault bytes.now) }
+        ensures { MatchResult result (IsFileHeader bytes.now) (IsFileHeaderError bytes.now) }
     {
         let Some(order) = ByteOrder::find(bytes) else {
             return Err(no_capture(ByteOrder::HighFirst.word_at(bytes, 0)));
@@ -289,7 +290,7 @@ impl FileHeader {
             × Consumes (R.left input.old) (R.left input.new) bytes) }
         ensures stopped { IfErr result (λ e. (part : List ℕ)
             × Consumes (R.left input.old) (R.left input.new) part
-            × IsHeaderStop (R.left input.new) (R.failed input.new) part e) }
+            × IsFileHeaderStop (R.left input.new) (R.failed input.new) part e) }
     {
         let mut bytes = [0u8; FILE_HEADER];
         if !fill_or_end(input, &mut bytes)? {
@@ -310,7 +311,7 @@ impl FileHeader {
         ensures read { IfOk result (λ found. MatchOption found
             (IsAtEnd (R.left input.new) × Keeps (R.left input.old) (R.left input.new))
             (λ told_header. (header : List ℕ)
-            × IsRecord self.now header (recorded packet.new.items told_header)
+            × IsPacketRecord self.now header (captured_packet packet.new.items told_header)
             × Consumes (R.left input.old) (R.left input.new) (header ++ packet.new.items))) }
         ensures stopped { IfErr result (λ e. (part : List ℕ)
             × Consumes (R.left input.old) (R.left input.new) part
@@ -333,7 +334,7 @@ impl FileHeader {
     /// Returns the fields of the packet header in the first 16 bytes.
     fn packet_header(&self, bytes: &[u8]) -> PacketHeader
         requires { 16 ≤ length bytes.now }
-        ensures { result ≡ packet_header self.now bytes.now }
+        ensures { result ≡ packet_header_fields self.now bytes.now }
     {
         PacketHeader {
             seconds: self.order.word_at(bytes, 0),
@@ -355,7 +356,7 @@ fn read_bytes<R: Source>(
     ensures stopped { IfErr result (λ e. (part : List ℕ)
         × Consumes (R.left input.old) (R.left input.new) part
         × (((e ≡ Memory) × (part ≡ []))
-        ⊎ ((length part < count) × IsStop (R.left input.new) (R.failed input.new) e))) }
+        ⊎ ((length part < count) × IsReadStop (R.left input.new) (R.failed input.new) e))) }
 {
     packet.clear();
     packet.resize(count, 0)?;
@@ -367,7 +368,7 @@ fn fill<R: Source>(input: &mut R, bytes: &mut [u8]) -> Result<(), CaptureError>
     ensures filled { OnOk result (Consumes (R.left input.old) (R.left input.new) bytes.new) }
     ensures stopped { IfErr result (λ e. (part : List ℕ) × (length part < length bytes.old)
         × Consumes (R.left input.old) (R.left input.new) part
-        × IsStop (R.left input.new) (R.failed input.new) e) }
+        × IsReadStop (R.left input.new) (R.failed input.new) e) }
 {
     let mut at = 0;
     'reads: while at < bytes.len() {
@@ -390,7 +391,7 @@ fn fill_or_end<R: Source>(input: &mut R, bytes: &mut [u8]) -> Result<bool, Captu
     ensures stopped { IfErr result (λ e. (part : List ℕ) × (length part < length bytes.old)
         × (e ≡ CaptureError.Cut → 0 < length part)
         × Consumes (R.left input.old) (R.left input.new) part
-        × IsStop (R.left input.new) (R.failed input.new) e) }
+        × IsReadStop (R.left input.new) (R.failed input.new) e) }
 {
     let (first, rest) = bytes.split_at_mut(1);
     match input.read_some(first) {

@@ -3,10 +3,10 @@
 ghost use Rattle.std.specs.Prelude.{◌≡◌, ◌++◌, ◌∷◌, [], ◌-◌, ◌≤◌, decimal, false, replicate};
 ghost use Rattle.std.specs.Prelude.{vec_len, OnOk};
 ghost use Rattle.std.specs.Fmt.{digits};
-ghost use Rattle.capture_tables.specs.Cells.{column, endpoint, first_columns, host, number_cell};
-ghost use Rattle.capture_tables.specs.Cells.{peer_cell, port_text, state_name};
+ghost use Rattle.capture_tables.specs.Cells.{column, endpoint, first_columns, bracketed_address};
+ghost use Rattle.capture_tables.specs.Cells.{number_cell, peer_cell, port_text, state_name};
 ghost use Rattle.capture_tables.specs.CellsModel.{cells_model};
-ghost use Rattle.capture_tables.specs.Escapes.{byte_digits, escaped};
+ghost use Rattle.capture_tables.specs.Escapes.{byte_digits, escaped_byte};
 
 use std::alloc::AllocError;
 use std::io::Write;
@@ -123,7 +123,7 @@ pub fn push_first_columns(text: &mut Vec<u8>, cells: &Cells) -> Result<(), Alloc
 /// Appends a byte unchanged if it is from `!` to `~` and not a backslash. Otherwise appends `\x`
 /// and its two hexadecimal digits.
 pub fn push_escaped_byte(text: &mut Vec<u8>, byte: u8) -> Result<(), AllocError>
-    ensures { OnOk result (text.new.items ≡ text.old.items ++ escaped byte) }
+    ensures { OnOk result (text.new.items ≡ text.old.items ++ escaped_byte byte) }
 {
     if (b'!'..=b'~').contains(&byte) && byte != b'\\' {
         return Ok(text.push(byte)?);
@@ -191,7 +191,7 @@ pub fn push_endpoint(
 
 /// Appends an address, in brackets if it is an IPv6 address.
 fn push_host(text: &mut Vec<u8>, address: IpAddr) -> Result<(), AllocError>
-    ensures { OnOk result (text.new.items ≡ text.old.items ++ host address) }
+    ensures { OnOk result (text.new.items ≡ text.old.items ++ bracketed_address address) }
 {
     let written = match address {
         IpAddr::V4(_) => write!(text, "{address}"),

@@ -3,7 +3,8 @@
 
 ghost use Rattle.std.specs.Prelude.{◌≡◌, ◌++◌, ◌&&◌, ℕ, List, OnOk, chars, flat_map, nat_le};
 ghost use Rattle.std.specs.List.{list_any};
-ghost use Rattle.capture_tables.specs.Escapes.{bytes_told, char_text, escaped, is_shown, shown};
+ghost use Rattle.capture_tables.specs.Escapes.{unescaped_bytes, shown_character, escaped_byte};
+ghost use Rattle.capture_tables.specs.Escapes.{is_shown_character, shown_name};
 
 use crate::cells::push_escaped_byte;
 use std::alloc::AllocError;
@@ -36,10 +37,11 @@ const SHOWN: [(u32, u32); 18] = [
 /// backslash is appended unchanged, any other byte as `\x` and two digits. If `utf8` is set and the
 /// bytes are valid UTF-8, the characters of the ranges of `SHOWN` are appended unchanged too.
 pub fn push_shown(text: &mut Vec<u8>, utf8: bool, bytes: &[u8]) -> Result<(), AllocError>
-    ensures shown { OnOk result (text.new.items ≡ text.old.items ++ shown utf8 bytes.now) }
+    ensures shown { OnOk result (text.new.items ≡ text.old.items ++ shown_name utf8 bytes.now) }
     // The bytes can be read back from what is shown. So two different names are never shown alike.
     ensures told { (behind : List ℕ)
-        → (bytes_told 0 (shown utf8 bytes.now ++ behind) ≡ bytes.now ++ bytes_told 0 behind) }
+        → (unescaped_bytes 0 (shown_name utf8 bytes.now ++ behind)
+        ≡ bytes.now ++ unescaped_bytes 0 behind) }
 {
     if !utf8 {
         return push_escaped(text, bytes);
@@ -52,7 +54,8 @@ pub fn push_shown(text: &mut Vec<u8>, utf8: bool, bytes: &[u8]) -> Result<(), Al
 
 /// Appends the characters of a text. A character that is not shown is escaped byte by byte.
 fn push_chars(text: &mut Vec<u8>, name: &str) -> Result<(), AllocError>
-    ensures { OnOk result (text.new.items ≡ text.old.items ++ flat_map char_text (chars name.now)) }
+    ensures { OnOk result (text.new.items
+        ≡ text.old.items ++ flat_map shown_character (chars name.now)) }
 {
     for c in name.chars() {
         push_char(text, c)?;
@@ -62,7 +65,7 @@ fn push_chars(text: &mut Vec<u8>, name: &str) -> Result<(), AllocError>
 
 /// Appends a character if it is shown, or else its UTF-8 bytes, escaped.
 fn push_char(text: &mut Vec<u8>, c: char) -> Result<(), AllocError>
-    ensures { OnOk result (text.new.items ≡ text.old.items ++ char_text c) }
+    ensures { OnOk result (text.new.items ≡ text.old.items ++ shown_character c) }
 {
     let mut buffer = [0u8; 4];
     let bytes = c.encode_utf8(&mut buffer).as_bytes();
@@ -75,7 +78,7 @@ fn push_char(text: &mut Vec<u8>, c: char) -> Result<(), AllocError>
 
 /// Returns whether a character is shown although it is not ASCII.
 fn is_shown(c: char) -> bool
-    ensures { result ≡ is_shown c }
+    ensures { result ≡ is_shown_character c }
 {
     !c.is_ascii() && is_in_ranges(&SHOWN, c as u32)
 }
@@ -92,7 +95,7 @@ fn is_in_ranges(ranges: &[(u32, u32)], number: u32) -> bool
 
 /// Appends each byte as [`push_escaped_byte`] does.
 fn push_escaped(text: &mut Vec<u8>, bytes: &[u8]) -> Result<(), AllocError>
-    ensures { OnOk result (text.new.items ≡ text.old.items ++ flat_map escaped bytes.now) }
+    ensures { OnOk result (text.new.items ≡ text.old.items ++ flat_map escaped_byte bytes.now) }
 {
     for byte in bytes {
         push_escaped_byte(text, *byte)?;

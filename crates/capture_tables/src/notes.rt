@@ -1,7 +1,8 @@
 //! The output about packets, and the diagnostics about truncated and short packets.
 
 ghost use Rattle.std.specs.Prelude.{◌≡◌, ◌↔◌, ◌≤◌, ◌++◌, IfOk, IsTrue, OnOk, length};
-ghost use Rattle.capture_tables.specs.Reports.{cut_line, cut_text, packet_line, short_line};
+ghost use Rattle.capture_tables.specs.Reports.{truncation_line, truncation_text, packet_line};
+ghost use Rattle.capture_tables.specs.Reports.{short_line};
 
 use std::alloc::AllocError;
 use std::io::Write;
@@ -28,7 +29,7 @@ pub fn push_cut_note(
     ensures whole { IfOk result (λ is_whole. IsTrue is_whole ↔ (whole_length ≤ length packet.now)) }
     ensures lines { OnOk result (written.new.lines.items ≡ written.old.lines.items) }
     ensures issues { OnOk result (written.new.issues.items ≡ written.old.issues.items
-        ++ cut_line written.old.front.now number (length packet.now) whole_length) }
+        ++ truncation_line written.old.front.now number (length packet.now) whole_length) }
     ensures front { written.new.front ≡ written.old.front }
 {
     if packet.len() >= whole_length as usize {
@@ -48,7 +49,7 @@ fn push_cut(
 ) -> Result<(), AllocError>
     ensures lines { OnOk result (written.new.lines.items ≡ written.old.lines.items) }
     ensures issues { OnOk result (written.new.issues.items ≡ written.old.issues.items
-        ++ packet_line written.old.front.now packet (cut_text length whole_length)) }
+        ++ packet_line written.old.front.now packet (truncation_text length whole_length)) }
     ensures front { written.new.front ≡ written.old.front }
 {
     let front = written.front;

@@ -1,8 +1,9 @@
 //! Selection of the sockets that are listed, and of the details that are shown for each.
 
 ghost use Rattle.std.specs.Prelude.{◌≡◌};
-ghost use Rattle.capture_tables.specs.Options.{asks_family, is_asked, lists_family, lists_protocol};
-ghost use Rattle.capture_tables.specs.Options.{lists_unix, selects, shows};
+ghost use Rattle.capture_tables.specs.Options.{selects_family, is_detail_selected, lists_family};
+ghost use Rattle.capture_tables.specs.Options.{lists_protocol, lists_unix, selects_sockets};
+ghost use Rattle.capture_tables.specs.Options.{shows_detail};
 
 /// `IPPROTO_TCP`.
 const TCP: u32 = 6;
@@ -81,14 +82,14 @@ pub enum Family {
 impl Options {
     /// Returns whether a group of details is shown.
     pub fn shows(self, detail: Detail) -> bool
-        ensures { result ≡ shows self detail }
+        ensures { result ≡ shows_detail self detail }
     {
         self.asks_for(detail) || !(self.timer || self.extended || self.memory || self.connection)
     }
 
     /// Returns whether the option of a group of details is set.
     fn asks_for(self, detail: Detail) -> bool
-        ensures { result ≡ is_asked self detail }
+        ensures { result ≡ is_detail_selected self detail }
     {
         match detail {
             Detail::Timer => self.timer,
@@ -129,7 +130,7 @@ impl Options {
 
     /// Returns whether the option of a family is set.
     fn asks_family(self, family: Family) -> bool
-        ensures { result ≡ asks_family self family }
+        ensures { result ≡ selects_family self family }
     {
         match family {
             Family::Netlink => self.netlink,
@@ -141,7 +142,7 @@ impl Options {
 
     /// Returns whether an option that selects sockets is set.
     fn selects(self) -> bool
-        ensures { result ≡ selects self }
+        ensures { result ≡ selects_sockets self }
     {
         self.tcp
             || self.udp

@@ -2,9 +2,9 @@
 //! text.
 
 ghost use Rattle.std.specs.Prelude.{◌≡◌, ◌++◌, OnOk};
-ghost use Rattle.capture_tables.specs.Parts.{cookie_if_asked, detail, directions, flag_detail};
-ghost use Rattle.capture_tables.specs.Parts.{hex_detail, memory_part, packet_flags, pair_detail};
-ghost use Rattle.capture_tables.specs.Parts.{separator, some_detail, timer_if_asked, timer_name};
+ghost use Rattle.capture_tables.specs.Parts.{cookie_if_shown, detail, directions, flag_detail};
+ghost use Rattle.capture_tables.specs.Parts.{hex_detail, optional_part, packet_flags, pair_detail};
+ghost use Rattle.capture_tables.specs.Parts.{separator, nonzero_detail, timer_if_shown, timer_name};
 ghost use Rattle.capture_tables.specs.Parts.{timer_text};
 
 use crate::cells::{push_hex, push_number};
@@ -50,7 +50,7 @@ pub fn push_shown_timer(
     options: Options,
     timer: &TimerWords,
 ) -> Result<(), AllocError>
-    ensures { OnOk result (text.new.items ≡ text.old.items ++ timer_if_asked options timer.now) }
+    ensures { OnOk result (text.new.items ≡ text.old.items ++ timer_if_shown options timer.now) }
 {
     if !options.shows(Detail::Timer) {
         return Ok(());
@@ -94,7 +94,7 @@ pub fn push_shown_cookie(
     options: Options,
     cookie: &[u8; 8],
 ) -> Result<(), AllocError>
-    ensures { OnOk result (text.new.items ≡ text.old.items ++ cookie_if_asked options cookie.now) }
+    ensures { OnOk result (text.new.items ≡ text.old.items ++ cookie_if_shown options cookie.now) }
 {
     if !options.shows(Detail::Extended) {
         return Ok(());
@@ -134,7 +134,7 @@ pub fn push_packet_flags(text: &mut Vec<u8>, flags: u8) -> Result<(), AllocError
 
 /// Appends a comma, a name and a number. Appends nothing for `None`.
 pub fn push_part(text: &mut Vec<u8>, word: &[u8], number: Option<u32>) -> Result<(), AllocError>
-    ensures { OnOk result (text.new.items ≡ text.old.items ++ memory_part word.now number) }
+    ensures { OnOk result (text.new.items ≡ text.old.items ++ optional_part word.now number) }
 {
     let Some(number) = number else {
         return Ok(());
@@ -146,7 +146,7 @@ pub fn push_part(text: &mut Vec<u8>, word: &[u8], number: Option<u32>) -> Result
 
 /// Appends a detail with a number if the number is not 0.
 pub fn push_some(text: &mut Vec<u8>, word: &[u8], number: u64) -> Result<(), AllocError>
-    ensures { OnOk result (text.new.items ≡ text.old.items ++ some_detail word.now number) }
+    ensures { OnOk result (text.new.items ≡ text.old.items ++ nonzero_detail word.now number) }
 {
     if number == 0 {
         return Ok(());

@@ -4,7 +4,7 @@ ghost use Rattle.std.specs.Prelude.{◌≡◌, ◌++◌, ◌∷◌, [], codes, d
 ghost use Rattle.byteorder.specs.Endian.{big_bytes};
 ghost use Rattle.hex.specs.Hex.{encode_lower};
 ghost use Rattle.capture_tables.specs.Reports.{ReportsMore, closing_line, run_error_text};
-ghost use Rattle.capture_tables.specs.private.Report.{failure_place, joined};
+ghost use Rattle.capture_tables.specs.private.Report.{packet_number_prefix, error_text_bytes};
 ghost use Rattle.capture_tables.specs.declared.run.RunError.{RunError};
 
 use crate::run::{RunError, send};
@@ -78,7 +78,7 @@ fn report_line<E: Sink>(errors: &mut E, is_open: &mut bool, front: &str, failure
 fn report_place<E: Sink>(errors: &mut E, is_open: &mut bool, failure: &RunError)
     ensures { ReportsMore (E.held errors.old) ((e : RunError) × E.failed errors.old e) is_open.old
         (E.held errors.new) ((e : RunError) × E.failed errors.new e) is_open.new
-        (failure_place failure.now) }
+        (packet_number_prefix failure.now) }
 {
     match failure {
         RunError::Packet { packet, .. } => report_packet(errors, is_open, *packet),
@@ -100,7 +100,8 @@ fn report_packet<E: Sink>(errors: &mut E, is_open: &mut bool, packet: u64)
 /// Writes the text of an error, by [`report`].
 fn report_text<E: Sink>(errors: &mut E, is_open: &mut bool, text: ErrorText)
     ensures { ReportsMore (E.held errors.old) ((e : RunError) × E.failed errors.old e) is_open.old
-        (E.held errors.new) ((e : RunError) × E.failed errors.new e) is_open.new (joined text) }
+        (E.held errors.new) ((e : RunError) × E.failed errors.new e) is_open.new
+        (error_text_bytes text) }
 {
     match text {
         ErrorText::Plain(text) => report(errors, is_open, text.as_bytes()),

@@ -2,10 +2,10 @@
 
 ghost use Rattle.std.specs.Prelude.{◌≡◌, ◌++◌, List, ℕ, length, IfErr, IfOk, MatchOption, OnOk};
 ghost use Rattle.std.specs.Io.KnownBytes.{Appends, Consumes, IsAtEnd, Keeps};
-ghost use Rattle.capture_tables.specs.Capture.{IsFileHeader, IsHeaderStop, IsPacketStop, IsRecord};
-ghost use Rattle.capture_tables.specs.Capture.{recorded};
+ghost use Rattle.capture_tables.specs.Capture.{IsFileHeader, IsFileHeaderStop, IsPacketStop};
+ghost use Rattle.capture_tables.specs.Capture.{IsPacketRecord, captured_packet};
 ghost use Rattle.capture_tables.specs.Reports.{run_error_text};
-ghost use Rattle.capture_tables.specs.private.Report.{failure_place, joined};
+ghost use Rattle.capture_tables.specs.private.Report.{packet_number_prefix, error_text_bytes};
 ghost use Rattle.capture_tables.specs.Streams.{IsWriteFailure};
 ghost use Rattle.capture_tables.specs.declared.run.RunError.TheVariants.{Memory};
 
@@ -39,7 +39,8 @@ pub enum RunError {
 impl RunError {
     /// Returns the text of the error, without the number of the packet.
     pub(crate) fn text(&self) -> ErrorText
-        ensures { failure_place self.now ++ joined result ≡ run_error_text self.now }
+        ensures { packet_number_prefix self.now ++ error_text_bytes result
+            ≡ run_error_text self.now }
     {
         match self {
             RunError::Header(fault) | RunError::Packet { fault, .. } => fault.text(),
@@ -78,7 +79,7 @@ pub fn read_header<R: Source>(input: &mut R) -> Result<FileHeader, RunError>
     ensures stopped { IfErr result (λ e. (fault : CaptureError) × (e ≡ RunError.Header fault)
         × (part : List ℕ)
         × Consumes (R.left input.old) (R.left input.new) part
-        × IsHeaderStop (R.left input.new) (R.failed input.new) part fault) }
+        × IsFileHeaderStop (R.left input.new) (R.failed input.new) part fault) }
 {
     match FileHeader::read(input) {
         Ok(file) => Ok(file),
@@ -97,7 +98,7 @@ pub fn read_packet<R: Source>(
     ensures read { IfOk result (λ found. MatchOption found
         (IsAtEnd (R.left input.new) × Keeps (R.left input.old) (R.left input.new))
         (λ told_header. (header : List ℕ)
-        × IsRecord file.now header (recorded packet.new.items told_header)
+        × IsPacketRecord file.now header (captured_packet packet.new.items told_header)
         × Consumes (R.left input.old) (R.left input.new) (header ++ packet.new.items))) }
     ensures stopped { IfErr result (λ e. (fault : CaptureError) × (e ≡ RunError.Packet number fault)
         × (part : List ℕ)

@@ -19,7 +19,7 @@ pub fn push_time(text: &mut Vec<u8>, header: &PacketHeader) -> Result<(), AllocE
 
 /// Appends a fraction of a second in six or nine digits, by its unit. A fraction of a second or
 /// more, which a capture may contain, has more digits if it needs them.
-#[tactic(auto, using(crate::proofs::Filling::zero_filled_is))]
+#[tactic(auto, using(crate::proofs::Filling::zero_padded_is_format))]
 fn push_fraction(text: &mut Vec<u8>, unit: TimeUnit, fraction: u32) -> Result<(), AllocError>
     ensures { OnOk result (text.new.items ≡ text.old.items ++ fraction_text unit fraction) }
 {

@@ -2,7 +2,8 @@
 
 ghost use Rattle.std.specs.Prelude.{◌≡◌, ◌↔◌, IsTrue};
 ghost use Rattle.capture_tables.specs.Choice.{is_file, with_details, with_letters, with_sockets};
-ghost use Rattle.capture_tables.specs.Words.{AreLetters, IsArgument, IsOther, with_argument};
+ghost use Rattle.capture_tables.specs.Words.{AreLetters, IsArgument, IsShortArgument};
+ghost use Rattle.capture_tables.specs.Words.{with_argument};
 
 use crate::options::Options;
 
@@ -52,7 +53,7 @@ pub(crate) fn parse_argument(word: &str) -> Argument<'_>
 
 /// Parses an argument that is not one of the long options.
 fn parse_other(word: &[u8]) -> Argument<'_>
-    ensures { IsOther word.entry.now result }
+    ensures { IsShortArgument word.entry.now result }
 {
     if is_file(word) {
         return Argument::File;

@@ -3,7 +3,7 @@ use Rattle.std.specs.Prelude.{◌≡◌, ◌⊎◌, ℕ, Bool, List, [], ◌∷�
 use Rattle.std.specs.Prelude.{Err, IfOk}
 use Rattle.std.specs.List.{flat_map, list_all}
 use Rattle.std.specs.Io.KnownBytes.{Appends, Consumes}
-use Rattle.line_server.specs.Lines.{Splits, with_rest}
+use Rattle.line_server.specs.Lines.{SplitsIntoLines, all_lines}
 use Rattle.line_server.specs.declared.stream.RunError.{RunError}
 use Rattle.line_server.specs.declared.stream.RunError.TheVariants.{Read, Write, Memory}
 
@@ -13,8 +13,8 @@ answer_lines answer lines = flat_map (λ line. answer line ++ 10 ∷ []) lines
 
 -- The text was written; or a prefix of it was written, and a write failed. `held` and `held'` are
 -- the bytes that had been written before and after, if they are known.
-abbrev pub SendsOrFails : Option (List ℕ) → Option (List ℕ) → Type 0 → List ℕ → Type 0
-SendsOrFails held held' failed text = (sent more : List ℕ) × (text ≡ sent ++ more)
+abbrev pub WritesAllOrFails : Option (List ℕ) → Option (List ℕ) → Type 0 → List ℕ → Type 0
+WritesAllOrFails held held' failed text = (sent more : List ℕ) × (text ≡ sent ++ more)
     × Appends held held' sent × ((more ≡ []) ⊎ failed)
 
 -- Given the answer to each line (`answer`), the bytes that are left to read before and after a run
@@ -25,15 +25,18 @@ module _ (answer : List ℕ → List ℕ) (left left' held held' : Option (List 
   -- read; these include a last line without a line feed. If it succeeds: the answers to all lines.
   -- If a read fails: the answers to the complete lines. If memory runs out: the answers to the
   -- first `k` complete lines. If a write fails: the first `k` bytes of the answers to all lines.
-  abbrev pub Ended : Result Bool RunError → List (List ℕ) → List (List ℕ) → Type 0
-  Ended (Ok is_good) whole all = Appends held held' (answer_lines answer all)
-  Ended (Err Read) whole all = Appends held held' (answer_lines answer whole)
-  Ended (Err Memory) whole all = (k : ℕ) × Appends held held' (answer_lines answer (take k whole))
-  Ended (Err Write) whole all = (k : ℕ) × Appends held held' (take k (answer_lines answer all))
+  abbrev pub HasWrittenAnswers : Result Bool RunError → List (List ℕ) → List (List ℕ) → Type 0
+  HasWrittenAnswers (Ok is_good) whole all = Appends held held' (answer_lines answer all)
+  HasWrittenAnswers (Err Read) whole all = Appends held held' (answer_lines answer whole)
+  HasWrittenAnswers (Err Memory) whole all =
+      (k : ℕ) × Appends held held' (answer_lines answer (take k whole))
+  HasWrittenAnswers (Err Write) whole all =
+      (k : ℕ) × Appends held held' (take k (answer_lines answer all))
 
-  -- The run read a text, which splits into complete lines and a rest. It wrote what `Ended`
-  -- requires. If it succeeded, its result is whether each answer is a good one.
-  abbrev pub Answers : (List ℕ → Bool) → Result Bool RunError → Type 0
-  Answers good result = (whole : List (List ℕ)) × (rest text : List ℕ) × Consumes left left' text
-      × Splits text whole rest × Ended result whole (with_rest whole rest)
-      × IfOk result (λ is_good. is_good ≡ list_all good (map answer (with_rest whole rest)))
+  -- The run read a text, which splits into complete lines and a rest. It wrote what
+  -- `HasWrittenAnswers` requires. If it succeeded, its result is whether each answer is a good one.
+  abbrev pub AnswersInput : (List ℕ → Bool) → Result Bool RunError → Type 0
+  AnswersInput good result = (whole : List (List ℕ)) × (rest text : List ℕ)
+      × Consumes left left' text
+      × SplitsIntoLines text whole rest × HasWrittenAnswers result whole (all_lines whole rest)
+      × IfOk result (λ is_good. is_good ≡ list_all good (map answer (all_lines whole rest)))

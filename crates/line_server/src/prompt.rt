@@ -4,7 +4,7 @@ ghost use Rattle.std.specs.Prelude.{◌≡◌, ◌==◌, ◌<◌, ◌≤◌, ◌
 ghost use Rattle.std.specs.Prelude.{length, IfOk, IfErr, MatchResult, OnOk, ⊤};
 ghost use Rattle.std.specs.Io.KnownBytes.{Appends, Consumes, Keeps, ReadConsumes, WriteAppends};
 ghost use Rattle.std.specs.Io.{ReadsAtMost};
-ghost use Rattle.line_server.specs.Lines.{Splits};
+ghost use Rattle.line_server.specs.Lines.{SplitsIntoLines};
 ghost use Rattle.line_server.specs.Run.{answer_lines};
 
 use crate::stream::{RunError, Start};
@@ -34,7 +34,7 @@ pub trait PromptRead {
         // The answers to all complete lines so far have been written, and `line` is what was read
         // after these lines.
         requires { (whole : List (List ℕ)) × (text : List ℕ)
-            × Consumes S.remaining (left self.old) text × Splits text whole line.now
+            × Consumes S.remaining (left self.old) text × SplitsIntoLines text whole line.now
             × Appends S.contents (W.held output.now) (answer_lines S.answer whole) }
         ensures bound { ReadsAtMost result piece.new }
         ensures bytes { ReadConsumes (left self.old) (left self.new) result piece.new }

@@ -2,9 +2,10 @@
 ghost use Rattle.std.specs.Prelude.{◌≡◌, ◌⊎◌, ◌-◌, ◌^◌, ◌≤◌, ℕ, Bool, true, List, [], ◌++◌, OnOk};
 ghost use Rattle.std.specs.Prelude.{IfOk, IfErr, Option, None, vec_capacity};
 ghost use Rattle.std.specs.Io.KnownBytes.{IsAtEnd};
-ghost use Rattle.line_server.specs.Lines.{with_rest};
-ghost use Rattle.line_server.specs.Run.{Answers, SendsOrFails, answer_lines};
-ghost use Rattle.line_server.specs.private.Run.{AnswersPiece, IsLine, Writes, all_good, fed};
+ghost use Rattle.line_server.specs.Lines.{all_lines};
+ghost use Rattle.line_server.specs.Run.{AnswersInput, WritesAllOrFails, answer_lines};
+ghost use Rattle.line_server.specs.private.Run.{AnswersCompleteLines, HasNoLineFeed, WritesAllText};
+ghost use Rattle.line_server.specs.private.Run.{all_answers_good, with_line_feed};
 ghost use Rattle.line_server.specs.declared.stream.RunError.TheVariants.{Memory};
 
 use crate::prompt::{AnswerWrite, PromptRead};
@@ -133,7 +134,7 @@ pub fn serve<S: Start, A: LineAnswers, R: PromptRead, W: AnswerWrite>(
     requires right { (line : List ℕ) → A.answers line (S.answer line) }
     ensures ended { OnOk result (IsAtEnd (R.left input.new)) }
     ensures flushed { OnOk result (W.flushed output.new) }
-    ensures answered { Answers S.answer S.remaining (R.left input.new) S.contents
+    ensures answered { AnswersInput S.answer S.remaining (R.left input.new) S.contents
         (W.held output.new) A.good result }
     ensures read_cause { IfErr result (λ e. e ≡ RunError.Read
         → R.failed input.new ⊎ R.reads input.new (2 ^ 64 - 1)) }
@@ -168,10 +169,10 @@ fn finish<S: Start, A: LineAnswers, W: AnswerWrite>(
     output: &mut W,
 ) -> Result<bool, RunError>
     requires { (kept.old.answers.items ≡ []) × ((line : List ℕ) → A.answers line (S.answer line)) }
-    ensures written { Writes (W.held output.old) (W.held output.new)
-        (answer_lines S.answer (with_rest [] kept.old.line.items)) result }
+    ensures written { WritesAllText (W.held output.old) (W.held output.new)
+        (answer_lines S.answer (all_lines [] kept.old.line.items)) result }
     ensures judged { IfOk result (λ is_good.
-        is_good ≡ all_good A.good S.answer (with_rest [] kept.old.line.items)) }
+        is_good ≡ all_answers_good A.good S.answer (all_lines [] kept.old.line.items)) }
     ensures flushed { OnOk result (W.flushed output.new) }
     ensures cause { IfErr result (λ e. e ≡ RunError.Write → W.failed output.new) }
 {
@@ -189,9 +190,9 @@ fn end_last_line<S: Start, A: LineAnswers>(
 ) -> Result<bool, AllocError>
     requires { (kept.old.answers.items ≡ []) × ((line : List ℕ) → A.answers line (S.answer line)) }
     ensures added { OnOk result (kept.new.answers.items
-        ≡ answer_lines S.answer (with_rest [] kept.old.line.items)) }
+        ≡ answer_lines S.answer (all_lines [] kept.old.line.items)) }
     ensures judged { IfOk result (λ is_good.
-        is_good ≡ all_good A.good S.answer (with_rest [] kept.old.line.items)) }
+        is_good ≡ all_answers_good A.good S.answer (all_lines [] kept.old.line.items)) }
 {
     if kept.line.is_empty() {
         return Ok(true);
@@ -206,8 +207,9 @@ fn take_piece<S: Start, A: LineAnswers>(
     kept: &mut Kept,
     piece: &[u8],
 ) -> Result<bool, AllocError>
-    requires { IsLine kept.old.line.items × ((line : List ℕ) → A.answers line (S.answer line)) }
-    ensures { IfOk result (AnswersPiece S.answer A.good (kept.old.line.items ++ piece.now)
+    requires { HasNoLineFeed kept.old.line.items
+        × ((line : List ℕ) → A.answers line (S.answer line)) }
+    ensures { IfOk result (AnswersCompleteLines S.answer A.good (kept.old.line.items ++ piece.now)
         kept.new.line.items kept.old.answers.items kept.new.answers.items) }
 {
     let mut is_good = true;
@@ -231,7 +233,7 @@ fn end_line<S: Start, A: LineAnswers>(
     requires { (line : List ℕ) → A.answers line (S.answer line) }
     ensures added { OnOk result ((kept.new.line.items ≡ [])
         × (kept.new.answers.items ≡ kept.old.answers.items
-        ++ fed (S.answer (kept.old.line.items ++ end.now)))) }
+        ++ with_line_feed (S.answer (kept.old.line.items ++ end.now)))) }
     ensures judged { IfOk result (λ is_good.
         is_good ≡ A.good (S.answer (kept.old.line.items ++ end.now))) }
     ensures rooms { OnOk result ((vec_capacity kept.new.line ≤ 131072)
@@ -271,7 +273,7 @@ fn add_answer_line<S: Start, A: LineAnswers>(
 ) -> Result<bool, AllocError>
     requires { (line : List ℕ) → A.answers line (S.answer line) }
     ensures { IfOk result (λ is_good. (line : List ℕ) → A.asks line asked bytes.now
-        → (answers.new.items ≡ answers.old.items ++ fed (S.answer line))
+        → (answers.new.items ≡ answers.old.items ++ with_line_feed (S.answer line))
         × (is_good ≡ A.good (S.answer line))) }
 {
     let is_good = A::push_answer(alloc, answers, asked, bytes)?;
@@ -294,7 +296,7 @@ fn empty(alloc: Global, room: &mut Vec<u8>)
 
 /// Writes all bytes.
 fn send<W: AnswerWrite>(output: &mut W, bytes: &[u8]) -> Result<(), RunError>
-    ensures written { Writes (W.held output.old) (W.held output.new) bytes.now result }
+    ensures written { WritesAllText (W.held output.old) (W.held output.new) bytes.now result }
     ensures cause { IfErr result (λ e. (e ≡ RunError.Write) × W.failed output.new) }
 {
     let mut rest = bytes;
@@ -307,7 +309,8 @@ fn send<W: AnswerWrite>(output: &mut W, bytes: &[u8]) -> Result<(), RunError>
 
 /// Writes the text. If a write fails, a prefix of the text has been written.
 pub fn try_send<W: AnswerWrite>(output: &mut W, text: &[u8])
-    ensures { SendsOrFails (W.held output.old) (W.held output.new) (W.failed output.new) text.now }
+    ensures { WritesAllOrFails (W.held output.old) (W.held output.new)
+        (W.failed output.new) text.now }
 {
     let _ = send(output, text);
 }

@@ -4,28 +4,29 @@ use Rattle.std.proofs.Common.{◌⊎◌, inl, inr, [], refl, arith}
 use Rattle.std.specs.Prelude.{◌≢◌, cond, Contains}
 use Rattle.std.proofs.lemmas.Bool.Decides.{nat_tests}
 use Rattle.std.proofs.lemmas.Map.Made.{Contains-tail}
-use Rattle.netlink_core.specs.AttributeSet.{AttributeSet, AttributeValue, ValueAt}
-use Rattle.netlink_core.specs.AttributeSet.{put, got, of_type, content, numbers}
+use Rattle.netlink_core.specs.AttributeSet.{AttributeSet, AttributeValue, ValueOfKind, inject}
+use Rattle.netlink_core.specs.AttributeSet.{project, value_as_decoded, value_of_kind, kind_numbers}
 
 -- `A` is the type of the values on the left of a sum.
 module _ (A : Type 0) where
   -- projecting from the side to which a value was injected yields the value
-  found_there : {B C : Type 0} (t : Bool) (make : B → C) (find : C → Option B) (x : cond t A B)
-      → (t ≡ false → (y : B) → find (make y) ≡ Some y) → got t find (put t make x) ≡ Some x
-  found_there true make find x later = refl
-  found_there false make find x later = later refl x
+  project_of_injected : {B C : Type 0} (t : Bool) (make : B → C) (find : C
+      → Option B) (x : cond t A B)
+      → (t ≡ false → (y : B) → find (make y) ≡ Some y) → project t find (inject t make x) ≡ Some x
+  project_of_injected true make find x later = refl
+  project_of_injected false make find x later = later refl x
 
   -- projecting from another side yields `None`
-  not_elsewhere : {B C D : Type 0} (s t : Bool) (make : B → C) (find : C → Option D)
+  project_from_other_side : {B C D : Type 0} (s t : Bool) (make : B → C) (find : C → Option D)
       → (x : cond t A B) → (s ≡ true → t ≡ true → ⊥) → ((y : B) → find (make y) ≡ None)
-      → got s find (put t make x) ≡ None
-  not_elsewhere true true make find x apart later = absurd (apart refl refl)
-  not_elsewhere true false make find x apart later = refl
-  not_elsewhere false true make find x apart later = refl
-  not_elsewhere false false make find x apart later = later x
+      → project s find (inject t make x) ≡ None
+  project_from_other_side true true make find x apart later = absurd (apart refl refl)
+  project_from_other_side true false make find x apart later = refl
+  project_from_other_side false true make find x apart later = refl
+  project_from_other_side false false make find x apart later = later x
 
 not_found : {A B C : Type 0} (t : Bool) (find : C → Option B) (v : A ⊎ C) → t ≡ false
-    → ((w : C) → find w ≡ None) → got t find v ≡ None
+    → ((w : C) → find w ≡ None) → project t find v ≡ None
 not_found true find v e later = cc
 not_found false find (inl x) e later = refl
 not_found false find (inr w) e later = later w
@@ -40,27 +41,28 @@ first_differs n ns k has_not =
     let differ : n ≢ k = λ e. has_not (0, omega arith, e) in
     grind (arith, nat_tests)
 
-pub content_of_type : (F : AttributeSet) (k : ℕ) (x : ValueAt F k) → Contains (numbers F) k
-    → content F k (of_type F k x) ≡ Some x
-content_of_type [] k x (i, below, same) = absurd (omega arith)
-content_of_type (spec ∷ others) k x has =
-    found_there _ (spec.number == k) (of_type others k) (content others k) x
-    (λ e y. content_of_type others k y
-    (Contains-tail spec.number (numbers others) k (grind (arith, nat_tests)) has))
+pub value_of_own_kind : (F : AttributeSet) (k : ℕ) (x : ValueOfKind F k)
+    → Contains (kind_numbers F) k
+    → value_of_kind F k (value_as_decoded F k x) ≡ Some x
+value_of_own_kind [] k x (i, below, same) = absurd (omega arith)
+value_of_own_kind (spec ∷ others) k x has =
+    project_of_injected _ (spec.number == k) (value_as_decoded others k) (value_of_kind others k) x
+    (λ e y. value_of_own_kind others k y
+    (Contains-tail spec.number (kind_numbers others) k (grind (arith, nat_tests)) has))
 
-pub no_content_of_other_type : (F : AttributeSet) (k j : ℕ) (x : ValueAt F k) → j ≢ k
-    → content F j (of_type F k x) ≡ None
-no_content_of_other_type [] k j x differ = refl
-no_content_of_other_type (spec ∷ others) k j x differ =
-    not_elsewhere _ (spec.number == j) (spec.number == k) (of_type others k)
-    (content others j) x (grind (arith, nat_tests))
-    (λ y. no_content_of_other_type others k j y differ)
+pub no_value_of_other_kind : (F : AttributeSet) (k j : ℕ) (x : ValueOfKind F k) → j ≢ k
+    → value_of_kind F j (value_as_decoded F k x) ≡ None
+no_value_of_other_kind [] k j x differ = refl
+no_value_of_other_kind (spec ∷ others) k j x differ =
+    project_from_other_side _ (spec.number == j) (spec.number == k) (value_as_decoded others k)
+    (value_of_kind others j) x (grind (arith, nat_tests))
+    (λ y. no_value_of_other_kind others k j y differ)
 
-pub no_content_of_no_type : (F : AttributeSet) (k : ℕ) (v : AttributeValue F)
-    → (Contains (numbers F) k → ⊥) → content F k v ≡ None
-no_content_of_no_type [] k v has_not = refl
-no_content_of_no_type (spec ∷ others) k v has_not =
-    not_found (spec.number == k) (content others k) v
-    (first_differs spec.number (numbers others) k has_not)
-    (λ w. no_content_of_no_type others k w
-    (λ has. has_not (contains_later spec.number (numbers others) k has)))
+pub no_value_of_unknown_kind : (F : AttributeSet) (k : ℕ) (v : AttributeValue F)
+    → (Contains (kind_numbers F) k → ⊥) → value_of_kind F k v ≡ None
+no_value_of_unknown_kind [] k v has_not = refl
+no_value_of_unknown_kind (spec ∷ others) k v has_not =
+    not_found (spec.number == k) (value_of_kind others k) v
+    (first_differs spec.number (kind_numbers others) k has_not)
+    (λ w. no_value_of_unknown_kind others k w
+    (λ has. has_not (contains_later spec.number (kind_numbers others) k has)))

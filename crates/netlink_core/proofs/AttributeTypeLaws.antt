@@ -12,11 +12,12 @@ use Rattle.netlink_core.specs.declared.fault.DecodeError.TheVariants.{Memory}
 use Rattle.netlink_core.specs.Bytes.{IsBytes}
 use Rattle.netlink_core.specs.laws.Byte.{IsBytes-number}
 use Rattle.netlink_core.specs.ValueCodec.{ValueCodec}
-use Rattle.netlink_core.specs.Codec.{KeepsLaws, as_codec}
-use Rattle.netlink_core.specs.laws.Prefix.{value_or_reason}
+use Rattle.netlink_core.specs.Codec.{KeepsCodecLaws, as_codec}
+use Rattle.netlink_core.specs.laws.Prefix.{value_or_error}
 use Rattle.netlink_core.specs.laws.Shown.{AttributeSpecLaws}
-use Rattle.netlink_core.specs.AttributeSpecs.{exact_value, spec, memory_spec, number_spec}
-use Rattle.netlink_core.specs.Parse.{exact_number}
+use Rattle.netlink_core.specs.AttributeSpecs.{whole_value_codec, attribute_spec}
+use Rattle.netlink_core.specs.AttributeSpecs.{allocating_attribute_spec, number_attribute_spec}
+use Rattle.netlink_core.specs.Parse.{number_of_width}
 use Rattle.netlink_core.proofs.Numbers.{little_endian}
 use Rattle.netlink_core.proofs.Numbers.{number-same}
 
@@ -28,16 +29,16 @@ same_bytes n x y x-in_range y-in_range s t e =
 
 -- the codec of a value that takes all bytes keeps the codec laws, if each accepted byte string is
 -- the one that its value serializes to
-pub exact_laws : {A : Type 0} (reads : List ℕ → Result A DecodeError) (bytes : A → List ℕ)
+pub whole_value_laws : {A : Type 0} (reads : List ℕ → Result A DecodeError) (bytes : A → List ℕ)
     (is_in_range is_normal : A → Type 0)
     → ((x : List ℕ) → reads x ≡ Err Memory → ⊥)
     → ((x : List ℕ) (u : A) → IsBytes x → reads x ≡ Ok u
     → (x ≡ bytes u) × is_in_range u × is_normal u)
     → ((u : A) → is_in_range u → IsBytes (bytes u))
     → ((u : A) → is_in_range u → is_normal u → reads (bytes u) ≡ Ok u)
-    → KeepsLaws (as_codec (exact_value reads bytes is_in_range is_normal))
-exact_laws reads bytes is_in_range is_normal named exact bytes_in_range back = record {
-  answered = λ b p in_range. value_or_reason (reads b);
+    → KeepsCodecLaws (as_codec (whole_value_codec reads bytes is_in_range is_normal))
+whole_value_laws reads bytes is_in_range is_normal named exact bytes_in_range back = record {
+  answered = λ b p in_range. value_or_error (reads b);
   one_answer = λ b p v e h k. cc;
   one_fault = λ b p e f h k. cc;
   named_fault = λ b p h. named b h;
@@ -48,35 +49,39 @@ exact_laws reads bytes is_in_range is_normal named exact bytes_in_range back = r
   reads_back = λ p v in_range normal room. back v in_range normal;
 }
 
-number_back : (width n : ℕ) → n < 256 ^ width → little_number width (little_bytes width n) ≡ n
-number_back width n fits = rw append-nil at (little_number-reads_back width n [] fits)
+number_round_trips : (width n : ℕ) → n < 256 ^ width
+    → little_number width (little_bytes width n) ≡ n
+number_round_trips width n fits = rw append-nil at (little_number-reads_back width n [] fits)
 
 -- an attribute type of numbers keeps its laws
-pub number_laws : (k width : ℕ) → bit_and k 0x3fff ≡ k → AttributeSpecLaws (number_spec k width)
-number_laws k width plain = record {
+pub number_attribute_laws : (k width : ℕ) → bit_and k 0x3fff ≡ k
+    → AttributeSpecLaws (number_attribute_spec k width)
+number_attribute_laws k width plain = record {
   plain = plain;
-  value = exact_laws (exact_number (Some k) width) (little_bytes width) (λ n. n < 256 ^ width)
+  value = whole_value_laws (number_of_width (Some k) width) (little_bytes width)
+      (λ n. n < 256 ^ width)
       (λ n. ⊤) (λ x h. grind (arith, nat_tests)) (λ x n in_range h.
       let read : (length x ≡ width) × (little_number width x ≡ n) = grind (arith, nat_tests) in
       let fits : n < 256 ^ width = rw read.1 at (little_from-lt 0 width x in_range) in (
         same_bytes width x (little_bytes width n) in_range (IsBytes-number 0 width n) read.0
-            (length-bytes_low_first 0 width n) (read.1 ∙ sym (number_back width n fits)),
+            (length-bytes_low_first 0 width n) (read.1 ∙ sym (number_round_trips width n fits)),
         fits,
         tt,
       ))
       (λ n fits. IsBytes-number 0 width n)
       (λ n fits normal.
-      grind (arith, nat_tests, length-bytes_low_first 0 width n, number_back width n fits));
+      grind (arith, nat_tests, length-bytes_low_first 0 width n, number_round_trips width n fits));
 }
 
 -- an attribute type keeps its laws if the codec of its values keeps the codec laws
-pub spec_laws : (k : ℕ) {P : ValueCodec (Unit {0})} → bit_and k 0x3fff ≡ k → KeepsLaws (as_codec P)
-    → AttributeSpecLaws (spec k P)
-spec_laws k plain value = record { plain = plain; value = value }
+pub attribute_spec_laws : (k : ℕ) {P : ValueCodec (Unit {0})} → bit_and k 0x3fff ≡ k
+    → KeepsCodecLaws (as_codec P)
+    → AttributeSpecLaws (attribute_spec k P)
+attribute_spec_laws k plain value = record { plain = plain; value = value }
 
-pub memory_spec_laws : (k : ℕ) {P : ValueCodec (Unit {0})} → bit_and k 0x3fff ≡ k
-    → KeepsLaws (as_codec P) → AttributeSpecLaws (memory_spec k P)
-memory_spec_laws k plain value = record { plain = plain; value = value }
+pub allocating_attribute_spec_laws : (k : ℕ) {P : ValueCodec (Unit {0})} → bit_and k 0x3fff ≡ k
+    → KeepsCodecLaws (as_codec P) → AttributeSpecLaws (allocating_attribute_spec k P)
+allocating_attribute_spec_laws k plain value = record { plain = plain; value = value }
 
 -- the laws of a set of attribute types: the laws of its first type, and the laws of the other types
 infixr 4 ◌⊕◌

@@ -5,17 +5,17 @@ use Rattle.std.specs.Cmp.{IsEquivalence, both_ways}
 use lib.Pointwise.{pointwise}
 
 -- a conjunction of tests holds if and only if each test holds
-pub parts : (a b : Bool) → IsTrue (a && b) → IsTrue a × IsTrue b
-parts a b h = search rules
+pub conjunction_parts : (a b : Bool) → IsTrue (a && b) → IsTrue a × IsTrue b
+conjunction_parts a b h = search rules
 
-pub both : (a b : Bool) → IsTrue a → IsTrue b → IsTrue (a && b)
-both a b h k = search rules
+pub conjunction_of_both : (a b : Bool) → IsTrue a → IsTrue b → IsTrue (a && b)
+conjunction_of_both a b h k = search rules
 
 -- a conjunction of tests decides the conjunction of what they decide
 pub and_decides : {P Q : Type 0} {a b : Bool} → IsTrue a ↔ P → IsTrue b ↔ Q
     → IsTrue (a && b) ↔ (P × Q)
 and_decides {P} {Q} {a} {b} f g =
-    grind (arith, parts a b, both a b)
+    grind (arith, conjunction_parts a b, conjunction_of_both a b)
 
 pub numbers_equal : (x y : ℕ) → IsTrue (eqb x y) ↔ (x ≡ y)
 numbers_equal x y = (λ h. search rules, λ e. search rules)
@@ -29,8 +29,8 @@ lists_equal test model decides (x ∷ xs) (y ∷ ys) =
 lists_equal test model decides xs ys = grind arith
 
 -- `false` decides a statement that never holds, such as the equality of two variants
-pub apart : {P : Type 0} → (P → ⊥) → IsTrue false ↔ P
-apart never = (λ h. absurd (let e : false ≡ true = h in cc), λ p. absurd (never p))
+pub false_decides : {P : Type 0} → (P → ⊥) → IsTrue false ↔ P
+false_decides never = (λ h. absurd (let e : false ≡ true = h in cc), λ p. absurd (never p))
 
 -- two tests that decide the same statement are equal
 pub same_test : {P : Type 0} (a b : Bool) → IsTrue a ↔ P → IsTrue b ↔ P → a ≡ b

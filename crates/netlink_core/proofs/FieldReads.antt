@@ -7,7 +7,7 @@ use Rattle.std.proofs.lemmas.List.{ext_get_or, drop-take, drop-drop, drop_more}
 use Rattle.byteorder.specs.Endian.{IsRead}
 use Rattle.netlink_core.specs.Bytes.{IsBytes}
 use Rattle.netlink_core.specs.Table.{Field, number, unread}
-use Rattle.netlink_core.specs.Table.{bytes_at, array, values_of, first, Fit}
+use Rattle.netlink_core.specs.Table.{bytes_at, array, values_of, first_numbers, FitFields}
 use Rattle.netlink_core.proofs.Numbers.{Order, field_in, number_in}
 use Rattle.netlink_core.proofs.Numbers.{number-take}
 use Rattle.netlink_core.proofs.TableLaws.{AreBytes-drop}
@@ -63,9 +63,9 @@ bytes_read offset (suc count) bytes h =
 
 -- ---- numbers fit their fields
 
-pub fit-append : (fields more : List Field) (values others : List ℕ) → Fit fields values
-    → Fit more others
-    → Fit (fields ++ more) (values ++ others)
+pub fit-append : (fields more : List Field) (values others : List ℕ) → FitFields fields values
+    → FitFields more others
+    → FitFields (fields ++ more) (values ++ others)
 fit-append [] more [] others f g = g
 fit-append (unread offset written ∷ fields) more values others f g =
     fit-append fields more values others f g
@@ -75,23 +75,24 @@ fit-append fields more values others f g = grind arith
 
 -- the first `count` bytes fit an array of byte fields
 pub fit-bytes : (offset count : ℕ) (bytes : List ℕ) → IsBytes bytes
-    → Fit (bytes_at offset count) (first count bytes)
+    → FitFields (bytes_at offset count) (first_numbers count bytes)
 fit-bytes offset zero bytes in_range = tt
 fit-bytes offset (suc count) bytes in_range =
     grind (arith, fit-bytes (offset + 1) count (drop 1 bytes) (AreBytes-drop 1 bytes in_range))
 
 -- numbers below 256^width fit an array of fields of this width
-pub fit_numbers : (offset width : ℕ) (xs : List ℕ)
-    → ((i : ℕ) → slice_index xs i < 256 ^ width) → Fit (array number offset width (length xs)) xs
-fit_numbers offset width [] below = tt
-fit_numbers offset width (x ∷ xs) below =
-    (below 0, fit_numbers (offset + width) width xs (λ i. below (suc i)))
+pub numbers_fit_array : (offset width : ℕ) (xs : List ℕ)
+    → ((i : ℕ) → slice_index xs i < 256 ^ width)
+    → FitFields (array number offset width (length xs)) xs
+numbers_fit_array offset width [] below = tt
+numbers_fit_array offset width (x ∷ xs) below =
+    (below 0, numbers_fit_array (offset + width) width xs (λ i. below (suc i)))
 
 -- ---- arrays
 
 -- the first `n` elements of a list of length `n` are the list
-pub first_all : (n : ℕ) (xs : List ℕ) → length xs ≡ n → first n xs ≡ xs
-first_all zero [] l = refl
-first_all (suc n) (x ∷ xs) l =
-    grind (arith, first_all n xs)
-first_all n xs l = absurd (omega arith)
+pub first_numbers_are_all : (n : ℕ) (xs : List ℕ) → length xs ≡ n → first_numbers n xs ≡ xs
+first_numbers_are_all zero [] l = refl
+first_numbers_are_all (suc n) (x ∷ xs) l =
+    grind (arith, first_numbers_are_all n xs)
+first_numbers_are_all n xs l = absurd (omega arith)

@@ -3,7 +3,7 @@
 use Rattle.std.proofs.lemmas.Grind.{common_steps}
 use Rattle.std.proofs.Common.{◌≡◌, ◌↔◌, ℕ, ◌+◌, ◌-◌, ◌≤◌, ◌⊎◌, inl, inr, List, [], ◌++◌}
 use Rattle.std.proofs.Common.{length, take, drop, slice_index, refl, sym, ap, ◌∙◌, arith}
-use Rattle.netlink_core.specs.laws.Prefix.{framed_or_not}
+use Rattle.netlink_core.specs.laws.Prefix.{length_field_cases}
 use Rattle.std.proofs.lemmas.List.{take-append-drop, take_at, length-append}
 use Rattle.std.proofs.lemmas.List.{length-take, length-drop, drop-append-le}
 use Rattle.byteorder.specs.Numbers.{little_from-append}
@@ -14,24 +14,24 @@ use Rattle.netlink_core.specs.declared.fault.DecodeError.TheVariants.{EnvelopeCu
 use Rattle.netlink_core.specs.declared.fault.DecodeError.TheVariants.{EnvelopeLengthUnder16}
 use Rattle.netlink_core.specs.declared.fault.DecodeError.TheVariants.{EnvelopeLengthPast}
 use Rattle.netlink_core.specs.Bytes.{IsBytes}
-use Rattle.netlink_core.specs.Table.{Fit, values_of}
+use Rattle.netlink_core.specs.Table.{FitFields, values_of}
 use Rattle.netlink_core.specs.Header.{header_fields, header_values, header_bytes}
-use Rattle.netlink_core.specs.Header.{HasHeader, IsEnvelopeFault}
+use Rattle.netlink_core.specs.Header.{HasHeader, IsMessageError}
 use Rattle.netlink_core.proofs.Numbers.{masked-all}
-use Rattle.netlink_core.proofs.TableLaws.{IsTable, table_from_test, values-bytes_of, values-fit}
-use Rattle.netlink_core.proofs.TableLaws.{values_and_bits}
+use Rattle.netlink_core.proofs.TableLaws.{AreConsecutiveFields, consecutive_from_test}
+use Rattle.netlink_core.proofs.TableLaws.{values-bytes_of, values-fit, values_and_bits}
 
 pub AreBytes-take : (n : ℕ) (bytes : List ℕ) → IsBytes bytes → IsBytes (take n bytes)
 AreBytes-take n bytes fits =
     grind (arith, common_steps, take-append-drop)
 
 -- the five fields are consecutive, and have 16 bytes
-header_table : IsTable 0 header_fields 16
-header_table = table_from_test 0 header_fields 16 refl
+header_table : AreConsecutiveFields 0 header_fields 16
+header_table = consecutive_from_test 0 header_fields 16 refl
 
 -- the header with these numbers in its fields
-abbrev made : List ℕ → NetlinkHeader
-made vs = record {
+abbrev header_of_numbers : List ℕ → NetlinkHeader
+header_of_numbers vs = record {
   length = slice_index vs 0;
   message_type = slice_index vs 1;
   flags = slice_index vs 2;
@@ -40,12 +40,12 @@ made vs = record {
 }
 
 same_header : (h k : NetlinkHeader) → header_values h ≡ header_values k → h ≡ k
-same_header h k e = ap made e
+same_header h k e = ap header_of_numbers e
 
 -- bytes begin with a header or have a framing error
-pub header_or_fault : (bytes : List ℕ) → IsBytes bytes → ((h : NetlinkHeader) × HasHeader bytes h)
-    ⊎ ((e : DecodeError) × IsEnvelopeFault bytes e)
-header_or_fault bytes fits = elim (framed_or_not 16 (length bytes) (little_number 4 bytes)) [
+pub header_or_error : (bytes : List ℕ) → IsBytes bytes → ((h : NetlinkHeader) × HasHeader bytes h)
+    ⊎ ((e : DecodeError) × IsMessageError bytes e)
+header_or_error bytes fits = elim (length_field_cases 16 (length bytes) (little_number 4 bytes)) [
   | inl cut ↦ inr (EnvelopeCut (length bytes), (refl, cut))
   | inr (inl under) ↦ inr (EnvelopeLengthUnder16 (little_number 4 bytes), (refl, under.0, under.1))
   | inr (inr (inl past)) ↦ inr (
@@ -53,7 +53,7 @@ header_or_fault bytes fits = elim (framed_or_not 16 (length bytes) (little_numbe
     (refl, refl, past.0, past.1, past.2),
   )
   | inr (inr (inr there)) ↦ inl (
-    made (values_of header_fields bytes),
+    header_of_numbers (values_of header_fields bytes),
     (refl, values-fit header_fields bytes fits, there.0, there.1),
   )
 ]
@@ -87,9 +87,9 @@ same_leading_header b c h k tb tc head other =
     )
 
 -- a number among the first bytes does not depend on the bytes after them
-leading_number : (width from : ℕ) (xs ys : List ℕ) → from + width ≤ length xs
+number_before_rest : (width from : ℕ) (xs ys : List ℕ) → from + width ≤ length xs
     → little_number width (drop from (xs ++ ys)) ≡ little_number width (drop from xs)
-leading_number width from xs ys within = rw (drop-append-le from xs ys (omega arith))
+number_before_rest width from xs ys within = rw (drop-append-le from xs ys (omega arith))
     (little_from-append width (drop from xs) ys (omega (arith, length-drop from xs)))
 
 -- the first message of the bytes has the header of the bytes
@@ -102,39 +102,41 @@ message_has_header bytes message h head is =
     let long : 16 ≤ length message = omega arith in
     let whole : values_of header_fields (message ++ tail) ≡ header_values h = rw parts at head.0 in
     let same : values_of header_fields message ≡ header_values h = cc (
-      leading_number 4 0 message tail (omega arith),
-      leading_number 2 4 message tail (omega arith),
-      leading_number 2 6 message tail (omega arith),
-      leading_number 4 8 message tail (omega arith),
-      leading_number 4 12 message tail (omega arith),
+      number_before_rest 4 0 message tail (omega arith),
+      number_before_rest 2 4 message tail (omega arith),
+      number_before_rest 2 6 message tail (omega arith),
+      number_before_rest 4 8 message tail (omega arith),
+      number_before_rest 4 12 message tail (omega arith),
     ) in
     ((same, head.1, head.2, omega arith), sym size)
 
 -- the payload of a message is all of its bytes after the header
-pub whole_payload : (message : List ℕ) (h : NetlinkHeader) → h.length ≡ length message
+pub payload_after_header : (message : List ℕ) (h : NetlinkHeader) → h.length ≡ length message
     → take (h.length - 16) (drop 16 message) ≡ take (length message - 16) (drop 16 message)
-whole_payload message h size = ap (λ (n : ℕ). take (n - 16) (drop 16 message)) size
+payload_after_header message h size = ap (λ (n : ℕ). take (n - 16) (drop 16 message)) size
 
 -- the bytes that a header serializes to have its numbers in their fields, whatever follows
-values_back : (h : NetlinkHeader) (rest : List ℕ) → Fit header_fields (header_values h)
+header_values_round_trip : (h : NetlinkHeader) (rest : List ℕ)
+    → FitFields header_fields (header_values h)
     → values_of header_fields (header_bytes h ++ rest) ≡ header_values h
-values_back h rest in_range =
+header_values_round_trip h rest in_range =
     grind (arith, values-bytes_of, header_table)
 
 -- headers in range are equal if they serialize to the same bytes
-pub known_by_bytes : (h k : NetlinkHeader) → Fit header_fields (header_values h)
-    → Fit header_fields (header_values k) → header_bytes h ≡ header_bytes k → h ≡ k
-known_by_bytes h k th tk e = same_header h k (cc (values_back h [] th, values_back k [] tk))
+pub equal_by_header_bytes : (h k : NetlinkHeader) → FitFields header_fields (header_values h)
+    → FitFields header_fields (header_values k) → header_bytes h ≡ header_bytes k → h ≡ k
+equal_by_header_bytes h k th tk e =
+    same_header h k (cc (header_values_round_trip h [] th, header_values_round_trip k [] tk))
 
 -- bytes of a header, its payload and more begin with this header, and have this payload
-pub header_stands : (h : NetlinkHeader) (payload rest : List ℕ)
-    → Fit header_fields (header_values h) → h.length ≡ 16 + length payload
+pub begins_with_header : (h : NetlinkHeader) (payload rest : List ℕ)
+    → FitFields header_fields (header_values h) → h.length ≡ 16 + length payload
     → HasHeader (header_bytes h ++ (payload ++ rest)) h
     × (take (h.length - 16) (drop 16 (header_bytes h ++ (payload ++ rest))) ≡ payload)
-header_stands h payload rest in_range size =
+begins_with_header h payload rest in_range size =
     grind (
       arith,
-      values_back h (payload ++ rest) in_range,
+      header_values_round_trip h (payload ++ rest) in_range,
       length-append payload rest,
       take_at payload rest (h.length - 16),
     )

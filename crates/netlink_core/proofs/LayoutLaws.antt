@@ -1,190 +1,213 @@
--- A layout that meets the conditions of `IsSound` keeps the laws. Proved once, for every layout.
+-- A layout that meets the conditions of `MeetsLayoutConditions` keeps the laws. Proved once, for
+-- every layout.
 use Rattle.std.proofs.Common.{◌≡◌, ◌↔◌, ℕ, ◌<◌, ◌≤◌, IsTrue, List, [], length}
 use Rattle.std.proofs.Common.{Result, Ok, Err, refl, sym, ap, ◌∙◌, arith}
 use Rattle.std.proofs.Common.{append-nil, le-ltb, lt-ltb}
 use Rattle.std.proofs.lemmas.Bool.{cases_lt}
 use Rattle.netlink_core.specs.Bytes.{IsBytes}
 use Rattle.netlink_core.specs.Table.{values_of, bytes_of}
-use Rattle.netlink_core.specs.laws.Sound.{is_table, IsSound}
-use Rattle.netlink_core.specs.Layout.{Layout, read, read_fields, StandsIn, bytes, AreIdle}
-use Rattle.netlink_core.specs.Layout.{IsInRange}
-use Rattle.netlink_core.specs.Layout.{IsNormal, plain, table, values}
+use Rattle.netlink_core.specs.laws.Sound.{fields_are_consecutive, MeetsLayoutConditions}
+use Rattle.netlink_core.specs.Layout.{Layout, parse_record, parse_fields, IsContainedIn}
+use Rattle.netlink_core.specs.Layout.{record_bytes, AreEquivalent, IsInRange, IsNormal, plain}
+use Rattle.netlink_core.specs.Layout.{tag_fields, field_numbers}
 use Rattle.netlink_core.specs.Rows.{Row, fields_of, numbers_of}
 use Rattle.netlink_core.specs.Faults.{map_ok}
-use Rattle.netlink_core.specs.Codec.{KeepsLaws, RecordLaws, record_codec}
-use Rattle.netlink_core.specs.laws.Prefix.{value_or_reason}
-use Rattle.netlink_core.proofs.TableLaws.{IsTable, table_from_test, values-bytes_of, values-fit}
-use Rattle.netlink_core.proofs.TableLaws.{values-defined, bytes_of-bytes}
+use Rattle.netlink_core.specs.Codec.{KeepsCodecLaws, RecordLaws, record_codec}
+use Rattle.netlink_core.specs.laws.Prefix.{value_or_error}
+use Rattle.netlink_core.proofs.TableLaws.{AreConsecutiveFields, consecutive_from_test}
+use Rattle.netlink_core.proofs.TableLaws.{values-bytes_of, values-fit, values-defined}
+use Rattle.netlink_core.proofs.TableLaws.{bytes_of-bytes}
 use Rattle.netlink_core.specs.declared.fault.DecodeError.{DecodeError}
 use Rattle.netlink_core.specs.declared.fault.DecodeError.TheVariants.{Memory, BufferTooSmall}
 use Rattle.netlink_core.specs.declared.fault.RecordName.{RecordName}
 
 -- `Ok x`, with the type of the error
-abbrev ok : {T : Type 0} → T → Result T DecodeError
-ok x = Ok x
+abbrev ok_value : {T : Type 0} → T → Result T DecodeError
+ok_value x = Ok x
 
 -- What an accepted byte string and its value are: it is long enough, it has a tag, and the value
 -- has the numbers of the bytes in the fields for this tag.
-pub record Accepts {Param Tag Value : Type 0} (layout : Layout Param Tag Value) (param : Param)
+pub record ParsesByFields {Param Tag Value : Type 0} (layout : Layout Param Tag Value)
+    (param : Param)
     (left : List ℕ) (value : Value) : Type 0 where
   pub long : layout.least ≤ length left
   pub tag : Tag
   pub tag_found : layout.tag_at param left ≡ Ok tag
-  pub is : value ≡ layout.value tag (values_of (table layout tag) left)
+  pub is : value ≡ layout.value tag (values_of (tag_fields layout tag) left)
 
 module _ {Param Tag Value : Type 0} (layout : Layout Param Tag Value) where
   -- the value of bytes, by the fields for their tag
-  abbrev read_tagged : List ℕ → Result Tag DecodeError → Result Value DecodeError
-  read_tagged left tag_found = map_ok (λ tag.
-      layout.value tag (values_of (table layout tag) left)) tag_found
+  abbrev parse_tagged : List ℕ → Result Tag DecodeError → Result Value DecodeError
+  parse_tagged left tag_found = map_ok (λ tag.
+      layout.value tag (values_of (tag_fields layout tag) left)) tag_found
 
   -- too few bytes are rejected
   pub too_short : (param : Param) (left : List ℕ) → length left < layout.least
-      → read layout param left ≡ Err (BufferTooSmall layout.name (length left) layout.least)
+      → parse_record layout param left ≡ Err (BufferTooSmall layout.name (length left) layout.least)
   too_short param left l = rw (lt-ltb (length left) layout.least l) refl
 
   -- enough bytes are parsed by their fields
   pub long_enough : (param : Param) (left : List ℕ) → layout.least ≤ length left
-      → read layout param left ≡ read_fields layout param left
+      → parse_record layout param left ≡ parse_fields layout param left
   long_enough param left l = rw (le-ltb (length left) layout.least l) refl
 
   -- bytes with a tag have the value of their fields
-  pub accepts : (param : Param) (left : List ℕ) (tag : Tag) → layout.tag_at param left ≡ Ok tag
-      → read_fields layout param left ≡ Ok (layout.value tag (values_of (table layout tag) left))
-  accepts param left tag e = ap (read_tagged left) e
+  pub parses_by_fields : (param : Param) (left : List ℕ) (tag : Tag)
+      → layout.tag_at param left ≡ Ok tag
+      → parse_fields layout param left
+      ≡ Ok (layout.value tag (values_of (tag_fields layout tag) left))
+  parses_by_fields param left tag e = ap (parse_tagged left) e
 
-  accepted_by : (tag_found : Result Tag DecodeError) (left : List ℕ) (value : Value)
-      → read_tagged left tag_found ≡ Ok value → (tag : Tag) × (tag_found ≡ Ok tag)
-      × (value ≡ layout.value tag (values_of (table layout tag) left))
-  accepted_by tag_found left value e =
+  parsed_has_tag : (tag_found : Result Tag DecodeError) (left : List ℕ) (value : Value)
+      → parse_tagged left tag_found ≡ Ok value → (tag : Tag) × (tag_found ≡ Ok tag)
+      × (value ≡ layout.value tag (values_of (tag_fields layout tag) left))
+  parsed_has_tag tag_found left value e =
       grind arith
 
   -- bytes that parse by their fields have a tag, and the value has their numbers
-  pub accepted_fields : (param : Param) (left : List ℕ) (value : Value)
-      → read_fields layout param left ≡ Ok value → (tag : Tag) × (layout.tag_at param left ≡ Ok tag)
-      × (value ≡ layout.value tag (values_of (table layout tag) left))
-  accepted_fields param left value e = accepted_by (layout.tag_at param left) left value e
+  pub parsed_fields : (param : Param) (left : List ℕ) (value : Value)
+      → parse_fields layout param left ≡ Ok value
+      → (tag : Tag) × (layout.tag_at param left ≡ Ok tag)
+      × (value ≡ layout.value tag (values_of (tag_fields layout tag) left))
+  parsed_fields param left value e = parsed_has_tag (layout.tag_at param left) left value e
 
   -- bytes that parse are long enough and have a tag, and the value has their numbers
-  pub accepted : (param : Param) (left : List ℕ) (value : Value) → read layout param left ≡ Ok value
-      → Accepts layout param left value
-  accepted param left value e =
+  pub parsed_by_fields : (param : Param) (left : List ℕ) (value : Value)
+      → parse_record layout param left ≡ Ok value
+      → ParsesByFields layout param left value
+  parsed_by_fields param left value e =
       grind (
         arith,
         cases_lt (length left),
         too_short param left,
-        accepted_by,
+        parsed_has_tag,
         long_enough param left,
       )
 
-  rejected_by : (tag_found : Result Tag DecodeError) (left : List ℕ) (fault : DecodeError)
-      → read_tagged left tag_found ≡ Err fault → tag_found ≡ Err fault
-  rejected_by tag_found left fault e =
+  rejected_for_tag : (tag_found : Result Tag DecodeError) (left : List ℕ) (fault : DecodeError)
+      → parse_tagged left tag_found ≡ Err fault → tag_found ≡ Err fault
+  rejected_for_tag tag_found left fault e =
       grind arith
 
 same_tag : {T : Type 0} (r : Result T DecodeError) (s t : T) → r ≡ Ok s → r ≡ Ok t → s ≡ t
 same_tag r s t e f = cc
 
-module _ {Param Tag Value : Type 0} (layout : Layout Param Tag Value) (sound : IsSound layout) where
+module _ {Param Tag Value : Type 0} (layout : Layout Param Tag Value)
+    (sound : MeetsLayoutConditions layout) where
   -- the fields for the tag of bytes, or of a value, are consecutive
-  table_is : (param : Param) (tag : Tag) (left : List ℕ) → layout.tag_at param left ≡ Ok tag
-      → IsTable 0 (table layout tag) (sound.size tag)
-  table_is param tag left tag_found =
-      grind (arith, table_from_test 0)
+  parsed_fields_are_consecutive : (param : Param) (tag : Tag) (left : List ℕ)
+      → layout.tag_at param left ≡ Ok tag
+      → AreConsecutiveFields 0 (tag_fields layout tag) (sound.size tag)
+  parsed_fields_are_consecutive param tag left tag_found =
+      grind (arith, consecutive_from_test 0)
 
-  own_table_is : (value : Value) → IsTable 0 (table layout (layout.tag_of value))
+  own_fields_are_consecutive : (value : Value)
+      → AreConsecutiveFields 0 (tag_fields layout (layout.tag_of value))
       (sound.size (layout.tag_of value))
-  own_table_is value =
-      grind (arith, table_from_test 0)
+  own_fields_are_consecutive value =
+      grind (arith, consecutive_from_test 0)
 
   -- bytes are never rejected with `Memory`
-  pub named : (param : Param) (left : List ℕ) → read layout param left ≡ Err Memory → ⊥
-  named param left e =
-      grind (arith, cases_lt (length left), too_short, rejected_by, long_enough)
+  pub record_error_is_not_memory : (param : Param) (left : List ℕ)
+      → parse_record layout param left ≡ Err Memory → ⊥
+  record_error_is_not_memory param left e =
+      grind (arith, cases_lt (length left), too_short, rejected_for_tag, long_enough)
 
   -- bytes with a tag contain the value of their fields
-  stands : (param : Param) (tag : Tag) (left : List ℕ) → IsBytes left → layout.least ≤ length left
+  contains_parsed_value : (param : Param) (tag : Tag) (left : List ℕ) → IsBytes left
+      → layout.least ≤ length left
       → layout.tag_at param left ≡ Ok tag
-      → StandsIn layout left param (layout.value tag (values_of (table layout tag) left))
-  stands param tag left h long found =
+      → IsContainedIn layout left param (layout.value tag (values_of (tag_fields layout tag) left))
+  contains_parsed_value param tag left h long found =
       grind (arith, values-fit, values-defined)
 
-  reads : (param : Param) (left : List ℕ) (value : Value) → StandsIn layout left param value
-      → read layout param left ≡ Ok value
-  reads param left value ((long, found, numbers), in_range, normal) =
-      grind (arith, long_enough, accepts)
+  contained_is_parsed : (param : Param) (left : List ℕ) (value : Value)
+      → IsContainedIn layout left param value
+      → parse_record layout param left ≡ Ok value
+  contained_is_parsed param left value ((long, found, numbers), in_range, normal) =
+      grind (arith, long_enough, parses_by_fields)
 
   -- bytes parse as a value if and only if they contain it
-  pub stands_where_read : (param : Param) (left : List ℕ) (value : Value) → IsBytes left
-      → (read layout param left ≡ Ok value) ↔ StandsIn layout left param value
-  stands_where_read param left value h =
-      grind (arith, accepted, stands param, reads param left value)
+  pub contained_iff_parsed : (param : Param) (left : List ℕ) (value : Value) → IsBytes left
+      → (parse_record layout param left ≡ Ok value) ↔ IsContainedIn layout left param value
+  contained_iff_parsed param left value h =
+      grind (
+        arith,
+        parsed_by_fields,
+        contains_parsed_value param,
+        contained_is_parsed param left value,
+      )
 
   -- bytes are equivalent if and only if they have the same value
-  idle_from_equal : (param : Param) (left right : List ℕ) (value : Value)
-      → StandsIn layout left param value → StandsIn layout right param value
-      → AreIdle layout param left right
-  idle_from_equal param left right value a b =
-      (layout.tag_of value, values layout value, a.0, b.0)
+  equivalent_from_equal : (param : Param) (left right : List ℕ) (value : Value)
+      → IsContainedIn layout left param value → IsContainedIn layout right param value
+      → AreEquivalent layout param left right
+  equivalent_from_equal param left right value a b =
+      (layout.tag_of value, field_numbers layout value, a.0, b.0)
 
-  equal_from_idle : (param : Param) (left right : List ℕ) → AreIdle layout param left right
-      → read layout param left ≡ read layout param right
-  equal_from_idle param left right (tag, numbers, here, there) =
-      grind (arith, long_enough, accepts)
+  equal_from_equivalent : (param : Param) (left right : List ℕ)
+      → AreEquivalent layout param left right
+      → parse_record layout param left ≡ parse_record layout param right
+  equal_from_equivalent param left right (tag, numbers, here, there) =
+      grind (arith, long_enough, parses_by_fields)
 
   -- a value in range and in normal form round-trips
-  pub reads_back : (param : Param) (value : Value) → IsInRange layout value
-      → IsNormal layout param value → read layout param (bytes layout value) ≡ Ok value
-  reads_back param value t n =
+  pub record_round_trips : (param : Param) (value : Value) → IsInRange layout value
+      → IsNormal layout param value → parse_record layout param (record_bytes layout value)
+      ≡ Ok value
+  record_round_trips param value t n =
       let enough = sound.enough value in
       let size = sound.long value in
-      reads param (bytes layout value) value (
+      contained_is_parsed param (record_bytes layout value) value (
         (
           omega arith,
           sound.tag_written param value t n,
-          values-bytes_of 0 (table layout (layout.tag_of value)) (sound.size (layout.tag_of value))
-              (values layout value) (bytes layout value) [] (own_table_is value) t.1 n.0
-              (sym (append-nil (bytes layout value))),
+          values-bytes_of 0 (tag_fields layout (layout.tag_of value))
+              (sound.size (layout.tag_of value))
+              (field_numbers layout value) (record_bytes layout value) []
+              (own_fields_are_consecutive value) t.1 n.0
+              (sym (append-nil (record_bytes layout value))),
         ),
         t,
         n,
       )
 
   -- a value in range serializes to bytes
-  pub written_bytes : (value : Value) → IsInRange layout value → IsBytes (bytes layout value)
-  written_bytes value t =
-      grind (arith, bytes_of-bytes 0, own_table_is value)
+  pub record_bytes_in_range : (value : Value) → IsInRange layout value
+      → IsBytes (record_bytes layout value)
+  record_bytes_in_range value t =
+      grind (arith, bytes_of-bytes 0, own_fields_are_consecutive value)
 
-  pub keeps_laws : KeepsLaws (record_codec layout)
-  keeps_laws = record {
-    answered = λ b p tb. value_or_reason (read layout p b);
+  pub layout_codec_laws : KeepsCodecLaws (record_codec layout)
+  layout_codec_laws = record {
+    answered = λ b p tb. value_or_error (parse_record layout p b);
     one_answer = λ b p v e h k. cc;
     one_fault = λ b p e f h k. cc;
-    named_fault = λ b p h. named p b h;
+    named_fault = λ b p h. record_error_is_not_memory p b h;
     same_value = λ b c p v w tb tc r s. (
-      λ e. idle_from_equal p b c v ((stands_where_read p b v tb).0 r)
-          ((stands_where_read p c v tc).0 (s ∙ ap (λ (x : Value). ok x) (sym e))),
-      λ i. same_tag (read layout p b) v w r (equal_from_idle p b c i ∙ s),
+      λ e. equivalent_from_equal p b c v ((contained_iff_parsed p b v tb).0 r)
+          ((contained_iff_parsed p c v tc).0 (s ∙ ap (λ (x : Value). ok_value x) (sym e))),
+      λ i. same_tag (parse_record layout p b) v w r (equal_from_equivalent p b c i ∙ s),
     );
-    reads_normal = λ b p v tb r. let x = (stands_where_read p b v tb).0 r in (x.1, x.2);
-    written_bytes = written_bytes;
-    reads_back = λ p v tv n f. reads_back p v tv n;
+    reads_normal = λ b p v tb r. let x = (contained_iff_parsed p b v tb).0 r in (x.1, x.2);
+    written_bytes = record_bytes_in_range;
+    reads_back = λ p v tv n f. record_round_trips p v tv n;
   }
 
   pub record_laws : RecordLaws layout
   record_laws =
-      grind (arith, keeps_laws, stands, stands_where_read)
+      grind (arith, layout_codec_laws, contains_parsed_value, contained_iff_parsed)
 
 -- the conditions on the layout of a record with the same rows for all values
 pub plain_sound : {Value : Type 0} {name : RecordName} {size : ℕ} {rows : List (Row Value)}
     {value : List ℕ → Value} {is_shaped : Value → Type 0}
-    → IsTrue (is_table 0 (fields_of rows) size)
+    → IsTrue (fields_are_consecutive 0 (fields_of rows) size)
     → ((v : Value) → length (bytes_of (fields_of rows) (numbers_of rows v)) ≡ size)
     → ((left : List ℕ) → numbers_of rows (value (values_of (fields_of rows) left))
     ≡ values_of (fields_of rows) left)
     → ((left : List ℕ) → is_shaped (value (values_of (fields_of rows) left)))
     → ((v : Value) → is_shaped v → value (numbers_of rows v) ≡ v)
-    → IsSound (plain name size rows value is_shaped)
+    → MeetsLayoutConditions (plain name size rows value is_shaped)
 plain_sound {size = size} rows_are long kept shaped back = record {
   size = λ tag. size;
   tables = λ param tag left e. rows_are;

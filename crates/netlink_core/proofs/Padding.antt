@@ -4,24 +4,27 @@ use Rattle.std.proofs.Common.{[], ◌<◌, ◌⊎◌, ◌≡◌, ℕ, ◌+◌, L
 use Rattle.std.proofs.Common.{arith}
 use Rattle.std.proofs.lemmas.List.{take-append-drop, length-take, drop_all}
 use Rattle.std.proofs.Math.Seq.{drop-append-add}
-use Rattle.netlink_core.specs.Attribute.{Attribute, HasPrefix, StartsWith, fill, unpadded}
+use Rattle.netlink_core.specs.Attribute.{Attribute, HasAttributePrefix, StartsWithAttribute}
+use Rattle.netlink_core.specs.Attribute.{padding_length, header_and_value}
 
 -- the bytes `tail` are the padding, up to `n` bytes, and `rest`; the padding is shorter only if
 -- nothing follows
-pub padding_there : (n : ℕ) (tail rest : List ℕ) → rest ≡ drop n tail
+pub padding_and_rest : (n : ℕ) (tail rest : List ℕ) → rest ≡ drop n tail
     → (tail ≡ take n tail ++ rest)
     × ((length (take n tail) ≡ n) ⊎ ((length (take n tail) < n) × (rest ≡ [])))
-padding_there n tail rest rest-is =
+padding_and_rest n tail rest rest-is =
     grind (arith, take-append-drop n tail, length-take n tail, drop_all n tail)
 
 -- bytes that begin with an attribute are the attribute, its padding, and `rest`
-pub starts_with : (bytes rest : List ℕ) (a : Attribute) (end : ℕ) → HasPrefix bytes a
-    → end ≡ 4 + length a.value + fill (4 + length a.value) → rest ≡ drop end bytes
-    → StartsWith bytes a rest
-starts_with bytes rest a end head end-is rest-is =
-    let n : ℕ = fill (length a.value) in
-    let end-at : end ≡ length (unpadded a) + n = omega arith in
-    let behind = padding_there n head.0 rest (cc (drop-append-add (unpadded a) head.0 n)) in
+pub starts_with_attribute : (bytes rest : List ℕ) (a : Attribute) (end : ℕ)
+    → HasAttributePrefix bytes a
+    → end ≡ 4 + length a.value + padding_length (4 + length a.value) → rest ≡ drop end bytes
+    → StartsWithAttribute bytes a rest
+starts_with_attribute bytes rest a end head end-is rest-is =
+    let n : ℕ = padding_length (length a.value) in
+    let end-at : end ≡ length (header_and_value a) + n = omega arith in
+    let behind = padding_and_rest n head.0 rest
+    (cc (drop-append-add (header_and_value a) head.0 n)) in
     record { padding = take n head.0; parts = cc; fits = head.2; filled = behind.1 }
 
 -- a property holds of all bytes if it holds of bytes whenever it holds of all fewer bytes

@@ -7,59 +7,60 @@ use Rattle.std.proofs.Math.Nat.{mod-eq_of_lt}
 use Rattle.netlink_core.specs.Bytes.{IsBytes}
 use Rattle.netlink_core.specs.SignificantBits.{EqualUnder}
 use Rattle.netlink_core.specs.Table.{values_of}
-use Rattle.netlink_core.specs.laws.Sound.{is_table, IsSound}
-use Rattle.netlink_core.specs.Layout.{Layout, AreIdle, table}
-use Rattle.netlink_core.proofs.TableLaws.{table_from_test, live_bits, values_and_bits}
+use Rattle.netlink_core.specs.laws.Sound.{fields_are_consecutive, MeetsLayoutConditions}
+use Rattle.netlink_core.specs.Layout.{Layout, AreEquivalent, tag_fields}
+use Rattle.netlink_core.proofs.TableLaws.{consecutive_from_test, significant_masks, values_and_bits}
 
 -- A layout whose fields are consecutive for each tag, and have `size` bytes. Bytes that are long
 -- enough and have a tag have at least the size of this tag.
 module _ {Param Tag Value : Type 0} (layout : Layout Param Tag Value) (size : Tag → ℕ)
     (tables : (param : Param) (tag : Tag) (left : List ℕ) → layout.tag_at param left ≡ Ok tag
-    → IsTrue (is_table 0 (table layout tag) (size tag)))
+    → IsTrue (fields_are_consecutive 0 (tag_fields layout tag) (size tag)))
     (enough : (param : Param) (tag : Tag) (left : List ℕ) → layout.least ≤ length left
     → layout.tag_at param left ≡ Ok tag → size tag ≤ length left) where
   -- both are long enough, have the same tag, and have equal bits under the masks of its fields
   abbrev pub EqualByTag : Param → List ℕ → List ℕ → Type 0
   EqualByTag param b c = (layout.least ≤ length b) × (layout.least ≤ length c) × (tag : Tag)
       × (layout.tag_at param b ≡ Ok tag) × (layout.tag_at param c ≡ Ok tag)
-      × EqualUnder (live_bits (table layout tag)) b c
+      × EqualUnder (significant_masks (tag_fields layout tag)) b c
 
   -- with the same tag, values are equal if and only if bits are equal under the masks
   values_and_masks : (param : Param) (tag : Tag) (b c : List ℕ) → IsBytes b → IsBytes c
       → layout.least ≤ length b → layout.least ≤ length c
       → layout.tag_at param b ≡ Ok tag → layout.tag_at param c ≡ Ok tag
-      → (values_of (table layout tag) b ≡ values_of (table layout tag) c)
-      ↔ EqualUnder (live_bits (table layout tag)) b c
+      → (values_of (tag_fields layout tag) b ≡ values_of (tag_fields layout tag) c)
+      ↔ EqualUnder (significant_masks (tag_fields layout tag)) b c
   values_and_masks param tag b c hb hc lb lc tb tc =
-      values_and_bits 0 (table layout tag) (size tag) b c
-      (table_from_test 0 (table layout tag) (size tag) (tables param tag b tb)) hb hc
+      values_and_bits 0 (tag_fields layout tag) (size tag) b c
+      (consecutive_from_test 0 (tag_fields layout tag) (size tag) (tables param tag b tb)) hb hc
       (enough param tag b lb tb) (enough param tag c lc tc)
 
   equal_if_equivalent : (param : Param) (b c : List ℕ) → IsBytes b → IsBytes c
-      → AreIdle layout param b c → EqualByTag param b c
+      → AreEquivalent layout param b c → EqualByTag param b c
   equal_if_equivalent param b c hb hc (tag, values, (lb, tb, vb), (lc, tc, vc)) =
       (lb, lc, tag, tb, tc, (values_and_masks param tag b c hb hc lb lc tb tc).0 (vb ∙ sym vc))
 
   equivalent_if_equal : (param : Param) (b c : List ℕ) → IsBytes b → IsBytes c
-      → EqualByTag param b c → AreIdle layout param b c
+      → EqualByTag param b c → AreEquivalent layout param b c
   equivalent_if_equal param b c hb hc (lb, lc, tag, tb, tc, equal) = (
     tag,
-    values_of (table layout tag) b,
+    values_of (tag_fields layout tag) b,
     (lb, tb, refl),
     (lc, tc, sym ((values_and_masks param tag b c hb hc lb lc tb tc).1 equal)),
   )
 
   pub equivalent_by_tag : (param : Param) (b c : List ℕ) → IsBytes b → IsBytes c
-      → AreIdle layout param b c ↔ EqualByTag param b c
+      → AreEquivalent layout param b c ↔ EqualByTag param b c
   equivalent_by_tag param b c hb hc =
       (equal_if_equivalent param b c hb hc, equivalent_if_equal param b c hb hc)
 
 -- equivalence by a layout with the same rows for all values, whose fields have these masks
 pub equivalent_by_masks : {Value : Type 0} (layout : Layout (Unit {0}) (Unit {0}) Value)
     (masks : List ℕ) → ((left : List ℕ) → layout.tag_at tt left ≡ Ok tt)
-    → IsTrue (is_table 0 (table layout tt) layout.least) → live_bits (table layout tt) ≡ masks
+    → IsTrue (fields_are_consecutive 0 (tag_fields layout tt) layout.least)
+    → significant_masks (tag_fields layout tt) ≡ masks
     → (b c : List ℕ) → IsBytes b → IsBytes c
-    → AreIdle layout tt b c
+    → AreEquivalent layout tt b c
     ↔ ((layout.least ≤ length b) × (layout.least ≤ length c) × EqualUnder masks b c)
 equivalent_by_masks layout masks tag well_formed same b c hb hc =
     let both = equivalent_by_tag layout (λ t. layout.least) (λ p t left e. well_formed)
@@ -69,11 +70,12 @@ equivalent_by_masks layout masks tag well_formed same b c hb hc =
       λ equal. both.1 (equal.0, equal.1, tt, tag b, tag c, equal.2),
     )
 
-module _ {Param Tag Value : Type 0} (layout : Layout Param Tag Value) (sound : IsSound layout) where
+module _ {Param Tag Value : Type 0} (layout : Layout Param Tag Value)
+    (sound : MeetsLayoutConditions layout) where
   -- both byte strings have the same tag, and its fields have these masks
   abbrev pub HasMasks : Param → List ℕ → List ℕ → List ℕ → Type 0
   HasMasks param masks b c = (tag : Tag) × (layout.tag_at param b ≡ Ok tag)
-      × (layout.tag_at param c ≡ Ok tag) × (live_bits (table layout tag) ≡ masks)
+      × (layout.tag_at param c ≡ Ok tag) × (significant_masks (tag_fields layout tag) ≡ masks)
 
   -- Equivalence by a layout with several tags. `Condition` says, without the layout, that both byte
   -- strings have the same tag, and that its fields have these masks.
@@ -81,10 +83,10 @@ module _ {Param Tag Value : Type 0} (layout : Layout Param Tag Value) (sound : I
       → IsBytes b → IsBytes c
       → (layout.least ≤ length b → layout.least ≤ length c → (tag : Tag)
       → layout.tag_at param b ≡ Ok tag → layout.tag_at param c ≡ Ok tag
-      → Condition × (live_bits (table layout tag) ≡ masks))
+      → Condition × (significant_masks (tag_fields layout tag) ≡ masks))
       → (layout.least ≤ length b → layout.least ≤ length c → Condition → EqualUnder masks b c
       → HasMasks param masks b c)
-      → AreIdle layout param b c
+      → AreEquivalent layout param b c
       ↔ ((layout.least ≤ length b) × (layout.least ≤ length c) × Condition × EqualUnder masks b c)
   equivalent_by_condition param masks Condition b c hb hc holds has_masks =
       let both = equivalent_by_tag layout sound.size sound.tables sound.room param b c hb hc in

@@ -19,65 +19,70 @@ use Rattle.byteorder.specs.Endian.{little_number, little_bytes, big_bytes}
 use Rattle.netlink_core.specs.Table.{Field, byte, number, network, flags, unread}
 use Rattle.netlink_core.specs.Table.{values_of, bytes_of}
 use Rattle.netlink_core.proofs.Numbers.{Order, little_endian, big_endian, number_in, bytes_in}
-use Rattle.netlink_core.specs.Table.{Fit, AreDefined}
-use Rattle.netlink_core.specs.laws.Sound.{is_table, offset_of, width_of, is_written}
+use Rattle.netlink_core.specs.Table.{FitFields, HaveDefinedFlags}
+use Rattle.netlink_core.specs.laws.Sound.{fields_are_consecutive, offset_of, width_of}
+use Rattle.netlink_core.specs.laws.Sound.{ignored_content_is_bytes}
 use Rattle.netlink_core.specs.Bytes.{IsBytes}
 use Rattle.netlink_core.specs.SignificantBits.{masked}
-use Rattle.netlink_core.specs.laws.Prefix.{same_parts}
+use Rattle.netlink_core.specs.laws.Prefix.{equal_parts}
 use Rattle.netlink_core.specs.laws.Byte.{IsBytes-append}
 use Rattle.netlink_core.proofs.Numbers.{number-same, number-take, number-fits, number-reads_back}
 use Rattle.netlink_core.proofs.Numbers.{length-bytes_in, bytes_in-bytes}
 use Rattle.netlink_core.proofs.Numbers.{masked-all, masked-none}
 use Rattle.netlink_core.proofs.Numbers.{length-masked, masked-bytes, and_number}
 
-and_parts : (a b : Bool) → IsTrue (a && b) → IsTrue a × IsTrue b
-and_parts a b h =
+and_is_true : (a b : Bool) → IsTrue (a && b) → IsTrue a × IsTrue b
+and_is_true a b h =
     grind arith
 
 -- what the serializer writes to an ignored field is bytes
-abbrev IsWritten : Field → Type 0
-IsWritten (unread offset written) = IsBytes written
-IsWritten _ = ⊤
+abbrev HasBytesAsIgnoredContent : Field → Type 0
+HasBytesAsIgnoredContent (unread offset written) = IsBytes written
+HasBytesAsIgnoredContent _ = ⊤
 
 -- the fields are consecutive from the offset `from` to the offset `end`, and what the serializer
 -- writes to ignored fields is bytes
-abbrev pub IsTable : ℕ → List Field → ℕ → Type 0
-IsTable from [] end = from ≡ end
-IsTable from (field ∷ fields) end = (offset_of field ≡ from) × IsWritten field
-    × IsTable (from + width_of field) fields end
+abbrev pub AreConsecutiveFields : ℕ → List Field → ℕ → Type 0
+AreConsecutiveFields from [] end = from ≡ end
+AreConsecutiveFields from (field ∷ fields) end =
+    (offset_of field ≡ from) × HasBytesAsIgnoredContent field
+    × AreConsecutiveFields (from + width_of field) fields end
 
 bytes_from_test : (bytes : List ℕ) (i : ℕ) → IsTrue (list_all (λ one. nat_lt one 256) bytes)
     → slice_index bytes i < 256
 bytes_from_test [] i h = omega arith
 bytes_from_test (first ∷ bytes) zero h =
-    grind (arith, nat_tests, and_parts)
+    grind (arith, nat_tests, and_is_true)
 bytes_from_test (first ∷ bytes) (suc i) h =
-    grind (arith, nat_tests, and_parts, bytes_from_test bytes i)
+    grind (arith, nat_tests, and_is_true, bytes_from_test bytes i)
 
-is_bytes : (field : Field) → IsTrue (is_written field) → IsWritten field
+is_bytes : (field : Field) → IsTrue (ignored_content_is_bytes field)
+    → HasBytesAsIgnoredContent field
 is_bytes field h =
     grind (arith, bytes_from_test)
 
--- a table that passes the test `is_table` has this property
-pub table_from_test : (from : ℕ) (fields : List Field) (end : ℕ) → IsTrue (is_table from fields end)
-    → IsTable from fields end
-table_from_test from [] end h = eqb-true from end h
-table_from_test from (field ∷ fields) end h =
+-- a table that passes the test `fields_are_consecutive` has this property
+pub consecutive_from_test : (from : ℕ) (fields : List Field) (end : ℕ)
+    → IsTrue (fields_are_consecutive from fields end)
+    → AreConsecutiveFields from fields end
+consecutive_from_test from [] end h = eqb-true from end h
+consecutive_from_test from (field ∷ fields) end h =
     grind (
       arith,
-      and_parts (eqb (offset_of field) from && is_written field),
+      and_is_true (eqb (offset_of field) from && ignored_content_is_bytes field),
       eqb (offset_of field) from,
       offset_of field,
-      is_written field,
-      and_parts (eqb (offset_of field) from),
+      ignored_content_is_bytes field,
+      and_is_true (eqb (offset_of field) from),
       eqb-true (offset_of field) from,
       is_bytes field,
-      table_from_test (from + width_of field) fields end,
+      consecutive_from_test (from + width_of field) fields end,
       width_of field,
     )
 
 -- a table ends at its start or later
-ends-after : (from : ℕ) (fields : List Field) (end : ℕ) → IsTable from fields end → from ≤ end
+ends-after : (from : ℕ) (fields : List Field) (end : ℕ) → AreConsecutiveFields from fields end
+    → from ≤ end
 ends-after from [] end h = omega arith
 ends-after from (field ∷ fields) end h =
     grind (arith, ends-after (from + width_of field) fields end h.2, width_of field)
@@ -98,7 +103,8 @@ masked-append ms ns xs h = grind arith
 
 -- numbers that fit their fields serialize to bytes
 pub bytes_of-bytes : (from : ℕ) (fields : List Field) (end : ℕ) (values : List ℕ)
-    → IsTable from fields end → Fit fields values → IsBytes (bytes_of fields values)
+    → AreConsecutiveFields from fields end → FitFields fields values
+    → IsBytes (bytes_of fields values)
 bytes_of-bytes from [] end values t f = λ k. omega arith
 bytes_of-bytes from (unread offset written ∷ fields) end values t f =
     grind (arith, common_steps, bytes_of-bytes (from + length written) fields end values t.2 f)
@@ -142,7 +148,8 @@ number_and_rest order width from value bytes tail rest fits e =
 
 -- the bytes that numbers serialize to have these numbers in their fields
 pub values-bytes_of : (from : ℕ) (fields : List Field) (end : ℕ) (values bytes rest : List ℕ)
-    → IsTable from fields end → Fit fields values → AreDefined fields values
+    → AreConsecutiveFields from fields end → FitFields fields values
+    → HaveDefinedFlags fields values
     → drop from bytes ≡ bytes_of fields values ++ rest → values_of fields bytes ≡ values
 values-bytes_of from (unread offset written ∷ fields) end values bytes rest t f d e =
     grind (
@@ -184,7 +191,7 @@ values-bytes_of from fields end values bytes rest t f d e = grind arith
 
 -- parsed numbers fit their fields
 pub values-fit : (fields : List Field) (bytes : List ℕ) → IsBytes bytes
-    → Fit fields (values_of fields bytes)
+    → FitFields fields (values_of fields bytes)
 values-fit [] bytes h = tt
 values-fit (byte offset ∷ fields) bytes h = (h offset, values-fit fields bytes h)
 values-fit (number offset width ∷ fields) bytes h =
@@ -204,49 +211,53 @@ values-fit (unread offset written ∷ fields) bytes h = values-fit fields bytes 
 
 -- parsed flags are defined
 pub values-defined : (fields : List Field) (bytes : List ℕ)
-    → AreDefined fields (values_of fields bytes)
+    → HaveDefinedFlags fields (values_of fields bytes)
 values-defined [] bytes = tt
 values-defined (field ∷ fields) bytes =
     grind (arith, and_assoc, and_self, values-defined fields bytes)
 
 -- the number in one field; none if the field is ignored
-abbrev value_in : Field → List ℕ → List ℕ
-value_in field bytes = values_of (field ∷ []) bytes
+abbrev number_of_field : Field → List ℕ → List ℕ
+number_of_field field bytes = values_of (field ∷ []) bytes
 
 values-cons : (field : Field) (fields : List Field) (b : List ℕ)
-    → values_of (field ∷ fields) b ≡ value_in field b ++ values_of fields b
+    → values_of (field ∷ fields) b ≡ number_of_field field b ++ values_of fields b
 values-cons field fields b = grind arith
 
 -- ---- equal numbers and equal significant bits
 
 -- the masks of the fields: all bits of a number, the defined bits of flags, no bit of an ignored
 -- field
-abbrev pub live_bits : List Field → List ℕ
-live_bits [] = []
-live_bits (byte offset ∷ fields) = 255 ∷ live_bits fields
-live_bits (number offset width ∷ fields) = replicate width 255 ++ live_bits fields
-live_bits (network offset width ∷ fields) = replicate width 255 ++ live_bits fields
-live_bits (flags offset width mask ∷ fields) = little_bytes width mask ++ live_bits fields
-live_bits (unread offset written ∷ fields) = replicate (length written) 0 ++ live_bits fields
+abbrev pub significant_masks : List Field → List ℕ
+significant_masks [] = []
+significant_masks (byte offset ∷ fields) = 255 ∷ significant_masks fields
+significant_masks (number offset width ∷ fields) = replicate width 255 ++ significant_masks fields
+significant_masks (network offset width ∷ fields) = replicate width 255 ++ significant_masks fields
+significant_masks (flags offset width mask ∷ fields) =
+    little_bytes width mask ++ significant_masks fields
+significant_masks (unread offset written ∷ fields) =
+    replicate (length written) 0 ++ significant_masks fields
 
 -- the masks of one field
-abbrev live_in : Field → List ℕ
-live_in (byte offset) = replicate 1 255
-live_in (number offset width) = replicate width 255
-live_in (network offset width) = replicate width 255
-live_in (flags offset width mask) = little_bytes width mask
-live_in (unread offset written) = replicate (length written) 0
+abbrev significant_masks_of_field : Field → List ℕ
+significant_masks_of_field (byte offset) = replicate 1 255
+significant_masks_of_field (number offset width) = replicate width 255
+significant_masks_of_field (network offset width) = replicate width 255
+significant_masks_of_field (flags offset width mask) = little_bytes width mask
+significant_masks_of_field (unread offset written) = replicate (length written) 0
 
-live-cons : (field : Field) (fields : List Field)
-    → live_bits (field ∷ fields) ≡ live_in field ++ live_bits fields
-live-cons field fields = grind arith
+significant_masks-cons : (field : Field) (fields : List Field)
+    → significant_masks (field ∷ fields)
+    ≡ significant_masks_of_field field ++ significant_masks fields
+significant_masks-cons field fields = grind arith
 
-length-value : (field : Field) (b c : List ℕ) → length (value_in field b)
-    ≡ length (value_in field c)
+length-value : (field : Field) (b c : List ℕ) → length (number_of_field field b)
+    ≡ length (number_of_field field c)
 length-value field b c = grind arith
 
-length-live : (field : Field) → length (live_in field) ≡ width_of field
-length-live field =
+length-significant_masks : (field : Field)
+    → length (significant_masks_of_field field) ≡ width_of field
+length-significant_masks field =
     grind (arith, length-replicate, length-bytes_low_first)
 
 -- numbers are equal if and only if their bytes are
@@ -286,44 +297,45 @@ byte_is : (offset : ℕ) (b : List ℕ) → slice_index b offset
     ≡ number_in little_endian 1 (drop offset b)
 byte_is offset b = rw (add-zero, get_or-drop, add-zero) refl
 
-one_value : {P : Type 0} (x y : ℕ) → ((x ≡ y) ↔ P) → ((x ∷ [] ≡ y ∷ []) ↔ P)
-one_value x y h =
+one_number_iff : {P : Type 0} (x y : ℕ) → ((x ≡ y) ↔ P) → ((x ∷ [] ≡ y ∷ []) ↔ P)
+one_number_iff x y h =
     grind (arith, h)
 
 -- the numbers in one field are equal if and only if its significant bits are
 field_bits : (field : Field) (b c xs ys : List ℕ) → drop (offset_of field) b ≡ xs
     → drop (offset_of field) c ≡ ys → IsBytes xs → IsBytes ys → width_of field ≤ length xs
-    → width_of field ≤ length ys → ((value_in field b ≡ value_in field c)
-    ↔ (masked (live_in field) xs ≡ masked (live_in field) ys))
+    → width_of field ≤ length ys → ((number_of_field field b ≡ number_of_field field c)
+    ↔ (masked (significant_masks_of_field field) xs ≡ masked (significant_masks_of_field field) ys))
 field_bits (byte offset) b c xs ys ex ey hx hy lx ly =
     grind (
       arith,
-      one_value,
+      one_number_iff,
       byte_is offset b,
       byte_is offset c,
       number_bits little_endian 1 xs ys hx hy lx ly,
     )
 field_bits (number offset width) b c xs ys ex ey hx hy lx ly =
-    grind (arith, one_value, number_bits little_endian width xs ys hx hy lx ly)
+    grind (arith, one_number_iff, number_bits little_endian width xs ys hx hy lx ly)
 field_bits (network offset width) b c xs ys ex ey hx hy lx ly =
-    grind (arith, one_value, number_bits big_endian width xs ys hx hy lx ly)
+    grind (arith, one_number_iff, number_bits big_endian width xs ys hx hy lx ly)
 field_bits (flags offset width mask) b c xs ys ex ey hx hy lx ly =
-    grind (arith, one_value, flag_bits width mask xs ys hx hy lx ly)
+    grind (arith, one_number_iff, flag_bits width mask xs ys hx hy lx ly)
 field_bits (unread offset written) b c xs ys ex ey hx hy lx ly =
     grind (arith, masked-none (length written) xs lx, masked-none (length written) ys ly)
 
 -- the masks of a first field and of the others apply to consecutive bytes
 bits-cons : (field : Field) (fields : List Field) (from : ℕ) (b : List ℕ)
     → from + width_of field ≤ length b → (width_of field ≤ length (drop from b))
-    × (masked (live_bits (field ∷ fields)) (drop from b) ≡ masked (live_in field) (drop from b)
-    ++ masked (live_bits fields) (drop (from + width_of field) b))
+    × (masked (significant_masks (field ∷ fields)) (drop from b)
+    ≡ masked (significant_masks_of_field field) (drop from b)
+    ++ masked (significant_masks fields) (drop (from + width_of field) b))
 bits-cons field fields from b h =
     grind (
       arith,
-      length-live field,
+      length-significant_masks field,
       width_of field,
       length-drop from b,
-      live-cons field fields,
+      significant_masks-cons field fields,
       masked-append,
       drop-drop (width_of field) from b,
     )
@@ -331,20 +343,21 @@ bits-cons field fields from b h =
 both_parts : (a b r s p q u v : List ℕ) → length a ≡ length b → length p ≡ length q
     → ((a ≡ b) ↔ (p ≡ q)) → ((r ≡ s) ↔ (u ≡ v)) → ((a ++ r ≡ b ++ s) ↔ (p ++ u ≡ q ++ v))
 both_parts a b r s p q u v l m here rest =
-    grind (arith, same_parts a b r s l, same_parts p q u v m, here, rest)
+    grind (arith, equal_parts a b r s l, equal_parts p q u v m, here, rest)
 
 -- the numbers in the fields are equal if and only if the significant bits are
 pub values_and_bits : (from : ℕ) (fields : List Field) (end : ℕ) (b c : List ℕ)
-    → IsTable from fields end → IsBytes b → IsBytes c → end ≤ length b → end ≤ length c
+    → AreConsecutiveFields from fields end → IsBytes b → IsBytes c → end ≤ length b → end ≤ length c
     → ((values_of fields b ≡ values_of fields c)
-    ↔ (masked (live_bits fields) (drop from b) ≡ masked (live_bits fields) (drop from c)))
+    ↔ (masked (significant_masks fields) (drop from b)
+    ≡ masked (significant_masks fields) (drop from c)))
 values_and_bits from [] end b c t hb hc lb lc = (λ e. refl, λ e. refl)
 values_and_bits from (field ∷ fields) end b c t hb hc lb lc =
     grind (
       arith,
       ends-after (from + width_of field) fields end t.2,
       width_of field,
-      length-live field,
+      length-significant_masks field,
       bits-cons field fields from b,
       bits-cons field fields from c,
       values-cons field fields b,

@@ -3,7 +3,7 @@ use Rattle.std.proofs.Common.{◌≡◌, ◌↔◌, ◌&&◌, inl, inr, ℕ, [],
 use lib.Pointwise.{pointwise, bytes_decides}
 use Rattle.netlink_core.specs.Attribute.{Attribute}
 use Rattle.netlink_core.specs.AttributeSet.{AttributeSet, AttributeValue}
-use Rattle.netlink_core.proofs.Equality.{and_decides, numbers_equal, apart}
+use Rattle.netlink_core.proofs.Equality.{and_decides, numbers_equal, false_decides}
 
 -- a test that decides whether two values are equal
 abbrev pub Test : Type 0 → Type 0
@@ -45,4 +45,4 @@ value_test_decides (spec ∷ others) tests (inl x) (inl y) =
     grind (arith, tests.0.1 x y)
 value_test_decides (spec ∷ others) tests (inr v) (inr w) =
     grind (arith, value_test_decides others tests.1 v w)
-value_test_decides (spec ∷ others) tests v w = apart (λ e. cc)
+value_test_decides (spec ∷ others) tests v w = false_decides (λ e. cc)

@@ -17,83 +17,89 @@ pub record Attribute : Type 0 where
   pub value : List ℕ
 
 -- the kind: `nla_type & NLA_TYPE_MASK`, without the bits NLA_F_NESTED and NLA_F_NET_BYTEORDER
-abbrev pub attribute_type : Attribute → ℕ
-attribute_type a = bit_and a.type_word 0x3fff
+abbrev pub attribute_kind : Attribute → ℕ
+attribute_kind a = bit_and a.type_word 0x3fff
 
 -- the number of padding bytes, 0 to 3, that follow `n` bytes: NLA_ALIGN(n) - n
-abbrev pub fill : ℕ → ℕ
-fill n = (4 - n % 4) % 4
+abbrev pub padding_length : ℕ → ℕ
+padding_length n = (4 - n % 4) % 4
 
 -- an attribute without padding: `nla_len` (4 and the length of the value), `nla_type`, and the
 -- value; both fields have 16 bits and are little-endian
-abbrev pub unpadded : Attribute → List ℕ
-unpadded a = little_bytes 2 (4 + length a.value) ++ little_bytes 2 a.type_word ++ a.value
+abbrev pub header_and_value : Attribute → List ℕ
+header_and_value a = little_bytes 2 (4 + length a.value) ++ little_bytes 2 a.type_word ++ a.value
 
 -- the attribute with zeros as padding, up to a multiple of four
-abbrev pub written : Attribute → List ℕ
-written a = unpadded a ++ replicate (fill (length a.value)) 0
+abbrev pub attribute_bytes : Attribute → List ℕ
+attribute_bytes a = header_and_value a ++ replicate (padding_length (length a.value)) 0
 
 -- the value has at most 65,531 bytes, so that `nla_len` fits 16 bits
-abbrev pub HasFittingValue : Attribute → Type 0
-HasFittingValue a = length a.value ≤ 65531
+abbrev pub FitsLengthField : Attribute → Type 0
+FitsLengthField a = length a.value ≤ 65531
 
 -- the value of each attribute fits its length field, and all attributes with their padding have at
 -- most `limit` bytes
-abbrev pub AreWritable : List Attribute → ℕ → Type 0
-AreWritable all limit = AllByRecursion HasFittingValue all × (length (flat_map written all) ≤ limit)
+abbrev pub AreWritableWithin : List Attribute → ℕ → Type 0
+AreWritableWithin all limit = AllByRecursion FitsLengthField all
+    × (length (flat_map attribute_bytes all) ≤ limit)
 
 -- the bytes begin with the attribute; any bytes may follow its value, and its padding may be
 -- missing
-abbrev pub HasPrefix : List ℕ → Attribute → Type 0
-HasPrefix bytes a = (tail : List ℕ) × (bytes ≡ unpadded a ++ tail)
-    × ((a.type_word < 2 ^ 16) × HasFittingValue a)
+abbrev pub HasAttributePrefix : List ℕ → Attribute → Type 0
+HasAttributePrefix bytes a = (tail : List ℕ) × (bytes ≡ header_and_value a ++ tail)
+    × ((a.type_word < 2 ^ 16) × FitsLengthField a)
 
 -- The bytes are the attribute, its padding, and `rest`. The padding may have any content. It is
 -- complete, up to a multiple of four; if nothing follows, it may be shorter.
-pub record StartsWith (bytes : List ℕ) (a : Attribute) (rest : List ℕ) : Type 0 where
+pub record StartsWithAttribute (bytes : List ℕ) (a : Attribute) (rest : List ℕ) : Type 0 where
   pub padding : List ℕ
-  pub parts : bytes ≡ unpadded a ++ (padding ++ rest)
-  pub fits : (a.type_word < 2 ^ 16) × HasFittingValue a
-  pub filled : (length padding ≡ fill (length a.value))
-      ⊎ ((length padding < fill (length a.value)) × (rest ≡ []))
+  pub parts : bytes ≡ header_and_value a ++ (padding ++ rest)
+  pub fits : (a.type_word < 2 ^ 16) × FitsLengthField a
+  pub filled : (length padding ≡ padding_length (length a.value))
+      ⊎ ((length padding < padding_length (length a.value)) × (rest ≡ []))
 
 -- the bytes are these attributes, consecutive and each with its padding, and then `rest`
-abbrev pub Cut : List ℕ → List Attribute → List ℕ → Type 0
-Cut bytes [] rest = bytes ≡ rest
-Cut bytes (a ∷ later) rest = (left : List ℕ) × StartsWith bytes a left × Cut left later rest
+abbrev pub SplitsIntoAttributes : List ℕ → List Attribute → List ℕ → Type 0
+SplitsIntoAttributes bytes [] rest = bytes ≡ rest
+SplitsIntoAttributes bytes (a ∷ later) rest =
+    (left : List ℕ) × StartsWithAttribute bytes a left × SplitsIntoAttributes left later rest
 
 -- The first error of bytes that do not begin with an attribute: fewer than 4 bytes; else `nla_len`
 -- is below 4; else `nla_len` is above the number of bytes. The error contains `nla_len` (`word`)
 -- and the number of bytes (`left`).
-abbrev pub IsFramingFault : List ℕ → DecodeError → Type 0
-IsFramingFault bytes (AttributeHeaderCut left) = (left ≡ length bytes) × (length bytes < 4)
-IsFramingFault bytes (AttributeLengthUnder4 word) =
+abbrev pub IsFramingError : List ℕ → DecodeError → Type 0
+IsFramingError bytes (AttributeHeaderCut left) = (left ≡ length bytes) × (length bytes < 4)
+IsFramingError bytes (AttributeLengthUnder4 word) =
     (word ≡ little_number 2 bytes) × (4 ≤ length bytes) × (word < 4)
-IsFramingFault bytes (AttributeLengthPast word left) =
+IsFramingError bytes (AttributeLengthPast word left) =
     (word ≡ little_number 2 bytes) × (left ≡ length bytes)
     × (4 ≤ length bytes) × (4 ≤ word) × (length bytes < word)
-IsFramingFault bytes _ = ⊥
+IsFramingError bytes _ = ⊥
 
 -- the bytes are the attributes `given` and then at least one byte more, and the error of these last
 -- bytes is `e`, by `faulty`
-abbrev pub CutOff : (List ℕ → DecodeError → Type 0) → List ℕ → List Attribute → DecodeError → Type 0
-CutOff faulty bytes given e = (rest : List ℕ) × Cut bytes given rest × (rest ≢ []) × faulty rest e
+abbrev pub SplitsUntilError : (List ℕ → DecodeError → Type 0) → List ℕ → List Attribute
+    → DecodeError → Type 0
+SplitsUntilError faulty bytes given e =
+    (rest : List ℕ) × SplitsIntoAttributes bytes given rest × (rest ≢ []) × faulty rest e
 
 -- Given how the parser of one attribute works: `reads a` is its value, or the error that rejects
 -- it.
 module _ {A : Type 0} (reads : Attribute → Result A DecodeError) where
   -- the bytes are split into attributes without any bytes left, and these parse as the values, in
   -- order
-  abbrev pub AttributesMean : List ℕ → List A → Type 0
-  AttributesMean bytes values = (attributes : List Attribute) × Cut bytes attributes []
+  abbrev pub DecodeTo : List ℕ → List A → Type 0
+  DecodeTo bytes values = (attributes : List Attribute) × SplitsIntoAttributes bytes attributes []
       × AllZip (λ a value. reads a ≡ Ok value) attributes values
 
   -- the first error at the start of the bytes: an error of the framing, or else of the first
   -- attribute's value
-  abbrev pub IsPrefixFault : List ℕ → DecodeError → Type 0
-  IsPrefixFault b e = IsFramingFault b e ⊎ ((a : Attribute) × HasPrefix b a × (reads a ≡ Err e))
+  abbrev pub IsFirstAttributeError : List ℕ → DecodeError → Type 0
+  IsFirstAttributeError b e = IsFramingError b e
+      ⊎ ((a : Attribute) × HasAttributePrefix b a × (reads a ≡ Err e))
 
   -- the first error of the bytes: it is preceded by accepted attributes only
-  abbrev pub AttributeFault : List ℕ → DecodeError → Type 0
-  AttributeFault bytes e = (attributes : List Attribute)
-      × CutOff IsPrefixFault bytes attributes e × AllByRecursion (λ a. IsOk (reads a)) attributes
+  abbrev pub HasAttributeError : List ℕ → DecodeError → Type 0
+  HasAttributeError bytes e = (attributes : List Attribute)
+      × SplitsUntilError IsFirstAttributeError bytes attributes e
+      × AllByRecursion (λ a. IsOk (reads a)) attributes

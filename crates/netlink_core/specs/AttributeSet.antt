@@ -4,7 +4,7 @@ use Rattle.std.specs.Prelude.{◌≡◌, ◌≢◌, ℕ, ◌⊎◌, ◌==◌, if
 use Rattle.std.specs.Prelude.{◌<◌, ◌^◌, List, [], ◌∷◌, map, Option, Some, None, Result, Ok, ⊤}
 use Rattle.std.proofs.Common.{inl, inr}
 use Rattle.netlink_core.specs.declared.fault.DecodeError.{DecodeError}
-use Rattle.netlink_core.specs.Attribute.{Attribute, attribute_type}
+use Rattle.netlink_core.specs.Attribute.{Attribute, attribute_kind}
 use Rattle.netlink_core.specs.Bytes.{IsBytes}
 use Rattle.netlink_core.specs.Faults.{map_ok}
 use Rattle.netlink_core.specs.ValueCodec.{ValueCodec}
@@ -23,8 +23,8 @@ abbrev pub AttributeSet : Type 1
 AttributeSet = List AttributeSpec
 
 -- the kinds of the types
-abbrev pub numbers : AttributeSet → List ℕ
-numbers F = map (λ (spec : AttributeSpec). spec.number) F
+abbrev pub kind_numbers : AttributeSet → List ℕ
+kind_numbers F = map (λ (spec : AttributeSpec). spec.number) F
 
 -- what an attribute decodes to: a value of one of the types, or else the attribute itself, raw
 abbrev pub AttributeValue : AttributeSet → Type 0
@@ -33,74 +33,80 @@ AttributeValue (spec ∷ others) = spec.value.Value ⊎ AttributeValue others
 
 -- decodes an attribute by its kind, or returns the error of its value; an attribute whose kind is
 -- not in the set decodes to itself
-abbrev pub decodes : (F : AttributeSet) → Attribute → Result (AttributeValue F) DecodeError
-decodes [] a = Ok a
-decodes (spec ∷ others) a =
-    if attribute_type a == spec.number then map_ok inl (spec.value.reads tt a.value)
-    else map_ok inr (decodes others a)
+abbrev pub decode_attribute : (F : AttributeSet) → Attribute → Result (AttributeValue F) DecodeError
+decode_attribute [] a = Ok a
+decode_attribute (spec ∷ others) a =
+    if attribute_kind a == spec.number then map_ok inl (spec.value.reads tt a.value)
+    else map_ok inr (decode_attribute others a)
 
 -- the attribute that a decoded value serializes as: its kind without flag bits and the bytes of its
 -- value; a raw attribute is unchanged
-abbrev pub encodes : (F : AttributeSet) → AttributeValue F → Attribute
-encodes [] a = a
-encodes (spec ∷ others) (inl x) = record { type_word = spec.number; value = spec.value.bytes x }
-encodes (spec ∷ others) (inr v) = encodes others v
+abbrev pub encode_attribute : (F : AttributeSet) → AttributeValue F → Attribute
+encode_attribute [] a = a
+encode_attribute (spec ∷ others) (inl x) = record {
+  type_word = spec.number;
+  value = spec.value.bytes x;
+}
+encode_attribute (spec ∷ others) (inr v) = encode_attribute others v
 
 -- two attributes are equivalent: they have the same kind in the set and equivalent values, whatever
 -- their flag bits are; or both kinds are not in the set, and the attributes are equal with their
 -- flag bits
-abbrev pub AreIdleAttributes : AttributeSet → Attribute → Attribute → Type 0
-AreIdleAttributes [] a b = a ≡ b
-AreIdleAttributes (spec ∷ others) a b = cond (attribute_type a == spec.number)
-    ((attribute_type b ≡ spec.number) × spec.value.idle tt a.value b.value)
-    ((attribute_type b ≢ spec.number) × AreIdleAttributes others a b)
+abbrev pub AreEquivalentAttributes : AttributeSet → Attribute → Attribute → Type 0
+AreEquivalentAttributes [] a b = a ≡ b
+AreEquivalentAttributes (spec ∷ others) a b = cond (attribute_kind a == spec.number)
+    ((attribute_kind b ≡ spec.number) × spec.value.idle tt a.value b.value)
+    ((attribute_kind b ≢ spec.number) × AreEquivalentAttributes others a b)
 
 -- a decoded value is in range: a value of a type is, by its codec; a raw attribute has a type field
 -- of 16 bits, and its value is bytes
-abbrev pub IsInRangeBy : (F : AttributeSet) → AttributeValue F → Type 0
-IsInRangeBy [] a = (a.type_word < 2 ^ 16) × IsBytes a.value
-IsInRangeBy (spec ∷ others) (inl x) = spec.value.is_in_range x
-IsInRangeBy (spec ∷ others) (inr v) = IsInRangeBy others v
+abbrev pub IsInRangeIn : (F : AttributeSet) → AttributeValue F → Type 0
+IsInRangeIn [] a = (a.type_word < 2 ^ 16) × IsBytes a.value
+IsInRangeIn (spec ∷ others) (inl x) = spec.value.is_in_range x
+IsInRangeIn (spec ∷ others) (inr v) = IsInRangeIn others v
 
 -- a decoded value is in normal form: a value of a type is, by its codec, and no earlier type has
 -- the same kind; a raw attribute has a kind that is not in the set
-abbrev pub IsNormalBy : (F : AttributeSet) → AttributeValue F → Type 0
-IsNormalBy [] a = ⊤
-IsNormalBy (spec ∷ F) (inl x) = spec.value.is_normal tt x
-IsNormalBy (spec ∷ F) (inr v) = (attribute_type (encodes F v) ≢ spec.number) × IsNormalBy F v
+abbrev pub IsNormalIn : (F : AttributeSet) → AttributeValue F → Type 0
+IsNormalIn [] a = ⊤
+IsNormalIn (spec ∷ F) (inl x) = spec.value.is_normal tt x
+IsNormalIn (spec ∷ F) (inr v) =
+    (attribute_kind (encode_attribute F v) ≢ spec.number) × IsNormalIn F v
 
 -- a decoded value needs no memory: its type says so; a raw attribute always counts as needing it
-abbrev pub IsSpareBy : (F : AttributeSet) → AttributeValue F → Type 0
-IsSpareBy [] a = ⊥
-IsSpareBy (spec ∷ others) (inl x) = spec.is_spare
-IsSpareBy (spec ∷ others) (inr v) = IsSpareBy others v
+abbrev pub NeedsNoMemoryIn : (F : AttributeSet) → AttributeValue F → Type 0
+NeedsNoMemoryIn [] a = ⊥
+NeedsNoMemoryIn (spec ∷ others) (inl x) = spec.is_spare
+NeedsNoMemoryIn (spec ∷ others) (inr v) = NeedsNoMemoryIn others v
 
 -- ---- by kind
 
 -- the values of the type of kind `k`, or raw attributes if no type has this kind
-abbrev pub ValueAt : AttributeSet → ℕ → Type 0
-ValueAt [] k = Attribute
-ValueAt (spec ∷ others) k = cond (spec.number == k) spec.value.Value (ValueAt others k)
+abbrev pub ValueOfKind : AttributeSet → ℕ → Type 0
+ValueOfKind [] k = Attribute
+ValueOfKind (spec ∷ others) k = cond (spec.number == k) spec.value.Value (ValueOfKind others k)
 
--- One step of `of_type`, below: `x` is a value of the first type if `t` is true, else a value for
--- the rest of the set, which `later` makes. The type `cond t A B` is A if `t` is true, else B.
-abbrev pub put : {A B C : Type 0} → (t : Bool) → (B → C) → cond t A B → A ⊎ C
-put true later x = inl x
-put false later x = inr (later x)
+-- One step of `value_as_decoded`, below: `x` is a value of the first type if `t` is true, else a
+-- value for the rest of the set, which `later` makes. The type `cond t A B` is A if `t` is true,
+-- else B.
+abbrev pub inject : {A B C : Type 0} → (t : Bool) → (B → C) → cond t A B → A ⊎ C
+inject true later x = inl x
+inject false later x = inr (later x)
 
 -- a value of kind `k` as a decoded value; it is a raw attribute if no type has this kind
-abbrev pub of_type : (F : AttributeSet) → (k : ℕ) → ValueAt F k → AttributeValue F
-of_type [] k a = a
-of_type (spec ∷ others) k x = put (spec.number == k) (of_type others k) x
+abbrev pub value_as_decoded : (F : AttributeSet) → (k : ℕ) → ValueOfKind F k → AttributeValue F
+value_as_decoded [] k a = a
+value_as_decoded (spec ∷ others) k x = inject (spec.number == k) (value_as_decoded others k) x
 
--- One step of `content`, below: the value of the first type if `t` is true, else what `later` finds
--- in the rest of the set; `None` if the value is on the other side.
-abbrev pub got : {A B C : Type 0} → (t : Bool) → (C → Option B) → A ⊎ C → Option (cond t A B)
-got true later (inl x) = Some x
-got false later (inr v) = later v
-got t later v = None
+-- One step of `value_of_kind`, below: the value of the first type if `t` is true, else what `later`
+-- finds in the rest of the set; `None` if the value is on the other side.
+abbrev pub project : {A B C : Type 0} → (t : Bool) → (C → Option B) → A ⊎ C → Option (cond t A B)
+project true later (inl x) = Some x
+project false later (inr v) = later v
+project t later v = None
 
 -- the value of kind `k`, or `None` if the decoded value is of another kind or raw
-abbrev pub content : (F : AttributeSet) → (k : ℕ) → AttributeValue F → Option (ValueAt F k)
-content [] k a = None
-content (spec ∷ others) k v = got (spec.number == k) (content others k) v
+abbrev pub value_of_kind : (F : AttributeSet) → (k : ℕ) → AttributeValue F
+    → Option (ValueOfKind F k)
+value_of_kind [] k a = None
+value_of_kind (spec ∷ others) k v = project (spec.number == k) (value_of_kind others k) v

@@ -2,23 +2,23 @@
 use Rattle.std.specs.Prelude.{◌≡◌, ℕ, ◌<◌, ◌^◌, List, Some, Result, ⊤}
 use Rattle.byteorder.specs.Endian.{little_bytes}
 use Rattle.netlink_core.specs.declared.fault.DecodeError.{DecodeError}
-use Rattle.netlink_core.specs.Parse.{exact_number}
+use Rattle.netlink_core.specs.Parse.{number_of_width}
 use Rattle.netlink_core.specs.ValueCodec.{ValueCodec}
 use Rattle.netlink_core.specs.AttributeSet.{AttributeSpec}
 
 -- the attribute type of kind `k` with this codec of its values, which need no memory
-abbrev pub spec : ℕ → ValueCodec (Unit {0}) → AttributeSpec
-spec k value = record { number = k; value = value; is_spare = ⊤ }
+abbrev pub attribute_spec : ℕ → ValueCodec (Unit {0}) → AttributeSpec
+attribute_spec k value = record { number = k; value = value; is_spare = ⊤ }
 
 -- the attribute type of kind `k` with this codec of its values, which count as needing memory
-abbrev pub memory_spec : ℕ → ValueCodec (Unit {0}) → AttributeSpec
-memory_spec k value = record { number = k; value = value; is_spare = ⊥ }
+abbrev pub allocating_attribute_spec : ℕ → ValueCodec (Unit {0}) → AttributeSpec
+allocating_attribute_spec k value = record { number = k; value = value; is_spare = ⊥ }
 
 -- The codec of values that take all bytes, all bits of which are significant: the parser, the
 -- serializer, which values are in range, and which are in normal form.
-abbrev pub exact_value : {A : Type 0} → (List ℕ → Result A DecodeError) → (A → List ℕ)
+abbrev pub whole_value_codec : {A : Type 0} → (List ℕ → Result A DecodeError) → (A → List ℕ)
     → (A → Type 0) → (A → Type 0) → ValueCodec (Unit {0})
-exact_value {A} reads bytes is_in_range is_normal = record {
+whole_value_codec {A} reads bytes is_in_range is_normal = record {
   Value = A;
   reads = λ p b. reads b;
   bytes = bytes;
@@ -29,6 +29,7 @@ exact_value {A} reads bytes is_in_range is_normal = record {
 
 -- the attribute type of kind `k` for little-endian numbers of exactly `w` bytes; the error of any
 -- other length contains the kind
-abbrev pub number_spec : ℕ → ℕ → AttributeSpec
-number_spec k w =
-    spec k (exact_value (exact_number (Some k) w) (little_bytes w) (λ n. n < 256 ^ w) (λ n. ⊤))
+abbrev pub number_attribute_spec : ℕ → ℕ → AttributeSpec
+number_attribute_spec k w =
+    attribute_spec k (whole_value_codec (number_of_width (Some k) w) (little_bytes w)
+    (λ n. n < 256 ^ w) (λ n. ⊤))

@@ -1,7 +1,7 @@
 -- Codecs: how values of one kind are parsed and serialized, and the codec laws.
 use Rattle.std.specs.Prelude.{⊤, ◌≡◌, ◌↔◌, ◌⊎◌, ℕ, List, Ok, Err}
 use Rattle.netlink_core.specs.Bytes.{IsBytes}
-use Rattle.netlink_core.specs.Layout.{Layout, read, StandsIn}
+use Rattle.netlink_core.specs.Layout.{Layout, parse_record, IsContainedIn}
 use Rattle.netlink_core.specs.ValueCodec.{ValueCodec, value_codec}
 use Rattle.netlink_core.specs.declared.fault.DecodeError.{DecodeError}
 use Rattle.netlink_core.specs.declared.fault.DecodeError.TheVariants.{Memory}
@@ -27,7 +27,7 @@ pub record Codec (Param : Type 0) : Type 1 where
   pub fits : Value → Type 0
 
 -- the codec laws
-pub record KeepsLaws {Param : Type 0} (C : Codec Param) : Type 0 where
+pub record KeepsCodecLaws {Param : Type 0} (C : Codec Param) : Type 0 where
   -- bytes have a value or an error, not both, and at most one error, which is not `Memory`
   pub answered : (b : List ℕ) (p : Param) → IsBytes b
       → ((v : C.Value) × C.reads b p v) ⊎ ((e : DecodeError) × C.refuses b p e)
@@ -69,6 +69,6 @@ record_codec layout = as_codec (value_codec layout)
 -- the laws of a record: the codec laws, and that bytes parse as a value if and only if they contain
 -- it
 pub record RecordLaws {Param Tag Value : Type 0} (layout : Layout Param Tag Value) : Type 0 where
-  pub codec : KeepsLaws (record_codec layout)
+  pub codec : KeepsCodecLaws (record_codec layout)
   pub stands : (b : List ℕ) (p : Param) (v : Value) → IsBytes b
-      → (read layout p b ≡ Ok v) ↔ StandsIn layout b p v
+      → (parse_record layout p b ≡ Ok v) ↔ IsContainedIn layout b p v

@@ -4,8 +4,8 @@ use Rattle.std.specs.Prelude.{◌≡◌, ◌≢◌, ℕ, ◌<◌, ◌≤◌, ◌
 use Rattle.std.specs.Prelude.{Some, None}
 use Rattle.byteorder.specs.Endian.{little_number}
 use Rattle.netlink_core.specs.declared.fault.DecodeError.{DecodeError}
-use Rattle.netlink_core.specs.Attribute.{fill}
-use Rattle.netlink_core.specs.Header.{IsEnvelopeFault}
+use Rattle.netlink_core.specs.Attribute.{padding_length}
+use Rattle.netlink_core.specs.Header.{IsMessageError}
 
 -- The bytes are the message, its padding, and `rest`. The message is as long as its length field
 -- (`nlmsg_len`), which includes the 16 bytes of its header. The padding may have any content. It is
@@ -14,13 +14,13 @@ pub record StartsWithMessage (bytes message rest : List ℕ) : Type 0 where
   pub padding : List ℕ
   pub parts : bytes ≡ message ++ (padding ++ rest)
   pub whole : (16 ≤ length message) × (little_number 4 message ≡ length message)
-  pub filled : (length padding ≡ fill (length message))
-      ⊎ ((length padding < fill (length message)) × (rest ≡ []))
+  pub filled : (length padding ≡ padding_length (length message))
+      ⊎ ((length padding < padding_length (length message)) × (rest ≡ []))
 
 -- the bytes are split into these messages; then no bytes are left, or bytes that do not begin with
 -- a message, with this error
-abbrev pub CutIntoMessages : List ℕ → List (List ℕ) → Option DecodeError → Type 0
-CutIntoMessages bytes [] None = bytes ≡ []
-CutIntoMessages bytes [] (Some e) = (bytes ≢ []) × IsEnvelopeFault bytes e
-CutIntoMessages bytes (message ∷ later) end =
-    (rest : List ℕ) × StartsWithMessage bytes message rest × CutIntoMessages rest later end
+abbrev pub SplitsIntoMessages : List ℕ → List (List ℕ) → Option DecodeError → Type 0
+SplitsIntoMessages bytes [] None = bytes ≡ []
+SplitsIntoMessages bytes [] (Some e) = (bytes ≢ []) × IsMessageError bytes e
+SplitsIntoMessages bytes (message ∷ later) end =
+    (rest : List ℕ) × StartsWithMessage bytes message rest × SplitsIntoMessages rest later end

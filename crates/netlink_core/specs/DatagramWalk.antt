@@ -5,30 +5,31 @@ use Rattle.netlink_core.specs.declared.fault.DecodeError.{DecodeError}
 use Rattle.netlink_core.specs.declared.header.NetlinkHeader.{NetlinkHeader}
 use Rattle.netlink_core.specs.declared.datagram.FramedMessages.{FramedMessages}
 use Rattle.netlink_core.specs.declared.datagram.MessageStrings.{MessageStrings}
-use Rattle.netlink_core.specs.Header.{HasHeader, IsEnvelopeFault}
+use Rattle.netlink_core.specs.Header.{HasHeader, IsMessageError}
 use Rattle.netlink_core.specs.Datagram.{StartsWithMessage}
-use Rattle.netlink_core.specs.Gives.{Gives}
+use Rattle.netlink_core.specs.Gives.{YieldsPart}
 
 -- the bytes that the iterator has not read yet
-abbrev pub framed_left : FramedMessages → List ℕ
-framed_left messages = drop messages.at messages.bytes.now
+abbrev pub unread_messages : FramedMessages → List ℕ
+unread_messages messages = drop messages.at messages.bytes.now
 
-abbrev pub datagram_left : MessageStrings → List ℕ
-datagram_left strings = framed_left strings.messages
+abbrev pub unread_datagram : MessageStrings → List ℕ
+unread_datagram strings = unread_messages strings.messages
 
 -- A step yields the first message of the bytes that are left, and the bytes after its padding are
 -- left then; or it yields the error of these bytes, and no bytes are left. It yields `None` only if
 -- no bytes were left.
-abbrev pub GivesMessage : MessageStrings → Option (Result (Bor (List ℕ)) DecodeError)
+abbrev pub YieldsMessage : MessageStrings → Option (Result (Bor (List ℕ)) DecodeError)
     → MessageStrings → Type 0
-GivesMessage old given new =
-    Gives (λ left message later. StartsWithMessage left message.now later) IsEnvelopeFault
-    (datagram_left old) given (datagram_left new)
+YieldsMessage old given new =
+    YieldsPart (λ left message later. StartsWithMessage left message.now later) IsMessageError
+    (unread_datagram old) given (unread_datagram new)
 
 -- the same, with the header of the message, whose length field counts the bytes of the message
-abbrev pub GivesFramed : FramedMessages → Option (Result (NetlinkHeader × Bor (List ℕ)) DecodeError)
+abbrev pub YieldsFramedMessage : FramedMessages
+    → Option (Result (NetlinkHeader × Bor (List ℕ)) DecodeError)
     → FramedMessages → Type 0
-GivesFramed old given new =
-    Gives (λ left framed later. StartsWithMessage left framed.1.now later
-    × HasHeader framed.1.now framed.0 × (framed.0.length ≡ length framed.1.now)) IsEnvelopeFault
-    (framed_left old) given (framed_left new)
+YieldsFramedMessage old given new =
+    YieldsPart (λ left framed later. StartsWithMessage left framed.1.now later
+    × HasHeader framed.1.now framed.0 × (framed.0.length ≡ length framed.1.now)) IsMessageError
+    (unread_messages old) given (unread_messages new)

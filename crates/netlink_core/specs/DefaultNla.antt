@@ -3,5 +3,5 @@ use Rattle.netlink_core.specs.declared.nla.DefaultNla.{DefaultNla}
 use Rattle.netlink_core.specs.Attribute.{Attribute}
 
 -- its type field, with the two flag bits, and the bytes of its value
-abbrev pub kept_attribute : DefaultNla → Attribute
-kept_attribute nla = record { type_word = nla.kind; value = nla.value.items }
+abbrev pub raw_attribute : DefaultNla → Attribute
+raw_attribute nla = record { type_word = nla.kind; value = nla.value.items }

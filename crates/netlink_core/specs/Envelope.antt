@@ -10,9 +10,9 @@ use Rattle.netlink_core.specs.declared.message.NetlinkPayload.TheVariants.{Done,
 use Rattle.netlink_core.specs.declared.message.NetlinkPayload.TheVariants.{Overrun, InnerMessage}
 use Rattle.netlink_core.specs.declared.message.TheConstants.{NLMSG_NOOP, NLMSG_ERROR, NLMSG_DONE}
 use Rattle.netlink_core.specs.declared.message.TheConstants.{NLMSG_OVERRUN}
-use Rattle.netlink_core.specs.Table.{Fit}
+use Rattle.netlink_core.specs.Table.{FitFields}
 use Rattle.netlink_core.specs.Header.{header_bytes, header_fields, header_values}
-use Rattle.netlink_core.specs.Header.{HasHeader, IsEnvelopeFault, message_type_in}
+use Rattle.netlink_core.specs.Header.{HasHeader, IsMessageError, message_type_in}
 use Rattle.netlink_core.specs.Codec.{Codec}
 
 -- the payload of a message; the raw bytes of a control message are a list
@@ -20,29 +20,30 @@ abbrev pub Payload : Type 0 → Type 0
 Payload A = NetlinkPayload A (List ℕ)
 
 -- a netlink message: its header and its payload
-pub record Envelope (A : Type 0) : Type 0 where
+pub record NetlinkMessageModel (A : Type 0) : Type 0 where
   pub header : NetlinkHeader
   pub payload : Payload A
 
 -- the message types of inner messages: every type but those of the four control messages
-abbrev pub IsInnerType : ℕ → Type 0
-IsInnerType t = (t ≡ 0) ⊎ (NLMSG_OVERRUN < t)
+abbrev pub IsInnerMessageType : ℕ → Type 0
+IsInnerMessageType t = (t ≡ 0) ⊎ (NLMSG_OVERRUN < t)
 
 -- The bytes parse as this payload under the message type, given how inner messages parse.
 -- NLMSG_NOOP accepts any bytes, and drops them.
-abbrev pub PayloadIs : {A : Type 0} → (List ℕ → ℕ → A → Type 0) → List ℕ → ℕ → Payload A → Type 0
-PayloadIs reads bytes t Noop = t ≡ NLMSG_NOOP
-PayloadIs reads bytes t (Error given) = (t ≡ NLMSG_ERROR) × (given ≡ bytes)
-PayloadIs reads bytes t (Done given) = (t ≡ NLMSG_DONE) × (given ≡ bytes)
-PayloadIs reads bytes t (Overrun given) = (t ≡ NLMSG_OVERRUN) × (given ≡ bytes)
-PayloadIs reads bytes t (InnerMessage value) = IsInnerType t × reads bytes t value
+abbrev pub ParsesAsPayload : {A : Type 0} → (List ℕ → ℕ → A → Type 0) → List ℕ → ℕ → Payload A
+    → Type 0
+ParsesAsPayload reads bytes t Noop = t ≡ NLMSG_NOOP
+ParsesAsPayload reads bytes t (Error given) = (t ≡ NLMSG_ERROR) × (given ≡ bytes)
+ParsesAsPayload reads bytes t (Done given) = (t ≡ NLMSG_DONE) × (given ≡ bytes)
+ParsesAsPayload reads bytes t (Overrun given) = (t ≡ NLMSG_OVERRUN) × (given ≡ bytes)
+ParsesAsPayload reads bytes t (InnerMessage value) = IsInnerMessageType t × reads bytes t value
 
 -- Two payloads of the same message type are equivalent, given when inner messages are: any two of
 -- NLMSG_NOOP, equal bytes of the other control messages, equivalent inner messages.
 abbrev pub AreEquivalentPayloads : (ℕ → List ℕ → List ℕ → Type 0) → ℕ → List ℕ → List ℕ → Type 0
 AreEquivalentPayloads inner t b c = (t ≡ NLMSG_NOOP)
     ⊎ (((NLMSG_NOOP < t) × (t ≤ NLMSG_OVERRUN) × (b ≡ c))
-    ⊎ (IsInnerType t × inner t b c))
+    ⊎ (IsInnerMessageType t × inner t b c))
 
 -- ---- serializing
 
@@ -63,30 +64,32 @@ payload_type type_of (Overrun given) = NLMSG_OVERRUN
 payload_type type_of (InnerMessage value) = type_of value
 
 -- the predicate holds of the inner message, if any
-abbrev pub OfInner : {A : Type 0} → (A → Type 0) → Payload A → Type 0
-OfInner is (InnerMessage value) = is value
-OfInner is Noop = ⊤
-OfInner is (Error given) = ⊤
-OfInner is (Done given) = ⊤
-OfInner is (Overrun given) = ⊤
+abbrev pub HoldsOfInnerMessage : {A : Type 0} → (A → Type 0) → Payload A → Type 0
+HoldsOfInnerMessage is (InnerMessage value) = is value
+HoldsOfInnerMessage is Noop = ⊤
+HoldsOfInnerMessage is (Error given) = ⊤
+HoldsOfInnerMessage is (Done given) = ⊤
+HoldsOfInnerMessage is (Overrun given) = ⊤
 
 -- the signed 32-bit error number (0 or -errno), little-endian, at the start of a payload; `None` if
 -- the payload has fewer than four bytes
-abbrev pub leading_number : List ℕ → Option ℤ
-leading_number b = if nat_lt (length b) 4 then None else Some (cast_signed w32 (little_number 4 b))
+abbrev pub leading_error_number : List ℕ → Option ℤ
+leading_error_number b = if nat_lt (length b) 4 then None
+    else Some (cast_signed w32 (little_number 4 b))
 
 -- the error number of a payload: only NLMSG_ERROR and NLMSG_DONE start with one
 abbrev pub error_number_of : {A : Type 0} → Payload A → Option ℤ
-error_number_of (Error given) = leading_number given
-error_number_of (Done given) = leading_number given
+error_number_of (Error given) = leading_error_number given
+error_number_of (Done given) = leading_error_number given
 error_number_of Noop = None
 error_number_of (Overrun given) = None
 error_number_of (InnerMessage value) = None
 
 -- the header with the length (header and payload) and the type of this payload; its other fields
 -- are unchanged; given are the bytes and the type of an inner message
-abbrev pub finalized : {A : Type 0} → (A → List ℕ) → (A → ℕ) → Envelope A → NetlinkHeader
-finalized bytes type_of e = record e.header {
+abbrev pub finalized_header : {A : Type 0} → (A → List ℕ) → (A → ℕ) → NetlinkMessageModel A
+    → NetlinkHeader
+finalized_header bytes type_of e = record e.header {
   length = 16 + length (payload_bytes bytes e.payload);
   message_type = payload_type type_of e.payload;
 }
@@ -95,16 +98,19 @@ finalized bytes type_of e = record e.header {
 
 -- the codec of netlink messages, given the codec of inner messages, whose parameter is the message
 -- type
-abbrev pub envelope_codec : Codec ℕ → Codec (Unit {0})
-envelope_codec C = record {
-  Value = Envelope C.Value;
-  is_in_range = λ e. Fit header_fields (header_values e.header) × OfInner C.is_in_range e.payload;
+abbrev pub netlink_codec : Codec ℕ → Codec (Unit {0})
+netlink_codec C = record {
+  Value = NetlinkMessageModel C.Value;
+  is_in_range = λ e. FitFields header_fields (header_values e.header)
+      × HoldsOfInnerMessage C.is_in_range e.payload;
   -- the bytes start with the header, and the payload up to the header's length parses by its type
   reads = λ b p e. HasHeader b e.header
-      × PayloadIs C.reads (take (e.header.length - 16) (drop 16 b)) e.header.message_type e.payload;
+      × ParsesAsPayload C.reads (take (e.header.length - 16) (drop 16 b)) e.header.message_type
+      e.payload;
   -- the bytes do not start with a message, or they start with an inner message that is rejected
-  refuses = λ b p e. IsEnvelopeFault b e ⊎ ((h : NetlinkHeader) × HasHeader b h
-      × IsInnerType h.message_type × C.refuses (take (h.length - 16) (drop 16 b)) h.message_type e);
+  refuses = λ b p e. IsMessageError b e ⊎ ((h : NetlinkHeader) × HasHeader b h
+      × IsInnerMessageType h.message_type
+      × C.refuses (take (h.length - 16) (drop 16 b)) h.message_type e);
   is_spare = λ e. ⊥;
   -- equal headers, and payloads that are equivalent under their message type; the length is at
   -- offset 0 of the header, the type at offset 4
@@ -114,10 +120,10 @@ envelope_codec C = record {
       × AreEquivalentPayloads C.idle (message_type_in b) (payload b) (payload c);
   -- an inner message is in normal form, and the header's type is not that of a control message
   is_normal = λ p e. let t = e.header.message_type in
-      OfInner (λ m. IsInnerType t × C.is_normal t m) e.payload;
+      HoldsOfInnerMessage (λ m. IsInnerMessageType t × C.is_normal t m) e.payload;
   -- the header unchanged, then the payload
   written = λ e. header_bytes e.header ++ payload_bytes C.written e.payload;
   -- an inner message is writable, and the total length fits the 32-bit length field
-  fits = λ e. OfInner C.fits e.payload
+  fits = λ e. HoldsOfInnerMessage C.fits e.payload
       × (16 + length (payload_bytes C.written e.payload) ≤ 4294967295);
 }

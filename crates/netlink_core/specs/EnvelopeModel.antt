@@ -4,17 +4,22 @@ use Rattle.netlink_core.specs.declared.message.NetlinkPayload.{NetlinkPayload}
 use Rattle.netlink_core.specs.declared.message.NetlinkPayload.TheVariants.{Done, Error, Noop}
 use Rattle.netlink_core.specs.declared.message.NetlinkPayload.TheVariants.{Overrun, InnerMessage}
 use Rattle.netlink_core.specs.declared.message.NetlinkMessage.{NetlinkMessage}
-use Rattle.netlink_core.specs.Envelope.{Payload, Envelope}
+use Rattle.netlink_core.specs.Envelope.{Payload, NetlinkMessageModel}
 
 -- the model of a payload, given the raw bytes of a control message and the model of an inner
 -- message
-abbrev pub payload_of : {I B A : Type 0} → (B → List ℕ) → (I → A) → NetlinkPayload I B → Payload A
-payload_of bytes model (Done held) = Done (bytes held)
-payload_of bytes model (Error held) = Error (bytes held)
-payload_of bytes model Noop = Noop
-payload_of bytes model (Overrun held) = Overrun (bytes held)
-payload_of bytes model (InnerMessage message) = InnerMessage (model message)
+abbrev pub payload_model : {I B A : Type 0} → (B → List ℕ) → (I → A) → NetlinkPayload I B
+    → Payload A
+payload_model bytes model (Done held) = Done (bytes held)
+payload_model bytes model (Error held) = Error (bytes held)
+payload_model bytes model Noop = Noop
+payload_model bytes model (Overrun held) = Overrun (bytes held)
+payload_model bytes model (InnerMessage message) = InnerMessage (model message)
 
 -- the model of a message, given the model of an inner message
-abbrev pub envelope_of : {I A : Type 0} → (I → A) → NetlinkMessage I → Envelope A
-envelope_of model m = record { header = m.header; payload = payload_of vec_items model m.payload }
+abbrev pub netlink_message_model : {I A : Type 0} → (I → A) → NetlinkMessage I
+    → NetlinkMessageModel A
+netlink_message_model model m = record {
+  header = m.header;
+  payload = payload_model vec_items model m.payload;
+}

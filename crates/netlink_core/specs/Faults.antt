@@ -18,30 +18,30 @@ use Rattle.netlink_core.specs.declared.fault.DecodeError.TheVariants.{EnvelopeLe
 use Rattle.netlink_core.specs.declared.fault.DecodeError.TheVariants.{EnvelopeLengthPast}
 
 -- the code of an error, as in include/sockdiag.h
-abbrev pub number_of : DecodeError → ℕ
-number_of Memory = 1
-number_of (BufferTooSmall which got need) = 2
-number_of (UnsupportedFamily family) = 3
-number_of (MessageTooShort got) = 4
-number_of (UnknownFamily family) = 5
-number_of (UnknownMessageType message_type) = 6
-number_of (AttributeHeaderCut left) = 7
-number_of (AttributeLengthUnder4 len) = 8
-number_of (AttributeLengthPast len left) = 9
-number_of (WrongLength kind got need) = 10
-number_of (NotMultipleOfFour got) = 11
-number_of NotUtf8 = 12
-number_of NameEmpty = 13
-number_of (NameInnerZero index) = 14
-number_of NameWithoutEnd = 15
-number_of (EnvelopeCut got) = 16
-number_of (EnvelopeLengthUnder16 len) = 17
-number_of (EnvelopeLengthPast len got) = 18
+abbrev pub error_code : DecodeError → ℕ
+error_code Memory = 1
+error_code (BufferTooSmall which got need) = 2
+error_code (UnsupportedFamily family) = 3
+error_code (MessageTooShort got) = 4
+error_code (UnknownFamily family) = 5
+error_code (UnknownMessageType message_type) = 6
+error_code (AttributeHeaderCut left) = 7
+error_code (AttributeLengthUnder4 len) = 8
+error_code (AttributeLengthPast len left) = 9
+error_code (WrongLength kind got need) = 10
+error_code (NotMultipleOfFour got) = 11
+error_code NotUtf8 = 12
+error_code NameEmpty = 13
+error_code (NameInnerZero index) = 14
+error_code NameWithoutEnd = 15
+error_code (EnvelopeCut got) = 16
+error_code (EnvelopeLengthUnder16 len) = 17
+error_code (EnvelopeLengthPast len got) = 18
 
 -- the error; a wrong length without a kind gets the kind `k`
-abbrev pub with_attribute_type : ℕ → DecodeError → DecodeError
-with_attribute_type k (WrongLength None got need) = WrongLength (Some k) got need
-with_attribute_type k other = other
+abbrev pub with_missing_kind : ℕ → DecodeError → DecodeError
+with_missing_kind k (WrongLength None got need) = WrongLength (Some k) got need
+with_missing_kind k other = other
 
 -- applies `made` to the value of an `Ok`; an error is unchanged
 abbrev pub map_ok : {A B : Type 0} → (A → B) → Result A DecodeError → Result B DecodeError

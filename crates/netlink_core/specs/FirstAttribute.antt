@@ -1,10 +1,10 @@
 -- The codec of one attribute by itself, given a set of attribute types.
 use Rattle.std.specs.Prelude.{◌≡◌, Ok}
-use Rattle.netlink_core.specs.Attribute.{Attribute, HasFittingValue, HasPrefix, IsPrefixFault}
-use Rattle.netlink_core.specs.Attribute.{written}
-use Rattle.netlink_core.specs.AttributeSet.{AttributeSet, AttributeValue, decodes, encodes}
-use Rattle.netlink_core.specs.AttributeSet.{IsInRangeBy, IsNormalBy}
-use Rattle.netlink_core.specs.AttributeSet.{IsSpareBy, AreIdleAttributes}
+use Rattle.netlink_core.specs.Attribute.{Attribute, FitsLengthField, HasAttributePrefix}
+use Rattle.netlink_core.specs.Attribute.{IsFirstAttributeError, attribute_bytes}
+use Rattle.netlink_core.specs.AttributeSet.{AttributeSet, AttributeValue, decode_attribute}
+use Rattle.netlink_core.specs.AttributeSet.{encode_attribute, IsInRangeIn, IsNormalIn}
+use Rattle.netlink_core.specs.AttributeSet.{NeedsNoMemoryIn, AreEquivalentAttributes}
 use Rattle.netlink_core.specs.Codec.{Codec}
 
 -- Parses the attribute at the start of the bytes, by the set. Its padding and the bytes after it
@@ -13,12 +13,13 @@ use Rattle.netlink_core.specs.Codec.{Codec}
 abbrev pub first_attribute_codec : AttributeSet → Codec (Unit {0})
 first_attribute_codec F = record {
   Value = AttributeValue F;
-  is_in_range = IsInRangeBy F;
-  reads = λ b p v. (a : Attribute) × HasPrefix b a × (decodes F a ≡ Ok v);
-  refuses = λ b p e. IsPrefixFault (decodes F) b e;
-  is_spare = IsSpareBy F;
-  idle = λ p b c. (x y : Attribute) × HasPrefix b x × HasPrefix c y × AreIdleAttributes F x y;
-  is_normal = λ p v. IsNormalBy F v;
-  written = λ v. written (encodes F v);
-  fits = λ v. HasFittingValue (encodes F v);
+  is_in_range = IsInRangeIn F;
+  reads = λ b p v. (a : Attribute) × HasAttributePrefix b a × (decode_attribute F a ≡ Ok v);
+  refuses = λ b p e. IsFirstAttributeError (decode_attribute F) b e;
+  is_spare = NeedsNoMemoryIn F;
+  idle = λ p b c. (x y : Attribute) × HasAttributePrefix b x × HasAttributePrefix c y
+      × AreEquivalentAttributes F x y;
+  is_normal = λ p v. IsNormalIn F v;
+  written = λ v. attribute_bytes (encode_attribute F v);
+  fits = λ v. FitsLengthField (encode_attribute F v);
 }

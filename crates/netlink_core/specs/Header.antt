@@ -3,7 +3,7 @@ use Rattle.std.specs.Prelude.{◌≡◌, ℕ, ◌<◌, ◌≤◌, List, [], ◌�
 use Rattle.byteorder.specs.Endian.{little_number}
 use Rattle.netlink_core.specs.Table.{Field, values_of, bytes_of}
 use Rattle.netlink_core.specs.Rows.{Row, u16, u32, fields_of, numbers_of}
-use Rattle.netlink_core.specs.Table.{Fit}
+use Rattle.netlink_core.specs.Table.{FitFields}
 use Rattle.netlink_core.specs.declared.fault.DecodeError.{DecodeError}
 use Rattle.netlink_core.specs.declared.fault.DecodeError.TheVariants.{EnvelopeCut}
 use Rattle.netlink_core.specs.declared.fault.DecodeError.TheVariants.{EnvelopeLengthUnder16}
@@ -36,7 +36,7 @@ header_bytes h = bytes_of header_fields (header_values h)
 -- 16 and at most the number of bytes
 abbrev pub HasHeader : List ℕ → NetlinkHeader → Type 0
 HasHeader bytes h = (values_of header_fields bytes ≡ header_values h)
-    × Fit header_fields (header_values h) × (16 ≤ h.length) × (h.length ≤ length bytes)
+    × FitFields header_fields (header_values h) × (16 ≤ h.length) × (h.length ≤ length bytes)
 
 -- `nlmsg_type` of the header at the start of the bytes, at offset 4
 abbrev pub message_type_in : List ℕ → ℕ
@@ -45,10 +45,10 @@ message_type_in bytes = little_number 2 (drop 4 bytes)
 -- The first error of bytes that do not begin with a message: fewer than 16 bytes; else `nlmsg_len`
 -- is below 16; else `nlmsg_len` is above the number of bytes. The error contains `nlmsg_len`
 -- (`word`) and the number of bytes (`got`).
-abbrev pub IsEnvelopeFault : List ℕ → DecodeError → Type 0
-IsEnvelopeFault bytes (EnvelopeCut got) = (got ≡ length bytes) × (length bytes < 16)
-IsEnvelopeFault bytes (EnvelopeLengthUnder16 word) =
+abbrev pub IsMessageError : List ℕ → DecodeError → Type 0
+IsMessageError bytes (EnvelopeCut got) = (got ≡ length bytes) × (length bytes < 16)
+IsMessageError bytes (EnvelopeLengthUnder16 word) =
     (word ≡ little_number 4 bytes) × (16 ≤ length bytes) × (word < 16)
-IsEnvelopeFault bytes (EnvelopeLengthPast word got) = (word ≡ little_number 4 bytes)
+IsMessageError bytes (EnvelopeLengthPast word got) = (word ≡ little_number 4 bytes)
     × (got ≡ length bytes) × (16 ≤ length bytes) × (16 ≤ word) × (length bytes < word)
-IsEnvelopeFault bytes _ = ⊥
+IsMessageError bytes _ = ⊥

@@ -1,6 +1,6 @@
 -- Layouts of records in bytes, by rows.
 use Rattle.std.specs.Prelude.{◌≡◌, ◌≤◌, ⊤, ℕ, nat_lt, if◌then◌else◌, List, length, Result, Ok, Err}
-use Rattle.netlink_core.specs.Table.{Field, values_of, bytes_of, Fit, AreDefined}
+use Rattle.netlink_core.specs.Table.{Field, values_of, bytes_of, FitFields, HaveDefinedFlags}
 use Rattle.netlink_core.specs.Rows.{Row, fields_of, numbers_of}
 use Rattle.netlink_core.specs.Faults.{map_ok}
 use Rattle.netlink_core.specs.declared.fault.DecodeError.{DecodeError}
@@ -22,8 +22,8 @@ pub record Layout (Param Tag Value : Type 0) : Type 1 where
   -- the rows for a tag
   pub rows : Tag → List (Row Value)
   -- The value with these numbers in the fields that are not ignored, for a tag: the inverse of
-  -- `values`, below. `StandsIn` says without it which value the bytes contain, and by the law
-  -- `read_where_it_stands` both agree.
+  -- `field_numbers`, below. `IsContainedIn` says without it which value the bytes contain, and by
+  -- the law `read_where_it_stands` both agree.
   pub value : Tag → List ℕ → Value
   -- arrays have the length of their types
   pub is_shaped : Value → Type 0
@@ -47,48 +47,50 @@ plain name least rows value is_shaped = record {
 
 module _ {Param Tag Value : Type 0} (layout : Layout Param Tag Value) where
   -- the fields for a tag
-  abbrev pub table : Tag → List Field
-  table tag = fields_of (layout.rows tag)
+  abbrev pub tag_fields : Tag → List Field
+  tag_fields tag = fields_of (layout.rows tag)
 
   -- the numbers of a value, in the fields of its own tag that are not ignored
-  abbrev pub values : Value → List ℕ
-  values value = numbers_of (layout.rows (layout.tag_of value)) value
+  abbrev pub field_numbers : Value → List ℕ
+  field_numbers value = numbers_of (layout.rows (layout.tag_of value)) value
 
   -- parses bytes, at least `least` of them, by the fields of their tag, or returns the tag's error
-  abbrev pub read_fields : Param → List ℕ → Result Value DecodeError
-  read_fields param left =
-      map_ok (λ tag. layout.value tag (values_of (table tag) left)) (layout.tag_at param left)
+  abbrev pub parse_fields : Param → List ℕ → Result Value DecodeError
+  parse_fields param left =
+      map_ok (λ tag. layout.value tag (values_of (tag_fields tag) left)) (layout.tag_at param left)
 
   -- parses bytes, or returns the first error: too few bytes, else the tag's error
-  abbrev pub read : Param → List ℕ → Result Value DecodeError
-  read param left = if nat_lt (length left) layout.least
-      then Err (BufferTooSmall layout.name (length left) layout.least) else read_fields param left
+  abbrev pub parse_record : Param → List ℕ → Result Value DecodeError
+  parse_record param left = if nat_lt (length left) layout.least
+      then Err (BufferTooSmall layout.name (length left) layout.least) else parse_fields param left
 
   -- the bytes that a value serializes to
-  abbrev pub bytes : Value → List ℕ
-  bytes value = bytes_of (table (layout.tag_of value)) (values value)
+  abbrev pub record_bytes : Value → List ℕ
+  record_bytes value = bytes_of (tag_fields (layout.tag_of value)) (field_numbers value)
 
   -- the bytes are at least `least`, have the tag, and have these numbers in the fields that are not
   -- ignored
-  abbrev pub HasFields : Param → List ℕ → Tag → List ℕ → Type 0
-  HasFields param b tag numbers = (layout.least ≤ length b) × (layout.tag_at param b ≡ Ok tag)
-      × (values_of (table tag) b ≡ numbers)
+  abbrev pub HasTagAndNumbers : Param → List ℕ → Tag → List ℕ → Type 0
+  HasTagAndNumbers param b tag numbers =
+      (layout.least ≤ length b) × (layout.tag_at param b ≡ Ok tag)
+      × (values_of (tag_fields tag) b ≡ numbers)
 
   -- both byte strings have the same tag, and the same numbers in the fields that are not ignored
-  abbrev pub AreIdle : Param → List ℕ → List ℕ → Type 0
-  AreIdle param b c = (tag : Tag) × (numbers : List ℕ)
-      × HasFields param b tag numbers × HasFields param c tag numbers
+  abbrev pub AreEquivalent : Param → List ℕ → List ℕ → Type 0
+  AreEquivalent param b c = (tag : Tag) × (numbers : List ℕ)
+      × HasTagAndNumbers param b tag numbers × HasTagAndNumbers param c tag numbers
 
   -- arrays of the value have their length, and each of its numbers fits its field
   abbrev pub IsInRange : Value → Type 0
-  IsInRange v = layout.is_shaped v × Fit (table (layout.tag_of v)) (values v)
+  IsInRange v = layout.is_shaped v × FitFields (tag_fields (layout.tag_of v)) (field_numbers v)
 
   -- flags are defined, and the value meets the layout's other conditions
   abbrev pub IsNormal : Param → Value → Type 0
-  IsNormal p v = AreDefined (table (layout.tag_of v)) (values v) × layout.is_own p v
+  IsNormal p v = HaveDefinedFlags (tag_fields (layout.tag_of v)) (field_numbers v)
+      × layout.is_own p v
 
   -- The bytes contain the value, said without `value`: they have its tag and its numbers, and it is
   -- in range and in normal form.
-  abbrev pub StandsIn : List ℕ → Param → Value → Type 0
-  StandsIn b param value = HasFields param b (layout.tag_of value) (values value)
+  abbrev pub IsContainedIn : List ℕ → Param → Value → Type 0
+  IsContainedIn b param value = HasTagAndNumbers param b (layout.tag_of value) (field_numbers value)
       × IsInRange value × IsNormal param value

@@ -8,15 +8,16 @@ use Rattle.netlink_core.specs.declared.fault.DecodeError.TheVariants.{WrongLengt
 
 -- the little-endian number of exactly `width` bytes; the error of any other length contains the
 -- kind `k`, if there is one
-abbrev pub exact_number : Option ℕ → ℕ → List ℕ → Result ℕ DecodeError
-exact_number k width b =
+abbrev pub number_of_width : Option ℕ → ℕ → List ℕ → Result ℕ DecodeError
+number_of_width k width b =
     if length b == width then Ok (little_number width b) else Err (WrongLength k (length b) width)
 
 -- the bytes without their last byte if this is NUL; only one is removed
-abbrev pub without_end_zero : List ℕ → List ℕ
-without_end_zero b = if slice_index b (length b - 1) == 0 then take (length b - 1) b else b
+abbrev pub without_terminating_nul : List ℕ → List ℕ
+without_terminating_nul b = if slice_index b (length b - 1) == 0 then take (length b - 1) b else b
 
 -- the text in the bytes, without one terminating NUL if there is one, or the error that this is not
 -- valid UTF-8
-abbrev pub text_in : List ℕ → Result (List ℕ) DecodeError
-text_in b = if is_utf8 (without_end_zero b) then Ok (without_end_zero b) else Err NotUtf8
+abbrev pub parse_text : List ℕ → Result (List ℕ) DecodeError
+parse_text b = if is_utf8 (without_terminating_nul b) then Ok (without_terminating_nul b)
+    else Err NotUtf8

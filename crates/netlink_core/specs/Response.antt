@@ -1,12 +1,12 @@
 -- Replies: a header, followed by attributes of one set.
 use Rattle.std.specs.Prelude.{◌≡◌, ℕ, ◌≤◌, ◌⊎◌, List, [], ◌++◌, length, drop, map, Ok, Err}
 use Rattle.std.specs.List.{AllByRecursion, AllZip, flat_map}
-use Rattle.netlink_core.specs.Attribute.{Attribute, HasFittingValue, Cut, AttributesMean}
-use Rattle.netlink_core.specs.Attribute.{AttributeFault, written}
+use Rattle.netlink_core.specs.Attribute.{Attribute, FitsLengthField, SplitsIntoAttributes, DecodeTo}
+use Rattle.netlink_core.specs.Attribute.{HasAttributeError, attribute_bytes}
 use Rattle.netlink_core.specs.ValueCodec.{ValueCodec}
-use Rattle.netlink_core.specs.AttributeSet.{AttributeSet, AttributeValue, decodes, encodes}
-use Rattle.netlink_core.specs.AttributeSet.{IsInRangeBy, IsNormalBy}
-use Rattle.netlink_core.specs.AttributeSet.{IsSpareBy, AreIdleAttributes}
+use Rattle.netlink_core.specs.AttributeSet.{AttributeSet, AttributeValue, decode_attribute}
+use Rattle.netlink_core.specs.AttributeSet.{encode_attribute, IsInRangeIn, IsNormalIn}
+use Rattle.netlink_core.specs.AttributeSet.{NeedsNoMemoryIn, AreEquivalentAttributes}
 use Rattle.netlink_core.specs.Codec.{Codec}
 
 -- how a reply is parsed and serialized
@@ -24,38 +24,38 @@ pub record ResponseValue (H V : Type 0) : Type 0 where
   pub nlas : List V
 
 -- the value of a reply: the value of its header, and a decoded value for each attribute
-abbrev pub ValueOf : ResponseSpec → Type 0
-ValueOf R = ResponseValue R.header.Value (AttributeValue R.attribute_set)
+abbrev pub ReplyValue : ResponseSpec → Type 0
+ReplyValue R = ResponseValue R.header.Value (AttributeValue R.attribute_set)
 
 -- the bytes that a reply serializes to: its header, and its attributes with their padding
-abbrev pub response_bytes : (R : ResponseSpec) → ValueOf R → List ℕ
+abbrev pub response_bytes : (R : ResponseSpec) → ReplyValue R → List ℕ
 response_bytes R v = R.header.bytes v.header
-    ++ flat_map written (map (encodes R.attribute_set) v.nlas)
+    ++ flat_map attribute_bytes (map (encode_attribute R.attribute_set) v.nlas)
 
 -- the codec of a reply
 abbrev pub response_codec : ResponseSpec → Codec (Unit {0})
 response_codec R = record {
-  Value = ValueOf R;
+  Value = ReplyValue R;
   is_in_range = λ v. R.header.is_in_range v.header
-      × AllByRecursion (IsInRangeBy R.attribute_set) v.nlas;
+      × AllByRecursion (IsInRangeIn R.attribute_set) v.nlas;
   -- the header's value, and one decoded value for each attribute after it
   reads = λ b p v. (R.header.reads p b ≡ Ok v.header)
-      × AttributesMean (decodes R.attribute_set) (drop R.size b) v.nlas;
+      × DecodeTo (decode_attribute R.attribute_set) (drop R.size b) v.nlas;
   -- the header's error, or after an accepted header the first error of the attributes
   refuses = λ b p e. (R.header.reads p b ≡ Err e)
       ⊎ ((h : R.header.Value) × (R.header.reads p b ≡ Ok h)
-      × AttributeFault (decodes R.attribute_set) (drop R.size b) e);
+      × HasAttributeError (decode_attribute R.attribute_set) (drop R.size b) e);
   -- at most eight attributes, none of which needs memory
-  is_spare = λ v. (length v.nlas ≤ 8) × AllByRecursion (IsSpareBy R.attribute_set) v.nlas;
+  is_spare = λ v. (length v.nlas ≤ 8) × AllByRecursion (NeedsNoMemoryIn R.attribute_set) v.nlas;
   -- the headers are equivalent; both have the same number of attributes, and these are equivalent
   -- in pairs
   idle = λ p b c. R.header.idle p b c × (left right : List Attribute)
-      × Cut (drop R.size b) left [] × Cut (drop R.size c) right []
-      × AllZip (AreIdleAttributes R.attribute_set) left right;
+      × SplitsIntoAttributes (drop R.size b) left [] × SplitsIntoAttributes (drop R.size c) right []
+      × AllZip (AreEquivalentAttributes R.attribute_set) left right;
   is_normal = λ p v. R.header.is_normal p v.header
-      × AllByRecursion (IsNormalBy R.attribute_set) v.nlas;
+      × AllByRecursion (IsNormalIn R.attribute_set) v.nlas;
   written = response_bytes R;
   -- each attribute's value has at most 65,531 bytes, and the whole has at most 4,294,967,295
-  fits = λ v. AllByRecursion HasFittingValue (map (encodes R.attribute_set) v.nlas)
+  fits = λ v. AllByRecursion FitsLengthField (map (encode_attribute R.attribute_set) v.nlas)
       × (length (response_bytes R v) ≤ 4294967295);
 }

@@ -3,7 +3,7 @@
 use Rattle.std.specs.Prelude.{ℕ, Bool, if◌then◌else◌, List, [], ◌∷◌}
 use Rattle.std.specs.List.{flat_map}
 use Rattle.netlink_core.specs.Table.{Field, byte, number, network, flags, unread, array}
-use Rattle.netlink_core.specs.Table.{bytes_at, first}
+use Rattle.netlink_core.specs.Table.{bytes_at, first_numbers}
 
 -- fields, and the numbers that a value has in those that are not ignored
 abbrev pub Row : Type 0 → Type 0
@@ -48,11 +48,11 @@ module _ {Value : Type 0} where
 
   -- an array of `count` bytes
   abbrev pub u8s : (offset count : ℕ) → (Value → List ℕ) → Row Value
-  u8s offset count get = (bytes_at offset count, λ value. first count (get value))
+  u8s offset count get = (bytes_at offset count, λ value. first_numbers count (get value))
 
   -- an array of `count` numbers of 16 bits in network byte order
   abbrev pub be16s : (offset count : ℕ) → (Value → List ℕ) → Row Value
-  be16s offset count get = (array network offset 2 count, λ value. first count (get value))
+  be16s offset count get = (array network offset 2 count, λ value. first_numbers count (get value))
 
   -- bytes that the parser ignores, and what the serializer writes there
   abbrev pub skip : (offset : ℕ) → (written : List ℕ) → Row Value

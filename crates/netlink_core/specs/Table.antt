@@ -43,23 +43,27 @@ bytes_of (flags at width mask ∷ fields) (n ∷ rest) = little_bytes width n ++
 bytes_of _ _ = []
 
 -- the first `n` numbers of a list; 0 for each number that is missing
-abbrev pub first : ℕ → List ℕ → List ℕ
-first zero xs = []
-first (suc n) xs = slice_index xs 0 ∷ first n (drop 1 xs)
+abbrev pub first_numbers : ℕ → List ℕ → List ℕ
+first_numbers zero xs = []
+first_numbers (suc n) xs = slice_index xs 0 ∷ first_numbers n (drop 1 xs)
 
 -- there is one number for each field that is not ignored, and it fits the field's width
-abbrev pub Fit : List Field → List ℕ → Type 0
-Fit [] [] = Unit {0}
-Fit (unread offset written ∷ fields) values = Fit fields values
-Fit (byte offset ∷ fields) (value ∷ values) = (value < 256) × Fit fields values
-Fit (number offset width ∷ fields) (value ∷ values) = (value < 256 ^ width) × Fit fields values
-Fit (network offset width ∷ fields) (value ∷ values) = (value < 256 ^ width) × Fit fields values
-Fit (flags offset width mask ∷ fields) (value ∷ values) = (value < 256 ^ width) × Fit fields values
-Fit _ _ = ⊥
+abbrev pub FitFields : List Field → List ℕ → Type 0
+FitFields [] [] = Unit {0}
+FitFields (unread offset written ∷ fields) values = FitFields fields values
+FitFields (byte offset ∷ fields) (value ∷ values) = (value < 256) × FitFields fields values
+FitFields (number offset width ∷ fields) (value ∷ values) =
+    (value < 256 ^ width) × FitFields fields values
+FitFields (network offset width ∷ fields) (value ∷ values) =
+    (value < 256 ^ width) × FitFields fields values
+FitFields (flags offset width mask ∷ fields) (value ∷ values) =
+    (value < 256 ^ width) × FitFields fields values
+FitFields _ _ = ⊥
 
 -- each number of flags has only the bits of its mask
-abbrev pub AreDefined : List Field → List ℕ → Type 0
-AreDefined (unread offset written ∷ fields) values = AreDefined fields values
-AreDefined (flags at width mask ∷ fields) (n ∷ rest) = (bit_and n mask ≡ n) × AreDefined fields rest
-AreDefined (field ∷ fields) (value ∷ values) = AreDefined fields values
-AreDefined _ _ = Unit {0}
+abbrev pub HaveDefinedFlags : List Field → List ℕ → Type 0
+HaveDefinedFlags (unread offset written ∷ fields) values = HaveDefinedFlags fields values
+HaveDefinedFlags (flags at width mask ∷ fields) (n ∷ rest) =
+    (bit_and n mask ≡ n) × HaveDefinedFlags fields rest
+HaveDefinedFlags (field ∷ fields) (value ∷ values) = HaveDefinedFlags fields values
+HaveDefinedFlags _ _ = Unit {0}

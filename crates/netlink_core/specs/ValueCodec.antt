@@ -1,7 +1,8 @@
 -- The codec of a part of a message: of a header, or of the value of an attribute.
 use Rattle.std.specs.Prelude.{ℕ, List, Result}
 use Rattle.netlink_core.specs.declared.fault.DecodeError.{DecodeError}
-use Rattle.netlink_core.specs.Layout.{Layout, read, bytes, AreIdle, IsInRange, IsNormal}
+use Rattle.netlink_core.specs.Layout.{Layout, parse_record, record_bytes, AreEquivalent, IsInRange}
+use Rattle.netlink_core.specs.Layout.{IsNormal}
 
 -- How a part of a message is parsed, with a parameter, and serialized. A record may be followed by
 -- other bytes, which are ignored; a text or a flag takes all bytes.
@@ -22,9 +23,9 @@ pub record ValueCodec (Param : Type 0) : Type 1 where
 abbrev pub value_codec : {Param Tag Value : Type 0} → Layout Param Tag Value → ValueCodec Param
 value_codec {Param} {Tag} {Value} layout = record {
   Value = Value;
-  reads = read layout;
-  bytes = bytes layout;
-  idle = AreIdle layout;
+  reads = parse_record layout;
+  bytes = record_bytes layout;
+  idle = AreEquivalent layout;
   is_in_range = IsInRange layout;
   is_normal = IsNormal layout;
 }

@@ -6,8 +6,8 @@
 
 ghost use Rattle.std.specs.Prelude.{◌≡◌, ◌+◌, ◌/◌, ◌≤◌, ◌<◌, ◌^◌, ◌↔◌, length, IsTrue, IsBitSet};
 ghost use Rattle.std.specs.Prelude.{MatchResult, IfSome, None};
-ghost use Rattle.netlink_core.specs.Attribute.{HasPrefix, IsFramingFault, fill, attribute_type};
-ghost use Rattle.netlink_core.specs.Attribute.{written};
+ghost use Rattle.netlink_core.specs.Attribute.{HasAttributePrefix, IsFramingError, padding_length};
+ghost use Rattle.netlink_core.specs.Attribute.{attribute_kind, attribute_bytes};
 
 use crate::codec::Input;
 use crate::fault::DecodeError;
@@ -38,7 +38,7 @@ pub struct NlaBuffer<'a> {
 }
 
 impl<'a> NlaBuffer<'a> {
-    ghost use Rattle.netlink_core.specs.Walk.{attribute_of};
+    ghost use Rattle.netlink_core.specs.Walk.{buffered_attribute};
 
     /// Parses the attribute at the start of the bytes. Its padding and the bytes after it are
     /// ignored.
@@ -48,8 +48,8 @@ impl<'a> NlaBuffer<'a> {
     /// it is above the number of bytes.
     pub fn new_checked(bytes: &'a [u8]) -> Result<NlaBuffer<'a>, DecodeError>
         ensures { MatchResult result
-            (λ buffer. HasPrefix bytes.entry.now (attribute_of buffer))
-            (IsFramingFault bytes.entry.now) }
+            (λ buffer. HasAttributePrefix bytes.entry.now (buffered_attribute buffer))
+            (IsFramingError bytes.entry.now) }
     {
         let left = bytes.len();
         if left < NLA_HEADER_SIZE {
@@ -71,42 +71,42 @@ impl<'a> NlaBuffer<'a> {
 
     /// Returns the length field: 4 and the number of the value's bytes, without the padding.
     pub fn length(&self) -> u16
-        ensures { result ≡ 4 + length (attribute_of self.now).value }
+        ensures { result ≡ 4 + length (buffered_attribute self.now).value }
     {
         (NLA_HEADER_SIZE + self.value.len()) as u16
     }
 
     /// Returns the type field, with its two flag bits.
     pub fn type_word(&self) -> u16
-        ensures { result ≡ (attribute_of self.now).type_word }
+        ensures { result ≡ (buffered_attribute self.now).type_word }
     {
         self.type_word
     }
 
     /// Returns the kind: the type field without its two flag bits.
     pub fn kind(&self) -> u16
-        ensures { result ≡ attribute_type (attribute_of self.now) }
+        ensures { result ≡ attribute_kind (buffered_attribute self.now) }
     {
         self.type_word & KIND
     }
 
     /// Returns whether the type field has the flag for nested attributes.
     pub fn nested_flag(&self) -> bool
-        ensures { IsTrue result ↔ IsBitSet (attribute_of self.now).type_word 15 }
+        ensures { IsTrue result ↔ IsBitSet (buffered_attribute self.now).type_word 15 }
     {
         self.type_word & NESTED != 0
     }
 
     /// Returns whether the type field has the flag for network byte order.
     pub fn network_byte_order_flag(&self) -> bool
-        ensures { IsTrue result ↔ IsBitSet (attribute_of self.now).type_word 14 }
+        ensures { IsTrue result ↔ IsBitSet (buffered_attribute self.now).type_word 14 }
     {
         self.type_word & NETWORK_BYTE_ORDER != 0
     }
 
     /// Returns the bytes between the header and the padding.
     pub fn value(&self) -> &'a [u8]
-        ensures { result.now ≡ (attribute_of self.now).value }
+        ensures { result.now ≡ (buffered_attribute self.now).value }
     {
         self.value
     }
@@ -114,9 +114,9 @@ impl<'a> NlaBuffer<'a> {
 
 // As the input of a parser, an attribute is its bytes including the padding, which is zeros.
 impl Input for NlaBuffer<'_> {
-    ghost use Rattle.netlink_core.specs.Walk.{attribute_of};
+    ghost use Rattle.netlink_core.specs.Walk.{buffered_attribute};
 
-    ghost input = { λ nla. written (attribute_of nla) };
+    ghost input = { λ nla. attribute_bytes (buffered_attribute nla) };
 }
 
 /// An iterator over consecutive attributes, each of which starts at a multiple of 4.
@@ -132,11 +132,11 @@ pub struct NlasIterator<'a> {
 }
 
 impl<'a> NlasIterator<'a> {
-    ghost use Rattle.netlink_core.specs.Walk.{bytes_left};
+    ghost use Rattle.netlink_core.specs.Walk.{unread_bytes};
 
     /// Returns an iterator over the attributes in the bytes.
     pub fn new(bytes: &'a [u8]) -> NlasIterator<'a>
-        ensures { bytes_left result ≡ bytes.entry.now }
+        ensures { unread_bytes result ≡ bytes.entry.now }
     {
         NlasIterator { bytes, at: 0 }
     }
@@ -145,14 +145,14 @@ impl<'a> NlasIterator<'a> {
 impl<'a> Iterator for NlasIterator<'a> {
     ghost use Rattle.std.specs.Iterator.{at_most, UpTo};
     ghost use Rattle.std.specs.Iterator.SizeHint.{IsWithinCount};
-    ghost use Rattle.netlink_core.specs.Walk.{GivesAttribute, bytes_left};
+    ghost use Rattle.netlink_core.specs.Walk.{YieldsAttribute, unread_bytes};
 
     type Item = Result<NlaBuffer<'a>, DecodeError>;
 
-    ghost next_gives = { GivesAttribute };
+    ghost next_gives = { YieldsAttribute };
 
     // At most one item for each four bytes, rounded up.
-    ghost remaining = { λ walk. at_most ((length (bytes_left walk) + 3) / 4) };
+    ghost remaining = { λ walk. at_most ((length (unread_bytes walk) + 3) / 4) };
 
     fn next(&mut self) -> Option<Result<NlaBuffer<'a>, DecodeError>> {
         if self.at >= self.bytes.len() {
@@ -172,8 +172,10 @@ impl<'a> Iterator for NlasIterator<'a> {
 
     /// Returns `(0, None)`: the number of items is known only after iterating.
     fn size_hint(&self) -> (usize, Option<usize>)
-        ensures lower { IsWithinCount result.0 (at_most ((length (bytes_left self.now) + 3) / 4)) }
-        ensures upper { IfSome result.1 (UpTo (at_most ((length (bytes_left self.now) + 3) / 4))) }
+        ensures lower { IsWithinCount result.0
+            (at_most ((length (unread_bytes self.now) + 3) / 4)) }
+        ensures upper { IfSome result.1
+            (UpTo (at_most ((length (unread_bytes self.now) + 3) / 4))) }
         ensures unknown { result ≡ (0, None) }
     {
         (0, None)
@@ -183,7 +185,7 @@ impl<'a> Iterator for NlasIterator<'a> {
 /// Returns the length rounded up to a multiple of 4.
 pub fn padded(length: usize) -> usize
     requires { length < 2 ^ 32 }
-    ensures { result ≡ length + fill length }
+    ensures { result ≡ length + padding_length length }
 {
     (length + 3) / 4 * 4
 }

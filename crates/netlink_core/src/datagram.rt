@@ -20,11 +20,11 @@ pub struct FramedMessages<'a> {
 }
 
 impl<'a> FramedMessages<'a> {
-    ghost use Rattle.netlink_core.specs.DatagramWalk.{framed_left};
+    ghost use Rattle.netlink_core.specs.DatagramWalk.{unread_messages};
 
     /// Returns an iterator over the messages of this datagram.
     pub fn new(datagram: &'a [u8]) -> FramedMessages<'a>
-        ensures { framed_left result ≡ datagram.entry.now }
+        ensures { unread_messages result ≡ datagram.entry.now }
     {
         FramedMessages {
             bytes: datagram,
@@ -37,14 +37,14 @@ impl<'a> Iterator for FramedMessages<'a> {
     ghost use Rattle.std.specs.Prelude.{◌+◌, ◌/◌, length, IfSome, None};
     ghost use Rattle.std.specs.Iterator.{at_most, UpTo};
     ghost use Rattle.std.specs.Iterator.SizeHint.{IsWithinCount};
-    ghost use Rattle.netlink_core.specs.DatagramWalk.{GivesFramed, framed_left};
+    ghost use Rattle.netlink_core.specs.DatagramWalk.{YieldsFramedMessage, unread_messages};
 
     type Item = Result<(NetlinkHeader, &'a [u8]), DecodeError>;
 
-    ghost next_gives = { GivesFramed };
+    ghost next_gives = { YieldsFramedMessage };
 
     // At most one item for each sixteen bytes, rounded up.
-    ghost remaining = { λ messages. at_most ((length (framed_left messages) + 15) / 16) };
+    ghost remaining = { λ messages. at_most ((length (unread_messages messages) + 15) / 16) };
 
     /// Returns the next message. If the bytes that are left do not start with one, the errors are
     /// those of [`NetlinkHeader::from_prefix`].
@@ -70,9 +70,9 @@ impl<'a> Iterator for FramedMessages<'a> {
     /// Returns no bounds: only iterating shows how many messages are left.
     fn size_hint(&self) -> (usize, Option<usize>)
         ensures lower { IsWithinCount result.0
-            (at_most ((length (framed_left self.now) + 15) / 16)) }
+            (at_most ((length (unread_messages self.now) + 15) / 16)) }
         ensures upper { IfSome result.1
-            (UpTo (at_most ((length (framed_left self.now) + 15) / 16))) }
+            (UpTo (at_most ((length (unread_messages self.now) + 15) / 16))) }
         ensures unknown { result ≡ (0, None) }
     {
         (0, None)
@@ -90,11 +90,11 @@ pub struct MessageStrings<'a> {
 }
 
 impl<'a> MessageStrings<'a> {
-    ghost use Rattle.netlink_core.specs.DatagramWalk.{datagram_left};
+    ghost use Rattle.netlink_core.specs.DatagramWalk.{unread_datagram};
 
     /// Returns an iterator over the messages of this datagram.
     pub fn new(datagram: &'a [u8]) -> MessageStrings<'a>
-        ensures { datagram_left result ≡ datagram.entry.now }
+        ensures { unread_datagram result ≡ datagram.entry.now }
     {
         MessageStrings {
             messages: FramedMessages::new(datagram),
@@ -106,14 +106,14 @@ impl<'a> Iterator for MessageStrings<'a> {
     ghost use Rattle.std.specs.Prelude.{◌+◌, ◌/◌, length, IfSome, None};
     ghost use Rattle.std.specs.Iterator.{at_most, UpTo};
     ghost use Rattle.std.specs.Iterator.SizeHint.{IsWithinCount};
-    ghost use Rattle.netlink_core.specs.DatagramWalk.{GivesMessage, datagram_left};
+    ghost use Rattle.netlink_core.specs.DatagramWalk.{YieldsMessage, unread_datagram};
 
     type Item = Result<&'a [u8], DecodeError>;
 
-    ghost next_gives = { GivesMessage };
+    ghost next_gives = { YieldsMessage };
 
     // At most one item for each sixteen bytes, rounded up.
-    ghost remaining = { λ messages. at_most ((length (datagram_left messages) + 15) / 16) };
+    ghost remaining = { λ messages. at_most ((length (unread_datagram messages) + 15) / 16) };
 
     /// Returns the bytes of the next message. If the bytes that are left do not start with one, the
     /// errors are those of [`NetlinkHeader::from_prefix`].
@@ -128,9 +128,9 @@ impl<'a> Iterator for MessageStrings<'a> {
     /// Returns no bounds: only iterating shows how many messages are left.
     fn size_hint(&self) -> (usize, Option<usize>)
         ensures lower { IsWithinCount result.0
-            (at_most ((length (datagram_left self.now) + 15) / 16)) }
+            (at_most ((length (unread_datagram self.now) + 15) / 16)) }
         ensures upper { IfSome result.1
-            (UpTo (at_most ((length (datagram_left self.now) + 15) / 16))) }
+            (UpTo (at_most ((length (unread_datagram self.now) + 15) / 16))) }
         ensures unknown { result ≡ (0, None) }
     {
         (0, None)

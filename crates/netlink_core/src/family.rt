@@ -1,10 +1,9 @@
 //! Attributes in replies of one address family, borrowed and owned.
 
 ghost use Rattle.std.specs.Prelude.{◌≡◌, ◌↔◌, Ok, Err, IfOk, IfErr, IsOk, IsTrue};
-ghost use Rattle.netlink_core.specs.AttributeSet.{AttributeSet, AttributeValue, decodes, encodes};
-ghost use Rattle.netlink_core.specs.AttributeSet.{IsSpareBy};
-ghost use Rattle.netlink_core.specs.AttributeSet.{IsInRangeBy};
-ghost use Rattle.netlink_core.specs.Walk.{attribute_of};
+ghost use Rattle.netlink_core.specs.AttributeSet.{AttributeSet, AttributeValue, decode_attribute};
+ghost use Rattle.netlink_core.specs.AttributeSet.{encode_attribute, NeedsNoMemoryIn, IsInRangeIn};
+ghost use Rattle.netlink_core.specs.Walk.{buffered_attribute};
 
 use crate::attribute::NlaBuffer;
 use crate::fault::DecodeError;
@@ -21,17 +20,19 @@ pub trait FamilyView<'a>: Nla + PartialEq + Sized {
 
     /// Parses one attribute.
     fn read_view(nla: &NlaBuffer<'a>) -> Result<Self, DecodeError>
-        ensures value { IfOk result (λ view. decodes attribute_set (attribute_of nla.now)
+        ensures value { IfOk result (λ view. decode_attribute attribute_set
+            (buffered_attribute nla.now)
             ≡ Ok (model view)) }
-        ensures fault { IfErr result (λ e. decodes attribute_set (attribute_of nla.now) ≡ Err e) };
+        ensures fault { IfErr result (λ e. decode_attribute attribute_set
+            (buffered_attribute nla.now) ≡ Err e) };
 
     /// Parses one attribute that is known to be accepted.
     fn read_accepted(nla: &NlaBuffer<'a>) -> Self
-        requires { IsOk (decodes attribute_set (attribute_of nla.now)) }
-        ensures { decodes attribute_set (attribute_of nla.now) ≡ Ok (model result) };
+        requires { IsOk (decode_attribute attribute_set (buffered_attribute nla.now)) }
+        ensures { decode_attribute attribute_set (buffered_attribute nla.now) ≡ Ok (model result) };
 
     // An attribute serializes as what it decodes to.
-    ghost written_as: { (view : Self) → Self.Nla.attribute view ≡ encodes attribute_set
+    ghost written_as: { (view : Self) → Self.Nla.attribute view ≡ encode_attribute attribute_set
         (model view) };
 }
 
@@ -49,25 +50,26 @@ pub trait FamilyNla: Nla + PartialEq + MadeWith<Global> + Drop + Sized {
     /// Parses an attribute that is known to be accepted. Fails only if an allocation fails, and
     /// never for a value that needs no memory.
     fn own_accepted(alloc: Global, nla: &NlaBuffer<'_>) -> Result<Self, AllocError>
-        requires { IsOk (decodes attribute_set (attribute_of nla.now)) }
+        requires { IsOk (decode_attribute attribute_set (buffered_attribute nla.now)) }
         ensures equal { IfOk result (λ own.
-            decodes attribute_set (attribute_of nla.now) ≡ Ok (model own)) }
+            decode_attribute attribute_set (buffered_attribute nla.now) ≡ Ok (model own)) }
         ensures spare { (value : AttributeValue attribute_set)
-            → decodes attribute_set (attribute_of nla.now) ≡ Ok value
-            → IsSpareBy attribute_set value → IsOk result };
+            → decode_attribute attribute_set (buffered_attribute nla.now) ≡ Ok value
+            → NeedsNoMemoryIn attribute_set value → IsOk result };
 
     /// Returns an equal attribute. Fails only if an allocation fails, and never for a value that
     /// needs no memory.
     fn copy_nla(&self, alloc: Global) -> Result<Self, AllocError>
         ensures equal { IfOk result (λ copy. model copy ≡ model self.now) }
-        ensures spare { IsSpareBy attribute_set (model self.now) → IsOk result };
+        ensures spare { NeedsNoMemoryIn attribute_set (model self.now) → IsOk result };
 
     /// Proof only: puts the range of each number in scope. No run-time effect.
     fn value_in_range(&self)
-        ensures { IsInRangeBy attribute_set (model self.now) };
+        ensures { IsInRangeIn attribute_set (model self.now) };
 
     // An attribute serializes as what it decodes to, and `==` compares what it decodes to.
-    ghost written_as: { (nla : Self) → Self.Nla.attribute nla ≡ encodes attribute_set (model nla) };
+    ghost written_as: { (nla : Self)
+        → Self.Nla.attribute nla ≡ encode_attribute attribute_set (model nla) };
 
     ghost eq_is_model: { (v w : Self) → IsTrue (Self.PartialEq.eq v w) ↔ (model v ≡ model w) };
 }

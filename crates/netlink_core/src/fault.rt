@@ -1,7 +1,7 @@
 //! Decode errors: why bytes are rejected. Lengths and offsets are in bytes.
 
 ghost use Rattle.std.specs.Prelude.{◌≡◌};
-ghost use Rattle.netlink_core.specs.Faults.{number_of, with_attribute_type};
+ghost use Rattle.netlink_core.specs.Faults.{error_code, with_missing_kind};
 ghost use Rattle.netlink_core.specs.declared.fault.DecodeError.TheVariants.{Memory};
 
 use std::alloc::{AllocError, AllocFailed};
@@ -145,7 +145,7 @@ pub enum DecodeError {
 impl DecodeError {
     /// Returns the error code, from 1 to 18.
     pub fn number(&self) -> u8
-        ensures { result ≡ number_of self.now }
+        ensures { result ≡ error_code self.now }
     {
         match self {
             DecodeError::Memory => 1,
@@ -171,7 +171,7 @@ impl DecodeError {
 
     /// Returns the same error. If it is a `WrongLength` without a kind, it gets this kind.
     pub fn with_kind(self, kind: u16) -> Self
-        ensures { result ≡ with_attribute_type kind self }
+        ensures { result ≡ with_missing_kind kind self }
     {
         match self {
             DecodeError::WrongLength {

@@ -2,7 +2,7 @@
 
 ghost use Rattle.std.specs.Prelude.{◌≡◌, ◌≤◌, ◌+◌, ◌*◌, ℕ, length};
 ghost use Rattle.netlink_core.specs.Table.{bytes_at, network, number, array, values_of};
-ghost use Rattle.netlink_core.specs.Table.{Fit};
+ghost use Rattle.netlink_core.specs.Table.{FitFields};
 
 use byteorder::{BigEndian, ByteOrder, LittleEndian};
 
@@ -48,14 +48,14 @@ pub fn big_shorts_at<const N: usize>(bytes: &[u8], offset: usize) -> [u16; N]
 
 /// Proof only: puts the range of each number in scope, for fields at any offset. No run-time
 /// effect.
-#[tactic(auto, using(crate::proofs::FieldReads::fit_numbers))]
+#[tactic(auto, using(crate::proofs::FieldReads::numbers_fit_array))]
 pub fn words_in_range(_words: &[u32])
-    ensures { (offset : ℕ) → Fit (array number offset 4 (length _words.now)) _words.now }
+    ensures { (offset : ℕ) → FitFields (array number offset 4 (length _words.now)) _words.now }
 {}
 
 /// Proof only: puts the range of each number in scope, for fields at any offset. No run-time
 /// effect.
-#[tactic(auto, using(crate::proofs::FieldReads::fit_numbers))]
+#[tactic(auto, using(crate::proofs::FieldReads::numbers_fit_array))]
 pub fn long_words_in_range(_words: &[u64])
-    ensures { (offset : ℕ) → Fit (array number offset 8 (length _words.now)) _words.now }
+    ensures { (offset : ℕ) → FitFields (array number offset 8 (length _words.now)) _words.now }
 {}

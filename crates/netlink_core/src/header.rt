@@ -1,9 +1,9 @@
 //! The header of a netlink message.
 
 ghost use Rattle.std.specs.Prelude.{◌≡◌, length, MatchResult};
-ghost use Rattle.netlink_core.specs.Header.{HasHeader, IsEnvelopeFault, header_fields};
+ghost use Rattle.netlink_core.specs.Header.{HasHeader, IsMessageError, header_fields};
 ghost use Rattle.netlink_core.specs.Header.{header_bytes, header_values};
-ghost use Rattle.netlink_core.specs.Table.{Fit};
+ghost use Rattle.netlink_core.specs.Table.{FitFields};
 
 use crate::fault::DecodeError;
 use byteorder::{ByteOrder, LittleEndian};
@@ -38,7 +38,7 @@ impl NetlinkHeader {
     /// bytes.
     #[inline(always)]
     pub fn from_prefix(bytes: &[u8]) -> Result<Self, DecodeError>
-        ensures { MatchResult result (HasHeader bytes.now) (IsEnvelopeFault bytes.now) }
+        ensures { MatchResult result (HasHeader bytes.now) (IsMessageError bytes.now) }
     {
         let got = bytes.len();
         if got < NETLINK_HEADER_LEN {
@@ -62,7 +62,7 @@ impl NetlinkHeader {
 
     /// Proof only: puts the range of each field in scope. No run-time effect.
     pub fn in_range(&self)
-        ensures { Fit header_fields (header_values self.now) }
+        ensures { FitFields header_fields (header_values self.now) }
     {
         let NetlinkHeader {
             length: _length,

@@ -7,24 +7,26 @@ ghost use Rattle.std.specs.Prelude.{false, vec_items};
 ghost use Rattle.std.specs.Borrow.{Bor};
 ghost use Rattle.std.specs.Iterator.{Drains, YieldsThen};
 ghost use Rattle.std.specs.List.{AllByRecursion, flat_map};
-ghost use Rattle.netlink_core.specs.Attribute.{Attribute, HasFittingValue, Cut, CutOff};
-ghost use Rattle.netlink_core.specs.Attribute.{IsFramingFault, fill, unpadded, written};
-ghost use Rattle.netlink_core.specs.AttributeSet.{AttributeValue, ValueAt, content};
-ghost use Rattle.netlink_core.specs.AttributeSet.{numbers, of_type};
-ghost use Rattle.netlink_core.specs.Layout.{read, StandsIn};
+ghost use Rattle.netlink_core.specs.Attribute.{Attribute, FitsLengthField, SplitsIntoAttributes};
+ghost use Rattle.netlink_core.specs.Attribute.{SplitsUntilError, IsFramingError, padding_length};
+ghost use Rattle.netlink_core.specs.Attribute.{header_and_value, attribute_bytes};
+ghost use Rattle.netlink_core.specs.AttributeSet.{AttributeValue, ValueOfKind, value_of_kind};
+ghost use Rattle.netlink_core.specs.AttributeSet.{kind_numbers, value_as_decoded};
+ghost use Rattle.netlink_core.specs.Layout.{parse_record, IsContainedIn};
 ghost use Rattle.netlink_core.specs.Bytes.{IsBytes};
-ghost use Rattle.netlink_core.specs.Walk.{attribute_of, bytes_left, GivesAttribute};
-ghost use Rattle.netlink_core.specs.Datagram.{CutIntoMessages};
-ghost use Rattle.netlink_core.specs.DatagramWalk.{datagram_left, GivesMessage};
-ghost use Rattle.netlink_core.specs.Items.{ItemIs, ItemsAre};
-ghost use Rattle.netlink_core.specs.EnvelopeModel.{envelope_of, payload_of};
+ghost use Rattle.netlink_core.specs.Walk.{buffered_attribute, unread_bytes, YieldsAttribute};
+ghost use Rattle.netlink_core.specs.Datagram.{SplitsIntoMessages};
+ghost use Rattle.netlink_core.specs.DatagramWalk.{unread_datagram, YieldsMessage};
+ghost use Rattle.netlink_core.specs.Items.{IsItemOf, AreItemsOf};
+ghost use Rattle.netlink_core.specs.EnvelopeModel.{netlink_message_model, payload_model};
 ghost use Rattle.netlink_core.specs.declared.attribute.NlaBuffer.{NlaBuffer};
 ghost use Rattle.netlink_core.specs.declared.attribute.NlasIterator.{NlasIterator};
 ghost use Rattle.netlink_core.specs.declared.datagram.MessageStrings.{MessageStrings};
 ghost use Rattle.netlink_core.specs.declared.fault.DecodeError.{DecodeError};
 ghost use Rattle.netlink_core.specs.declared.fault.DecodeError.TheVariants.{Memory};
 ghost use Rattle.netlink_core.specs.Canonical.{HasCanonicalForm};
-ghost use Rattle.netlink_core.specs.Envelope.{Payload, Envelope, finalized, envelope_codec};
+ghost use Rattle.netlink_core.specs.Envelope.{Payload, NetlinkMessageModel, finalized_header};
+ghost use Rattle.netlink_core.specs.Envelope.{netlink_codec};
 
 use crate::attribute::{NlaBuffer, NlasIterator};
 use crate::canon::CanonError;
@@ -45,23 +47,24 @@ use crate::{
 };
 use std::alloc::AllocError;
 
-/// Bytes are split into attributes (`Cut`) exactly as follows. Empty bytes have no attributes.
-/// Other bytes begin with the first attribute. Either its padding is complete, and the remaining
-/// bytes are split into the later attributes; or its padding is short, nothing follows, and it is
-/// the last one.
+/// Bytes are split into attributes (`SplitsIntoAttributes`) exactly as follows. Empty bytes have no
+/// attributes. Other bytes begin with the first attribute. Either its padding is complete, and the
+/// remaining bytes are split into the later attributes; or its padding is short, nothing follows,
+/// and it is the last one.
 pub fn cut_is_as_stated()
-    ensures none { (bytes : List ℕ) → Cut bytes [] [] ↔ (bytes ≡ []) }
+    ensures none { (bytes : List ℕ) → SplitsIntoAttributes bytes [] [] ↔ (bytes ≡ []) }
     ensures some { (bytes : List ℕ) (a : Attribute) (later : List Attribute)
-        → Cut bytes (a ∷ later) [] ↔ ((padding rest : List ℕ)
-        × (bytes ≡ unpadded a ++ (padding ++ rest))
-        × ((a.type_word < 2 ^ 16) × HasFittingValue a)
-        × (((length padding ≡ fill (length a.value)) × Cut rest later [])
-        ⊎ ((length padding < fill (length a.value)) × (rest ≡ []) × (later ≡ [])))) }
+        → SplitsIntoAttributes bytes (a ∷ later) [] ↔ ((padding rest : List ℕ)
+        × (bytes ≡ header_and_value a ++ (padding ++ rest))
+        × ((a.type_word < 2 ^ 16) × FitsLengthField a)
+        × (((length padding ≡ padding_length (length a.value)) × SplitsIntoAttributes rest later [])
+        ⊎ ((length padding < padding_length (length a.value)) × (rest ≡ []) × (later ≡ [])))) }
 {}
 
 /// Bytes are split into at most one list of attributes.
 pub fn one_list_of_attributes()
-    ensures { (bytes : List ℕ) (xs ys : List Attribute) → Cut bytes xs [] → Cut bytes ys []
+    ensures { (bytes : List ℕ) (xs ys : List Attribute) → SplitsIntoAttributes bytes xs []
+        → SplitsIntoAttributes bytes ys []
         → xs ≡ ys }
 {}
 
@@ -69,16 +72,17 @@ pub fn one_list_of_attributes()
 /// each type field has 16 bits and each value fits its length field.
 pub fn written_attributes_are_cut()
     ensures { (xs : List Attribute) → AllByRecursion
-        (λ (a : Attribute). (a.type_word < 2 ^ 16) × HasFittingValue a) xs
-        → (rest : List ℕ) → Cut (flat_map written xs ++ rest) xs rest }
+        (λ (a : Attribute). (a.type_word < 2 ^ 16) × FitsLengthField a) xs
+        → (rest : List ℕ) → SplitsIntoAttributes (flat_map attribute_bytes xs ++ rest) xs rest }
 {}
 
-/// Bytes parse as a value if and only if they contain it (`StandsIn`): they are long enough, they
-/// have the tag and the numbers of the value, and the value is in range and in normal form. A
+/// Bytes parse as a value if and only if they contain it (`IsContainedIn`): they are long enough,
+/// they have the tag and the numbers of the value, and the value is in range and in normal form. A
 /// record is parsed as no other value.
 pub fn read_where_it_stands<T: Record>()
     ensures { (bytes : List ℕ) (param : T.Param) (value : T) → IsBytes bytes
-        → (read T.layout param bytes ≡ Ok value) ↔ StandsIn T.layout bytes param value }
+        → (parse_record T.layout param bytes ≡ Ok value)
+        ↔ IsContainedIn T.layout bytes param value }
 {}
 
 /// Returns whether parsing a record can fail with `Memory`: it cannot.
@@ -98,12 +102,13 @@ pub fn attributes_take_memory() -> bool
 /// For any set of attribute types, the value of a type is found under the number of its type, and
 /// under no other number. Nothing is found under a number that no type has.
 pub fn content_is_of_its_type<T: FamilyNla>()
-    ensures own { (k : ℕ) (x : ValueAt T.attribute_set k) → Contains (numbers T.attribute_set) k
-        → content T.attribute_set k (of_type T.attribute_set k x) ≡ Some x }
-    ensures other { (k j : ℕ) (x : ValueAt T.attribute_set k) → j ≢ k
-        → content T.attribute_set j (of_type T.attribute_set k x) ≡ None }
+    ensures own { (k : ℕ) (x : ValueOfKind T.attribute_set k)
+        → Contains (kind_numbers T.attribute_set) k
+        → value_of_kind T.attribute_set k (value_as_decoded T.attribute_set k x) ≡ Some x }
+    ensures other { (k j : ℕ) (x : ValueOfKind T.attribute_set k) → j ≢ k
+        → value_of_kind T.attribute_set j (value_as_decoded T.attribute_set k x) ≡ None }
     ensures none { (k : ℕ) (v : AttributeValue T.attribute_set)
-        → ¬ Contains (numbers T.attribute_set) k → content T.attribute_set k v ≡ None }
+        → ¬ Contains (kind_numbers T.attribute_set) k → value_of_kind T.attribute_set k v ≡ None }
 {}
 
 /// If the iterator ends without an error, it has yielded the attributes that the bytes are split
@@ -111,12 +116,12 @@ pub fn content_is_of_its_type<T: FamilyNla>()
 /// left.
 pub fn whole_walk_is_the_cut()
     ensures ended { (walk : NlasIterator) (given : List NlaBuffer)
-        → Drains GivesAttribute walk (map (λ (b : NlaBuffer). Ok b) given)
-        → Cut (bytes_left walk) (map attribute_of given) [] }
+        → Drains YieldsAttribute walk (map (λ (b : NlaBuffer). Ok b) given)
+        → SplitsIntoAttributes (unread_bytes walk) (map buffered_attribute given) [] }
     ensures fault { (walk last : NlasIterator) (given : List NlaBuffer) (e : DecodeError)
-        → YieldsThen GivesAttribute walk (map (λ (b : NlaBuffer). Ok b) given) (Some (Err e)) last
-        → CutOff IsFramingFault (bytes_left walk) (map attribute_of given) e
-        × (bytes_left last ≡ []) }
+        → YieldsThen YieldsAttribute walk (map (λ (b : NlaBuffer). Ok b) given) (Some (Err e)) last
+        → SplitsUntilError IsFramingError (unread_bytes walk) (map buffered_attribute given) e
+        × (unread_bytes last ≡ []) }
 {}
 
 /// Returns `v == w`, which is true if and only if the two values are the same.
@@ -167,7 +172,8 @@ pub fn copies_are_the_same<T: Exact>(v: &T) -> Result<T, AllocError>
 /// Returns `v == w`, which is true if and only if the headers and the models of the payloads are
 /// equal.
 pub fn equal_messages<I: Coded>(v: &NetlinkMessage<I>, w: &NetlinkMessage<I>) -> bool
-    ensures { IsTrue result ↔ (envelope_of I.model v.now ≡ envelope_of I.model w.now) }
+    ensures { IsTrue result ↔ (netlink_message_model I.model v.now
+        ≡ netlink_message_model I.model w.now) }
 {
     v == w
 }
@@ -175,7 +181,7 @@ pub fn equal_messages<I: Coded>(v: &NetlinkMessage<I>, w: &NetlinkMessage<I>) ->
 /// Returns `v == w`, which is true if and only if the models of the payloads are equal.
 pub fn equal_payloads<I: Coded>(v: &NetlinkPayload<I>, w: &NetlinkPayload<I>) -> bool
     ensures { IsTrue result
-        ↔ (payload_of vec_items I.model v.now ≡ payload_of vec_items I.model w.now) }
+        ↔ (payload_model vec_items I.model v.now ≡ payload_model vec_items I.model w.now) }
 {
     v == w
 }
@@ -183,7 +189,7 @@ pub fn equal_payloads<I: Coded>(v: &NetlinkPayload<I>, w: &NetlinkPayload<I>) ->
 /// Returns `v == w`, which is true if and only if the type fields and the values are equal.
 #[tactic(auto, using(crate::proofs::ValueTests::attribute_test_decides))]
 pub fn equal_buffers(v: &NlaBuffer<'_>, w: &NlaBuffer<'_>) -> bool
-    ensures { IsTrue result ↔ (attribute_of v.now ≡ attribute_of w.now) }
+    ensures { IsTrue result ↔ (buffered_attribute v.now ≡ buffered_attribute w.now) }
 {
     v == w
 }
@@ -191,7 +197,7 @@ pub fn equal_buffers(v: &NlaBuffer<'_>, w: &NlaBuffer<'_>) -> bool
 /// Returns a clone. Cloning a borrowed attribute succeeds, and the clone is the same attribute.
 pub fn copied_buffer<'a>(buffer: &NlaBuffer<'a>) -> Result<NlaBuffer<'a>, AllocError>
     ensures ok { IsOk result }
-    ensures same { IfOk result (λ copy. attribute_of copy ≡ attribute_of buffer.now) }
+    ensures same { IfOk result (λ copy. buffered_attribute copy ≡ buffered_attribute buffer.now) }
 {
     buffer.clone()
 }
@@ -199,7 +205,7 @@ pub fn copied_buffer<'a>(buffer: &NlaBuffer<'a>) -> Result<NlaBuffer<'a>, AllocE
 /// Returns a clone. Cloning an iterator over attributes succeeds, and the same bytes are left.
 pub fn copied_walk<'a>(walk: &NlasIterator<'a>) -> Result<NlasIterator<'a>, AllocError>
     ensures ok { IsOk result }
-    ensures same { IfOk result (λ copy. bytes_left copy ≡ bytes_left walk.now) }
+    ensures same { IfOk result (λ copy. unread_bytes copy ≡ unread_bytes walk.now) }
 {
     walk.clone()
 }
@@ -207,7 +213,7 @@ pub fn copied_walk<'a>(walk: &NlasIterator<'a>) -> Result<NlasIterator<'a>, Allo
 /// Returns a clone. Cloning an iterator over messages succeeds, and the same bytes are left.
 pub fn copied_messages<'a>(walk: &MessageStrings<'a>) -> Result<MessageStrings<'a>, AllocError>
     ensures ok { IsOk result }
-    ensures same { IfOk result (λ copy. datagram_left copy ≡ datagram_left walk.now) }
+    ensures same { IfOk result (λ copy. unread_datagram copy ≡ unread_datagram walk.now) }
 {
     walk.clone()
 }
@@ -228,42 +234,42 @@ pub fn default_header() -> NetlinkHeader
 /// Bytes start with one message or have one error, not both. The error is never `Memory`.
 pub fn one_message_or_fault<I: Coded<Param = u16>>()
     ensures answered { (b : List ℕ) → IsBytes b
-        → ((v : Envelope I.codec.Value) × (envelope_codec I.codec).reads b tt v)
-        ⊎ ((e : DecodeError) × (envelope_codec I.codec).refuses b tt e) }
-    ensures one_value { (b : List ℕ) (v w : Envelope I.codec.Value) → IsBytes b
-        → (envelope_codec I.codec).reads b tt v → (envelope_codec I.codec).reads b tt w → v ≡ w }
-    ensures one_answer { (b : List ℕ) (v : Envelope I.codec.Value) (e : DecodeError)
-        → (envelope_codec I.codec).reads b tt v → (envelope_codec I.codec).refuses b tt e → ⊥ }
+        → ((v : NetlinkMessageModel I.codec.Value) × (netlink_codec I.codec).reads b tt v)
+        ⊎ ((e : DecodeError) × (netlink_codec I.codec).refuses b tt e) }
+    ensures one_value { (b : List ℕ) (v w : NetlinkMessageModel I.codec.Value) → IsBytes b
+        → (netlink_codec I.codec).reads b tt v → (netlink_codec I.codec).reads b tt w → v ≡ w }
+    ensures one_answer { (b : List ℕ) (v : NetlinkMessageModel I.codec.Value) (e : DecodeError)
+        → (netlink_codec I.codec).reads b tt v → (netlink_codec I.codec).refuses b tt e → ⊥ }
     ensures one_fault { (b : List ℕ) (e f : DecodeError)
-        → (envelope_codec I.codec).refuses b tt e → (envelope_codec I.codec).refuses b tt f
+        → (netlink_codec I.codec).refuses b tt e → (netlink_codec I.codec).refuses b tt f
         → e ≡ f }
-    ensures named_fault { (b : List ℕ) → (envelope_codec I.codec).refuses b tt Memory → ⊥ }
+    ensures named_fault { (b : List ℕ) → (netlink_codec I.codec).refuses b tt Memory → ⊥ }
 {}
 
 /// Two accepted inputs have equal messages if and only if they are equivalent (`idle`).
 pub fn equal_messages_where_idle<I: Coded<Param = u16>>()
-    ensures { (b c : List ℕ) (v w : Envelope I.codec.Value) → IsBytes b → IsBytes c
-        → (envelope_codec I.codec).reads b tt v → (envelope_codec I.codec).reads c tt w
-        → ((v ≡ w) ↔ (envelope_codec I.codec).idle tt b c) }
+    ensures { (b c : List ℕ) (v w : NetlinkMessageModel I.codec.Value) → IsBytes b → IsBytes c
+        → (netlink_codec I.codec).reads b tt v → (netlink_codec I.codec).reads c tt w
+        → ((v ≡ w) ↔ (netlink_codec I.codec).idle tt b c) }
 {}
 
 /// Two inputs with canonical forms have the same one if and only if they are equivalent (`idle`).
 /// The canonical form of a message has its header unchanged.
 pub fn messages_written_alike<I: Coded<Param = u16>>()
     ensures { (b c form other : List ℕ) → IsBytes b → IsBytes c
-        → HasCanonicalForm (envelope_codec I.codec) tt b form
-        → HasCanonicalForm (envelope_codec I.codec) tt c other
-        → ((form ≡ other) ↔ (envelope_codec I.codec).idle tt b c) }
+        → HasCanonicalForm (netlink_codec I.codec) tt b form
+        → HasCanonicalForm (netlink_codec I.codec) tt c other
+        → ((form ≡ other) ↔ (netlink_codec I.codec).idle tt b c) }
 {}
 
 /// A writable message whose header has the length and the type that `finalize` sets round-trips if
 /// and only if it is in normal form.
 pub fn finalized_message_reads_back<I: Coded<Param = u16>>()
-    ensures { (type_of : I.codec.Value → ℕ) (v : Envelope I.codec.Value)
-        → (envelope_codec I.codec).is_in_range v → (envelope_codec I.codec).fits v
-        → (v.header ≡ finalized I.codec.written type_of v)
-        → ((envelope_codec I.codec).reads ((envelope_codec I.codec).written v) tt v
-        ↔ (envelope_codec I.codec).is_normal tt v) }
+    ensures { (type_of : I.codec.Value → ℕ) (v : NetlinkMessageModel I.codec.Value)
+        → (netlink_codec I.codec).is_in_range v → (netlink_codec I.codec).fits v
+        → (v.header ≡ finalized_header I.codec.written type_of v)
+        → ((netlink_codec I.codec).reads ((netlink_codec I.codec).written v) tt v
+        ↔ (netlink_codec I.codec).is_normal tt v) }
 {}
 
 /// If the iterator ends without an error, it has yielded the messages that the datagram is split
@@ -271,32 +277,34 @@ pub fn finalized_message_reads_back<I: Coded<Param = u16>>()
 /// left.
 pub fn whole_walk_is_the_datagram()
     ensures ended { (walk : MessageStrings) (given : List (Bor (List ℕ)))
-        → Drains GivesMessage walk (map (λ (m : Bor (List ℕ)). Ok m) given)
-        → CutIntoMessages (datagram_left walk) (map (λ (m : Bor (List ℕ)). m.now) given) None }
+        → Drains YieldsMessage walk (map (λ (m : Bor (List ℕ)). Ok m) given)
+        → SplitsIntoMessages (unread_datagram walk) (map (λ (m : Bor (List ℕ)). m.now) given) None }
     ensures fault { (walk last : MessageStrings) (given : List (Bor (List ℕ))) (e : DecodeError)
-        → YieldsThen GivesMessage walk (map (λ (m : Bor (List ℕ)). Ok m) given) (Some (Err e)) last
-        → CutIntoMessages (datagram_left walk) (map (λ (m : Bor (List ℕ)). m.now) given) (Some e)
-        × (datagram_left last ≡ []) }
+        → YieldsThen YieldsMessage walk (map (λ (m : Bor (List ℕ)). Ok m) given) (Some (Err e)) last
+        → SplitsIntoMessages (unread_datagram walk) (map (λ (m : Bor (List ℕ)). m.now) given)
+        (Some e)
+        × (unread_datagram last ≡ []) }
 {}
 
 /// A datagram is split into at most one list of messages, with at most one end.
 pub fn one_list_of_messages()
     ensures { (bytes : List ℕ) (xs ys : List (List ℕ)) (e f : Option DecodeError)
-        → CutIntoMessages bytes xs e → CutIntoMessages bytes ys f → (xs ≡ ys) × (e ≡ f) }
+        → SplitsIntoMessages bytes xs e → SplitsIntoMessages bytes ys f → (xs ≡ ys) × (e ≡ f) }
 {}
 
 /// Each datagram has a list of items.
 pub fn datagram_has_items<I: Coded<Param = u16>>()
     ensures { (bytes : List ℕ) → IsBytes bytes
         → (items : List (Result (Payload I.codec.Value) DecodeError))
-        × ItemsAre (ItemIs I.codec) bytes items }
+        × AreItemsOf (IsItemOf I.codec) bytes items }
 {}
 
 /// Each datagram has at most one list of items.
 pub fn one_list_of_items<I: Coded<Param = u16>>()
     ensures { (bytes : List ℕ) → IsBytes bytes
         → (xs ys : List (Result (Payload I.codec.Value) DecodeError))
-        → ItemsAre (ItemIs I.codec) bytes xs → ItemsAre (ItemIs I.codec) bytes ys → xs ≡ ys }
+        → AreItemsOf (IsItemOf I.codec) bytes xs → AreItemsOf (IsItemOf I.codec) bytes ys
+        → xs ≡ ys }
 {
     one_message_or_fault::<I>();
 }
@@ -306,9 +314,9 @@ pub fn one_list_of_items<I: Coded<Param = u16>>()
 pub fn items_of_concatenation<I: Coded<Param = u16>>()
     ensures { (front back : List ℕ) (messages : List (List ℕ))
         (xs ys : List (Result (Payload I.codec.Value) DecodeError))
-        → CutIntoMessages front messages None × (length front % 4 ≡ 0)
-        → ItemsAre (ItemIs I.codec) front xs → ItemsAre (ItemIs I.codec) back ys
-        → ItemsAre (ItemIs I.codec) (front ++ back) (xs ++ ys) }
+        → SplitsIntoMessages front messages None × (length front % 4 ≡ 0)
+        → AreItemsOf (IsItemOf I.codec) front xs → AreItemsOf (IsItemOf I.codec) back ys
+        → AreItemsOf (IsItemOf I.codec) (front ++ back) (xs ++ ys) }
 {}
 
 /// The constants have the numbers of netlink(7).

@@ -6,10 +6,11 @@ ghost use Rattle.std.specs.Borrow.{Bor};
 ghost use Rattle.netlink_core.specs.Bytes.{HoldsAtStart};
 ghost use Rattle.netlink_core.specs.declared.fault.DecodeError.TheVariants.{Memory};
 ghost use Rattle.netlink_core.specs.Header.{message_type_in};
-ghost use Rattle.netlink_core.specs.Envelope.{Payload, Envelope, leading_number, error_number_of};
-ghost use Rattle.netlink_core.specs.Envelope.{PayloadIs, IsInnerType, payload_bytes, payload_type};
-ghost use Rattle.netlink_core.specs.Envelope.{OfInner, finalized, envelope_codec};
-ghost use Rattle.netlink_core.specs.EnvelopeModel.{payload_of, envelope_of};
+ghost use Rattle.netlink_core.specs.Envelope.{Payload, NetlinkMessageModel, leading_error_number};
+ghost use Rattle.netlink_core.specs.Envelope.{error_number_of, ParsesAsPayload, IsInnerMessageType};
+ghost use Rattle.netlink_core.specs.Envelope.{payload_bytes, payload_type, HoldsOfInnerMessage};
+ghost use Rattle.netlink_core.specs.Envelope.{finalized_header, netlink_codec};
+ghost use Rattle.netlink_core.specs.EnvelopeModel.{payload_model, netlink_message_model};
 
 use crate::fault::DecodeError;
 use crate::header::{NETLINK_HEADER_LEN, NetlinkHeader};
@@ -142,7 +143,7 @@ impl<I: Copy, B: Copy> Clone for NetlinkPayload<I, B> {
 /// an acknowledgement or a complete dump, else `-errno` (errno(3)). It has 4 bytes and is
 /// little-endian. Returns `None` if the payload is shorter.
 pub fn error_number(payload: &[u8]) -> Option<i32>
-    ensures { result ≡ leading_number payload.now }
+    ensures { result ≡ leading_error_number payload.now }
 {
     if payload.len() < 4 {
         return None;
@@ -154,7 +155,7 @@ impl<I: Coded> NetlinkPayload<I> {
     /// Returns the error number of an error or of the end of a dump, as [`error_number`] does, and
     /// `None` for any other payload.
     pub fn error_number(&self) -> Option<i32>
-        ensures { result ≡ error_number_of (payload_of vec_items I.model self.now) }
+        ensures { result ≡ error_number_of (payload_model vec_items I.model self.now) }
     {
         match self {
             NetlinkPayload::Done(bytes) | NetlinkPayload::Error(bytes) => error_number(bytes),
@@ -167,7 +168,7 @@ impl<I> NetlinkPayload<I, &[u8]> {
     /// Returns the error number of an error or of the end of a dump, as [`error_number`] does, and
     /// `None` for any other payload.
     pub fn error_number(&self) -> Option<i32>
-        ensures { result ≡ error_number_of (payload_of (λ (b : Bor (List ℕ)). b.now) (λ m. m)
+        ensures { result ≡ error_number_of (payload_model (λ (b : Bor (List ℕ)). b.now) (λ m. m)
             self.now) }
     {
         match self {
@@ -181,7 +182,7 @@ impl<I: NetlinkSerializable> NetlinkPayload<I> {
     /// Returns the message type for the header: `NLMSG_DONE`, `NLMSG_ERROR`, `NLMSG_NOOP`,
     /// `NLMSG_OVERRUN`, or the type of the inner message.
     pub fn message_type(&self) -> u16
-        ensures { result ≡ payload_type I.type_written (payload_of vec_items I.model self.now) }
+        ensures { result ≡ payload_type I.type_written (payload_model vec_items I.model self.now) }
     {
         match self {
             NetlinkPayload::Done(_) => NLMSG_DONE,
@@ -194,7 +195,8 @@ impl<I: NetlinkSerializable> NetlinkPayload<I> {
 
     // Returns whether the inner message, if any, is writable.
     fn is_writable(&self) -> bool
-        ensures { IsTrue result ↔ OfInner I.codec.fits (payload_of vec_items I.model self.now) }
+        ensures { IsTrue result ↔ HoldsOfInnerMessage I.codec.fits
+            (payload_model vec_items I.model self.now) }
     {
         match self {
             NetlinkPayload::InnerMessage(message) => message.is_writable(),
@@ -204,9 +206,9 @@ impl<I: NetlinkSerializable> NetlinkPayload<I> {
 
     // Returns the number of bytes that `serialize` writes.
     fn buffer_len(&self) -> usize
-        requires { OfInner I.codec.fits (payload_of vec_items I.model self.now) }
+        requires { HoldsOfInnerMessage I.codec.fits (payload_model vec_items I.model self.now) }
         ensures { result
-            ≡ length (payload_bytes I.codec.written (payload_of vec_items I.model self.now)) }
+            ≡ length (payload_bytes I.codec.written (payload_model vec_items I.model self.now)) }
     {
         match self {
             NetlinkPayload::Done(bytes)
@@ -219,12 +221,13 @@ impl<I: NetlinkSerializable> NetlinkPayload<I> {
 
     // Serializes the payload to the start of the buffer. The bytes after it are unchanged.
     fn serialize(&self, buffer: &mut [u8])
-        requires writable { OfInner I.codec.fits (payload_of vec_items I.model self.now) }
+        requires writable { HoldsOfInnerMessage I.codec.fits
+            (payload_model vec_items I.model self.now) }
         requires room { length
-            (payload_bytes I.codec.written (payload_of vec_items I.model self.now))
+            (payload_bytes I.codec.written (payload_model vec_items I.model self.now))
             ≤ length buffer.old }
         ensures { HoldsAtStart (payload_bytes I.codec.written
-            (payload_of vec_items I.model self.now)) buffer.old buffer.new }
+            (payload_model vec_items I.model self.now)) buffer.old buffer.new }
     {
         match self {
             NetlinkPayload::Done(bytes)
@@ -239,14 +242,15 @@ impl<I: NetlinkSerializable> NetlinkPayload<I> {
 impl<I: NetlinkDeserializable> NetlinkPayload<I> {
     // Parses the payload under the header's type. An `NLMSG_NOOP` never allocates.
     fn read(alloc: Global, header: &NetlinkHeader, bytes: &[u8]) -> Result<Self, DecodeError>
-        ensures value { IfOk result (λ p. PayloadIs I.codec.reads bytes.now header.now.message_type
-            (payload_of vec_items I.model p)) }
+        ensures value { IfOk result (λ p. ParsesAsPayload I.codec.reads bytes.now
+            header.now.message_type
+            (payload_model vec_items I.model p)) }
         ensures fault { IfErr result (λ e. e ≢ Memory
-            → IsInnerType header.now.message_type
+            → IsInnerMessageType header.now.message_type
             × I.codec.refuses bytes.now header.now.message_type e) }
         ensures memory { IfErr result (λ e. header.now.message_type ≢ 1) }
         ensures wanted { IfErr result (λ e. e ≡ Memory → (p : Payload I.codec.Value)
-            × PayloadIs I.codec.reads bytes.now header.now.message_type p) }
+            × ParsesAsPayload I.codec.reads bytes.now header.now.message_type p) }
     {
         Ok(match header.message_type {
             NLMSG_NOOP => NetlinkPayload::Noop,
@@ -291,7 +295,7 @@ impl<I: Coded<Param = u16>> NetlinkMessage<I> {
     /// Proof only: puts the range of each number in scope, so that the laws of messages apply. No
     /// run-time effect.
     pub fn in_range(&self)
-        ensures { (envelope_codec I.codec).is_in_range (envelope_of I.model self.now) }
+        ensures { (netlink_codec I.codec).is_in_range (netlink_message_model I.model self.now) }
     {
         self.header.in_range();
         if let NetlinkPayload::InnerMessage(message) = &self.payload {
@@ -311,13 +315,13 @@ impl<I: NetlinkDeserializable> NetlinkMessage<I> {
         // The bytes start with this header, and the payload up to the header's length parses by its
         // type.
         ensures value { IfOk result
-            (λ m. (envelope_codec I.codec).reads bytes.now tt (envelope_of I.model m)) }
+            (λ m. (netlink_codec I.codec).reads bytes.now tt (netlink_message_model I.model m)) }
         ensures fault { IfErr result (λ e. e ≢ Memory
-            → (envelope_codec I.codec).refuses bytes.now tt e) }
+            → (netlink_codec I.codec).refuses bytes.now tt e) }
         ensures memory { IfErr result (λ e. e ≡ Memory → message_type_in bytes.now ≢ NLMSG_NOOP) }
         // `Memory` only if the bytes have a message.
-        ensures wanted { IfErr result (λ e. e ≡ Memory → (m : Envelope I.codec.Value)
-            × (envelope_codec I.codec).reads bytes.now tt m) }
+        ensures wanted { IfErr result (λ e. e ≡ Memory → (m : NetlinkMessageModel I.codec.Value)
+            × (netlink_codec I.codec).reads bytes.now tt m) }
     {
         let header = NetlinkHeader::from_prefix(bytes)?;
         let payload = &bytes[NETLINK_HEADER_LEN..header.length as usize];
@@ -329,9 +333,9 @@ impl<I: NetlinkDeserializable> NetlinkMessage<I> {
 impl<I: NetlinkSerializable> NetlinkMessage<I> {
     /// Sets the header's length to the length of the message, and its type to the payload's type.
     pub fn finalize(&mut self)
-        requires { (envelope_codec I.codec).fits (envelope_of I.model self.old) }
-        ensures header { self.new.header ≡ finalized I.codec.written I.type_written
-            (envelope_of I.model self.old) }
+        requires { (netlink_codec I.codec).fits (netlink_message_model I.model self.old) }
+        ensures header { self.new.header ≡ finalized_header I.codec.written I.type_written
+            (netlink_message_model I.model self.old) }
         ensures payload { self.new.payload ≡ self.old.payload }
     {
         self.header.length = self.buffer_len() as u32;
@@ -341,16 +345,17 @@ impl<I: NetlinkSerializable> NetlinkMessage<I> {
     /// Returns whether the message is writable: its inner message is, and the whole has at most
     /// 4,294,967,295 bytes, including the 16 bytes of the header.
     pub fn is_writable(&self) -> bool
-        ensures { IsTrue result ↔ (envelope_codec I.codec).fits (envelope_of I.model self.now) }
+        ensures { IsTrue result ↔ (netlink_codec I.codec).fits
+            (netlink_message_model I.model self.now) }
     {
         self.payload.is_writable() && self.payload.buffer_len() <= LONGEST - NETLINK_HEADER_LEN
     }
 
     /// Returns the number of bytes that `serialize` writes.
     pub fn buffer_len(&self) -> usize
-        requires { (envelope_codec I.codec).fits (envelope_of I.model self.now) }
-        ensures { result ≡ length ((envelope_codec I.codec).written
-            (envelope_of I.model self.now)) }
+        requires { (netlink_codec I.codec).fits (netlink_message_model I.model self.now) }
+        ensures { result ≡ length ((netlink_codec I.codec).written
+            (netlink_message_model I.model self.now)) }
     {
         NETLINK_HEADER_LEN + self.payload.buffer_len()
     }
@@ -358,11 +363,12 @@ impl<I: NetlinkSerializable> NetlinkMessage<I> {
     /// Serializes the header, unchanged, and the payload to the start of the buffer. The bytes
     /// after them are unchanged.
     pub fn serialize(&self, buffer: &mut [u8])
-        requires writable { (envelope_codec I.codec).fits (envelope_of I.model self.now) }
-        requires room { length ((envelope_codec I.codec).written (envelope_of I.model self.now))
+        requires writable { (netlink_codec I.codec).fits (netlink_message_model I.model self.now) }
+        requires room { length ((netlink_codec I.codec).written
+            (netlink_message_model I.model self.now))
             ≤ length buffer.old }
-        ensures { HoldsAtStart ((envelope_codec I.codec).written
-            (envelope_of I.model self.now)) buffer.old buffer.new }
+        ensures { HoldsAtStart ((netlink_codec I.codec).written
+            (netlink_message_model I.model self.now)) buffer.old buffer.new }
     {
         let (header, rest) = buffer.split_at_mut(NETLINK_HEADER_LEN);
         self.header.write_fields(header);

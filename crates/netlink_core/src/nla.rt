@@ -5,9 +5,10 @@ ghost use Rattle.std.specs.Prelude.{true, refl, IsTrue, IsOk, IfOk, SomeIff};
 ghost use Rattle.std.specs.List.{flat_map};
 ghost use Rattle.std.proofs.Common.{rules};
 ghost use Rattle.netlink_core.specs.Bytes.{HoldsAtStart};
-ghost use Rattle.netlink_core.specs.Attribute.{Attribute, HasFittingValue, AreWritable, written};
+ghost use Rattle.netlink_core.specs.Attribute.{Attribute, FitsLengthField, AreWritableWithin};
+ghost use Rattle.netlink_core.specs.Attribute.{attribute_bytes};
 ghost use Rattle.netlink_core.specs.FirstAttribute.{first_attribute_codec};
-ghost use Rattle.netlink_core.specs.laws.FirstAttribute.{first_attribute_keeps_laws};
+ghost use Rattle.netlink_core.specs.laws.FirstAttribute.{first_attribute_codec_laws};
 
 use crate::attribute::{MAX_VALUE, NLA_HEADER_SIZE, NlaBuffer, padded};
 use crate::canon::CanonError;
@@ -32,14 +33,14 @@ pub trait Nla {
 
     /// Serializes the value to the start of the buffer. The bytes after it are unchanged.
     fn emit_value(&self, buffer: &mut [u8])
-        requires fits { HasFittingValue (attribute self.now) }
+        requires fits { FitsLengthField (attribute self.now) }
         requires room { length (attribute self.now).value ≤ length buffer.old }
         ensures { HoldsAtStart ((attribute self.now).value) buffer.old buffer.new };
 
     /// Returns whether the value has at most 65,531 bytes, so that its length fits the length
     /// field.
     fn value_fits(&self) -> bool
-        ensures { IsTrue result ↔ HasFittingValue (attribute self.now) }
+        ensures { IsTrue result ↔ FitsLengthField (attribute self.now) }
     {
         self.value_len() <= MAX_VALUE
     }
@@ -48,15 +49,15 @@ pub trait Nla {
 /// A value that is parsed and serialized as one attribute. It is writable if and only if the length
 /// of its value fits the length field.
 pub trait WireNla: Nla + Wire {
-    ghost emitted_is: { (v : Self) → Self.bytes v ≡ written (Self.attribute v) };
+    ghost emitted_is: { (v : Self) → Self.bytes v ≡ attribute_bytes (Self.attribute v) };
 
-    ghost writable_is: { (v : Self) → (Self.writable v ↔ HasFittingValue (Self.attribute v)) };
+    ghost writable_is: { (v : Self) → (Self.writable v ↔ FitsLengthField (Self.attribute v)) };
 }
 
 /// Returns the number of the attribute's bytes, with header and padding.
 pub fn nla_len<T: Nla>(nla: &T) -> usize
-    requires { HasFittingValue (T.attribute nla.now) }
-    ensures { result ≡ length (written (T.attribute nla.now)) }
+    requires { FitsLengthField (T.attribute nla.now) }
+    ensures { result ≡ length (attribute_bytes (T.attribute nla.now)) }
 {
     padded(NLA_HEADER_SIZE + nla.value_len())
 }
@@ -64,9 +65,9 @@ pub fn nla_len<T: Nla>(nla: &T) -> usize
 /// Serializes the attribute to the start of the buffer, with zeros as its padding. The bytes after
 /// it are unchanged.
 pub fn emit_nla<T: Nla>(nla: &T, buffer: &mut [u8])
-    requires fits { HasFittingValue (T.attribute nla.now) }
-    requires room { length (written (T.attribute nla.now)) ≤ length buffer.old }
-    ensures { HoldsAtStart (written (T.attribute nla.now)) buffer.old buffer.new }
+    requires fits { FitsLengthField (T.attribute nla.now) }
+    requires room { length (attribute_bytes (T.attribute nla.now)) ≤ length buffer.old }
+    ensures { HoldsAtStart (attribute_bytes (T.attribute nla.now)) buffer.old buffer.new }
 {
     // Both are computed before a byte is written, so that one branch on the kind is enough.
     let len = nla.value_len();
@@ -102,8 +103,8 @@ fn zero_padding(padding: &mut [u8])
 /// Returns the number of the attributes' bytes, with headers and paddings, or `None` if a value
 /// does not fit its length field or the attributes have more than `limit` bytes.
 pub fn nlas_len_within<T: Nla>(nlas: &[T], limit: usize) -> Option<usize>
-    ensures { SomeIff result (AreWritable (map T.attribute nlas.now) limit)
-        (length (flat_map written (map T.attribute nlas.now))) }
+    ensures { SomeIff result (AreWritableWithin (map T.attribute nlas.now) limit)
+        (length (flat_map attribute_bytes (map T.attribute nlas.now))) }
 {
     let mut room = limit;
     for nla in nlas {
@@ -122,15 +123,15 @@ pub fn nlas_len_within<T: Nla>(nlas: &[T], limit: usize) -> Option<usize>
 /// Returns whether each value fits its length field, and all attributes together have at most
 /// 4,294,967,295 bytes.
 pub fn nlas_writable<T: Nla>(nlas: &[T]) -> bool
-    ensures { IsTrue result ↔ AreWritable (map T.attribute nlas.now) 4294967295 }
+    ensures { IsTrue result ↔ AreWritableWithin (map T.attribute nlas.now) 4294967295 }
 {
     nlas_len_within(nlas, u32::MAX as usize).is_some()
 }
 
 /// Returns the number of the attributes' bytes, with headers and paddings.
 pub fn nlas_len<T: Nla>(nlas: &[T]) -> usize
-    requires { AreWritable (map T.attribute nlas.now) 4294967295 }
-    ensures { result ≡ length (flat_map written (map T.attribute nlas.now)) }
+    requires { AreWritableWithin (map T.attribute nlas.now) 4294967295 }
+    ensures { result ≡ length (flat_map attribute_bytes (map T.attribute nlas.now)) }
 {
     let mut len = 0;
     for nla in nlas {
@@ -142,9 +143,11 @@ pub fn nlas_len<T: Nla>(nlas: &[T]) -> usize
 /// Serializes the attributes, in order, to the start of the buffer. The bytes after them are
 /// unchanged.
 pub fn emit_nlas<T: Nla>(nlas: &[T], buffer: &mut [u8])
-    requires fits { AreWritable (map T.attribute nlas.now) 4294967295 }
-    requires room { length (flat_map written (map T.attribute nlas.now)) ≤ length buffer.old }
-    ensures { HoldsAtStart (flat_map written (map T.attribute nlas.now)) buffer.old buffer.new }
+    requires fits { AreWritableWithin (map T.attribute nlas.now) 4294967295 }
+    requires room { length (flat_map attribute_bytes (map T.attribute nlas.now))
+        ≤ length buffer.old }
+    ensures { HoldsAtStart (flat_map attribute_bytes (map T.attribute nlas.now)) buffer.old
+        buffer.new }
 {
     let mut at = 0;
     for nla in nlas {
@@ -162,20 +165,20 @@ pub struct DefaultNla {
 }
 
 impl DefaultNla {
-    ghost use Rattle.netlink_core.specs.DefaultNla.{kept_attribute};
-    ghost use Rattle.netlink_core.specs.Walk.{attribute_of};
+    ghost use Rattle.netlink_core.specs.DefaultNla.{raw_attribute};
+    ghost use Rattle.netlink_core.specs.Walk.{buffered_attribute};
 
     /// Returns the attribute with this type field and this value.
     pub fn new(kind: u16, value: Vec<u8>) -> DefaultNla
-        ensures { kept_attribute result ≡ record { type_word = kind; value = value.items } }
+        ensures { raw_attribute result ≡ record { type_word = kind; value = value.items } }
     {
         DefaultNla { kind, value }
     }
 
     // Copies the attribute. Does not allocate if its value is empty.
     fn keep(alloc: Global, nla: &NlaBuffer<'_>) -> Result<DefaultNla, AllocError>
-        ensures equal { IfOk result (λ kept. kept_attribute kept ≡ attribute_of nla.now) }
-        ensures spare { (attribute_of nla.now).value ≡ [] → IsOk result }
+        ensures equal { IfOk result (λ kept. raw_attribute kept ≡ buffered_attribute nla.now) }
+        ensures spare { (buffered_attribute nla.now).value ≡ [] → IsOk result }
     {
         Ok(DefaultNla {
             kind: nla.type_word(),
@@ -185,14 +188,14 @@ impl DefaultNla {
 
     /// Returns the type field, with its two flag bits.
     pub fn kind(&self) -> u16
-        ensures { result ≡ (kept_attribute self.now).type_word }
+        ensures { result ≡ (raw_attribute self.now).type_word }
     {
         self.kind
     }
 
     /// Returns the bytes of the value.
     pub fn value(&self) -> &[u8]
-        ensures { result.now ≡ (kept_attribute self.now).value }
+        ensures { result.now ≡ (raw_attribute self.now).value }
     {
         self.value.as_slice()
     }
@@ -200,8 +203,8 @@ impl DefaultNla {
     /// Returns an equal attribute. Fails only if an allocation fails; does not allocate if the
     /// value is empty.
     pub fn clone(&self, alloc: Global) -> Result<Self, AllocError>
-        ensures equal { IfOk result (λ copy. kept_attribute copy ≡ kept_attribute self.now) }
-        ensures spare { (kept_attribute self.now).value ≡ [] → IsOk result }
+        ensures equal { IfOk result (λ copy. raw_attribute copy ≡ raw_attribute self.now) }
+        ensures spare { (raw_attribute self.now).value ≡ [] → IsOk result }
     {
         Ok(DefaultNla {
             kind: self.kind,
@@ -230,16 +233,16 @@ impl Readable for DefaultNla {
 }
 
 impl<'a> Parseable<NlaBuffer<'a>> for DefaultNla {
-    #[tactic(auto, using(crate::specs::laws::FirstAttribute::kept_is_read))]
+    #[tactic(auto, using(crate::specs::laws::FirstAttribute::raw_copy_is_parsed))]
     fn parse(alloc: Global, buf: NlaBuffer<'a>) -> Result<Self, DecodeError> {
         Ok(DefaultNla::keep(alloc, &buf)?)
     }
 }
 
 impl Nla for DefaultNla {
-    ghost use Rattle.netlink_core.specs.DefaultNla.{kept_attribute};
+    ghost use Rattle.netlink_core.specs.DefaultNla.{raw_attribute};
 
-    ghost attribute = { kept_attribute };
+    ghost attribute = { raw_attribute };
 
     fn value_len(&self) -> usize {
         self.value.len()
@@ -255,11 +258,11 @@ impl Nla for DefaultNla {
 }
 
 impl Emitable for DefaultNla {
-    ghost use Rattle.netlink_core.specs.DefaultNla.{kept_attribute};
+    ghost use Rattle.netlink_core.specs.DefaultNla.{raw_attribute};
 
-    ghost bytes = { λ v. written (kept_attribute v) };
+    ghost bytes = { λ v. attribute_bytes (raw_attribute v) };
 
-    ghost writable = { λ v. HasFittingValue (kept_attribute v) };
+    ghost writable = { λ v. FitsLengthField (raw_attribute v) };
 
     fn is_writable(&self) -> bool {
         self.value_fits()
@@ -275,14 +278,14 @@ impl Emitable for DefaultNla {
 }
 
 impl Coded for DefaultNla {
-    ghost use Rattle.netlink_core.specs.DefaultNla.{kept_attribute};
+    ghost use Rattle.netlink_core.specs.DefaultNla.{raw_attribute};
 
     type Param = ();
 
     // The codec for a set without any types, in which each attribute decodes to itself.
     ghost codec = { first_attribute_codec [] };
 
-    ghost model = { kept_attribute };
+    ghost model = { raw_attribute };
 
     ghost type_written = { λ _. 0 };
 
@@ -293,7 +296,7 @@ impl Coded for DefaultNla {
 
     ghost eq_is_model = { Prim.search rules };
 
-    ghost laws = { first_attribute_keeps_laws [] tt };
+    ghost laws = { first_attribute_codec_laws [] tt };
 }
 
 impl Wire for DefaultNla {

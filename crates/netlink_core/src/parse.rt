@@ -4,7 +4,7 @@ ghost use Rattle.std.specs.Prelude.{◌≡◌, ◌≢◌, ◌≤◌, ◌++◌, l
 ghost use Rattle.std.specs.Prelude.{IfOk, IfErr};
 ghost use Rattle.byteorder.specs.Endian.{little_bytes};
 ghost use Rattle.netlink_core.specs.declared.fault.DecodeError.TheVariants.{Memory};
-ghost use Rattle.netlink_core.specs.Parse.{exact_number, without_end_zero, text_in};
+ghost use Rattle.netlink_core.specs.Parse.{number_of_width, without_terminating_nul, parse_text};
 
 use crate::fault::DecodeError;
 use byteorder::{ByteOrder, LittleEndian};
@@ -13,7 +13,7 @@ use std::str;
 
 /// Parses a number of exactly one byte. Any other length is `WrongLength` without a kind.
 pub fn parse_u8(payload: &[u8]) -> Result<u8, DecodeError>
-    ensures { result ≡ exact_number None 1 payload.now }
+    ensures { result ≡ number_of_width None 1 payload.now }
 {
     match payload {
         [byte] => Ok(*byte),
@@ -24,7 +24,7 @@ pub fn parse_u8(payload: &[u8]) -> Result<u8, DecodeError>
 /// Parses a little-endian number of exactly four bytes. Any other length is `WrongLength` without a
 /// kind.
 pub fn parse_u32(payload: &[u8]) -> Result<u32, DecodeError>
-    ensures { result ≡ exact_number None 4 payload.now }
+    ensures { result ≡ number_of_width None 4 payload.now }
 {
     if payload.len() != 4 {
         return Err(wrong_length(payload, 4));
@@ -47,20 +47,20 @@ fn wrong_length(payload: &[u8], need: usize) -> DecodeError
 ///
 /// Fails with `NotUtf8` if this is not valid UTF-8, and with `Memory` only if the bytes are a text.
 pub fn parse_string(alloc: Global, payload: &[u8]) -> Result<String, DecodeError>
-    ensures value { IfOk result (λ text. text_in payload.now ≡ Ok (string_bytes text)) }
-    ensures fault { IfErr result (λ e. e ≢ Memory → text_in payload.now ≡ Err e) }
-    ensures memory { IfErr result (λ e. e ≡ Memory → IsOk (text_in payload.now)) }
+    ensures value { IfOk result (λ text. parse_text payload.now ≡ Ok (string_bytes text)) }
+    ensures fault { IfErr result (λ e. e ≢ Memory → parse_text payload.now ≡ Err e) }
+    ensures memory { IfErr result (λ e. e ≡ Memory → IsOk (parse_text payload.now)) }
 {
     Ok(String::from_str(alloc, parse_str(payload)?)?)
 }
 
 /// Returns the text in the bytes, borrowed, without one terminating NUL if there is one. Fails with
 /// `NotUtf8` if this is not valid UTF-8.
-#[tactic(auto, using(crate::proofs::Texts::text_there, crate::proofs::Texts::no_text))]
+#[tactic(auto, using(crate::proofs::Texts::valid_utf8_is_text, crate::proofs::Texts::invalid_utf8_is_no_text))]
 #[inline(always)]
 pub fn parse_str(payload: &[u8]) -> Result<&str, DecodeError>
-    ensures value { IfOk result (λ text. text_in payload.entry.now ≡ Ok text.now) }
-    ensures fault { IfErr result (λ e. text_in payload.entry.now ≡ Err e) }
+    ensures value { IfOk result (λ text. parse_text payload.entry.now ≡ Ok text.now) }
+    ensures fault { IfErr result (λ e. parse_text payload.entry.now ≡ Err e) }
 {
     match str::from_utf8(text_bytes(payload)) {
         Ok(text) => Ok(text),
@@ -70,7 +70,7 @@ pub fn parse_str(payload: &[u8]) -> Result<&str, DecodeError>
 
 // Returns the bytes without one terminating NUL, if there is one.
 fn text_bytes(payload: &[u8]) -> &[u8]
-    ensures { result.now ≡ without_end_zero payload.entry.now }
+    ensures { result.now ≡ without_terminating_nul payload.entry.now }
 {
     match payload.split_last() {
         Some((last, text)) => if *last == 0 { text } else { payload },

@@ -2,7 +2,8 @@
 
 ghost use Rattle.std.specs.Prelude.{◌≡◌, ◌≢◌, ◌≤◌, IfErr, ℕ, List, length, take, SomeIff, false, ⊤};
 ghost use Rattle.std.specs.Prelude.{refl};
-ghost use Rattle.netlink_core.specs.Layout.{Layout, read, read_fields, bytes, IsInRange};
+ghost use Rattle.netlink_core.specs.Layout.{Layout, parse_record, parse_fields, record_bytes};
+ghost use Rattle.netlink_core.specs.Layout.{IsInRange};
 ghost use Rattle.netlink_core.specs.declared.fault.DecodeError.TheVariants.{Memory};
 ghost use Rattle.netlink_core.specs.Codec.{record_codec, RecordLaws};
 
@@ -31,17 +32,17 @@ pub trait Record: Exact + Sized {
 
     /// Returns the number of the value's bytes.
     fn size(&self) -> usize
-        ensures { result ≡ length (bytes layout self.now) };
+        ensures { result ≡ length (record_bytes layout self.now) };
 
     /// Parses a value from enough bytes, or returns the first decode error.
     fn from_fields(bytes: &[u8], param: Self::Param) -> Result<Self, DecodeError>
         requires { layout.least ≤ length bytes.now }
-        ensures { result ≡ read_fields layout param bytes.now };
+        ensures { result ≡ parse_fields layout param bytes.now };
 
     /// Serializes the value over any bytes.
     fn write_fields(&self, buffer: &mut [u8])
-        requires { length buffer.old ≡ length (bytes layout self.now) }
-        ensures { buffer.new ≡ bytes layout self.now };
+        requires { length buffer.old ≡ length (record_bytes layout self.now) }
+        ensures { buffer.new ≡ record_bytes layout self.now };
 
     /// Proof only: puts the range of each field in scope. No run-time effect.
     fn fields_in_range(&self)
@@ -54,7 +55,7 @@ pub trait Record: Exact + Sized {
 /// Parses the record at the start of the bytes.
 #[inline(always)]
 pub fn read_record<T: Record>(bytes: &[u8], param: T::Param) -> Result<T, DecodeError>
-    ensures value { result ≡ read T.layout param bytes.now }
+    ensures value { result ≡ parse_record T.layout param bytes.now }
     ensures named { IfErr result (λ fault. fault ≢ Memory) }
 {
     let (which, need) = T::name_and_least();
@@ -84,7 +85,7 @@ impl<'a, T: Record<Param = u8>> ParseableParametrized<&'a [u8], u8> for T {
 }
 
 impl<T: Record> Emitable for T {
-    ghost bytes = { bytes T.layout };
+    ghost bytes = { record_bytes T.layout };
 
     ghost writable = { λ _. ⊤ };
 
@@ -143,7 +144,7 @@ impl<T: Record> Wire for T {
 pub trait Fills<const N: usize>: Record {
     // Each value serializes to `N` bytes, and is parsed from at least `N`.
     ghost fills: { (Self.layout.least ≡ N)
-        × ((value : Self) → length (bytes Self.layout value) ≡ N) };
+        × ((value : Self) → length (record_bytes Self.layout value) ≡ N) };
 }
 
 /// The bytes of a record, unchanged, including those that no parser reads.
@@ -195,7 +196,7 @@ impl<T, const N: usize> RecordBuffer<T, N> {
 }
 
 impl<T: Fills<N>, const N: usize> From<&T> for RecordBuffer<T, N> {
-    ghost from_gives = { λ value buffer. buffer ≡ bytes T.layout value.now };
+    ghost from_gives = { λ value buffer. buffer ≡ record_bytes T.layout value.now };
 
     fn from(value: &T) -> Self {
         let mut bytes = [0; N];

@@ -3,8 +3,9 @@
 ghost use Rattle.std.specs.Prelude.{◌≡◌, ◌≢◌, ◌<◌, ◌^◌, ◌↔◌, ℕ, List, IfOk, IfErr, IsTrue, refl};
 ghost use Rattle.std.proofs.Common.{sym, ap, ◌∙◌, subst};
 ghost use Rattle.netlink_core.specs.Bytes.{IsBytes};
-ghost use Rattle.netlink_core.specs.Canonical.{GivesUp, HasCanonicalForm, HasNoCanonicalForm};
-ghost use Rattle.netlink_core.specs.Codec.{Codec, KeepsLaws};
+ghost use Rattle.netlink_core.specs.Canonical.{CanonicalFails, HasCanonicalForm};
+ghost use Rattle.netlink_core.specs.Canonical.{HasNoCanonicalForm};
+ghost use Rattle.netlink_core.specs.Codec.{Codec, KeepsCodecLaws};
 ghost use Rattle.netlink_core.specs.declared.fault.DecodeError.TheVariants.{Memory};
 
 use crate::{CanonError, DecodeError, Emitable, ReadParam, Readable};
@@ -41,7 +42,7 @@ pub trait Coded: PartialEq + Sized {
 
     // The codec laws. For example, bytes have one value or one error, equivalent (`idle`) bytes
     // have equal values, and writable values in normal form round-trip.
-    ghost laws: { KeepsLaws codec };
+    ghost laws: { KeepsCodecLaws codec };
 
     // The rest follows from these laws, for every type.
     // On accepted bytes, equivalence is reflexive, symmetric and transitive.
@@ -148,7 +149,7 @@ pub trait Wire: Coded + Readable + Emitable {
 /// with `Memory` only if it is.
 pub fn write_new<T: Emitable>(alloc: Global, value: &T) -> Result<Vec<u8>, CanonError>
     ensures written { IfOk result (λ c. T.writable value.now × (c.items ≡ T.bytes value.now)) }
-    ensures err { IfErr result (GivesUp (λ v. v ≡ value.now) (λ fault. ⊥) T.writable) }
+    ensures err { IfErr result (CanonicalFails (λ v. v ≡ value.now) (λ fault. ⊥) T.writable) }
 {
     let Some(len) = value.writable_len() else {
         return Err(CanonError::Unwritable);

@@ -5,30 +5,32 @@ use Rattle.std.specs.Option.{option_to_list}
 use Rattle.std.specs.Prelude.{Option, option_map, Some, None, Result, Ok, Err}
 use Rattle.std.specs.List.{AllZip}
 use Rattle.std.proofs.lemmas.List.{append-nil, map-append}
-use Rattle.netlink_core.specs.Codec.{Codec, KeepsLaws}
-use Rattle.netlink_core.specs.Datagram.{CutIntoMessages}
+use Rattle.netlink_core.specs.Codec.{Codec, KeepsCodecLaws}
+use Rattle.netlink_core.specs.Datagram.{SplitsIntoMessages}
 use Rattle.netlink_core.specs.declared.fault.DecodeError.{DecodeError}
 use Rattle.netlink_core.specs.declared.message.NetlinkPayload.TheVariants.{InnerMessage, Noop}
-use Rattle.netlink_core.specs.Header.{IsEnvelopeFault}
-use Rattle.netlink_core.specs.Items.{Item, ItemIs}
-use Rattle.netlink_core.proofs.Items.{items_by, one_list_by}
-use Rattle.netlink_packet_sock_diag.specs.Dump.{DatagramsDump, Standing}
-use Rattle.netlink_packet_sock_diag.specs.Lossy.{EntryIs}
-use Rattle.netlink_packet_sock_diag.specs.laws.Kept.{as_entry, is_entry, one_entry, keeps_entries}
+use Rattle.netlink_core.specs.Header.{IsMessageError}
+use Rattle.netlink_core.specs.Items.{Item, IsItemOf}
+use Rattle.netlink_core.proofs.Items.{items_by_messages, one_list_by}
+use Rattle.netlink_packet_sock_diag.specs.Dump.{DumpOfDatagrams, DumpStatus}
+use Rattle.netlink_packet_sock_diag.specs.Lossy.{HasLossyEntry}
+use Rattle.netlink_packet_sock_diag.specs.laws.Kept.{entry_of_item, is_entry, one_entry}
+use Rattle.netlink_packet_sock_diag.specs.laws.Kept.{entries_determine_items}
 use Rattle.netlink_packet_sock_diag.proofs.DumpRows.{OneList, SomeItems, dump_is, dump_of_one}
 use Rattle.netlink_packet_sock_diag.proofs.DumpRows.{one_item_of, reach}
 
 -- the error of the bytes after the messages of a datagram, if there is one
-abbrev last : {A : Type 0} → Option DecodeError → List (Item A)
-last end = option_to_list (option_map Err end)
+abbrev error_after_messages : {A : Type 0} → Option DecodeError → List (Item A)
+error_after_messages end = option_to_list (option_map Err end)
 
 module _ {A : Type 0} where
   abbrev entries_of : List A → List (Result A DecodeError)
   entries_of vs = map (λ v. Ok v) vs
 
   reach_entries : (items : List (Item A)) (end : Option DecodeError) (before after : List A)
-      (s : Standing) → reach before (items ++ last end) ≡ (after, Ok s)
-      → reach (entries_of before) (map as_entry items ++ last end) ≡ (entries_of after, Ok s)
+      (s : DumpStatus) → reach before (items ++ error_after_messages end) ≡ (after, Ok s)
+      → reach (entries_of before) (map entry_of_item items ++ error_after_messages end)
+      ≡ (entries_of after, Ok s)
   reach_entries (Ok (InnerMessage v) ∷ items) end before after s e =
       grind (arith, map-append, reach_entries items end (before ++ v ∷ []) after s e)
   reach_entries (Ok Noop ∷ items) end before after s e =
@@ -37,9 +39,9 @@ module _ {A : Type 0} where
 
 module _ (C : Codec ℕ) where
   zip_entries : (bytes : List ℕ) (messages : List (List ℕ)) (end : Option DecodeError)
-      → CutIntoMessages bytes messages end → (carried : List (Item C.Value))
-      → AllZip (ItemIs C) messages carried
-      → AllZip (EntryIs C) messages (map as_entry carried)
+      → SplitsIntoMessages bytes messages end → (carried : List (Item C.Value))
+      → AllZip (IsItemOf C) messages carried
+      → AllZip (HasLossyEntry C) messages (map entry_of_item carried)
   zip_entries bytes [] end cut [] each = tt
   zip_entries bytes (m ∷ messages) end cut (x ∷ xs) each =
       grind (
@@ -50,19 +52,20 @@ module _ (C : Codec ℕ) where
   zip_entries bytes messages end cut carried each = grind arith
 
   -- the entries for a datagram whose dump ends without an error
-  pub lossy_keeps : (datagram : List ℕ) (before after : List C.Value) (s : Standing)
-      → DatagramsDump (ItemIs C) before (datagram ∷ []) after (Ok s)
-      → DatagramsDump (EntryIs C) (map (λ v. Ok v) before) (datagram ∷ []) (map (λ v. Ok v) after)
+  pub lossy_entries_of_dump : (datagram : List ℕ) (before after : List C.Value) (s : DumpStatus)
+      → DumpOfDatagrams (IsItemOf C) before (datagram ∷ []) after (Ok s)
+      → DumpOfDatagrams (HasLossyEntry C) (map (λ v. Ok v) before) (datagram ∷ [])
+      (map (λ v. Ok v) after)
       (Ok s)
-  lossy_keeps datagram before after s dump =
-      let one = (dump_of_one (ItemIs C) before datagram after (Ok s)).1 dump in
+  lossy_entries_of_dump datagram before after s dump =
+      let one = (dump_of_one (IsItemOf C) before datagram after (Ok s)).1 dump in
       let are = one.1 in
-      let entries = map as_entry are.2 ++ last are.1 in
+      let entries = map entry_of_item are.2 ++ error_after_messages are.1 in
       let went = (dump_is before after one.0 (Ok s)).0 one.2 in
       let told = zip_entries datagram are.0 are.1 are.3 are.2 are.4 in
-      (dump_of_one (EntryIs C) (entries_of before) datagram (entries_of after) (Ok s)).0 (
+      (dump_of_one (HasLossyEntry C) (entries_of before) datagram (entries_of after) (Ok s)).0 (
         entries,
-        (are.0, are.1, map as_entry are.2, are.3, told, refl),
+        (are.0, are.1, map entry_of_item are.2, are.3, told, refl),
         (dump_is (entries_of before) (entries_of after) entries (Ok s)).1
             (reach_entries are.2 are.1 before after s (rw are.5 at went)),
       )
@@ -70,35 +73,36 @@ module _ (C : Codec ℕ) where
   -- ---- the errors
 
   -- an error that ends a `LossyDump` is the error of bytes that are not a message
-  fault_in : (bytes : List ℕ) (messages : List (List ℕ)) (end : Option DecodeError)
-      (carried : List (Item (Result C.Value DecodeError))) → CutIntoMessages bytes messages end
-      → AllZip (EntryIs C) messages carried
+  error_of_rest_in : (bytes : List ℕ) (messages : List (List ℕ)) (end : Option DecodeError)
+      (carried : List (Item (Result C.Value DecodeError))) → SplitsIntoMessages bytes messages end
+      → AllZip (HasLossyEntry C) messages carried
       → (before after : List (Result C.Value DecodeError)) (e : DecodeError)
-      → reach before (carried ++ last end) ≡ (after, Err e)
-      → (rest : List ℕ) × IsEnvelopeFault rest e
-  fault_in bytes [] None [] cut each before after e went = grind arith
-  fault_in bytes [] (Some f) [] cut each before after e went =
+      → reach before (carried ++ error_after_messages end) ≡ (after, Err e)
+      → (rest : List ℕ) × IsMessageError rest e
+  error_of_rest_in bytes [] None [] cut each before after e went = grind arith
+  error_of_rest_in bytes [] (Some f) [] cut each before after e went =
       let same : f ≡ e = grind arith in (bytes, rw same at cut.1)
-  fault_in bytes (m ∷ messages) end (Ok (InnerMessage v) ∷ xs) cut each before after e went =
-      fault_in cut.0 messages end xs cut.2 each.1 _ after e went
-  fault_in bytes (m ∷ messages) end (Ok Noop ∷ xs) cut each before after e went =
-      fault_in cut.0 messages end xs cut.2 each.1 _ after e went
-  fault_in bytes messages end carried cut each before after e went = grind arith
+  error_of_rest_in bytes (m ∷ messages) end (Ok (InnerMessage v) ∷ xs) cut each before after e
+      went =
+      error_of_rest_in cut.0 messages end xs cut.2 each.1 _ after e went
+  error_of_rest_in bytes (m ∷ messages) end (Ok Noop ∷ xs) cut each before after e went =
+      error_of_rest_in cut.0 messages end xs cut.2 each.1 _ after e went
+  error_of_rest_in bytes messages end carried cut each before after e went = grind arith
 
-  pub lossy_faults : (datagram : List ℕ) (before after : List (Result C.Value DecodeError))
-      (e : DecodeError) → DatagramsDump (EntryIs C) before (datagram ∷ []) after (Err e)
-      → (rest : List ℕ) × IsEnvelopeFault rest e
-  lossy_faults datagram before after e dump =
-      let one = (dump_of_one (EntryIs C) before datagram after (Err e)).1 dump in
+  pub lossy_dump_error : (datagram : List ℕ) (before after : List (Result C.Value DecodeError))
+      (e : DecodeError) → DumpOfDatagrams (HasLossyEntry C) before (datagram ∷ []) after (Err e)
+      → (rest : List ℕ) × IsMessageError rest e
+  lossy_dump_error datagram before after e dump =
+      let one = (dump_of_one (HasLossyEntry C) before datagram after (Err e)).1 dump in
       let are = one.1 in
       let went = (dump_is before after one.0 (Err e)).0 one.2 in
-      fault_in datagram are.0 are.1 are.2 are.3 are.4 before after e (rw are.5 at went)
+      error_of_rest_in datagram are.0 are.1 are.2 are.3 are.4 before after e (rw are.5 at went)
 
 -- ---- a datagram has exactly one list of entries
 
-module _ (C : Codec ℕ) (laws : KeepsLaws C) where
-  pub some_entries : SomeItems (EntryIs C)
-  some_entries = items_by (EntryIs C) (keeps_entries C laws).some_item
+module _ (C : Codec ℕ) (laws : KeepsCodecLaws C) where
+  pub some_entries : SomeItems (HasLossyEntry C)
+  some_entries = items_by_messages (HasLossyEntry C) (entries_determine_items C laws).some_item
 
-  pub one_list_of_entries : OneList (EntryIs C)
-  one_list_of_entries = one_list_by (EntryIs C) (one_entry C (one_item_of C laws))
+  pub one_list_of_entries : OneList (HasLossyEntry C)
+  one_list_of_entries = one_list_by (HasLossyEntry C) (one_entry C (one_item_of C laws))

@@ -3,54 +3,58 @@ use Rattle.std.specs.Prelude.{◌≡◌, ◌%◌, length, ℕ, ℤ, List, [], �
 use Rattle.std.specs.Prelude.{None, MatchOption, Result, Ok, Err, slice_get}
 use Rattle.std.specs.List.{AllByRecursion, AllZip, flat_map}
 use Rattle.netlink_core.specs.declared.fault.DecodeError.{DecodeError}
-use Rattle.netlink_core.specs.Datagram.{CutIntoMessages}
+use Rattle.netlink_core.specs.Datagram.{SplitsIntoMessages}
 use Rattle.netlink_core.specs.declared.message.NetlinkPayload.TheVariants as payload
-use Rattle.netlink_core.specs.Envelope.{leading_number}
-use Rattle.netlink_core.specs.Items.{Item, ItemsAre}
+use Rattle.netlink_core.specs.Envelope.{leading_error_number}
+use Rattle.netlink_core.specs.Items.{Item, AreItemsOf}
 use Rattle.netlink_packet_sock_diag.specs.declared.dump.DumpState.{DumpState}
 use Rattle.netlink_packet_sock_diag.specs.declared.dump.DumpState.TheVariants.{Reading, Done, Error}
 use Rattle.netlink_packet_sock_diag.specs.declared.dump.DumpState.TheVariants.{Overrun}
 
 -- the state of a dump, and the error number of the NLMSG_DONE or NLMSG_ERROR that ended it, if it
 -- has one
-abbrev pub Standing : Type 0
-Standing = DumpState × Option ℤ
+abbrev pub DumpStatus : Type 0
+DumpStatus = DumpState × Option ℤ
 
 module _ {A : Type 0} where
   -- the inner message of an item, as a list of one or no message
-  abbrev pub kept : Item A → List A
-  kept (Ok (payload.InnerMessage value)) = value ∷ []
-  kept _ = []
+  abbrev pub inner_message_list : Item A → List A
+  inner_message_list (Ok (payload.InnerMessage value)) = value ∷ []
+  inner_message_list _ = []
 
   -- how an item ends a dump: with a state and an error number, or with a decode error; `None` if
   -- the item is an inner message or NLMSG_NOOP, which do not end a dump
-  abbrev pub end_of : Item A → Option (Result Standing DecodeError)
-  end_of (Ok (payload.Done given)) = Some (Ok (Done, leading_number given))
-  end_of (Ok (payload.Error given)) = Some (Ok (Error, leading_number given))
-  end_of (Ok (payload.Overrun given)) = Some (Ok (Overrun, None))
-  end_of (Err e) = Some (Err e)
-  end_of _ = None
+  abbrev pub dump_end_at : Item A → Option (Result DumpStatus DecodeError)
+  dump_end_at (Ok (payload.Done given)) = Some (Ok (Done, leading_error_number given))
+  dump_end_at (Ok (payload.Error given)) = Some (Ok (Error, leading_error_number given))
+  dump_end_at (Ok (payload.Overrun given)) = Some (Ok (Overrun, None))
+  dump_end_at (Err e) = Some (Err e)
+  dump_end_at _ = None
 
-  -- `Dump before items after end`: a dump with the messages `before` that reads these items has the
-  -- messages `after` and the end `end`. The inner messages up to the first item that ends the dump
-  -- are appended to `before`, and `end` is what `end_of` returns for that item. If no item ends the
-  -- dump, `end` is `Ok (Reading, None)`: the dump is still being read.
-  abbrev pub Dump : List A → List (Item A) → List A → Result Standing DecodeError → Type 0
-  Dump before items after end = (passed later : List (Item A)) × (items ≡ passed ++ later)
-      × AllByRecursion (λ one. end_of one ≡ None) passed × (after ≡ before ++ flat_map kept passed)
-      × MatchOption (slice_get later 0) (end ≡ Ok (Reading, None)) (λ item. end_of item ≡ Some end)
+  -- `DumpOfItems before items after end`: a dump with the messages `before` that reads these items
+  -- has the messages `after` and the end `end`. The inner messages up to the first item that ends
+  -- the dump are appended to `before`, and `end` is what `dump_end_at` returns for that item. If no
+  -- item ends the dump, `end` is `Ok (Reading, None)`: the dump is still being read.
+  abbrev pub DumpOfItems : List A → List (Item A) → List A → Result DumpStatus DecodeError → Type 0
+  DumpOfItems before items after end = (passed later : List (Item A)) × (items ≡ passed ++ later)
+      × AllByRecursion (λ one. dump_end_at one ≡ None) passed
+      × (after ≡ before ++ flat_map inner_message_list passed)
+      × MatchOption (slice_get later 0) (end ≡ Ok (Reading, None))
+      (λ item. dump_end_at item ≡ Some end)
 
-  -- `DatagramsDump is before datagrams after end`: each datagram has its list of items (`ItemsAre
-  -- is`, where `is` relates a message to its item), and the concatenation of these lists takes a
-  -- dump from the messages `before` to the messages `after`, with the end `end`
-  abbrev pub DatagramsDump : (List ℕ → Item A → Type 0) → List A → List (List ℕ) → List A
-      → Result Standing DecodeError → Type 0
-  DatagramsDump is before datagrams after end = (items : List (List (Item A)))
-      × AllZip (ItemsAre is) datagrams items × Dump before (flat_map (λ one. one) items) after end
+  -- `DumpOfDatagrams is before datagrams after end`: each datagram has its list of items
+  -- (`AreItemsOf is`, where `is` relates a message to its item), and the concatenation of these
+  -- lists takes a dump from the messages `before` to the messages `after`, with the end `end`
+  abbrev pub DumpOfDatagrams : (List ℕ → Item A → Type 0) → List A → List (List ℕ) → List A
+      → Result DumpStatus DecodeError → Type 0
+  DumpOfDatagrams is before datagrams after end = (items : List (List (Item A)))
+      × AllZip (AreItemsOf is) datagrams items
+      × DumpOfItems before (flat_map (λ one. one) items) after end
 
 -- each datagram except the last consists of complete messages with all their padding: it splits
 -- into messages without an error, and its length is a multiple of 4
-abbrev pub AreSplit : List (List ℕ) → Type 0
-AreSplit [] = ⊤
-AreSplit (datagram ∷ later) = ((later ≡ []) ⊎ ((messages : List (List ℕ))
-    × CutIntoMessages datagram messages None × (length datagram % 4 ≡ 0))) × AreSplit later
+abbrev pub AreCompleteExceptLast : List (List ℕ) → Type 0
+AreCompleteExceptLast [] = ⊤
+AreCompleteExceptLast (datagram ∷ later) = ((later ≡ []) ⊎ ((messages : List (List ℕ))
+    × SplitsIntoMessages datagram messages None × (length datagram % 4 ≡ 0)))
+    × AreCompleteExceptLast later

@@ -12,8 +12,9 @@ use Rattle.netlink_packet_sock_diag.specs.Message.{Message}
 use Rattle.netlink_packet_sock_diag.specs.MessageModel.{message_model}
 
 -- the progress of a reader, with the model of each value that it keeps
-abbrev pub progress : {I A : Type 0} {G : Ghosts I} → (I → A) → FedDump I G → DumpProgress A
-progress model dump = dump_with (map model dump.kept.items) dump.standing dump.interrupted
+abbrev pub fed_dump_progress : {I A : Type 0} {G : Ghosts I} → (I → A) → FedDump I G
+    → DumpProgress A
+fed_dump_progress model dump = dump_with (map model dump.kept.items) dump.standing dump.interrupted
 
 -- the list of what it keeps has no free slot, so that another entry needs memory
 abbrev pub IsFull : {I : Type 0} {G : Ghosts I} → FedDump I G → Type 0
@@ -21,7 +22,7 @@ IsFull dump = vec_capacity dump.kept ≤ vec_len dump.kept
 
 -- the progress of a `DumpReader`
 abbrev pub reader_progress : DumpReader → DumpProgress Message
-reader_progress reader = progress message_model reader.dump
+reader_progress reader = fed_dump_progress message_model reader.dump
 
 -- the entries of a `LossyDump`: messages, and the decode errors of rejected ones
 abbrev pub lossy_entries : LossyDump → List (Result SockDiagMessage DecodeError)
@@ -29,7 +30,7 @@ lossy_entries lossy = lossy.dump.kept.items
 
 -- the progress of a `LossyDump`
 abbrev pub lossy_progress : LossyDump → DumpProgress (Result Message DecodeError)
-lossy_progress lossy = progress (map_ok message_model) lossy.dump
+lossy_progress lossy = fed_dump_progress (map_ok message_model) lossy.dump
 
 -- the list of entries of a `LossyDump` has no free slot
 abbrev pub EntriesAreFull : LossyDump → Type 0

@@ -2,9 +2,9 @@
 use Rattle.std.specs.Prelude.{◌≡◌, ◌≢◌, ◌⊎◌, ℕ, List, [], Option, Result, Err, MatchOption}
 use Rattle.netlink_core.specs.declared.fault.DecodeError.{DecodeError}
 use Rattle.netlink_core.specs.Datagram.{StartsWithMessage}
-use Rattle.netlink_core.specs.DatagramWalk.{framed_left}
-use Rattle.netlink_core.specs.Header.{IsEnvelopeFault}
-use Rattle.netlink_core.specs.Items.{ItemIs}
+use Rattle.netlink_core.specs.DatagramWalk.{unread_messages}
+use Rattle.netlink_core.specs.Header.{IsMessageError}
+use Rattle.netlink_core.specs.Items.{IsItemOf}
 use Rattle.netlink_packet_sock_diag.specs.declared.dump.views.DumpViews.{DumpViews}
 use Rattle.netlink_packet_sock_diag.specs.PayloadViewModel.{PayloadView}
 use Rattle.netlink_packet_sock_diag.specs.Message.{message_codec}
@@ -12,17 +12,18 @@ use Rattle.netlink_core.specs.Faults.{map_ok}
 use Rattle.netlink_packet_sock_diag.specs.PayloadViewModel.{payload_view_model}
 
 -- the bytes that the iterator has not read yet
-abbrev pub views_left : DumpViews → List ℕ
-views_left views = framed_left views.messages
+abbrev pub unread_views : DumpViews → List ℕ
+unread_views views = unread_messages views.messages
 
 -- A step yields the payload of the first message, or its error, and the bytes after the padding of
 -- the message are left. If the bytes do not start with a message, it yields the error, and no bytes
 -- are left. It yields `None` only if no bytes were left.
-abbrev pub GivesView : DumpViews → Option (Result PayloadView DecodeError) → DumpViews → Type 0
-GivesView old given new =
-    let left = views_left old in
-    let later = views_left new in
+abbrev pub YieldsPayloadView : DumpViews → Option (Result PayloadView DecodeError) → DumpViews
+    → Type 0
+YieldsPayloadView old given new =
+    let left = unread_views old in
+    let later = unread_views new in
     MatchOption given ((left ≡ []) × (later ≡ []))
     (λ item. ((message : List ℕ) × StartsWithMessage left message later
-    × ItemIs message_codec message (map_ok payload_view_model item))
-    ⊎ ((e : DecodeError) × (item ≡ Err e) × (left ≢ []) × IsEnvelopeFault left e × (later ≡ [])))
+    × IsItemOf message_codec message (map_ok payload_view_model item))
+    ⊎ ((e : DecodeError) × (item ≡ Err e) × (left ≢ []) × IsMessageError left e × (later ≡ [])))

@@ -5,7 +5,7 @@ use Rattle.std.specs.List.{FoldsTo}
 use Rattle.netlink_core.specs.Datagram.{StartsWithMessage}
 use Rattle.netlink_core.specs.declared.message.NetlinkPayload.TheVariants.{InnerMessage}
 use Rattle.netlink_core.specs.Header.{HasHeader}
-use Rattle.netlink_core.specs.Items.{Item, ItemsAre}
+use Rattle.netlink_core.specs.Items.{Item, AreItemsOf}
 use Rattle.netlink_core.specs.declared.fault.DecodeError.{DecodeError}
 use Rattle.netlink_core.specs.declared.header.NetlinkHeader.{NetlinkHeader}
 use Rattle.netlink_core.specs.declared.fault.DecodeError.TheVariants.{Memory}
@@ -13,7 +13,7 @@ use Rattle.netlink_packet_sock_diag.specs.declared.dump.DumpState.{DumpState}
 use Rattle.netlink_packet_sock_diag.specs.declared.dump.DumpState.TheVariants.{Failed, Reading}
 use Rattle.netlink_packet_sock_diag.specs.declared.dump.DumpError.{DumpError}
 use Rattle.netlink_packet_sock_diag.specs.declared.dump.DumpError.TheVariants.{Ended, Fault}
-use Rattle.netlink_packet_sock_diag.specs.Dump.{Dump, Standing, end_of}
+use Rattle.netlink_packet_sock_diag.specs.Dump.{DumpOfItems, DumpStatus, dump_end_at}
 
 -- The progress of a reader of dumps: the messages that it keeps, the state, the error number of the
 -- message that ended the dump, and whether a message had the flag NLM_F_DUMP_INTR.
@@ -24,7 +24,7 @@ pub record DumpProgress (A : Type 0) : Type 0 where
   pub is_interrupted : Bool
 
 -- the progress with these messages, this state and error number, and this flag
-abbrev pub dump_with : {A : Type 0} → List A → Standing → Bool → DumpProgress A
+abbrev pub dump_with : {A : Type 0} → List A → DumpStatus → Bool → DumpProgress A
 dump_with messages end is_interrupted = record {
   messages = messages;
   state = end.0;
@@ -37,21 +37,22 @@ abbrev pub new_dump : {A : Type 0} → DumpProgress A
 new_dump = dump_with [] (Reading, None) false
 
 -- the state and the error number
-abbrev pub end_so_far : {A : Type 0} → DumpProgress A → Standing
-end_so_far dump = (dump.state, dump.error_number)
+abbrev pub status_of_dump : {A : Type 0} → DumpProgress A → DumpStatus
+status_of_dump dump = (dump.state, dump.error_number)
 
 -- neither a message nor an error has ended the dump
 abbrev pub IsReading : {A : Type 0} → DumpProgress A → Type 0
-IsReading dump = end_so_far dump ≡ (Reading, None)
+IsReading dump = status_of_dump dump ≡ (Reading, None)
 
--- `Interrupt bytes items`: the messages at the start of `bytes`, which have these items, interrupt
--- a dump. That is, the header of the first message has the flag NLM_F_DUMP_INTR, 0x10, which is bit
+-- `InterruptsDump bytes items`: the messages at the start of `bytes`, which have these items,
+-- interrupt a dump. That is, the header of the first message has the flag NLM_F_DUMP_INTR, 0x10,
+-- which is bit
 -- 4. Or the first item does not end the dump, and the messages after it interrupt the dump.
-abbrev pub Interrupt : {A : Type 0} → List ℕ → List (Item A) → Type 0
-Interrupt bytes [] = ⊥
-Interrupt bytes (item ∷ items) = (message rest : List ℕ) × StartsWithMessage bytes message rest
+abbrev pub InterruptsDump : {A : Type 0} → List ℕ → List (Item A) → Type 0
+InterruptsDump bytes [] = ⊥
+InterruptsDump bytes (item ∷ items) = (message rest : List ℕ) × StartsWithMessage bytes message rest
     × (((h : NetlinkHeader) × HasHeader message h × IsBitSet h.flags 4)
-    ⊎ ((end_of item ≡ None) × Interrupt rest items))
+    ⊎ ((dump_end_at item ≡ None) × InterruptsDump rest items))
 
 -- `is` relates a message to its item
 module _ {A : Type 0} (is : List ℕ → Item A → Type 0) where
@@ -59,35 +60,36 @@ module _ {A : Type 0} (is : List ℕ → Item A → Type 0) where
   -- those of `new`, and lead to this end. The dump is interrupted if it was before, or if the
   -- datagram interrupts it. The state and the error number of `old` and `new` are not considered.
   abbrev pub ReadsDatagram : DumpProgress A → List ℕ → DumpProgress A
-      → Result Standing DecodeError → Type 0
-  ReadsDatagram old datagram new end = (items : List (Item A)) × ItemsAre is datagram items
-      × Dump old.messages items new.messages end
-      × (IsTrue new.is_interrupted ↔ (IsTrue old.is_interrupted ⊎ Interrupt datagram items))
+      → Result DumpStatus DecodeError → Type 0
+  ReadsDatagram old datagram new end = (items : List (Item A)) × AreItemsOf is datagram items
+      × DumpOfItems old.messages items new.messages end
+      × (IsTrue new.is_interrupted ↔ (IsTrue old.is_interrupted ⊎ InterruptsDump datagram items))
 
-  -- `ReadsUpTo entry old datagram new`: the datagram is read up to the inner message with this
-  -- entry, which is not kept, because an allocation failed. No item before it ends the dump. Its
-  -- own flag counts for whether the dump is interrupted.
-  abbrev pub ReadsUpTo : A → DumpProgress A → List ℕ → DumpProgress A → Type 0
-  ReadsUpTo entry old datagram new = (front later : List (Item A))
-      × ItemsAre is datagram (front ++ Ok (InnerMessage entry) ∷ later)
-      × Dump old.messages front new.messages (Ok (Reading, None))
+  -- `AllocationFailsAt entry old datagram new`: the datagram is read up to the inner message with
+  -- this entry, which is not kept, because an allocation failed. No item before it ends the dump.
+  -- Its own flag counts for whether the dump is interrupted.
+  abbrev pub AllocationFailsAt : A → DumpProgress A → List ℕ → DumpProgress A → Type 0
+  AllocationFailsAt entry old datagram new = (front later : List (Item A))
+      × AreItemsOf is datagram (front ++ Ok (InnerMessage entry) ∷ later)
+      × DumpOfItems old.messages front new.messages (Ok (Reading, None))
       × (IsTrue new.is_interrupted ↔ (IsTrue old.is_interrupted
-      ⊎ Interrupt datagram (front ++ Ok (InnerMessage entry) ∷ [])))
+      ⊎ InterruptsDump datagram (front ++ Ok (InnerMessage entry) ∷ [])))
 
-  -- `FeedLeaves old datagram new result`, by the result of `feed`:
+  -- `FeedLeadsTo old datagram new result`, by the result of `feed`:
   -- - `Ok`: the dump was being read, and the datagram leads to its new end;
   -- - `Err Ended`: the dump had ended before, and is unchanged;
   -- - `Err (Fault e)`: the dump was being read and has failed, because the datagram leads to the
   --   error `e`, or, if `e` is `Memory`, because an allocation failed at a message.
-  abbrev pub FeedLeaves : DumpProgress A → List ℕ → DumpProgress A → Result Unit DumpError → Type 0
-  FeedLeaves old datagram new (Ok _) =
-      IsReading old × ReadsDatagram old datagram new (Ok (end_so_far new))
-  FeedLeaves old datagram new (Err Ended) = ¬ IsReading old × (new ≡ old)
-  FeedLeaves old datagram new (Err (Fault e)) = IsReading old × (end_so_far new ≡ (Failed, None))
+  abbrev pub FeedLeadsTo : DumpProgress A → List ℕ → DumpProgress A → Result Unit DumpError → Type 0
+  FeedLeadsTo old datagram new (Ok _) =
+      IsReading old × ReadsDatagram old datagram new (Ok (status_of_dump new))
+  FeedLeadsTo old datagram new (Err Ended) = ¬ IsReading old × (new ≡ old)
+  FeedLeadsTo old datagram new (Err (Fault e)) =
+      IsReading old × (status_of_dump new ≡ (Failed, None))
       × (e ≢ Memory → ReadsDatagram old datagram new (Err e))
-      × (e ≡ Memory → (entry : A) × ReadsUpTo entry old datagram new)
+      × (e ≡ Memory → (entry : A) × AllocationFailsAt entry old datagram new)
 
   -- the datagrams are fed in order, and no `feed` fails with `Memory`
-  abbrev pub FeedsLeave : DumpProgress A → List (List ℕ) → DumpProgress A → Type 0
-  FeedsLeave = FoldsTo (λ old datagram new. (answer : Result Unit DumpError)
-      × FeedLeaves old datagram new answer × (answer ≢ Err (Fault Memory)))
+  abbrev pub FeedingAllLeadsTo : DumpProgress A → List (List ℕ) → DumpProgress A → Type 0
+  FeedingAllLeadsTo = FoldsTo (λ old datagram new. (answer : Result Unit DumpError)
+      × FeedLeadsTo old datagram new answer × (answer ≢ Err (Fault Memory)))

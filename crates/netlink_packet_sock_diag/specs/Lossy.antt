@@ -1,17 +1,17 @@
 -- The entries of a dump that continues after invalid messages.
 use Rattle.std.specs.Prelude.{ℕ, List, ◌-◌, take, drop, Result, Ok, Err, MatchResult}
 use Rattle.netlink_core.specs.Codec.{Codec}
-use Rattle.netlink_core.specs.Envelope.{PayloadIs}
+use Rattle.netlink_core.specs.Envelope.{ParsesAsPayload}
 use Rattle.netlink_core.specs.Header.{HasHeader}
 use Rattle.netlink_core.specs.Items.{Item}
 use Rattle.netlink_core.specs.declared.fault.DecodeError.{DecodeError}
 use Rattle.netlink_core.specs.declared.header.NetlinkHeader.{NetlinkHeader}
 
--- `EntryIs C message item`: the message starts with the header `h`, and `item` is the payload, the
--- bytes from offset 16 to `h.length`. An inner message is its value, or its decode error if it is
--- invalid. A message never has an item `Err e`.
-abbrev pub EntryIs : (C : Codec ℕ) → List ℕ → Item (Result C.Value DecodeError) → Type 0
-EntryIs C message (Ok payload) = (h : NetlinkHeader) × HasHeader message h
-    × PayloadIs (λ b t entry. MatchResult entry (C.reads b t) (C.refuses b t))
+-- `HasLossyEntry C message item`: the message starts with the header `h`, and `item` is the
+-- payload, the bytes from offset 16 to `h.length`. An inner message is its value, or its decode
+-- error if it is invalid. A message never has an item `Err e`.
+abbrev pub HasLossyEntry : (C : Codec ℕ) → List ℕ → Item (Result C.Value DecodeError) → Type 0
+HasLossyEntry C message (Ok payload) = (h : NetlinkHeader) × HasHeader message h
+    × ParsesAsPayload (λ b t entry. MatchResult entry (C.reads b t) (C.refuses b t))
     (take (h.length - 16) (drop 16 message)) h.message_type payload
-EntryIs C message (Err e) = ⊥
+HasLossyEntry C message (Err e) = ⊥

@@ -2,7 +2,7 @@
 -- are parsed.
 use Rattle.std.specs.Prelude.{◌≡◌, ℕ, ◌⊎◌, Ok, Err}
 use Rattle.netlink_core.specs.Codec.{Codec, record_codec}
-use Rattle.netlink_core.specs.Envelope.{envelope_codec}
+use Rattle.netlink_core.specs.Envelope.{netlink_codec}
 use Rattle.netlink_core.specs.Response.{response_codec}
 use Rattle.sock_diag_records.specs.InetRequest.{inet_request as inet_request_layout}
 use Rattle.sock_diag_records.specs.UnixRequest.{unix_request as unix_request_layout}
@@ -13,48 +13,51 @@ use Rattle.sock_diag_replies.specs.UnixResponseSpec.{unix_response_spec}
 
 -- the codec of the request or reply of each kind: `inet_diag_req_v2`, `inet_diag_msg`,
 -- `unix_diag_req` and `unix_diag_msg`; after the two replies, attributes follow
-abbrev pub codec_of : MessageKind → Codec (Unit {0})
-codec_of inet_request = record_codec inet_request_layout
-codec_of inet_response = response_codec inet_response_spec
-codec_of unix_request = record_codec unix_request_layout
-codec_of unix_response = response_codec unix_response_spec
+abbrev pub codec_of_message_kind : MessageKind → Codec (Unit {0})
+codec_of_message_kind inet_request = record_codec inet_request_layout
+codec_of_message_kind inet_response = response_codec inet_response_spec
+codec_of_message_kind unix_request = record_codec unix_request_layout
+codec_of_message_kind unix_response = response_codec unix_response_spec
 
 -- a message: its kind, and the request or reply of this kind
 pub data Message : Type 0 where
-  message_of : (kind : MessageKind) → (codec_of kind).Value → Message
+  message_of : (kind : MessageKind) → (codec_of_message_kind kind).Value → Message
 
 -- applies a function to the kind and the request or reply of a message
-abbrev pub by_kind {ℓ} : {T : Type ℓ} → ((k : MessageKind) → (codec_of k).Value → T) → Message → T
-by_kind tells (message_of kind v) = tells kind v
+abbrev pub apply_by_kind {ℓ} : {T : Type ℓ}
+    → ((k : MessageKind) → (codec_of_message_kind k).Value → T) → Message → T
+apply_by_kind tells (message_of kind v) = tells kind v
 
 -- the kind of a message
 abbrev pub kind_of : Message → MessageKind
-kind_of m = by_kind (λ kind v. kind) m
+kind_of m = apply_by_kind (λ kind v. kind) m
 
 -- the codec of messages; the parameter `t` is the 16-bit message type in the netlink header
 abbrev pub message_codec : Codec ℕ
 message_codec = record {
   Value = Message;
-  is_in_range = by_kind (λ k v. (codec_of k).is_in_range v);
+  is_in_range = apply_by_kind (λ k v. (codec_of_message_kind k).is_in_range v);
   -- the bytes dispatch to this kind of reply under the type, and parse as this value
-  reads = λ b t m. by_kind (λ k v. (response_kind b t ≡ Ok k) × (codec_of k).reads b tt v) m;
+  reads = λ b t m. apply_by_kind
+      (λ k v. (response_kind b t ≡ Ok k) × (codec_of_message_kind k).reads b tt v) m;
   -- the bytes dispatch to no reply, or the reply of their kind is rejected
   refuses = λ b t e. (response_kind b t ≡ Err e)
-      ⊎ ((kind : MessageKind) × (response_kind b t ≡ Ok kind) × (codec_of kind).refuses b tt e);
+      ⊎ ((kind : MessageKind) × (response_kind b t ≡ Ok kind)
+      × (codec_of_message_kind kind).refuses b tt e);
   -- no message counts as a value that needs no memory
   is_spare = λ m. ⊥;
   -- both dispatch to the same kind of reply, and are equivalent as such replies
   idle = λ t b c. (kind : MessageKind) × (response_kind b t ≡ Ok kind)
-      × (response_kind c t ≡ Ok kind) × (codec_of kind).idle tt b c;
+      × (response_kind c t ≡ Ok kind) × (codec_of_message_kind kind).idle tt b c;
   -- a reply in normal form, under the type 20
-  is_normal = λ t m. by_kind (λ k v. (t ≡ 20) × ((k ≡ inet_response) ⊎ (k ≡ unix_response))
-      × (codec_of k).is_normal tt v) m;
-  written = by_kind (λ k v. (codec_of k).written v);
+  is_normal = λ t m. apply_by_kind (λ k v. (t ≡ 20) × ((k ≡ inet_response) ⊎ (k ≡ unix_response))
+      × (codec_of_message_kind k).is_normal tt v) m;
+  written = apply_by_kind (λ k v. (codec_of_message_kind k).written v);
   -- the lengths of the reply fit their fields; the lengths of a request always do
-  fits = by_kind (λ k v. (codec_of k).fits v);
+  fits = apply_by_kind (λ k v. (codec_of_message_kind k).fits v);
 }
 
 -- the codec of netlink messages: a netlink header, and a message of sock_diag(7) or a control
 -- message, by the header's type
 abbrev pub netlink_message_codec : Codec (Unit {0})
-netlink_message_codec = envelope_codec message_codec
+netlink_message_codec = netlink_codec message_codec

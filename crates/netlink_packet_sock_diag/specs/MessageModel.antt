@@ -12,7 +12,7 @@ use Rattle.sock_diag_records.specs.ResponseKind.{unix_response}
 abbrev pub message_model : SockDiagMessage → Message
 message_model (message.InetRequest request) = message_of inet_request request
 message_model (message.InetResponse reply) =
-    message_of inet_response (response_model (λ h. h) inet.nla_model reply.value)
+    message_of inet_response (response_model (λ h. h) inet.inet_nla_model reply.value)
 message_model (message.UnixRequest request) = message_of unix_request request
 message_model (message.UnixResponse reply) =
-    message_of unix_response (response_model (λ h. h) unix.nla_model reply.value)
+    message_of unix_response (response_model (λ h. h) unix.unix_nla_model reply.value)

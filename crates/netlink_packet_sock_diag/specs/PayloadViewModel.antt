@@ -3,8 +3,8 @@
 use Rattle.std.specs.Prelude.{ℕ, List}
 use Rattle.std.specs.Borrow.{Bor}
 use Rattle.netlink_core.specs.declared.message.NetlinkPayload.{NetlinkPayload}
-use Rattle.netlink_core.specs.Envelope.{Payload, Envelope}
-use Rattle.netlink_core.specs.EnvelopeModel.{payload_of}
+use Rattle.netlink_core.specs.Envelope.{Payload, NetlinkMessageModel}
+use Rattle.netlink_core.specs.EnvelopeModel.{payload_model}
 use Rattle.netlink_packet_sock_diag.specs.declared.dump.views.MessageView.{MessageView}
 use Rattle.netlink_packet_sock_diag.specs.declared.message.SockDiagView.{SockDiagView}
 use Rattle.netlink_packet_sock_diag.specs.Message.{Message}
@@ -16,8 +16,8 @@ PayloadView = NetlinkPayload SockDiagView (Bor (List ℕ))
 
 -- the payload, with the model of its inner message or with its bytes
 abbrev pub payload_view_model : PayloadView → Payload Message
-payload_view_model p = payload_of (λ (b : Bor (List ℕ)). b.now) message_view_model p
+payload_view_model p = payload_model (λ (b : Bor (List ℕ)). b.now) message_view_model p
 
 -- the header and the payload
-abbrev pub envelope_view_model : MessageView → Envelope Message
-envelope_view_model v = record { header = v.header; payload = payload_view_model v.payload }
+abbrev pub netlink_message_view_model : MessageView → NetlinkMessageModel Message
+netlink_message_view_model v = record { header = v.header; payload = payload_view_model v.payload }

@@ -9,34 +9,36 @@ ghost use Rattle.netlink_core.specs.declared.fault.DecodeError.{DecodeError};
 ghost use Rattle.netlink_core.specs.declared.fault.DecodeError.TheVariants.{Memory};
 ghost use Rattle.netlink_core.specs.declared.fault.DecodeError.TheVariants.{UnknownMessageType};
 ghost use Rattle.netlink_core.specs.declared.header.NetlinkHeader.{NetlinkHeader};
-ghost use Rattle.netlink_core.specs.Header.{IsEnvelopeFault, header_fields, header_values};
-ghost use Rattle.netlink_core.specs.Table.{Fit};
+ghost use Rattle.netlink_core.specs.Header.{IsMessageError, header_fields, header_values};
+ghost use Rattle.netlink_core.specs.Table.{FitFields};
 ghost use Rattle.netlink_core.specs.Canonical.{HasCanonicalForm};
-ghost use Rattle.netlink_core.specs.Envelope.{Payload, Envelope, OfInner, finalized};
+ghost use Rattle.netlink_core.specs.Envelope.{Payload, NetlinkMessageModel, HoldsOfInnerMessage};
+ghost use Rattle.netlink_core.specs.Envelope.{finalized_header};
 ghost use Rattle.netlink_core.specs.declared.message.NetlinkMessage.{NetlinkMessage};
 ghost use Rattle.netlink_core.specs.declared.message.NetlinkPayload.TheVariants.{InnerMessage};
 ghost use Rattle.netlink_core.specs.Faults.{map_ok};
-ghost use Rattle.netlink_core.specs.Items.{ItemIs, ItemsAre};
-ghost use Rattle.netlink_core.specs.EnvelopeModel.{envelope_of};
-ghost use Rattle.netlink_core.specs.Response.{ValueOf, response_bytes, response_codec};
+ghost use Rattle.netlink_core.specs.Items.{IsItemOf, AreItemsOf};
+ghost use Rattle.netlink_core.specs.EnvelopeModel.{netlink_message_model};
+ghost use Rattle.netlink_core.specs.Response.{ReplyValue, response_bytes, response_codec};
 ghost use Rattle.netlink_packet_sock_diag.specs.contracts.coded.SockDiagMessageEmitable.TheImpl.{ghosts as owned_messages};
 ghost use Rattle.netlink_packet_sock_diag.specs.contracts.coded.SockDiagViewEmitable.TheImpl.{ghosts as message_views};
 ghost use Rattle.netlink_packet_sock_diag.specs.contracts.coded.SockDiagDestroyCoded.TheImpl.{ghosts as destroys};
 ghost use Rattle.netlink_packet_sock_diag.specs.contracts.coded.SockDiagMessageCoded.TheImpl.{ghosts as messages};
 ghost use Rattle.netlink_packet_sock_diag.specs.declared.message.SockDiagDestroy.{SockDiagDestroy};
-ghost use Rattle.netlink_packet_sock_diag.specs.Dump.{AreSplit, DatagramsDump, Dump, Standing};
-ghost use Rattle.netlink_packet_sock_diag.specs.Feed.{DumpProgress, FeedsLeave, ReadsDatagram};
-ghost use Rattle.netlink_packet_sock_diag.specs.Feed.{new_dump};
+ghost use Rattle.netlink_packet_sock_diag.specs.Dump.{AreCompleteExceptLast, DumpOfDatagrams};
+ghost use Rattle.netlink_packet_sock_diag.specs.Dump.{DumpOfItems, DumpStatus};
+ghost use Rattle.netlink_packet_sock_diag.specs.Feed.{DumpProgress, FeedingAllLeadsTo};
+ghost use Rattle.netlink_packet_sock_diag.specs.Feed.{ReadsDatagram, new_dump};
 ghost use Rattle.netlink_packet_sock_diag.specs.declared.dump.DumpState.TheVariants.{Reading};
 ghost use Rattle.netlink_packet_sock_diag.specs.declared.dump.views.DumpViews.{DumpViews};
 ghost use Rattle.netlink_packet_sock_diag.specs.PayloadViewModel.{PayloadView};
-ghost use Rattle.netlink_packet_sock_diag.specs.DumpWalk.{GivesView, views_left};
+ghost use Rattle.netlink_packet_sock_diag.specs.DumpWalk.{YieldsPayloadView, unread_views};
 ghost use Rattle.netlink_packet_sock_diag.specs.PayloadViewModel.{payload_view_model};
 ghost use Rattle.sock_diag_replies.specs.UnixResponseSpec.{unix_response_spec};
 ghost use Rattle.sock_diag_replies.specs.InetResponseSpec.{inet_response_spec};
 ghost use Rattle.sock_diag_replies.specs.ViewModel.{view_model};
 ghost use Rattle.netlink_packet_sock_diag.specs.MessageViewModel.{message_view_model};
-ghost use Rattle.netlink_packet_sock_diag.specs.Lossy.{EntryIs};
+ghost use Rattle.netlink_packet_sock_diag.specs.Lossy.{HasLossyEntry};
 ghost use Rattle.netlink_packet_sock_diag.specs.Message.{Message, kind_of, message_codec};
 ghost use Rattle.netlink_packet_sock_diag.specs.Message.{netlink_message_codec};
 ghost use Rattle.sock_diag_records.specs.ResponseKind.{MessageKind, inet_request, inet_response};
@@ -51,10 +53,10 @@ use std::alloc::{AllocError, Global};
 
 /// The length of a serialized reply, `buffer_len`, is a multiple of 4, for both families.
 pub fn reply_lengths_are_multiples_of_four()
-    ensures unix { (v : ValueOf unix_response_spec)
+    ensures unix { (v : ReplyValue unix_response_spec)
         → (response_codec unix_response_spec).is_in_range v
         → length (response_bytes unix_response_spec v) % 4 ≡ 0 }
-    ensures inet { (v : ValueOf inet_response_spec)
+    ensures inet { (v : ReplyValue inet_response_spec)
         → (response_codec inet_response_spec).is_in_range v
         → length (response_bytes inet_response_spec v) % 4 ≡ 0 }
 {}
@@ -99,11 +101,11 @@ pub fn readers_take_memory() -> (bool, bool, bool)
 /// The parser of requests to close sockets rejects a finalized request: the request is serialized
 /// under the type 21, and messages are parsed only under the type 20.
 pub fn finalized_destroy_is_refused()
-    ensures { (h : NetlinkHeader) (m : Message) → Fit header_fields (header_values h)
+    ensures { (h : NetlinkHeader) (m : Message) → FitFields header_fields (header_values h)
         → netlink_message_codec.fits (record { header = h; payload = InnerMessage m })
         → netlink_message_codec.refuses
         (netlink_message_codec.written (record {
-          header = finalized message_codec.written destroys.type_written
+          header = finalized_header message_codec.written destroys.type_written
               (record { header = h; payload = InnerMessage m });
           payload = InnerMessage m;
         })) tt
@@ -115,12 +117,12 @@ pub fn finalized_destroy_is_refused()
 pub fn finalized_destroy_in_hand_is_refused()
     ensures { (message : NetlinkMessage SockDiagDestroy) (destroy : SockDiagDestroy) (rest : List ℕ)
         → message.payload ≡ InnerMessage destroy
-        → Fit header_fields (header_values message.header)
-        → netlink_message_codec.fits (envelope_of destroys.model message)
+        → FitFields header_fields (header_values message.header)
+        → netlink_message_codec.fits (netlink_message_model destroys.model message)
         → netlink_message_codec.refuses
-        (netlink_message_codec.written (envelope_of destroys.model (record message {
-          header = finalized message_codec.written destroys.type_written
-              (envelope_of destroys.model message);
+        (netlink_message_codec.written (netlink_message_model destroys.model (record message {
+          header = finalized_header message_codec.written destroys.type_written
+              (netlink_message_model destroys.model message);
         })) ++ rest) tt
         (UnknownMessageType (destroys.type_written (destroys.model destroy))) }
 {}
@@ -129,12 +131,12 @@ pub fn finalized_destroy_in_hand_is_refused()
 /// not have both, and the error is not `Memory`.
 pub fn one_message_or_fault()
     ensures answered { (b : List ℕ) → IsBytes b
-        → ((v : Envelope Message) × netlink_message_codec.reads b tt v)
+        → ((v : NetlinkMessageModel Message) × netlink_message_codec.reads b tt v)
         ⊎ ((e : DecodeError) × netlink_message_codec.refuses b tt e) }
-    ensures one_value { (b : List ℕ) (v w : Envelope Message) → IsBytes b
+    ensures one_value { (b : List ℕ) (v w : NetlinkMessageModel Message) → IsBytes b
         → netlink_message_codec.reads b tt v → netlink_message_codec.reads b tt w
         → v ≡ w }
-    ensures one_answer { (b : List ℕ) (v : Envelope Message) (e : DecodeError)
+    ensures one_answer { (b : List ℕ) (v : NetlinkMessageModel Message) (e : DecodeError)
         → netlink_message_codec.reads b tt v → netlink_message_codec.refuses b tt
         e → ⊥ }
     ensures one_fault { (b : List ℕ) (e f : DecodeError)
@@ -147,7 +149,7 @@ pub fn one_message_or_fault()
 
 /// Two accepted inputs have equal netlink messages if and only if they are equivalent (`idle`).
 pub fn equal_messages_where_idle()
-    ensures { (b c : List ℕ) (v w : Envelope Message) → IsBytes b → IsBytes c
+    ensures { (b c : List ℕ) (v w : NetlinkMessageModel Message) → IsBytes b → IsBytes c
         → netlink_message_codec.reads b tt v → netlink_message_codec.reads c tt w
         → ((v ≡ w) ↔ netlink_message_codec.idle tt b c) }
 {
@@ -168,11 +170,11 @@ pub fn messages_written_alike()
 /// A writable netlink message whose header has the length and type that `finalize` sets round-trips
 /// if and only if it has no inner message, or an inner message in normal form under the type 20.
 pub fn finalized_message_reads_back()
-    ensures { (v : Envelope Message) → netlink_message_codec.is_in_range v
+    ensures { (v : NetlinkMessageModel Message) → netlink_message_codec.is_in_range v
         → netlink_message_codec.fits v
-        → (v.header ≡ finalized message_codec.written messages.type_written v)
+        → (v.header ≡ finalized_header message_codec.written messages.type_written v)
         → (netlink_message_codec.reads (netlink_message_codec.written v) tt v
-        ↔ OfInner (message_codec.is_normal 20) v.payload) }
+        ↔ HoldsOfInnerMessage (message_codec.is_normal 20) v.payload) }
 {
     laws::finalized_message_reads_back::<SockDiagMessage>();
 }
@@ -180,22 +182,22 @@ pub fn finalized_message_reads_back()
 /// Each list of items has exactly one dump.
 pub fn items_have_one_dump()
     ensures some { (before : List Message) (items : List (Result (Payload Message) DecodeError))
-        → (after : List Message) × (end : Result Standing DecodeError)
-        × Dump before items after end }
+        → (after : List Message) × (end : Result DumpStatus DecodeError)
+        × DumpOfItems before items after end }
     ensures one { (before a b : List Message) (items : List (Result (Payload Message) DecodeError))
-        (e f : Result Standing DecodeError)
-        → Dump before items a e → Dump before items b f → (a ≡ b) × (e ≡ f) }
+        (e f : Result DumpStatus DecodeError)
+        → DumpOfItems before items a e → DumpOfItems before items b f → (a ≡ b) × (e ≡ f) }
 {}
 
 /// The dump over two concatenated lists of items is the dump over the first list if that list ends
 /// the dump. Otherwise it is continued over the second list.
 pub fn dump_over_concatenation()
-    ensures { (before after : List Message) (end : Result Standing DecodeError)
+    ensures { (before after : List Message) (end : Result DumpStatus DecodeError)
         (xs ys : List (Result (Payload Message) DecodeError))
-        → (Dump before (xs ++ ys) after end
-        ↔ ((middle : List Message) × (state : Result Standing DecodeError)
-        × Dump before xs middle state
-        × (((state ≡ Ok (Reading, None)) × Dump middle ys after end)
+        → (DumpOfItems before (xs ++ ys) after end
+        ↔ ((middle : List Message) × (state : Result DumpStatus DecodeError)
+        × DumpOfItems before xs middle state
+        × (((state ≡ Ok (Reading, None)) × DumpOfItems middle ys after end)
         ⊎ ((state ≢ Ok (Reading, None)) × (after ≡ middle) × (end ≡ state))))) }
 {}
 
@@ -204,12 +206,12 @@ pub fn same_items_have_one_dump()
     ensures { (datagrams others : List (List ℕ))
         (xs ys : List (List (Result (Payload Message) DecodeError)))
         → AllByRecursion IsBytes datagrams
-        → AllZip (ItemsAre (ItemIs message_codec)) datagrams xs
-        → AllZip (ItemsAre (ItemIs message_codec)) others ys
+        → AllZip (AreItemsOf (IsItemOf message_codec)) datagrams xs
+        → AllZip (AreItemsOf (IsItemOf message_codec)) others ys
         → flat_map (λ one. one) xs ≡ flat_map (λ one. one) ys
-        → (before after : List Message) (end : Result Standing DecodeError)
-        → DatagramsDump (ItemIs message_codec) before datagrams after end
-        → DatagramsDump (ItemIs message_codec) before others after end }
+        → (before after : List Message) (end : Result DumpStatus DecodeError)
+        → DumpOfDatagrams (IsItemOf message_codec) before datagrams after end
+        → DumpOfDatagrams (IsItemOf message_codec) before others after end }
 {
     laws::one_list_of_items::<SockDiagMessage>();
 }
@@ -220,10 +222,11 @@ pub fn same_items_have_one_dump()
 pub fn split_changes_no_dump()
     ensures { (datagrams others : List (List ℕ)) → AllByRecursion IsBytes datagrams
         → AllByRecursion IsBytes others
-        → AreSplit datagrams → AreSplit others → concat datagrams ≡ concat others
-        → (before after : List Message) (end : Result Standing DecodeError)
-        → DatagramsDump (ItemIs message_codec) before datagrams after end
-        → DatagramsDump (ItemIs message_codec) before others after end }
+        → AreCompleteExceptLast datagrams → AreCompleteExceptLast others
+        → concat datagrams ≡ concat others
+        → (before after : List Message) (end : Result DumpStatus DecodeError)
+        → DumpOfDatagrams (IsItemOf message_codec) before datagrams after end
+        → DumpOfDatagrams (IsItemOf message_codec) before others after end }
 {
     laws::datagram_has_items::<SockDiagMessage>();
     laws::one_list_of_items::<SockDiagMessage>();
@@ -236,15 +239,17 @@ pub fn split_changes_no_dump()
 pub fn split_changes_no_feed()
     ensures same { (datagrams others : List (List ℕ)) → AllByRecursion IsBytes datagrams
         → AllByRecursion IsBytes others
-        → AreSplit datagrams → AreSplit others → concat datagrams ≡ concat others
+        → AreCompleteExceptLast datagrams → AreCompleteExceptLast others
+        → concat datagrams ≡ concat others
         → (left also : DumpProgress Message)
-        → FeedsLeave (ItemIs message_codec) new_dump datagrams left
-        → FeedsLeave (ItemIs message_codec) new_dump others also → left ≡ also }
+        → FeedingAllLeadsTo (IsItemOf message_codec) new_dump datagrams left
+        → FeedingAllLeadsTo (IsItemOf message_codec) new_dump others also → left ≡ also }
     ensures whole { (datagrams : List (List ℕ)) → AllByRecursion IsBytes datagrams
-        → AreSplit datagrams
-        → (left : DumpProgress Message) → FeedsLeave (ItemIs message_codec) new_dump datagrams left
-        → (end : Result Standing DecodeError)
-        × ReadsDatagram (ItemIs message_codec) new_dump (concat datagrams) left end }
+        → AreCompleteExceptLast datagrams
+        → (left : DumpProgress Message)
+        → FeedingAllLeadsTo (IsItemOf message_codec) new_dump datagrams left
+        → (end : Result DumpStatus DecodeError)
+        × ReadsDatagram (IsItemOf message_codec) new_dump (concat datagrams) left end }
 {}
 
 /// The result of feeding is the same for datagrams whose items, concatenated, are equal. They may
@@ -255,12 +260,12 @@ pub fn same_items_change_no_feed()
     ensures { (datagrams others : List (List ℕ))
         (xs ys : List (List (Result (Payload Message) DecodeError)))
         → AllByRecursion IsBytes datagrams → AllByRecursion IsBytes others
-        → AllZip (ItemsAre (ItemIs message_codec)) datagrams xs
-        → AllZip (ItemsAre (ItemIs message_codec)) others ys
+        → AllZip (AreItemsOf (IsItemOf message_codec)) datagrams xs
+        → AllZip (AreItemsOf (IsItemOf message_codec)) others ys
         → flat_map (λ one. one) xs ≡ flat_map (λ one. one) ys
         → (left also : DumpProgress Message)
-        → FeedsLeave (ItemIs message_codec) new_dump datagrams left
-        → FeedsLeave (ItemIs message_codec) new_dump others also
+        → FeedingAllLeadsTo (IsItemOf message_codec) new_dump datagrams left
+        → FeedingAllLeadsTo (IsItemOf message_codec) new_dump others also
         → (left.messages ≡ also.messages) × (left.state ≡ also.state)
         × (left.error_number ≡ also.error_number) }
 {}
@@ -272,16 +277,17 @@ pub fn same_items_change_no_feed()
 pub fn split_changes_no_lossy_feed()
     ensures same { (datagrams others : List (List ℕ)) → AllByRecursion IsBytes datagrams
         → AllByRecursion IsBytes others
-        → AreSplit datagrams → AreSplit others → concat datagrams ≡ concat others
+        → AreCompleteExceptLast datagrams → AreCompleteExceptLast others
+        → concat datagrams ≡ concat others
         → (left also : DumpProgress (Result Message DecodeError))
-        → FeedsLeave (EntryIs message_codec) new_dump datagrams left
-        → FeedsLeave (EntryIs message_codec) new_dump others also → left ≡ also }
+        → FeedingAllLeadsTo (HasLossyEntry message_codec) new_dump datagrams left
+        → FeedingAllLeadsTo (HasLossyEntry message_codec) new_dump others also → left ≡ also }
     ensures whole { (datagrams : List (List ℕ)) → AllByRecursion IsBytes datagrams
-        → AreSplit datagrams
+        → AreCompleteExceptLast datagrams
         → (left : DumpProgress (Result Message DecodeError))
-        → FeedsLeave (EntryIs message_codec) new_dump datagrams left
-        → (end : Result Standing DecodeError)
-        × ReadsDatagram (EntryIs message_codec) new_dump (concat datagrams) left end }
+        → FeedingAllLeadsTo (HasLossyEntry message_codec) new_dump datagrams left
+        → (end : Result DumpStatus DecodeError)
+        × ReadsDatagram (HasLossyEntry message_codec) new_dump (concat datagrams) left end }
 {}
 
 /// The result of feeding a `LossyDump` is the same for datagrams whose items, concatenated, are
@@ -290,12 +296,12 @@ pub fn same_items_change_no_lossy_feed()
     ensures { (datagrams others : List (List ℕ))
         (xs ys : List (List (Result (Payload (Result Message DecodeError)) DecodeError)))
         → AllByRecursion IsBytes datagrams → AllByRecursion IsBytes others
-        → AllZip (ItemsAre (EntryIs message_codec)) datagrams xs
-        → AllZip (ItemsAre (EntryIs message_codec)) others ys
+        → AllZip (AreItemsOf (HasLossyEntry message_codec)) datagrams xs
+        → AllZip (AreItemsOf (HasLossyEntry message_codec)) others ys
         → flat_map (λ one. one) xs ≡ flat_map (λ one. one) ys
         → (left also : DumpProgress (Result Message DecodeError))
-        → FeedsLeave (EntryIs message_codec) new_dump datagrams left
-        → FeedsLeave (EntryIs message_codec) new_dump others also
+        → FeedingAllLeadsTo (HasLossyEntry message_codec) new_dump datagrams left
+        → FeedingAllLeadsTo (HasLossyEntry message_codec) new_dump others also
         → (left.messages ≡ also.messages) × (left.state ≡ also.state)
         × (left.error_number ≡ also.error_number) }
 {}
@@ -304,14 +310,15 @@ pub fn same_items_change_no_lossy_feed()
 /// [`DumpReader`](crate::DumpReader) and ends in the same way. If a `LossyDump` ends with an error,
 /// it is the error of bytes that are not a message.
 pub fn lossy_dump_keeps_messages()
-    ensures kept { (datagram : List ℕ) (before after : List Message) (end : Standing)
-        → DatagramsDump (ItemIs message_codec) before (datagram ∷ []) after (Ok end)
-        → DatagramsDump (EntryIs message_codec) (map (λ (m : Message). Ok m) before) (datagram ∷ [])
+    ensures kept { (datagram : List ℕ) (before after : List Message) (end : DumpStatus)
+        → DumpOfDatagrams (IsItemOf message_codec) before (datagram ∷ []) after (Ok end)
+        → DumpOfDatagrams (HasLossyEntry message_codec) (map (λ (m : Message). Ok m) before)
+        (datagram ∷ [])
         (map (λ (m : Message). Ok m) after) (Ok end) }
     ensures fault { (datagram : List ℕ) (before after : List (Result Message DecodeError))
         (fault : DecodeError)
-        → DatagramsDump (EntryIs message_codec) before (datagram ∷ []) after (Err fault)
-        → (rest : List ℕ) × IsEnvelopeFault rest fault }
+        → DumpOfDatagrams (HasLossyEntry message_codec) before (datagram ∷ []) after (Err fault)
+        → (rest : List ℕ) × IsMessageError rest fault }
 {}
 
 /// If an iterator yields exactly `given`, and then `None`, these are the items of the bytes that
@@ -319,8 +326,8 @@ pub fn lossy_dump_keeps_messages()
 /// that are not a message, if there are such bytes.
 pub fn whole_views_are_the_datagram()
     ensures { (walk : DumpViews) (given : List (Result PayloadView DecodeError))
-        → Drains GivesView walk given
-        → ItemsAre (ItemIs message_codec) (views_left walk)
+        → Drains YieldsPayloadView walk given
+        → AreItemsOf (IsItemOf message_codec) (unread_views walk)
         (map (map_ok payload_view_model) given) }
 {}
 
@@ -343,7 +350,7 @@ pub fn copied_dump_error(v: &DumpError) -> Result<DumpError, AllocError>
 pub fn copied_views<'a>(walk: &Views<'a>) -> Result<Views<'a>, AllocError>
     ensures ok { IsOk result }
     ensures same { IfOk result
-        (λ copy. views_left copy ≡ views_left walk.now) }
+        (λ copy. unread_views copy ≡ unread_views walk.now) }
 {
     walk.clone()
 }

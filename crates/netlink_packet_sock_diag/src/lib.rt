@@ -7,7 +7,7 @@
 #![tactic(auto)]
 
 ghost use Rattle.std.specs.Prelude.{[], ◌∷◌};
-ghost use Rattle.sock_diag_records.specs.Constants.{AreEqual};
+ghost use Rattle.sock_diag_records.specs.Constants.{PairsAreEqual};
 
 mod coded;
 mod dump;
@@ -76,7 +76,7 @@ pub use sock_diag_records::constants::{
 /// The constants that are re-exported at the root have these numeric values. Proof only: the
 /// contract states the property.
 pub fn root_constants_have_their_numbers()
-    ensures families { AreEqual ((AF_ALG, 38) ∷ (AF_APPLETALK, 5) ∷ (AF_ASH, 18) ∷
+    ensures families { PairsAreEqual ((AF_ALG, 38) ∷ (AF_APPLETALK, 5) ∷ (AF_ASH, 18) ∷
         (AF_ATMPVC, 8) ∷ (AF_ATMSVC, 20) ∷ (AF_AX25, 3) ∷ (AF_BLUETOOTH, 31) ∷ (AF_BRIDGE, 7) ∷
         (AF_CAIF, 37) ∷ (AF_CAN, 29) ∷ (AF_DECNET, 12) ∷ (AF_ECONET, 19) ∷ (AF_IEEE802154, 36) ∷
         (AF_INET, 2) ∷ (AF_INET6, 10) ∷ (AF_IPX, 4) ∷ (AF_IRDA, 23) ∷ (AF_ISDN, 34) ∷
@@ -84,14 +84,15 @@ pub fn root_constants_have_their_numbers()
         (AF_NETROM, 6) ∷ (AF_PACKET, 17) ∷ (AF_PHONET, 35) ∷ (AF_PPPOX, 24) ∷ (AF_RDS, 21) ∷
         (AF_ROSE, 11) ∷ (AF_RXRPC, 33) ∷ (AF_SECURITY, 14) ∷ (AF_SNA, 22) ∷ (AF_TIPC, 30) ∷
         (AF_UNIX, 1) ∷ (AF_UNSPEC, 0) ∷ (AF_WANPIPE, 25) ∷ (AF_X25, 9) ∷ []) }
-    ensures inet_attributes { AreEqual ((INET_DIAG_BBRINFO, 16) ∷ (INET_DIAG_CLASS_ID, 17) ∷
+    ensures inet_attributes { PairsAreEqual ((INET_DIAG_BBRINFO, 16) ∷ (INET_DIAG_CLASS_ID, 17) ∷
         (INET_DIAG_CONG, 4) ∷ (INET_DIAG_DCTCPINFO, 9) ∷ (INET_DIAG_INFO, 2) ∷
         (INET_DIAG_LOCALS, 12) ∷ (INET_DIAG_MARK, 15) ∷ (INET_DIAG_MD5SIG, 18) ∷
         (INET_DIAG_MEMINFO, 1) ∷ (INET_DIAG_NONE, 0) ∷ (INET_DIAG_PAD, 14) ∷
         (INET_DIAG_PEERS, 13) ∷ (INET_DIAG_PROTOCOL, 10) ∷ (INET_DIAG_SHUTDOWN, 8) ∷
         (INET_DIAG_SKMEMINFO, 7) ∷ (INET_DIAG_SKV6ONLY, 11) ∷ (INET_DIAG_TCLASS, 6) ∷
         (INET_DIAG_TOS, 5) ∷ (INET_DIAG_VEGASINFO, 3) ∷ []) }
-    ensures protocols { AreEqual ((IPPROTO_AH, 51) ∷ (IPPROTO_BEETPH, 94) ∷ (IPPROTO_COMP, 108) ∷
+    ensures protocols { PairsAreEqual
+        ((IPPROTO_AH, 51) ∷ (IPPROTO_BEETPH, 94) ∷ (IPPROTO_COMP, 108) ∷
         (IPPROTO_DCCP, 33) ∷ (IPPROTO_DSTOPTS, 60) ∷ (IPPROTO_EGP, 8) ∷ (IPPROTO_ENCAP, 98) ∷
         (IPPROTO_ESP, 50) ∷ (IPPROTO_FRAGMENT, 44) ∷ (IPPROTO_GRE, 47) ∷ (IPPROTO_HOPOPTS, 0) ∷
         (IPPROTO_ICMP, 1) ∷ (IPPROTO_ICMPV6, 58) ∷ (IPPROTO_IDP, 22) ∷ (IPPROTO_IGMP, 2) ∷
@@ -100,24 +101,25 @@ pub fn root_constants_have_their_numbers()
         (IPPROTO_PUP, 12) ∷ (IPPROTO_RAW, 255) ∷ (IPPROTO_ROUTING, 43) ∷ (IPPROTO_RSVP, 46) ∷
         (IPPROTO_SCTP, 132) ∷ (IPPROTO_TCP, 6) ∷ (IPPROTO_TP, 29) ∷ (IPPROTO_UDP, 17) ∷
         (IPPROTO_UDPLITE, 136) ∷ []) }
-    ensures directions { AreEqual ((SHUT_RD, 0) ∷ (SHUT_RDWR, 2) ∷ (SHUT_WR, 1) ∷ []) }
-    ensures messages_and_sockets { AreEqual ((SOCK_DESTROY, 21) ∷ (SOCK_DGRAM, 2) ∷
+    ensures directions { PairsAreEqual ((SHUT_RD, 0) ∷ (SHUT_RDWR, 2) ∷ (SHUT_WR, 1) ∷ []) }
+    ensures messages_and_sockets { PairsAreEqual ((SOCK_DESTROY, 21) ∷ (SOCK_DGRAM, 2) ∷
         (SOCK_DIAG_BY_FAMILY, 20) ∷ (SOCK_PACKET, 10) ∷ (SOCK_RAW, 3) ∷ (SOCK_RDM, 4) ∷
         (SOCK_SEQPACKET, 5) ∷ (SOCK_STREAM, 1) ∷ []) }
-    ensures congestion_states { AreEqual ((TCP_CA_CWR, 2) ∷ (TCP_CA_DISORDER, 1) ∷
+    ensures congestion_states { PairsAreEqual ((TCP_CA_CWR, 2) ∷ (TCP_CA_DISORDER, 1) ∷
         (TCP_CA_LOSS, 4) ∷ (TCP_CA_OPEN, 0) ∷ (TCP_CA_RECOVERY, 3) ∷ (TCPF_CA_CWR, 4) ∷
         (TCPF_CA_DISORDER, 2) ∷ (TCPF_CA_LOSS, 16) ∷ (TCPF_CA_OPEN, 1) ∷ (TCPF_CA_RECOVERY, 8) ∷
         []) }
-    ensures socket_states { AreEqual ((TCP_CLOSE, 7) ∷ (TCP_CLOSE_WAIT, 8) ∷ (TCP_CLOSING, 11) ∷
+    ensures socket_states { PairsAreEqual
+        ((TCP_CLOSE, 7) ∷ (TCP_CLOSE_WAIT, 8) ∷ (TCP_CLOSING, 11) ∷
         (TCP_ESTABLISHED, 1) ∷ (TCP_FIN_WAIT1, 4) ∷ (TCP_FIN_WAIT2, 5) ∷ (TCP_LAST_ACK, 9) ∷
         (TCP_LISTEN, 10) ∷ (TCP_SYN_RECV, 3) ∷ (TCP_SYN_SENT, 2) ∷ (TCP_TIME_WAIT, 6) ∷ []) }
-    ensures negotiated_options { AreEqual ((TCPI_OPT_ECN, 8) ∷ (TCPI_OPT_ECN_SEEN, 16) ∷
+    ensures negotiated_options { PairsAreEqual ((TCPI_OPT_ECN, 8) ∷ (TCPI_OPT_ECN_SEEN, 16) ∷
         (TCPI_OPT_SACK, 2) ∷ (TCPI_OPT_SYN_DATA, 32) ∷ (TCPI_OPT_TIMESTAMPS, 1) ∷
         (TCPI_OPT_WSCALE, 4) ∷ []) }
-    ensures requested_attributes { AreEqual ((UDIAG_SHOW_ICONS, 8) ∷ (UDIAG_SHOW_MEMINFO, 32) ∷
+    ensures requested_attributes { PairsAreEqual ((UDIAG_SHOW_ICONS, 8) ∷ (UDIAG_SHOW_MEMINFO, 32) ∷
         (UDIAG_SHOW_NAME, 1) ∷ (UDIAG_SHOW_PEER, 4) ∷ (UDIAG_SHOW_RQLEN, 16) ∷
         (UDIAG_SHOW_VFS, 2) ∷ []) }
-    ensures unix_attributes { AreEqual ((UNIX_DIAG_ICONS, 3) ∷ (UNIX_DIAG_MEMINFO, 5) ∷
+    ensures unix_attributes { PairsAreEqual ((UNIX_DIAG_ICONS, 3) ∷ (UNIX_DIAG_MEMINFO, 5) ∷
         (UNIX_DIAG_NAME, 0) ∷ (UNIX_DIAG_PEER, 2) ∷ (UNIX_DIAG_RQLEN, 4) ∷
         (UNIX_DIAG_SHUTDOWN, 6) ∷ (UNIX_DIAG_VFS, 1) ∷ []) }
 {}

@@ -1,6 +1,6 @@
 -- Borrowed replies of any family are equal if and only if their models are.
 use Rattle.std.proofs.Common.{◌≡◌, ◌↔◌, [], Bool, IsTrue, Option, Some, None, ap, arith}
-use Rattle.netlink_core.proofs.Equality.{apart}
+use Rattle.netlink_core.proofs.Equality.{false_decides}
 use Rattle.netlink_packet_sock_diag.specs.laws.EqualMessage.{view_equal}
 use Rattle.netlink_packet_sock_diag.specs.Message.{Message}
 use Rattle.sock_diag_replies.specs.laws.EqualResponse.{response_test_decides}
@@ -9,14 +9,15 @@ use Rattle.sock_diag_families.specs.contracts.netlink.response.NetlinkResponseHe
 use Rattle.sock_diag_families.specs.contracts.packet.response.PacketResponseHeaderExact.TheImpl.Laws.{exact-law as exact_packet}
 use Rattle.sock_diag_families.specs.contracts.vsock.response.VsockResponseHeaderExact.TheImpl.Laws.{exact-law as exact_vsock}
 use Rattle.sock_diag_families.specs.contracts.xdp.response.XdpResponseHeaderExact.TheImpl.Laws.{exact-law as exact_xdp}
-use Rattle.sock_diag_any.specs.AnyMessage.{AnyMessage, OtherFamily, codec_of, viewed_any}
-use Rattle.sock_diag_any.specs.AnyMessage.{of_port, of_family, netlink, packet, vsock, xdp}
+use Rattle.sock_diag_any.specs.AnyMessage.{AnyMessage, ExtensionFamily, extension_codec_of}
+use Rattle.sock_diag_any.specs.AnyMessage.{any_view_model, of_port, of_family, netlink, packet}
+use Rattle.sock_diag_any.specs.AnyMessage.{vsock, xdp}
 use Rattle.sock_diag_any.specs.declared.any.AnySockDiagView.{AnySockDiagView}
 use Rattle.sock_diag_any.specs.declared.any.AnySockDiagView.TheVariants as view
 use Rattle.sock_diag_any.specs.contracts.any.AnySockDiagViewPartialEq.TheImpl.{ghosts}
 
 -- The family of a message, or `None` for a message of the port.
-abbrev family_in : AnyMessage → Option OtherFamily
+abbrev family_in : AnyMessage → Option ExtensionFamily
 family_in (of_port message) = None
 family_in (of_family family v) = Some family
 
@@ -26,8 +27,8 @@ port_in other (of_port message) = message
 port_in other (of_family family v) = other
 
 -- The reply of the given family, or `other` if the message is of the port or another family.
-abbrev reply_in : (family : OtherFamily) → (codec_of family).Value → AnyMessage
-    → (codec_of family).Value
+abbrev reply_in : (family : ExtensionFamily) → (extension_codec_of family).Value → AnyMessage
+    → (extension_codec_of family).Value
 reply_in netlink other (of_family netlink v) = v
 reply_in packet other (of_family packet v) = v
 reply_in vsock other (of_family vsock v) = v
@@ -35,38 +36,39 @@ reply_in xdp other (of_family xdp v) = v
 reply_in _ other _ = other
 
 -- Equal messages of one family have equal replies.
-same_reply : (family : OtherFamily) (v w : (codec_of family).Value)
+reply_of_equal_messages : (family : ExtensionFamily) (v w : (extension_codec_of family).Value)
     → of_family family v ≡ of_family family w → v ≡ w
-same_reply netlink v w e = ap (reply_in netlink v) e
-same_reply packet v w e = ap (reply_in packet v) e
-same_reply vsock v w e = ap (reply_in vsock v) e
-same_reply xdp v w e = ap (reply_in xdp v) e
+reply_of_equal_messages netlink v w e = ap (reply_in netlink v) e
+reply_of_equal_messages packet v w e = ap (reply_in packet v) e
+reply_of_equal_messages vsock v w e = ap (reply_in vsock v) e
+reply_of_equal_messages xdp v w e = ap (reply_in xdp v) e
 
 -- A test that decides equality of replies decides equality of their messages.
-by_reply : (family : OtherFamily) (is : Bool) (v w : (codec_of family).Value)
+equal_by_reply : (family : ExtensionFamily) (is : Bool) (v w : (extension_codec_of family).Value)
     → (IsTrue is ↔ (v ≡ w)) → (IsTrue is ↔ (of_family family v ≡ of_family family w))
-by_reply family is v w same =
-    grind (arith, same_reply family v w)
+equal_by_reply family is v w same =
+    grind (arith, reply_of_equal_messages family v w)
 
 -- A test that decides equality of the port's messages decides equality as `AnyMessage`.
-by_port : (is : Bool) (v w : Message) → (IsTrue is ↔ (v ≡ w))
+equal_by_port_message : (is : Bool) (v w : Message) → (IsTrue is ↔ (v ≡ w))
     → (IsTrue is ↔ (of_port v ≡ of_port w))
-by_port is v w same =
+equal_by_port_message is v w same =
     (λ h. ap of_port (same.0 h), λ e. same.1 (ap (port_in v) e))
 
 -- `==` of two views is true if and only if their models are equal.
-pub any_equal : (v w : AnySockDiagView) → IsTrue (ghosts.eq v w) ↔ (viewed_any v ≡ viewed_any w)
-any_equal (view.Port a) (view.Port x) = by_port _ _ _ (view_equal a x)
+pub any_equal : (v w : AnySockDiagView)
+    → IsTrue (ghosts.eq v w) ↔ (any_view_model v ≡ any_view_model w)
+any_equal (view.Port a) (view.Port x) = equal_by_port_message _ _ _ (view_equal a x)
 any_equal (view.Netlink a) (view.Netlink x) =
-    by_reply netlink _ _ _
+    equal_by_reply netlink _ _ _
     (response_test_decides _ [] tt exact_netlink.0 (view_model a) (view_model x))
 any_equal (view.Packet a) (view.Packet x) =
-    by_reply packet _ _ _
+    equal_by_reply packet _ _ _
     (response_test_decides _ [] tt exact_packet.0 (view_model a) (view_model x))
 any_equal (view.Vsock a) (view.Vsock x) =
-    by_reply vsock _ _ _
+    equal_by_reply vsock _ _ _
     (response_test_decides _ [] tt exact_vsock.0 (view_model a) (view_model x))
 any_equal (view.Xdp a) (view.Xdp x) =
-    by_reply xdp _ _ _
+    equal_by_reply xdp _ _ _
     (response_test_decides _ [] tt exact_xdp.0 (view_model a) (view_model x))
-any_equal v w = apart (λ e. let families = ap family_in e in cc)
+any_equal v w = false_decides (λ e. let families = ap family_in e in cc)

@@ -10,29 +10,29 @@ use Rattle.netlink_packet_sock_diag.specs.MessageViewModel.{message_view_model}
 use Rattle.sock_diag_families.specs.NetlinkResponseHeader.{netlink_header}
 use Rattle.sock_diag_families.specs.PacketResponseHeader.{packet_header}
 use Rattle.sock_diag_families.specs.VsockResponseHeader.{vsock_header}
-use Rattle.sock_diag_any.specs.WholeReply.{whole_reply}
+use Rattle.sock_diag_any.specs.WholeReply.{raw_reply_spec}
 use Rattle.sock_diag_families.specs.XdpResponseHeader.{xdp_header}
 use Rattle.sock_diag_any.specs.declared.any.AnySockDiagView.{AnySockDiagView}
 use Rattle.sock_diag_any.specs.declared.any.AnySockDiagView.TheVariants as view
 
 -- The families whose replies this crate parses, and the port does not.
-pub data OtherFamily : Type 0 where
-  netlink packet vsock xdp : OtherFamily
+pub data ExtensionFamily : Type 0 where
+  netlink packet vsock xdp : ExtensionFamily
 
 -- The codec of the replies of each family: the header, then raw attributes. The headers are
 -- `struct netlink_diag_msg`, `packet_diag_msg`, `vsock_diag_msg` and `xdp_diag_msg` of the kernel.
-abbrev pub codec_of : OtherFamily → Codec (Unit {0})
-codec_of netlink = response_codec (whole_reply netlink_header)
-codec_of packet = response_codec (whole_reply packet_header)
-codec_of vsock = response_codec (whole_reply vsock_header)
-codec_of xdp = response_codec (whole_reply xdp_header)
+abbrev pub extension_codec_of : ExtensionFamily → Codec (Unit {0})
+extension_codec_of netlink = response_codec (raw_reply_spec netlink_header)
+extension_codec_of packet = response_codec (raw_reply_spec packet_header)
+extension_codec_of vsock = response_codec (raw_reply_spec vsock_header)
+extension_codec_of xdp = response_codec (raw_reply_spec xdp_header)
 
 -- The family of the bytes `b` of a message of type `t`, if the port does not parse them. There must
 -- be at least two bytes, and the type must be 20 (SOCK_DIAG_BY_FAMILY). The first byte is the
 -- family: 16 (AF_NETLINK), 17 (AF_PACKET), 40 (AF_VSOCK) or 44 (AF_XDP). In all other cases it is
 -- `None`, and the port parses the bytes.
-abbrev pub other_family : List ℕ → ℕ → Option OtherFamily
-other_family b t =
+abbrev pub extension_family_of : List ℕ → ℕ → Option ExtensionFamily
+extension_family_of b t =
     if nat_lt (length b) 2 || not (t == 20) then None
     else if slice_index b 0 == 16 then Some netlink
     else if slice_index b 0 == 17 then Some packet
@@ -43,41 +43,43 @@ other_family b t =
 -- The value of a message: a message of the port, or a reply of another family.
 pub data AnyMessage : Type 0 where
   of_port : Message → AnyMessage
-  of_family : (family : OtherFamily) → (codec_of family).Value → AnyMessage
+  of_family : (family : ExtensionFamily) → (extension_codec_of family).Value → AnyMessage
 
 -- The model of a view.
-abbrev pub viewed_any : AnySockDiagView → AnyMessage
-viewed_any (view.Port message) = of_port (message_view_model message)
-viewed_any (view.Netlink reply) = of_family netlink (view_model reply)
-viewed_any (view.Packet reply) = of_family packet (view_model reply)
-viewed_any (view.Vsock reply) = of_family vsock (view_model reply)
-viewed_any (view.Xdp reply) = of_family xdp (view_model reply)
+abbrev pub any_view_model : AnySockDiagView → AnyMessage
+any_view_model (view.Port message) = of_port (message_view_model message)
+any_view_model (view.Netlink reply) = of_family netlink (view_model reply)
+any_view_model (view.Packet reply) = of_family packet (view_model reply)
+any_view_model (view.Vsock reply) = of_family vsock (view_model reply)
+any_view_model (view.Xdp reply) = of_family xdp (view_model reply)
 
 -- The bytes `b` of a message of type `t` parse as the given value. For a reply of another family,
--- `other_family` returns that family and its codec parses the bytes as the reply. For a message of
--- the port, `other_family` returns `None` and the port parses the bytes as the message.
-abbrev pub AnyReads : List ℕ → ℕ → AnyMessage → Type 0
-AnyReads b t (of_port message) = (other_family b t ≡ None) × message_codec.reads b t message
-AnyReads b t (of_family family v) =
-    (other_family b t ≡ Some family) × (codec_of family).reads b tt v
+-- `extension_family_of` returns that family and its codec parses the bytes as the reply. For a
+-- message of the port, `extension_family_of` returns `None` and the port parses the bytes as the
+-- message.
+abbrev pub ParsesAsAnyMessage : List ℕ → ℕ → AnyMessage → Type 0
+ParsesAsAnyMessage b t (of_port message) =
+    (extension_family_of b t ≡ None) × message_codec.reads b t message
+ParsesAsAnyMessage b t (of_family family v) =
+    (extension_family_of b t ≡ Some family) × (extension_codec_of family).reads b tt v
 
 -- The codec of the given family, or the port's if it is `None`, rejects the bytes `b` with the
 -- error `e`. Only the port's codec depends on the message type `t`.
-abbrev pub refuses_by : Option OtherFamily → List ℕ → ℕ → DecodeError → Type 0
-refuses_by None b t e = message_codec.refuses b t e
-refuses_by (Some family) b t e = (codec_of family).refuses b tt e
+abbrev pub IsRejectedByExtensionFamily : Option ExtensionFamily → List ℕ → ℕ → DecodeError → Type 0
+IsRejectedByExtensionFamily None b t e = message_codec.refuses b t e
+IsRejectedByExtensionFamily (Some family) b t e = (extension_codec_of family).refuses b tt e
 
 -- The bytes `b` of a message of type `t` are rejected with the error `e`, by the codec of the
--- family that `other_family` returns.
-abbrev pub AnyRefuses : List ℕ → ℕ → DecodeError → Type 0
-AnyRefuses b t e = refuses_by (other_family b t) b t e
+-- family that `extension_family_of` returns.
+abbrev pub IsRejectedAsAnyMessage : List ℕ → ℕ → DecodeError → Type 0
+IsRejectedAsAnyMessage b t e = IsRejectedByExtensionFamily (extension_family_of b t) b t e
 
 -- The bytes that a message is serialized to.
 abbrev pub any_bytes : AnyMessage → List ℕ
 any_bytes (of_port message) = message_codec.written message
-any_bytes (of_family family v) = (codec_of family).written v
+any_bytes (of_family family v) = (extension_codec_of family).written v
 
 -- The message is writable: its lengths fit their length fields.
-abbrev pub AnyFits : AnyMessage → Type 0
-AnyFits (of_port message) = message_codec.fits message
-AnyFits (of_family family v) = (codec_of family).fits v
+abbrev pub IsAnyMessageWritable : AnyMessage → Type 0
+IsAnyMessageWritable (of_port message) = message_codec.fits message
+IsAnyMessageWritable (of_family family v) = (extension_codec_of family).fits v

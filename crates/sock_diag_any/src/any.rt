@@ -27,7 +27,8 @@ pub enum AnySockDiagView<'a> {
 }
 
 impl<'a> AnySockDiagView<'a> {
-    ghost use Rattle.sock_diag_any.specs.AnyMessage.{AnyReads, AnyRefuses, viewed_any};
+    ghost use Rattle.sock_diag_any.specs.AnyMessage.{ParsesAsAnyMessage, IsRejectedAsAnyMessage};
+    ghost use Rattle.sock_diag_any.specs.AnyMessage.{any_view_model};
 
     /// Parses all of the bytes as a reply under a message type.
     ///
@@ -36,8 +37,8 @@ impl<'a> AnySockDiagView<'a> {
     /// family. Otherwise [`SockDiagView::parse`] parses them.
     pub fn parse(payload: &'a [u8], message_type: u16) -> Result<AnySockDiagView<'a>, DecodeError>
         ensures value { IfOk result
-            (λ view. AnyReads payload.entry.now message_type (viewed_any view)) }
-        ensures fault { IfErr result (AnyRefuses payload.entry.now message_type) }
+            (λ view. ParsesAsAnyMessage payload.entry.now message_type (any_view_model view)) }
+        ensures fault { IfErr result (IsRejectedAsAnyMessage payload.entry.now message_type) }
     {
         if payload.len() >= 2 && message_type == SOCK_DIAG_BY_FAMILY {
             match payload[0] {
@@ -74,11 +75,12 @@ macro_rules! held {
 
 /// Serializes the reply in canonical form.
 impl Emitable for AnySockDiagView<'_> {
-    ghost use Rattle.sock_diag_any.specs.AnyMessage.{AnyFits, any_bytes, viewed_any};
+    ghost use Rattle.sock_diag_any.specs.AnyMessage.{IsAnyMessageWritable, any_bytes};
+    ghost use Rattle.sock_diag_any.specs.AnyMessage.{any_view_model};
 
-    ghost bytes = { λ v. any_bytes (viewed_any v) };
+    ghost bytes = { λ v. any_bytes (any_view_model v) };
 
-    ghost writable = { λ v. AnyFits (viewed_any v) };
+    ghost writable = { λ v. IsAnyMessageWritable (any_view_model v) };
 
     fn is_writable(&self) -> bool {
         held!(self, held => held.is_writable())

@@ -2,10 +2,10 @@
 
 ghost use Rattle.std.specs.Prelude.{◌≡◌, List, option_map};
 ghost use Rattle.netlink_core.specs.Attribute.{Attribute};
-ghost use Rattle.netlink_core.specs.Layout.{read};
-ghost use Rattle.netlink_core.specs.Parse.{exact_number};
+ghost use Rattle.netlink_core.specs.Layout.{parse_record};
+ghost use Rattle.netlink_core.specs.Parse.{number_of_width};
 ghost use Rattle.sock_diag_replies.specs.ViewModel.{view_model};
-ghost use Rattle.sock_diag_families.specs.Found.{first_value, within};
+ghost use Rattle.sock_diag_families.specs.Found.{first_value_of_kind, parse_if_present};
 
 use crate::{FamilyHeader, WholeView};
 use netlink_core::{DecodeError, Record, parse_u32, read_record};
@@ -19,12 +19,13 @@ pub trait WholeAttributes {
     /// Returns the value of the first attribute of the kind, or `None` if there is none.
     fn value_of(&self, kind: u16) -> Option<&[u8]>
         ensures { option_map (λ value. value.now) result
-            ≡ first_value kind (attributes self.now) };
+            ≡ first_value_of_kind kind (attributes self.now) };
 
     /// Parses the value of the first attribute of the kind as a little-endian `u32`. Returns `None`
     /// if the reply has no such attribute. A length other than 4 is `WrongLength`.
     fn number_of(&self, kind: u16) -> Result<Option<u32>, DecodeError>
-        ensures { result ≡ within (exact_number None 4) (first_value kind (attributes self.now)) }
+        ensures { result ≡ parse_if_present (number_of_width None 4)
+            (first_value_of_kind kind (attributes self.now)) }
     {
         match self.value_of(kind) {
             Some(value) => Ok(Some(parse_u32(value)?)),
@@ -36,7 +37,8 @@ pub trait WholeAttributes {
     /// `None` if the reply has no such attribute, and the error of the record's parser if the value
     /// is invalid.
     fn record_of<T: Record<Param = ()>>(&self, kind: u16) -> Result<Option<T>, DecodeError>
-        ensures { result ≡ within (read T.layout tt) (first_value kind (attributes self.now)) }
+        ensures { result ≡ parse_if_present (parse_record T.layout tt)
+            (first_value_of_kind kind (attributes self.now)) }
     {
         match self.value_of(kind) {
             Some(value) => Ok(Some(read_record(value, ())?)),
@@ -56,7 +58,7 @@ impl<H: FamilyHeader> WholeAttributes for WholeView<'_, H> {
 // Returns the value of the first attribute of the kind. It borrows from the reply's bytes.
 pub(crate) fn value_in<'a, H: FamilyHeader>(reply: &WholeView<'a, H>, kind: u16) -> Option<&'a [u8]>
     ensures { option_map (λ value. value.now) result
-        ≡ first_value kind (view_model reply.now).nlas }
+        ≡ first_value_of_kind kind (view_model reply.now).nlas }
 {
     let mut views = reply.attributes();
     while let Some(nla) = views.next() {

@@ -3,7 +3,7 @@
 
 ghost use Rattle.std.specs.Prelude.{◌≡◌, ◌↔◌, IfOk, IsOk, IsTrue};
 ghost use Rattle.sock_diag_replies.specs.ViewModel.{view_model};
-ghost use Rattle.sock_diag_any.specs.AnyMessage.{viewed_any};
+ghost use Rattle.sock_diag_any.specs.AnyMessage.{any_view_model};
 
 use crate::{AnySockDiagView, FamilyHeader, Whole, WholeView};
 use std::alloc::AllocError;
@@ -29,7 +29,7 @@ pub fn equal_whole_views<H: FamilyHeader>(v: &WholeView<'_, H>, w: &WholeView<'_
 /// their type fields and bytes for the other families.
 #[tactic(auto, using(crate::proofs::EqualAny::any_equal))]
 pub fn equal_any_views(v: &AnySockDiagView<'_>, w: &AnySockDiagView<'_>) -> bool
-    ensures { IsTrue result ↔ (viewed_any v.now ≡ viewed_any w.now) }
+    ensures { IsTrue result ↔ (any_view_model v.now ≡ any_view_model w.now) }
 {
     v == w
 }
@@ -47,7 +47,7 @@ pub fn copied_whole_view<'a, H: FamilyHeader>(
 /// Copies a borrowed reply of any family by `clone`, which never fails and returns the same reply.
 pub fn copied_any_view<'a>(view: &AnySockDiagView<'a>) -> Result<AnySockDiagView<'a>, AllocError>
     ensures ok { IsOk result }
-    ensures same { IfOk result (λ copy. viewed_any copy ≡ viewed_any view.now) }
+    ensures same { IfOk result (λ copy. any_view_model copy ≡ any_view_model view.now) }
 {
     view.clone()
 }

@@ -1,13 +1,13 @@
 //! Borrowed replies about netlink sockets.
 
 ghost use Rattle.std.specs.Prelude.{◌≡◌, option_map};
-ghost use Rattle.netlink_core.specs.Layout.{read};
-ghost use Rattle.netlink_core.specs.Parse.{exact_number};
+ghost use Rattle.netlink_core.specs.Layout.{parse_record};
+ghost use Rattle.netlink_core.specs.Parse.{number_of_width};
 ghost use Rattle.sock_diag_values.specs.MemInfo.{mem_info};
 ghost use Rattle.sock_diag_replies.specs.ViewModel.{view_model};
-ghost use Rattle.sock_diag_families.specs.Found.{first_value, within};
+ghost use Rattle.sock_diag_families.specs.Found.{first_value_of_kind, parse_if_present};
 ghost use Rattle.sock_diag_families.specs.laws.Record.{netlink_header_sound};
-ghost use Rattle.sock_diag_any.specs.laws.WholeReply.{plain_replies_keep_laws};
+ghost use Rattle.sock_diag_any.specs.laws.WholeReply.{raw_reply_codec_laws};
 
 use crate::attributes::value_in;
 use crate::{FamilyHeader, WholeAttributes, WholeView};
@@ -26,15 +26,15 @@ pub type NetlinkResponseView<'a> = WholeView<'a, NetlinkResponseHeader>;
 impl FamilyHeader for NetlinkResponseHeader {
     const NAME: &'static str = "NetlinkResponseView";
 
-    ghost keeps = { plain_replies_keep_laws netlink_header_sound };
+    ghost keeps = { raw_reply_codec_laws netlink_header_sound };
 }
 
 /// Returns the memory counters of the socket, `NETLINK_DIAG_MEMINFO`: `u32` fields in the order of
 /// `SK_MEMINFO_..` (linux/sock_diag.h). Returns the error of [`MemInfo`]'s parser if
 /// the value is invalid.
 pub fn memory(reply: &NetlinkResponseView<'_>) -> Result<Option<MemInfo>, DecodeError>
-    ensures { result ≡ within (read mem_info tt)
-        (first_value NETLINK_DIAG_MEMINFO (view_model reply.now).nlas) }
+    ensures { result ≡ parse_if_present (parse_record mem_info tt)
+        (first_value_of_kind NETLINK_DIAG_MEMINFO (view_model reply.now).nlas) }
 {
     reply.record_of(NETLINK_DIAG_MEMINFO)
 }
@@ -43,7 +43,7 @@ pub fn memory(reply: &NetlinkResponseView<'_>) -> Result<Option<MemInfo>, Decode
 /// each group. The lowest bit of the first byte is group 1.
 pub fn groups<'a>(reply: &NetlinkResponseView<'a>) -> Option<&'a [u8]>
     ensures { option_map (λ groups. groups.now) result
-        ≡ first_value NETLINK_DIAG_GROUPS (view_model reply.now).nlas }
+        ≡ first_value_of_kind NETLINK_DIAG_GROUPS (view_model reply.now).nlas }
 {
     value_in(reply, NETLINK_DIAG_GROUPS)
 }
@@ -51,8 +51,8 @@ pub fn groups<'a>(reply: &NetlinkResponseView<'a>) -> Option<&'a [u8]>
 /// Returns the flags `NDIAG_FLAG_..` of the socket, `NETLINK_DIAG_FLAGS`. A length other than 4 is
 /// `WrongLength`.
 pub fn flags(reply: &NetlinkResponseView<'_>) -> Result<Option<u32>, DecodeError>
-    ensures { result ≡ within (exact_number None 4)
-        (first_value NETLINK_DIAG_FLAGS (view_model reply.now).nlas) }
+    ensures { result ≡ parse_if_present (number_of_width None 4)
+        (first_value_of_kind NETLINK_DIAG_FLAGS (view_model reply.now).nlas) }
 {
     reply.number_of(NETLINK_DIAG_FLAGS)
 }

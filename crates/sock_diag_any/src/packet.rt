@@ -2,14 +2,14 @@
 //! returns `None` if the reply has none.
 
 ghost use Rattle.std.specs.Prelude.{◌≡◌, option_map};
-ghost use Rattle.netlink_core.specs.Layout.{read};
-ghost use Rattle.netlink_core.specs.Parse.{exact_number};
+ghost use Rattle.netlink_core.specs.Layout.{parse_record};
+ghost use Rattle.netlink_core.specs.Parse.{number_of_width};
 ghost use Rattle.sock_diag_values.specs.MemInfo.{mem_info};
 ghost use Rattle.sock_diag_replies.specs.ViewModel.{view_model};
-ghost use Rattle.sock_diag_families.specs.Found.{first_value, within};
+ghost use Rattle.sock_diag_families.specs.Found.{first_value_of_kind, parse_if_present};
 ghost use Rattle.sock_diag_families.specs.PacketAttributes.{packet_info, packet_ring};
 ghost use Rattle.sock_diag_families.specs.laws.Record.{packet_header_sound};
-ghost use Rattle.sock_diag_any.specs.laws.WholeReply.{plain_replies_keep_laws};
+ghost use Rattle.sock_diag_any.specs.laws.WholeReply.{raw_reply_codec_laws};
 
 use crate::attributes::value_in;
 use crate::{FamilyHeader, WholeAttributes, WholeView};
@@ -30,12 +30,13 @@ pub type PacketResponseView<'a> = WholeView<'a, PacketResponseHeader>;
 impl FamilyHeader for PacketResponseHeader {
     const NAME: &'static str = "PacketResponseView";
 
-    ghost keeps = { plain_replies_keep_laws packet_header_sound };
+    ghost keeps = { raw_reply_codec_laws packet_header_sound };
 }
 
 // Parses the first attribute of the kind as `struct packet_diag_ring`.
 fn ring(reply: &PacketResponseView<'_>, kind: u16) -> Result<Option<PacketRing>, DecodeError>
-    ensures { result ≡ within (packet_ring kind) (first_value kind (view_model reply.now).nlas) }
+    ensures { result ≡ parse_if_present (packet_ring kind)
+        (first_value_of_kind kind (view_model reply.now).nlas) }
 {
     match reply.value_of(kind) {
         Some(value) => Ok(Some(PacketRing::parse(value, kind)?)),
@@ -46,8 +47,8 @@ fn ring(reply: &PacketResponseView<'_>, kind: u16) -> Result<Option<PacketRing>,
 /// Returns the settings of the socket, `PACKET_DIAG_INFO`. An attribute of fewer than 24 bytes is
 /// `BufferTooSmall`.
 pub fn info(reply: &PacketResponseView<'_>) -> Result<Option<PacketInfo>, DecodeError>
-    ensures { result ≡ within packet_info
-        (first_value PACKET_DIAG_INFO (view_model reply.now).nlas) }
+    ensures { result ≡ parse_if_present packet_info
+        (first_value_of_kind PACKET_DIAG_INFO (view_model reply.now).nlas) }
 {
     match reply.value_of(PACKET_DIAG_INFO) {
         Some(value) => Ok(Some(PacketInfo::parse(value)?)),
@@ -59,7 +60,7 @@ pub fn info(reply: &PacketResponseView<'_>) -> Result<Option<PacketInfo>, Decode
 /// interface, `PACKET_DIAG_MCLIST`: 44 bytes each, `struct packet_diag_mclist`.
 pub fn addresses<'a>(reply: &PacketResponseView<'a>) -> Option<&'a [u8]>
     ensures { option_map (λ value. value.now) result
-        ≡ first_value PACKET_DIAG_MCLIST (view_model reply.now).nlas }
+        ≡ first_value_of_kind PACKET_DIAG_MCLIST (view_model reply.now).nlas }
 {
     value_in(reply, PACKET_DIAG_MCLIST)
 }
@@ -67,8 +68,8 @@ pub fn addresses<'a>(reply: &PacketResponseView<'a>) -> Option<&'a [u8]>
 /// Returns the receive ring, `PACKET_DIAG_RX_RING`. An attribute of fewer than 28 bytes is
 /// `BufferTooSmall`.
 pub fn receive_ring(reply: &PacketResponseView<'_>) -> Result<Option<PacketRing>, DecodeError>
-    ensures { result ≡ within (packet_ring PACKET_DIAG_RX_RING)
-        (first_value PACKET_DIAG_RX_RING (view_model reply.now).nlas) }
+    ensures { result ≡ parse_if_present (packet_ring PACKET_DIAG_RX_RING)
+        (first_value_of_kind PACKET_DIAG_RX_RING (view_model reply.now).nlas) }
 {
     ring(reply, PACKET_DIAG_RX_RING)
 }
@@ -76,8 +77,8 @@ pub fn receive_ring(reply: &PacketResponseView<'_>) -> Result<Option<PacketRing>
 /// Returns the transmit ring, `PACKET_DIAG_TX_RING`. An attribute of fewer than 28 bytes is
 /// `BufferTooSmall`.
 pub fn send_ring(reply: &PacketResponseView<'_>) -> Result<Option<PacketRing>, DecodeError>
-    ensures { result ≡ within (packet_ring PACKET_DIAG_TX_RING)
-        (first_value PACKET_DIAG_TX_RING (view_model reply.now).nlas) }
+    ensures { result ≡ parse_if_present (packet_ring PACKET_DIAG_TX_RING)
+        (first_value_of_kind PACKET_DIAG_TX_RING (view_model reply.now).nlas) }
 {
     ring(reply, PACKET_DIAG_TX_RING)
 }
@@ -85,8 +86,8 @@ pub fn send_ring(reply: &PacketResponseView<'_>) -> Result<Option<PacketRing>, D
 /// Returns the id of the fanout group in the low 16 bits and its mode in the high 16 bits,
 /// `PACKET_DIAG_FANOUT`. A length other than 4 is `WrongLength`.
 pub fn fanout(reply: &PacketResponseView<'_>) -> Result<Option<u32>, DecodeError>
-    ensures { result ≡ within (exact_number None 4)
-        (first_value PACKET_DIAG_FANOUT (view_model reply.now).nlas) }
+    ensures { result ≡ parse_if_present (number_of_width None 4)
+        (first_value_of_kind PACKET_DIAG_FANOUT (view_model reply.now).nlas) }
 {
     reply.number_of(PACKET_DIAG_FANOUT)
 }
@@ -94,8 +95,8 @@ pub fn fanout(reply: &PacketResponseView<'_>) -> Result<Option<u32>, DecodeError
 /// Returns the user id of the socket's owner, `PACKET_DIAG_UID`. A length other than 4 is
 /// `WrongLength`.
 pub fn owner(reply: &PacketResponseView<'_>) -> Result<Option<u32>, DecodeError>
-    ensures { result ≡ within (exact_number None 4)
-        (first_value PACKET_DIAG_UID (view_model reply.now).nlas) }
+    ensures { result ≡ parse_if_present (number_of_width None 4)
+        (first_value_of_kind PACKET_DIAG_UID (view_model reply.now).nlas) }
 {
     reply.number_of(PACKET_DIAG_UID)
 }
@@ -104,8 +105,8 @@ pub fn owner(reply: &PacketResponseView<'_>) -> Result<Option<u32>, DecodeError>
 /// `SK_MEMINFO_..` (linux/sock_diag.h). Returns the error of [`MemInfo`]'s parser if
 /// the value is invalid.
 pub fn memory(reply: &PacketResponseView<'_>) -> Result<Option<MemInfo>, DecodeError>
-    ensures { result ≡ within (read mem_info tt)
-        (first_value PACKET_DIAG_MEMINFO (view_model reply.now).nlas) }
+    ensures { result ≡ parse_if_present (parse_record mem_info tt)
+        (first_value_of_kind PACKET_DIAG_MEMINFO (view_model reply.now).nlas) }
 {
     reply.record_of(PACKET_DIAG_MEMINFO)
 }
@@ -114,7 +115,7 @@ pub fn memory(reply: &PacketResponseView<'_>) -> Result<Option<MemInfo>, DecodeE
 /// `struct sock_filter` (linux/filter.h).
 pub fn filter<'a>(reply: &PacketResponseView<'a>) -> Option<&'a [u8]>
     ensures { option_map (λ value. value.now) result
-        ≡ first_value PACKET_DIAG_FILTER (view_model reply.now).nlas }
+        ≡ first_value_of_kind PACKET_DIAG_FILTER (view_model reply.now).nlas }
 {
     value_in(reply, PACKET_DIAG_FILTER)
 }

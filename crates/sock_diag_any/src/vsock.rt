@@ -1,7 +1,7 @@
 //! Borrowed replies about vsock sockets.
 
 ghost use Rattle.sock_diag_families.specs.laws.Record.{vsock_header_sound};
-ghost use Rattle.sock_diag_any.specs.laws.WholeReply.{plain_replies_keep_laws};
+ghost use Rattle.sock_diag_any.specs.laws.WholeReply.{raw_reply_codec_laws};
 
 use crate::{FamilyHeader, WholeView};
 use sock_diag_families::vsock::VsockResponseHeader;
@@ -15,5 +15,5 @@ pub type VsockResponseView<'a> = WholeView<'a, VsockResponseHeader>;
 impl FamilyHeader for VsockResponseHeader {
     const NAME: &'static str = "VsockResponseView";
 
-    ghost keeps = { plain_replies_keep_laws vsock_header_sound };
+    ghost keeps = { raw_reply_codec_laws vsock_header_sound };
 }

@@ -1,12 +1,12 @@
 //! Replies whose attributes are not decoded.
 
 ghost use Rattle.std.specs.Prelude.{[], refl};
-ghost use Rattle.netlink_core.proofs.LayoutLaws.{accepted};
-ghost use Rattle.netlink_core.specs.Codec.{KeepsLaws};
+ghost use Rattle.netlink_core.proofs.LayoutLaws.{parsed_by_fields};
+ghost use Rattle.netlink_core.specs.Codec.{KeepsCodecLaws};
 ghost use Rattle.netlink_core.specs.Response.{response_codec};
 ghost use Rattle.sock_diag_replies.specs.laws.EqualResponse.{response_test};
 ghost use Rattle.sock_diag_replies.specs.laws.EqualResponse.{response_test_decides};
-ghost use Rattle.sock_diag_any.specs.WholeReply.{whole_reply};
+ghost use Rattle.sock_diag_any.specs.WholeReply.{raw_reply_spec};
 
 use attribute_lists::{check_nlas, check_nlas_len, emit_views, views_len};
 use netlink_core::{DecodeError, Emitable, Record, read_record};
@@ -19,7 +19,7 @@ pub trait FamilyHeader: Record<Param = ()> + Drop {
     const NAME: &'static str;
 
     // Proof only: the codec of a reply with this header keeps the codec laws.
-    ghost keeps: { KeepsLaws (response_codec (whole_reply Self.layout)) };
+    ghost keeps: { KeepsCodecLaws (response_codec (raw_reply_spec Self.layout)) };
 }
 
 /// The header of a reply whose attributes are not decoded, as a struct around the family's header.
@@ -32,7 +32,7 @@ pub type WholeView<'a, H> = ReplyView<'a, Whole<H>>;
 impl<H: FamilyHeader> ReplyHeader for Whole<H> {
     const VIEW: &'static str = H::NAME;
 
-    ghost reply = { whole_reply H.layout };
+    ghost reply = { raw_reply_spec H.layout };
 
     ghost header_model = { λ header. header.0 };
 
@@ -84,7 +84,7 @@ impl<H: FamilyHeader> ReplyHeader for Whole<H> {
         emit_views::<WholeNla<'_>>(bytes, rest);
     }
 
-    ghost enough = { λ b h is. (accepted H.layout tt b h is).long };
+    ghost enough = { λ b h is. (parsed_by_fields H.layout tt b h is).long };
 
     ghost keeps = { H.keeps };
 

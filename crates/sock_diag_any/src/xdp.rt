@@ -2,14 +2,14 @@
 //! returns `None` if the reply has none.
 
 ghost use Rattle.std.specs.Prelude.{◌≡◌};
-ghost use Rattle.netlink_core.specs.Layout.{read};
-ghost use Rattle.netlink_core.specs.Parse.{exact_number};
+ghost use Rattle.netlink_core.specs.Layout.{parse_record};
+ghost use Rattle.netlink_core.specs.Parse.{number_of_width};
 ghost use Rattle.sock_diag_values.specs.MemInfo.{mem_info};
 ghost use Rattle.sock_diag_replies.specs.ViewModel.{view_model};
-ghost use Rattle.sock_diag_families.specs.Found.{first_value, within};
+ghost use Rattle.sock_diag_families.specs.Found.{first_value_of_kind, parse_if_present};
 ghost use Rattle.sock_diag_families.specs.XdpAttributes.{xdp_info, xdp_umem, xdp_statistics};
 ghost use Rattle.sock_diag_families.specs.laws.Record.{xdp_header_sound};
-ghost use Rattle.sock_diag_any.specs.laws.WholeReply.{plain_replies_keep_laws};
+ghost use Rattle.sock_diag_any.specs.laws.WholeReply.{raw_reply_codec_laws};
 
 use crate::{FamilyHeader, WholeAttributes, WholeView};
 use netlink_core::DecodeError;
@@ -28,13 +28,14 @@ pub type XdpResponseView<'a> = WholeView<'a, XdpResponseHeader>;
 impl FamilyHeader for XdpResponseHeader {
     const NAME: &'static str = "XdpResponseView";
 
-    ghost keeps = { plain_replies_keep_laws xdp_header_sound };
+    ghost keeps = { raw_reply_codec_laws xdp_header_sound };
 }
 
 /// Returns the interface and the queue that the socket is bound to, `XDP_DIAG_INFO`. An attribute
 /// of fewer than 8 bytes is `BufferTooSmall`.
 pub fn info(reply: &XdpResponseView<'_>) -> Result<Option<XdpInfo>, DecodeError>
-    ensures { result ≡ within xdp_info (first_value XDP_DIAG_INFO (view_model reply.now).nlas) }
+    ensures { result ≡ parse_if_present xdp_info
+        (first_value_of_kind XDP_DIAG_INFO (view_model reply.now).nlas) }
 {
     match reply.value_of(XDP_DIAG_INFO) {
         Some(value) => Ok(Some(XdpInfo::parse(value)?)),
@@ -45,8 +46,8 @@ pub fn info(reply: &XdpResponseView<'_>) -> Result<Option<XdpInfo>, DecodeError>
 /// Returns the user id of the socket's owner: the little-endian `u32` in the first
 /// `XDP_DIAG_UID`, or `None` if the reply has none. A length other than 4 is `WrongLength`.
 pub fn owner(reply: &XdpResponseView<'_>) -> Result<Option<u32>, DecodeError>
-    ensures { result ≡ within (exact_number None 4)
-        (first_value XDP_DIAG_UID (view_model reply.now).nlas) }
+    ensures { result ≡ parse_if_present (number_of_width None 4)
+        (first_value_of_kind XDP_DIAG_UID (view_model reply.now).nlas) }
 {
     reply.number_of(XDP_DIAG_UID)
 }
@@ -55,8 +56,8 @@ pub fn owner(reply: &XdpResponseView<'_>) -> Result<Option<u32>, DecodeError>
 /// `u32` in the first `XDP_DIAG_RX_RING`, or `None` if the reply has none. A length other than 4 is
 /// `WrongLength`.
 pub fn receive_ring(reply: &XdpResponseView<'_>) -> Result<Option<u32>, DecodeError>
-    ensures { result ≡ within (exact_number None 4)
-        (first_value XDP_DIAG_RX_RING (view_model reply.now).nlas) }
+    ensures { result ≡ parse_if_present (number_of_width None 4)
+        (first_value_of_kind XDP_DIAG_RX_RING (view_model reply.now).nlas) }
 {
     reply.number_of(XDP_DIAG_RX_RING)
 }
@@ -65,8 +66,8 @@ pub fn receive_ring(reply: &XdpResponseView<'_>) -> Result<Option<u32>, DecodeEr
 /// `u32` in the first `XDP_DIAG_TX_RING`, or `None` if the reply has none. A length other than 4 is
 /// `WrongLength`.
 pub fn send_ring(reply: &XdpResponseView<'_>) -> Result<Option<u32>, DecodeError>
-    ensures { result ≡ within (exact_number None 4)
-        (first_value XDP_DIAG_TX_RING (view_model reply.now).nlas) }
+    ensures { result ≡ parse_if_present (number_of_width None 4)
+        (first_value_of_kind XDP_DIAG_TX_RING (view_model reply.now).nlas) }
 {
     reply.number_of(XDP_DIAG_TX_RING)
 }
@@ -74,7 +75,8 @@ pub fn send_ring(reply: &XdpResponseView<'_>) -> Result<Option<u32>, DecodeError
 /// Returns the shared memory area of the socket (UMEM), `XDP_DIAG_UMEM`. An attribute of fewer than
 /// 40 bytes is `BufferTooSmall`.
 pub fn shared_memory(reply: &XdpResponseView<'_>) -> Result<Option<XdpUmem>, DecodeError>
-    ensures { result ≡ within xdp_umem (first_value XDP_DIAG_UMEM (view_model reply.now).nlas) }
+    ensures { result ≡ parse_if_present xdp_umem
+        (first_value_of_kind XDP_DIAG_UMEM (view_model reply.now).nlas) }
 {
     match reply.value_of(XDP_DIAG_UMEM) {
         Some(value) => Ok(Some(XdpUmem::parse(value)?)),
@@ -86,8 +88,8 @@ pub fn shared_memory(reply: &XdpResponseView<'_>) -> Result<Option<XdpUmem>, Dec
 /// `SK_MEMINFO_..` (linux/sock_diag.h). Returns the error of [`MemInfo`]'s parser if
 /// the value is invalid.
 pub fn memory(reply: &XdpResponseView<'_>) -> Result<Option<MemInfo>, DecodeError>
-    ensures { result ≡ within (read mem_info tt)
-        (first_value XDP_DIAG_MEMINFO (view_model reply.now).nlas) }
+    ensures { result ≡ parse_if_present (parse_record mem_info tt)
+        (first_value_of_kind XDP_DIAG_MEMINFO (view_model reply.now).nlas) }
 {
     reply.record_of(XDP_DIAG_MEMINFO)
 }
@@ -95,8 +97,8 @@ pub fn memory(reply: &XdpResponseView<'_>) -> Result<Option<MemInfo>, DecodeErro
 /// Returns the counters of the socket, `XDP_DIAG_STATS`. An attribute of fewer than 48 bytes is
 /// `BufferTooSmall`.
 pub fn statistics(reply: &XdpResponseView<'_>) -> Result<Option<XdpStatistics>, DecodeError>
-    ensures { result ≡ within xdp_statistics
-        (first_value XDP_DIAG_STATS (view_model reply.now).nlas) }
+    ensures { result ≡ parse_if_present xdp_statistics
+        (first_value_of_kind XDP_DIAG_STATS (view_model reply.now).nlas) }
 {
     match reply.value_of(XDP_DIAG_STATS) {
         Some(value) => Ok(Some(XdpStatistics::parse(value)?)),

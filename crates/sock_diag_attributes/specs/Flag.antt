@@ -1,16 +1,18 @@
--- A boolean in one byte, as the value of an attribute. The arguments of `exact_value` are: how a
--- value is parsed, how it is serialized, which values are in range, and which are in normal form.
+-- A boolean in one byte, as the value of an attribute. The arguments of `whole_value_codec` are:
+-- how a value is parsed, how it is serialized, which values are in range, and which are in normal
+-- form.
 use Rattle.std.specs.Prelude.{◌≡◌, ℕ, ◌==◌, ◌↔◌, not, if◌then◌else◌, [], ◌∷◌, slice_index, Some, ⊤}
 use Rattle.netlink_core.specs.ValueCodec.{ValueCodec}
-use Rattle.netlink_core.specs.AttributeSpecs.{exact_value}
+use Rattle.netlink_core.specs.AttributeSpecs.{whole_value_codec}
 use Rattle.netlink_core.specs.Faults.{map_ok}
-use Rattle.netlink_core.specs.Parse.{exact_number}
+use Rattle.netlink_core.specs.Parse.{number_of_width}
 
 -- A flag of the attribute type `k` is exactly one byte, which is true if it is not zero. Any other
 -- length is `WrongLength`. True serializes to 1, and false to 0. Two values are equivalent (`idle`)
 -- if both are zero or neither is zero.
 abbrev pub flag_value : ℕ → ValueCodec (Unit {0})
-flag_value k = record (exact_value (λ b. map_ok (λ n. not (n == 0)) (exact_number (Some k) 1 b))
+flag_value k = record (whole_value_codec
+    (λ b. map_ok (λ n. not (n == 0)) (number_of_width (Some k) 1 b))
     (λ flag. (if flag then 1 else 0) ∷ []) (λ flag. ⊤) (λ flag. ⊤)) {
       idle = λ p left right. (slice_index left 0 ≡ 0) ↔ (slice_index right 0 ≡ 0);
     }

@@ -4,7 +4,8 @@
 use Rattle.std.specs.Prelude.{[], ◌∷◌}
 use Rattle.netlink_core.specs.AttributeSet.{AttributeSet}
 use Rattle.netlink_core.specs.ValueCodec.{value_codec}
-use Rattle.netlink_core.specs.AttributeSpecs.{spec, memory_spec, number_spec}
+use Rattle.netlink_core.specs.AttributeSpecs.{attribute_spec, allocating_attribute_spec}
+use Rattle.netlink_core.specs.AttributeSpecs.{number_attribute_spec}
 use Rattle.sock_diag_values.specs.LegacyMemInfo.{legacy_mem_info}
 use Rattle.sock_diag_values.specs.MemInfo.{mem_info}
 use Rattle.sock_diag_values.specs.TcpInfo.{tcp_info}
@@ -23,19 +24,19 @@ use Rattle.sock_diag_records.specs.declared.constants.TheConstants.{INET_DIAG_CL
 -- Types 1 (`struct inet_diag_meminfo`), 2 (`struct tcp_info`), 4 (the name of the congestion
 -- control algorithm), 5 (type of service), 6 (traffic class), 7 (`u32` values, indexed by
 -- SK_MEMINFO_..), 8 (the directions that are shut down), 10 (IPPROTO_..), 11 (whether the socket is
--- restricted to IPv6), 15 (the mark) and 17 (the traffic control class). `number_spec t w` is a
--- little-endian number of exactly `w` bytes. The value of a `memory_spec` needs memory, the value
--- of any other type does not.
-abbrev pub inet : AttributeSet
-inet =
-    spec INET_DIAG_MEMINFO (value_codec legacy_mem_info) ∷
-    spec INET_DIAG_INFO (value_codec tcp_info) ∷
-    memory_spec INET_DIAG_CONG text_value ∷
-    number_spec INET_DIAG_TOS 1 ∷
-    number_spec INET_DIAG_TCLASS 1 ∷
-    spec INET_DIAG_SKMEMINFO (value_codec mem_info) ∷
-    number_spec INET_DIAG_SHUTDOWN 1 ∷
-    number_spec INET_DIAG_PROTOCOL 1 ∷
-    spec INET_DIAG_SKV6ONLY (flag_value INET_DIAG_SKV6ONLY) ∷
-    number_spec INET_DIAG_MARK 4 ∷
-    number_spec INET_DIAG_CLASS_ID 4 ∷ []
+-- restricted to IPv6), 15 (the mark) and 17 (the traffic control class). `number_attribute_spec t
+-- w` is a little-endian number of exactly `w` bytes. The value of a `allocating_attribute_spec`
+-- needs memory, the value of any other type does not.
+abbrev pub inet_attribute_set : AttributeSet
+inet_attribute_set =
+    attribute_spec INET_DIAG_MEMINFO (value_codec legacy_mem_info) ∷
+    attribute_spec INET_DIAG_INFO (value_codec tcp_info) ∷
+    allocating_attribute_spec INET_DIAG_CONG text_value ∷
+    number_attribute_spec INET_DIAG_TOS 1 ∷
+    number_attribute_spec INET_DIAG_TCLASS 1 ∷
+    attribute_spec INET_DIAG_SKMEMINFO (value_codec mem_info) ∷
+    number_attribute_spec INET_DIAG_SHUTDOWN 1 ∷
+    number_attribute_spec INET_DIAG_PROTOCOL 1 ∷
+    attribute_spec INET_DIAG_SKV6ONLY (flag_value INET_DIAG_SKV6ONLY) ∷
+    number_attribute_spec INET_DIAG_MARK 4 ∷
+    number_attribute_spec INET_DIAG_CLASS_ID 4 ∷ []

@@ -6,12 +6,12 @@ use Rattle.std.specs.declared.alloc.Global.{Global}
 use Rattle.netlink_core.specs.declared.attribute.NlaBuffer.{NlaBuffer}
 use Rattle.netlink_core.specs.declared.nla.DefaultNla.{DefaultNla}
 use Rattle.netlink_core.specs.Attribute.{Attribute}
-use Rattle.netlink_core.specs.DefaultNla.{kept_attribute}
-use Rattle.netlink_core.specs.AttributeSet.{AttributeValue, of_type}
-use Rattle.netlink_core.specs.Walk.{attribute_of}
+use Rattle.netlink_core.specs.DefaultNla.{raw_attribute}
+use Rattle.netlink_core.specs.AttributeSet.{AttributeValue, value_as_decoded}
+use Rattle.netlink_core.specs.Walk.{buffered_attribute}
 use Rattle.sock_diag_attributes.specs.declared.inet.nlas.InetNla.{InetNla}
 use Rattle.sock_diag_attributes.specs.declared.inet.nlas.InetNla.TheVariants as nla
-use Rattle.sock_diag_attributes.specs.InetAttributes.{inet}
+use Rattle.sock_diag_attributes.specs.InetAttributes.{inet_attribute_set}
 use Rattle.sock_diag_records.specs.declared.constants.TheConstants.{INET_DIAG_MEMINFO}
 use Rattle.sock_diag_records.specs.declared.constants.TheConstants.{INET_DIAG_INFO}
 use Rattle.sock_diag_records.specs.declared.constants.TheConstants.{INET_DIAG_CONG}
@@ -29,22 +29,22 @@ use Rattle.sock_diag_records.specs.declared.constants.TheConstants.{INET_DIAG_CL
 module _ {T O : Type 0} (text : T → List ℕ) (other : O → Attribute) where
   -- the decoded value of an attribute; no type in the set has the number 0xffff, so that `Other` is
   -- a raw attribute
-  abbrev pub model : InetNla T O → AttributeValue inet
-  model (nla.LegacyMemInfo m) = of_type inet INET_DIAG_MEMINFO m
-  model (nla.TcpInfo t) = of_type inet INET_DIAG_INFO t
-  model (nla.Congestion t) = of_type inet INET_DIAG_CONG (text t)
-  model (nla.Tos n) = of_type inet INET_DIAG_TOS n
-  model (nla.Tc n) = of_type inet INET_DIAG_TCLASS n
-  model (nla.MemInfo m) = of_type inet INET_DIAG_SKMEMINFO m
-  model (nla.Shutdown n) = of_type inet INET_DIAG_SHUTDOWN n
-  model (nla.Protocol n) = of_type inet INET_DIAG_PROTOCOL n
-  model (nla.SkV6Only flag) = of_type inet INET_DIAG_SKV6ONLY flag
-  model (nla.Mark n) = of_type inet INET_DIAG_MARK n
-  model (nla.ClassId n) = of_type inet INET_DIAG_CLASS_ID n
-  model (nla.Other a) = of_type inet 0xffff (other a)
+  abbrev pub inet_nla_value : InetNla T O → AttributeValue inet_attribute_set
+  inet_nla_value (nla.LegacyMemInfo m) = value_as_decoded inet_attribute_set INET_DIAG_MEMINFO m
+  inet_nla_value (nla.TcpInfo t) = value_as_decoded inet_attribute_set INET_DIAG_INFO t
+  inet_nla_value (nla.Congestion t) = value_as_decoded inet_attribute_set INET_DIAG_CONG (text t)
+  inet_nla_value (nla.Tos n) = value_as_decoded inet_attribute_set INET_DIAG_TOS n
+  inet_nla_value (nla.Tc n) = value_as_decoded inet_attribute_set INET_DIAG_TCLASS n
+  inet_nla_value (nla.MemInfo m) = value_as_decoded inet_attribute_set INET_DIAG_SKMEMINFO m
+  inet_nla_value (nla.Shutdown n) = value_as_decoded inet_attribute_set INET_DIAG_SHUTDOWN n
+  inet_nla_value (nla.Protocol n) = value_as_decoded inet_attribute_set INET_DIAG_PROTOCOL n
+  inet_nla_value (nla.SkV6Only flag) = value_as_decoded inet_attribute_set INET_DIAG_SKV6ONLY flag
+  inet_nla_value (nla.Mark n) = value_as_decoded inet_attribute_set INET_DIAG_MARK n
+  inet_nla_value (nla.ClassId n) = value_as_decoded inet_attribute_set INET_DIAG_CLASS_ID n
+  inet_nla_value (nla.Other a) = value_as_decoded inet_attribute_set 0xffff (other a)
 
 -- the variant of a decoded value; the values of the types are nested in the order of the set
-abbrev pub inet_variant : AttributeValue inet → InetNla (List ℕ) Attribute
+abbrev pub inet_variant : AttributeValue inet_attribute_set → InetNla (List ℕ) Attribute
 inet_variant (inl memory) = nla.LegacyMemInfo memory
 inet_variant (inr (inl info)) = nla.TcpInfo info
 inet_variant (inr (inr (inl name))) = nla.Congestion name
@@ -61,9 +61,10 @@ inet_variant (inr (inr (inr (inr (inr (inr (inr (inr (inr (inr (inr other)))))))
     nla.Other other
 
 -- the model of an owned attribute
-abbrev pub nla_model : InetNla (String Global) DefaultNla → AttributeValue inet
-nla_model a = model string_bytes kept_attribute a
+abbrev pub inet_nla_model : InetNla (String Global) DefaultNla → AttributeValue inet_attribute_set
+inet_nla_model a = inet_nla_value string_bytes raw_attribute a
 
 -- the model of a borrowed attribute
-abbrev pub nla_view_model : InetNla (Bor (List ℕ)) NlaBuffer → AttributeValue inet
-nla_view_model a = model (λ (t : Bor (List ℕ)). t.now) attribute_of a
+abbrev pub inet_nla_view_model : InetNla (Bor (List ℕ)) NlaBuffer
+    → AttributeValue inet_attribute_set
+inet_nla_view_model a = inet_nla_value (λ (t : Bor (List ℕ)). t.now) buffered_attribute a

@@ -5,7 +5,7 @@ use Rattle.std.specs.List.{position_or_len}
 use Rattle.netlink_core.specs.Bytes.{IsBytes}
 use Rattle.netlink_core.specs.Codec.{Codec, as_codec}
 use Rattle.netlink_core.specs.ValueCodec.{ValueCodec}
-use Rattle.netlink_core.specs.AttributeSpecs.{exact_value}
+use Rattle.netlink_core.specs.AttributeSpecs.{whole_value_codec}
 use Rattle.netlink_core.specs.declared.fault.DecodeError.{DecodeError}
 use Rattle.netlink_core.specs.declared.fault.DecodeError.TheVariants.{NameEmpty, NameInnerZero}
 use Rattle.netlink_core.specs.declared.fault.DecodeError.TheVariants.{NameWithoutEnd}
@@ -36,7 +36,7 @@ read_name bytes = let i = position_or_len (λ byte. byte == 0) bytes in
 -- a name as the value of an attribute: how it is parsed and serialized, when it is in range (if it
 -- serializes to bytes), and its normal form; only equal values are equivalent
 abbrev pub name_value : ValueCodec (Unit {0})
-name_value = exact_value read_name name_bytes (λ name. IsBytes (name_bytes name)) IsNormalName
+name_value = whole_value_codec read_name name_bytes (λ name. IsBytes (name_bytes name)) IsNormalName
 
 -- a name by itself: it needs memory, and is writable if it has at most 4,294,967,295 bytes
 abbrev pub name_codec : Codec (Unit {0})

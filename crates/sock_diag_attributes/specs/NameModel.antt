@@ -4,6 +4,6 @@ use Rattle.sock_diag_attributes.specs.declared.unix.name.SocketName.{SocketName}
 use Rattle.sock_diag_attributes.specs.declared.unix.name.SocketName.TheVariants.{Pathname, Abstract}
 
 -- the name with its bytes as a list, by the function `bytes` from the type that holds them
-abbrev pub name_of : {B : Type 0} → (B → List ℕ) → SocketName B → SocketName (List ℕ)
-name_of bytes (Pathname path) = Pathname (bytes path)
-name_of bytes (Abstract address) = Abstract (bytes address)
+abbrev pub socket_name_model : {B : Type 0} → (B → List ℕ) → SocketName B → SocketName (List ℕ)
+socket_name_model bytes (Pathname path) = Pathname (bytes path)
+socket_name_model bytes (Abstract address) = Abstract (bytes address)

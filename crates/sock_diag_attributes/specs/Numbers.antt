@@ -1,9 +1,9 @@
 -- Little-endian numbers that make up the complete value of an attribute. The arguments of
--- `exact_value` are: how a value is parsed, how it is serialized, which values are in range, and
--- which are in normal form. With `exact_value`, only equal bytes are equivalent (`idle`).
+-- `whole_value_codec` are: how a value is parsed, how it is serialized, which values are in range,
+-- and which are in normal form. With `whole_value_codec`, only equal bytes are equivalent (`idle`).
 use Rattle.std.specs.List.{AllByRecursion}
 use Rattle.netlink_core.specs.ValueCodec.{ValueCodec}
-use Rattle.netlink_core.specs.AttributeSpecs.{exact_value}
+use Rattle.netlink_core.specs.AttributeSpecs.{whole_value_codec}
 use Rattle.std.specs.Prelude.{⊤, ◌<◌, ◌^◌, ℕ, ◌%◌, ◌==◌, if◌then◌else◌, List, [], ◌∷◌, ◌++◌, length}
 use Rattle.std.specs.Prelude.{drop, flat_map, Some, Ok, Err}
 use Rattle.byteorder.specs.Endian.{little_number, little_bytes}
@@ -18,8 +18,8 @@ numbers_in bytes = []
 
 -- two little-endian numbers of four bytes each, in exactly eight bytes, as the value of an
 -- attribute of type `k`; any other length is `WrongLength`
-abbrev pub two_value : ℕ → ValueCodec (Unit {0})
-two_value k = exact_value {A = ℕ × ℕ}
+abbrev pub number_pair_value : ℕ → ValueCodec (Unit {0})
+number_pair_value k = whole_value_codec {A = ℕ × ℕ}
     (λ b. if length b == 8 then Ok (little_number 4 b, little_number 4 (drop 4 b))
     else Err (WrongLength (Some k) (length b) 8)) (λ ns. little_bytes 4 ns.0 ++ little_bytes 4 ns.1)
     (λ ns. (ns.0 < 2 ^ 32) × (ns.1 < 2 ^ 32)) (λ ns. ⊤)
@@ -27,6 +27,6 @@ two_value k = exact_value {A = ℕ × ℕ}
 -- any count of little-endian numbers of four bytes each, as the value of an attribute; a length
 -- that is not a multiple of four is `NotMultipleOfFour`
 abbrev pub numbers_value : ValueCodec (Unit {0})
-numbers_value = exact_value
+numbers_value = whole_value_codec
     (λ b. if length b % 4 == 0 then Ok (numbers_in b) else Err (NotMultipleOfFour (length b)))
     (flat_map (little_bytes 4)) (AllByRecursion (λ n. n < 2 ^ 32)) (λ ns. ⊤)

@@ -1,20 +1,22 @@
--- A text as the value of an attribute. The arguments of `exact_value` are: how a value is parsed,
--- how it is serialized, which values are in range, and which are in normal form.
+-- A text as the value of an attribute. The arguments of `whole_value_codec` are: how a value is
+-- parsed, how it is serialized, which values are in range, and which are in normal form.
 use Rattle.std.specs.Prelude.{◌≡◌, ℕ, ◌⊎◌, List, [], ◌∷◌, ◌++◌, IsUtf8, ⊤}
 use Rattle.netlink_core.specs.Bytes.{IsBytes}
-use Rattle.netlink_core.specs.Parse.{text_in}
+use Rattle.netlink_core.specs.Parse.{parse_text}
 use Rattle.netlink_core.specs.ValueCodec.{ValueCodec}
-use Rattle.netlink_core.specs.AttributeSpecs.{exact_value}
+use Rattle.netlink_core.specs.AttributeSpecs.{whole_value_codec}
 
 -- `right` is `left` with one zero byte added, and `left` does not end in a zero byte
-abbrev pub AddsEndZero : List ℕ → List ℕ → Type 0
-AddsEndZero left right = ¬ ((front : List ℕ) × (left ≡ front ++ 0 ∷ [])) × (right ≡ left ++ 0 ∷ [])
+abbrev pub AddsTerminatingNul : List ℕ → List ℕ → Type 0
+AddsTerminatingNul left right =
+    ¬ ((front : List ℕ) × (left ≡ front ++ 0 ∷ [])) × (right ≡ left ++ 0 ∷ [])
 
 -- A text is the value without one terminating NUL, if it has one. It must be UTF-8, and its model
 -- is its bytes. It always serializes with one terminating NUL. Two values are equivalent (`idle`)
 -- if they are equal, or if one is the other, which has no terminating NUL, with one added.
 abbrev pub text_value : ValueCodec (Unit {0})
-text_value = record (exact_value text_in (λ text. text ++ 0 ∷ [])
+text_value = record (whole_value_codec parse_text (λ text. text ++ 0 ∷ [])
     (λ text. IsUtf8 text × IsBytes text) (λ text. ⊤)) {
-      idle = λ p left right. (left ≡ right) ⊎ (AddsEndZero left right ⊎ AddsEndZero right left);
+      idle = λ p left right. (left ≡ right)
+          ⊎ (AddsTerminatingNul left right ⊎ AddsTerminatingNul right left);
     }

@@ -4,11 +4,12 @@
 use Rattle.std.specs.Prelude.{[], ◌∷◌}
 use Rattle.netlink_core.specs.AttributeSet.{AttributeSet}
 use Rattle.netlink_core.specs.ValueCodec.{value_codec}
-use Rattle.netlink_core.specs.AttributeSpecs.{spec, memory_spec, number_spec}
+use Rattle.netlink_core.specs.AttributeSpecs.{attribute_spec, allocating_attribute_spec}
+use Rattle.netlink_core.specs.AttributeSpecs.{number_attribute_spec}
 use Rattle.sock_diag_values.specs.Vfs.{vfs}
 use Rattle.sock_diag_values.specs.UnixMemInfo.{unix_mem_info}
 use Rattle.sock_diag_attributes.specs.Name.{name_value}
-use Rattle.sock_diag_attributes.specs.Numbers.{two_value, numbers_value}
+use Rattle.sock_diag_attributes.specs.Numbers.{number_pair_value, numbers_value}
 use Rattle.sock_diag_records.specs.declared.constants.TheConstants.{UNIX_DIAG_NAME, UNIX_DIAG_VFS}
 use Rattle.sock_diag_records.specs.declared.constants.TheConstants.{UNIX_DIAG_PEER, UNIX_DIAG_ICONS}
 use Rattle.sock_diag_records.specs.declared.constants.TheConstants.{UNIX_DIAG_RQLEN}
@@ -17,15 +18,15 @@ use Rattle.sock_diag_records.specs.declared.constants.TheConstants.{UNIX_DIAG_SH
 
 -- Types 0 (the name), 1 (`struct unix_diag_vfs`), 2 (the inode of the peer), 3 (the inodes of the
 -- connections that wait to be accepted), 4 (`struct unix_diag_rqlen`), 5 (`u32` values, indexed by
--- SK_MEMINFO_..) and 6 (the directions that are shut down). `number_spec t w` is a little-endian
--- number of exactly `w` bytes. The value of a `memory_spec` needs memory, the value of any other
--- type does not.
-abbrev pub unix : AttributeSet
-unix =
-    memory_spec UNIX_DIAG_NAME name_value ∷
-    spec UNIX_DIAG_VFS (value_codec vfs) ∷
-    number_spec UNIX_DIAG_PEER 4 ∷
-    memory_spec UNIX_DIAG_ICONS numbers_value ∷
-    spec UNIX_DIAG_RQLEN (two_value UNIX_DIAG_RQLEN) ∷
-    spec UNIX_DIAG_MEMINFO (value_codec unix_mem_info) ∷
-    number_spec UNIX_DIAG_SHUTDOWN 1 ∷ []
+-- SK_MEMINFO_..) and 6 (the directions that are shut down). `number_attribute_spec t w` is a
+-- little-endian number of exactly `w` bytes. The value of a `allocating_attribute_spec` needs
+-- memory, the value of any other type does not.
+abbrev pub unix_attribute_set : AttributeSet
+unix_attribute_set =
+    allocating_attribute_spec UNIX_DIAG_NAME name_value ∷
+    attribute_spec UNIX_DIAG_VFS (value_codec vfs) ∷
+    number_attribute_spec UNIX_DIAG_PEER 4 ∷
+    allocating_attribute_spec UNIX_DIAG_ICONS numbers_value ∷
+    attribute_spec UNIX_DIAG_RQLEN (number_pair_value UNIX_DIAG_RQLEN) ∷
+    attribute_spec UNIX_DIAG_MEMINFO (value_codec unix_mem_info) ∷
+    number_attribute_spec UNIX_DIAG_SHUTDOWN 1 ∷ []

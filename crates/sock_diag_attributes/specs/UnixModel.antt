@@ -6,16 +6,16 @@ use Rattle.std.specs.declared.alloc.Global.{Global}
 use Rattle.netlink_core.specs.declared.attribute.NlaBuffer.{NlaBuffer}
 use Rattle.netlink_core.specs.declared.nla.DefaultNla.{DefaultNla}
 use Rattle.netlink_core.specs.Attribute.{Attribute}
-use Rattle.netlink_core.specs.DefaultNla.{kept_attribute}
-use Rattle.netlink_core.specs.AttributeSet.{AttributeValue, of_type}
-use Rattle.netlink_core.specs.Walk.{attribute_of}
+use Rattle.netlink_core.specs.DefaultNla.{raw_attribute}
+use Rattle.netlink_core.specs.AttributeSet.{AttributeValue, value_as_decoded}
+use Rattle.netlink_core.specs.Walk.{buffered_attribute}
 use Rattle.sock_diag_attributes.specs.declared.numbers.NumbersView.{NumbersView}
 use Rattle.sock_diag_attributes.specs.declared.unix.name.SocketName.{SocketName}
 use Rattle.sock_diag_attributes.specs.declared.unix.nlas.UnixNla.{UnixNla}
 use Rattle.sock_diag_attributes.specs.declared.unix.nlas.UnixNla.TheVariants as nla
-use Rattle.sock_diag_attributes.specs.NameModel.{name_of}
+use Rattle.sock_diag_attributes.specs.NameModel.{socket_name_model}
 use Rattle.sock_diag_attributes.specs.NumbersModel.{numbers_view_model}
-use Rattle.sock_diag_attributes.specs.UnixAttributes.{unix}
+use Rattle.sock_diag_attributes.specs.UnixAttributes.{unix_attribute_set}
 use Rattle.sock_diag_records.specs.declared.constants.TheConstants.{UNIX_DIAG_NAME}
 use Rattle.sock_diag_records.specs.declared.constants.TheConstants.{UNIX_DIAG_VFS}
 use Rattle.sock_diag_records.specs.declared.constants.TheConstants.{UNIX_DIAG_PEER}
@@ -31,18 +31,21 @@ module _ {N L O : Type 0} (name : N → SocketName (List ℕ)) (list : L → Lis
     (other : O → Attribute) where
   -- the decoded value of an attribute; no type in the set has the number 0xffff, so that `Other` is
   -- a raw attribute
-  abbrev pub model : UnixNla N L O → AttributeValue unix
-  model (nla.Name n) = of_type unix UNIX_DIAG_NAME (name n)
-  model (nla.Vfs v) = of_type unix UNIX_DIAG_VFS v
-  model (nla.Peer n) = of_type unix UNIX_DIAG_PEER n
-  model (nla.PendingConnections ns) = of_type unix UNIX_DIAG_ICONS (list ns)
-  model (nla.ReceiveQueueLength first second) = of_type unix UNIX_DIAG_RQLEN (first, second)
-  model (nla.MemInfo m) = of_type unix UNIX_DIAG_MEMINFO m
-  model (nla.Shutdown n) = of_type unix UNIX_DIAG_SHUTDOWN n
-  model (nla.Other a) = of_type unix 0xffff (other a)
+  abbrev pub unix_nla_value : UnixNla N L O → AttributeValue unix_attribute_set
+  unix_nla_value (nla.Name n) = value_as_decoded unix_attribute_set UNIX_DIAG_NAME (name n)
+  unix_nla_value (nla.Vfs v) = value_as_decoded unix_attribute_set UNIX_DIAG_VFS v
+  unix_nla_value (nla.Peer n) = value_as_decoded unix_attribute_set UNIX_DIAG_PEER n
+  unix_nla_value (nla.PendingConnections ns) =
+      value_as_decoded unix_attribute_set UNIX_DIAG_ICONS (list ns)
+  unix_nla_value (nla.ReceiveQueueLength first second) =
+      value_as_decoded unix_attribute_set UNIX_DIAG_RQLEN (first, second)
+  unix_nla_value (nla.MemInfo m) = value_as_decoded unix_attribute_set UNIX_DIAG_MEMINFO m
+  unix_nla_value (nla.Shutdown n) = value_as_decoded unix_attribute_set UNIX_DIAG_SHUTDOWN n
+  unix_nla_value (nla.Other a) = value_as_decoded unix_attribute_set 0xffff (other a)
 
 -- the variant of a decoded value; the values of the types are nested in the order of the set
-abbrev pub unix_variant : AttributeValue unix → UnixNla (SocketName (List ℕ)) (List ℕ) Attribute
+abbrev pub unix_variant : AttributeValue unix_attribute_set
+    → UnixNla (SocketName (List ℕ)) (List ℕ) Attribute
 unix_variant (inl name) = nla.Name name
 unix_variant (inr (inl file)) = nla.Vfs file
 unix_variant (inr (inr (inl inode))) = nla.Peer inode
@@ -53,11 +56,12 @@ unix_variant (inr (inr (inr (inr (inr (inr (inl state))))))) = nla.Shutdown stat
 unix_variant (inr (inr (inr (inr (inr (inr (inr other))))))) = nla.Other other
 
 -- the model of an owned attribute
-abbrev pub nla_model : UnixNla (SocketName (Vec ℕ Global)) (Vec ℕ Global) DefaultNla
-    → AttributeValue unix
-nla_model a = model (name_of vec_items) vec_items kept_attribute a
+abbrev pub unix_nla_model : UnixNla (SocketName (Vec ℕ Global)) (Vec ℕ Global) DefaultNla
+    → AttributeValue unix_attribute_set
+unix_nla_model a = unix_nla_value (socket_name_model vec_items) vec_items raw_attribute a
 
 -- the model of a borrowed attribute
-abbrev pub nla_view_model : UnixNla (SocketName (Bor (List ℕ))) NumbersView NlaBuffer
-    → AttributeValue unix
-nla_view_model a = model (name_of (λ (b : Bor (List ℕ)). b.now)) numbers_view_model attribute_of a
+abbrev pub unix_nla_view_model : UnixNla (SocketName (Bor (List ℕ))) NumbersView NlaBuffer
+    → AttributeValue unix_attribute_set
+unix_nla_view_model a = unix_nla_value (socket_name_model (λ (b : Bor (List ℕ)). b.now))
+    numbers_view_model buffered_attribute a

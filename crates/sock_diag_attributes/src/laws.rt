@@ -1,15 +1,15 @@
 //! Properties of attributes and names. Proof only: the contracts state the properties.
 
 ghost use Rattle.std.specs.Prelude.{◌≡◌, ◌↔◌, IsTrue, IsOk, IfOk, true};
-ghost use Rattle.sock_diag_attributes.specs.NameModel.{name_of};
+ghost use Rattle.sock_diag_attributes.specs.NameModel.{socket_name_model};
 ghost use Rattle.sock_diag_attributes.specs.NumbersModel.{numbers_left, numbers_view_model};
 ghost use Rattle.netlink_core.specs.AttributeSet.{AttributeValue};
-ghost use Rattle.sock_diag_attributes.specs.InetAttributes.{inet};
-ghost use Rattle.sock_diag_attributes.specs.InetModel.{inet_variant, model as inet_model};
-ghost use Rattle.sock_diag_attributes.specs.InetModel.{nla_view_model as inet_view_model};
-ghost use Rattle.sock_diag_attributes.specs.UnixAttributes.{unix};
-ghost use Rattle.sock_diag_attributes.specs.UnixModel.{model as unix_model, unix_variant};
-ghost use Rattle.sock_diag_attributes.specs.UnixModel.{nla_view_model as unix_view_model};
+ghost use Rattle.sock_diag_attributes.specs.InetAttributes.{inet_attribute_set};
+ghost use Rattle.sock_diag_attributes.specs.InetModel.{inet_variant, inet_nla_value as inet_model};
+ghost use Rattle.sock_diag_attributes.specs.InetModel.{inet_nla_view_model as inet_view_model};
+ghost use Rattle.sock_diag_attributes.specs.UnixAttributes.{unix_attribute_set};
+ghost use Rattle.sock_diag_attributes.specs.UnixModel.{unix_nla_value as unix_model, unix_variant};
+ghost use Rattle.sock_diag_attributes.specs.UnixModel.{unix_nla_view_model as unix_view_model};
 
 use crate::inet::nlas::{Nla as InetNla, NlaView as InetNlaView};
 use crate::unix::nlas::{
@@ -32,7 +32,7 @@ pub fn readers_take_memory() -> (bool, bool, bool)
 /// Each decoded value of an attribute of a reply about a UNIX socket is the model of its variant.
 #[tactic(auto, using(crate::specs::laws::Variant::same_unix_variant))]
 pub fn unix_values_are_variants()
-    ensures { (v : AttributeValue unix)
+    ensures { (v : AttributeValue unix_attribute_set)
         → unix_model (λ name. name) (λ list. list) (λ other. other) (unix_variant v) ≡ v }
 {}
 
@@ -40,13 +40,14 @@ pub fn unix_values_are_variants()
 /// variant.
 #[tactic(auto, using(crate::specs::laws::Variant::same_inet_variant))]
 pub fn inet_values_are_variants()
-    ensures { (v : AttributeValue inet)
+    ensures { (v : AttributeValue inet_attribute_set)
         → inet_model (λ text. text) (λ other. other) (inet_variant v) ≡ v }
 {}
 
 /// `==` of two borrowed names is true if and only if the names are equal.
 pub fn equal_name_views(v: &NameView<'_>, w: &NameView<'_>) -> bool
-    ensures { IsTrue result ↔ (name_of (λ b. b.now) v.now ≡ name_of (λ b. b.now) w.now) }
+    ensures { IsTrue result ↔ (socket_name_model (λ b. b.now) v.now
+        ≡ socket_name_model (λ b. b.now) w.now) }
 {
     v == w
 }
@@ -78,7 +79,8 @@ pub fn equal_inet_views(v: &InetNlaView<'_>, w: &InetNlaView<'_>) -> bool
 /// The clone of a borrowed name is the same name.
 pub fn copied_name_view<'a>(view: &NameView<'a>) -> Result<NameView<'a>, AllocError>
     ensures ok { IsOk result }
-    ensures same { IfOk result (λ copy. name_of (λ b. b.now) copy ≡ name_of (λ b. b.now) view.now) }
+    ensures same { IfOk result (λ copy. socket_name_model (λ b. b.now) copy
+        ≡ socket_name_model (λ b. b.now) view.now) }
 {
     view.clone()
 }

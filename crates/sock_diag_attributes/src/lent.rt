@@ -5,10 +5,10 @@ ghost use Rattle.std.specs.Prelude.{◌≡◌, ◌<◌, ◌^◌, ℕ, List, [], 
 ghost use Rattle.std.specs.Prelude.{vec_items};
 ghost use Rattle.byteorder.specs.Endian.{little_bytes};
 ghost use Rattle.netlink_core.specs.Attribute.{Attribute};
-ghost use Rattle.netlink_core.specs.DefaultNla.{kept_attribute};
-ghost use Rattle.netlink_core.specs.Walk.{attribute_of};
+ghost use Rattle.netlink_core.specs.DefaultNla.{raw_attribute};
+ghost use Rattle.netlink_core.specs.Walk.{buffered_attribute};
 ghost use Rattle.sock_diag_attributes.specs.declared.unix.name.SocketName.{SocketName};
-ghost use Rattle.sock_diag_attributes.specs.NameModel.{name_of};
+ghost use Rattle.sock_diag_attributes.specs.NameModel.{socket_name_model};
 ghost use Rattle.sock_diag_attributes.specs.NumbersModel.{numbers_view_model};
 ghost use Rattle.sock_diag_attributes.specs.private.Value.{value_bytes, IsValueInRange};
 
@@ -34,12 +34,12 @@ pub(crate) trait OtherNla {
     /// Returns the owned attribute. Fails only if an allocation fails. An empty value needs no
     /// allocation.
     fn to_kept(&self, alloc: Global) -> Result<DefaultNla, AllocError>
-        ensures equal { IfOk result (λ kept. kept_attribute kept ≡ attribute self.now) }
+        ensures equal { IfOk result (λ kept. raw_attribute kept ≡ attribute self.now) }
         ensures spare { (attribute self.now).value ≡ [] → IsOk result };
 }
 
 impl OtherNla for DefaultNla {
-    ghost attribute = { kept_attribute };
+    ghost attribute = { raw_attribute };
 
     #[inline(always)]
     fn type_word(&self) -> u16 {
@@ -58,7 +58,7 @@ impl OtherNla for DefaultNla {
 }
 
 impl OtherNla for NlaBuffer<'_> {
-    ghost attribute = { attribute_of };
+    ghost attribute = { buffered_attribute };
 
     #[inline(always)]
     fn type_word(&self) -> u16 {
@@ -83,11 +83,11 @@ pub(crate) trait LendsName {
 
     /// Returns the name with borrowed bytes.
     fn lent_name(&self) -> NameView<'_>
-        ensures { name_of (λ b. b.now) result ≡ name self.now };
+        ensures { socket_name_model (λ b. b.now) result ≡ name self.now };
 }
 
 impl LendsName for UnixDiagName {
-    ghost name = { name_of vec_items };
+    ghost name = { socket_name_model vec_items };
 
     #[inline(always)]
     fn lent_name(&self) -> NameView<'_> {
@@ -96,7 +96,7 @@ impl LendsName for UnixDiagName {
 }
 
 impl LendsName for NameView<'_> {
-    ghost name = { name_of (λ b. b.now) };
+    ghost name = { socket_name_model (λ b. b.now) };
 
     #[inline(always)]
     fn lent_name(&self) -> NameView<'_> {
@@ -140,7 +140,7 @@ impl LendsNumbers for NumbersView<'_> {
     ghost numbers = { numbers_view_model };
 
     #[inline(always)]
-    #[tactic(auto, using(crate::specs::laws::Number::whole))]
+    #[tactic(auto, using(crate::specs::laws::Number::bytes_of_whole_numbers))]
     fn lent_value(&self) -> Value<'_> {
         Value::Bytes(self.bytes())
     }

@@ -8,9 +8,9 @@ ghost use Rattle.std.specs.Iterator.{UpTo, YieldsFirst, item_count};
 ghost use Rattle.std.specs.Iterator.SizeHint.{IsWithinCount};
 ghost use Rattle.byteorder.specs.Endian.{little_bytes};
 ghost use Rattle.netlink_core.specs.Bytes.{HoldsAtStart, IsBytes};
-ghost use Rattle.netlink_core.specs.Parse.{exact_number};
+ghost use Rattle.netlink_core.specs.Parse.{number_of_width};
 ghost use Rattle.sock_diag_attributes.specs.Flag.{flag_value};
-ghost use Rattle.sock_diag_attributes.specs.Numbers.{two_value, numbers_value};
+ghost use Rattle.sock_diag_attributes.specs.Numbers.{number_pair_value, numbers_value};
 
 use byteorder::{ByteOrder, LittleEndian};
 use netlink_core::{DecodeError, parse_u8, parse_u32};
@@ -18,7 +18,7 @@ use std::alloc::{AllocError, Global};
 
 /// Parses the number in exactly one byte. Returns `WrongLength` with the kind for any other length.
 pub(crate) fn exact_u8(kind: u16, value: &[u8]) -> Result<u8, DecodeError>
-    ensures { result ≡ exact_number (Some kind) 1 value.now }
+    ensures { result ≡ number_of_width (Some kind) 1 value.now }
 {
     parse_u8(value).map_err(|fault| fault.with_kind(kind))
 }
@@ -26,7 +26,7 @@ pub(crate) fn exact_u8(kind: u16, value: &[u8]) -> Result<u8, DecodeError>
 /// Parses the little-endian number in exactly four bytes. Returns `WrongLength` with the kind for
 /// any other length.
 pub(crate) fn exact_u32(kind: u16, value: &[u8]) -> Result<u32, DecodeError>
-    ensures { result ≡ exact_number (Some kind) 4 value.now }
+    ensures { result ≡ number_of_width (Some kind) 4 value.now }
 {
     parse_u32(value).map_err(|fault| fault.with_kind(kind))
 }
@@ -42,7 +42,7 @@ pub(crate) fn exact_flag(kind: u16, value: &[u8]) -> Result<bool, DecodeError>
 /// Parses the two little-endian numbers in exactly eight bytes. Returns `WrongLength` with the kind
 /// for any other length.
 pub(crate) fn exact_u32_pair(kind: u16, value: &[u8]) -> Result<(u32, u32), DecodeError>
-    ensures { result ≡ (two_value kind).reads tt value.now }
+    ensures { result ≡ (number_pair_value kind).reads tt value.now }
 {
     if value.len() != 8 {
         return Err(DecodeError::WrongLength {
@@ -83,7 +83,7 @@ impl<'a> NumbersView<'a> {
     }
 
     /// Returns the count of numbers.
-    #[tactic(auto, using(crate::specs::laws::Number::how_many))]
+    #[tactic(auto, using(crate::specs::laws::Number::count_of_numbers_in))]
     pub fn len(&self) -> usize
         ensures { result ≡ length (numbers_view_model self.now) }
     {
@@ -91,7 +91,7 @@ impl<'a> NumbersView<'a> {
     }
 
     /// Returns the number at `index`, or `None` if the index is out of bounds.
-    #[tactic(auto, using(crate::specs::laws::Number::how_many, crate::specs::laws::Number::number_at, std::proofs::lemmas::List::take_rest, std::proofs::lemmas::Option::slice_get_past))]
+    #[tactic(auto, using(crate::specs::laws::Number::count_of_numbers_in, crate::specs::laws::Number::number_in_list_at, std::proofs::lemmas::List::take_rest, std::proofs::lemmas::Option::slice_get_past))]
     pub fn get(&self, index: usize) -> Option<u32>
         ensures { result ≡ slice_get (numbers_view_model self.now) index }
     {
@@ -102,7 +102,7 @@ impl<'a> NumbersView<'a> {
     }
 
     /// Returns whether there are no numbers.
-    #[tactic(auto, using(crate::specs::laws::Number::how_many))]
+    #[tactic(auto, using(crate::specs::laws::Number::count_of_numbers_in))]
     pub fn is_empty(&self) -> bool
         ensures { IsTrue result ↔ (numbers_view_model self.now ≡ []) }
     {
@@ -117,7 +117,7 @@ impl<'a> NumbersView<'a> {
     }
 
     // Returns the bytes of the numbers, which are also the bytes that they serialize to.
-    #[tactic(auto, using(crate::specs::laws::Number::whole))]
+    #[tactic(auto, using(crate::specs::laws::Number::bytes_of_whole_numbers))]
     pub(crate) fn bytes(&self) -> &'a [u8]
         ensures { result.now ≡ flat_map (little_bytes 4) (numbers_view_model self.now) }
     {
@@ -165,7 +165,7 @@ impl<'a> Iterator for NumbersIterator<'a> {
     }
 
     /// Returns the exact count of the numbers that were not yielded yet.
-    #[tactic(auto, using(crate::specs::laws::Number::how_many))]
+    #[tactic(auto, using(crate::specs::laws::Number::count_of_numbers_in))]
     fn size_hint(&self) -> (usize, Option<usize>)
         ensures lower { IsWithinCount result.0 (item_count numbers_left self.now) }
         ensures upper { IfSome result.1 (UpTo (item_count numbers_left self.now)) }
@@ -189,7 +189,7 @@ pub(crate) fn emit_u32_pair(first: u32, second: u32, buffer: &mut [u8])
 }
 
 /// Writes the numbers, little-endian, at the start of `buffer`. The bytes after them are unchanged.
-#[tactic(auto, using(crate::specs::laws::Number::length_numbers, crate::specs::laws::Number::front_of))]
+#[tactic(auto, using(crate::specs::laws::Number::length_numbers, crate::specs::laws::Number::numbers_prefix_length))]
 pub(crate) fn emit_numbers(numbers: &[u32], buffer: &mut [u8])
     requires { length (flat_map (little_bytes 4) numbers.now) ≤ length buffer.old }
     ensures { HoldsAtStart (flat_map (little_bytes 4) numbers.now) buffer.old buffer.new }
@@ -203,7 +203,7 @@ pub(crate) fn byte_in_range(_byte: u8)
 {}
 
 /// Proof only: puts the range of each number in scope. No run-time effect.
-#[tactic(auto, using(crate::specs::laws::Number::each_below))]
+#[tactic(auto, using(crate::specs::laws::Number::each_number_below))]
 pub(crate) fn words_in_range(_words: &[u32])
     ensures { AllByRecursion (λ n. n < 2 ^ 32) _words.now }
 {}

@@ -4,24 +4,24 @@ use Rattle.std.proofs.Common.{drop, refl, sym, ap, ◌∙◌}
 use Rattle.std.proofs.lemmas.Bool.{eq-eqb, eqb-true, le-ltb, lt-ltb}
 use Rattle.byteorder.specs.Endian.{big_number}
 use Rattle.capture_tables.specs.Cooked.{IsOfSockDiag}
-use Rattle.sock_diag_captures.specs.Listing.{asked_after}
-use Rattle.sock_diag_captures.specs.Requests.{noted}
+use Rattle.sock_diag_captures.specs.Listing.{requests_after_packet}
+use Rattle.sock_diag_captures.specs.Requests.{with_request_in_datagram}
 use Rattle.sock_diag_captures.specs.declared.requests.Asked.{Asked}
 
 -- A condition that does not hold selects the second value.
-other : (p q : Bool) (xs ys : List Asked) → ((p ≡ true) × (q ≡ true) → ⊥)
+second_requests_are_selected : (p q : Bool) (xs ys : List Asked) → ((p ≡ true) × (q ≡ true) → ⊥)
     → cond (p && q) xs ys ≡ ys
-other true true xs ys wrong = absurd (wrong (refl, refl))
-other true false xs ys wrong = refl
-other false q xs ys wrong = refl
+second_requests_are_selected true true xs ys wrong = absurd (wrong (refl, refl))
+second_requests_are_selected true false xs ys wrong = refl
+second_requests_are_selected false q xs ys wrong = refl
 
 -- A datagram of sock_diag(7) may add a request.
-pub asked_of : (asked : List Asked) (packet datagram : List ℕ) → 16 ≤ length packet
+pub request_of_datagram : (asked : List Asked) (packet datagram : List ℕ) → 16 ≤ length packet
     → IsOfSockDiag packet → datagram ≡ drop 16 packet
-    → noted asked datagram ≡ asked_after asked packet
-unfolding asked_after
-asked_of asked packet datagram long (kind, protocol) same =
-    ap (noted asked) same
+    → with_request_in_datagram asked datagram ≡ requests_after_packet asked packet
+unfolding requests_after_packet
+request_of_datagram asked packet datagram long (kind, protocol) same =
+    ap (with_request_in_datagram asked) same
     ∙ sym (rw (
       le-ltb (length packet) 16 long,
       eq-eqb (big_number 2 (drop 2 packet)) 824 kind,
@@ -29,18 +29,23 @@ asked_of asked packet datagram long (kind, protocol) same =
     ) refl)
 
 -- A packet of another protocol adds no request.
-pub asked_other : (asked : List Asked) (packet : List ℕ) → 16 ≤ length packet
-    → ¬ IsOfSockDiag packet → asked ≡ asked_after asked packet
-unfolding asked_after
-asked_other asked packet long wrong =
-    sym (rw (le-ltb (length packet) 16 long) (other (big_number 2 (drop 2 packet) == 824)
+pub other_packet_adds_no_request : (asked : List Asked) (packet : List ℕ) → 16 ≤ length packet
+    → ¬ IsOfSockDiag packet → asked ≡ requests_after_packet asked packet
+unfolding requests_after_packet
+other_packet_adds_no_request asked packet long wrong =
+    sym (rw (le-ltb (length packet) 16 long)
+    (second_requests_are_selected (big_number 2 (drop 2 packet) == 824)
     (big_number 2 (drop 14 packet) == 4) _ _
     (λ both. wrong (eqb-true _ _ both.0, eqb-true _ _ both.1))))
 
 -- A packet that is too short adds no request.
-pub asked_short : (asked : List Asked) (packet : List ℕ) → length packet < 16
-    → asked ≡ asked_after asked packet
-unfolding asked_after
-asked_short asked packet short = sym (rw (lt-ltb (length packet) 16 short) refl)
+pub short_packet_adds_no_request : (asked : List Asked) (packet : List ℕ) → length packet < 16
+    → asked ≡ requests_after_packet asked packet
+unfolding requests_after_packet
+short_packet_adds_no_request asked packet short = sym (rw (lt-ltb (length packet) 16 short) refl)
 
-pub ruleset asking = (asked_of, asked_other, asked_short)
+pub ruleset requests_rules = (
+  request_of_datagram,
+  other_packet_adds_no_request,
+  short_packet_adds_no_request,
+)

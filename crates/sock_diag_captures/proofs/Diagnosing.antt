@@ -7,8 +7,8 @@ use Rattle.capture_tables.specs.Reports.{short_line}
 use Rattle.std.specs.Prelude.{Option, None, Some}
 use Rattle.std.proofs.lemmas.List.{append-nil, length-append}
 use Rattle.netlink_core.proofs.Datagrams.{shorter-rest}
-use Rattle.netlink_core.specs.Datagram.{CutIntoMessages, StartsWithMessage}
-use Rattle.netlink_core.specs.Header.{IsEnvelopeFault}
+use Rattle.netlink_core.specs.Datagram.{SplitsIntoMessages, StartsWithMessage}
+use Rattle.netlink_core.specs.Header.{IsMessageError}
 use Rattle.netlink_core.specs.declared.fault.DecodeError.{DecodeError}
 use Rattle.sock_diag_captures.specs.Diagnostics.{DiagnosesContent, DiagnosesMessages, end_line}
 use Rattle.sock_diag_captures.specs.Diagnostics.{lines_about}
@@ -38,8 +38,9 @@ module _ (front : List ℕ) (packet : ℕ) where
   -- The first `count` messages of a datagram were diagnosed. `rest` are the bytes after them.
   pub record Diagnosed (datagram rest before after : List ℕ) (count : ℕ) : Type 0 where
     pub passed : List (List ℕ)
-    pub walk : (later : List (List ℕ)) (end : Option DecodeError) → CutIntoMessages rest later end
-        → CutIntoMessages datagram (passed ++ later) end
+    pub walk : (later : List (List ℕ)) (end : Option DecodeError)
+        → SplitsIntoMessages rest later end
+        → SplitsIntoMessages datagram (passed ++ later) end
     pub lines : after ≡ before ++ lines_about front packet 1 passed
     pub counted : count ≡ length passed
     pub short : length passed + length rest ≤ length datagram
@@ -55,18 +56,19 @@ module _ (front : List ℕ) (packet : ℕ) where
   }
 
   -- One more message was diagnosed.
-  pub diagnosed_goes_on : (datagram rest next before after after' : List ℕ) (count count' : ℕ)
+  pub diagnosed_continues : (datagram rest next before after after' : List ℕ) (count count' : ℕ)
       (m : List ℕ)
       → Diagnosed datagram rest before after count → StartsWithMessage rest m next
       → count' ≡ count + 1 → after' ≡ after ++ lines_about_message front packet count' m
       → Diagnosed datagram next before after' count'
-  diagnosed_goes_on datagram rest next before after after' count count' m so_far starts more added =
+  diagnosed_continues datagram rest next before after after' count count' m so_far starts more
+      added =
       let passed = so_far.passed in
       let same : count' ≡ length passed + 1 = more ∙ ap (λ (k : ℕ). k + 1) so_far.counted in
       let size = length-append passed (m ∷ []) in record {
         passed = passed ++ m ∷ [];
         walk = λ later end cut. subst
-            (λ (all : List (List ℕ)). CutIntoMessages datagram all end)
+            (λ (all : List (List ℕ)). SplitsIntoMessages datagram all end)
             (sym (append_assoc passed (m ∷ []) later))
             (so_far.walk (m ∷ later) end (next, starts, cut));
         lines =
@@ -89,10 +91,10 @@ module _ (front : List ℕ) (packet : ℕ) where
       next (omega (arith, so_far.counted, so_far.short, some))
 
   all_of : (datagram rest before after : List ℕ) (count : ℕ) (end : Option DecodeError)
-      (so_far : Diagnosed datagram rest before after count) → CutIntoMessages rest [] end
-      → CutIntoMessages datagram so_far.passed end
+      (so_far : Diagnosed datagram rest before after count) → SplitsIntoMessages rest [] end
+      → SplitsIntoMessages datagram so_far.passed end
   all_of datagram rest before after count end so_far cut =
-      subst (λ (all : List (List ℕ)). CutIntoMessages datagram all end)
+      subst (λ (all : List (List ℕ)). SplitsIntoMessages datagram all end)
       (append-nil so_far.passed) (so_far.walk [] end cut)
 
   -- If no bytes remain, all messages were diagnosed.
@@ -109,7 +111,7 @@ module _ (front : List ℕ) (packet : ℕ) where
 
   -- If bytes remain that are not a message, their line follows.
   pub diagnosed_stops : (datagram rest before after after' : List ℕ) (count : ℕ) (e : DecodeError)
-      → Diagnosed datagram rest before after count → rest ≢ [] → IsEnvelopeFault rest e
+      → Diagnosed datagram rest before after count → rest ≢ [] → IsMessageError rest e
       → after' ≡ after ++ end_line front packet (count + 1) (Some e)
       → DiagnosesMessages front packet datagram before after'
   diagnosed_stops datagram rest before after after' count e so_far some fault added = record {

@@ -7,8 +7,8 @@ use Rattle.std.specs.Prelude.{MatchResult}
 use Rattle.std.specs.Io.KnownBytes.{Appends, Consumes, Keeps, append_known}
 use Rattle.std.proofs.KnownBytes.{Appends-kept, Appends-trans, Consumes-nil, Consumes-trans}
 use Rattle.std.proofs.KnownBytes.{Keeps-refl}
-use Rattle.capture_tables.specs.Capture.{IsFileHeader, IsHeaderStop, IsPacketStop, IsRecord}
-use Rattle.capture_tables.specs.Capture.{Recorded}
+use Rattle.capture_tables.specs.Capture.{IsFileHeader, IsFileHeaderStop, IsPacketStop}
+use Rattle.capture_tables.specs.Capture.{IsPacketRecord, CapturedPacket}
 use Rattle.capture_tables.specs.declared.capture.CaptureError.{CaptureError}
 use Rattle.capture_tables.specs.declared.capture.CaptureError.TheVariants.{Cut, PacketTooLong}
 use Rattle.capture_tables.specs.declared.capture.CaptureError.TheVariants.{Directory, Read}
@@ -21,13 +21,14 @@ use Rattle.capture_tables.specs.declared.options.Options.{Options}
 use Rattle.capture_tables.specs.Reports.{closing_line}
 use Rattle.capture_tables.specs.Streams.{IsWriteFailure}
 use Rattle.sock_diag_captures.specs.Diagnostics.{DiagnosesPacket}
-use Rattle.sock_diag_captures.specs.Listing.{asked_after}
+use Rattle.sock_diag_captures.specs.Listing.{requests_after_packet}
 use Rattle.sock_diag_captures.specs.declared.requests.Asked.{Asked}
-use Rattle.sock_diag_captures.specs.Run.{Breaks, Fails, Finishes, IsListed, IsTable, Stands}
-use Rattle.sock_diag_captures.specs.Run.{ListedPacket}
+use Rattle.sock_diag_captures.specs.Run.{FailsAtWrite, Fails, Finishes, IsListed, IsTableOfCapture}
+use Rattle.sock_diag_captures.specs.Run.{RunState, ListedPacket}
 use Rattle.sock_diag_captures.specs.private.Run.{closing_text}
 use Rattle.sock_diag_captures.specs.Run.{lines_of_packet}
-use Rattle.sock_diag_captures.proofs.Progress.{Progress, goes_on_part, goes_on_whole, lines_push}
+use Rattle.sock_diag_captures.proofs.Progress.{Progress, progress_continues_incomplete}
+use Rattle.sock_diag_captures.proofs.Progress.{progress_continues_complete, lines_push}
 use Rattle.sock_diag_captures.proofs.Progress.{progress_begins}
 
 -- A reason to stop for one cause is a reason to stop for one of two causes.
@@ -65,7 +66,7 @@ no_memory e P is (inr closed) = absurd cc
 pub fails_at_header : (o : Options) (a d x : Option (List ℕ)) (heading front : List ℕ)
     (Reported : List ℕ → Type 0) (unread : Type 0) (e : RunError) → Reported []
     → ((fault : CaptureError) × (e ≡ Header fault) × (part : List ℕ) × Consumes a d part
-    × IsHeaderStop d unread part fault)
+    × IsFileHeaderStop d unread part fault)
     → Fails o a d x x heading front Reported unread e
 fails_at_header o a d x heading front Reported unread e none (fault, is, part, read, stop) =
     subst (λ (e : RunError). Fails o a d x x heading front Reported unread e) (sym is)
@@ -75,13 +76,14 @@ fails_at_header o a d x heading front Reported unread e none (fault, is, part, r
 pub fails_at_write : (o : Options) (a d x z : Option (List ℕ))
     (heading front bytes lines diagnostics : List ℕ) (Reported : List ℕ → Type 0)
     (whole : Bool) (unread : Type 0) (e : RunError)
-    → IsWriteFailure e → IsTable o front bytes lines diagnostics whole → Reported diagnostics
+    → IsWriteFailure e → IsTableOfCapture o front bytes lines diagnostics whole
+    → Reported diagnostics
     → Consumes a d bytes
     → (sent rest : List ℕ) → heading ++ lines ≡ sent ++ rest → Appends x z sent
     → Fails o a d x z heading front Reported unread e
 fails_at_write o a d x z heading front bytes lines diagnostics Reported whole unread e is table
     reported read sent rest split appended =
-    let breaks : Breaks o a d x z heading front Reported =
+    let breaks : FailsAtWrite o a d x z heading front Reported =
     (bytes, lines, diagnostics, whole, table, read, sent, rest, split, appended, reported) in
     elim is [
       | inl write ↦
@@ -96,8 +98,9 @@ module _ (o : Options) (front : List ℕ) (file : FileHeader) (header : List ℕ
     (long : length header ≡ 24) (is : IsFileHeader header file) where
   -- the table of the packets so far
   abbrev pub table_of : (b c y z : Option (List ℕ)) (asked : List Asked) (whole : Bool) (number : ℕ)
-      (p : Progress o front (IsRecord file) b c y z asked whole number)
-      → IsTable o front (header ++ p.records) (flat_map lines_of_packet p.listings) p.diagnostics
+      (p : Progress o front (IsPacketRecord file) b c y z asked whole number)
+      → IsTableOfCapture o front (header ++ p.records) (flat_map lines_of_packet p.listings)
+      p.diagnostics
       whole
   table_of b c y z asked whole number p = record {
     file = file;
@@ -116,12 +119,15 @@ module _ (o : Options) (front : List ℕ) (file : FileHeader) (header : List ℕ
   }
 
   -- The state after the packets so far, if more bytes were read.
-  stands : (a b c d x y z : Option (List ℕ)) (heading more : List ℕ) (Reported : List ℕ → Type 0)
+  progress_is_run_state : (a b c d x y z : Option (List ℕ)) (heading more : List ℕ)
+      (Reported : List ℕ → Type 0)
       (asked : List Asked) (whole : Bool) (number : ℕ)
-      (p : Progress o front (IsRecord file) b c y z asked whole number) → Reported p.diagnostics
+      (p : Progress o front (IsPacketRecord file) b c y z asked whole number)
+      → Reported p.diagnostics
       → Consumes a b header → Consumes c d more → Appends x y heading
-      → Stands o a d x z heading front Reported file (length p.packets) more
-  stands a b c d x y z heading more Reported asked whole number p reported first last begun =
+      → RunState o a d x z heading front Reported file (length p.packets) more
+  progress_is_run_state a b c d x y z heading more Reported asked whole number p reported first last
+      begun =
       record {
         bytes = header ++ p.records;
         lines = flat_map lines_of_packet p.listings;
@@ -145,13 +151,13 @@ module _ (o : Options) (front : List ℕ) (file : FileHeader) (header : List ℕ
       → Fails o a b x z heading front Reported unread e
   fails_at_heading a b x z heading Reported unread e none write first sent rest split appended =
       fails_at_write o a b x z heading front (header ++ []) [] [] Reported true unread e write
-      (table_of b b x x [] true 1 (progress_begins o front (IsRecord file) b x)) none
+      (table_of b b x x [] true 1 (progress_begins o front (IsPacketRecord file) b x)) none
       (Consumes-trans a b b header [] first (Consumes-nil b)) sent rest (append-nil heading
       ∙ split) appended
 
   module _ (a b c x y z : Option (List ℕ)) (heading : List ℕ) (asked : List Asked) (whole : Bool)
       (number : ℕ)
-      (p : Progress o front (IsRecord file) b c y z asked whole number)
+      (p : Progress o front (IsPacketRecord file) b c y z asked whole number)
       (first : Consumes a b header) (begun : Appends x y heading) where
     module _ (Reported : List ℕ → Type 0) (reported : Reported p.diagnostics) where
       -- The run failed because a packet could not be read.
@@ -164,7 +170,8 @@ module _ (o : Options) (front : List ℕ) (file : FileHeader) (header : List ℕ
             file,
             length p.packets,
             part,
-            stands a b c d x y z heading part Reported asked whole number p reported first read
+            progress_is_run_state a b c d x y z heading part Reported asked whole number p reported
+                first read
                 begun,
             p.next,
             stop_weaker file d unread (number ≡ 2 ^ 64 - 1) part fault stop,
@@ -177,7 +184,7 @@ module _ (o : Options) (front : List ℕ) (file : FileHeader) (header : List ℕ
         file,
         length p.packets,
         [],
-        stands a b c c x y z heading [] Reported asked whole number p reported first
+        progress_is_run_state a b c c x y z heading [] Reported asked whole number p reported first
             (Consumes-nil c) begun,
         sym last ∙ p.next,
         (inl (omega arith), inr refl),
@@ -185,8 +192,8 @@ module _ (o : Options) (front : List ℕ) (file : FileHeader) (header : List ℕ
 
       -- The run failed because an allocation for the lines of a packet failed.
       pub fails_at_memory : (d : Option (List ℕ)) (unread : Type 0) (e : RunError)
-          (head : List ℕ) (packet : Recorded) → e ≡ Memory
-          → IsRecord file head packet → Consumes c d (head ++ packet.bytes)
+          (head : List ℕ) (packet : CapturedPacket) → e ≡ Memory
+          → IsPacketRecord file head packet → Consumes c d (head ++ packet.bytes)
           → Fails o a d x z heading front Reported unread e
       fails_at_memory d unread e head packet memory record_of read =
           subst (λ (e : RunError). Fails o a d x z heading front Reported unread e) (sym memory) (
@@ -195,7 +202,8 @@ module _ (o : Options) (front : List ℕ) (file : FileHeader) (header : List ℕ
             head,
             packet,
             record_of,
-            stands a b c d x y z heading (head ++ packet.bytes) Reported asked whole number p
+            progress_is_run_state a b c d x y z heading (head ++ packet.bytes) Reported asked whole
+                number p
                 reported first read begun,
           )
 
@@ -220,9 +228,9 @@ module _ (o : Options) (front : List ℕ) (file : FileHeader) (header : List ℕ
     -- The run failed because the lines of a packet could not be written.
     pub fails_at_lines : (Reported : List ℕ → Type 0) (d z' : Option (List ℕ)) (unread : Type 0)
         (e : RunError)
-        (head lines issues : List ℕ) (packet : Recorded) (asked' : List Asked) (one : Bool)
+        (head lines issues : List ℕ) (packet : CapturedPacket) (asked' : List Asked) (one : Bool)
         → Reported (p.diagnostics ++ issues) → IsWriteFailure e
-        → IsRecord file head packet → asked' ≡ asked_after asked packet.bytes
+        → IsPacketRecord file head packet → asked' ≡ requests_after_packet asked packet.bytes
         → IsListed o asked' packet (record { lines = lines; whole = one })
         → DiagnosesPacket front number packet [] issues
         → Consumes c d (head ++ packet.bytes)
@@ -250,12 +258,14 @@ module _ (o : Options) (front : List ℕ) (file : FileHeader) (header : List ℕ
         elim (bool_cases whole) [
           | inl t ↦ fails_at_write o a d x z' heading front _ _ _ Reported one unread e write
               (table_of b d y w asked' one (number + 1)
-              (goes_on_whole o front (IsRecord file) b c d y z w head lines issues packet asked
+              (progress_continues_complete o front (IsPacketRecord file) b c d y z w head lines
+              issues packet asked
               asked' one whole number t p record_of next listed diagnosed read wrote))
               reported bytes ((heading ++ before) ++ sent) rest joined all
           | inr f ↦ fails_at_write o a d x z' heading front _ _ _ Reported whole unread e write
               (table_of b d y w asked' whole (number + 1)
-              (goes_on_part o front (IsRecord file) b c d y z w head lines issues packet asked
+              (progress_continues_incomplete o front (IsPacketRecord file) b c d y z w head lines
+              issues packet asked
               asked' one whole number f p record_of next listed diagnosed read wrote))
               reported bytes ((heading ++ before) ++ sent) rest joined all
         ]
@@ -263,10 +273,10 @@ module _ (o : Options) (front : List ℕ) (file : FileHeader) (header : List ℕ
 -- a statement about the reported diagnostics, and one that follows from it
 module _ (o : Options) (left left' held held' : Option (List ℕ)) (heading front : List ℕ)
     (P Q : List ℕ → Type 0) (implies : (diagnostics : List ℕ) → P diagnostics → Q diagnostics) where
-  abbrev pub stands_implies : (file : FileHeader) (packets : ℕ) (more : List ℕ)
-      → Stands o left left' held held' heading front P file packets more
-      → Stands o left left' held held' heading front Q file packets more
-  stands_implies file packets more h = record {
+  abbrev pub run_state_implies : (file : FileHeader) (packets : ℕ) (more : List ℕ)
+      → RunState o left left' held held' heading front P file packets more
+      → RunState o left left' held held' heading front Q file packets more
+  run_state_implies file packets more h = record {
     bytes = h.bytes;
     lines = h.lines;
     diagnostics = h.diagnostics;
@@ -279,9 +289,9 @@ module _ (o : Options) (left left' held held' : Option (List ℕ)) (heading fron
     reported = implies h.diagnostics h.reported;
   }
 
-  breaks_implies : Breaks o left left' held held' heading front P
-      → Breaks o left left' held held' heading front Q
-  breaks_implies (
+  fails_at_write_implies : FailsAtWrite o left left' held held' heading front P
+      → FailsAtWrite o left left' held held' heading front Q
+  fails_at_write_implies (
     bytes,
     lines,
     diagnostics,
@@ -313,11 +323,11 @@ module _ (o : Options) (left left' held held' : Option (List ℕ)) (heading fron
   fails_implies unread (Header fault) (part, read, stop, kept, reported) =
       (part, read, stop, kept, implies [] reported)
   fails_implies unread (Packet number fault) (file, packets, part, h, is, stop) =
-      (file, packets, part, stands_implies file packets part h, is, stop)
+      (file, packets, part, run_state_implies file packets part h, is, stop)
   fails_implies unread Memory (file, packets, header, packet, is, h) =
-      (file, packets, header, packet, is, stands_implies file packets (header ++ packet.bytes) h)
-  fails_implies unread Write h = breaks_implies h
-  fails_implies unread Closed h = breaks_implies h
+      (file, packets, header, packet, is, run_state_implies file packets (header ++ packet.bytes) h)
+  fails_implies unread Write h = fails_at_write_implies h
+  fails_implies unread Closed h = fails_at_write_implies h
 
   pub finishes_implies : (whole : Bool)
       → Finishes o left left' held held' heading front P whole
@@ -334,7 +344,7 @@ module _ (o : Options) (left left' held held' : Option (List ℕ)) (heading fron
   }
 
 -- The outcome of a run, if the line that names a failure was reported after the diagnostics.
-pub outcome_of : (o : Options) (left left' held held' : Option (List ℕ)) (heading front : List ℕ)
+pub run_outcome : (o : Options) (left left' held held' : Option (List ℕ)) (heading front : List ℕ)
     (P Q : List ℕ → Type 0) (unread : Type 0) (r : Result Bool RunError)
     → ((diagnostics : List ℕ) → P diagnostics → Q (diagnostics ++ closing_text front r))
     → IfOk r (Finishes o left left' held held' heading front P)
@@ -342,14 +352,14 @@ pub outcome_of : (o : Options) (left left' held held' : Option (List ℕ)) (head
     → MatchResult r (Finishes o left left' held held' heading front Q)
     (λ e. Fails o left left' held held' heading front
     (λ diagnostics. Q (diagnostics ++ closing_line front e)) unread e)
-outcome_of o left left' held held' heading front P Q unread (Ok whole) implies finishes fails =
+run_outcome o left left' held held' heading front P Q unread (Ok whole) implies finishes fails =
     finishes_implies o left left' held held' heading front P Q
     (λ d h. subst Q (append-nil d) (implies d h)) whole finishes
-outcome_of o left left' held held' heading front P Q unread (Err e) implies finishes fails =
+run_outcome o left left' held held' heading front P Q unread (Err e) implies finishes fails =
     fails_implies o left left' held held' heading front P
     (λ diagnostics. Q (diagnostics ++ closing_line front e)) implies unread e fails
 
 -- If a run listed the whole capture without errors, the clause of its success holds.
-pub whole_outcome : (P : Bool → Type 0) (Q : RunError → Type 0) (r : Result Bool RunError)
+pub complete_outcome : (P : Bool → Type 0) (Q : RunError → Type 0) (r : Result Bool RunError)
     → r ≡ Ok true → MatchResult r P Q → P true
-whole_outcome P Q r is h = subst (λ (r : Result Bool RunError). MatchResult r P Q) is h
+complete_outcome P Q r is h = subst (λ (r : Result Bool RunError). MatchResult r P Q) is h

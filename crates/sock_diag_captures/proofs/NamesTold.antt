@@ -4,11 +4,13 @@ use Rattle.std.proofs.Common.{inl, inr, refl, sym, ap, subst, ◌∙◌, arith, 
 use Rattle.std.proofs.Common.{length}
 use Rattle.std.specs.Prelude.{Some}
 use Rattle.std.proofs.lemmas.Bool.{and_parts, cases_Bool, cases_eq, eqb-true, lt-ltb, ne_eqb}
-use Rattle.capture_tables.specs.Escapes.{byte_digits, bytes_told, shown}
-use Rattle.capture_tables.proofs.Telling.{shown_told, told_digits, told_plain}
+use Rattle.capture_tables.specs.Escapes.{byte_digits, unescaped_bytes, shown_name}
+use Rattle.capture_tables.proofs.Telling.{unescaped_shown_name, unescaped_byte_digits}
+use Rattle.capture_tables.proofs.Telling.{unescaped_printable_byte}
 use Rattle.netlink_core.specs.Bytes.{IsBytes}
 use Rattle.sock_diag_attributes.specs.declared.unix.name.SocketName.TheVariants.{Abstract, Pathname}
-use Rattle.sock_diag_captures.specs.Table.{is_mistaken, name_cell, name_told, path_text}
+use Rattle.sock_diag_captures.specs.Table.{needs_escaped_first_byte, name_cell, name_of_cell}
+use Rattle.sock_diag_captures.specs.Table.{path_text}
 
 not_false : true ≡ false → ⊥
 not_false wrong = cc
@@ -17,76 +19,83 @@ and_false : (b : Bool) → (b && false) ≡ false
 and_false true = refl
 and_false false = refl
 
-mistaken_told : (utf8 : Bool) (path t : List ℕ) → IsBytes path → is_mistaken path ≡ true
-    → bytes_told 0 (path_text utf8 path ++ t) ≡ path ++ bytes_told 0 t
-mistaken_told utf8 [] t in_range held = cc
-mistaken_told utf8 (p ∷ ps) t in_range held =
-    rw held (ap (bytes_told 0) (append_assoc (byte_digits p) (shown utf8 ps) t)
-    ∙ told_digits p (shown utf8 ps ++ t) (in_range 0)
-    ∙ ap (λ (l : List ℕ). p ∷ l) (shown_told utf8 ps t (λ i. in_range (suc i))))
+unescaped_escaped_path : (utf8 : Bool) (path t : List ℕ) → IsBytes path
+    → needs_escaped_first_byte path ≡ true
+    → unescaped_bytes 0 (path_text utf8 path ++ t) ≡ path ++ unescaped_bytes 0 t
+unescaped_escaped_path utf8 [] t in_range held = cc
+unescaped_escaped_path utf8 (p ∷ ps) t in_range held =
+    rw held (ap (unescaped_bytes 0) (append_assoc (byte_digits p) (shown_name utf8 ps) t)
+    ∙ unescaped_byte_digits p (shown_name utf8 ps ++ t) (in_range 0)
+    ∙ ap (λ (l : List ℕ). p ∷ l) (unescaped_shown_name utf8 ps t (λ i. in_range (suc i))))
 
 -- The cell of a path whose first byte is escaped represents the path.
-mistaken_cell : (utf8 : Bool) (path t : List ℕ) → IsBytes path → is_mistaken path ≡ true
-    → bytes_told 0 t ≡ [] → name_told (path_text utf8 path ++ t) ≡ Some (Pathname path)
-mistaken_cell utf8 path t in_range held none =
-    let found : bytes_told 0 (path_text utf8 path ++ t) ≡ path =
-    mistaken_told utf8 path t in_range held
+escaped_path_cell : (utf8 : Bool) (path t : List ℕ) → IsBytes path
+    → needs_escaped_first_byte path ≡ true
+    → unescaped_bytes 0 t ≡ [] → name_of_cell (path_text utf8 path ++ t) ≡ Some (Pathname path)
+escaped_path_cell utf8 path t in_range held none =
+    let found : unescaped_bytes 0 (path_text utf8 path ++ t) ≡ path =
+    unescaped_escaped_path utf8 path t in_range held
     ∙ ap (λ (l : List ℕ). path ++ l) none ∙ append-nil path in
     rw held (ap (λ (l : List ℕ). Some (Pathname l)) (rw held at found))
 
-at_mistaken : (xs : List ℕ) → is_mistaken (64 ∷ xs) ≡ true
-at_mistaken xs = rw (lt-ltb 0 (length (64 ∷ xs)) (omega arith)) refl
+at_sign_needs_escape : (xs : List ℕ) → needs_escaped_first_byte (64 ∷ xs) ≡ true
+at_sign_needs_escape xs = rw (lt-ltb 0 (length (64 ∷ xs)) (omega arith)) refl
 
-star_told : (t : List ℕ) → bytes_told 0 (42 ∷ 32 ∷ t) ≡ 42 ∷ []
-unfolding bytes_told
-star_told t = refl
+unescaped_star : (t : List ℕ) → unescaped_bytes 0 (42 ∷ 32 ∷ t) ≡ 42 ∷ []
+unfolding unescaped_bytes
+unescaped_star t = refl
 
 -- The cell of a path that begins neither with `@` nor is `*` represents the path.
-plain_cell : (text path : List ℕ) → is_mistaken path ≡ false → bytes_told 0 text ≡ path
-    → name_told text ≡ Some (Pathname path)
+plain_cell : (text path : List ℕ) → needs_escaped_first_byte path ≡ false
+    → unescaped_bytes 0 text ≡ path
+    → name_of_cell text ≡ Some (Pathname path)
 plain_cell [] path other found = ap (λ (l : List ℕ). Some (Pathname l)) found
 plain_cell (c ∷ []) path other found = elim (cases_eq c 64) [
   | inl at ↦
-      let begins : 64 ∷ bytes_told 0 [] ≡ path = sym (told_plain 64 [] (λ e. omega (arith, e))
-      (λ e. omega (arith, e))) ∙ subst (λ (x : ℕ). bytes_told 0 (x ∷ []) ≡ path) at found in
-      let wrong = sym (at_mistaken (bytes_told 0 [])) ∙ ap is_mistaken begins ∙ other in
+      let begins : 64 ∷ unescaped_bytes 0 [] ≡ path =
+      sym (unescaped_printable_byte 64 [] (λ e. omega (arith, e))
+      (λ e. omega (arith, e))) ∙ subst (λ (x : ℕ). unescaped_bytes 0 (x ∷ []) ≡ path) at found in
+      let wrong = sym (at_sign_needs_escape (unescaped_bytes 0 []))
+      ∙ ap needs_escaped_first_byte begins ∙ other in
       absurd (not_false wrong)
   | inr different ↦ rw (ne_eqb c 64 different, and_false (c == 42))
       (ap (λ (l : List ℕ). Some (Pathname l)) found)
 ]
 plain_cell (c ∷ d ∷ text) path other found = elim (cases_eq c 64) [
   | inl at ↦
-      let begins : 64 ∷ bytes_told 0 (d ∷ text) ≡ path = sym (told_plain 64 (d ∷ text)
+      let begins : 64 ∷ unescaped_bytes 0 (d ∷ text) ≡ path =
+      sym (unescaped_printable_byte 64 (d ∷ text)
       (λ e. omega (arith, e)) (λ e. omega (arith, e)))
-      ∙ subst (λ (x : ℕ). bytes_told 0 (x ∷ d ∷ text) ≡ path) at found in
-      let wrong = sym (at_mistaken (bytes_told 0 (d ∷ text))) ∙ ap is_mistaken begins ∙ other in
+      ∙ subst (λ (x : ℕ). unescaped_bytes 0 (x ∷ d ∷ text) ≡ path) at found in
+      let wrong = sym (at_sign_needs_escape (unescaped_bytes 0 (d ∷ text)))
+      ∙ ap needs_escaped_first_byte begins ∙ other in
       absurd (not_false wrong)
   | inr different ↦ elim (cases_Bool ((c == 42) && (d == 32))) [
     | inl both ↦
         let p = and_parts _ _ both in
         let star : c ≡ 42 = eqb-true c 42 p.0 in
         let space : d ≡ 32 = eqb-true d 32 p.1 in
-        let alone : 42 ∷ [] ≡ path = sym (star_told text)
-        ∙ subst (λ (x : ℕ). bytes_told 0 (42 ∷ x ∷ text) ≡ path) space
-        (subst (λ (x : ℕ). bytes_told 0 (x ∷ d ∷ text) ≡ path) star found) in
-        absurd (not_false (ap is_mistaken alone ∙ other))
+        let alone : 42 ∷ [] ≡ path = sym (unescaped_star text)
+        ∙ subst (λ (x : ℕ). unescaped_bytes 0 (42 ∷ x ∷ text) ≡ path) space
+        (subst (λ (x : ℕ). unescaped_bytes 0 (x ∷ d ∷ text) ≡ path) star found) in
+        absurd (not_false (ap needs_escaped_first_byte alone ∙ other))
     | inr single ↦ rw (single, ne_eqb c 64 different) (ap (λ (l : List ℕ). Some (Pathname l)) found)
   ]
 ]
 
 -- The cell of a path represents the path.
-pub path_cell : (utf8 : Bool) (path t : List ℕ) → IsBytes path → bytes_told 0 t ≡ []
-    → name_told (name_cell utf8 (Some (Pathname path)) ++ t) ≡ Some (Pathname path)
-path_cell utf8 path t in_range none = elim (cases_Bool (is_mistaken path)) [
-  | inl held ↦ mistaken_cell utf8 path t in_range held none
-  | inr other ↦ rw other (plain_cell (shown utf8 path
-      ++ t) path other (shown_told utf8 path t in_range
+pub path_cell : (utf8 : Bool) (path t : List ℕ) → IsBytes path → unescaped_bytes 0 t ≡ []
+    → name_of_cell (name_cell utf8 (Some (Pathname path)) ++ t) ≡ Some (Pathname path)
+path_cell utf8 path t in_range none = elim (cases_Bool (needs_escaped_first_byte path)) [
+  | inl held ↦ escaped_path_cell utf8 path t in_range held none
+  | inr other ↦ rw other (plain_cell (shown_name utf8 path
+      ++ t) path other (unescaped_shown_name utf8 path t in_range
       ∙ ap (λ (l : List ℕ). path ++ l) none ∙ append-nil path))
 ]
 
 -- The cell of an abstract name represents the name.
-pub abstract_cell : (utf8 : Bool) (address t : List ℕ) → IsBytes address → bytes_told 0 t ≡ []
-    → name_told (name_cell utf8 (Some (Abstract address)) ++ t) ≡ Some (Abstract address)
+pub abstract_cell : (utf8 : Bool) (address t : List ℕ) → IsBytes address → unescaped_bytes 0 t ≡ []
+    → name_of_cell (name_cell utf8 (Some (Abstract address)) ++ t) ≡ Some (Abstract address)
 abstract_cell utf8 address t in_range none =
-    ap (λ (l : List ℕ). Some (Abstract l)) (shown_told utf8 address t in_range
+    ap (λ (l : List ℕ). Some (Abstract l)) (unescaped_shown_name utf8 address t in_range
     ∙ ap (λ (l : List ℕ). address ++ l) none ∙ append-nil address)

@@ -8,30 +8,32 @@ use Rattle.std.specs.List.{AllByRecursion}
 use Rattle.std.specs.Io.KnownBytes.{Appends, Consumes}
 use Rattle.std.proofs.KnownBytes.{Appends-nil, Appends-trans, Consumes-nil, Consumes-trans}
 use Rattle.std.proofs.lemmas.Grind.{flat_map-append}
-use Rattle.capture_tables.specs.Capture.{Recorded}
+use Rattle.capture_tables.specs.Capture.{CapturedPacket}
 use Rattle.capture_tables.specs.declared.options.Options.{Options}
 use Rattle.sock_diag_captures.specs.Diagnostics.{AreDiagnosed, DiagnosesPacket}
-use Rattle.sock_diag_captures.specs.Listing.{asked_after}
-use Rattle.sock_diag_captures.specs.Run.{AreListed, ArePackets, IsListed, IsWhole, ListedPacket}
-use Rattle.sock_diag_captures.specs.Run.{lines_of_packet}
+use Rattle.sock_diag_captures.specs.Listing.{requests_after_packet}
+use Rattle.sock_diag_captures.specs.Run.{AreListed, ArePackets, IsListed, IsListedWithoutErrors}
+use Rattle.sock_diag_captures.specs.Run.{ListedPacket, lines_of_packet}
 use Rattle.sock_diag_captures.specs.declared.requests.Asked.{Asked}
 
 pub not_both : (b : Bool) → b ≡ false → b ≡ true → ⊥
 not_both b is_false is_true = cc
 
-pub whole_push : (xs : List ListedPacket) (x : ListedPacket) → AllByRecursion IsWhole xs → IsWhole x
-    → AllByRecursion IsWhole (xs ++ x ∷ [])
+pub whole_push : (xs : List ListedPacket) (x : ListedPacket)
+    → AllByRecursion IsListedWithoutErrors xs → IsListedWithoutErrors x
+    → AllByRecursion IsListedWithoutErrors (xs ++ x ∷ [])
 whole_push [] x h is = (is, tt)
 whole_push (y ∷ xs) x h is = (h.0, whole_push xs x h.1 is)
 
 pub whole_front : (xs : List ListedPacket) (x : ListedPacket)
-    → AllByRecursion IsWhole (xs ++ x ∷ [])
-    → AllByRecursion IsWhole xs
+    → AllByRecursion IsListedWithoutErrors (xs ++ x ∷ [])
+    → AllByRecursion IsListedWithoutErrors xs
 whole_front [] x h = tt
 whole_front (y ∷ xs) x h = (h.0, whole_front xs x h.1)
 
-pub whole_last : (xs : List ListedPacket) (x : ListedPacket) → AllByRecursion IsWhole (xs ++ x ∷ [])
-    → IsWhole x
+pub whole_last : (xs : List ListedPacket) (x : ListedPacket)
+    → AllByRecursion IsListedWithoutErrors (xs ++ x ∷ [])
+    → IsListedWithoutErrors x
 whole_last [] x h = h.0
 whole_last (y ∷ xs) x h = whole_last xs x h.1
 
@@ -41,36 +43,41 @@ lines_push xs x = flat_map-append lines_of_packet xs (x ∷ [])
     ∙ ap (λ (t : List ℕ). flat_map lines_of_packet xs ++ t) (append-nil x.lines)
 
 -- the requests after these packets
-pub asked_from : List Asked → List Recorded → List Asked
-asked_from asked [] = asked
-asked_from asked (p ∷ ps) = asked_from (asked_after asked p.bytes) ps
+pub requests_after_packets : List Asked → List CapturedPacket → List Asked
+requests_after_packets asked [] = asked
+requests_after_packets asked (p ∷ ps) =
+    requests_after_packets (requests_after_packet asked p.bytes) ps
 
 -- One more packet was listed.
-pub listed_push : (o : Options) (asked : List Asked) (ps : List Recorded) (xs : List ListedPacket)
-    (p : Recorded) (x : ListedPacket)
-    → AreListed o asked ps xs → IsListed o (asked_after (asked_from asked ps) p.bytes) p x
+pub listed_push : (o : Options) (asked : List Asked) (ps : List CapturedPacket)
+    (xs : List ListedPacket)
+    (p : CapturedPacket) (x : ListedPacket)
+    → AreListed o asked ps xs → IsListed o
+    (requests_after_packet (requests_after_packets asked ps) p.bytes) p x
     → AreListed o asked (ps ++ p ∷ []) (xs ++ x ∷ [])
-unfolding asked_from
+unfolding requests_after_packets
 listed_push o asked [] [] p x h is = (is, tt)
 listed_push o asked [] (y ∷ xs) p x h is = absurd h
 listed_push o asked (q ∷ ps) [] p x h is = absurd h
 listed_push o asked (q ∷ ps) (y ∷ xs) p x h is =
-    (h.0, listed_push o (asked_after asked q.bytes) ps xs p x h.1 is)
+    (h.0, listed_push o (requests_after_packet asked q.bytes) ps xs p x h.1 is)
 
 -- The requests after one more packet.
-pub asked_push : (asked : List Asked) (ps : List Recorded) (p : Recorded)
-    → asked_from asked (ps ++ p ∷ []) ≡ asked_after (asked_from asked ps) p.bytes
-unfolding asked_from
-asked_push asked [] p = refl
-asked_push asked (q ∷ ps) p = asked_push (asked_after asked q.bytes) ps p
+pub requests_after_one_more : (asked : List Asked) (ps : List CapturedPacket) (p : CapturedPacket)
+    → requests_after_packets asked (ps ++ p ∷ [])
+    ≡ requests_after_packet (requests_after_packets asked ps) p.bytes
+unfolding requests_after_packets
+requests_after_one_more asked [] p = refl
+requests_after_one_more asked (q ∷ ps) p =
+    requests_after_one_more (requests_after_packet asked q.bytes) ps p
 
 -- There are no requests before the first packet.
-pub none_asked : asked_from [] [] ≡ []
-unfolding asked_from
-none_asked = refl
+pub no_requests_at_start : requests_after_packets [] [] ≡ []
+unfolding requests_after_packets
+no_requests_at_start = refl
 
 -- One more packet was diagnosed.
-pub diagnosed_push : (front : List ℕ) (n : ℕ) (ps : List Recorded) (p : Recorded)
+pub diagnosed_push : (front : List ℕ) (n : ℕ) (ps : List CapturedPacket) (p : CapturedPacket)
     (lines one : List ℕ) → AreDiagnosed front n ps lines
     → DiagnosesPacket front (length ps + n) p [] one
     → AreDiagnosed front n (ps ++ p ∷ []) (lines ++ one)
@@ -92,8 +99,9 @@ diagnosed_push front n (q ∷ ps) p lines one (first, rest, of_first, of_rest, s
       ap (λ (t : List ℕ). t ++ one) split ∙ append_assoc first rest one,
     )
 
-module _ (o : Options) (front : List ℕ) (R : List ℕ → Recorded → Type 0) where
-  pub packets_push : (bytes : List ℕ) (ps : List Recorded) (header : List ℕ) (p : Recorded)
+module _ (o : Options) (front : List ℕ) (R : List ℕ → CapturedPacket → Type 0) where
+  pub packets_push : (bytes : List ℕ) (ps : List CapturedPacket) (header : List ℕ)
+      (p : CapturedPacket)
       → ArePackets R bytes ps → R header p
       → ArePackets R (bytes ++ (header ++ p.bytes)) (ps ++ p ∷ [])
   packets_push bytes [] header p h is = (
@@ -119,17 +127,17 @@ module _ (o : Options) (front : List ℕ) (R : List ℕ → Recorded → Type 0)
   pub record Progress (remaining remaining' contents contents' : Option (List ℕ))
       (asked : List Asked) (is_whole : Bool) (number : ℕ) : Type 0 where
     pub records : List ℕ
-    pub packets : List Recorded
+    pub packets : List CapturedPacket
     pub listings : List ListedPacket
     pub diagnostics : List ℕ
     pub read : Consumes remaining remaining' records
     pub are_packets : ArePackets R records packets
     pub listed : AreListed o [] packets listings
     pub diagnosed : AreDiagnosed front 1 packets diagnostics
-    pub seen : asked ≡ asked_from [] packets
+    pub seen : asked ≡ requests_after_packets [] packets
     pub appended : Appends contents contents' (flat_map lines_of_packet listings)
-    pub flagged : IsTrue is_whole → AllByRecursion IsWhole listings
-    pub whole_only : AllByRecursion IsWhole listings → IsTrue is_whole
+    pub flagged : IsTrue is_whole → AllByRecursion IsListedWithoutErrors listings
+    pub whole_only : AllByRecursion IsListedWithoutErrors listings → IsTrue is_whole
     pub next : number ≡ length packets + 1
 
   abbrev pub progress_begins : (remaining contents : Option (List ℕ))
@@ -143,7 +151,7 @@ module _ (o : Options) (front : List ℕ) (R : List ℕ → Recorded → Type 0)
     are_packets = refl;
     listed = tt;
     diagnosed = refl;
-    seen = sym none_asked;
+    seen = sym no_requests_at_start;
     appended = Appends-nil contents;
     flagged = λ _. tt;
     whole_only = λ _. refl;
@@ -151,11 +159,11 @@ module _ (o : Options) (front : List ℕ) (R : List ℕ → Recorded → Type 0)
   }
 
   -- One more packet was read and listed.
-  abbrev pub progress_goes_on : (a b c x y z : Option (List ℕ)) (header lines issues : List ℕ)
-      (p : Recorded)
+  abbrev pub progress_continues : (a b c x y z : Option (List ℕ)) (header lines issues : List ℕ)
+      (p : CapturedPacket)
       (asked asked' : List Asked) (one whole whole' : Bool) (number : ℕ)
       → Progress a b x y asked whole number
-      → R header p → asked' ≡ asked_after asked p.bytes
+      → R header p → asked' ≡ requests_after_packet asked p.bytes
       → IsListed o asked' p (record { lines = lines; whole = one })
       → DiagnosesPacket front number p [] issues
       → Consumes b c (header ++ p.bytes)
@@ -163,11 +171,13 @@ module _ (o : Options) (front : List ℕ) (R : List ℕ → Recorded → Type 0)
       → (IsTrue whole' → IsTrue whole) → (IsTrue whole' → IsTrue one)
       → (IsTrue whole → IsTrue one → IsTrue whole')
       → Progress a c x z asked' whole' (number + 1)
-  progress_goes_on a b c x y z header lines issues p asked asked' one whole whole' number so_far is
+  progress_continues a b c x y z header lines issues p asked asked' one whole whole' number so_far
+      is
       next listed diagnosed read appended flagged last both =
       let new : ListedPacket = record { lines = lines; whole = one } in
-      let after : asked' ≡ asked_after (asked_from [] so_far.packets) p.bytes =
-      next ∙ ap (λ (q : List Asked). asked_after q p.bytes) so_far.seen in record {
+      let after : asked' ≡ requests_after_packet (requests_after_packets [] so_far.packets)
+      p.bytes =
+      next ∙ ap (λ (q : List Asked). requests_after_packet q p.bytes) so_far.seen in record {
         records = so_far.records ++ (header ++ p.bytes);
         packets = so_far.packets ++ p ∷ [];
         listings = so_far.listings ++ new ∷ [];
@@ -179,7 +189,7 @@ module _ (o : Options) (front : List ℕ) (R : List ℕ → Recorded → Type 0)
         diagnosed = diagnosed_push front 1 so_far.packets p so_far.diagnostics issues
             so_far.diagnosed
             (subst (λ (k : ℕ). DiagnosesPacket front k p [] issues) so_far.next diagnosed);
-        seen = after ∙ sym (asked_push [] so_far.packets p);
+        seen = after ∙ sym (requests_after_one_more [] so_far.packets p);
         appended = subst (λ (t : List ℕ). Appends x z t) (sym (lines_push so_far.listings new))
             (Appends-trans x y z (flat_map lines_of_packet so_far.listings) lines so_far.appended
             appended);
@@ -190,32 +200,38 @@ module _ (o : Options) (front : List ℕ) (R : List ℕ → Recorded → Type 0)
       }
 
   -- One more packet was listed, and all packets before it were listed without errors.
-  abbrev pub goes_on_whole : (a b c x y z : Option (List ℕ)) (header lines issues : List ℕ)
-      (p : Recorded)
+  abbrev pub progress_continues_complete : (a b c x y z : Option (List ℕ))
+      (header lines issues : List ℕ)
+      (p : CapturedPacket)
       (asked asked' : List Asked) (one whole : Bool) (number : ℕ) → whole ≡ true
       → Progress a b x y asked whole number
-      → R header p → asked' ≡ asked_after asked p.bytes
+      → R header p → asked' ≡ requests_after_packet asked p.bytes
       → IsListed o asked' p (record { lines = lines; whole = one })
       → DiagnosesPacket front number p [] issues
       → Consumes b c (header ++ p.bytes)
       → Appends y z lines → Progress a c x z asked' one (number + 1)
-  goes_on_whole a b c x y z header lines issues p asked asked' one whole number is_whole so_far is
+  progress_continues_complete a b c x y z header lines issues p asked asked' one whole number
+      is_whole so_far is
       next listed diagnosed read appended =
-      progress_goes_on a b c x y z header lines issues p asked asked' one whole one number so_far is
+      progress_continues a b c x y z header lines issues p asked asked' one whole one number so_far
+      is
       next listed diagnosed read appended (λ _. is_whole) (λ h. h) (λ _ h. h)
 
   -- One more packet was listed, and a packet before it had an error.
-  abbrev pub goes_on_part : (a b c x y z : Option (List ℕ)) (header lines issues : List ℕ)
-      (p : Recorded)
+  abbrev pub progress_continues_incomplete : (a b c x y z : Option (List ℕ))
+      (header lines issues : List ℕ)
+      (p : CapturedPacket)
       (asked asked' : List Asked) (one whole : Bool) (number : ℕ) → whole ≡ false
       → Progress a b x y asked whole number
-      → R header p → asked' ≡ asked_after asked p.bytes
+      → R header p → asked' ≡ requests_after_packet asked p.bytes
       → IsListed o asked' p (record { lines = lines; whole = one })
       → DiagnosesPacket front number p [] issues
       → Consumes b c (header ++ p.bytes)
       → Appends y z lines → Progress a c x z asked' whole (number + 1)
-  goes_on_part a b c x y z header lines issues p asked asked' one whole number is_part so_far is
+  progress_continues_incomplete a b c x y z header lines issues p asked asked' one whole number
+      is_part so_far is
       next listed diagnosed read appended =
-      progress_goes_on a b c x y z header lines issues p asked asked' one whole whole number so_far
+      progress_continues a b c x y z header lines issues p asked asked' one whole whole number
+      so_far
       is next listed diagnosed read appended
       (λ h. h) (λ h. absurd (not_both whole is_part h)) (λ h _. h)

@@ -3,9 +3,9 @@
 use Rattle.std.specs.Prelude.{◌≡◌, ℕ, ◌+◌, ◌==◌, if◌then◌else◌, nat_lt, List, [], ◌∷◌, ◌++◌, ◌⊎◌}
 use Rattle.std.specs.Prelude.{bit_and, codes, decimal, drop, length, Option, None, Some}
 use Rattle.byteorder.specs.Endian.{little_number}
-use Rattle.capture_tables.specs.Capture.{Recorded}
-use Rattle.capture_tables.specs.Reports.{cut_line, short_line}
-use Rattle.netlink_core.specs.Datagram.{CutIntoMessages}
+use Rattle.capture_tables.specs.Capture.{CapturedPacket}
+use Rattle.capture_tables.specs.Reports.{truncation_line, short_line}
+use Rattle.netlink_core.specs.Datagram.{SplitsIntoMessages}
 use Rattle.netlink_core.specs.declared.fault.DecodeError.{DecodeError}
 use Rattle.netlink_core.specs.declared.fault.DecodeError.TheVariants.{Memory, BufferTooSmall}
 use Rattle.netlink_core.specs.declared.fault.DecodeError.TheVariants.{UnsupportedFamily}
@@ -31,7 +31,7 @@ use Rattle.netlink_core.specs.declared.fault.RecordName.TheVariants.{TcpInfo, Vf
 use Rattle.netlink_core.specs.declared.fault.RecordName.TheVariants.{FamilyRequest}
 use Rattle.netlink_core.specs.declared.fault.RecordName.TheVariants.{FamilyResponseHeader}
 use Rattle.netlink_core.specs.declared.fault.RecordName.TheVariants.{FamilyAttribute}
-use Rattle.sock_diag_captures.specs.Listing.{IsRequest, IsSockDiag, message_issue}
+use Rattle.sock_diag_captures.specs.Listing.{IsRequestDatagram, IsSockDiag, message_diagnostic}
 use Rattle.sock_diag_captures.specs.declared.list.Issue.{Issue}
 use Rattle.sock_diag_captures.specs.declared.list.Issue.TheVariants.{Refused, Answered, NoEntry}
 use Rattle.sock_diag_captures.specs.declared.list.Issue.TheVariants.{Invalid, Interrupted, Lost}
@@ -59,49 +59,49 @@ record_text (FamilyAttribute family kind) =
     ++ codes " }"
 
 -- the text of a decode error
-abbrev pub fault_text : DecodeError → List ℕ
-fault_text Memory = codes "out of memory"
-fault_text (BufferTooSmall which got need) =
+abbrev pub decode_error_text : DecodeError → List ℕ
+decode_error_text Memory = codes "out of memory"
+decode_error_text (BufferTooSmall which got need) =
     record_text which ++ codes ": buffer of " ++ decimal got ++ codes " bytes, at least "
     ++ decimal need ++ codes " needed"
-fault_text (UnsupportedFamily family) =
+decode_error_text (UnsupportedFamily family) =
     codes "unsupported address family " ++ decimal family
     ++ codes ": expected AF_INET (2) or AF_INET6 (10)"
-fault_text (MessageTooShort got) =
+decode_error_text (MessageTooShort got) =
     codes "invalid buffer: length is " ++ decimal got ++ codes " but packets are at least 2 bytes"
-fault_text (UnknownFamily family) = codes "unknown address family " ++ decimal family
-fault_text (UnknownMessageType message_type) =
+decode_error_text (UnknownFamily family) = codes "unknown address family " ++ decimal family
+decode_error_text (UnknownMessageType message_type) =
     codes "unknown message type " ++ decimal message_type
-fault_text (AttributeHeaderCut left) =
+decode_error_text (AttributeHeaderCut left) =
     codes "attribute header cut: " ++ decimal left ++ codes " bytes left"
-fault_text (AttributeLengthUnder4 len) =
+decode_error_text (AttributeLengthUnder4 len) =
     codes "attribute length " ++ decimal len ++ codes " is under 4"
-fault_text (AttributeLengthPast len left) =
+decode_error_text (AttributeLengthPast len left) =
     codes "attribute length " ++ decimal len ++ codes " is past the " ++ decimal left
     ++ codes " bytes left"
-fault_text (WrongLength kind got need) =
+decode_error_text (WrongLength kind got need) =
     codes "value of " ++ decimal got ++ codes " bytes, " ++ decimal need ++ codes " needed"
-fault_text (NotMultipleOfFour got) =
+decode_error_text (NotMultipleOfFour got) =
     codes "value of " ++ decimal got ++ codes " bytes is no multiple of 4"
-fault_text NotUtf8 = codes "text is not UTF-8"
-fault_text NameEmpty = codes "name is empty"
-fault_text (NameInnerZero index) = codes "pathname holds a zero at " ++ decimal index
-fault_text NameWithoutEnd = codes "pathname is not null-terminated"
-fault_text (EnvelopeCut got) = codes "message header cut: " ++ decimal got ++ codes " bytes"
-fault_text (EnvelopeLengthUnder16 len) =
+decode_error_text NotUtf8 = codes "text is not UTF-8"
+decode_error_text NameEmpty = codes "name is empty"
+decode_error_text (NameInnerZero index) = codes "pathname holds a zero at " ++ decimal index
+decode_error_text NameWithoutEnd = codes "pathname is not null-terminated"
+decode_error_text (EnvelopeCut got) = codes "message header cut: " ++ decimal got ++ codes " bytes"
+decode_error_text (EnvelopeLengthUnder16 len) =
     codes "message length " ++ decimal len ++ codes " is under 16"
-fault_text (EnvelopeLengthPast len got) =
+decode_error_text (EnvelopeLengthPast len got) =
     codes "message length " ++ decimal len ++ codes " is past the " ++ decimal got
     ++ codes " bytes given"
 
 -- the text of a diagnostic
-abbrev pub issue_text : Issue → List ℕ
-issue_text (Refused fault) = fault_text fault
-issue_text (Answered errno) = codes "the kernel returned error " ++ decimal errno
-issue_text NoEntry = codes "note: the kernel returned ENOENT"
-issue_text Invalid = codes "note: the kernel returned EINVAL"
-issue_text Interrupted = codes "dump interrupted (NLM_F_DUMP_INTR)"
-issue_text Lost = codes "the kernel lost data"
+abbrev pub diagnostic_text : Issue → List ℕ
+diagnostic_text (Refused fault) = decode_error_text fault
+diagnostic_text (Answered errno) = codes "the kernel returned error " ++ decimal errno
+diagnostic_text NoEntry = codes "note: the kernel returned ENOENT"
+diagnostic_text Invalid = codes "note: the kernel returned EINVAL"
+diagnostic_text Interrupted = codes "dump interrupted (NLM_F_DUMP_INTR)"
+diagnostic_text Lost = codes "the kernel lost data"
 
 -- ---- lines of messages
 
@@ -109,23 +109,23 @@ issue_text Lost = codes "the kernel lost data"
 abbrev pub message_line : List ℕ → ℕ → ℕ → Issue → List ℕ
 message_line front packet message issue =
     front ++ codes "packet " ++ decimal packet ++ codes ", message " ++ decimal message
-    ++ codes ": " ++ issue_text issue ++ 10 ∷ []
+    ++ codes ": " ++ diagnostic_text issue ++ 10 ∷ []
 
 -- the line of a diagnostic, or nothing if there is none
-abbrev pub issue_line : List ℕ → ℕ → ℕ → Option Issue → List ℕ
-issue_line front packet message None = []
-issue_line front packet message (Some issue) = message_line front packet message issue
+abbrev pub diagnostic_line : List ℕ → ℕ → ℕ → Option Issue → List ℕ
+diagnostic_line front packet message None = []
+diagnostic_line front packet message (Some issue) = message_line front packet message issue
 
 -- Interrupted for a message with the flag NLM_F_DUMP_INTR (16) in `nlmsg_flags` at 6
-abbrev pub interrupted_issue : List ℕ → Option Issue
-interrupted_issue m =
+abbrev pub interrupted_diagnostic : List ℕ → Option Issue
+interrupted_diagnostic m =
     if bit_and (little_number 2 (drop 6 m)) 16 == 0 then None else Some Interrupted
 
 -- the lines about a message: first whether the dump was interrupted, then its other diagnostic
 abbrev pub lines_about_message : List ℕ → ℕ → ℕ → List ℕ → List ℕ
 lines_about_message front packet message m =
-    issue_line front packet message (interrupted_issue m)
-    ++ issue_line front packet message (message_issue m)
+    diagnostic_line front packet message (interrupted_diagnostic m)
+    ++ diagnostic_line front packet message (message_diagnostic m)
 
 -- the lines about consecutive messages, of which the first has the number `message`
 abbrev pub lines_about : List ℕ → ℕ → ℕ → List (List ℕ) → List ℕ
@@ -148,15 +148,15 @@ pub record DiagnosesMessages (front : List ℕ) (packet : ℕ) (datagram before 
   pub messages : List (List ℕ)
   -- the error of the bytes after the last message, if there are any
   pub end : Option DecodeError
-  pub cut : CutIntoMessages datagram messages end
+  pub cut : SplitsIntoMessages datagram messages end
   pub lines : after ≡ before ++ (lines_about front packet 1 messages
       ++ end_line front packet (length messages + 1) end)
 
 -- the lines about a datagram that is not a request; a request has none
 abbrev pub DiagnosesDatagram : List ℕ → ℕ → List ℕ → List ℕ → List ℕ → Type 0
 DiagnosesDatagram front packet datagram before after =
-    ((IsRequest datagram → ⊥) × DiagnosesMessages front packet datagram before after)
-    ⊎ (IsRequest datagram × (after ≡ before))
+    ((IsRequestDatagram datagram → ⊥) × DiagnosesMessages front packet datagram before after)
+    ⊎ (IsRequestDatagram datagram × (after ≡ before))
 
 -- The lines about the bytes of a packet: those of its datagram if it is one of sock_diag(7), a line
 -- if it has fewer than 16 bytes, or else none.
@@ -168,13 +168,13 @@ DiagnosesContent front packet bytes before after =
 
 -- The text `after` is the text `before` and the lines about the packet of this number: first
 -- whether it was truncated, then those about its bytes.
-abbrev pub DiagnosesPacket : List ℕ → ℕ → Recorded → List ℕ → List ℕ → Type 0
+abbrev pub DiagnosesPacket : List ℕ → ℕ → CapturedPacket → List ℕ → List ℕ → Type 0
 DiagnosesPacket front number packet before after =
     DiagnosesContent front number packet.bytes
-    (before ++ cut_line front number (length packet.bytes) packet.header.whole_length) after
+    (before ++ truncation_line front number (length packet.bytes) packet.header.whole_length) after
 
 -- the lines about consecutive packets, of which the first has this number
-abbrev pub AreDiagnosed : List ℕ → ℕ → List Recorded → List ℕ → Type 0
+abbrev pub AreDiagnosed : List ℕ → ℕ → List CapturedPacket → List ℕ → Type 0
 AreDiagnosed front number [] lines = lines ≡ []
 AreDiagnosed front number (packet ∷ packets) lines =
     (first rest : List ℕ) × DiagnosesPacket front number packet [] first

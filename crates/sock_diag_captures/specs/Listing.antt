@@ -6,19 +6,19 @@ use Rattle.std.specs.Prelude.{bit_and, drop, length, flat_map, Option, None, Som
 use Rattle.std.specs.Prelude.{Result, Ok, Err}
 use Rattle.std.specs.List.{AllByRecursion}
 use Rattle.byteorder.specs.Endian.{big_number, little_number}
-use Rattle.capture_tables.specs.Capture.{Recorded}
+use Rattle.capture_tables.specs.Capture.{CapturedPacket}
 use Rattle.capture_tables.specs.Cooked.{IsOfSockDiag}
 use Rattle.capture_tables.specs.declared.capture.PacketHeader.{PacketHeader}
 use Rattle.capture_tables.specs.declared.options.Family.{Family}
 use Rattle.capture_tables.specs.declared.options.Family.TheVariants.{Netlink, Packet, Vsock, Xdp}
 use Rattle.capture_tables.specs.declared.options.Options.{Options}
-use Rattle.netlink_core.specs.Datagram.{CutIntoMessages}
-use Rattle.netlink_core.specs.Layout.{Layout, read}
+use Rattle.netlink_core.specs.Datagram.{SplitsIntoMessages}
+use Rattle.netlink_core.specs.Layout.{Layout, parse_record}
 use Rattle.netlink_core.specs.Header.{HasHeader}
 use Rattle.netlink_core.specs.declared.fault.DecodeError.{DecodeError}
 use Rattle.netlink_core.specs.declared.fault.DecodeError.TheVariants.{UnknownFamily}
 use Rattle.netlink_core.specs.declared.header.NetlinkHeader.{NetlinkHeader}
-use Rattle.netlink_core.specs.Envelope.{leading_number}
+use Rattle.netlink_core.specs.Envelope.{leading_error_number}
 use Rattle.sock_diag_records.specs.InetResponse.{inet_response_header}
 use Rattle.sock_diag_records.specs.UnixResponseHeader.{unix_response_header}
 use Rattle.sock_diag_records.specs.ResponseKind.{MessageKind, inet_response, response_kind}
@@ -27,9 +27,9 @@ use Rattle.sock_diag_families.specs.NetlinkResponseHeader.{netlink_header}
 use Rattle.sock_diag_families.specs.PacketResponseHeader.{packet_header}
 use Rattle.sock_diag_families.specs.VsockResponseHeader.{vsock_header}
 use Rattle.sock_diag_families.specs.XdpResponseHeader.{xdp_header}
-use Rattle.sock_diag_captures.specs.Pieces.{Piece, framing_fault, pieces}
-use Rattle.sock_diag_captures.specs.RequestLine.{shown_request}
-use Rattle.sock_diag_captures.specs.Requests.{noted, protocol_of}
+use Rattle.sock_diag_captures.specs.Pieces.{AttributeOrError, framing_error_of, attributes_or_error}
+use Rattle.sock_diag_captures.specs.RequestLine.{request_line_if_selected}
+use Rattle.sock_diag_captures.specs.Requests.{with_request_in_datagram, protocol_of}
 use Rattle.sock_diag_captures.specs.declared.others.OtherSocket.{OtherSocket}
 use Rattle.sock_diag_captures.specs.declared.requests.Asked.{Asked}
 use Rattle.sock_diag_captures.specs.Details.{timer_in}
@@ -43,66 +43,72 @@ use Rattle.sock_diag_captures.specs.declared.list.Issue.TheVariants.{Invalid, No
 -- ---- replies
 
 -- the lines of a reply with this header and these attributes, or none if the header is invalid
-abbrev pub lines_behind : {H : Type 0} → (H → List Piece → List ℕ) → Result H DecodeError
-    → List Piece → List ℕ
-lines_behind lines (Ok h) given = lines h given
-lines_behind lines (Err e) given = []
+abbrev pub lines_after_header : {H : Type 0} → (H → List AttributeOrError → List ℕ)
+    → Result H DecodeError
+    → List AttributeOrError → List ℕ
+lines_after_header lines (Ok h) given = lines h given
+lines_after_header lines (Err e) given = []
 
 -- the decode error of a reply: of its header, or else of the bytes after its last attribute
-abbrev pub fault_behind : {H : Type 0} → Result H DecodeError → List Piece → Option DecodeError
-fault_behind (Ok h) given = framing_fault given
-fault_behind (Err e) given = Some e
+abbrev pub error_after_reply_header : {H : Type 0} → Result H DecodeError → List AttributeOrError
+    → Option DecodeError
+error_after_reply_header (Ok h) given = framing_error_of given
+error_after_reply_header (Err e) given = Some e
 
 -- The lines of a reply about a netlink, packet, vsock or XDP socket. `header` is the layout of its
 -- header, which has `header.least` bytes, and `socket` returns the values that a line shows.
-abbrev pub shown_lines : {T H : Type 0} → Options → Layout (Unit {0}) T H
-    → (H → List Piece → OtherSocket) → List ℕ → List ℕ
-shown_lines o header socket b =
-    lines_behind (λ h given. other_lines o (socket h given) given) (read header tt b)
-    (pieces 0 (drop header.least b))
+abbrev pub other_reply_lines : {T H : Type 0} → Options → Layout (Unit {0}) T H
+    → (H → List AttributeOrError → OtherSocket) → List ℕ → List ℕ
+other_reply_lines o header socket b =
+    lines_after_header (λ h given. other_lines o (socket h given) given) (parse_record header tt b)
+    (attributes_or_error 0 (drop header.least b))
 
 -- the decode error of a reply with this layout of its header
-abbrev pub shown_fault : {T H : Type 0} → Layout (Unit {0}) T H → List ℕ → Option DecodeError
-shown_fault header b = fault_behind (read header tt b) (pieces 0 (drop header.least b))
+abbrev pub other_reply_error : {T H : Type 0} → Layout (Unit {0}) T H → List ℕ → Option DecodeError
+other_reply_error header b = error_after_reply_header (parse_record header tt b)
+    (attributes_or_error 0 (drop header.least b))
 
 -- the lines of a reply about a socket of this family, or none for an unknown family
 abbrev pub family_lines : Options → Option Family → List ℕ → List ℕ
-family_lines o (Some Netlink) b = shown_lines o netlink_header netlink_socket b
-family_lines o (Some Packet) b = shown_lines o packet_header packet_socket b
-family_lines o (Some Vsock) b = shown_lines o vsock_header vsock_socket b
-family_lines o (Some Xdp) b = shown_lines o xdp_header xdp_socket b
+family_lines o (Some Netlink) b = other_reply_lines o netlink_header netlink_socket b
+family_lines o (Some Packet) b = other_reply_lines o packet_header packet_socket b
+family_lines o (Some Vsock) b = other_reply_lines o vsock_header vsock_socket b
+family_lines o (Some Xdp) b = other_reply_lines o xdp_header xdp_socket b
 family_lines o None b = []
 
 -- the decode error of a reply about a socket of this family, or none for an unknown family
-abbrev pub family_fault : Option Family → List ℕ → Option DecodeError
-family_fault (Some Netlink) b = shown_fault netlink_header b
-family_fault (Some Packet) b = shown_fault packet_header b
-family_fault (Some Vsock) b = shown_fault vsock_header b
-family_fault (Some Xdp) b = shown_fault xdp_header b
-family_fault None b = None
+abbrev pub family_error : Option Family → List ℕ → Option DecodeError
+family_error (Some Netlink) b = other_reply_error netlink_header b
+family_error (Some Packet) b = other_reply_error packet_header b
+family_error (Some Vsock) b = other_reply_error vsock_header b
+family_error (Some Xdp) b = other_reply_error xdp_header b
+family_error None b = None
 
 -- The lines of a payload, by the kind of the reply: attributes follow a `struct unix_diag_msg` of
 -- 16 bytes, or a `struct inet_diag_msg` of 72 bytes. `protocol` is the protocol of the request. A
 -- payload that is not a reply has no lines.
-abbrev pub kind_lines : Options → Option ℕ → Result MessageKind DecodeError → List ℕ → List ℕ
-kind_lines o protocol (Ok unix_response) b =
-    lines_behind (unix_lines o) (read unix_response_header tt b) (pieces 0 (drop 16 b))
-kind_lines o protocol (Ok inet_response) b =
-    lines_behind (inet_lines o protocol (timer_in b)) (read inet_response_header tt b)
-    (pieces 0 (drop 72 b))
-kind_lines o protocol (Err (UnknownFamily n)) b = family_lines o (family_numbered n) b
-kind_lines o protocol _ b = []
+abbrev pub payload_lines : Options → Option ℕ → Result MessageKind DecodeError → List ℕ → List ℕ
+payload_lines o protocol (Ok unix_response) b =
+    lines_after_header (unix_lines o) (parse_record unix_response_header tt b)
+    (attributes_or_error 0 (drop 16 b))
+payload_lines o protocol (Ok inet_response) b =
+    lines_after_header (inet_lines o protocol (timer_in b)) (parse_record inet_response_header tt b)
+    (attributes_or_error 0 (drop 72 b))
+payload_lines o protocol (Err (UnknownFamily n)) b = family_lines o (family_numbered n) b
+payload_lines o protocol _ b = []
 
 -- The decode error of a payload: of the reply, or the reason why it is not a reply. A reply about a
 -- socket of an unknown family has no error.
-abbrev pub kind_fault : Result MessageKind DecodeError → List ℕ → Option DecodeError
-kind_fault (Ok unix_response) b =
-    fault_behind (read unix_response_header tt b) (pieces 0 (drop 16 b))
-kind_fault (Ok inet_response) b =
-    fault_behind (read inet_response_header tt b) (pieces 0 (drop 72 b))
-kind_fault (Err (UnknownFamily n)) b = family_fault (family_numbered n) b
-kind_fault (Err e) b = Some e
-kind_fault _ b = None
+abbrev pub payload_error : Result MessageKind DecodeError → List ℕ → Option DecodeError
+payload_error (Ok unix_response) b =
+    error_after_reply_header (parse_record unix_response_header tt b)
+    (attributes_or_error 0 (drop 16 b))
+payload_error (Ok inet_response) b =
+    error_after_reply_header (parse_record inet_response_header tt b)
+    (attributes_or_error 0 (drop 72 b))
+payload_error (Err (UnknownFamily n)) b = family_error (family_numbered n) b
+payload_error (Err e) b = Some e
+payload_error _ b = None
 
 -- ---- messages
 
@@ -117,9 +123,9 @@ is_control t = nat_le 1 t && nat_le t 4
 
 -- The lines of a message with this type and this payload. A control message has none. `protocol` is
 -- the protocol of the request.
-abbrev pub lines_under : Options → Option ℕ → ℕ → List ℕ → List ℕ
-lines_under o protocol t payload =
-    if is_control t then [] else kind_lines o protocol (response_kind payload t) payload
+abbrev pub lines_by_type : Options → Option ℕ → ℕ → List ℕ → List ℕ
+lines_by_type o protocol t payload =
+    if is_control t then [] else payload_lines o protocol (response_kind payload t) payload
 
 -- The protocol of the request that a message answers, by its sequence number (`nlmsg_seq` at 8) and
 -- its port number (`nlmsg_pid` at 12).
@@ -128,60 +134,60 @@ protocol_for asked m = protocol_of asked (little_number 4 (drop 8 m)) (little_nu
 
 -- the lines of a message, whose payload is at 16
 abbrev pub message_lines : Options → List Asked → List ℕ → List ℕ
-message_lines o asked m = lines_under o (protocol_for asked m) (type_of m) (drop 16 m)
+message_lines o asked m = lines_by_type o (protocol_for asked m) (type_of m) (drop 16 m)
 
 -- the absolute value of a negative number, or else 0
-abbrev pub below_zero : Option ℤ → ℕ
-below_zero None = 0
-below_zero (Some (pos n)) = 0
-below_zero (Some (negsuc n)) = n + 1
+abbrev pub negated_if_negative : Option ℤ → ℕ
+negated_if_negative None = 0
+negated_if_negative (Some (pos n)) = 0
+negated_if_negative (Some (negsuc n)) = n + 1
 
 -- the error number of errno(3) in the payload of an NLMSG_ERROR or NLMSG_DONE, which contains it
 -- negated, or 0 if there is none
 abbrev pub errno_in : List ℕ → ℕ
-errno_in payload = below_zero (leading_number payload)
+errno_in payload = negated_if_negative (leading_error_number payload)
 
 -- The diagnostic of an error number: none for 0, a note for ENOENT (2) and EINVAL (22), or else an
 -- error.
-abbrev pub error_issue : ℕ → Option Issue
-error_issue n =
+abbrev pub errno_diagnostic : ℕ → Option Issue
+errno_diagnostic n =
     if n == 0 then None else if n == 2 then Some NoEntry else if n == 22 then Some Invalid
     else Some (Answered n)
 
 -- The diagnostic of a control message: none for NLMSG_NOOP (1), Lost for NLMSG_OVERRUN (4), or else
 -- that of the error number in its payload.
-abbrev pub control_issue : ℕ → List ℕ → Option Issue
-control_issue t payload =
-    if t == 1 then None else if t == 4 then Some Lost else error_issue (errno_in payload)
+abbrev pub control_diagnostic : ℕ → List ℕ → Option Issue
+control_diagnostic t payload =
+    if t == 1 then None else if t == 4 then Some Lost else errno_diagnostic (errno_in payload)
 
 -- the diagnostic of a message with this type and this payload, except for Interrupted
-abbrev pub issue_under : ℕ → List ℕ → Option Issue
-issue_under t payload =
-    if is_control t then control_issue t payload
-    else option_map Refused (kind_fault (response_kind payload t) payload)
+abbrev pub diagnostic_by_type : ℕ → List ℕ → Option Issue
+diagnostic_by_type t payload =
+    if is_control t then control_diagnostic t payload
+    else option_map Refused (payload_error (response_kind payload t) payload)
 
 -- the diagnostic of a message, except for Interrupted
-abbrev pub message_issue : List ℕ → Option Issue
-message_issue m = issue_under (type_of m) (drop 16 m)
+abbrev pub message_diagnostic : List ℕ → Option Issue
+message_diagnostic m = diagnostic_by_type (type_of m) (drop 16 m)
 
 -- there is no diagnostic or only a note, so that no socket is missing from the table
-abbrev pub is_nothing_missing : Option Issue → Bool
-is_nothing_missing None = true
-is_nothing_missing (Some NoEntry) = true
-is_nothing_missing (Some Invalid) = true
-is_nothing_missing (Some issue) = false
+abbrev pub is_note_or_none : Option Issue → Bool
+is_note_or_none None = true
+is_note_or_none (Some NoEntry) = true
+is_note_or_none (Some Invalid) = true
+is_note_or_none (Some issue) = false
 
 -- A message without the flag NLM_F_DUMP_INTR (16) in `nlmsg_flags` at 6, and without a diagnostic
 -- other than a note.
-abbrev pub IsPlain : List ℕ → Type 0
-IsPlain m = (bit_and (little_number 2 (drop 6 m)) 16 ≡ 0)
-    × IsTrue (is_nothing_missing (message_issue m))
+abbrev pub IsCleanMessage : List ℕ → Type 0
+IsCleanMessage m = (bit_and (little_number 2 (drop 6 m)) 16 ≡ 0)
+    × IsTrue (is_note_or_none (message_diagnostic m))
 
 -- ---- datagrams and packets
 
 -- the datagram begins with a netlink header whose flags have bit 1 (NLM_F_REQUEST)
-abbrev pub IsRequest : List ℕ → Type 0
-IsRequest datagram = (h : NetlinkHeader) × HasHeader datagram h × (bit_and h.flags 1 ≢ 0)
+abbrev pub IsRequestDatagram : List ℕ → Type 0
+IsRequestDatagram datagram = (h : NetlinkHeader) × HasHeader datagram h × (bit_and h.flags 1 ≢ 0)
 
 -- a packet with a cooked header of sock_diag(7)
 abbrev pub IsSockDiag : List ℕ → Type 0
@@ -190,37 +196,38 @@ IsSockDiag packet = (16 ≤ length packet) × IsOfSockDiag packet
 -- The text `after` is the text `before` and the lines of each message of a datagram, in order.
 -- `end` is the error of the bytes after the last message, if there are any. `is_clean` is true if
 -- and only if each message is plain and there is no such error.
-pub record Lists (o : Options) (asked : List Asked) (datagram before after : List ℕ)
+pub record ListsMessages (o : Options) (asked : List Asked) (datagram before after : List ℕ)
     (is_clean : Bool) : Type 0 where
   -- the messages of the datagram, without the padding between them
   pub messages : List (List ℕ)
   -- the error of the bytes after the last message, if there are any
   pub end : Option DecodeError
-  pub cut : CutIntoMessages datagram messages end
+  pub cut : SplitsIntoMessages datagram messages end
   pub lines : after ≡ before ++ flat_map (message_lines o asked) messages
-  pub clean : IsTrue is_clean ↔ (AllByRecursion IsPlain messages × (end ≡ None))
+  pub clean : IsTrue is_clean ↔ (AllByRecursion IsCleanMessage messages × (end ≡ None))
 
 -- The lines of a datagram. A request has only its own line, if `--requests` is set, and is always
 -- clean. Any other datagram has the lines of its messages.
 abbrev pub ListsDatagram : Options → List Asked → PacketHeader → List ℕ → List ℕ → List ℕ → Bool
     → Type 0
 ListsDatagram o asked header datagram before after is_clean =
-    ((IsRequest datagram → ⊥) × Lists o asked datagram before after is_clean)
-    ⊎ (IsRequest datagram × (after ≡ before ++ shown_request o header datagram) × (is_clean ≡ true))
+    ((IsRequestDatagram datagram → ⊥) × ListsMessages o asked datagram before after is_clean)
+    ⊎ (IsRequestDatagram datagram × (after ≡ before ++ request_line_if_selected o header datagram)
+    × (is_clean ≡ true))
 
 -- The requests after a packet. If the packet has a cooked header of sock_diag(7) (the hardware type
 -- at 2 is 824 and the protocol at 14 is 4, both big-endian), the request that its datagram begins
 -- with is added. The datagram is at 16.
-unfoldable pub asked_after : List Asked → List ℕ → List Asked
-asked_after asked packet =
+unfoldable pub requests_after_packet : List Asked → List ℕ → List Asked
+requests_after_packet asked packet =
     if nat_lt (length packet) 16 then asked
     else if (big_number 2 (drop 2 packet) == 824) && (big_number 2 (drop 14 packet) == 4)
-    then noted asked (drop 16 packet) else asked
+    then with_request_in_datagram asked (drop 16 packet) else asked
 
 -- The text `after` is the text `before` and the lines of a packet: those of its datagram if it is
 -- one of sock_diag(7), or else none. A packet of another protocol is clean, and a packet with fewer
 -- than 16 bytes is not.
-abbrev pub ListsPacket : Options → List Asked → Recorded → List ℕ → List ℕ → Bool → Type 0
+abbrev pub ListsPacket : Options → List Asked → CapturedPacket → List ℕ → List ℕ → Bool → Type 0
 ListsPacket o asked packet before after is_clean =
     (IsSockDiag packet.bytes
     × ListsDatagram o asked packet.header (drop 16 packet.bytes) before after is_clean)
@@ -229,7 +236,8 @@ ListsPacket o asked packet before after is_clean =
 
 -- The lines of a packet as it was captured. It was listed without errors if it is clean and was not
 -- truncated: it has at least as many bytes as its original length.
-abbrev pub ListsRecorded : Options → List Asked → Recorded → List ℕ → List ℕ → Bool → Type 0
-ListsRecorded o asked packet before after is_whole =
+abbrev pub ListsCapturedPacket : Options → List Asked → CapturedPacket → List ℕ → List ℕ → Bool
+    → Type 0
+ListsCapturedPacket o asked packet before after is_whole =
     (is_clean : Bool) × ListsPacket o asked packet before after is_clean
     × (IsTrue is_whole ↔ (IsTrue is_clean × (packet.header.whole_length ≤ length packet.bytes)))

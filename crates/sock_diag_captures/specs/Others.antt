@@ -2,9 +2,9 @@
 use Rattle.std.specs.Prelude.{ℕ, ◌+◌, ◌==◌, nat_lt, if◌then◌else◌, List, [], ◌∷◌, ◌++◌, length}
 use Rattle.std.specs.Prelude.{drop, codes, Option, None, Some, option_and_then}
 use Rattle.byteorder.specs.Endian.{little_bytes, little_number}
-use Rattle.capture_tables.specs.Parts.{no_timer, set_apart}
+use Rattle.capture_tables.specs.Parts.{no_timer, details_after_separator}
 use Rattle.capture_tables.specs.Options.{lists_family}
-use Rattle.capture_tables.specs.Cells.{FirstColumns, line, peer_cell}
+use Rattle.capture_tables.specs.Cells.{FirstColumns, table_line, peer_cell}
 use Rattle.capture_tables.specs.declared.options.Family.{Family}
 use Rattle.capture_tables.specs.declared.options.Family.TheVariants.{Netlink, Packet, Vsock, Xdp}
 use Rattle.capture_tables.specs.declared.options.Options.{Options}
@@ -14,7 +14,7 @@ use Rattle.sock_diag_families.specs.declared.packet.response.PacketResponseHeade
 use Rattle.sock_diag_families.specs.declared.vsock.response.VsockResponseHeader.{VsockResponseHeader}
 use Rattle.sock_diag_families.specs.declared.xdp.response.XdpResponseHeader.{XdpResponseHeader}
 use Rattle.sock_diag_captures.specs.Details.{details, memory_kind}
-use Rattle.sock_diag_captures.specs.Pieces.{Piece, first_of_kind}
+use Rattle.sock_diag_captures.specs.Pieces.{AttributeOrError, first_of_kind}
 use Rattle.sock_diag_captures.specs.declared.details.Sockets.TheVariants.{Other}
 use Rattle.sock_diag_captures.specs.declared.others.OtherSocket.{OtherSocket}
 
@@ -29,24 +29,25 @@ family_numbered n =
 -- ---- values of attributes
 
 -- the little-endian `u32` at an offset of an attribute's value, or None if the value is too short
-abbrev pub word_in : ℕ → Option Attribute → Option ℕ
-word_in place None = None
-word_in place (Some a) =
+abbrev pub u32_in_attribute : ℕ → Option Attribute → Option ℕ
+u32_in_attribute place None = None
+u32_in_attribute place (Some a) =
     if nat_lt (length a.value) (place + 4) then None
     else Some (little_number 4 (drop place a.value))
 
 -- the `u32` at an offset of the value of the first attribute of a type, or None if there is none
-abbrev pub word_told : Option ℕ → ℕ → List Piece → Option ℕ
-word_told None place given = None
-word_told (Some kind) place given = word_in place (first_of_kind kind given)
+abbrev pub u32_of_first_attribute : Option ℕ → ℕ → List AttributeOrError → Option ℕ
+u32_of_first_attribute None place given = None
+u32_of_first_attribute (Some kind) place given = u32_in_attribute place (first_of_kind kind given)
 
 -- the number, or None if it is `none`
-abbrev pub unless : ℕ → ℕ → Option ℕ
-unless none n = if n == none then None else Some n
+abbrev pub none_if_equal : ℕ → ℕ → Option ℕ
+none_if_equal none n = if n == none then None else Some n
 
 -- the interface number: the `u32` at 0 of the first attribute of a type, or None if it is 0
-abbrev pub interface : ℕ → List Piece → Option ℕ
-interface kind given = option_and_then (unless 0) (word_told (Some kind) 0 given)
+abbrev pub interface_number : ℕ → List AttributeOrError → Option ℕ
+interface_number kind given = option_and_then (none_if_equal 0)
+    (u32_of_first_attribute (Some kind) 0 given)
 
 -- the type of the attribute with the user id: PACKET_DIAG_UID (5) or XDP_DIAG_UID (2)
 abbrev pub user_kind : Family → Option ℕ
@@ -58,7 +59,7 @@ user_kind _ = None
 
 -- A netlink socket. Local: protocol and port. Peer: group and port, if the state is 1
 -- (NETLINK_CONNECTED). The column State has UNCONN (7) in any case, as in ss(8).
-abbrev pub netlink_socket : NetlinkResponseHeader → List Piece → OtherSocket
+abbrev pub netlink_socket : NetlinkResponseHeader → List AttributeOrError → OtherSocket
 netlink_socket h given = record {
   family = Netlink;
   kind = h.kind;
@@ -71,40 +72,43 @@ netlink_socket h given = record {
 
 -- A packet socket. Local: protocol, and interface number at 0 of the attribute PACKET_DIAG_INFO
 -- (0). The column State has UNCONN (7).
-abbrev pub packet_socket : PacketResponseHeader → List Piece → OtherSocket
+abbrev pub packet_socket : PacketResponseHeader → List AttributeOrError → OtherSocket
 packet_socket h given = record {
   family = Packet;
   kind = h.kind;
   state = 7;
   inode = h.inode;
   cookie = h.cookie;
-  local = (Some h.protocol, interface 0 given);
+  local = (Some h.protocol, interface_number 0 given);
   peer = None;
 }
 
 -- A vsock socket. Local and peer: context and port, None for 2 ^ 32 - 1 (VMADDR_CID_ANY,
 -- VMADDR_PORT_ANY).
-abbrev pub vsock_socket : VsockResponseHeader → List Piece → OtherSocket
+abbrev pub vsock_socket : VsockResponseHeader → List AttributeOrError → OtherSocket
 vsock_socket h given = record {
   family = Vsock;
   kind = h.kind;
   state = h.state;
   inode = h.inode;
   cookie = h.cookie;
-  local = (unless 4294967295 h.source_context, unless 4294967295 h.source_port);
-  peer = Some (unless 4294967295 h.destination_context, unless 4294967295 h.destination_port);
+  local = (none_if_equal 4294967295 h.source_context, none_if_equal 4294967295 h.source_port);
+  peer = Some (
+    none_if_equal 4294967295 h.destination_context,
+    none_if_equal 4294967295 h.destination_port,
+  );
 }
 
 -- An XDP socket. Local: interface number at 0 and queue at 4 of the attribute XDP_DIAG_INFO (1).
 -- The column State has UNCONN (7).
-abbrev pub xdp_socket : XdpResponseHeader → List Piece → OtherSocket
+abbrev pub xdp_socket : XdpResponseHeader → List AttributeOrError → OtherSocket
 xdp_socket h given = record {
   family = Xdp;
   kind = h.kind;
   state = 7;
   inode = h.inode;
   cookie = h.cookie;
-  local = (interface 1 given, word_told (Some 1) 4 given);
+  local = (interface_number 1 given, u32_of_first_attribute (Some 1) 4 given);
   peer = None;
 }
 
@@ -125,34 +129,36 @@ other_kind Xdp kind = codes "xdp"
 
 -- The first columns. Recv-Q is at 0 of the attribute with the memory (SK_MEMINFO_RMEM_ALLOC),
 -- Send-Q at 8 (SK_MEMINFO_WMEM_ALLOC).
-abbrev pub other_columns : OtherSocket → List Piece → FirstColumns
+abbrev pub other_columns : OtherSocket → List AttributeOrError → FirstColumns
 other_columns s given = record {
   kind = other_kind s.family s.kind;
   state = s.state;
-  receive_queue = word_told (memory_kind s.family) 0 given;
-  send_queue = word_told (memory_kind s.family) 8 given;
+  receive_queue = u32_of_first_attribute (memory_kind s.family) 0 given;
+  send_queue = u32_of_first_attribute (memory_kind s.family) 8 given;
   inode = s.inode;
-  uid = word_told (user_kind s.family) 0 given;
+  uid = u32_of_first_attribute (user_kind s.family) 0 given;
 }
 
 -- both numbers of an address, separated by a colon (58); None is `*`
-abbrev pub end_text : Option ℕ × Option ℕ → List ℕ
-end_text end = peer_cell end.0 ++ 58 ∷ peer_cell end.1
+abbrev pub numbers_text : Option ℕ × Option ℕ → List ℕ
+numbers_text end = peer_cell end.0 ++ 58 ∷ peer_cell end.1
 
 -- an address, or `*` for None
-abbrev pub end_cell : Option (Option ℕ × Option ℕ) → List ℕ
-end_cell None = codes "*"
-end_cell (Some end) = end_text end
+abbrev pub optional_numbers_text : Option (Option ℕ × Option ℕ) → List ℕ
+optional_numbers_text None = codes "*"
+optional_numbers_text (Some end) = numbers_text end
 
 -- the columns
-abbrev pub other_line : OtherSocket → List Piece → List ℕ
-other_line s given = line (other_columns s given) (end_text s.local) (end_cell s.peer)
+abbrev pub other_line : OtherSocket → List AttributeOrError → List ℕ
+other_line s given = table_line (other_columns s given) (numbers_text s.local)
+    (optional_numbers_text s.peer)
 
 -- The lines of a socket, if the options select its family: the columns, the details and a line feed
 -- (10). The cookie is passed as eight bytes.
-abbrev pub other_lines : Options → OtherSocket → List Piece → List ℕ
+abbrev pub other_lines : Options → OtherSocket → List AttributeOrError → List ℕ
 other_lines o s given =
     if lists_family o s.family
     then other_line s given
-    ++ set_apart o (details o (Other s.family) no_timer (little_bytes 8 s.cookie) given) ++ 10 ∷ []
+    ++ details_after_separator o (details o (Other s.family) no_timer
+    (little_bytes 8 s.cookie) given) ++ 10 ∷ []
     else []

@@ -5,10 +5,11 @@ use Rattle.std.specs.Prelude.{ℕ, zero, suc, ◌+◌, ◌-◌, ◌==◌, nat_lt
 use Rattle.std.specs.Prelude.{drop, length, take, Option, None, Some, option_and_then, Result}
 use Rattle.std.specs.Prelude.{Ok, Err}
 use Rattle.byteorder.specs.Endian.{little_number}
-use Rattle.netlink_core.specs.Attribute.{Attribute, fill, attribute_type}
-use Rattle.netlink_core.specs.AttributeSet.{AttributeSet, AttributeValue, ValueAt, content, decodes}
+use Rattle.netlink_core.specs.Attribute.{Attribute, padding_length, attribute_kind}
+use Rattle.netlink_core.specs.AttributeSet.{AttributeSet, AttributeValue, ValueOfKind}
+use Rattle.netlink_core.specs.AttributeSet.{value_of_kind, decode_attribute}
 use Rattle.netlink_core.specs.Faults.{map_ok}
-use Rattle.netlink_core.specs.Walk.{attribute_of, bytes_left}
+use Rattle.netlink_core.specs.Walk.{buffered_attribute, unread_bytes}
 use Rattle.netlink_core.specs.declared.attribute.NlaBuffer.{NlaBuffer}
 use Rattle.netlink_core.specs.declared.attribute.NlasIterator.{NlasIterator}
 use Rattle.netlink_core.specs.declared.fault.DecodeError.{DecodeError}
@@ -17,13 +18,13 @@ use Rattle.netlink_core.specs.declared.fault.DecodeError.TheVariants.{AttributeL
 use Rattle.netlink_core.specs.declared.fault.DecodeError.TheVariants.{AttributeLengthPast}
 
 -- an attribute, or the error of bytes that are not one
-abbrev pub Piece : Type 0
-Piece = Result Attribute DecodeError
+abbrev pub AttributeOrError : Type 0
+AttributeOrError = Result Attribute DecodeError
 
 -- The first attribute, or the first of these errors: fewer than four bytes, a length field (`word`)
 -- below 4, a length field greater than the number of bytes.
-abbrev pub front_piece : List ℕ → Piece
-front_piece b =
+abbrev pub first_attribute_or_error : List ℕ → AttributeOrError
+first_attribute_or_error b =
     let word = little_number 2 b in
     if nat_lt (length b) 4 then Err (AttributeHeaderCut (length b))
     else if nat_lt word 4 then Err (AttributeLengthUnder4 word)
@@ -31,45 +32,48 @@ front_piece b =
     else Ok (record { type_word = little_number 2 (drop 2 b); value = take (word - 4) (drop 4 b) })
 
 -- an attribute and those after it, or an error, after which nothing follows
-abbrev pub followed : Piece → List Piece → List Piece
-followed (Ok a) later = Ok a ∷ later
-followed (Err e) later = Err e ∷ []
+abbrev pub before_error : AttributeOrError → List AttributeOrError → List AttributeOrError
+before_error (Ok a) later = Ok a ∷ later
+before_error (Err e) later = Err e ∷ []
 
 -- The pieces after the first `n` bytes, which are skipped. The next attribute is at the next
--- multiple of 4: `fill word` is the length of the padding after `word` bytes.
-unfoldable pub pieces : ℕ → List ℕ → List Piece
-pieces n [] = []
-pieces zero (byte ∷ bytes) =
+-- multiple of 4: `padding_length word` is the length of the padding after `word` bytes.
+unfoldable pub attributes_or_error : ℕ → List ℕ → List AttributeOrError
+attributes_or_error n [] = []
+attributes_or_error zero (byte ∷ bytes) =
     let word = little_number 2 (byte ∷ bytes) in
-    followed (front_piece (byte ∷ bytes)) (pieces (word + fill word - 1) bytes)
-pieces (suc n) (byte ∷ bytes) = pieces n bytes
+    before_error (first_attribute_or_error (byte ∷ bytes))
+    (attributes_or_error (word + padding_length word - 1) bytes)
+attributes_or_error (suc n) (byte ∷ bytes) = attributes_or_error n bytes
 
 -- the model of an item of an attribute iterator
-abbrev pub piece_of : Result NlaBuffer DecodeError → Piece
-piece_of item = map_ok attribute_of item
+abbrev pub attribute_or_error_of : Result NlaBuffer DecodeError → AttributeOrError
+attribute_or_error_of item = map_ok buffered_attribute item
 
 -- the pieces that an attribute iterator has not returned yet
-abbrev pub pieces_left : NlasIterator → List Piece
-pieces_left walk = pieces 0 (bytes_left walk)
+abbrev pub attributes_or_error_left : NlasIterator → List AttributeOrError
+attributes_or_error_left walk = attributes_or_error 0 (unread_bytes walk)
 
 -- the error after the last attribute, if there is one
-abbrev pub framing_fault : List Piece → Option DecodeError
-framing_fault [] = None
-framing_fault (Ok a ∷ later) = framing_fault later
-framing_fault (Err e ∷ later) = Some e
+abbrev pub framing_error_of : List AttributeOrError → Option DecodeError
+framing_error_of [] = None
+framing_error_of (Ok a ∷ later) = framing_error_of later
+framing_error_of (Err e ∷ later) = Some e
 
 -- the first attribute of type `k`
-abbrev pub first_of_kind : ℕ → List Piece → Option Attribute
+abbrev pub first_of_kind : ℕ → List AttributeOrError → Option Attribute
 first_of_kind k [] = None
-first_of_kind k (Ok a ∷ later) = if attribute_type a == k then Some a else first_of_kind k later
+first_of_kind k (Ok a ∷ later) = if attribute_kind a == k then Some a else first_of_kind k later
 first_of_kind k (Err e ∷ later) = first_of_kind k later
 
 -- the content of a decoded attribute of type `k`, or None for a decode error
-abbrev pub value_read : (F : AttributeSet) → (k : ℕ) → Result (AttributeValue F) DecodeError
-    → Option (ValueAt F k)
-value_read F k (Ok value) = content F k value
-value_read F k (Err e) = None
+abbrev pub content_if_valid : (F : AttributeSet) → (k : ℕ) → Result (AttributeValue F) DecodeError
+    → Option (ValueOfKind F k)
+content_if_valid F k (Ok value) = value_of_kind F k value
+content_if_valid F k (Err e) = None
 
 -- the content of the first attribute of type `k`, or None if there is none or its value is invalid
-abbrev pub first_value : (F : AttributeSet) → (k : ℕ) → List Piece → Option (ValueAt F k)
-first_value F k given = option_and_then (λ a. value_read F k (decodes F a)) (first_of_kind k given)
+abbrev pub first_content : (F : AttributeSet) → (k : ℕ) → List AttributeOrError
+    → Option (ValueOfKind F k)
+first_content F k given = option_and_then (λ a. content_if_valid F k (decode_attribute F a))
+    (first_of_kind k given)

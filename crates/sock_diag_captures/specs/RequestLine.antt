@@ -8,7 +8,7 @@ use Rattle.capture_tables.specs.declared.capture.PacketHeader.{PacketHeader}
 use Rattle.capture_tables.specs.declared.options.Family.{Family}
 use Rattle.capture_tables.specs.declared.options.Family.TheVariants.{Netlink, Packet, Vsock, Xdp}
 use Rattle.capture_tables.specs.declared.options.Options.{Options}
-use Rattle.sock_diag_captures.specs.Requests.{asked_in}
+use Rattle.sock_diag_captures.specs.Requests.{inet_request_in_datagram}
 use Rattle.sock_diag_captures.specs.Table.{inet_kind}
 use Rattle.sock_diag_captures.specs.Others.{family_numbered}
 use Rattle.sock_diag_captures.specs.declared.requests.Asked.{Asked}
@@ -16,42 +16,43 @@ use Rattle.sock_diag_captures.specs.declared.requests.Asked.{Asked}
 -- The requested states of UNIX sockets, a bit for each, if the datagram begins with such a request:
 -- a netlink header with `nlmsg_type` 20 (SOCK_DIAG_BY_FAMILY) at 4, and a `struct unix_diag_req` of
 -- 24 bytes, with the family 1 (AF_UNIX) at 16 and `udiag_states` at 20.
-abbrev pub unix_states : List ℕ → Option ℕ
-unix_states b =
+abbrev pub requested_unix_states : List ℕ → Option ℕ
+requested_unix_states b =
     if nat_lt (length b) 40 || not (little_number 2 (drop 4 b) == 20)
     || not (slice_index b 16 == 1)
     then None else Some (little_number 4 (drop 20 b))
 
 -- The netlink, packet, vsock or XDP family, if the datagram begins with a request for its sockets:
 -- `nlmsg_type` at 4 is 20, and the family (`sdiag_family`) is at 16.
-abbrev pub asked_family : List ℕ → Option Family
-asked_family b =
+abbrev pub requested_family : List ℕ → Option Family
+requested_family b =
     if nat_lt (length b) 17 || not (little_number 2 (drop 4 b) == 20) then None
     else family_numbered (slice_index b 16)
 
 -- the name of a requested family
-abbrev pub family_word : Option Family → List ℕ
-family_word (Some Netlink) = codes "netlink"
-family_word (Some Packet) = codes "packet"
-family_word (Some Vsock) = codes "vsock"
-family_word (Some Xdp) = codes "xdp"
-family_word None = codes "other"
+abbrev pub requested_family_text : Option Family → List ℕ
+requested_family_text (Some Netlink) = codes "netlink"
+requested_family_text (Some Packet) = codes "packet"
+requested_family_text (Some Vsock) = codes "vsock"
+requested_family_text (Some Xdp) = codes "xdp"
+requested_family_text None = codes "other"
 
 -- The text about the requested sockets: the protocol and the requested states of IPv4 or IPv6
 -- sockets, or else `unix` and the requested states, or else the name of the family.
-abbrev pub asked_for : Option Asked → Option ℕ → Option Family → List ℕ
-asked_for (Some a) states family =
+abbrev pub request_text : Option Asked → Option ℕ → Option Family → List ℕ
+request_text (Some a) states family =
     inet_kind (Some a.protocol) a.family ++ hex_detail (codes "states") a.states
-asked_for None (Some states) family = codes "unix" ++ hex_detail (codes "states") states
-asked_for None None family = family_word family
+request_text None (Some states) family = codes "unix" ++ hex_detail (codes "states") states
+request_text None None family = requested_family_text family
 
 -- The line of a request: `-- `, the time of its capture, a space (32), the text about the requested
 -- sockets and a line feed (10).
 abbrev pub request_line : PacketHeader → List ℕ → List ℕ
 request_line h datagram =
     codes "-- " ++ time_text h
-    ++ 32 ∷ asked_for (asked_in datagram) (unix_states datagram) (asked_family datagram) ++ 10 ∷ []
+    ++ 32 ∷ request_text (inet_request_in_datagram datagram) (requested_unix_states datagram)
+    (requested_family datagram) ++ 10 ∷ []
 
 -- the line of a request if `--requests` is set, or else nothing
-abbrev pub shown_request : Options → PacketHeader → List ℕ → List ℕ
-shown_request o h datagram = if o.requests then request_line h datagram else []
+abbrev pub request_line_if_selected : Options → PacketHeader → List ℕ → List ℕ
+request_line_if_selected o h datagram = if o.requests then request_line h datagram else []

@@ -4,7 +4,7 @@ use Rattle.std.specs.Prelude.{ℕ, ◌==◌, ◌||◌, not, nat_lt, if◌then◌
 use Rattle.std.specs.Prelude.{length, bit_and, slice_index, ◌&&◌, Option, None, Some}
 use Rattle.byteorder.specs.Endian.{little_number}
 use Rattle.netlink_core.specs.Attribute.{Attribute}
-use Rattle.sock_diag_captures.specs.Pieces.{first_of_kind, pieces}
+use Rattle.sock_diag_captures.specs.Pieces.{first_of_kind, attributes_or_error}
 use Rattle.sock_diag_captures.specs.declared.requests.Asked.{Asked}
 
 -- The protocol of a request: the little-endian value of its attribute INET_DIAG_REQ_PROTOCOL, if
@@ -16,11 +16,11 @@ protocol_by byte (Some a) = if length a.value == 4 then little_number 4 a.value 
 -- The fields of a request of at least 72 bytes: `nlmsg_seq` at 8, `nlmsg_pid` at 12, `sdiag_family`
 -- at 16, `sdiag_protocol` at 17, `idiag_states` at 20, and attributes from 72 on, of which type 3
 -- is INET_DIAG_REQ_PROTOCOL.
-abbrev pub inet_asked : List ℕ → Asked
-inet_asked r = record {
+abbrev pub inet_request_fields : List ℕ → Asked
+inet_request_fields r = record {
   sequence_number = little_number 4 (drop 8 r);
   port_number = little_number 4 (drop 12 r);
-  protocol = protocol_by (slice_index r 17) (first_of_kind 3 (pieces 0 (drop 72 r)));
+  protocol = protocol_by (slice_index r 17) (first_of_kind 3 (attributes_or_error 0 (drop 72 r)));
   family = slice_index r 16;
   states = little_number 4 (drop 20 r);
 }
@@ -28,28 +28,30 @@ inet_asked r = record {
 -- The request in a message of at least 72 bytes, if it is one for IPv4 or IPv6 sockets:
 -- `nlmsg_type` at 4 is 20 (SOCK_DIAG_BY_FAMILY), `nlmsg_flags` at 6 have bit 1 (NLM_F_REQUEST), and
 -- the family at 16 is 2 (AF_INET) or 10 (AF_INET6).
-abbrev pub request_in : List ℕ → Option Asked
-request_in r =
+abbrev pub inet_request_in_message : List ℕ → Option Asked
+inet_request_in_message r =
     if not (little_number 2 (drop 4 r) == 20) || (bit_and (little_number 2 (drop 6 r)) 1 == 0)
     then None
-    else if (slice_index r 16 == 2) || (slice_index r 16 == 10) then Some (inet_asked r) else None
+    else if (slice_index r 16 == 2) || (slice_index r 16 == 10) then Some (inet_request_fields r)
+    else None
 
 -- The request in the first message of a datagram. `nlmsg_len` at 0 must be at least 72, and at most
 -- the length of the datagram.
-abbrev pub asked_in : List ℕ → Option Asked
-asked_in b =
+abbrev pub inet_request_in_datagram : List ℕ → Option Asked
+inet_request_in_datagram b =
     if nat_lt (length b) 72 then None
     else if nat_lt (little_number 4 b) 72 || nat_lt (length b) (little_number 4 b) then None
-    else request_in (take (little_number 4 b) b)
+    else inet_request_in_message (take (little_number 4 b) b)
 
 -- The requests, and a new one before them. At most 15 older ones are kept.
-abbrev pub with_newest : Option Asked → List Asked → List Asked
-with_newest None asked = asked
-with_newest (Some newest) asked = newest ∷ take 15 asked
+abbrev pub with_newest_request : Option Asked → List Asked → List Asked
+with_newest_request None asked = asked
+with_newest_request (Some newest) asked = newest ∷ take 15 asked
 
 -- the requests, and the one that a datagram begins with, if there is one
-abbrev pub noted : List Asked → List ℕ → List Asked
-noted asked datagram = with_newest (asked_in datagram) asked
+abbrev pub with_request_in_datagram : List Asked → List ℕ → List Asked
+with_request_in_datagram asked datagram =
+    with_newest_request (inet_request_in_datagram datagram) asked
 
 -- The protocol of the newest request that a reply with this sequence number and this port number
 -- may answer: its sequence number is equal, and its port number is equal or 0. None if there is no

@@ -7,11 +7,11 @@ use Rattle.capture_tables.specs.declared.capture.FileHeader.{FileHeader}
 use Rattle.capture_tables.specs.declared.run.RunError.{RunError}
 use Rattle.capture_tables.specs.declared.run.RunError.TheVariants.{Header, Packet, Write, Closed}
 use Rattle.capture_tables.specs.declared.run.RunError.TheVariants.{Memory}
-use Rattle.capture_tables.specs.Capture.{IsFileHeader, IsHeaderStop, IsPacketStop, IsRecord}
-use Rattle.capture_tables.specs.Capture.{Recorded}
+use Rattle.capture_tables.specs.Capture.{IsFileHeader, IsFileHeaderStop, IsPacketStop}
+use Rattle.capture_tables.specs.Capture.{IsPacketRecord, CapturedPacket}
 use Rattle.capture_tables.specs.declared.options.Options.{Options}
 use Rattle.sock_diag_captures.specs.Diagnostics.{AreDiagnosed}
-use Rattle.sock_diag_captures.specs.Listing.{ListsRecorded, asked_after}
+use Rattle.sock_diag_captures.specs.Listing.{ListsCapturedPacket, requests_after_packet}
 use Rattle.sock_diag_captures.specs.declared.requests.Asked.{Asked}
 
 -- the lines of a packet, and whether it was listed without errors
@@ -26,25 +26,25 @@ abbrev pub lines_of_packet : ListedPacket → List ℕ
 lines_of_packet listing = listing.lines
 
 -- the packet was listed without errors
-abbrev pub IsWhole : ListedPacket → Type 0
-IsWhole listing = IsTrue listing.whole
+abbrev pub IsListedWithoutErrors : ListedPacket → Type 0
+IsListedWithoutErrors listing = IsTrue listing.whole
 
 -- The lines of one packet. `asked` are the requests up to and including this packet.
-abbrev pub IsListed : Options → List Asked → Recorded → ListedPacket → Type 0
-IsListed o asked packet listing = ListsRecorded o asked packet [] listing.lines listing.whole
+abbrev pub IsListed : Options → List Asked → CapturedPacket → ListedPacket → Type 0
+IsListed o asked packet listing = ListsCapturedPacket o asked packet [] listing.lines listing.whole
 
 -- The lines of consecutive packets. `asked` are the requests before the first of them.
-abbrev pub AreListed : Options → List Asked → List Recorded → List ListedPacket → Type 0
+abbrev pub AreListed : Options → List Asked → List CapturedPacket → List ListedPacket → Type 0
 AreListed o asked [] [] = ⊤
 AreListed o asked [] (listing ∷ later) = ⊥
 AreListed o asked (packet ∷ packets) [] = ⊥
 AreListed o asked (packet ∷ packets) (listing ∷ later) =
-    IsListed o (asked_after asked packet.bytes) packet listing
-    × AreListed o (asked_after asked packet.bytes) packets later
+    IsListed o (requests_after_packet asked packet.bytes) packet listing
+    × AreListed o (requests_after_packet asked packet.bytes) packets later
 
 -- The bytes are these packets, one after another, each after its packet header. `R header packet`
 -- states that a packet may have this header.
-abbrev pub ArePackets : (List ℕ → Recorded → Type 0) → List ℕ → List Recorded → Type 0
+abbrev pub ArePackets : (List ℕ → CapturedPacket → Type 0) → List ℕ → List CapturedPacket → Type 0
 ArePackets R bytes [] = bytes ≡ []
 ArePackets R bytes (packet ∷ later) =
     (header rest : List ℕ) × R header packet × (bytes ≡ (header ++ packet.bytes) ++ rest)
@@ -54,7 +54,7 @@ ArePackets R bytes (packet ∷ later) =
 -- has 24 bytes (`header`) and is followed by packets (`records`). Each diagnostic begins with
 -- `front`. Packets are numbered from 1 on. `is_whole` is true if and only if each packet was listed
 -- without errors.
-pub record IsTable (o : Options) (front bytes lines diagnostics : List ℕ) (is_whole : Bool)
+pub record IsTableOfCapture (o : Options) (front bytes lines diagnostics : List ℕ) (is_whole : Bool)
     : Type 0 where
   -- the byte order and the unit of timestamps in the file header
   pub file : FileHeader
@@ -63,19 +63,19 @@ pub record IsTable (o : Options) (front bytes lines diagnostics : List ℕ) (is_
   -- the bytes of all packets with their packet headers
   pub records : List ℕ
   -- the packets in `records`
-  pub packets : List Recorded
+  pub packets : List CapturedPacket
   -- the lines of each packet, and whether it was listed without errors
   pub listings : List ListedPacket
   pub parts : bytes ≡ header ++ records
   pub long : length header ≡ 24
   pub is_header : IsFileHeader header file
-  pub are_packets : ArePackets (IsRecord file) records packets
+  pub are_packets : ArePackets (IsPacketRecord file) records packets
   -- no request precedes the first packet
   pub listed : AreListed o [] packets listings
   pub written : lines ≡ flat_map lines_of_packet listings
   -- the first packet has the number 1
   pub diagnosed : AreDiagnosed front 1 packets diagnostics
-  pub whole : IsTrue is_whole ↔ AllByRecursion IsWhole listings
+  pub whole : IsTrue is_whole ↔ AllByRecursion IsListedWithoutErrors listings
 
 -- The parameters are the state of a run: the bytes that remain to be read (`left` before the run,
 -- `left'` after it) and the bytes written (`held` and `held'`), each if known; the heading of the
@@ -86,7 +86,7 @@ module _ (o : Options) (left left' held held' : Option (List ℕ)) (heading fron
   -- The state after a number of packets: the file header and these packets were read, and then the
   -- bytes `more`. The heading and the lines of these packets were written, and their diagnostics
   -- reported.
-  pub record Stands (file : FileHeader) (packets : ℕ) (more : List ℕ) : Type 0 where
+  pub record RunState (file : FileHeader) (packets : ℕ) (more : List ℕ) : Type 0 where
     -- the bytes of the file header and the packets
     pub bytes : List ℕ
     -- the lines of the packets
@@ -94,7 +94,7 @@ module _ (o : Options) (left left' held held' : Option (List ℕ)) (heading fron
     -- the diagnostics of the packets
     pub diagnostics : List ℕ
     pub is_whole : Bool
-    pub table : IsTable o front bytes lines diagnostics is_whole
+    pub table : IsTableOfCapture o front bytes lines diagnostics is_whole
     pub of_file : table.file ≡ file
     -- the number of packets is `packets`
     pub counted : length table.packets ≡ packets
@@ -106,10 +106,10 @@ module _ (o : Options) (left left' held held' : Option (List ℕ)) (heading fron
 
   -- The state after a failed write: a prefix of the heading and the lines of the capture so far was
   -- written (`sent`), and its diagnostics were reported.
-  abbrev pub Breaks : Type 0
-  Breaks =
+  abbrev pub FailsAtWrite : Type 0
+  FailsAtWrite =
       (bytes lines diagnostics : List ℕ) × (is_whole : Bool)
-      × IsTable o front bytes lines diagnostics is_whole
+      × IsTableOfCapture o front bytes lines diagnostics is_whole
       × Consumes left left' bytes × (sent : List ℕ) × (rest : List ℕ)
       × (heading ++ lines ≡ sent ++ rest) × Appends held held' sent × Reported diagnostics
 
@@ -122,16 +122,16 @@ module _ (o : Options) (left left' held held' : Option (List ℕ)) (heading fron
   -- * Write, Closed: a write or the last flush failed.
   abbrev pub Fails : Type 0 → RunError → Type 0
   Fails unread (Header fault) =
-      (part : List ℕ) × Consumes left left' part × IsHeaderStop left' unread part fault
+      (part : List ℕ) × Consumes left left' part × IsFileHeaderStop left' unread part fault
       × Keeps held held' × Reported []
   Fails unread (Packet number fault) =
-      (file : FileHeader) × (packets : ℕ) × (part : List ℕ) × Stands file packets part
+      (file : FileHeader) × (packets : ℕ) × (part : List ℕ) × RunState file packets part
       × (number ≡ packets + 1) × IsPacketStop file left' (unread ⊎ (number ≡ 2 ^ 64 - 1)) part fault
   Fails unread Memory =
-      (file : FileHeader) × (packets : ℕ) × (header : List ℕ) × (packet : Recorded)
-      × IsRecord file header packet × Stands file packets (header ++ packet.bytes)
-  Fails unread Write = Breaks
-  Fails unread Closed = Breaks
+      (file : FileHeader) × (packets : ℕ) × (header : List ℕ) × (packet : CapturedPacket)
+      × IsPacketRecord file header packet × RunState file packets (header ++ packet.bytes)
+  Fails unread Write = FailsAtWrite
+  Fails unread Closed = FailsAtWrite
 
   -- The state of a run that succeeded: a whole capture was read up to the end of the input, all of
   -- its table was written, and its diagnostics were reported. `is_whole` is true if and only if
@@ -143,7 +143,7 @@ module _ (o : Options) (left left' held held' : Option (List ℕ)) (heading fron
     pub lines : List ℕ
     -- the diagnostics of all packets
     pub diagnostics : List ℕ
-    pub table : IsTable o front bytes lines diagnostics is_whole
+    pub table : IsTableOfCapture o front bytes lines diagnostics is_whole
     pub read : Consumes left left' bytes
     pub ended : IsAtEnd left'
     -- the heading and the lines were written

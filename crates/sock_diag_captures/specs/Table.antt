@@ -2,9 +2,9 @@
 use Rattle.std.specs.Prelude.{ℕ, ◌==◌, nat_lt, if◌then◌else◌, ◌&&◌, Bool, List, [], ◌∷◌, ◌++◌}
 use Rattle.std.specs.Prelude.{length, codes, Option, None, Some, slice_index, option_map, drop}
 use Rattle.std.specs.Prelude.{◌||◌}
-use Rattle.capture_tables.specs.Cells.{endpoint, line, peer_cell}
-use Rattle.capture_tables.specs.Parts.{no_timer, set_apart}
-use Rattle.capture_tables.specs.Escapes.{byte_digits, bytes_told, shown}
+use Rattle.capture_tables.specs.Cells.{endpoint, table_line, peer_cell}
+use Rattle.capture_tables.specs.Parts.{no_timer, details_after_separator}
+use Rattle.capture_tables.specs.Escapes.{byte_digits, unescaped_bytes, shown_name}
 use Rattle.capture_tables.specs.Options.{lists_protocol, lists_unix}
 use Rattle.capture_tables.specs.declared.parts.TimerWords.{TimerWords}
 use Rattle.capture_tables.specs.declared.options.Options.{Options}
@@ -12,24 +12,25 @@ use Rattle.sock_diag_records.specs.declared.inet.response.InetResponseHeader.{In
 use Rattle.sock_diag_records.specs.declared.unix.response.UnixResponseHeader.{UnixResponseHeader}
 use Rattle.sock_diag_attributes.specs.declared.unix.name.SocketName.{SocketName}
 use Rattle.sock_diag_attributes.specs.declared.unix.name.SocketName.TheVariants.{Abstract, Pathname}
-use Rattle.sock_diag_attributes.specs.UnixAttributes.{unix}
+use Rattle.sock_diag_attributes.specs.UnixAttributes.{unix_attribute_set}
 use Rattle.sock_diag_captures.specs.Details.{details}
-use Rattle.sock_diag_captures.specs.Pieces.{Piece, first_value}
+use Rattle.sock_diag_captures.specs.Pieces.{AttributeOrError, first_content}
 use Rattle.sock_diag_captures.specs.declared.details.Sockets.TheVariants.{Inet, Unix}
 
 -- ---- UNIX sockets
 
 -- A path that begins with `@` (64), like an abstract name, or that is `*` (42), which means that
 -- there is no name. Its first byte is escaped.
-abbrev pub is_mistaken : List ℕ → Bool
-is_mistaken path = (nat_lt 0 (length path) && (slice_index path 0 == 64))
+abbrev pub needs_escaped_first_byte : List ℕ → Bool
+needs_escaped_first_byte path = (nat_lt 0 (length path) && (slice_index path 0 == 64))
     || ((length path == 1) && (slice_index path 0 == 42))
 
 -- the text of a path
 abbrev pub path_text : Bool → List ℕ → List ℕ
 path_text utf8 path =
-    if is_mistaken path then byte_digits (slice_index path 0) ++ shown utf8 (drop 1 path)
-    else shown utf8 path
+    if needs_escaped_first_byte path
+    then byte_digits (slice_index path 0) ++ shown_name utf8 (drop 1 path)
+    else shown_name utf8 path
 
 -- the kind of a UNIX socket, by its type: SOCK_STREAM (1), SOCK_DGRAM (2), SOCK_SEQPACKET (5)
 abbrev pub unix_kind : ℕ → List ℕ
@@ -40,15 +41,15 @@ unix_kind kind = if kind == 1 then codes "u_str" else (if kind == 2 then codes "
 abbrev pub name_cell : Bool → Option (SocketName (List ℕ)) → List ℕ
 name_cell utf8 None = codes "*"
 name_cell utf8 (Some (Pathname path)) = path_text utf8 path
-name_cell utf8 (Some (Abstract address)) = 64 ∷ shown utf8 address
+name_cell utf8 (Some (Abstract address)) = 64 ∷ shown_name utf8 address
 
 -- The name that a cell represents, if a space (32) follows it. It is the inverse of `name_cell`:
 -- `*` (42) and a space are None, `@` (64) begins an abstract name, and anything else is a path.
-abbrev pub name_told : List ℕ → Option (SocketName (List ℕ))
-name_told cell =
+abbrev pub name_of_cell : List ℕ → Option (SocketName (List ℕ))
+name_of_cell cell =
     if (slice_index cell 0 == 42) && (slice_index cell 1 == 32) then None
-    else if slice_index cell 0 == 64 then Some (Abstract (bytes_told 0 (drop 1 cell)))
-    else Some (Pathname (bytes_told 0 cell))
+    else if slice_index cell 0 == 64 then Some (Abstract (unescaped_bytes 0 (drop 1 cell)))
+    else Some (Pathname (unescaped_bytes 0 cell))
 
 -- ---- IPv4 and IPv6 sockets
 
@@ -70,23 +71,24 @@ inet_kind (Some protocol) family =
 
 -- The columns of a UNIX socket. The name is in the attribute UNIX_DIAG_NAME (0), the inode of the
 -- peer in UNIX_DIAG_PEER (2), and the lengths of the queues in UNIX_DIAG_RQLEN (4).
-abbrev pub unix_line : Options → UnixResponseHeader → List Piece → List ℕ
+abbrev pub unix_line : Options → UnixResponseHeader → List AttributeOrError → List ℕ
 unix_line o h given =
-    let queues = first_value unix 4 given in
-    line (record {
+    let queues = first_content unix_attribute_set 4 given in
+    table_line (record {
       kind = unix_kind h.kind;
       state = h.state;
       receive_queue = option_map (λ ns. ns.0) queues;
       send_queue = option_map (λ ns. ns.1) queues;
       inode = h.inode;
       uid = None;
-    }) (name_cell o.utf8 (first_value unix 0 given)) (peer_cell (first_value unix 2 given))
+    }) (name_cell o.utf8 (first_content unix_attribute_set 0 given))
+    (peer_cell (first_content unix_attribute_set 2 given))
 
 -- The columns of an IPv4 or IPv6 socket. `protocol` is the protocol of the request.
 abbrev pub inet_line : Option ℕ → InetResponseHeader → List ℕ
 inet_line protocol h =
     let id = h.socket_id in
-    line (record {
+    table_line (record {
       kind = inet_kind protocol h.family;
       state = h.state;
       receive_queue = Some h.recv_queue;
@@ -98,17 +100,20 @@ inet_line protocol h =
 
 -- The lines of a UNIX socket, if the options select UNIX sockets: the columns, the details and a
 -- line feed (10).
-abbrev pub unix_lines : Options → UnixResponseHeader → List Piece → List ℕ
+abbrev pub unix_lines : Options → UnixResponseHeader → List AttributeOrError → List ℕ
 unix_lines o h given =
     if lists_unix o
-    then unix_line o h given ++ set_apart o (details o Unix no_timer h.cookie given) ++ 10 ∷ []
+    then unix_line o h given ++ details_after_separator o (details o Unix no_timer h.cookie given)
+    ++ 10 ∷ []
     else []
 
 -- The lines of an IPv4 or IPv6 socket, if the options select its protocol: the columns, the details
 -- and a line feed (10).
-abbrev pub inet_lines : Options → Option ℕ → TimerWords → InetResponseHeader → List Piece → List ℕ
+abbrev pub inet_lines : Options → Option ℕ → TimerWords → InetResponseHeader → List AttributeOrError
+    → List ℕ
 inet_lines o protocol timer h given =
     if lists_protocol o protocol
-    then inet_line protocol h ++ set_apart o (details o Inet timer h.socket_id.cookie given)
+    then inet_line protocol h ++ details_after_separator o
+    (details o Inet timer h.socket_id.cookie given)
     ++ 10 ∷ []
     else []

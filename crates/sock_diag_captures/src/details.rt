@@ -2,29 +2,34 @@
 //! invalid.
 
 ghost use Rattle.std.specs.Prelude.{◌≡◌, ◌≤◌, ◌++◌, codes, flat_map, length, OnOk};
-ghost use Rattle.capture_tables.specs.Parts.{detail, separator, set_apart};
-ghost use Rattle.capture_tables.specs.Escapes.{shown};
-ghost use Rattle.netlink_core.specs.AttributeSet.{decodes};
-ghost use Rattle.netlink_core.specs.Layout.{read};
-ghost use Rattle.netlink_core.specs.Walk.{attribute_of};
+ghost use Rattle.capture_tables.specs.Parts.{detail, separator, details_after_separator};
+ghost use Rattle.capture_tables.specs.Escapes.{shown_name};
+ghost use Rattle.netlink_core.specs.AttributeSet.{decode_attribute};
+ghost use Rattle.netlink_core.specs.Layout.{parse_record};
+ghost use Rattle.netlink_core.specs.Walk.{buffered_attribute};
 ghost use Rattle.sock_diag_values.specs.MemInfo.{mem_info};
-ghost use Rattle.sock_diag_attributes.specs.InetAttributes.{inet};
-ghost use Rattle.sock_diag_attributes.specs.InetModel.{nla_view_model as inet_view_model};
+ghost use Rattle.sock_diag_attributes.specs.InetAttributes.{inet_attribute_set};
+ghost use Rattle.sock_diag_attributes.specs.InetModel.{inet_nla_view_model as inet_view_model};
 ghost use Rattle.sock_diag_attributes.specs.NumbersModel.{numbers_view_model};
-ghost use Rattle.sock_diag_attributes.specs.UnixModel.{nla_view_model as unix_view_model};
-ghost use Rattle.sock_diag_attributes.specs.UnixAttributes.{unix};
+ghost use Rattle.sock_diag_attributes.specs.UnixModel.{unix_nla_view_model as unix_view_model};
+ghost use Rattle.sock_diag_attributes.specs.UnixAttributes.{unix_attribute_set};
 ghost use Rattle.sock_diag_families.specs.PacketAttributes.{packet_info};
-ghost use Rattle.sock_diag_captures.specs.Details.{ages, connection, counts, detail_of};
-ghost use Rattle.sock_diag_captures.specs.Details.{detail_of_inet, detail_of_other, detail_under};
-ghost use Rattle.sock_diag_captures.specs.Details.{details, fault_word, groups, inet_text};
-ghost use Rattle.sock_diag_captures.specs.Details.{legacy_memory, limits, losses, memory};
-ghost use Rattle.sock_diag_captures.specs.Details.{memory_in, memory_limits, memory_used};
-ghost use Rattle.sock_diag_captures.specs.Details.{memory_received, options, own_text, packet_text};
-ghost use Rattle.sock_diag_captures.specs.Details.{piece_detail, rates, receiver, detail_if_asked};
-ghost use Rattle.sock_diag_captures.specs.Details.{sizes, timer_in, times, traffic, unix_text};
-ghost use Rattle.sock_diag_captures.specs.Details.{unknown, unread, detail_of_unix, memory_kind};
-ghost use Rattle.sock_diag_captures.specs.Details.{other_text, tells_memory, words_of};
-ghost use Rattle.sock_diag_captures.specs.Pieces.{pieces};
+ghost use Rattle.sock_diag_captures.specs.Details.{tcp_ages, tcp_details, tcp_counts};
+ghost use Rattle.sock_diag_captures.specs.Details.{attribute_text, detail_of_inet, detail_of_other};
+ghost use Rattle.sock_diag_captures.specs.Details.{detail_group, details, error_reason};
+ghost use Rattle.sock_diag_captures.specs.Details.{netlink_groups_text, inet_text, legacy_memory};
+ghost use Rattle.sock_diag_captures.specs.Details.{tcp_limits, tcp_losses, memory_text};
+ghost use Rattle.sock_diag_captures.specs.Details.{memory_text_if_valid, memory_limits};
+ghost use Rattle.sock_diag_captures.specs.Details.{memory_used, memory_received, tcp_option_flags};
+ghost use Rattle.sock_diag_captures.specs.Details.{family_attribute_text, packet_text};
+ghost use Rattle.sock_diag_captures.specs.Details.{attribute_or_error_detail, tcp_rates};
+ghost use Rattle.sock_diag_captures.specs.Details.{tcp_receiver, attribute_text_if_shown};
+ghost use Rattle.sock_diag_captures.specs.Details.{tcp_sizes, timer_in, tcp_times, tcp_traffic};
+ghost use Rattle.sock_diag_captures.specs.Details.{unix_text, unknown_attribute_text};
+ghost use Rattle.sock_diag_captures.specs.Details.{invalid_attribute_text, detail_of_unix};
+ghost use Rattle.sock_diag_captures.specs.Details.{memory_kind, other_text, is_memory_kind};
+ghost use Rattle.sock_diag_captures.specs.Details.{text_or_reason};
+ghost use Rattle.sock_diag_captures.specs.Pieces.{attributes_or_error};
 
 use crate::pieces::next_piece;
 use byteorder::{ByteOrder, LittleEndian};
@@ -81,7 +86,8 @@ pub(crate) fn push_details(
     bytes: &[u8],
 ) -> Result<(), AllocError>
     ensures { OnOk result (text.new.items ≡ text.old.items
-        ++ set_apart options (details options sockets timer.now cookie.now (pieces 0 bytes.now))) }
+        ++ details_after_separator options
+        (details options sockets timer.now cookie.now (attributes_or_error 0 bytes.now))) }
 {
     let start = text.len();
     text.extend_from_slice(separator(options))?;
@@ -104,7 +110,7 @@ fn push_words(
     bytes: &[u8],
 ) -> Result<(), AllocError>
     ensures { OnOk result (text.new.items ≡ text.old.items
-        ++ details options sockets timer.now cookie.now (pieces 0 bytes.now)) }
+        ++ details options sockets timer.now cookie.now (attributes_or_error 0 bytes.now)) }
 {
     push_shown_timer(text, options, timer)?;
     push_shown_cookie(text, options, cookie)?;
@@ -120,7 +126,7 @@ fn push_pieces(
     bytes: &[u8],
 ) -> Result<(), AllocError>
     ensures { OnOk result (text.new.items ≡ text.old.items
-        ++ flat_map (piece_detail options sockets) (pieces 0 bytes.now)) }
+        ++ flat_map (attribute_or_error_detail options sockets) (attributes_or_error 0 bytes.now)) }
 {
     let mut walk = NlasIterator::new(bytes);
     while let Some(piece) = next_piece(&mut walk) {
@@ -139,7 +145,7 @@ fn push_shown_attribute(
     nla: &NlaBuffer<'_>,
 ) -> Result<(), AllocError>
     ensures { OnOk result (text.new.items ≡ text.old.items
-        ++ detail_if_asked options sockets (attribute_of nla.now)) }
+        ++ attribute_text_if_shown options sockets (buffered_attribute nla.now)) }
 {
     if !options.shows(detail_of_kind(sockets, nla.kind())) {
         return Ok(());
@@ -149,7 +155,7 @@ fn push_shown_attribute(
 
 /// Returns the group of details that an attribute of this kind belongs to.
 fn detail_of_kind(sockets: Sockets, kind: u16) -> Detail
-    ensures { result ≡ detail_under sockets kind }
+    ensures { result ≡ detail_group sockets kind }
 {
     match sockets {
         Sockets::Unix => detail_of_unix_kind(kind),
@@ -197,7 +203,7 @@ fn detail_of_other_kind(family: Family, kind: u16) -> Detail
 /// Returns whether an attribute of this kind has the memory of a netlink, packet, vsock or XDP
 /// socket.
 fn tells_memory(family: Family, kind: u16) -> bool
-    ensures { result ≡ tells_memory family kind }
+    ensures { result ≡ is_memory_kind family kind }
 {
     match memory_kind(family) {
         Some(told) => told == kind,
@@ -226,7 +232,7 @@ fn push_attribute(
     nla: &NlaBuffer<'_>,
 ) -> Result<(), AllocError>
     ensures { OnOk result (text.new.items ≡ text.old.items
-        ++ detail_of options sockets (attribute_of nla.now)) }
+        ++ attribute_text options sockets (buffered_attribute nla.now)) }
 {
     match sockets {
         Sockets::Unix => push_unix_attribute(text, nla),
@@ -238,7 +244,8 @@ fn push_attribute(
 /// Appends the details of an attribute of a UNIX socket, or the reason why its value is invalid.
 fn push_unix_attribute(text: &mut Vec<u8>, nla: &NlaBuffer<'_>) -> Result<(), AllocError>
     ensures { OnOk result (text.new.items ≡ text.old.items
-        ++ words_of unix_text (attribute_of nla.now) (decodes unix (attribute_of nla.now))) }
+        ++ text_or_reason unix_text (buffered_attribute nla.now)
+        (decode_attribute unix_attribute_set (buffered_attribute nla.now))) }
 {
     match UnixView::parse(nla) {
         Ok(view) => push_unix_value(text, nla, &view),
@@ -254,8 +261,8 @@ fn push_inet_attribute(
     nla: &NlaBuffer<'_>,
 ) -> Result<(), AllocError>
     ensures { OnOk result (text.new.items ≡ text.old.items
-        ++ words_of (inet_text options) (attribute_of nla.now)
-        (decodes inet (attribute_of nla.now))) }
+        ++ text_or_reason (inet_text options) (buffered_attribute nla.now)
+        (decode_attribute inet_attribute_set (buffered_attribute nla.now))) }
 {
     match InetView::parse(nla) {
         Ok(view) => push_inet_value(text, options, nla, &view),
@@ -271,7 +278,7 @@ fn push_other_attribute(
     nla: &NlaBuffer<'_>,
 ) -> Result<(), AllocError>
     ensures { OnOk result (text.new.items ≡ text.old.items
-        ++ other_text family (attribute_of nla.now)) }
+        ++ other_text family (buffered_attribute nla.now)) }
 {
     if !tells_memory(family, nla.kind()) {
         return push_own_attribute(text, family, nla);
@@ -290,7 +297,7 @@ fn push_own_attribute(
     nla: &NlaBuffer<'_>,
 ) -> Result<(), AllocError>
     ensures { OnOk result (text.new.items ≡ text.old.items
-        ++ own_text family (attribute_of nla.now)) }
+        ++ family_attribute_text family (buffered_attribute nla.now)) }
 {
     match family {
         Family::Netlink if nla.kind() == NETLINK_DIAG_GROUPS => push_groups(text, nla),
@@ -302,7 +309,8 @@ fn push_own_attribute(
 /// Appends the first 32 groups of a netlink socket. A value with fewer than four bytes is shown as
 /// an unknown attribute.
 fn push_groups(text: &mut Vec<u8>, nla: &NlaBuffer<'_>) -> Result<(), AllocError>
-    ensures { OnOk result (text.new.items ≡ text.old.items ++ groups (attribute_of nla.now)) }
+    ensures { OnOk result (text.new.items
+        ≡ text.old.items ++ netlink_groups_text (buffered_attribute nla.now)) }
 {
     let value = nla.value();
     if value.len() < 4 {
@@ -315,7 +323,8 @@ fn push_groups(text: &mut Vec<u8>, nla: &NlaBuffer<'_>) -> Result<(), AllocError
 /// short for the six `u32` of `packet_diag_info` is shown as an unknown attribute.
 fn push_packet_info(text: &mut Vec<u8>, nla: &NlaBuffer<'_>) -> Result<(), AllocError>
     ensures { OnOk result (text.new.items ≡ text.old.items
-        ++ packet_text (attribute_of nla.now) (packet_info (attribute_of nla.now).value)) }
+        ++ packet_text (buffered_attribute nla.now)
+        (packet_info (buffered_attribute nla.now).value)) }
 {
     let Ok(info) = PacketInfo::parse(nla.value()) else {
         return push_unknown(text, nla);
@@ -332,7 +341,7 @@ fn push_unread(
     fault: &DecodeError,
 ) -> Result<(), AllocError>
     ensures { OnOk result (text.new.items ≡ text.old.items
-        ++ unread (attribute_of nla.now) fault.now) }
+        ++ invalid_attribute_text (buffered_attribute nla.now) fault.now) }
 {
     text.extend_from_slice(b" unread:(")?;
     push_number(text, nla.kind().into())?;
@@ -345,7 +354,7 @@ fn push_unread(
 
 /// Returns the reason why a value is invalid, in one word.
 fn word_of(fault: &DecodeError) -> &'static [u8]
-    ensures { result.now ≡ fault_word fault.now }
+    ensures { result.now ≡ error_reason fault.now }
 {
     match fault {
         DecodeError::BufferTooSmall { .. } => b"too-short",
@@ -366,7 +375,7 @@ fn push_unix_value(
     view: &UnixView<'_>,
 ) -> Result<(), AllocError>
     ensures { OnOk result (text.new.items ≡ text.old.items
-        ++ unix_text (attribute_of nla.now) (unix_view_model view.now)) }
+        ++ unix_text (buffered_attribute nla.now) (unix_view_model view.now)) }
 {
     match view {
         UnixView::Name(_) | UnixView::Peer(_) | UnixView::ReceiveQueueLength(_, _) => Ok(()),
@@ -386,7 +395,7 @@ fn push_inet_value(
     view: &InetView<'_>,
 ) -> Result<(), AllocError>
     ensures { OnOk result (text.new.items ≡ text.old.items
-        ++ inet_text options (attribute_of nla.now) (inet_view_model view.now)) }
+        ++ inet_text options (buffered_attribute nla.now) (inet_view_model view.now)) }
 {
     match view {
         InetView::LegacyMemInfo(memory) => push_legacy_memory(text, memory),
@@ -407,7 +416,7 @@ fn push_inet_value(
 /// Appends the name of a congestion control algorithm.
 fn push_congestion(text: &mut Vec<u8>, options: Options, name: &str) -> Result<(), AllocError>
     ensures { OnOk result (text.new.items ≡ text.old.items
-        ++ codes " cong:" ++ shown options.utf8 name.now) }
+        ++ codes " cong:" ++ shown_name options.utf8 name.now) }
 {
     text.extend_from_slice(b" cong:")?;
     push_shown(text, options.utf8, name.as_bytes())
@@ -426,7 +435,8 @@ fn push_pending(text: &mut Vec<u8>, inodes: &NumbersView<'_>) -> Result<(), Allo
 
 /// Appends the kind of an unknown attribute, and the length of its value in bytes.
 fn push_unknown(text: &mut Vec<u8>, nla: &NlaBuffer<'_>) -> Result<(), AllocError>
-    ensures { OnOk result (text.new.items ≡ text.old.items ++ unknown (attribute_of nla.now)) }
+    ensures { OnOk result (text.new.items
+        ≡ text.old.items ++ unknown_attribute_text (buffered_attribute nla.now)) }
 {
     push_pair(
         text,
@@ -439,7 +449,7 @@ fn push_unknown(text: &mut Vec<u8>, nla: &NlaBuffer<'_>) -> Result<(), AllocErro
 /// Appends the memory in a value. Appends nothing if the value is shorter than seven `u32`.
 fn push_memory_in(text: &mut Vec<u8>, value: &[u8]) -> Result<(), AllocError>
     ensures { OnOk result (text.new.items ≡ text.old.items
-        ++ memory_in (read mem_info tt value.now)) }
+        ++ memory_text_if_valid (parse_record mem_info tt value.now)) }
 {
     match MemInfo::parse(value) {
         Ok(memory) => push_memory(text, &memory),
@@ -450,7 +460,7 @@ fn push_memory_in(text: &mut Vec<u8>, value: &[u8]) -> Result<(), AllocError>
 /// Appends the memory of a socket, in bytes, as ss(8) does. The backlog and the drops are appended
 /// only if the value has them.
 fn push_memory(text: &mut Vec<u8>, info: &MemInfo) -> Result<(), AllocError>
-    ensures { OnOk result (text.new.items ≡ text.old.items ++ memory info.now) }
+    ensures { OnOk result (text.new.items ≡ text.old.items ++ memory_text info.now) }
 {
     push_received(text, info.receive_queue.into())?;
     push_limits_of_memory(text, info)?;
@@ -502,7 +512,7 @@ fn push_legacy_memory(text: &mut Vec<u8>, info: &LegacyMemInfo) -> Result<(), Al
 
 /// Appends the details of a TCP connection (`INET_DIAG_INFO`).
 fn push_connection(text: &mut Vec<u8>, info: &TcpInfo) -> Result<(), AllocError>
-    ensures { OnOk result (text.new.items ≡ text.old.items ++ connection info.now) }
+    ensures { OnOk result (text.new.items ≡ text.old.items ++ tcp_details info.now) }
 {
     push_times(text, info)?;
     push_traffic(text, info)?;
@@ -518,7 +528,7 @@ fn push_connection(text: &mut Vec<u8>, info: &TcpInfo) -> Result<(), AllocError>
 
 /// Appends round-trip and retransmission times in microseconds, and segment sizes in bytes.
 fn push_times(text: &mut Vec<u8>, info: &TcpInfo) -> Result<(), AllocError>
-    ensures { OnOk result (text.new.items ≡ text.old.items ++ times info.now) }
+    ensures { OnOk result (text.new.items ≡ text.old.items ++ tcp_times info.now) }
 {
     push_detail(text, b"rtt", info.rtt.into())?;
     push_detail(text, b"rttvar", info.rttvar.into())?;
@@ -530,7 +540,7 @@ fn push_times(text: &mut Vec<u8>, info: &TcpInfo) -> Result<(), AllocError>
 /// Appends the congestion window, unacknowledged segments, retransmits, and the bytes sent and
 /// received.
 fn push_traffic(text: &mut Vec<u8>, info: &TcpInfo) -> Result<(), AllocError>
-    ensures { OnOk result (text.new.items ≡ text.old.items ++ traffic info.now) }
+    ensures { OnOk result (text.new.items ≡ text.old.items ++ tcp_traffic info.now) }
 {
     push_detail(text, b"cwnd", info.snd_cwnd.into())?;
     push_detail(text, b"unacked", info.unacked.into())?;
@@ -541,7 +551,7 @@ fn push_traffic(text: &mut Vec<u8>, info: &TcpInfo) -> Result<(), AllocError>
 
 /// Appends the flags of `tcpi_options`, and the window scales if they are negotiated.
 fn push_options(text: &mut Vec<u8>, info: &TcpInfo) -> Result<(), AllocError>
-    ensures { OnOk result (text.new.items ≡ text.old.items ++ options info.now) }
+    ensures { OnOk result (text.new.items ≡ text.old.items ++ tcp_option_flags info.now) }
 {
     push_flag(text, b"ts", TCPI_OPT_TIMESTAMPS, info.options)?;
     push_flag(text, b"sack", TCPI_OPT_SACK, info.options)?;
@@ -558,7 +568,7 @@ fn push_options(text: &mut Vec<u8>, info: &TcpInfo) -> Result<(), AllocError>
 /// Appends the backoff, the delayed acknowledgement timeout, segment sizes, the slow start
 /// threshold and the send window. Those that are 0 are left out.
 fn push_sizes(text: &mut Vec<u8>, info: &TcpInfo) -> Result<(), AllocError>
-    ensures { OnOk result (text.new.items ≡ text.old.items ++ sizes info.now) }
+    ensures { OnOk result (text.new.items ≡ text.old.items ++ tcp_sizes info.now) }
 {
     push_some(text, b"backoff", info.backoff.into())?;
     push_some(text, b"ato", info.ato.into())?;
@@ -570,7 +580,7 @@ fn push_sizes(text: &mut Vec<u8>, info: &TcpInfo) -> Result<(), AllocError>
 
 /// Appends counts of bytes and segments. Those that are 0 are left out.
 fn push_counts(text: &mut Vec<u8>, info: &TcpInfo) -> Result<(), AllocError>
-    ensures { OnOk result (text.new.items ≡ text.old.items ++ counts info.now) }
+    ensures { OnOk result (text.new.items ≡ text.old.items ++ tcp_counts info.now) }
 {
     push_some(text, b"bytes_retrans", info.bytes_retrans)?;
     push_some(text, b"bytes_acked", info.bytes_acked)?;
@@ -583,7 +593,7 @@ fn push_counts(text: &mut Vec<u8>, info: &TcpInfo) -> Result<(), AllocError>
 /// Appends the times since data was sent or received or an acknowledgement was received, in
 /// milliseconds, and the bytes that are not sent yet. Those that are 0 are left out.
 fn push_ages(text: &mut Vec<u8>, info: &TcpInfo) -> Result<(), AllocError>
-    ensures { OnOk result (text.new.items ≡ text.old.items ++ ages info.now) }
+    ensures { OnOk result (text.new.items ≡ text.old.items ++ tcp_ages info.now) }
 {
     push_some(text, b"lastsnd", info.last_data_sent.into())?;
     push_some(text, b"lastrcv", info.last_data_recv.into())?;
@@ -594,7 +604,7 @@ fn push_ages(text: &mut Vec<u8>, info: &TcpInfo) -> Result<(), AllocError>
 /// Appends rates in bytes per second, and the numbers of delivered segments. Those that are 0 are
 /// left out.
 fn push_rates(text: &mut Vec<u8>, info: &TcpInfo) -> Result<(), AllocError>
-    ensures { OnOk result (text.new.items ≡ text.old.items ++ rates info.now) }
+    ensures { OnOk result (text.new.items ≡ text.old.items ++ tcp_rates info.now) }
 {
     push_some(text, b"pacing_rate", info.pacing_rate)?;
     push_some(text, b"max_pacing_rate", info.max_pacing_rate)?;
@@ -607,7 +617,7 @@ fn push_rates(text: &mut Vec<u8>, info: &TcpInfo) -> Result<(), AllocError>
 /// Appends the time with data to send, and the parts of it that were limited by the receive window
 /// and by the send buffer, in microseconds. Those that are 0 are left out.
 fn push_limits(text: &mut Vec<u8>, info: &TcpInfo) -> Result<(), AllocError>
-    ensures { OnOk result (text.new.items ≡ text.old.items ++ limits info.now) }
+    ensures { OnOk result (text.new.items ≡ text.old.items ++ tcp_limits info.now) }
 {
     push_some(text, b"busy", info.busy_time)?;
     push_some(text, b"rwnd_limited", info.rwnd_limited)?;
@@ -616,7 +626,7 @@ fn push_limits(text: &mut Vec<u8>, info: &TcpInfo) -> Result<(), AllocError>
 
 /// Appends counts of lost, reordered and duplicate segments. Those that are 0 are left out.
 fn push_losses(text: &mut Vec<u8>, info: &TcpInfo) -> Result<(), AllocError>
-    ensures { OnOk result (text.new.items ≡ text.old.items ++ losses info.now) }
+    ensures { OnOk result (text.new.items ≡ text.old.items ++ tcp_losses info.now) }
 {
     push_some(text, b"retrans_now", info.retrans.into())?;
     push_some(text, b"lost", info.lost.into())?;
@@ -629,7 +639,7 @@ fn push_losses(text: &mut Vec<u8>, info: &TcpInfo) -> Result<(), AllocError>
 /// Appends the values of the receiver, and the minimum round-trip time. Those that are 0 are left
 /// out.
 fn push_receiver(text: &mut Vec<u8>, info: &TcpInfo) -> Result<(), AllocError>
-    ensures { OnOk result (text.new.items ≡ text.old.items ++ receiver info.now) }
+    ensures { OnOk result (text.new.items ≡ text.old.items ++ tcp_receiver info.now) }
 {
     push_some(text, b"rcv_rtt", info.rcv_rtt.into())?;
     push_some(text, b"rcv_space", info.rcv_space.into())?;

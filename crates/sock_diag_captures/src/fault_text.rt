@@ -1,7 +1,7 @@
 //! Texts of decode errors.
 
 ghost use Rattle.std.specs.Prelude.{Some};
-ghost use Rattle.sock_diag_captures.specs.Diagnostics.{fault_text, record_text};
+ghost use Rattle.sock_diag_captures.specs.Diagnostics.{decode_error_text, record_text};
 
 use netlink_core::{DecodeError, RecordName};
 use std::fmt;
@@ -11,7 +11,7 @@ use std::fmt;
 pub(crate) struct FaultText<'a>(pub(crate) &'a DecodeError);
 
 impl fmt::Display for FaultText<'_> {
-    ghost output = { λ it. Some (fault_text it.0.now) };
+    ghost output = { λ it. Some (decode_error_text it.0.now) };
 
     fn fmt<W: fmt::Write>(&self, f: &mut fmt::Formatter<W>) -> fmt::Result {
         match self.0 {

@@ -5,7 +5,8 @@ ghost use Rattle.std.specs.Prelude.{◌≡◌, ◌↔◌, ◌++◌, Bool, true};
 ghost use Rattle.std.specs.Prelude.{MatchResult, Result, ⊤};
 ghost use Rattle.std.specs.Process.{exit_status};
 ghost use Rattle.std.specs.Io.KnownBytes.{IsAtEnd};
-ghost use Rattle.capture_tables.specs.Reports.{Reports, ReportsMore, WritesPrefix, closing_line};
+ghost use Rattle.capture_tables.specs.Reports.{ReportsText, ReportsMore, WritesPrefix};
+ghost use Rattle.capture_tables.specs.Reports.{closing_line};
 ghost use Rattle.capture_tables.specs.declared.run.RunError.{RunError};
 ghost use Rattle.sock_diag_captures.specs.Run.{Fails, Finishes};
 ghost use Rattle.sock_diag_captures.specs.private.Run.{closing_text};
@@ -122,11 +123,11 @@ fn list_to_status<R: Source, W: Sink, E: Sink>(
         × MatchResult outcome
         (Finishes options (R.left input.old) (R.left input.new) (W.held output.old)
         (W.held output.new) HEADING.now front.now
-        (λ diagnostics. Reports (E.held errors.old) (E.held errors.new)
+        (λ diagnostics. ReportsText (E.held errors.old) (E.held errors.new)
         ((e : RunError) × E.failed errors.new e) diagnostics is_open))
         (λ e. Fails options (R.left input.old) (R.left input.new) (W.held output.old)
         (W.held output.new) HEADING.now front.now
-        (λ diagnostics. Reports (E.held errors.old) (E.held errors.new)
+        (λ diagnostics. ReportsText (E.held errors.old) (E.held errors.new)
         ((e : RunError) × E.failed errors.new e)
         (diagnostics ++ closing_line front.now e) is_open) (R.failed input.new) e) }
 {

@@ -2,16 +2,16 @@
 
 ghost use Rattle.std.specs.Prelude.{◌≡◌, ◌++◌, None, Some, drop, IfOk, OnOk, option_map};
 ghost use Rattle.capture_tables.specs.CellsModel.{cells_model};
-ghost use Rattle.netlink_core.specs.Layout.{read};
+ghost use Rattle.netlink_core.specs.Layout.{parse_record};
 ghost use Rattle.sock_diag_records.specs.InetResponse.{inet_response_header};
 ghost use Rattle.sock_diag_records.specs.UnixResponseHeader.{unix_response_header};
-ghost use Rattle.sock_diag_attributes.specs.NameModel.{name_of};
-ghost use Rattle.sock_diag_attributes.specs.UnixAttributes.{unix};
+ghost use Rattle.sock_diag_attributes.specs.NameModel.{socket_name_model};
+ghost use Rattle.sock_diag_attributes.specs.UnixAttributes.{unix_attribute_set};
 ghost use Rattle.sock_diag_records.specs.ResponseKind.{response_kind};
 ghost use Rattle.sock_diag_captures.specs.Details.{timer_in};
-ghost use Rattle.sock_diag_captures.specs.Listing.{fault_behind, kind_fault, kind_lines};
-ghost use Rattle.sock_diag_captures.specs.Listing.{lines_behind};
-ghost use Rattle.sock_diag_captures.specs.Pieces.{pieces, first_value};
+ghost use Rattle.sock_diag_captures.specs.Listing.{error_after_reply_header, payload_error};
+ghost use Rattle.sock_diag_captures.specs.Listing.{payload_lines, lines_after_header};
+ghost use Rattle.sock_diag_captures.specs.Pieces.{attributes_or_error, first_content};
 ghost use Rattle.sock_diag_captures.specs.Table.{family_name, inet_kind, inet_line, inet_lines};
 ghost use Rattle.sock_diag_captures.specs.Table.{unix_kind, unix_line, unix_lines};
 
@@ -53,9 +53,9 @@ pub(crate) fn push_reply(
     payload: &[u8],
 ) -> Result<Option<DecodeError>, AllocError>
     ensures lines { OnOk result (text.new.items ≡ text.old.items
-        ++ kind_lines options protocol (response_kind payload.now message_type) payload.now) }
+        ++ payload_lines options protocol (response_kind payload.now message_type) payload.now) }
     ensures fault { IfOk result (λ fault.
-        fault ≡ kind_fault (response_kind payload.now message_type) payload.now) }
+        fault ≡ payload_error (response_kind payload.now message_type) payload.now) }
 {
     if payload.len() < 2 {
         let got = payload.len();
@@ -78,11 +78,12 @@ fn push_unix(
     payload: &[u8],
 ) -> Result<Option<DecodeError>, AllocError>
     ensures lines { OnOk result (text.new.items ≡ text.old.items
-        ++ lines_behind (unix_lines options) (read unix_response_header tt payload.now)
-        (pieces 0 (drop 16 payload.now))) }
+        ++ lines_after_header (unix_lines options)
+        (parse_record unix_response_header tt payload.now)
+        (attributes_or_error 0 (drop 16 payload.now))) }
     ensures fault { IfOk result (λ fault. fault
-        ≡ fault_behind (read unix_response_header tt payload.now)
-        (pieces 0 (drop 16 payload.now))) }
+        ≡ error_after_reply_header (parse_record unix_response_header tt payload.now)
+        (attributes_or_error 0 (drop 16 payload.now))) }
 {
     match UnixResponseHeader::from_prefix(payload) {
         Ok(header) => {
@@ -103,7 +104,7 @@ fn push_unix_lines(
     attributes: &[u8],
 ) -> Result<(), AllocError>
     ensures { OnOk result (text.new.items ≡ text.old.items
-        ++ unix_lines options header.now (pieces 0 attributes.now)) }
+        ++ unix_lines options header.now (attributes_or_error 0 attributes.now)) }
 {
     if !options.lists_unix() {
         return Ok(());
@@ -122,7 +123,7 @@ fn push_unix_line(
     attributes: &[u8],
 ) -> Result<(), AllocError>
     ensures { OnOk result (text.new.items ≡ text.old.items
-        ++ unix_line options header.now (pieces 0 attributes.now)) }
+        ++ unix_line options header.now (attributes_or_error 0 attributes.now)) }
 {
     push_first_columns(text, &unix_cells(header, queues_in(attributes)))?;
     push_name_column(text, LOCAL, options.utf8, name_in(attributes))?;
@@ -157,8 +158,8 @@ fn unix_cells(header: &UnixResponseHeader, queues: Option<(u32, u32)>) -> Cells
 
 /// Returns the name of a UNIX socket, if the first `UNIX_DIAG_NAME` attribute is valid.
 fn name_in<'a>(attributes: &'a [u8]) -> Option<NameView<'a>>
-    ensures { option_map (name_of (λ b. b.now)) result
-        ≡ first_value unix 0 (pieces 0 attributes.entry.now) }
+    ensures { option_map (socket_name_model (λ b. b.now)) result
+        ≡ first_content unix_attribute_set 0 (attributes_or_error 0 attributes.entry.now) }
 {
     match find_kind(attributes, UNIX_DIAG_NAME) {
         Some(nla) => match NlaView::parse(&nla) {
@@ -171,7 +172,7 @@ fn name_in<'a>(attributes: &'a [u8]) -> Option<NameView<'a>>
 
 /// Returns the inode of the peer, if the first `UNIX_DIAG_PEER` attribute is valid.
 fn peer_in(attributes: &[u8]) -> Option<u32>
-    ensures { result ≡ first_value unix 2 (pieces 0 attributes.now) }
+    ensures { result ≡ first_content unix_attribute_set 2 (attributes_or_error 0 attributes.now) }
 {
     match find_kind(attributes, UNIX_DIAG_PEER) {
         Some(nla) => match NlaView::parse(&nla) {
@@ -184,7 +185,7 @@ fn peer_in(attributes: &[u8]) -> Option<u32>
 
 /// Returns the lengths of the two queues, if the first `UNIX_DIAG_RQLEN` attribute is valid.
 fn queues_in(attributes: &[u8]) -> Option<(u32, u32)>
-    ensures { result ≡ first_value unix 4 (pieces 0 attributes.now) }
+    ensures { result ≡ first_content unix_attribute_set 4 (attributes_or_error 0 attributes.now) }
 {
     match find_kind(attributes, UNIX_DIAG_RQLEN) {
         Some(nla) => match NlaView::parse(&nla) {
@@ -216,12 +217,12 @@ fn push_inet(
     payload: &[u8],
 ) -> Result<Option<DecodeError>, AllocError>
     ensures lines { OnOk result (text.new.items ≡ text.old.items
-        ++ lines_behind (inet_lines options protocol (timer_in payload.now))
-        (read inet_response_header tt payload.now)
-        (pieces 0 (drop 72 payload.now))) }
+        ++ lines_after_header (inet_lines options protocol (timer_in payload.now))
+        (parse_record inet_response_header tt payload.now)
+        (attributes_or_error 0 (drop 72 payload.now))) }
     ensures fault { IfOk result (λ fault. fault
-        ≡ fault_behind (read inet_response_header tt payload.now)
-        (pieces 0 (drop 72 payload.now))) }
+        ≡ error_after_reply_header (parse_record inet_response_header tt payload.now)
+        (attributes_or_error 0 (drop 72 payload.now))) }
 {
     match InetResponseHeader::from_prefix(payload) {
         Ok(header) => {
@@ -245,7 +246,8 @@ fn push_inet_lines(
     attributes: &[u8],
 ) -> Result<(), AllocError>
     ensures { OnOk result (text.new.items ≡ text.old.items
-        ++ inet_lines options protocol timer.now header.now (pieces 0 attributes.now)) }
+        ++ inet_lines options protocol timer.now header.now
+        (attributes_or_error 0 attributes.now)) }
 {
     if !options.lists_protocol(protocol) {
         return Ok(());

@@ -2,17 +2,20 @@
 
 ghost use Rattle.std.specs.Prelude.{◌≡◌, ◌↔◌, ◌≤◌, ◌<◌, ◌+◌, ◌++◌, IfOk, OnOk, IsTrue, length};
 ghost use Rattle.std.specs.Prelude.{option_map, Some};
-ghost use Rattle.capture_tables.specs.Capture.{recorded};
+ghost use Rattle.capture_tables.specs.Capture.{captured_packet};
 ghost use Rattle.sock_diag_captures.specs.Diagnostics.{DiagnosesContent, DiagnosesDatagram};
 ghost use Rattle.sock_diag_captures.specs.Diagnostics.{DiagnosesMessages, DiagnosesPacket};
-ghost use Rattle.sock_diag_captures.specs.Diagnostics.{interrupted_issue, issue_line, issue_text};
-ghost use Rattle.sock_diag_captures.specs.Diagnostics.{lines_about_message, message_line};
-ghost use Rattle.sock_diag_captures.specs.Listing.{IsPlain, IsRequest, Lists, ListsDatagram};
-ghost use Rattle.sock_diag_captures.specs.Listing.{ListsPacket, ListsRecorded, asked_after};
-ghost use Rattle.sock_diag_captures.specs.Listing.{issue_under, control_issue, errno_in};
-ghost use Rattle.sock_diag_captures.specs.Listing.{error_issue, is_nothing_missing, lines_under};
-ghost use Rattle.sock_diag_captures.specs.Listing.{message_issue, protocol_for, message_lines};
-ghost use Rattle.sock_diag_captures.specs.Requests.{noted};
+ghost use Rattle.sock_diag_captures.specs.Diagnostics.{interrupted_diagnostic, diagnostic_line};
+ghost use Rattle.sock_diag_captures.specs.Diagnostics.{diagnostic_text, lines_about_message};
+ghost use Rattle.sock_diag_captures.specs.Diagnostics.{message_line};
+ghost use Rattle.sock_diag_captures.specs.Listing.{IsCleanMessage, IsRequestDatagram};
+ghost use Rattle.sock_diag_captures.specs.Listing.{ListsMessages, ListsDatagram, ListsPacket};
+ghost use Rattle.sock_diag_captures.specs.Listing.{ListsCapturedPacket, requests_after_packet};
+ghost use Rattle.sock_diag_captures.specs.Listing.{diagnostic_by_type, control_diagnostic};
+ghost use Rattle.sock_diag_captures.specs.Listing.{errno_in, errno_diagnostic, is_note_or_none};
+ghost use Rattle.sock_diag_captures.specs.Listing.{lines_by_type, message_diagnostic, protocol_for};
+ghost use Rattle.sock_diag_captures.specs.Listing.{message_lines};
+ghost use Rattle.sock_diag_captures.specs.Requests.{with_request_in_datagram};
 ghost use Rattle.sock_diag_captures.specs.declared.list.Issue.TheVariants.{Refused};
 
 use crate::fault_text::FaultText;
@@ -59,7 +62,7 @@ pub enum Issue {
 }
 
 impl fmt::Display for Issue {
-    ghost output = { λ issue. Some (issue_text issue) };
+    ghost output = { λ issue. Some (diagnostic_text issue) };
 
     fn fmt<W: fmt::Write>(&self, f: &mut fmt::Formatter<W>) -> fmt::Result {
         match self {
@@ -102,12 +105,12 @@ pub fn list_packet(
     packet: &[u8],
     header: &PacketHeader,
 ) -> Result<bool, AllocError>
-    ensures lists { IfOk result (ListsRecorded options requests.new.asked.items
-        (recorded packet.now header.now) written.old.lines.items written.new.lines.items) }
+    ensures lists { IfOk result (ListsCapturedPacket options requests.new.asked.items
+        (captured_packet packet.now header.now) written.old.lines.items written.new.lines.items) }
     ensures asked { OnOk result (requests.new.asked.items
-        ≡ asked_after requests.old.asked.items packet.now) }
+        ≡ requests_after_packet requests.old.asked.items packet.now) }
     ensures diagnosed { OnOk result (DiagnosesPacket written.old.front.now number
-        (recorded packet.now header.now) written.old.issues.items written.new.issues.items) }
+        (captured_packet packet.now header.now) written.old.issues.items written.new.issues.items) }
     ensures front { written.new.front ≡ written.old.front }
 {
     let is_whole = push_cut_note(written, number, packet, header.whole_length)?;
@@ -117,7 +120,7 @@ pub fn list_packet(
 
 /// Appends the lines and the diagnostics of the captured bytes of a packet. Does not check whether
 /// the packet was truncated.
-#[tactic(auto, using(crate::proofs::Asking::asking))]
+#[tactic(auto, using(crate::proofs::Asking::requests_rules))]
 fn list_content(
     written: &mut Written<'_>,
     requests: &mut Requests,
@@ -127,9 +130,9 @@ fn list_content(
     header: &PacketHeader,
 ) -> Result<bool, AllocError>
     ensures lists { IfOk result (ListsPacket options requests.new.asked.items
-        (recorded packet.now header.now) written.old.lines.items written.new.lines.items) }
+        (captured_packet packet.now header.now) written.old.lines.items written.new.lines.items) }
     ensures asked { OnOk result (requests.new.asked.items
-        ≡ asked_after requests.old.asked.items packet.now) }
+        ≡ requests_after_packet requests.old.asked.items packet.now) }
     ensures diagnosed { OnOk result (DiagnosesContent written.old.front.now number packet.now
         written.old.issues.items written.new.issues.items) }
     ensures front { written.new.front ≡ written.old.front }
@@ -158,7 +161,7 @@ fn list_sock_diag(
     ensures lists { IfOk result (ListsDatagram options requests.new.asked.items header.now
         datagram.now written.old.lines.items written.new.lines.items) }
     ensures asked { OnOk result (requests.new.asked.items
-        ≡ noted requests.old.asked.items datagram.now) }
+        ≡ with_request_in_datagram requests.old.asked.items datagram.now) }
     ensures diagnosed { OnOk result (DiagnosesDatagram written.old.front.now number datagram.now
         written.old.issues.items written.new.issues.items) }
     ensures front { written.new.front ≡ written.old.front }
@@ -173,7 +176,7 @@ fn list_sock_diag(
 
 /// Returns whether a datagram begins with a request, which is sent by a program to the kernel.
 fn is_request(datagram: &[u8]) -> bool
-    ensures { IsTrue result ↔ IsRequest datagram.now }
+    ensures { IsTrue result ↔ IsRequestDatagram datagram.now }
 {
     match NetlinkHeader::from_prefix(datagram) {
         Ok(header) => header.flags & NLM_F_REQUEST != 0,
@@ -190,7 +193,7 @@ fn list_datagram(
     number: u64,
     datagram: &[u8],
 ) -> Result<bool, AllocError>
-    ensures lists { IfOk result (Lists options requests.now.asked.items datagram.now
+    ensures lists { IfOk result (ListsMessages options requests.now.asked.items datagram.now
         written.old.lines.items written.new.lines.items) }
     ensures diagnosed { OnOk result (DiagnosesMessages written.old.front.now number datagram.now
         written.old.issues.items written.new.issues.items) }
@@ -239,7 +242,7 @@ fn list_message(
     requires { 16 ≤ length message.now }
     ensures lines { OnOk result (written.new.lines.items ≡ written.old.lines.items
         ++ message_lines options requests.now.asked.items message.now) }
-    ensures plain { IfOk result (λ is_plain. IsTrue is_plain ↔ IsPlain message.now) }
+    ensures plain { IfOk result (λ is_plain. IsTrue is_plain ↔ IsCleanMessage message.now) }
     ensures diagnosed { OnOk result (written.new.issues.items ≡ written.old.issues.items
         ++ lines_about_message written.old.front.now place.packet place.message message.now) }
     ensures front { written.new.front ≡ written.old.front }
@@ -254,7 +257,7 @@ fn list_message(
 /// Returns `Interrupted` if a message has the flag `NLM_F_DUMP_INTR`.
 fn interrupted_issue(message: &[u8]) -> Option<Issue>
     requires { 16 ≤ length message.now }
-    ensures { result ≡ interrupted_issue message.now }
+    ensures { result ≡ interrupted_diagnostic message.now }
 {
     if LittleEndian::read_u16(&message[6..]) & DUMP_INTERRUPTED == 0 {
         None
@@ -266,7 +269,7 @@ fn interrupted_issue(message: &[u8]) -> Option<Issue>
 /// Returns whether there is no diagnostic, or only a note. Then no socket is missing from the
 /// table.
 fn is_note(issue: &Option<Issue>) -> bool
-    ensures { result ≡ is_nothing_missing issue.now }
+    ensures { result ≡ is_note_or_none issue.now }
 {
     matches!(issue, None | Some(Issue::NoEntry | Issue::Invalid))
 }
@@ -282,7 +285,7 @@ fn push_message(
     requires { 16 ≤ length message.now }
     ensures lines { OnOk result (lines.new.items ≡ lines.old.items
         ++ message_lines options requests.now.asked.items message.now) }
-    ensures issue { IfOk result (λ issue. issue ≡ message_issue message.now) }
+    ensures issue { IfOk result (λ issue. issue ≡ message_diagnostic message.now) }
 {
     push_payload(
         lines,
@@ -303,8 +306,8 @@ fn push_payload(
     payload: &[u8],
 ) -> Result<Option<Issue>, AllocError>
     ensures lines { OnOk result (lines.new.items ≡ lines.old.items
-        ++ lines_under options protocol message_type payload.now) }
-    ensures issue { IfOk result (λ issue. issue ≡ issue_under message_type payload.now) }
+        ++ lines_by_type options protocol message_type payload.now) }
+    ensures issue { IfOk result (λ issue. issue ≡ diagnostic_by_type message_type payload.now) }
 {
     if (NLMSG_NOOP..=NLMSG_OVERRUN).contains(&message_type) {
         return Ok(issue_about_control(message_type, payload));
@@ -316,7 +319,7 @@ fn push_payload(
 /// Returns the diagnostic of a control message: `NLMSG_NOOP`, `NLMSG_ERROR`, `NLMSG_DONE` or
 /// `NLMSG_OVERRUN`.
 fn issue_about_control(message_type: u16, payload: &[u8]) -> Option<Issue>
-    ensures { result ≡ control_issue message_type payload.now }
+    ensures { result ≡ control_diagnostic message_type payload.now }
 {
     match message_type {
         NLMSG_NOOP => None,
@@ -349,7 +352,7 @@ fn issue_about_fault(fault: Option<DecodeError>) -> Option<Issue>
 
 /// Returns the diagnostic of an error number of errno(3). 0 is not an error.
 fn issue_about_error(number: u32) -> Option<Issue>
-    ensures { result ≡ error_issue number }
+    ensures { result ≡ errno_diagnostic number }
 {
     match number {
         0 => None,
@@ -378,7 +381,7 @@ fn push_some_issue(
 ) -> Result<(), AllocError>
     ensures lines { OnOk result (written.new.lines.items ≡ written.old.lines.items) }
     ensures issues { OnOk result (written.new.issues.items ≡ written.old.issues.items
-        ++ issue_line written.old.front.now place.packet place.message issue.now) }
+        ++ diagnostic_line written.old.front.now place.packet place.message issue.now) }
     ensures front { written.new.front ≡ written.old.front }
 {
     match issue {

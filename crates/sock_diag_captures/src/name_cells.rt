@@ -2,11 +2,11 @@
 
 ghost use Rattle.std.specs.Prelude.{◌≡◌, ◌++◌, [], ℕ, List, OnOk, Some, option_map};
 ghost use Rattle.capture_tables.specs.Cells.{column};
-ghost use Rattle.capture_tables.specs.Escapes.{bytes_told};
+ghost use Rattle.capture_tables.specs.Escapes.{unescaped_bytes};
 ghost use Rattle.sock_diag_attributes.specs.declared.unix.name.SocketName.TheVariants.{Abstract};
 ghost use Rattle.sock_diag_attributes.specs.declared.unix.name.SocketName.TheVariants.{Pathname};
-ghost use Rattle.sock_diag_attributes.specs.NameModel.{name_of};
-ghost use Rattle.sock_diag_captures.specs.Table.{is_mistaken, name_cell, name_told};
+ghost use Rattle.sock_diag_attributes.specs.NameModel.{socket_name_model};
+ghost use Rattle.sock_diag_captures.specs.Table.{needs_escaped_first_byte, name_cell, name_of_cell};
 
 use capture_tables::{end_column, push_digits, push_shown};
 use sock_diag_attributes::unix::nlas::NameView;
@@ -20,7 +20,7 @@ pub(crate) fn push_name_column(
     name: Option<NameView<'_>>,
 ) -> Result<(), AllocError>
     ensures { OnOk result (text.new.items ≡ text.old.items
-        ++ column width (name_cell utf8 (option_map (name_of (λ b. b.now)) name.entry))) }
+        ++ column width (name_cell utf8 (option_map (socket_name_model (λ b. b.now)) name.entry))) }
 {
     let start = text.len();
     match name {
@@ -36,8 +36,8 @@ fn push_abstract(text: &mut Vec<u8>, utf8: bool, address: &[u8]) -> Result<(), A
     ensures cell { OnOk result (text.new.items
         ≡ text.old.items ++ name_cell utf8 (Some (Abstract address.now))) }
     // The name can be read back from the cell if a space follows.
-    ensures told { (behind : List ℕ) → bytes_told 0 behind ≡ []
-        → name_told (name_cell utf8 (Some (Abstract address.now)) ++ behind)
+    ensures told { (behind : List ℕ) → unescaped_bytes 0 behind ≡ []
+        → name_of_cell (name_cell utf8 (Some (Abstract address.now)) ++ behind)
         ≡ Some (Abstract address.now) }
 {
     text.push(b'@')?;
@@ -50,8 +50,8 @@ fn push_path(text: &mut Vec<u8>, utf8: bool, path: &[u8]) -> Result<(), AllocErr
     ensures cell { OnOk result (text.new.items
         ≡ text.old.items ++ name_cell utf8 (Some (Pathname path.now))) }
     // The name can be read back from the cell if a space follows.
-    ensures told { (behind : List ℕ) → bytes_told 0 behind ≡ []
-        → name_told (name_cell utf8 (Some (Pathname path.now)) ++ behind)
+    ensures told { (behind : List ℕ) → unescaped_bytes 0 behind ≡ []
+        → name_of_cell (name_cell utf8 (Some (Pathname path.now)) ++ behind)
         ≡ Some (Pathname path.now) }
 {
     if !is_mistaken(path) {
@@ -63,7 +63,7 @@ fn push_path(text: &mut Vec<u8>, utf8: bool, path: &[u8]) -> Result<(), AllocErr
 
 /// Returns whether a path begins with `@` or is `*`.
 fn is_mistaken(path: &[u8]) -> bool
-    ensures { result ≡ is_mistaken path.now }
+    ensures { result ≡ needs_escaped_first_byte path.now }
 {
     (!path.is_empty() && path[0] == b'@') || (path.len() == 1 && path[0] == b'*')
 }

@@ -3,15 +3,17 @@
 ghost use Rattle.std.specs.Prelude.{◌≡◌, ◌++◌, ◌≤◌, drop, IfOk, OnOk, List, option_map};
 ghost use Rattle.capture_tables.specs.CellsModel.{cells_model};
 ghost use Rattle.capture_tables.specs.Cells.{column};
-ghost use Rattle.netlink_core.specs.Walk.{attribute_of};
-ghost use Rattle.sock_diag_captures.specs.Listing.{family_fault, family_lines, shown_fault};
-ghost use Rattle.sock_diag_captures.specs.Listing.{shown_lines};
-ghost use Rattle.sock_diag_captures.specs.Others.{family_numbered, end_cell, end_text, interface};
-ghost use Rattle.sock_diag_captures.specs.Others.{netlink_socket, other_columns, other_kind};
-ghost use Rattle.sock_diag_captures.specs.Others.{other_line, other_lines, packet_socket, unless};
-ghost use Rattle.sock_diag_captures.specs.Others.{user_kind, vsock_kind, vsock_socket, word_in};
-ghost use Rattle.sock_diag_captures.specs.Others.{word_told, xdp_socket};
-ghost use Rattle.sock_diag_captures.specs.Pieces.{Piece, pieces};
+ghost use Rattle.netlink_core.specs.Walk.{buffered_attribute};
+ghost use Rattle.sock_diag_captures.specs.Listing.{family_error, family_lines, other_reply_error};
+ghost use Rattle.sock_diag_captures.specs.Listing.{other_reply_lines};
+ghost use Rattle.sock_diag_captures.specs.Others.{family_numbered, optional_numbers_text};
+ghost use Rattle.sock_diag_captures.specs.Others.{numbers_text, interface_number, netlink_socket};
+ghost use Rattle.sock_diag_captures.specs.Others.{other_columns, other_kind, other_line};
+ghost use Rattle.sock_diag_captures.specs.Others.{other_lines, packet_socket, none_if_equal};
+ghost use Rattle.sock_diag_captures.specs.Others.{user_kind, vsock_kind, vsock_socket};
+ghost use Rattle.sock_diag_captures.specs.Others.{u32_in_attribute, u32_of_first_attribute};
+ghost use Rattle.sock_diag_captures.specs.Others.{xdp_socket};
+ghost use Rattle.sock_diag_captures.specs.Pieces.{AttributeOrError, attributes_or_error};
 ghost use Rattle.sock_diag_captures.specs.declared.others.OtherSocket.{OtherSocket as SocketShown};
 
 use crate::details::{Sockets, memory_kind, push_details};
@@ -58,11 +60,11 @@ pub(crate) struct OtherSocket {
 /// A header of a reply about a netlink, packet, vsock or XDP socket.
 pub(crate) trait Listed: Record<Param = ()> + Drop {
     // The values that a line shows, by the header and the attributes after it.
-    ghost listed: { Self → List Piece → SocketShown };
+    ghost listed: { Self → List AttributeOrError → SocketShown };
 
     /// Returns the values of the socket.
     fn socket(&self, attributes: &[u8]) -> OtherSocket
-        ensures { result ≡ listed self.now (pieces 0 attributes.now) };
+        ensures { result ≡ listed self.now (attributes_or_error 0 attributes.now) };
 }
 
 /// Returns the family of this number, if it is a netlink, packet, vsock or XDP family.
@@ -89,7 +91,7 @@ pub(crate) fn push_other(
     ensures lines { OnOk result (text.new.items ≡ text.old.items
         ++ family_lines options (family_numbered number) payload.now) }
     ensures fault { IfOk result
-        (λ fault. fault ≡ family_fault (family_numbered number) payload.now) }
+        (λ fault. fault ≡ family_error (family_numbered number) payload.now) }
 {
     match family_numbered(number) {
         Some(Family::Netlink) => push_listed::<NetlinkResponseHeader>(text, options, payload),
@@ -107,8 +109,8 @@ fn push_listed<H: Listed>(
     payload: &[u8],
 ) -> Result<Option<DecodeError>, AllocError>
     ensures lines { OnOk result (text.new.items ≡ text.old.items
-        ++ shown_lines options H.layout H.listed payload.now) }
-    ensures fault { IfOk result (λ fault. fault ≡ shown_fault H.layout payload.now) }
+        ++ other_reply_lines options H.layout H.listed payload.now) }
+    ensures fault { IfOk result (λ fault. fault ≡ other_reply_error H.layout payload.now) }
 {
     match read_record::<H>(payload, ()) {
         Ok(header) => {
@@ -139,7 +141,7 @@ fn push_socket(
     attributes: &[u8],
 ) -> Result<(), AllocError>
     ensures { OnOk result (text.new.items ≡ text.old.items
-        ++ other_lines options socket.now (pieces 0 attributes.now)) }
+        ++ other_lines options socket.now (attributes_or_error 0 attributes.now)) }
 {
     if !options.lists_family(socket.family) {
         return Ok(());
@@ -159,7 +161,7 @@ fn push_other_line(
     attributes: &[u8],
 ) -> Result<(), AllocError>
     ensures { OnOk result (text.new.items ≡ text.old.items
-        ++ other_line socket.now (pieces 0 attributes.now)) }
+        ++ other_line socket.now (attributes_or_error 0 attributes.now)) }
 {
     push_first_columns(text, &other_cells(socket, attributes))?;
     push_local(text, socket.local)?;
@@ -169,7 +171,7 @@ fn push_other_line(
 /// Returns the first columns of a socket. The queues are in the attribute with its memory, and the
 /// user id is in an attribute too.
 fn other_cells(socket: &OtherSocket, attributes: &[u8]) -> Cells
-    ensures { cells_model result ≡ other_columns socket.now (pieces 0 attributes.now) }
+    ensures { cells_model result ≡ other_columns socket.now (attributes_or_error 0 attributes.now) }
 {
     let memory = memory_kind(socket.family);
     Cells {
@@ -221,7 +223,7 @@ fn user_kind(family: Family) -> Option<u16>
 
 /// Appends the column of the local address.
 fn push_local(text: &mut Vec<u8>, end: Numbers) -> Result<(), AllocError>
-    ensures { OnOk result (text.new.items ≡ text.old.items ++ column 30 (end_text end)) }
+    ensures { OnOk result (text.new.items ≡ text.old.items ++ column 30 (numbers_text end)) }
 {
     let start = text.len();
     push_numbers(text, end)?;
@@ -230,7 +232,7 @@ fn push_local(text: &mut Vec<u8>, end: Numbers) -> Result<(), AllocError>
 
 /// Appends an address, or `*` for `None`.
 fn push_end(text: &mut Vec<u8>, end: Option<Numbers>) -> Result<(), AllocError>
-    ensures { OnOk result (text.new.items ≡ text.old.items ++ end_cell end) }
+    ensures { OnOk result (text.new.items ≡ text.old.items ++ optional_numbers_text end) }
 {
     match end {
         Some(end) => push_numbers(text, end),
@@ -240,7 +242,7 @@ fn push_end(text: &mut Vec<u8>, end: Option<Numbers>) -> Result<(), AllocError>
 
 /// Appends both numbers of an address, separated by a colon. A number that is `None` is `*`.
 fn push_numbers(text: &mut Vec<u8>, end: Numbers) -> Result<(), AllocError>
-    ensures { OnOk result (text.new.items ≡ text.old.items ++ end_text end) }
+    ensures { OnOk result (text.new.items ≡ text.old.items ++ numbers_text end) }
 {
     let (first, second) = end;
     push_peer(text, first)?;
@@ -252,7 +254,7 @@ fn push_numbers(text: &mut Vec<u8>, end: Numbers) -> Result<(), AllocError>
 /// there is no such attribute, or if its value is too short.
 fn word_at(attributes: &[u8], kind: Option<u16>, place: usize) -> Option<u32>
     requires { place ≤ 8 }
-    ensures { result ≡ word_told kind place (pieces 0 attributes.now) }
+    ensures { result ≡ u32_of_first_attribute kind place (attributes_or_error 0 attributes.now) }
 {
     match kind {
         Some(kind) => read_word(find_kind(attributes, kind), place),
@@ -264,7 +266,7 @@ fn word_at(attributes: &[u8], kind: Option<u16>, place: usize) -> Option<u32>
 /// there is no attribute, or if its value is too short.
 fn read_word(attribute: Option<NlaBuffer<'_>>, place: usize) -> Option<u32>
     requires { place ≤ 8 }
-    ensures { result ≡ word_in place (option_map attribute_of attribute.entry) }
+    ensures { result ≡ u32_in_attribute place (option_map buffered_attribute attribute.entry) }
 {
     match attribute {
         Some(nla) if nla.value().len() >= place + 4 => {
@@ -276,7 +278,7 @@ fn read_word(attribute: Option<NlaBuffer<'_>>, place: usize) -> Option<u32>
 
 /// Returns `None` if the number is `none`, or else the number.
 fn unless(none: u32, number: u32) -> Option<u32>
-    ensures { result ≡ unless none number }
+    ensures { result ≡ none_if_equal none number }
 {
     if number == none { None } else { Some(number) }
 }
@@ -284,7 +286,7 @@ fn unless(none: u32, number: u32) -> Option<u32>
 /// Returns the interface number: the `u32` at offset 0 of the first attribute of a kind. Returns
 /// `None` if there is none, or if it is 0.
 fn interface_in(attributes: &[u8], kind: u16) -> Option<u32>
-    ensures { result ≡ interface kind (pieces 0 attributes.now) }
+    ensures { result ≡ interface_number kind (attributes_or_error 0 attributes.now) }
 {
     match word_at(attributes, Some(kind), 0) {
         Some(index) => unless(0, index),

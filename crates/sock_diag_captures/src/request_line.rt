@@ -1,8 +1,10 @@
 //! Lines of requests. They separate the dumps of a capture.
 
 ghost use Rattle.std.specs.Prelude.{◌≡◌, ◌++◌, OnOk};
-ghost use Rattle.sock_diag_captures.specs.RequestLine.{asked_family, asked_for, family_word};
-ghost use Rattle.sock_diag_captures.specs.RequestLine.{request_line, shown_request, unix_states};
+ghost use Rattle.sock_diag_captures.specs.RequestLine.{requested_family, request_text};
+ghost use Rattle.sock_diag_captures.specs.RequestLine.{requested_family_text, request_line};
+ghost use Rattle.sock_diag_captures.specs.RequestLine.{request_line_if_selected};
+ghost use Rattle.sock_diag_captures.specs.RequestLine.{requested_unix_states};
 
 use crate::line::name_of_protocol;
 use crate::others::family_numbered;
@@ -28,7 +30,7 @@ pub(crate) fn push_shown_request(
     datagram: &[u8],
 ) -> Result<(), AllocError>
     ensures { OnOk result (text.new.items ≡ text.old.items
-        ++ shown_request options header.now datagram.now) }
+        ++ request_line_if_selected options header.now datagram.now) }
 {
     if !options.requests {
         return Ok(());
@@ -66,7 +68,7 @@ fn push_asked(
     family: Option<Family>,
 ) -> Result<(), AllocError>
     ensures { OnOk result (text.new.items ≡ text.old.items
-        ++ asked_for inet unix_states family) }
+        ++ request_text inet unix_states family) }
 {
     let (name, states) = match (inet, unix_states) {
         (Some(asked), _) => (
@@ -82,7 +84,7 @@ fn push_asked(
 
 /// Returns the name of a family of requested sockets.
 fn name_of_family(family: Option<Family>) -> &'static [u8]
-    ensures { result.now ≡ family_word family }
+    ensures { result.now ≡ requested_family_text family }
 {
     match family {
         Some(Family::Netlink) => b"netlink",
@@ -95,7 +97,7 @@ fn name_of_family(family: Option<Family>) -> &'static [u8]
 
 /// Returns the requested states if a datagram begins with a request for UNIX sockets.
 fn find_unix_states(datagram: &[u8]) -> Option<u32>
-    ensures { result ≡ unix_states datagram.now }
+    ensures { result ≡ requested_unix_states datagram.now }
 {
     if datagram.len() < UNIX_REQUEST
         || LittleEndian::read_u16(&datagram[4..]) != SOCK_DIAG_BY_FAMILY
@@ -109,7 +111,7 @@ fn find_unix_states(datagram: &[u8]) -> Option<u32>
 /// Returns the family if a datagram begins with a request for netlink, packet, vsock or XDP
 /// sockets.
 fn find_family(datagram: &[u8]) -> Option<Family>
-    ensures { result ≡ asked_family datagram.now }
+    ensures { result ≡ requested_family datagram.now }
 {
     if datagram.len() < FAMILY_REQUEST
         || LittleEndian::read_u16(&datagram[4..]) != SOCK_DIAG_BY_FAMILY

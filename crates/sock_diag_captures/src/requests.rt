@@ -2,9 +2,10 @@
 
 ghost use Rattle.std.specs.Prelude.{◌≡◌, ◌≤◌, [], length, OnOk, option_map};
 ghost use Rattle.std.proofs.Common.{rules};
-ghost use Rattle.netlink_core.specs.Walk.{attribute_of};
-ghost use Rattle.sock_diag_captures.specs.Requests.{asked_in, inet_asked, noted, protocol_of};
-ghost use Rattle.sock_diag_captures.specs.Requests.{protocol_by, request_in};
+ghost use Rattle.netlink_core.specs.Walk.{buffered_attribute};
+ghost use Rattle.sock_diag_captures.specs.Requests.{inet_request_in_datagram, inet_request_fields};
+ghost use Rattle.sock_diag_captures.specs.Requests.{with_request_in_datagram, protocol_of};
+ghost use Rattle.sock_diag_captures.specs.Requests.{protocol_by, inet_request_in_message};
 
 use crate::pieces::find_kind;
 use byteorder::{ByteOrder, LittleEndian};
@@ -61,7 +62,8 @@ impl Requests {
 
     /// Adds the request for IPv4 or IPv6 sockets that a datagram begins with, if there is one.
     pub fn note(&mut self, datagram: &[u8]) -> Result<(), AllocError>
-        ensures { OnOk result (self.new.asked.items ≡ noted self.old.asked.items datagram.now) }
+        ensures { OnOk result (self.new.asked.items
+            ≡ with_request_in_datagram self.old.asked.items datagram.now) }
     {
         let Some(newest) = find_request(datagram) else {
             return Ok(());
@@ -95,7 +97,7 @@ fn find_in(asked: &[Asked], sequence_number: u32, port_number: u32) -> Option<u3
 
 /// Returns the request for IPv4 or IPv6 sockets that a datagram begins with, if there is one.
 pub(crate) fn find_request(datagram: &[u8]) -> Option<Asked>
-    ensures { result ≡ asked_in datagram.now }
+    ensures { result ≡ inet_request_in_datagram datagram.now }
 {
     if datagram.len() < REQUEST {
         return None;
@@ -110,7 +112,7 @@ pub(crate) fn find_request(datagram: &[u8]) -> Option<Asked>
 /// Returns the request in a message, if it is one for IPv4 or IPv6 sockets.
 fn read_request(message: &[u8]) -> Option<Asked>
     requires { 72 ≤ length message.now }
-    ensures { result ≡ request_in message.now }
+    ensures { result ≡ inet_request_in_message message.now }
 {
     if LittleEndian::read_u16(&message[4..]) != SOCK_DIAG_BY_FAMILY
         || LittleEndian::read_u16(&message[6..]) & NLM_F_REQUEST == 0
@@ -126,7 +128,7 @@ fn read_request(message: &[u8]) -> Option<Asked>
 /// Returns the fields of a request for IPv4 or IPv6 sockets.
 fn read_asked(request: &[u8]) -> Asked
     requires { 72 ≤ length request.now }
-    ensures { result ≡ inet_asked request.now }
+    ensures { result ≡ inet_request_fields request.now }
 {
     Asked {
         sequence_number: LittleEndian::read_u32(&request[8..]),
@@ -140,7 +142,7 @@ fn read_asked(request: &[u8]) -> Asked
 /// Returns the protocol in the attribute `INET_DIAG_REQ_PROTOCOL` if its value has four bytes.
 /// Otherwise returns the protocol in the header.
 fn choose_protocol(byte: u8, attribute: Option<NlaBuffer<'_>>) -> u32
-    ensures { result ≡ protocol_by byte (option_map attribute_of attribute.entry) }
+    ensures { result ≡ protocol_by byte (option_map buffered_attribute attribute.entry) }
 {
     match attribute {
         Some(nla) if nla.value().len() == 4 => LittleEndian::read_u32(nla.value()),

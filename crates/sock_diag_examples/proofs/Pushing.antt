@@ -5,11 +5,13 @@ use Rattle.std.proofs.lemmas.List.{append-nil}
 use Rattle.std.proofs.lemmas.List.Elements.{filter_map-append}
 
 -- an element with a value appends it
-pub one_more : {A B : Type 0} (made : A → Option B) (xs : List A) (x : A) (y : B) → made x ≡ Some y
+pub value_is_appended : {A B : Type 0} (made : A → Option B) (xs : List A) (x : A) (y : B)
+    → made x ≡ Some y
     → filter_map made (xs ++ x ∷ []) ≡ filter_map made xs ++ y ∷ []
-one_more made xs x y e = filter_map-append made xs (x ∷ []) ∙ rw e refl
+value_is_appended made xs x y e = filter_map-append made xs (x ∷ []) ∙ rw e refl
 
 -- an element without a value appends nothing
-pub none_more : {A B : Type 0} (made : A → Option B) (xs : List A) (x : A) → made x ≡ None
+pub nothing_is_appended : {A B : Type 0} (made : A → Option B) (xs : List A) (x : A) → made x ≡ None
     → filter_map made (xs ++ x ∷ []) ≡ filter_map made xs
-none_more made xs x e = filter_map-append made xs (x ∷ []) ∙ rw e (append-nil (filter_map made xs))
+nothing_is_appended made xs x e =
+    filter_map-append made xs (x ∷ []) ∙ rw e (append-nil (filter_map made xs))

@@ -1,6 +1,6 @@
 -- The request for all listening TCP sockets.
 use Rattle.std.specs.Prelude.{ℕ, replicate}
-use Rattle.netlink_core.specs.Envelope.{Envelope}
+use Rattle.netlink_core.specs.Envelope.{NetlinkMessageModel}
 use Rattle.netlink_core.specs.declared.message.NetlinkPayload.TheVariants.{InnerMessage}
 use Rattle.std.specs.declared.net.ip_addr.IpAddr.{IpAddr}
 use Rattle.std.specs.declared.net.ip_addr.IpAddr.TheVariants.{V4, V6}
@@ -15,14 +15,14 @@ family_number Inet = 2
 family_number Inet6 = 10
 
 -- the address of all zeros
-abbrev pub no_address : Family → IpAddr
-no_address Inet = V4 record { octets = replicate 4 0 }
-no_address Inet6 = V6 record { segments = replicate 8 0 }
+abbrev pub zero_address : Family → IpAddr
+zero_address Inet = V4 record { octets = replicate 4 0 }
+zero_address Inet6 = V6 record { segments = replicate 8 0 }
 
 -- A netlink message with `struct inet_diag_req_v2`: type SOCK_DIAG_BY_FAMILY (20), flags
 -- NLM_F_REQUEST | NLM_F_DUMP (0x301), protocol IPPROTO_TCP (6), only the state TCP_LISTEN (bit 10).
 -- The socket id is all zeros.
-abbrev pub listening_request : Family → ℕ → Envelope Message
+abbrev pub listening_request : Family → ℕ → NetlinkMessageModel Message
 listening_request family sequence_number = record {
   header = record {
     length = 72;
@@ -39,8 +39,8 @@ listening_request family sequence_number = record {
     socket_id = record {
       source_port = 0;
       destination_port = 0;
-      source_address = no_address family;
-      destination_address = no_address family;
+      source_address = zero_address family;
+      destination_address = zero_address family;
       interface_id = 0;
       cookie = replicate 8 0;
     };

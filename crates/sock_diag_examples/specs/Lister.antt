@@ -5,7 +5,7 @@ use Rattle.netlink_core.specs.declared.fault.DecodeError.{DecodeError}
 use Rattle.netlink_core.specs.Envelope.{Payload}
 use Rattle.netlink_core.specs.declared.message.NetlinkPayload.TheVariants.{Done, Error, Noop}
 use Rattle.netlink_core.specs.declared.message.NetlinkPayload.TheVariants.{Overrun, InnerMessage}
-use Rattle.netlink_core.specs.Items.{ItemIs, ItemsAre}
+use Rattle.netlink_core.specs.Items.{IsItemOf, AreItemsOf}
 use Rattle.netlink_packet_sock_diag.specs.Message.{Message, message_of, message_codec}
 use Rattle.sock_diag_records.specs.ResponseKind.{inet_request, inet_response, unix_request}
 use Rattle.sock_diag_records.specs.ResponseKind.{unix_response}
@@ -33,6 +33,6 @@ line_of (Err e) = Some (Refused e)
 pub record AreLinesOf (datagram : List ℕ) (lines : List Line) : Type 0 where
   -- the messages of the datagram, each with its payload or its decode error
   pub items : List (Result (Payload Message) DecodeError)
-  pub are : ItemsAre (ItemIs message_codec) datagram items
+  pub are : AreItemsOf (IsItemOf message_codec) datagram items
   -- the lines of the items that have one
   pub found : lines ≡ filter_map line_of items

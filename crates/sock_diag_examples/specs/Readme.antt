@@ -8,24 +8,24 @@ use Rattle.std.specs.Option.{option_and_then}
 use Rattle.netlink_core.specs.declared.fault.DecodeError.{DecodeError}
 use Rattle.netlink_core.specs.declared.message.NetlinkPayload.TheVariants.{Done, Error}
 use Rattle.netlink_core.specs.declared.message.NetlinkPayload.TheVariants.{Overrun, InnerMessage}
-use Rattle.netlink_core.specs.AttributeSet.{content}
-use Rattle.netlink_core.specs.Response.{ValueOf, response_codec}
+use Rattle.netlink_core.specs.AttributeSet.{value_of_kind}
+use Rattle.netlink_core.specs.Response.{ReplyValue, response_codec}
 use Rattle.sock_diag_records.specs.declared.constants.TheConstants.{TCP_LISTEN, UNIX_DIAG_NAME}
-use Rattle.netlink_core.specs.Items.{Item, ItemIs, ItemsAre}
+use Rattle.netlink_core.specs.Items.{Item, IsItemOf, AreItemsOf}
 use Rattle.sock_diag_attributes.specs.declared.unix.name.SocketName.{SocketName}
 use Rattle.sock_diag_attributes.specs.declared.unix.name.SocketName.TheVariants.{Pathname, Abstract}
-use Rattle.sock_diag_attributes.specs.UnixAttributes.{unix}
-use Rattle.netlink_packet_sock_diag.specs.Dump.{end_of}
+use Rattle.sock_diag_attributes.specs.UnixAttributes.{unix_attribute_set}
+use Rattle.netlink_packet_sock_diag.specs.Dump.{dump_end_at}
 use Rattle.netlink_packet_sock_diag.specs.Message.{Message, message_of, message_codec}
 use Rattle.sock_diag_records.specs.ResponseKind.{inet_request, inet_response, unix_request}
 use Rattle.sock_diag_records.specs.ResponseKind.{unix_response}
-use Rattle.sock_diag_replies.specs.UnixGetters.{first_of}
+use Rattle.sock_diag_replies.specs.UnixGetters.{first_content_of}
 use Rattle.sock_diag_replies.specs.UnixResponseSpec.{unix_response_spec}
 
 -- the bytes parse as a reply about a UNIX socket
 abbrev pub IsUnixReply : List ℕ → Type 0
 IsUnixReply bytes =
-    (v : ValueOf unix_response_spec) × (response_codec unix_response_spec).reads bytes tt v
+    (v : ReplyValue unix_response_spec) × (response_codec unix_response_spec).reads bytes tt v
 
 -- the bytes of a borrowed path
 abbrev pub path_bytes : Option (Bor (List ℕ)) → Option (List ℕ)
@@ -43,25 +43,26 @@ path_of (message_of inet_request v) = None
 path_of (message_of inet_response v) = None
 path_of (message_of unix_request v) = None
 path_of (message_of unix_response v) =
-    option_and_then path_in (first_of (content unix UNIX_DIAG_NAME) v.nlas)
+    option_and_then path_in (first_content_of (value_of_kind unix_attribute_set UNIX_DIAG_NAME)
+    v.nlas)
 
 -- it is a reply about a listening UNIX socket
-abbrev pub listens : Item Message → Bool
-listens (Ok (InnerMessage (message_of unix_response v))) = v.header.state == TCP_LISTEN
-listens _ = false
+abbrev pub is_listening_reply : Item Message → Bool
+is_listening_reply (Ok (InnerMessage (message_of unix_response v))) = v.header.state == TCP_LISTEN
+is_listening_reply _ = false
 
--- EndsWith count items answer: `count` listening sockets precede these items. If no items are left,
--- the answer is the count. Else the first item ends the dump: NLMSG_DONE has the answer
+-- IsCountAtEnd count items answer: `count` listening sockets precede these items. If no items are
+-- left, the answer is the count. Else the first item ends the dump: NLMSG_DONE has the answer
 -- `Some(count)` if it starts with four zero bytes, else `None`; NLMSG_ERROR and NLMSG_OVERRUN have
 -- `None`; and a decode error is returned.
-abbrev pub EndsWith : ℕ → List (Item Message) → Result (Option ℕ) DecodeError → Type 0
-EndsWith count [] answer = answer ≡ Ok (Some count)
-EndsWith count (Ok (Done status) ∷ later) answer =
+abbrev pub IsCountAtEnd : ℕ → List (Item Message) → Result (Option ℕ) DecodeError → Type 0
+IsCountAtEnd count [] answer = answer ≡ Ok (Some count)
+IsCountAtEnd count (Ok (Done status) ∷ later) answer =
     answer ≡ Ok (then_some (starts_with ◌==◌ status (0 ∷ 0 ∷ 0 ∷ 0 ∷ [])) count)
-EndsWith count (Ok (Error status) ∷ later) answer = answer ≡ Ok None
-EndsWith count (Ok (Overrun status) ∷ later) answer = answer ≡ Ok None
-EndsWith count (Err e ∷ later) answer = answer ≡ Err e
-EndsWith count (_ ∷ later) answer = ⊥
+IsCountAtEnd count (Ok (Error status) ∷ later) answer = answer ≡ Ok None
+IsCountAtEnd count (Ok (Overrun status) ∷ later) answer = answer ≡ Ok None
+IsCountAtEnd count (Err e ∷ later) answer = answer ≡ Err e
+IsCountAtEnd count (_ ∷ later) answer = ⊥
 
 -- the number of replies about listening sockets before the first item of the datagram that ends the
 -- dump
@@ -70,7 +71,7 @@ pub record IsCounted (datagram : List ℕ) (answer : Result (Option ℕ) DecodeE
   pub passed : List (Item Message)
   -- the item that ends the dump, if any, and all items after it
   pub later : List (Item Message)
-  pub are : ItemsAre (ItemIs message_codec) datagram (passed ++ later)
-  pub go_on : AllByRecursion (λ item. end_of item ≡ None) passed
+  pub are : AreItemsOf (IsItemOf message_codec) datagram (passed ++ later)
+  pub go_on : AllByRecursion (λ item. dump_end_at item ≡ None) passed
   -- the answer, given the number of replies about listening sockets in `passed`
-  pub ends : EndsWith (count_by listens passed) later answer
+  pub ends : IsCountAtEnd (count_by is_listening_reply passed) later answer

@@ -1,7 +1,7 @@
 -- The keys of replies.
 use Rattle.std.specs.Prelude.{◌≡◌, ℕ, List}
 use Rattle.netlink_core.specs.Bytes.{IsBytes}
-use Rattle.netlink_core.specs.Canonical.{GivesUp}
+use Rattle.netlink_core.specs.Canonical.{CanonicalFails}
 use Rattle.netlink_core.specs.declared.canon.CanonError.{CanonError}
 use Rattle.netlink_packet_sock_diag.specs.Message.{Message, message_codec}
 
@@ -22,5 +22,5 @@ HasKey reply = (key : List ℕ) × IsKey reply key
 -- why no key is returned: the reply is rejected with this error, or parses as a message that can't
 -- be serialized, or parses as one that can be serialized, and memory ran out
 abbrev pub KeyFails : List ℕ → CanonError → Type 0
-KeyFails reply = GivesUp (message_codec.reads reply 20) (message_codec.refuses reply 20)
+KeyFails reply = CanonicalFails (message_codec.reads reply 20) (message_codec.refuses reply 20)
     message_codec.fits

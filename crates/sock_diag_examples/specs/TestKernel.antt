@@ -5,17 +5,17 @@ use Rattle.std.specs.List.{AllByRecursion, flat_map}
 use Rattle.netlink_core.specs.declared.header.NetlinkHeader.{NetlinkHeader}
 use Rattle.netlink_core.specs.declared.fault.DecodeError.{DecodeError}
 use Rattle.netlink_core.specs.declared.fault.DecodeError.TheVariants.{UnknownMessageType}
-use Rattle.netlink_core.specs.Header.{HasHeader, IsEnvelopeFault}
-use Rattle.netlink_core.specs.Envelope.{Payload, OfInner, payload_bytes}
+use Rattle.netlink_core.specs.Header.{HasHeader, IsMessageError}
+use Rattle.netlink_core.specs.Envelope.{Payload, HoldsOfInnerMessage, payload_bytes}
 use Rattle.netlink_core.specs.declared.message.NetlinkPayload.TheVariants as netlink
 use Rattle.netlink_core.specs.Envelope.{payload_type}
-use Rattle.netlink_core.specs.Layout.{read}
+use Rattle.netlink_core.specs.Layout.{parse_record}
 use Rattle.sock_diag_records.specs.declared.unix.request.UnixRequest.{UnixRequest}
 use Rattle.sock_diag_records.specs.UnixRequest.{unix_request}
-use Rattle.netlink_core.specs.Response.{ValueOf, response_bytes, response_codec}
+use Rattle.netlink_core.specs.Response.{ReplyValue, response_bytes, response_codec}
 use Rattle.netlink_packet_sock_diag.specs.declared.dump.DumpState.TheVariants.{Done}
-use Rattle.netlink_core.specs.Items.{ItemIs}
-use Rattle.netlink_packet_sock_diag.specs.Dump.{DatagramsDump}
+use Rattle.netlink_core.specs.Items.{IsItemOf}
+use Rattle.netlink_packet_sock_diag.specs.Dump.{DumpOfDatagrams}
 use Rattle.netlink_packet_sock_diag.specs.Message.{Message, message_of, message_codec}
 use Rattle.netlink_packet_sock_diag.specs.Message.{netlink_message_codec}
 use Rattle.sock_diag_records.specs.ResponseKind.{unix_response}
@@ -27,8 +27,8 @@ use Rattle.sock_diag_examples.specs.declared.test_kernel.AnswerError.TheVariants
 
 -- the bytes of a netlink message that is one of several (flags 2, NLM_F_MULTI), with its own length
 -- and type, and from port id 0
-unfoldable pub message_under : ℕ → Payload Message → List ℕ
-message_under sequence_number payload = netlink_message_codec.written (record {
+unfoldable pub numbered_message_bytes : ℕ → Payload Message → List ℕ
+numbered_message_bytes sequence_number payload = netlink_message_codec.written (record {
   header = record {
     length = 16 + length (payload_bytes message_codec.written payload);
     message_type = payload_type (λ _. 20) payload;
@@ -40,18 +40,19 @@ message_under sequence_number payload = netlink_message_codec.written (record {
 })
 
 -- the message of a reply; its length is a multiple of 4, so it has no padding
-abbrev pub reply_under : ℕ → ValueOf unix_response_spec → List ℕ
-reply_under sequence_number reply =
-    message_under sequence_number (netlink.InnerMessage (message_of unix_response reply))
+abbrev pub reply_message_bytes : ℕ → ReplyValue unix_response_spec → List ℕ
+reply_message_bytes sequence_number reply =
+    numbered_message_bytes sequence_number (netlink.InnerMessage (message_of unix_response reply))
 
 -- NLMSG_DONE with error number 0, four zero bytes
-abbrev pub end_under : ℕ → List ℕ
-end_under sequence_number = message_under sequence_number (netlink.Done (0 ∷ 0 ∷ 0 ∷ 0 ∷ []))
+abbrev pub done_message_bytes : ℕ → List ℕ
+done_message_bytes sequence_number =
+    numbered_message_bytes sequence_number (netlink.Done (0 ∷ 0 ∷ 0 ∷ 0 ∷ []))
 
 -- The request starts with a netlink message of type 20, SOCK_DIAG_BY_FAMILY, whose payload parses
 -- as a request for UNIX sockets. The datagram is the messages of the replies, in order, and then
 -- the end, all with the sequence number of the request.
-pub record IsAnswer (request : List ℕ) (replies : List (ValueOf unix_response_spec))
+pub record IsAnswer (request : List ℕ) (replies : List (ReplyValue unix_response_spec))
     (datagram : List ℕ) : Type 0 where
   -- the netlink header of the request
   pub header : NetlinkHeader
@@ -60,54 +61,56 @@ pub record IsAnswer (request : List ℕ) (replies : List (ValueOf unix_response_
   pub framed : HasHeader request header
   pub kind : header.message_type ≡ 20
   -- the payload, as long as the header's length field says, parses as this request
-  pub asks : read unix_request tt (take (header.length - 16) (drop 16 request)) ≡ Ok asked
+  pub asks : parse_record unix_request tt (take (header.length - 16) (drop 16 request)) ≡ Ok asked
   -- one message for each reply, then the end
-  pub written : datagram ≡ flat_map (reply_under header.sequence_number) replies
-      ++ end_under header.sequence_number
+  pub written : datagram ≡ flat_map (reply_message_bytes header.sequence_number) replies
+      ++ done_message_bytes header.sequence_number
 
 -- The request is rejected with the error e: its bytes do not start with a netlink message; or the
 -- message has another type than 20; or its payload is rejected as a request for UNIX sockets.
-pub data RefusesRequest (request : List ℕ) (e : DecodeError) : Type 0 where
-  no_message : IsEnvelopeFault request e → RefusesRequest request e
+pub data RejectsUnixRequest (request : List ℕ) (e : DecodeError) : Type 0 where
+  no_message : IsMessageError request e → RejectsUnixRequest request e
   other_type : (h : NetlinkHeader) → HasHeader request h → h.message_type ≢ 20
-      → e ≡ UnknownMessageType h.message_type → RefusesRequest request e
+      → e ≡ UnknownMessageType h.message_type → RejectsUnixRequest request e
   no_request : (h : NetlinkHeader) → HasHeader request h → h.message_type ≡ 20
-      → read unix_request tt (take (h.length - 16) (drop 16 request)) ≡ Err e
-      → RefusesRequest request e
+      → parse_record unix_request tt (take (h.length - 16) (drop 16 request)) ≡ Err e
+      → RejectsUnixRequest request e
 
 -- a message with this payload is writable: its inner message is, if any, and its length fits
 -- `nlmsg_len`
-abbrev pub HasRoom : Payload Message → Type 0
-HasRoom payload = OfInner message_codec.fits payload
+abbrev pub IsWritableMessage : Payload Message → Type 0
+IsWritableMessage payload = HoldsOfInnerMessage message_codec.fits payload
     × (16 + length (payload_bytes message_codec.written payload) ≤ 4294967295)
 
 -- the message of the reply is writable
-abbrev pub ReplyHasRoom : ValueOf unix_response_spec → Type 0
-ReplyHasRoom reply = HasRoom (netlink.InnerMessage (message_of unix_response reply))
+abbrev pub IsWritableReplyMessage : ReplyValue unix_response_spec → Type 0
+IsWritableReplyMessage reply =
+    IsWritableMessage (netlink.InnerMessage (message_of unix_response reply))
 
--- FailsFor reason e: e is not an error of a request, and it is `Unwritable` only for this reason;
+-- IsErrorFor reason e: e is not an error of a request, and it is `Unwritable` only for this reason;
 -- `Memory` has no condition
-abbrev pub FailsFor : Type 0 → AnswerError → Type 0
-FailsFor reason (Request e) = ⊥
-FailsFor reason Unwritable = reason
-FailsFor reason Memory = ⊤
+abbrev pub IsErrorFor : Type 0 → AnswerError → Type 0
+IsErrorFor reason (Request e) = ⊥
+IsErrorFor reason Unwritable = reason
+IsErrorFor reason Memory = ⊤
 
 -- the request starts with a netlink message of type 20 whose payload parses as a request for UNIX
 -- sockets
-abbrev pub Asks : List ℕ → Type 0
-Asks request = (h : NetlinkHeader) × (asked : UnixRequest)
+abbrev pub IsUnixRequestMessage : List ℕ → Type 0
+IsUnixRequestMessage request = (h : NetlinkHeader) × (asked : UnixRequest)
     × HasHeader request h × (h.message_type ≡ 20)
-    × (read unix_request tt (take (h.length - 16) (drop 16 request)) ≡ Ok asked)
+    × (parse_record unix_request tt (take (h.length - 16) (drop 16 request)) ≡ Ok asked)
 
 -- Why there is no answer: the request is rejected with this error; or it is accepted, and the
 -- message of some reply is not writable; or it is accepted, and memory ran out.
-abbrev pub GivesNoAnswer : List ℕ → List (ValueOf unix_response_spec) → AnswerError → Type 0
-GivesNoAnswer request replies (Request e) = RefusesRequest request e
-GivesNoAnswer request replies Unwritable = Asks request × ¬ AllByRecursion ReplyHasRoom replies
-GivesNoAnswer request replies Memory = Asks request
+abbrev pub AnswerFails : List ℕ → List (ReplyValue unix_response_spec) → AnswerError → Type 0
+AnswerFails request replies (Request e) = RejectsUnixRequest request e
+AnswerFails request replies Unwritable =
+    IsUnixRequestMessage request × ¬ AllByRecursion IsWritableReplyMessage replies
+AnswerFails request replies Memory = IsUnixRequestMessage request
 
 -- a reply as parsers return it, whose message is writable
-pub record CanBeSent (reply : ValueOf unix_response_spec) : Type 0 where
+pub record IsWritableReply (reply : ReplyValue unix_response_spec) : Type 0 where
   -- each number fits its field
   pub in_range : (response_codec unix_response_spec).is_in_range reply
   pub normal : (response_codec unix_response_spec).is_normal tt reply
@@ -118,7 +121,7 @@ pub record CanBeSent (reply : ValueOf unix_response_spec) : Type 0 where
 
 -- the dump over the datagram is complete (NLMSG_DONE, error number 0), and its messages are these
 -- replies
-pub record IsWholeDump (datagram : List ℕ) (replies : List (ValueOf unix_response_spec))
+pub record IsCompleteDump (datagram : List ℕ) (replies : List (ReplyValue unix_response_spec))
     : Type 0 where
-  pub dump : DatagramsDump (ItemIs message_codec) [] (datagram ∷ [])
+  pub dump : DumpOfDatagrams (IsItemOf message_codec) [] (datagram ∷ [])
       (map (message_of unix_response) replies) (Ok (Done, Some (pos 0)))

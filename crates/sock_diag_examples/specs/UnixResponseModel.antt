@@ -2,8 +2,8 @@
 use Rattle.std.specs.Prelude.{ℕ, Vec}
 use Rattle.std.specs.declared.alloc.Global.{Global}
 use Rattle.netlink_core.specs.declared.nla.DefaultNla.{DefaultNla}
-use Rattle.netlink_core.specs.Response.{ValueOf}
-use Rattle.sock_diag_attributes.specs.UnixModel.{nla_model}
+use Rattle.netlink_core.specs.Response.{ReplyValue}
+use Rattle.sock_diag_attributes.specs.UnixModel.{unix_nla_model}
 use Rattle.sock_diag_attributes.specs.declared.unix.name.SocketName.{SocketName}
 use Rattle.sock_diag_attributes.specs.declared.unix.nlas.UnixNla.{UnixNla}
 use Rattle.sock_diag_records.specs.declared.unix.response.UnixResponseHeader.{UnixResponseHeader}
@@ -13,5 +13,5 @@ use Rattle.sock_diag_replies.specs.UnixResponseSpec.{unix_response_spec}
 
 -- the same header, and the model of each attribute
 abbrev pub unix_response_model : Reply UnixResponseHeader
-    (UnixNla (SocketName (Vec ℕ Global)) (Vec ℕ Global) DefaultNla) → ValueOf unix_response_spec
-unix_response_model = response_model (λ h. h) nla_model
+    (UnixNla (SocketName (Vec ℕ Global)) (Vec ℕ Global) DefaultNla) → ReplyValue unix_response_spec
+unix_response_model = response_model (λ h. h) unix_nla_model

@@ -1,12 +1,12 @@
 //! The name in a reply about a UNIX socket, with `sock_diag_replies`.
 
 ghost use Rattle.std.specs.Prelude.{◌≡◌, ◌↔◌, Some, IsTrue, IfOk, IfErr};
-ghost use Rattle.netlink_core.specs.AttributeSet.{content};
-ghost use Rattle.netlink_core.specs.Response.{response_codec, ValueOf};
+ghost use Rattle.netlink_core.specs.AttributeSet.{value_of_kind};
+ghost use Rattle.netlink_core.specs.Response.{response_codec, ReplyValue};
 ghost use Rattle.sock_diag_attributes.specs.declared.unix.name.SocketName.TheVariants.{Pathname};
-ghost use Rattle.sock_diag_attributes.specs.UnixAttributes.{unix};
+ghost use Rattle.sock_diag_attributes.specs.UnixAttributes.{unix_attribute_set};
 ghost use Rattle.sock_diag_records.specs.declared.constants.TheConstants.{UNIX_DIAG_NAME};
-ghost use Rattle.sock_diag_replies.specs.UnixGetters.{first_of};
+ghost use Rattle.sock_diag_replies.specs.UnixGetters.{first_content_of};
 ghost use Rattle.sock_diag_replies.specs.UnixResponseSpec.{unix_response_spec};
 
 use netlink_core::DecodeError;
@@ -16,10 +16,11 @@ use sock_diag_replies::unix::nlas::NameView;
 /// Returns whether a reply about a UNIX socket has this path as the name of the socket.
 pub fn is_bound_to(reply: &[u8], path: &[u8]) -> Result<bool, DecodeError>
     ensures value { IfOk result (λ bound.
-        (v : ValueOf unix_response_spec) × (response_codec unix_response_spec).reads reply.now
+        (v : ReplyValue unix_response_spec) × (response_codec unix_response_spec).reads reply.now
         tt v
         × (IsTrue bound
-        ↔ (first_of (content unix UNIX_DIAG_NAME) v.nlas ≡ Some (Pathname path.now)))) }
+        ↔ (first_content_of (value_of_kind unix_attribute_set UNIX_DIAG_NAME) v.nlas
+        ≡ Some (Pathname path.now)))) }
     ensures fault { IfErr result ((response_codec unix_response_spec).refuses reply.now tt) }
 {
     let view = UnixResponseView::parse(reply)?;

@@ -1,17 +1,18 @@
 //! Iterating over attributes, with `netlink_core`.
 
 ghost use Rattle.std.specs.Prelude.{◌≡◌, List, [], length, IfOk, IfErr};
-ghost use Rattle.netlink_core.specs.Attribute.{Attribute, Cut, CutOff, IsFramingFault};
+ghost use Rattle.netlink_core.specs.Attribute.{Attribute, SplitsIntoAttributes, SplitsUntilError};
+ghost use Rattle.netlink_core.specs.Attribute.{IsFramingError};
 
 use netlink_core::{DecodeError, NlasIterator};
 
 /// Counts the attributes that the bytes consist of, or returns the first framing error.
-#[tactic(auto, using(crate::proofs::Counted::counting))]
+#[tactic(auto, using(crate::proofs::Counted::counting_rules))]
 pub fn count_attributes(bytes: &[u8]) -> Result<usize, DecodeError>
     ensures count { IfOk result (λ count. (attributes : List Attribute)
-        × Cut bytes.now attributes [] × (length attributes ≡ count)) }
+        × SplitsIntoAttributes bytes.now attributes [] × (length attributes ≡ count)) }
     ensures fault { IfErr result (λ fault. (before : List Attribute)
-        × CutOff IsFramingFault bytes.now before fault) }
+        × SplitsUntilError IsFramingError bytes.now before fault) }
 {
     let mut count = 0;
     for item in NlasIterator::new(bytes) {

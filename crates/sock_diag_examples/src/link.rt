@@ -4,12 +4,13 @@
 ghost use Rattle.std.specs.Prelude.{◌≡◌, ◌≤◌, ◌↔◌, ℕ, List, [], None, length, drop, IfOk, IfErr};
 ghost use Rattle.std.specs.Prelude.{IsTrue};
 ghost use Rattle.std.specs.List.{filter_map, last_or};
-ghost use Rattle.netlink_core.specs.Attribute.{Attribute, AttributesMean, HasFittingValue, written};
+ghost use Rattle.netlink_core.specs.Attribute.{Attribute, DecodeTo, FitsLengthField};
+ghost use Rattle.netlink_core.specs.Attribute.{attribute_bytes};
 ghost use Rattle.netlink_core.specs.Bytes.{IsBytes};
 ghost use Rattle.netlink_core.specs.Canonical as canon;
 ghost use Rattle.netlink_core.specs.FirstAttribute.{first_attribute_codec};
 ghost use Rattle.sock_diag_examples.specs.Link.{LinkAttribute, decodes_link, name_in, mtu_in};
-ghost use Rattle.sock_diag_examples.specs.Link.{text_of, from_fault, GivesUp};
+ghost use Rattle.sock_diag_examples.specs.Link.{string_content, link_error_of, LinkFails};
 
 use netlink_core::{
     CanonError, DecodeError, DefaultNla, NlasIterator, canonical, parse_string, parse_u32,
@@ -48,7 +49,7 @@ pub enum LinkError {
 }
 
 impl From<DecodeError> for LinkError {
-    ghost from_gives = { λ fault e. e ≡ from_fault fault };
+    ghost from_gives = { λ fault e. e ≡ link_error_of fault };
 
     fn from(fault: DecodeError) -> LinkError {
         LinkError::Attribute(fault)
@@ -58,10 +59,10 @@ impl From<DecodeError> for LinkError {
 /// Parses the payload of a message about an interface: the bytes after the netlink header.
 pub fn parse_link(alloc: Global, payload: &[u8]) -> Result<Link, LinkError>
     ensures value { IfOk result (λ link. (found : List LinkAttribute) × (16 ≤ length payload.now)
-        × AttributesMean decodes_link (drop 16 payload.now) found
-        × (text_of link.name ≡ last_or None (filter_map name_in found))
+        × DecodeTo decodes_link (drop 16 payload.now) found
+        × (string_content link.name ≡ last_or None (filter_map name_in found))
         × (link.mtu ≡ last_or None (filter_map mtu_in found))) }
-    ensures fault { IfErr result (GivesUp payload.now) }
+    ensures fault { IfErr result (LinkFails payload.now) }
 {
     if payload.len() < HEADER {
         return Err(LinkError::TooShort { got: payload.len() });
@@ -85,7 +86,7 @@ pub fn parse_link(alloc: Global, payload: &[u8]) -> Result<Link, LinkError>
 /// equal.
 pub fn equal_links(v: &Link, w: &Link) -> bool
     ensures { IsTrue result
-        ↔ ((text_of v.now.name ≡ text_of w.now.name) × (v.now.mtu ≡ w.now.mtu)) }
+        ↔ ((string_content v.now.name ≡ string_content w.now.name) × (v.now.mtu ≡ w.now.mtu)) }
 {
     v == w
 }
@@ -102,14 +103,15 @@ pub fn equal_link_errors(v: &LinkError, w: &LinkError) -> bool
 pub fn attribute_key(alloc: Global, attribute: &[u8]) -> Result<Vec<u8>, CanonError>
     ensures written { IfOk result (λ key.
         (a : Attribute) × (first_attribute_codec []).reads attribute.now tt a
-        × (key.items ≡ written a)) }
+        × (key.items ≡ attribute_bytes a)) }
     ensures alike { IfOk result (λ key. (other : List ℕ) (theirs : Attribute) → IsBytes other
         → (first_attribute_codec []).reads other tt theirs
-        → HasFittingValue theirs
-        → ((written theirs ≡ key.items) ↔ (first_attribute_codec []).idle tt attribute.now other)) }
-    ensures err { IfErr result (canon.GivesUp (λ a.
+        → FitsLengthField theirs
+        → ((attribute_bytes theirs ≡ key.items)
+        ↔ (first_attribute_codec []).idle tt attribute.now other)) }
+    ensures err { IfErr result (canon.CanonicalFails (λ a.
         (first_attribute_codec []).reads attribute.now tt a)
-        (λ e. (first_attribute_codec []).refuses attribute.now tt e) HasFittingValue) }
+        (λ e. (first_attribute_codec []).refuses attribute.now tt e) FitsLengthField) }
 {
     canonical::<DefaultNla>(alloc, attribute, ())
 }

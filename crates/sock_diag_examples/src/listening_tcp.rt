@@ -3,7 +3,7 @@
 ghost use Rattle.std.proofs.Common.{rules};
 ghost use Rattle.std.specs.Prelude.{◌≡◌, [], ◌∷◌, ◌++◌, replicate};
 ghost use Rattle.byteorder.specs.Endian.{little_bytes};
-ghost use Rattle.netlink_core.specs.EnvelopeModel.{envelope_of};
+ghost use Rattle.netlink_core.specs.EnvelopeModel.{netlink_message_model};
 ghost use Rattle.netlink_packet_sock_diag.specs.Message.{message_codec, netlink_message_codec};
 ghost use Rattle.netlink_packet_sock_diag.specs.MessageModel.{message_model};
 ghost use Rattle.sock_diag_examples.specs.ListeningTcp.{family_number, listening_request};
@@ -39,7 +39,8 @@ impl Exact for Family {
 /// The kernel's replies repeat the sequence number.
 #[tactic(auto, unfolding(sock_diag_records::specs::InetRequest::inet_request))]
 pub fn listening_tcp(family: Family, sequence_number: u32) -> NetlinkMessage<SockDiagMessage>
-    ensures { envelope_of message_model result ≡ listening_request family sequence_number }
+    ensures { netlink_message_model message_model result
+        ≡ listening_request family sequence_number }
 {
     let (family, socket_id) = match family {
         Family::Inet => (AF_INET, SocketId::new_v4()),

@@ -4,7 +4,7 @@ ghost use Rattle.std.specs.Prelude.{◌≡◌, ◌↔◌, List, Result, Some, If
 ghost use Rattle.std.specs.Iterator.{Drains};
 ghost use Rattle.std.specs.List.{filter_map};
 ghost use Rattle.netlink_core.specs.declared.fault.DecodeError.{DecodeError as Fault};
-ghost use Rattle.netlink_packet_sock_diag.specs.DumpWalk.{GivesView};
+ghost use Rattle.netlink_packet_sock_diag.specs.DumpWalk.{YieldsPayloadView};
 ghost use Rattle.netlink_packet_sock_diag.specs.PayloadViewModel.{PayloadView};
 ghost use Rattle.netlink_packet_sock_diag.specs.MessageViewModel.{message_view_model};
 ghost use Rattle.netlink_core.specs.Faults.{map_ok};
@@ -52,7 +52,7 @@ pub fn equal_lines(v: &Line, w: &Line) -> bool
 // Returns the lines of the items of an iterator.
 fn lines_of(alloc: Global, views: DumpViews<'_>) -> Result<Vec<Line>, AllocError>
     ensures { IfOk result (λ lines. (given : List (Result PayloadView Fault))
-        × Drains GivesView views.entry given
+        × Drains YieldsPayloadView views.entry given
         × (lines.items ≡ filter_map line_of (map (map_ok payload_view_model) given))) }
 {
     let mut lines = Vec::new(alloc);

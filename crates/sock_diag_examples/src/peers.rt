@@ -2,8 +2,8 @@
 
 ghost use Rattle.std.specs.Prelude.{◌≡◌, length, SomeIff};
 ghost use Rattle.byteorder.specs.Endian.{little_number};
-ghost use Rattle.netlink_core.specs.Attribute.{attribute_type};
-ghost use Rattle.netlink_core.specs.Walk.{attribute_of};
+ghost use Rattle.netlink_core.specs.Attribute.{attribute_kind};
+ghost use Rattle.netlink_core.specs.Walk.{buffered_attribute};
 
 use netlink_core::NlaBuffer;
 use sock_diag_attributes::unix::nlas::NlaView;
@@ -12,8 +12,9 @@ use sock_diag_attributes::unix::nlas::NlaView;
 /// `UNIX_DIAG_PEER` and has four bytes.
 pub fn peer(nla: &NlaBuffer<'_>) -> Option<u32>
     ensures { SomeIff result
-        ((attribute_type (attribute_of nla.now) ≡ 2) × (length (attribute_of nla.now).value ≡ 4))
-        (little_number 4 (attribute_of nla.now).value) }
+        ((attribute_kind (buffered_attribute nla.now) ≡ 2)
+        × (length (buffered_attribute nla.now).value ≡ 4))
+        (little_number 4 (buffered_attribute nla.now).value) }
 {
     match NlaView::parse(nla) {
         Ok(NlaView::Peer(inode)) => Some(inode),

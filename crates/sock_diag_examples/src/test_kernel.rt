@@ -4,14 +4,15 @@
 ghost use Rattle.std.specs.Prelude.{◌≡◌, ◌↔◌, ◌++◌, ℕ, List, map, IsTrue, OnOk, IfOk, IfErr};
 ghost use Rattle.std.specs.Prelude.{vec_items};
 ghost use Rattle.std.specs.List.{AllByRecursion, flat_map};
-ghost use Rattle.netlink_core.specs.EnvelopeModel.{payload_of};
+ghost use Rattle.netlink_core.specs.EnvelopeModel.{payload_model};
 ghost use Rattle.netlink_packet_sock_diag.specs.MessageModel.{message_model};
 ghost use Rattle.sock_diag_examples.specs.UnixResponseModel.{unix_response_model};
-ghost use Rattle.netlink_core.specs.Response.{ValueOf};
+ghost use Rattle.netlink_core.specs.Response.{ReplyValue};
 ghost use Rattle.sock_diag_replies.specs.UnixResponseSpec.{unix_response_spec};
-ghost use Rattle.sock_diag_examples.specs.TestKernel.{CanBeSent, FailsFor, GivesNoAnswer, HasRoom};
-ghost use Rattle.sock_diag_examples.specs.TestKernel.{IsAnswer, IsWholeDump, ReplyHasRoom};
-ghost use Rattle.sock_diag_examples.specs.TestKernel.{message_under, reply_under};
+ghost use Rattle.sock_diag_examples.specs.TestKernel.{IsWritableReply, IsErrorFor, AnswerFails};
+ghost use Rattle.sock_diag_examples.specs.TestKernel.{IsWritableMessage, IsAnswer, IsCompleteDump};
+ghost use Rattle.sock_diag_examples.specs.TestKernel.{IsWritableReplyMessage};
+ghost use Rattle.sock_diag_examples.specs.TestKernel.{numbered_message_bytes, reply_message_bytes};
 ghost use Rattle.sock_diag_examples.specs.declared.test_kernel.AnswerError.TheVariants.{Request};
 ghost use Rattle.sock_diag_examples.specs.declared.test_kernel.AnswerError.TheVariants.{Memory};
 
@@ -77,7 +78,7 @@ pub fn answer(
     ensures answer { IfOk result (λ datagram.
         IsAnswer request.now (map unix_response_model replies.now)
         datagram.items) }
-    ensures refused { IfErr result (GivesNoAnswer request.now
+    ensures refused { IfErr result (AnswerFails request.now
         (map unix_response_model replies.now)) }
 {
     let header = NetlinkHeader::from_prefix(request)?;
@@ -98,9 +99,10 @@ pub fn answer(
 /// The dump over an answer is complete and has the caller's replies, if each is in normal form and
 /// can be serialized. Proof only: the contract states the property.
 pub fn answer_is_a_whole_dump()
-    ensures { (request : List ℕ) (replies : List (ValueOf unix_response_spec)) (datagram : List ℕ)
+    ensures { (request : List ℕ) (replies : List (ReplyValue unix_response_spec))
+        (datagram : List ℕ)
         → IsAnswer request replies datagram
-        → AllByRecursion CanBeSent replies → IsWholeDump datagram replies }
+        → AllByRecursion IsWritableReply replies → IsCompleteDump datagram replies }
 {
     netlink_core::laws::items_of_concatenation::<SockDiagMessage>();
     laws::finalized_message_reads_back();
@@ -115,9 +117,10 @@ fn push_replies(
     replies: &[UnixResponse],
 ) -> Result<(), AnswerError>
     ensures added { OnOk result (datagram.new.items ≡ datagram.old.items
-        ++ flat_map (reply_under sequence_number) (map unix_response_model replies.now)) }
+        ++ flat_map (reply_message_bytes sequence_number) (map unix_response_model replies.now)) }
     ensures err { IfErr result
-        (FailsFor (¬ AllByRecursion ReplyHasRoom (map unix_response_model replies.now))) }
+        (IsErrorFor (¬ AllByRecursion IsWritableReplyMessage
+        (map unix_response_model replies.now))) }
 {
     for reply in replies {
         push_reply(alloc, datagram, sequence_number, reply)?;
@@ -133,8 +136,9 @@ fn push_reply(
     reply: &UnixResponse,
 ) -> Result<(), AnswerError>
     ensures added { OnOk result (datagram.new.items ≡ datagram.old.items
-        ++ reply_under sequence_number (unix_response_model reply.now)) }
-    ensures err { IfErr result (FailsFor (¬ ReplyHasRoom (unix_response_model reply.now))) }
+        ++ reply_message_bytes sequence_number (unix_response_model reply.now)) }
+    ensures err { IfErr result (IsErrorFor
+        (¬ IsWritableReplyMessage (unix_response_model reply.now))) }
 {
     let message = SockDiagMessage::UnixResponse(Box::new(
         alloc,
@@ -149,7 +153,7 @@ fn push_reply(
 }
 
 // Appends a message with this payload, and with its length and its type in the header.
-#[tactic(auto, unfolding(crate::specs::TestKernel::message_under))]
+#[tactic(auto, unfolding(crate::specs::TestKernel::numbered_message_bytes))]
 fn push_message(
     alloc: Global,
     datagram: &mut Vec<u8>,
@@ -157,8 +161,9 @@ fn push_message(
     payload: NetlinkPayload<SockDiagMessage>,
 ) -> Result<(), AnswerError>
     ensures added { OnOk result (datagram.new.items ≡ datagram.old.items
-        ++ message_under sequence_number (payload_of vec_items message_model payload)) }
-    ensures err { IfErr result (FailsFor (¬ HasRoom (payload_of vec_items message_model payload))) }
+        ++ numbered_message_bytes sequence_number (payload_model vec_items message_model payload)) }
+    ensures err { IfErr result (IsErrorFor
+        (¬ IsWritableMessage (payload_model vec_items message_model payload))) }
 {
     let header = NetlinkHeader {
         flags: NLM_F_MULTI,

@@ -6,35 +6,36 @@
 use Rattle.std.specs.Prelude.{◌≤◌, ℕ, ◌+◌, ◌==◌, ◌&&◌, if◌then◌else◌, List, [], length, take}
 use Rattle.std.specs.Prelude.{drop, bit_and, not}
 use Rattle.byteorder.specs.Endian.{little_number}
-use Rattle.netlink_core.specs.Attribute.{fill}
+use Rattle.netlink_core.specs.Attribute.{padding_length}
 
 -- The length in bytes of the request in the payload of an NLMSG_ERROR. If the error number is not 0
 -- and the flags lack NLM_F_CAPPED (256), the request is complete: its length is its length field
 -- `nlmsg_len`, the u32 at offset 4. Otherwise only its header of 16 bytes is present.
-abbrev pub request_length : ℕ → List ℕ → ℕ
-request_length flags payload =
+abbrev pub acked_request_length : ℕ → List ℕ → ℕ
+acked_request_length flags payload =
     if (bit_and flags 256 == 0) && not (little_number 4 payload == 0)
     then little_number 4 (drop 4 payload) else 16
 
 -- The payload contains the error number and the request: it has at least 20 bytes, the length of
 -- the request is at least 16 bytes, and the request ends within the payload.
-abbrev pub HoldsRequest : ℕ → List ℕ → Type 0
-HoldsRequest flags payload =
-    (20 ≤ length payload) × (16 ≤ request_length flags payload)
-    × (4 + request_length flags payload ≤ length payload)
+abbrev pub HasCompleteRequest : ℕ → List ℕ → Type 0
+HasCompleteRequest flags payload =
+    (20 ≤ length payload) × (16 ≤ acked_request_length flags payload)
+    × (4 + acked_request_length flags payload ≤ length payload)
 
 -- The bytes of the request in the payload of an NLMSG_ERROR, after the error number.
-abbrev pub request_in : ℕ → List ℕ → List ℕ
-request_in flags payload = take (request_length flags payload) (drop 4 payload)
+abbrev pub acked_request_bytes : ℕ → List ℕ → List ℕ
+acked_request_bytes flags payload = take (acked_request_length flags payload) (drop 4 payload)
 
 -- The bytes of the attributes: all bytes after the first `front` bytes of the payload, or none if
 -- the flags lack NLM_F_ACK_TLVS (512).
-abbrev pub attributes_behind : ℕ → ℕ → List ℕ → List ℕ
-attributes_behind flags front payload = if bit_and flags 512 == 0 then [] else drop front payload
+abbrev pub ack_attribute_bytes_from : ℕ → ℕ → List ℕ → List ℕ
+ack_attribute_bytes_from flags front payload =
+    if bit_and flags 512 == 0 then [] else drop front payload
 
 -- The bytes of the attributes of an NLMSG_ERROR. They follow the error number and the request,
 -- which is padded to a multiple of 4 bytes.
-abbrev pub error_attributes : ℕ → List ℕ → List ℕ
-error_attributes flags payload =
-    let sent = request_length flags payload in
-    attributes_behind flags (4 + (sent + fill sent)) payload
+abbrev pub error_attribute_bytes : ℕ → List ℕ → List ℕ
+error_attribute_bytes flags payload =
+    let sent = acked_request_length flags payload in
+    ack_attribute_bytes_from flags (4 + (sent + padding_length sent)) payload

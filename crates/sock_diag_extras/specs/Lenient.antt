@@ -3,61 +3,72 @@ use Rattle.std.specs.Prelude.{◌≡◌, ◌≢◌, ℕ, ◌⊎◌, List, [], �
 use Rattle.std.specs.Prelude.{Result, Err, MatchOption}
 use Rattle.std.specs.Result.{result_map_both}
 use Rattle.netlink_core.specs.declared.fault.DecodeError.{DecodeError}
-use Rattle.netlink_core.specs.Attribute.{Attribute, Cut, CutOff, IsFramingFault, StartsWith}
-use Rattle.netlink_core.specs.AttributeSet.{AttributeSet, AttributeValue, decodes}
-use Rattle.netlink_core.specs.Walk.{attribute_of}
-use Rattle.sock_diag_extras.specs.Models.{lenient_left}
+use Rattle.netlink_core.specs.Attribute.{Attribute, SplitsIntoAttributes, SplitsUntilError}
+use Rattle.netlink_core.specs.Attribute.{IsFramingError, StartsWithAttribute}
+use Rattle.netlink_core.specs.AttributeSet.{AttributeSet, AttributeValue, decode_attribute}
+use Rattle.netlink_core.specs.Walk.{buffered_attribute}
+use Rattle.sock_diag_extras.specs.Models.{unread_lenient_bytes}
 use Rattle.sock_diag_extras.specs.declared.lenient.LenientNlas.{LenientNlas}
 use Rattle.sock_diag_extras.specs.declared.lenient.Refused.{Refused}
 use Rattle.sock_diag_extras.specs.declared.lenient.Refused.TheVariants as refused
 
 -- The model of a `Refused`: the rejected attribute, or `None` for a framing error, and the error.
-pub record Refusal : Type 0 where
+pub record RejectionModel : Type 0 where
   pub attribute : Option Attribute
   pub fault : DecodeError
 
 -- The model of a rejected attribute (`Refused`).
-abbrev pub refusal_of : Refused → Refusal
-refusal_of (refused.Attribute nla e) = record { attribute = Some (attribute_of nla); fault = e }
-refusal_of (refused.Framing e) = record { attribute = None; fault = e }
+abbrev pub rejection_model : Refused → RejectionModel
+rejection_model (refused.Attribute nla e) = record {
+  attribute = Some (buffered_attribute nla);
+  fault = e;
+}
+rejection_model (refused.Framing e) = record { attribute = None; fault = e }
 
 -- The item for an attribute, by the set `F` of known attribute types: the value that it decodes to,
 -- or the attribute with its error.
-abbrev pub item_of : (F : AttributeSet) → Attribute → Result (AttributeValue F) Refusal
-item_of F a = result_map_both (λ value. value) (λ e.
-    record { attribute = Some a; fault = e }) (decodes F a)
+abbrev pub lenient_item_of : (F : AttributeSet) → Attribute
+    → Result (AttributeValue F) RejectionModel
+lenient_item_of F a = result_map_both (λ value. value) (λ e.
+    record { attribute = Some a; fault = e }) (decode_attribute F a)
 
 -- The model of an item that the iterator yields. `view_model` is the model of a view.
-abbrev pub model : {V : Type 0} (F : AttributeSet) → (V → AttributeValue F) → Result V Refused
-    → Result (AttributeValue F) Refusal
-model F view_model item = result_map_both view_model refusal_of item
+abbrev pub lenient_item_model : {V : Type 0} (F : AttributeSet) → (V → AttributeValue F)
+    → Result V Refused
+    → Result (AttributeValue F) RejectionModel
+lenient_item_model F view_model item = result_map_both view_model rejection_model item
 
 -- `item` is the first item of the bytes `left`, and `later` are the bytes after it. Either the
 -- bytes start with an attribute: the item is the item of this attribute, and `later` follows its
 -- padding. Or the bytes are not empty and start with a framing error: the item is this error, and
 -- `later` is empty.
-abbrev pub FrontIs : (F : AttributeSet) → List ℕ → Result (AttributeValue F) Refusal → List ℕ
+abbrev pub StartsWithLenientItem : (F : AttributeSet) → List ℕ
+    → Result (AttributeValue F) RejectionModel → List ℕ
     → Type 0
-FrontIs F left item later =
-    ((a : Attribute) × StartsWith left a later × (item ≡ item_of F a))
-    ⊎ ((e : DecodeError) × (left ≢ []) × IsFramingFault left e × (later ≡ [])
+StartsWithLenientItem F left item later =
+    ((a : Attribute) × StartsWithAttribute left a later × (item ≡ lenient_item_of F a))
+    ⊎ ((e : DecodeError) × (left ≢ []) × IsFramingError left e × (later ≡ [])
     × (item ≡ Err (record { attribute = None; fault = e })))
 
 -- What a call of `next` does: `old` is the iterator before, `given` what it returns, and `new` the
 -- iterator after. It returns `None` if no bytes are left. Otherwise it returns the first item of
 -- the bytes left, and leaves the bytes after the item.
-abbrev pub GivesLeniently : {V : Type 0} (F : AttributeSet) → (V → AttributeValue F) → LenientNlas V
+abbrev pub YieldsLenientItem : {V : Type 0} (F : AttributeSet) → (V → AttributeValue F)
+    → LenientNlas V
     → Option (Result V Refused) → LenientNlas V → Type 0
-GivesLeniently F view_model old given new =
-    MatchOption given ((lenient_left old ≡ []) × (lenient_left new ≡ []))
-    (λ item. FrontIs F (lenient_left old) (model F view_model item) (lenient_left new))
+YieldsLenientItem F view_model old given new =
+    MatchOption given ((unread_lenient_bytes old ≡ []) × (unread_lenient_bytes new ≡ []))
+    (λ item. StartsWithLenientItem F (unread_lenient_bytes old)
+    (lenient_item_model F view_model item) (unread_lenient_bytes new))
 
 -- `items` are all items of the bytes, in order. Either the bytes split into attributes without
 -- remaining bytes: the items are the items of these attributes. Or they split into attributes and
 -- then have a framing error: the items are the items of these attributes, and last the error.
-abbrev pub ItemsAre : (F : AttributeSet) → List ℕ → List (Result (AttributeValue F) Refusal)
+abbrev pub HasLenientItems : (F : AttributeSet) → List ℕ
+    → List (Result (AttributeValue F) RejectionModel)
     → Type 0
-ItemsAre F bytes items = (attributes : List Attribute) × (
-    (Cut bytes attributes [] × (items ≡ map (item_of F) attributes))
-    ⊎ ((e : DecodeError) × CutOff IsFramingFault bytes attributes e
-    × (items ≡ map (item_of F) attributes ++ Err (record { attribute = None; fault = e }) ∷ [])))
+HasLenientItems F bytes items = (attributes : List Attribute) × (
+    (SplitsIntoAttributes bytes attributes [] × (items ≡ map (lenient_item_of F) attributes))
+    ⊎ ((e : DecodeError) × SplitsUntilError IsFramingError bytes attributes e
+    × (items ≡ map (lenient_item_of F) attributes ++ Err (record { attribute = None; fault = e })
+    ∷ [])))

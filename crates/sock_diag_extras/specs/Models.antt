@@ -1,6 +1,6 @@
 -- The models of borrowed values and of iterators. Contracts refer to values by their models.
 use Rattle.std.specs.Prelude.{ℕ, ℤ, List}
-use Rattle.netlink_core.specs.Walk.{bytes_left}
+use Rattle.netlink_core.specs.Walk.{unread_bytes}
 use Rattle.sock_diag_extras.specs.declared.acknowledgement.AckView.{AckView}
 use Rattle.sock_diag_extras.specs.declared.lenient.LenientNlas.{LenientNlas}
 use Rattle.sock_diag_extras.specs.declared.lenient.LenientReply.{LenientReply}
@@ -9,8 +9,8 @@ use Rattle.sock_diag_extras.specs.declared.records.AttributeRecords.{AttributeRe
 use Rattle.sock_diag_extras.specs.declared.tcp_info.TcpInfoBytes.{TcpInfoBytes}
 
 -- The bytes that a lenient iterator over attributes has not parsed yet.
-abbrev pub lenient_left : {V : Type 0} → LenientNlas V → List ℕ
-lenient_left nlas = bytes_left nlas.walk
+abbrev pub unread_lenient_bytes : {V : Type 0} → LenientNlas V → List ℕ
+unread_lenient_bytes nlas = unread_bytes nlas.walk
 
 -- The header of a lenient reply.
 abbrev pub lenient_header : {H : Type 0} → LenientReply H → H
@@ -29,8 +29,8 @@ abbrev pub tcp_info_bytes : TcpInfoBytes → List ℕ
 tcp_info_bytes info = info.bytes.now
 
 -- The bytes that an iterator over records has not parsed yet.
-abbrev pub records_left : {T : Type 0} → AttributeRecords T → List ℕ
-records_left records = records.bytes.now
+abbrev pub unread_record_bytes : {T : Type 0} → AttributeRecords T → List ℕ
+unread_record_bytes records = records.bytes.now
 
 -- The error number of an acknowledgement: 0 or `-errno` (`error` of `struct nlmsgerr`).
 abbrev pub ack_number : AckView → ℤ

@@ -2,23 +2,24 @@
 use Rattle.std.specs.Prelude.{ℕ, List, [], Option, Some, Result}
 use Rattle.netlink_core.specs.declared.fault.DecodeError.{DecodeError}
 use Rattle.netlink_core.specs.Attribute.{Attribute}
-use Rattle.netlink_core.specs.AttributeSet.{decodes}
-use Rattle.netlink_core.specs.Parse.{exact_number}
-use Rattle.attribute_lists.specs.AttributesIn.{values_in}
-use Rattle.sock_diag_families.specs.Found.{first_value, within}
+use Rattle.netlink_core.specs.AttributeSet.{decode_attribute}
+use Rattle.netlink_core.specs.Parse.{number_of_width}
+use Rattle.attribute_lists.specs.AttributesIn.{decoded_in}
+use Rattle.sock_diag_families.specs.Found.{first_value_of_kind, parse_if_present}
 
 -- The attributes that the bytes split into, in order. Only meaningful for bytes without a framing
 -- error.
 abbrev pub attributes_in : List ℕ → List Attribute
-attributes_in = values_in (decodes [])
+attributes_in = decoded_in (decode_attribute [])
 
 -- The value of the first attribute of type `kind` in the bytes. The two flag bits of the type field
 -- are ignored.
 abbrev pub first_in : ℕ → List ℕ → Option (List ℕ)
-first_in kind bytes = first_value kind (attributes_in bytes)
+first_in kind bytes = first_value_of_kind kind (attributes_in bytes)
 
 -- The little-endian number in the first attribute of a type in the bytes. `row` is the attribute
 -- type and the width of the number in bytes. `Ok None` if there is no such attribute, and
 -- WrongLength with the type if its value has another length.
-abbrev pub number_in : ℕ × ℕ → List ℕ → Result (Option ℕ) DecodeError
-number_in row bytes = within (exact_number (Some row.0) row.1) (first_in row.0 bytes)
+abbrev pub nested_number_in : ℕ × ℕ → List ℕ → Result (Option ℕ) DecodeError
+nested_number_in row bytes = parse_if_present (number_of_width (Some row.0) row.1)
+    (first_in row.0 bytes)

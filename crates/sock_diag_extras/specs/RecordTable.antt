@@ -17,14 +17,14 @@ pub record RecordTable (Value : Type 0) : Type 1 where
   pub is_shaped : Value → Type 0
 
 -- Parses the start of bytes that are at least as long as the record.
-abbrev pub value_in : {Value : Type 0} → RecordTable Value → List ℕ → Value
-value_in layout bytes = layout.value (values_of (fields_of layout.rows) bytes)
+abbrev pub parse_by_table : {Value : Type 0} → RecordTable Value → List ℕ → Value
+parse_by_table layout bytes = layout.value (values_of (fields_of layout.rows) bytes)
 
 -- Serializes a value.
-abbrev pub bytes_in : {Value : Type 0} → RecordTable Value → Value → List ℕ
-bytes_in layout value = bytes_of (fields_of layout.rows) (numbers_of layout.rows value)
+abbrev pub bytes_by_table : {Value : Type 0} → RecordTable Value → Value → List ℕ
+bytes_by_table layout value = bytes_of (fields_of layout.rows) (numbers_of layout.rows value)
 
 -- The record as a `Layout` of netlink_core, under a name for errors.
-abbrev pub layout_under : {Value : Type 0} → RecordTable Value → RecordName
+abbrev pub layout_with_name : {Value : Type 0} → RecordTable Value → RecordName
     → Layout (Unit {0}) (Unit {0}) Value
-layout_under layout name = plain name layout.size layout.rows layout.value layout.is_shaped
+layout_with_name layout name = plain name layout.size layout.rows layout.value layout.is_shaped

@@ -1,13 +1,13 @@
 -- Consecutive records in the value of an attribute.
 use Rattle.std.specs.Prelude.{◌≡◌, ◌<◌, ◌≤◌, ℕ, List, length, drop, Option, MatchOption}
-use Rattle.sock_diag_extras.specs.RecordTable.{RecordTable, value_in}
+use Rattle.sock_diag_extras.specs.RecordTable.{RecordTable, parse_by_table}
 
 -- What a call of `next` does: `left` are the bytes left before, `given` is what it returns, and
 -- `later` are the bytes left after. It returns `None` and leaves all bytes if fewer are left than a
 -- record has. Otherwise it returns the record at the start, and leaves the bytes after the record.
-abbrev pub GivesRecord : {Value : Type 0} → RecordTable Value → List ℕ → Option Value → List ℕ
+abbrev pub YieldsRecord : {Value : Type 0} → RecordTable Value → List ℕ → Option Value → List ℕ
     → Type 0
-GivesRecord layout left given later =
+YieldsRecord layout left given later =
     MatchOption given ((length left < layout.size) × (later ≡ left))
-    (λ value. (layout.size ≤ length left) × (value ≡ value_in layout left)
+    (λ value. (layout.size ≤ length left) × (value ≡ parse_by_table layout left)
     × (later ≡ drop layout.size left))

@@ -80,8 +80,8 @@ span_of field.AccecnFailMode = (276, 2)
 span_of field.AccecnOptSeen = (278, 2)
 
 -- The offset of the end of a field: of the byte after it.
-abbrev pub end_of : TcpField → ℕ
-end_of f = (span_of f).0 + (span_of f).1
+abbrev pub end_offset : TcpField → ℕ
+end_offset f = (span_of f).0 + (span_of f).1
 
 -- The field as a field of a record's layout: a byte if it has one byte, else a little-endian
 -- number.
@@ -90,8 +90,8 @@ row_of f =
     if (span_of f).1 == 1 then byte (span_of f).0 else number (span_of f).0 (span_of f).1
 
 -- The value of a field in bytes that contain all of it: a little-endian number.
-abbrev pub value_of : TcpField → List ℕ → ℕ
-value_of f bytes = little_number (span_of f).1 (drop (span_of f).0 bytes)
+abbrev pub tcp_field_value : TcpField → List ℕ → ℕ
+tcp_field_value f bytes = little_number (span_of f).1 (drop (span_of f).0 bytes)
 
 -- The fields of the port's `TcpInfo`, in order: offsets 0 to 231.
 abbrev pub first_fields : List TcpField

@@ -3,17 +3,18 @@
 
 ghost use Rattle.std.specs.Prelude.{◌≡◌, ◌≤◌, ◌<◌, ◌^◌, ◌↔◌, [], length, IfErr, IfOk, IfSome};
 ghost use Rattle.std.specs.Prelude.{IsSome, None, Some, SomeIff, option_map};
-ghost use Rattle.netlink_core.specs.Attribute.{AttributeFault};
-ghost use Rattle.netlink_core.specs.AttributeSet.{decodes};
-ghost use Rattle.netlink_core.specs.Envelope.{leading_number};
+ghost use Rattle.netlink_core.specs.Attribute.{HasAttributeError};
+ghost use Rattle.netlink_core.specs.AttributeSet.{decode_attribute};
+ghost use Rattle.netlink_core.specs.Envelope.{leading_error_number};
 ghost use Rattle.netlink_core.specs.Faults.{map_ok};
 ghost use Rattle.netlink_core.specs.Header.{header_fields, header_values};
-ghost use Rattle.netlink_core.specs.Parse.{exact_number, text_in};
+ghost use Rattle.netlink_core.specs.Parse.{number_of_width, parse_text};
 ghost use Rattle.netlink_core.specs.Table.{values_of};
-ghost use Rattle.sock_diag_families.specs.Found.{within};
-ghost use Rattle.sock_diag_extras.specs.Acknowledgement.{HoldsRequest, attributes_behind};
-ghost use Rattle.sock_diag_extras.specs.Acknowledgement.{error_attributes, request_in};
-ghost use Rattle.sock_diag_extras.specs.Acknowledgement.{request_length};
+ghost use Rattle.sock_diag_families.specs.Found.{parse_if_present};
+ghost use Rattle.sock_diag_extras.specs.Acknowledgement.{HasCompleteRequest};
+ghost use Rattle.sock_diag_extras.specs.Acknowledgement.{ack_attribute_bytes_from};
+ghost use Rattle.sock_diag_extras.specs.Acknowledgement.{error_attribute_bytes};
+ghost use Rattle.sock_diag_extras.specs.Acknowledgement.{acked_request_bytes, acked_request_length};
 ghost use Rattle.sock_diag_extras.specs.Models.{ack_attributes, ack_number, ack_request};
 ghost use Rattle.sock_diag_extras.specs.Models.{nested_bytes};
 ghost use Rattle.sock_diag_extras.specs.Nested.{first_in};
@@ -47,13 +48,13 @@ impl<'a> AckView<'a> {
     /// Returns `None` if there are fewer than 20 bytes, or if the whole request is sent and its
     /// length field is below 16 or past the end of the bytes.
     pub fn of_error(flags: u16, payload: &'a [u8]) -> Option<AckView<'a>>
-        ensures held { IsSome result ↔ HoldsRequest flags payload.entry.now }
+        ensures held { IsSome result ↔ HasCompleteRequest flags payload.entry.now }
         ensures number { IfSome result (λ ack.
-            leading_number payload.entry.now ≡ Some (ack_number ack)) }
+            leading_error_number payload.entry.now ≡ Some (ack_number ack)) }
         ensures request { IfSome result (λ ack.
-            ack_request ack ≡ request_in flags payload.entry.now) }
+            ack_request ack ≡ acked_request_bytes flags payload.entry.now) }
         ensures attributes { IfSome result (λ ack.
-            ack_attributes ack ≡ error_attributes flags payload.entry.now) }
+            ack_attributes ack ≡ error_attribute_bytes flags payload.entry.now) }
     {
         if payload.len() < 4 + NETLINK_HEADER_LEN {
             return None;
@@ -74,10 +75,10 @@ impl<'a> AckView<'a> {
     /// attributes, if the flags have `NLM_F_ACK_TLVS`. Returns `None` if there are fewer than four
     /// bytes.
     pub fn of_done(flags: u16, payload: &'a [u8]) -> Option<AckView<'a>>
-        ensures number { option_map ack_number result ≡ leading_number payload.entry.now }
+        ensures number { option_map ack_number result ≡ leading_error_number payload.entry.now }
         ensures request { IfSome result (λ ack. ack_request ack ≡ []) }
         ensures attributes { IfSome result (λ ack.
-            ack_attributes ack ≡ attributes_behind flags 4 payload.entry.now) }
+            ack_attributes ack ≡ ack_attribute_bytes_from flags 4 payload.entry.now) }
     {
         Some(AckView {
             number: error_number(payload)?,
@@ -122,7 +123,8 @@ impl<'a> AckView<'a> {
     /// Returns the attributes `NLMSGERR_ATTR_..`, or their first framing error.
     pub fn attributes(&self) -> Result<AckAttributes<'a>, DecodeError>
         ensures kept { IfOk result (λ told. nested_bytes told.0 ≡ ack_attributes self.now) }
-        ensures fault { IfErr result (AttributeFault (decodes []) (ack_attributes self.now)) }
+        ensures fault { IfErr result (HasAttributeError (decode_attribute [])
+            (ack_attributes self.now)) }
     {
         Ok(AckAttributes(NestedNlas::parse(self.attributes)?))
     }
@@ -138,7 +140,7 @@ impl<'a> AckAttributes<'a> {
     /// `NotUtf8`.
     pub fn message(&self) -> Result<Option<&'a str>, DecodeError>
         ensures { map_ok (option_map (λ text. text.now)) result
-            ≡ within text_in (first_in NLMSGERR_ATTR_MSG (nested_bytes self.now.0)) }
+            ≡ parse_if_present parse_text (first_in NLMSGERR_ATTR_MSG (nested_bytes self.now.0)) }
     {
         self.0.text_of(NLMSGERR_ATTR_MSG)
     }
@@ -147,7 +149,8 @@ impl<'a> AckAttributes<'a> {
     /// header, `NLMSGERR_ATTR_OFFS`. A length other than 4 is `WrongLength`.
     pub fn offset(&self) -> Result<Option<u32>, DecodeError>
         ensures { result
-            ≡ within (exact_number None 4) (first_in NLMSGERR_ATTR_OFFS (nested_bytes self.now.0)) }
+            ≡ parse_if_present (number_of_width None 4)
+            (first_in NLMSGERR_ATTR_OFFS (nested_bytes self.now.0)) }
     {
         self.0.word_of(NLMSGERR_ATTR_OFFS)
     }
@@ -173,7 +176,7 @@ impl<'a> AckAttributes<'a> {
     /// length other than 4 is `WrongLength`.
     pub fn missing_kind(&self) -> Result<Option<u32>, DecodeError>
         ensures { result
-            ≡ within (exact_number None 4)
+            ≡ parse_if_present (number_of_width None 4)
             (first_in NLMSGERR_ATTR_MISS_TYPE (nested_bytes self.now.0)) }
     {
         self.0.word_of(NLMSGERR_ATTR_MISS_TYPE)
@@ -184,7 +187,7 @@ impl<'a> AckAttributes<'a> {
     /// missing in the message itself. A length other than 4 is `WrongLength`.
     pub fn missing_nest(&self) -> Result<Option<u32>, DecodeError>
         ensures { result
-            ≡ within (exact_number None 4)
+            ≡ parse_if_present (number_of_width None 4)
             (first_in NLMSGERR_ATTR_MISS_NEST (nested_bytes self.now.0)) }
     {
         self.0.word_of(NLMSGERR_ATTR_MISS_NEST)
@@ -194,7 +197,7 @@ impl<'a> AckAttributes<'a> {
 // Returns the length of the request in an `NLMSG_ERROR` payload, in bytes.
 fn held_length(flags: u16, payload: &[u8]) -> usize
     requires { 20 ≤ length payload.now }
-    ensures length { result ≡ request_length flags payload.now }
+    ensures length { result ≡ acked_request_length flags payload.now }
     ensures small { result < 2 ^ 32 }
 {
     if flags & NLM_F_CAPPED == 0 && LittleEndian::read_u32(payload) != 0 {
@@ -207,7 +210,7 @@ fn held_length(flags: u16, payload: &[u8]) -> usize
 // Returns the bytes of the attributes, from offset `front` on, or none if the flags lack
 // `NLM_F_ACK_TLVS`.
 fn told_behind(flags: u16, front: usize, payload: &[u8]) -> &[u8]
-    ensures { result.now ≡ attributes_behind flags front payload.entry.now }
+    ensures { result.now ≡ ack_attribute_bytes_from flags front payload.entry.now }
 {
     if flags & NLM_F_ACK_TLVS == 0 {
         return &[];

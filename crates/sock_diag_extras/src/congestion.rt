@@ -5,7 +5,7 @@
 ghost use Rattle.std.specs.Prelude.{refl};
 ghost use Rattle.netlink_core.proofs.LayoutLaws.{plain_sound, record_laws};
 ghost use Rattle.sock_diag_extras.specs.Congestion.{bbr_info, dctcp_info, vegas_info};
-ghost use Rattle.sock_diag_extras.specs.RecordTable.{layout_under};
+ghost use Rattle.sock_diag_extras.specs.RecordTable.{layout_with_name};
 
 use crate::record::AttributeRecord;
 use byteorder::{ByteOrder, LittleEndian};
@@ -47,7 +47,8 @@ impl AttributeRecord for VegasInfo {
         LittleEndian::write_u32_into(&words, buffer);
     }
 
-    ghost laws = { λ name. record_laws (layout_under vegas_info name) (plain_sound refl (λ _. refl)
+    ghost laws = { λ name. record_laws (layout_with_name vegas_info name)
+        (plain_sound refl (λ _. refl)
         (λ _. refl) (λ _. tt) (λ _ _. refl)) };
 }
 
@@ -93,7 +94,8 @@ impl AttributeRecord for DctcpInfo {
         LittleEndian::write_u32_into(&numbers, words);
     }
 
-    ghost laws = { λ name. record_laws (layout_under dctcp_info name) (plain_sound refl (λ _. refl)
+    ghost laws = { λ name. record_laws (layout_with_name dctcp_info name)
+        (plain_sound refl (λ _. refl)
         (λ _. refl) (λ _. tt) (λ _ _. refl)) };
 }
 
@@ -137,6 +139,7 @@ impl AttributeRecord for BbrInfo {
         LittleEndian::write_u32_into(&numbers, words);
     }
 
-    ghost laws = { λ name. record_laws (layout_under bbr_info name) (plain_sound refl (λ _. refl)
+    ghost laws = { λ name. record_laws (layout_with_name bbr_info name)
+        (plain_sound refl (λ _. refl)
         (λ _. refl) (λ _. tt) (λ _ _. refl)) };
 }

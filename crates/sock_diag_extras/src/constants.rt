@@ -4,7 +4,7 @@
 //! these headers.
 
 ghost use Rattle.std.specs.Prelude.{[], ◌∷◌};
-ghost use Rattle.sock_diag_records.specs.Constants.{AreEqual};
+ghost use Rattle.sock_diag_records.specs.Constants.{PairsAreEqual};
 
 pub use netlink_core::{
     NLM_F_ACK, NLM_F_ACK_TLVS, NLM_F_ATOMIC, NLM_F_CAPPED, NLM_F_DUMP_FILTERED, NLM_F_DUMP_INTR,
@@ -280,42 +280,42 @@ pub const TCP_BOUND_INACTIVE: u8 = 13;
 /// States the numeric value of each constant of this module. Proof only: the contract states the
 /// property.
 pub fn extra_constants_have_their_numbers()
-    ensures extra_attributes { AreEqual ((INET_DIAG_ULP_INFO, 19) ∷
+    ensures extra_attributes { PairsAreEqual ((INET_DIAG_ULP_INFO, 19) ∷
         (INET_DIAG_SK_BPF_STORAGES, 20) ∷ (INET_DIAG_CGROUP_ID, 21) ∷
         (INET_DIAG_SOCKOPT, 22) ∷ (UNIX_DIAG_UID, 7) ∷ (UDIAG_SHOW_UID, 64) ∷ []) }
-    ensures upper_protocols { AreEqual ((INET_ULP_INFO_UNSPEC, 0) ∷ (INET_ULP_INFO_NAME, 1)
+    ensures upper_protocols { PairsAreEqual ((INET_ULP_INFO_UNSPEC, 0) ∷ (INET_ULP_INFO_NAME, 1)
         ∷ (INET_ULP_INFO_TLS, 2) ∷ (INET_ULP_INFO_MPTCP, 3) ∷ []) }
-    ensures upper_tls { AreEqual ((TLS_INFO_UNSPEC, 0) ∷ (TLS_INFO_VERSION, 1) ∷
+    ensures upper_tls { PairsAreEqual ((TLS_INFO_UNSPEC, 0) ∷ (TLS_INFO_VERSION, 1) ∷
         (TLS_INFO_CIPHER, 2) ∷ (TLS_INFO_TXCONF, 3) ∷ (TLS_INFO_RXCONF, 4) ∷
         (TLS_INFO_ZC_RO_TX, 5) ∷ (TLS_INFO_RX_NO_PAD, 6) ∷ []) }
-    ensures upper_mptcp { AreEqual ((MPTCP_SUBFLOW_ATTR_UNSPEC, 0) ∷
+    ensures upper_mptcp { PairsAreEqual ((MPTCP_SUBFLOW_ATTR_UNSPEC, 0) ∷
         (MPTCP_SUBFLOW_ATTR_TOKEN_REM, 1) ∷ (MPTCP_SUBFLOW_ATTR_TOKEN_LOC, 2) ∷
         (MPTCP_SUBFLOW_ATTR_RELWRITE_SEQ, 3) ∷ (MPTCP_SUBFLOW_ATTR_MAP_SEQ, 4) ∷
         (MPTCP_SUBFLOW_ATTR_MAP_SFSEQ, 5) ∷ (MPTCP_SUBFLOW_ATTR_SSN_OFFSET, 6) ∷
         (MPTCP_SUBFLOW_ATTR_MAP_DATALEN, 7) ∷ (MPTCP_SUBFLOW_ATTR_FLAGS, 8) ∷
         (MPTCP_SUBFLOW_ATTR_ID_REM, 9) ∷ (MPTCP_SUBFLOW_ATTR_ID_LOC, 10) ∷
         (MPTCP_SUBFLOW_ATTR_PAD, 11) ∷ []) }
-    ensures filters { AreEqual ((INET_DIAG_BC_NOP, 0) ∷ (INET_DIAG_BC_JMP, 1) ∷
+    ensures filters { PairsAreEqual ((INET_DIAG_BC_NOP, 0) ∷ (INET_DIAG_BC_JMP, 1) ∷
         (INET_DIAG_BC_S_GE, 2) ∷ (INET_DIAG_BC_S_LE, 3) ∷ (INET_DIAG_BC_D_GE, 4) ∷
         (INET_DIAG_BC_D_LE, 5) ∷ (INET_DIAG_BC_AUTO, 6) ∷ (INET_DIAG_BC_S_COND, 7) ∷
         (INET_DIAG_BC_D_COND, 8) ∷ (INET_DIAG_BC_DEV_COND, 9) ∷ (INET_DIAG_BC_MARK_COND, 10)
         ∷ (INET_DIAG_BC_S_EQ, 11) ∷ (INET_DIAG_BC_D_EQ, 12) ∷ (INET_DIAG_BC_CGROUP_COND, 13)
         ∷ []) }
-    ensures memory_words { AreEqual ((SK_MEMINFO_RMEM_ALLOC, 0) ∷ (SK_MEMINFO_RCVBUF, 1) ∷
+    ensures memory_words { PairsAreEqual ((SK_MEMINFO_RMEM_ALLOC, 0) ∷ (SK_MEMINFO_RCVBUF, 1) ∷
         (SK_MEMINFO_WMEM_ALLOC, 2) ∷ (SK_MEMINFO_SNDBUF, 3) ∷ (SK_MEMINFO_FWD_ALLOC, 4) ∷
         (SK_MEMINFO_WMEM_QUEUED, 5) ∷ (SK_MEMINFO_OPTMEM, 6) ∷ (SK_MEMINFO_BACKLOG, 7) ∷
         (SK_MEMINFO_DROPS, 8) ∷ []) }
-    ensures storages { AreEqual ((SK_DIAG_BPF_STORAGE_REQ_MAP_FD, 1) ∷
+    ensures storages { PairsAreEqual ((SK_DIAG_BPF_STORAGE_REQ_MAP_FD, 1) ∷
         (SK_DIAG_BPF_STORAGE, 1) ∷ (SK_DIAG_BPF_STORAGE_PAD, 1) ∷
         (SK_DIAG_BPF_STORAGE_MAP_ID, 2) ∷ (SK_DIAG_BPF_STORAGE_MAP_VALUE, 3) ∷ []) }
-    ensures groups { AreEqual ((SKNLGRP_NONE, 0) ∷ (SKNLGRP_INET_TCP_DESTROY, 1) ∷
+    ensures groups { PairsAreEqual ((SKNLGRP_NONE, 0) ∷ (SKNLGRP_INET_TCP_DESTROY, 1) ∷
         (SKNLGRP_INET_UDP_DESTROY, 2) ∷ (SKNLGRP_INET6_TCP_DESTROY, 3) ∷
         (SKNLGRP_INET6_UDP_DESTROY, 4) ∷ []) }
-    ensures error_attributes { AreEqual ((NLMSGERR_ATTR_UNUSED, 0) ∷ (NLMSGERR_ATTR_MSG, 1)
+    ensures error_attributes { PairsAreEqual ((NLMSGERR_ATTR_UNUSED, 0) ∷ (NLMSGERR_ATTR_MSG, 1)
         ∷ (NLMSGERR_ATTR_OFFS, 2) ∷ (NLMSGERR_ATTR_COOKIE, 3) ∷ (NLMSGERR_ATTR_POLICY, 4) ∷
         (NLMSGERR_ATTR_MISS_TYPE, 5) ∷ (NLMSGERR_ATTR_MISS_NEST, 6) ∷ []) }
-    ensures sockets { AreEqual ((NETLINK_SOCK_DIAG, 4) ∷ (NETLINK_CAP_ACK, 10) ∷
+    ensures sockets { PairsAreEqual ((NETLINK_SOCK_DIAG, 4) ∷ (NETLINK_CAP_ACK, 10) ∷
         (NETLINK_EXT_ACK, 11) ∷ (NETLINK_GET_STRICT_CHK, 12) ∷ (NLMSG_MIN_TYPE, 16) ∷ []) }
-    ensures connections { AreEqual ((TCPI_OPT_USEC_TS, 64) ∷ (TCPI_OPT_TFO_CHILD, 128) ∷
+    ensures connections { PairsAreEqual ((TCPI_OPT_USEC_TS, 64) ∷ (TCPI_OPT_TFO_CHILD, 128) ∷
         (TCP_NEW_SYN_RECV, 12) ∷ (TCP_BOUND_INACTIVE, 13) ∷ []) }
 {}

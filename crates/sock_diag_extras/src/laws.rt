@@ -5,25 +5,26 @@ ghost use Rattle.std.specs.Prelude.{◌≡◌, ◌↔◌, ℕ, List, [], ◌∷�
 ghost use Rattle.std.specs.Prelude.{Result, Ok, Err};
 ghost use Rattle.std.specs.Prelude.{IfErr, IfOk, IsOk, IsTrue, MatchOption};
 ghost use Rattle.std.specs.Iterator.{Drains};
-ghost use Rattle.netlink_core.specs.Attribute.{AttributesMean};
-ghost use Rattle.netlink_core.specs.AttributeSet.{decodes};
-ghost use Rattle.netlink_core.specs.Layout.{read};
-ghost use Rattle.netlink_core.specs.Layout.{table};
-ghost use Rattle.attribute_lists.specs.AttributesIn.{HasNoFault, values_in};
+ghost use Rattle.netlink_core.specs.Attribute.{DecodeTo};
+ghost use Rattle.netlink_core.specs.AttributeSet.{decode_attribute};
+ghost use Rattle.netlink_core.specs.Layout.{parse_record};
+ghost use Rattle.netlink_core.specs.Layout.{tag_fields};
+ghost use Rattle.attribute_lists.specs.AttributesIn.{HasNoAttributeError, decoded_in};
 ghost use Rattle.sock_diag_values.specs.TcpInfo.{tcp_info};
 ghost use Rattle.sock_diag_records.specs.InetResponse.{inet_response_header};
 ghost use Rattle.sock_diag_records.specs.UnixResponseHeader.{unix_response_header};
-ghost use Rattle.sock_diag_attributes.specs.InetAttributes.{inet};
-ghost use Rattle.sock_diag_attributes.specs.InetModel.{nla_view_model as inet_view_model};
-ghost use Rattle.sock_diag_attributes.specs.UnixAttributes.{unix};
-ghost use Rattle.sock_diag_attributes.specs.UnixModel.{nla_view_model as unix_view_model};
-ghost use Rattle.sock_diag_extras.specs.Lenient.{FrontIs, GivesLeniently, ItemsAre, model};
-ghost use Rattle.sock_diag_extras.specs.Lenient.{refusal_of};
+ghost use Rattle.sock_diag_attributes.specs.InetAttributes.{inet_attribute_set};
+ghost use Rattle.sock_diag_attributes.specs.InetModel.{inet_nla_view_model as inet_view_model};
+ghost use Rattle.sock_diag_attributes.specs.UnixAttributes.{unix_attribute_set};
+ghost use Rattle.sock_diag_attributes.specs.UnixModel.{unix_nla_view_model as unix_view_model};
+ghost use Rattle.sock_diag_extras.specs.Lenient.{StartsWithLenientItem, YieldsLenientItem};
+ghost use Rattle.sock_diag_extras.specs.Lenient.{HasLenientItems, lenient_item_model};
+ghost use Rattle.sock_diag_extras.specs.Lenient.{rejection_model};
 ghost use Rattle.sock_diag_extras.specs.Models.{ack_attributes, ack_number, ack_request};
-ghost use Rattle.sock_diag_extras.specs.Models.{lenient_bytes, lenient_header, lenient_left};
-ghost use Rattle.sock_diag_extras.specs.Models.{nested_bytes, tcp_info_bytes};
+ghost use Rattle.sock_diag_extras.specs.Models.{lenient_bytes, lenient_header};
+ghost use Rattle.sock_diag_extras.specs.Models.{unread_lenient_bytes, nested_bytes, tcp_info_bytes};
 ghost use Rattle.sock_diag_extras.specs.TcpFields.{first_fields, later_fields};
-ghost use Rattle.sock_diag_extras.specs.TcpFields.{end_of, row_of, span_of};
+ghost use Rattle.sock_diag_extras.specs.TcpFields.{end_offset, row_of, span_of};
 ghost use Rattle.sock_diag_extras.specs.declared.lenient.LenientNlas.{LenientNlas};
 ghost use Rattle.sock_diag_extras.specs.declared.lenient.Refused.{Refused};
 
@@ -42,9 +43,9 @@ use std::alloc::AllocError;
 /// split into, in order, its value or its error; and last the framing error, if there is one.
 pub fn whole_lenient_walk<'a, V: FamilyView<'a>>()
     ensures items { (walk : LenientNlas V) (given : List (Result V Refused))
-        → Drains (GivesLeniently V.attribute_set V.model) walk given
-        → ItemsAre V.attribute_set (lenient_left walk)
-        (map (model V.attribute_set V.model) given) }
+        → Drains (YieldsLenientItem V.attribute_set V.model) walk given
+        → HasLenientItems V.attribute_set (unread_lenient_bytes walk)
+        (map (lenient_item_model V.attribute_set V.model) given) }
 {}
 
 /// States that a `LenientNlas` agrees with the strict views. If the bytes have no error, it yields
@@ -52,21 +53,22 @@ pub fn whole_lenient_walk<'a, V: FamilyView<'a>>()
 /// yields.
 pub fn lenient_walk_of_good_bytes<'a, V: FamilyView<'a>>()
     ensures strict { (walk : LenientNlas V) (given : List (Result V Refused))
-        → HasNoFault (decodes V.attribute_set) (lenient_left walk)
-        → Drains (GivesLeniently V.attribute_set V.model) walk given
-        → map (model V.attribute_set V.model) given
-        ≡ map Ok (values_in (decodes V.attribute_set) (lenient_left walk)) }
+        → HasNoAttributeError (decode_attribute V.attribute_set) (unread_lenient_bytes walk)
+        → Drains (YieldsLenientItem V.attribute_set V.model) walk given
+        → map (lenient_item_model V.attribute_set V.model) given
+        ≡ map Ok (decoded_in (decode_attribute V.attribute_set) (unread_lenient_bytes walk)) }
     ensures accepted { (walk : LenientNlas V) (views : List V)
-        → Drains (GivesLeniently V.attribute_set V.model) walk (map Ok views)
-        → AttributesMean (decodes V.attribute_set) (lenient_left walk) (map V.model views) }
+        → Drains (YieldsLenientItem V.attribute_set V.model) walk (map Ok views)
+        → DecodeTo (decode_attribute V.attribute_set) (unread_lenient_bytes walk)
+        (map V.model views) }
 {}
 
 /// States that the first fields are the fields of the port's `TcpInfo`, in order, and that the
 /// later fields follow them without gaps, from offset 232 to the end at 280.
 pub fn tcp_fields_are_rows()
-    ensures first { map row_of first_fields ≡ table tcp_info tt }
+    ensures first { map row_of first_fields ≡ tag_fields tcp_info tt }
     ensures later { map (λ f. (span_of f).0) later_fields ++ 280 ∷ []
-        ≡ 232 ∷ map end_of later_fields }
+        ≡ 232 ∷ map end_offset later_fields }
 {}
 
 /// States that a lenient reply about an IPv4 or IPv6 socket has the header of these replies,
@@ -74,9 +76,10 @@ pub fn tcp_fields_are_rows()
 #[tactic(auto, unfolding(sock_diag_records::specs::InetResponse::inet_response_header))]
 pub fn lenient_inet_header<'a>(bytes: &'a [u8]) -> Result<LenientInetReply<'a>, DecodeError>
     ensures header { IfOk result (λ lenient.
-        read inet_response_header tt bytes.entry.now ≡ Ok (lenient_header lenient)) }
+        parse_record inet_response_header tt bytes.entry.now ≡ Ok (lenient_header lenient)) }
     ensures attributes { IfOk result (λ lenient. lenient_bytes lenient ≡ drop 72 bytes.entry.now) }
-    ensures fault { IfErr result (λ e. read inet_response_header tt bytes.entry.now ≡ Err e) }
+    ensures fault { IfErr result (λ e. parse_record inet_response_header tt bytes.entry.now
+        ≡ Err e) }
 {
     LenientReply::parse(bytes)
 }
@@ -87,7 +90,8 @@ pub fn lenient_inet_attribute<'a>(
     reply: &LenientInetReply<'a>,
 ) -> Option<Result<InetNlaView<'a>, Refused<'a>>>
     ensures { MatchOption result (lenient_bytes reply.now ≡ []) (λ item. (later : List ℕ)
-        × FrontIs inet (lenient_bytes reply.now) (model inet inet_view_model item) later) }
+        × StartsWithLenientItem inet_attribute_set (lenient_bytes reply.now)
+        (lenient_item_model inet_attribute_set inet_view_model item) later) }
 {
     reply.attributes().next()
 }
@@ -96,9 +100,10 @@ pub fn lenient_inet_attribute<'a>(
 /// and that its attributes follow the 16 bytes of the header.
 pub fn lenient_unix_header<'a>(bytes: &'a [u8]) -> Result<LenientUnixReply<'a>, DecodeError>
     ensures header { IfOk result (λ lenient.
-        read unix_response_header tt bytes.entry.now ≡ Ok (lenient_header lenient)) }
+        parse_record unix_response_header tt bytes.entry.now ≡ Ok (lenient_header lenient)) }
     ensures attributes { IfOk result (λ lenient. lenient_bytes lenient ≡ drop 16 bytes.entry.now) }
-    ensures fault { IfErr result (λ e. read unix_response_header tt bytes.entry.now ≡ Err e) }
+    ensures fault { IfErr result (λ e. parse_record unix_response_header tt bytes.entry.now
+        ≡ Err e) }
 {
     LenientReply::parse(bytes)
 }
@@ -109,7 +114,8 @@ pub fn lenient_unix_attribute<'a>(
     reply: &LenientUnixReply<'a>,
 ) -> Option<Result<UnixNlaView<'a>, Refused<'a>>>
     ensures { MatchOption result (lenient_bytes reply.now ≡ []) (λ item. (later : List ℕ)
-        × FrontIs unix (lenient_bytes reply.now) (model unix unix_view_model item) later) }
+        × StartsWithLenientItem unix_attribute_set (lenient_bytes reply.now)
+        (lenient_item_model unix_attribute_set unix_view_model item) later) }
 {
     reply.attributes().next()
 }
@@ -117,7 +123,7 @@ pub fn lenient_unix_attribute<'a>(
 /// States that a copy has the same attribute and the same error, and that `clone` never fails.
 pub fn copied_refused<'a>(refused: &Refused<'a>) -> Result<Refused<'a>, AllocError>
     ensures ok { IsOk result }
-    ensures same { IfOk result (λ copy. refusal_of copy ≡ refusal_of refused.now) }
+    ensures same { IfOk result (λ copy. rejection_model copy ≡ rejection_model refused.now) }
 {
     refused.clone()
 }

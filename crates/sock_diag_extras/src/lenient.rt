@@ -5,10 +5,11 @@ ghost use Rattle.std.specs.Prelude.{◌≡◌, ◌+◌, ◌/◌, Ok, Err, IfOk, 
 ghost use Rattle.std.specs.Prelude.{option_map};
 ghost use Rattle.std.specs.Iterator.{UpTo, at_most};
 ghost use Rattle.std.specs.Iterator.SizeHint.{IsWithinCount};
-ghost use Rattle.netlink_core.specs.Attribute.{attribute_type};
-ghost use Rattle.netlink_core.specs.Layout.{read};
-ghost use Rattle.netlink_core.specs.Walk.{attribute_of};
-ghost use Rattle.sock_diag_extras.specs.Models.{lenient_bytes, lenient_header, lenient_left};
+ghost use Rattle.netlink_core.specs.Attribute.{attribute_kind};
+ghost use Rattle.netlink_core.specs.Layout.{parse_record};
+ghost use Rattle.netlink_core.specs.Walk.{buffered_attribute};
+ghost use Rattle.sock_diag_extras.specs.Models.{lenient_bytes, lenient_header};
+ghost use Rattle.sock_diag_extras.specs.Models.{unread_lenient_bytes};
 
 use netlink_core::{DecodeError, FamilyView, NlaBuffer, NlasIterator, Record, read_record};
 use sock_diag_attributes::inet::nlas::NlaView as InetNlaView;
@@ -27,11 +28,11 @@ pub enum Refused<'a> {
 }
 
 impl<'a> Refused<'a> {
-    ghost use Rattle.sock_diag_extras.specs.Lenient.{refusal_of};
+    ghost use Rattle.sock_diag_extras.specs.Lenient.{rejection_model};
 
     /// Returns the error.
     pub fn fault(&self) -> DecodeError
-        ensures { result ≡ (refusal_of self.now).fault }
+        ensures { result ≡ (rejection_model self.now).fault }
     {
         match self {
             Refused::Attribute(_, fault) | Refused::Framing(fault) => *fault,
@@ -41,7 +42,7 @@ impl<'a> Refused<'a> {
     /// Returns the rejected attribute: `kind()` is its type field without the two flag bits, and
     /// `value()` its bytes. Returns `None` for a framing error.
     pub fn attribute(&self) -> Option<NlaBuffer<'a>>
-        ensures { option_map attribute_of result ≡ (refusal_of self.now).attribute }
+        ensures { option_map buffered_attribute result ≡ (rejection_model self.now).attribute }
     {
         match self {
             Refused::Attribute(nla, _) => Some(*nla),
@@ -51,7 +52,7 @@ impl<'a> Refused<'a> {
 
     /// Returns the kind of the rejected attribute, or `None` for a framing error.
     pub fn kind(&self) -> Option<u16>
-        ensures { result ≡ option_map attribute_type (refusal_of self.now).attribute }
+        ensures { result ≡ option_map attribute_kind (rejection_model self.now).attribute }
     {
         match self {
             Refused::Attribute(nla, _) => Some(nla.kind()),
@@ -73,7 +74,7 @@ pub struct LenientNlas<'a, V> {
 impl<'a, V> LenientNlas<'a, V> {
     /// Returns an iterator over the attributes in the bytes.
     pub fn new(bytes: &'a [u8]) -> LenientNlas<'a, V>
-        ensures { lenient_left result ≡ bytes.entry.now }
+        ensures { unread_lenient_bytes result ≡ bytes.entry.now }
     {
         LenientNlas {
             walk: NlasIterator::new(bytes),
@@ -83,17 +84,17 @@ impl<'a, V> LenientNlas<'a, V> {
 }
 
 impl<'a, V: FamilyView<'a>> Iterator for LenientNlas<'a, V> {
-    ghost use Rattle.sock_diag_extras.specs.Lenient.{GivesLeniently};
+    ghost use Rattle.sock_diag_extras.specs.Lenient.{YieldsLenientItem};
 
     type Item = Result<V, Refused<'a>>;
 
     // `next` yields the value of the first attribute in the bytes left, or its error, and leaves
     // the bytes after its padding. If no attribute is there, it yields the framing error, and
     // leaves no bytes.
-    ghost next_gives = { GivesLeniently V.attribute_set V.model };
+    ghost next_gives = { YieldsLenientItem V.attribute_set V.model };
 
     // At most one item for each four bytes, rounded up.
-    ghost remaining = { λ nlas. at_most ((length (lenient_left nlas) + 3) / 4) };
+    ghost remaining = { λ nlas. at_most ((length (unread_lenient_bytes nlas) + 3) / 4) };
 
     #[inline(always)]
     fn next(&mut self) -> Option<Result<V, Refused<'a>>> {
@@ -110,9 +111,9 @@ impl<'a, V: FamilyView<'a>> Iterator for LenientNlas<'a, V> {
     /// Returns `(0, None)`: the number of attributes left is not computed in advance.
     fn size_hint(&self) -> (usize, Option<usize>)
         ensures lower { IsWithinCount result.0
-            (at_most ((length (lenient_left self.now) + 3) / 4)) }
+            (at_most ((length (unread_lenient_bytes self.now) + 3) / 4)) }
         ensures upper { IfSome result.1
-            (UpTo (at_most ((length (lenient_left self.now) + 3) / 4))) }
+            (UpTo (at_most ((length (unread_lenient_bytes self.now) + 3) / 4))) }
         ensures unknown { result ≡ (0, None) }
     {
         (0, None)
@@ -156,13 +157,14 @@ pub type LenientUnixReply<'a> = LenientReply<'a, UnixResponseHeader>;
 impl<'a, H: LenientHeader<'a>> LenientReply<'a, H> {
     /// Parses the header. The attributes are not parsed until they are iterated over. It does not
     /// allocate.
-    #[tactic(auto, using(netlink_core::proofs::LayoutLaws::accepted))]
+    #[tactic(auto, using(netlink_core::proofs::LayoutLaws::parsed_by_fields))]
     pub fn parse(bytes: &'a [u8]) -> Result<LenientReply<'a, H>, DecodeError>
         ensures header { IfOk result (λ lenient.
-            read H.layout tt bytes.entry.now ≡ Ok (lenient_header lenient)) }
+            parse_record H.layout tt bytes.entry.now ≡ Ok (lenient_header lenient)) }
         ensures behind { IfOk result (λ lenient.
             lenient_bytes lenient ≡ drop H.layout.least bytes.entry.now) }
-        ensures fault { IfErr result (λ fault. read H.layout tt bytes.entry.now ≡ Err fault) }
+        ensures fault { IfErr result (λ fault. parse_record H.layout tt bytes.entry.now
+            ≡ Err fault) }
     {
         let header = read_record::<H>(bytes, ())?;
         let (_, least) = H::name_and_least();
@@ -179,7 +181,7 @@ impl<'a, H: LenientHeader<'a>> LenientReply<'a, H> {
 
     /// Returns an iterator over the attributes, in order. It yields the view or the error of each.
     pub fn attributes(&self) -> LenientNlas<'a, H::View>
-        ensures { lenient_left result ≡ lenient_bytes self.now }
+        ensures { unread_lenient_bytes result ≡ lenient_bytes self.now }
     {
         LenientNlas::new(self.bytes)
     }

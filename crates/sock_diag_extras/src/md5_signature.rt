@@ -1,10 +1,10 @@
 //! The MD5 keys that a TCP socket signs segments with: INET_DIAG_MD5SIG.
 
 ghost use Rattle.std.specs.Prelude.{refl};
-ghost use Rattle.netlink_core.proofs.FieldReads.{first_all};
+ghost use Rattle.netlink_core.proofs.FieldReads.{first_numbers_are_all};
 ghost use Rattle.netlink_core.proofs.LayoutLaws.{plain_sound, record_laws};
 ghost use Rattle.sock_diag_extras.specs.Md5Signature.{md5_signature};
-ghost use Rattle.sock_diag_extras.specs.RecordTable.{layout_under};
+ghost use Rattle.sock_diag_extras.specs.RecordTable.{layout_with_name};
 
 use crate::record::AttributeRecord;
 use byteorder::{ByteOrder, LittleEndian};
@@ -55,9 +55,9 @@ impl AttributeRecord for Md5Signature {
         key.copy_from_slice(&self.key);
     }
 
-    ghost laws = { λ name. record_laws (layout_under md5_signature name) (plain_sound refl
+    ghost laws = { λ name. record_laws (layout_with_name md5_signature name) (plain_sound refl
         (λ _. refl) (λ _. refl) (λ _. (refl, refl)) (λ v shaped.
-        let address = first_all 16 v.address shaped.0 in
-        let key = first_all 80 v.key shaped.1 in
+        let address = first_numbers_are_all 16 v.address shaped.0 in
+        let key = first_numbers_are_all 80 v.key shaped.1 in
         λ i. record v { address = address i; key = key i })) };
 }

@@ -2,14 +2,14 @@
 //! kind.
 
 ghost use Rattle.std.specs.Prelude.{◌≡◌, ◌≤◌, ℕ, List, [], IfErr, IfOk, None, Some, option_map};
-ghost use Rattle.netlink_core.specs.Attribute.{AttributeFault};
-ghost use Rattle.netlink_core.specs.AttributeSet.{decodes};
+ghost use Rattle.netlink_core.specs.Attribute.{HasAttributeError};
+ghost use Rattle.netlink_core.specs.AttributeSet.{decode_attribute};
 ghost use Rattle.netlink_core.specs.Faults.{map_ok};
-ghost use Rattle.netlink_core.specs.Parse.{exact_number, text_in};
-ghost use Rattle.netlink_core.specs.Walk.{bytes_left};
-ghost use Rattle.attribute_lists.specs.AttributesIn.{HasNoFault};
-ghost use Rattle.sock_diag_families.specs.Found.{within};
-ghost use Rattle.sock_diag_extras.specs.Nested.{first_in, number_in};
+ghost use Rattle.netlink_core.specs.Parse.{number_of_width, parse_text};
+ghost use Rattle.netlink_core.specs.Walk.{unread_bytes};
+ghost use Rattle.attribute_lists.specs.AttributesIn.{HasNoAttributeError};
+ghost use Rattle.sock_diag_families.specs.Found.{parse_if_present};
+ghost use Rattle.sock_diag_extras.specs.Nested.{first_in, nested_number_in};
 
 use attribute_lists::{check_nlas, next_view};
 use byteorder::{ByteOrder, LittleEndian};
@@ -22,7 +22,7 @@ use sock_diag_families::WholeNla;
 pub struct NestedNlas<'a> {
     bytes: &'a [u8],
     // The bytes have no framing error.
-    ghost framed: { HasNoFault (decodes []) bytes.now },
+    ghost framed: { HasNoAttributeError (decode_attribute []) bytes.now },
 }
 
 impl<'a> NestedNlas<'a> {
@@ -32,7 +32,7 @@ impl<'a> NestedNlas<'a> {
     /// values are not parsed.
     pub fn parse(bytes: &'a [u8]) -> Result<NestedNlas<'a>, DecodeError>
         ensures kept { IfOk result (λ nested. nested_bytes nested ≡ bytes.entry.now) }
-        ensures fault { IfErr result (AttributeFault (decodes []) bytes.entry.now) }
+        ensures fault { IfErr result (HasAttributeError (decode_attribute []) bytes.entry.now) }
     {
         let _count = check_nlas::<WholeNla>(bytes)?;
         Ok(NestedNlas { bytes })
@@ -40,7 +40,7 @@ impl<'a> NestedNlas<'a> {
 
     /// Returns an iterator over all of the attributes, in order.
     pub fn walk(&self) -> NlasIterator<'a>
-        ensures { bytes_left result ≡ nested_bytes self.now }
+        ensures { unread_bytes result ≡ nested_bytes self.now }
     {
         NlasIterator::new(self.bytes)
     }
@@ -62,7 +62,7 @@ impl<'a> NestedNlas<'a> {
     /// it has one. Text that is not valid UTF-8 is `NotUtf8`; `value_of` returns its bytes.
     pub fn text_of(&self, kind: u16) -> Result<Option<&'a str>, DecodeError>
         ensures { map_ok (option_map (λ text. text.now)) result
-            ≡ within text_in (first_in kind (nested_bytes self.now)) }
+            ≡ parse_if_present parse_text (first_in kind (nested_bytes self.now)) }
     {
         match self.value_of(kind) {
             Some(value) => Ok(Some(parse_str(value)?)),
@@ -73,7 +73,8 @@ impl<'a> NestedNlas<'a> {
     /// Parses the value of the first attribute of the kind as a little-endian `u32`. A length other
     /// than 4 is `WrongLength`, without the kind.
     pub fn word_of(&self, kind: u16) -> Result<Option<u32>, DecodeError>
-        ensures { result ≡ within (exact_number None 4) (first_in kind (nested_bytes self.now)) }
+        ensures { result ≡ parse_if_present (number_of_width None 4)
+            (first_in kind (nested_bytes self.now)) }
     {
         match self.value_of(kind) {
             Some(value) => Ok(Some(parse_u32(value)?)),
@@ -86,7 +87,7 @@ impl<'a> NestedNlas<'a> {
     pub fn number_of(&self, kind: u16, width: usize) -> Result<Option<u64>, DecodeError>
         requires one { 1 ≤ width }
         requires eight { width ≤ 8 }
-        ensures { result ≡ number_in (kind, width) (nested_bytes self.now) }
+        ensures { result ≡ nested_number_in (kind, width) (nested_bytes self.now) }
     {
         match self.value_of(kind) {
             Some(value) if value.len() == width => Ok(Some(LittleEndian::read_uint(value, width))),
@@ -106,7 +107,7 @@ impl<'a> NestedNlas<'a> {
             ≡ first_in kind (nested_bytes self.now)) }
         ensures fault { IfErr result (λ e. (value : List ℕ)
             × (first_in kind (nested_bytes self.now) ≡ Some value)
-            × AttributeFault (decodes []) value e) }
+            × HasAttributeError (decode_attribute []) value e) }
     {
         match self.value_of(kind) {
             Some(value) => Ok(Some(NestedNlas::parse(value)?)),

@@ -2,7 +2,7 @@
 
 ghost use Rattle.std.specs.Prelude.{◌≡◌, ◌↔◌, IsBitSet, IsTrue, refl};
 ghost use Rattle.netlink_core.proofs.LayoutLaws.{plain_sound, record_laws};
-ghost use Rattle.sock_diag_extras.specs.RecordTable.{layout_under};
+ghost use Rattle.sock_diag_extras.specs.RecordTable.{layout_with_name};
 ghost use Rattle.sock_diag_extras.specs.SocketOptions.{socket_options};
 
 use crate::record::AttributeRecord;
@@ -61,7 +61,7 @@ impl AttributeRecord for SocketOptions {
         LittleEndian::write_u16(buffer, self.bits);
     }
 
-    ghost laws = { λ name. record_laws (layout_under socket_options name) (plain_sound refl
+    ghost laws = { λ name. record_laws (layout_with_name socket_options name) (plain_sound refl
         (λ _. refl) (λ _. refl) (λ _. tt) (λ _ _. refl)) };
 }
 

@@ -3,9 +3,10 @@
 ghost use Rattle.std.specs.Prelude.{◌≡◌, ◌≤◌, ◌++◌, drop, length, SomeIff};
 ghost use Rattle.std.specs.Result.{result_ok};
 ghost use Rattle.netlink_core.specs.Codec.{RecordLaws};
-ghost use Rattle.netlink_core.specs.Layout.{read};
+ghost use Rattle.netlink_core.specs.Layout.{parse_record};
 ghost use Rattle.netlink_core.specs.declared.fault.RecordName.{RecordName};
-ghost use Rattle.sock_diag_extras.specs.RecordTable.{RecordTable, bytes_in, layout_under, value_in};
+ghost use Rattle.sock_diag_extras.specs.RecordTable.{RecordTable, bytes_by_table, layout_with_name};
+ghost use Rattle.sock_diag_extras.specs.RecordTable.{parse_by_table};
 
 /// A record in the value of an attribute that the port leaves undecoded.
 pub trait AttributeRecord: Sized {
@@ -20,16 +21,16 @@ pub trait AttributeRecord: Sized {
     /// ignored.
     fn from_fields(bytes: &[u8]) -> Self
         requires { layout.size ≤ length bytes.now }
-        ensures { result ≡ value_in layout bytes.now };
+        ensures { result ≡ parse_by_table layout bytes.now };
 
     /// Serializes the record to a buffer of `size()` bytes. The previous content of the buffer does
     /// not matter.
     fn write_fields(&self, buffer: &mut [u8])
         requires { length buffer.old ≡ layout.size }
-        ensures { buffer.new ≡ bytes_in layout self.now };
+        ensures { buffer.new ≡ bytes_by_table layout self.now };
 
     // Proof only: the layout keeps the laws of records, for any name in errors.
-    ghost laws: { (name : RecordName) → RecordLaws (layout_under layout name) };
+    ghost laws: { (name : RecordName) → RecordLaws (layout_with_name layout name) };
 }
 
 /// Parses the record at the start of the bytes. Returns `None` if there are fewer bytes than the
@@ -37,9 +38,9 @@ pub trait AttributeRecord: Sized {
 #[inline(always)]
 pub fn read_attribute_record<T: AttributeRecord>(value: &[u8]) -> Option<T>
     ensures value { SomeIff result (T.layout.size ≤ length value.now)
-        (value_in T.layout value.now) }
+        (parse_by_table T.layout value.now) }
     ensures by_layout { (name : RecordName)
-        → result ≡ result_ok (read (layout_under T.layout name) tt value.now) }
+        → result ≡ result_ok (parse_record (layout_with_name T.layout name) tt value.now) }
 {
     if value.len() < T::size() {
         return None;
@@ -50,7 +51,7 @@ pub fn read_attribute_record<T: AttributeRecord>(value: &[u8]) -> Option<T>
 /// Serializes the record to the start of the buffer. The bytes after it are unchanged.
 pub fn write_attribute_record<T: AttributeRecord>(value: &T, buffer: &mut [u8])
     requires { T.layout.size ≤ length buffer.old }
-    ensures { buffer.new ≡ bytes_in T.layout value.now ++ drop T.layout.size buffer.old }
+    ensures { buffer.new ≡ bytes_by_table T.layout value.now ++ drop T.layout.size buffer.old }
 {
     value.write_fields(&mut buffer[..T::size()]);
 }

@@ -3,8 +3,8 @@
 ghost use Rattle.std.specs.Prelude.{◌≡◌, ◌<◌, None, IfSome, length};
 ghost use Rattle.std.specs.Iterator.{UpTo, at_most};
 ghost use Rattle.std.specs.Iterator.SizeHint.{IsWithinCount};
-ghost use Rattle.sock_diag_extras.specs.Records.{GivesRecord};
-ghost use Rattle.sock_diag_extras.specs.Models.{records_left};
+ghost use Rattle.sock_diag_extras.specs.Records.{YieldsRecord};
+ghost use Rattle.sock_diag_extras.specs.Models.{unread_record_bytes};
 
 use crate::record::{AttributeRecord, read_attribute_record};
 use std::marker::PhantomData;
@@ -20,7 +20,7 @@ pub struct AttributeRecords<'a, T> {
 impl<'a, T> AttributeRecords<'a, T> {
     /// Returns an iterator over the records in the value.
     pub fn new(value: &'a [u8]) -> AttributeRecords<'a, T>
-        ensures { records_left result ≡ value.entry.now }
+        ensures { unread_record_bytes result ≡ value.entry.now }
     {
         AttributeRecords {
             bytes: value,
@@ -31,7 +31,7 @@ impl<'a, T> AttributeRecords<'a, T> {
     /// Returns the bytes that were not parsed yet. After the last record, these are fewer than a
     /// record has; none are left if the length of the value is a multiple of the record's size.
     pub fn rest(&self) -> &'a [u8]
-        ensures { result.now ≡ records_left self.now }
+        ensures { result.now ≡ unread_record_bytes self.now }
     {
         self.bytes
     }
@@ -40,14 +40,14 @@ impl<'a, T> AttributeRecords<'a, T> {
 impl<'a, T: AttributeRecord> Iterator for AttributeRecords<'a, T> {
     type Item = T;
 
-    ghost next_gives = { λ old given new. GivesRecord T.layout (records_left old) given
-        (records_left new) };
+    ghost next_gives = { λ old given new. YieldsRecord T.layout (unread_record_bytes old) given
+        (unread_record_bytes new) };
 
     // `next` requires that a record has at least one byte.
     ghost can_next = { λ _. 0 < T.layout.size };
 
     // At most one record for each byte.
-    ghost remaining = { λ records. at_most (length (records_left records)) };
+    ghost remaining = { λ records. at_most (length (unread_record_bytes records)) };
 
     #[inline(always)]
     fn next(&mut self) -> Option<T> {
@@ -58,8 +58,8 @@ impl<'a, T: AttributeRecord> Iterator for AttributeRecords<'a, T> {
 
     /// Returns `(0, None)`: the number of records left is not computed in advance.
     fn size_hint(&self) -> (usize, Option<usize>)
-        ensures lower { IsWithinCount result.0 (at_most (length (records_left self.now))) }
-        ensures upper { IfSome result.1 (UpTo (at_most (length (records_left self.now)))) }
+        ensures lower { IsWithinCount result.0 (at_most (length (unread_record_bytes self.now))) }
+        ensures upper { IfSome result.1 (UpTo (at_most (length (unread_record_bytes self.now)))) }
         ensures unknown { result ≡ (0, None) }
     {
         (0, None)

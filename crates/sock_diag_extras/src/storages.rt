@@ -1,11 +1,11 @@
 //! Local storage of BPF programs for a socket: INET_DIAG_SK_BPF_STORAGES.
 
 ghost use Rattle.std.specs.Prelude.{◌≡◌, ◌≢◌, [], IfErr, IfOk, MatchOption, None, option_map};
-ghost use Rattle.netlink_core.specs.Attribute.{AttributeFault, attribute_type};
-ghost use Rattle.netlink_core.specs.AttributeSet.{decodes};
-ghost use Rattle.netlink_core.specs.Parse.{exact_number};
-ghost use Rattle.netlink_core.specs.Walk.{attribute_of};
-ghost use Rattle.sock_diag_families.specs.Found.{within};
+ghost use Rattle.netlink_core.specs.Attribute.{HasAttributeError, attribute_kind};
+ghost use Rattle.netlink_core.specs.AttributeSet.{decode_attribute};
+ghost use Rattle.netlink_core.specs.Parse.{number_of_width};
+ghost use Rattle.netlink_core.specs.Walk.{buffered_attribute};
+ghost use Rattle.sock_diag_families.specs.Found.{parse_if_present};
 ghost use Rattle.sock_diag_extras.specs.Models.{nested_bytes};
 ghost use Rattle.sock_diag_extras.specs.Nested.{first_in};
 
@@ -27,12 +27,12 @@ impl<'a> BpfStorage<'a> {
     /// is one.
     pub fn parse(nla: &NlaBuffer<'a>) -> Result<Option<BpfStorage<'a>>, DecodeError>
         ensures kept { IfOk result (λ found. MatchOption found
-            (attribute_type (attribute_of nla.now) ≢ 1)
-            (λ storage. (attribute_type (attribute_of nla.now) ≡ SK_DIAG_BPF_STORAGE)
-            × (nested_bytes storage.0 ≡ (attribute_of nla.now).value))) }
+            (attribute_kind (buffered_attribute nla.now) ≢ 1)
+            (λ storage. (attribute_kind (buffered_attribute nla.now) ≡ SK_DIAG_BPF_STORAGE)
+            × (nested_bytes storage.0 ≡ (buffered_attribute nla.now).value))) }
         ensures fault { IfErr result (λ e.
-            (attribute_type (attribute_of nla.now) ≡ SK_DIAG_BPF_STORAGE)
-            × AttributeFault (decodes []) (attribute_of nla.now).value e) }
+            (attribute_kind (buffered_attribute nla.now) ≡ SK_DIAG_BPF_STORAGE)
+            × HasAttributeError (decode_attribute []) (buffered_attribute nla.now).value e) }
     {
         if nla.kind() != SK_DIAG_BPF_STORAGE {
             return Ok(None);
@@ -44,7 +44,7 @@ impl<'a> BpfStorage<'a> {
     /// `WrongLength`.
     pub fn map_id(&self) -> Result<Option<u32>, DecodeError>
         ensures { result
-            ≡ within (exact_number None 4)
+            ≡ parse_if_present (number_of_width None 4)
             (first_in SK_DIAG_BPF_STORAGE_MAP_ID (nested_bytes self.now.0)) }
     {
         self.0.word_of(SK_DIAG_BPF_STORAGE_MAP_ID)

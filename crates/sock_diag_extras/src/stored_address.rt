@@ -1,9 +1,9 @@
 //! The addresses of an SCTP association: INET_DIAG_LOCALS and INET_DIAG_PEERS.
 
 ghost use Rattle.std.specs.Prelude.{◌≡◌, refl};
-ghost use Rattle.netlink_core.proofs.FieldReads.{first_all};
+ghost use Rattle.netlink_core.proofs.FieldReads.{first_numbers_are_all};
 ghost use Rattle.netlink_core.proofs.LayoutLaws.{plain_sound, record_laws};
-ghost use Rattle.sock_diag_extras.specs.RecordTable.{layout_under};
+ghost use Rattle.sock_diag_extras.specs.RecordTable.{layout_with_name};
 ghost use Rattle.sock_diag_extras.specs.StoredAddress.{stored_address};
 
 use crate::record::AttributeRecord;
@@ -74,11 +74,11 @@ impl AttributeRecord for StoredAddress {
         rest.copy_from_slice(&self.rest);
     }
 
-    ghost laws = { λ name. record_laws (layout_under stored_address name) (plain_sound refl
+    ghost laws = { λ name. record_laws (layout_with_name stored_address name) (plain_sound refl
         (λ _. refl) (λ _. refl) (λ _. (refl, refl, refl)) (λ v shaped.
-        let front = first_all 4 v.front shaped.0 in
-        let segments = first_all 8 v.segments shaped.1 in
-        let rest = first_all 100 v.rest shaped.2 in
+        let front = first_numbers_are_all 4 v.front shaped.0 in
+        let segments = first_numbers_are_all 8 v.segments shaped.1 in
+        let rest = first_numbers_are_all 100 v.rest shaped.2 in
         λ i. record v { front = front i; segments = segments i; rest = rest i })) };
 }
 

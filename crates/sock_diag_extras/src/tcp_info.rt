@@ -3,7 +3,7 @@
 ghost use Rattle.std.specs.Prelude.{◌≡◌, ◌≤◌, ◌+◌, drop, length, SomeIff};
 ghost use Rattle.std.specs.Result.{result_ok};
 ghost use Rattle.byteorder.specs.Endian.{little_number};
-ghost use Rattle.netlink_core.specs.Layout.{read};
+ghost use Rattle.netlink_core.specs.Layout.{parse_record};
 ghost use Rattle.sock_diag_values.specs.TcpInfo.{tcp_info};
 ghost use Rattle.sock_diag_extras.specs.Models.{tcp_info_bytes};
 
@@ -255,7 +255,7 @@ pub struct TcpInfoBytes<'a> {
 }
 
 impl<'a> TcpInfoBytes<'a> {
-    ghost use Rattle.sock_diag_extras.specs.TcpFields.{value_of, end_of};
+    ghost use Rattle.sock_diag_extras.specs.TcpFields.{tcp_field_value, end_offset};
 
     /// Borrows the bytes of the value. Any number of bytes is accepted.
     pub fn new(value: &'a [u8]) -> TcpInfoBytes<'a>
@@ -273,8 +273,8 @@ impl<'a> TcpInfoBytes<'a> {
 
     /// Returns the value of the field. Returns `None` if the bytes end before the end of the field.
     pub fn get(&self, field: TcpField) -> Option<u64>
-        ensures { SomeIff result (end_of field ≤ length (tcp_info_bytes self.now))
-            (value_of field (tcp_info_bytes self.now)) }
+        ensures { SomeIff result (end_offset field ≤ length (tcp_info_bytes self.now))
+            (tcp_field_value field (tcp_info_bytes self.now)) }
     {
         let (place, width) = field.span();
         number_at(self.bytes, place, width)
@@ -283,7 +283,7 @@ impl<'a> TcpInfoBytes<'a> {
     /// Returns the record that the port parses from the first 232 bytes. Returns `None` if there
     /// are fewer bytes.
     pub fn whole(&self) -> Option<TcpInfo>
-        ensures { result ≡ result_ok (read tcp_info tt (tcp_info_bytes self.now)) }
+        ensures { result ≡ result_ok (parse_record tcp_info tt (tcp_info_bytes self.now)) }
     {
         TcpInfo::parse(self.bytes).ok()
     }

@@ -2,13 +2,13 @@
 
 ghost use Rattle.std.specs.Prelude.{◌≡◌, ◌↔◌, ℕ, List, [], IfErr, IfOk, IsSome, IsTrue, Some};
 ghost use Rattle.std.specs.Prelude.{option_map};
-ghost use Rattle.netlink_core.specs.Attribute.{AttributeFault};
-ghost use Rattle.netlink_core.specs.AttributeSet.{decodes};
+ghost use Rattle.netlink_core.specs.Attribute.{HasAttributeError};
+ghost use Rattle.netlink_core.specs.AttributeSet.{decode_attribute};
 ghost use Rattle.netlink_core.specs.Faults.{map_ok};
-ghost use Rattle.netlink_core.specs.Parse.{text_in};
-ghost use Rattle.sock_diag_families.specs.Found.{within};
+ghost use Rattle.netlink_core.specs.Parse.{parse_text};
+ghost use Rattle.sock_diag_families.specs.Found.{parse_if_present};
 ghost use Rattle.sock_diag_extras.specs.Models.{nested_bytes};
-ghost use Rattle.sock_diag_extras.specs.Nested.{first_in, number_in};
+ghost use Rattle.sock_diag_extras.specs.Nested.{first_in, nested_number_in};
 
 use crate::constants::{
     INET_ULP_INFO_MPTCP, INET_ULP_INFO_NAME, INET_ULP_INFO_TLS, MPTCP_SUBFLOW_ATTR_FLAGS,
@@ -31,7 +31,7 @@ impl<'a> UlpInfo<'a> {
     /// Borrows the attributes in the value. Returns the first framing error, if there is one.
     pub fn parse(value: &'a [u8]) -> Result<UlpInfo<'a>, DecodeError>
         ensures kept { IfOk result (λ info. nested_bytes info.0 ≡ value.entry.now) }
-        ensures fault { IfErr result (AttributeFault (decodes []) value.entry.now) }
+        ensures fault { IfErr result (HasAttributeError (decode_attribute []) value.entry.now) }
     {
         Ok(UlpInfo(NestedNlas::parse(value)?))
     }
@@ -40,7 +40,7 @@ impl<'a> UlpInfo<'a> {
     /// that is not valid UTF-8 is `NotUtf8`.
     pub fn name(&self) -> Result<Option<&'a str>, DecodeError>
         ensures { map_ok (option_map (λ text. text.now)) result
-            ≡ within text_in (first_in INET_ULP_INFO_NAME (nested_bytes self.now.0)) }
+            ≡ parse_if_present parse_text (first_in INET_ULP_INFO_NAME (nested_bytes self.now.0)) }
     {
         self.0.text_of(INET_ULP_INFO_NAME)
     }
@@ -52,7 +52,7 @@ impl<'a> UlpInfo<'a> {
             ≡ first_in INET_ULP_INFO_TLS (nested_bytes self.now.0)) }
         ensures fault { IfErr result (λ e. (value : List ℕ)
             × (first_in INET_ULP_INFO_TLS (nested_bytes self.now.0) ≡ Some value)
-            × AttributeFault (decodes []) value e) }
+            × HasAttributeError (decode_attribute []) value e) }
     {
         match self.0.nested_of(INET_ULP_INFO_TLS)? {
             Some(nested) => Ok(Some(TlsInfo(nested))),
@@ -67,7 +67,7 @@ impl<'a> UlpInfo<'a> {
             ≡ first_in INET_ULP_INFO_MPTCP (nested_bytes self.now.0)) }
         ensures fault { IfErr result (λ e. (value : List ℕ)
             × (first_in INET_ULP_INFO_MPTCP (nested_bytes self.now.0) ≡ Some value)
-            × AttributeFault (decodes []) value e) }
+            × HasAttributeError (decode_attribute []) value e) }
     {
         match self.0.nested_of(INET_ULP_INFO_MPTCP)? {
             Some(nested) => Ok(Some(SubflowInfo(nested))),
@@ -116,7 +116,7 @@ impl TlsInfo<'_> {
     /// Returns the value of the field, or `None` if it has no attribute. A length of the
     /// attribute's value other than the field's is `WrongLength`.
     pub fn get(&self, field: TlsField) -> Result<Option<u64>, DecodeError>
-        ensures { result ≡ number_in (tls_row field) (nested_bytes self.now.0) }
+        ensures { result ≡ nested_number_in (tls_row field) (nested_bytes self.now.0) }
     {
         let (kind, width) = field.row();
         self.0.number_of(kind, width)
@@ -199,7 +199,7 @@ impl SubflowInfo<'_> {
     /// Returns the value of the field, or `None` if it has no attribute. A length of the
     /// attribute's value other than the field's is `WrongLength`.
     pub fn get(&self, field: SubflowField) -> Result<Option<u64>, DecodeError>
-        ensures { result ≡ number_in (subflow_row field) (nested_bytes self.now.0) }
+        ensures { result ≡ nested_number_in (subflow_row field) (nested_bytes self.now.0) }
     {
         let (kind, width) = field.row();
         self.0.number_of(kind, width)

@@ -2,28 +2,29 @@
 use Rattle.std.specs.Prelude.{ℕ, ◌==◌, nat_lt, if◌then◌else◌, List, [], ◌∷◌, drop, length, Option}
 use Rattle.std.specs.Prelude.{Some, None, Result, Ok, Err}
 use Rattle.byteorder.specs.Endian.{little_number}
-use Rattle.netlink_core.specs.Attribute.{Attribute, attribute_type}
+use Rattle.netlink_core.specs.Attribute.{Attribute, attribute_kind}
 use Rattle.netlink_core.specs.Faults.{map_ok}
 use Rattle.netlink_core.specs.declared.fault.DecodeError.{DecodeError}
 use Rattle.netlink_core.specs.declared.fault.DecodeError.TheVariants.{BufferTooSmall}
 use Rattle.netlink_core.specs.declared.fault.RecordName.TheVariants as name
 
 -- the value of the first attribute of this kind, whatever its two flag bits, or `None`
-abbrev pub first_value : ℕ → List Attribute → Option (List ℕ)
-first_value kind [] = None
-first_value kind (a ∷ later) = if attribute_type a == kind then Some a.value else first_value kind
+abbrev pub first_value_of_kind : ℕ → List Attribute → Option (List ℕ)
+first_value_of_kind kind [] = None
+first_value_of_kind kind (a ∷ later) = if attribute_kind a == kind then Some a.value
+    else first_value_of_kind kind
     later
 
 -- parses the value, if there is one; `Ok None` if there is none
-abbrev pub within : {A : Type 0} → (List ℕ → Result A DecodeError) → Option (List ℕ)
+abbrev pub parse_if_present : {A : Type 0} → (List ℕ → Result A DecodeError) → Option (List ℕ)
     → Result (Option A) DecodeError
-within reads None = Ok None
-within reads (Some value) = map_ok Some (reads value)
+parse_if_present reads None = Ok None
+parse_if_present reads (Some value) = map_ok Some (reads value)
 
 -- the value of an attribute of this family and kind, if it has at least `least` bytes, else the
 -- error `BufferTooSmall`
-abbrev pub enough : (family kind least : ℕ) → List ℕ → Result (List ℕ) DecodeError
-enough family kind least value =
+abbrev pub with_length_at_least : (family kind least : ℕ) → List ℕ → Result (List ℕ) DecodeError
+with_length_at_least family kind least value =
     if nat_lt (length value) least
     then Err (BufferTooSmall (name.FamilyAttribute family kind) (length value) least) else Ok value
 
@@ -38,4 +39,4 @@ u64_at offset bytes = little_number 8 (drop offset bytes)
 -- bytes, else returns the error `BufferTooSmall`
 abbrev pub fields : {A : Type 0} → (family kind least : ℕ) → (List ℕ → A) → List ℕ
     → Result A DecodeError
-fields family kind least of value = map_ok of (enough family kind least value)
+fields family kind least of value = map_ok of (with_length_at_least family kind least value)

@@ -18,8 +18,8 @@ xdp_info = fields 44 1 8 (λ bytes. record {
 
 -- `struct xdp_diag_umem` (linux/xdp_diag.h): `size`, `id`, `num_pages`, `chunk_size`, `headroom`,
 -- `ifindex`, `queue_id`, `flags`, `refs`
-abbrev pub xdp_umem_in : List ℕ → XdpUmem
-xdp_umem_in bytes = record {
+abbrev pub xdp_umem_fields : List ℕ → XdpUmem
+xdp_umem_fields bytes = record {
   size = u64_at 0 bytes;
   id = u32_at 8 bytes;
   pages = u32_at 12 bytes;
@@ -33,12 +33,12 @@ xdp_umem_in bytes = record {
 
 -- the value of `XDP_DIAG_UMEM` (5)
 abbrev pub xdp_umem : List ℕ → Result XdpUmem DecodeError
-xdp_umem = fields 44 5 40 xdp_umem_in
+xdp_umem = fields 44 5 40 xdp_umem_fields
 
 -- `struct xdp_diag_stats` (linux/xdp_diag.h): `n_rx_dropped`, `n_rx_invalid`, `n_rx_full`,
 -- `n_fill_ring_empty`, `n_tx_invalid`, `n_tx_ring_empty`
-abbrev pub xdp_statistics_in : List ℕ → XdpStatistics
-xdp_statistics_in bytes = record {
+abbrev pub xdp_statistics_fields : List ℕ → XdpStatistics
+xdp_statistics_fields bytes = record {
   received_dropped = u64_at 0 bytes;
   received_invalid = u64_at 8 bytes;
   received_full = u64_at 16 bytes;
@@ -49,4 +49,4 @@ xdp_statistics_in bytes = record {
 
 -- the value of `XDP_DIAG_STATS` (9)
 abbrev pub xdp_statistics : List ℕ → Result XdpStatistics DecodeError
-xdp_statistics = fields 44 9 48 xdp_statistics_in
+xdp_statistics = fields 44 9 48 xdp_statistics_fields

@@ -3,14 +3,14 @@
 //! Proof only: the contract of each function states the property.
 
 ghost use Rattle.std.specs.Prelude.{◌≡◌, ◌↔◌, ℕ, [], ◌∷◌, IfOk, IsOk, IsTrue};
-ghost use Rattle.netlink_core.specs.Walk.{attribute_of};
+ghost use Rattle.netlink_core.specs.Walk.{buffered_attribute};
 ghost use Rattle.sock_diag_families.specs.NetlinkResponseHeader.{netlink_header};
 ghost use Rattle.sock_diag_families.specs.PacketResponseHeader.{packet_header};
 ghost use Rattle.sock_diag_families.specs.ShowRequest.{show_request};
 ghost use Rattle.sock_diag_families.specs.VsockRequest.{vsock_request};
 ghost use Rattle.sock_diag_families.specs.VsockResponseHeader.{vsock_header};
 ghost use Rattle.sock_diag_families.specs.XdpResponseHeader.{xdp_header};
-ghost use Rattle.sock_diag_records.specs.Constants.{AreEqual};
+ghost use Rattle.sock_diag_records.specs.Constants.{PairsAreEqual};
 
 use crate::netlink::{
     NDIAG_PROTO_ALL, NDIAG_SHOW_FLAGS, NDIAG_SHOW_GROUPS, NDIAG_SHOW_MEMINFO, NETLINK_DIAG_FLAGS,
@@ -37,7 +37,7 @@ use std::alloc::AllocError;
 /// the same value.
 #[tactic(auto, using(netlink_core::proofs::ValueTests::attribute_test_decides))]
 pub fn equal_whole_nlas(v: &WholeNla<'_>, w: &WholeNla<'_>) -> bool
-    ensures { IsTrue result ↔ (attribute_of v.now.0 ≡ attribute_of w.now.0) }
+    ensures { IsTrue result ↔ (buffered_attribute v.now.0 ≡ buffered_attribute w.now.0) }
 {
     v == w
 }
@@ -45,32 +45,32 @@ pub fn equal_whole_nlas(v: &WholeNla<'_>, w: &WholeNla<'_>) -> bool
 /// States that `clone` returns the same attribute, and never fails.
 pub fn copied_whole_nla<'a>(nla: &WholeNla<'a>) -> Result<WholeNla<'a>, AllocError>
     ensures ok { IsOk result }
-    ensures same { IfOk result (λ copy. attribute_of copy.0 ≡ attribute_of nla.now.0) }
+    ensures same { IfOk result (λ copy. buffered_attribute copy.0 ≡ buffered_attribute nla.now.0) }
 {
     nla.clone()
 }
 
 /// States the value of each constant, and that each size is the size in its layout.
 pub fn family_constants_have_their_numbers()
-    ensures families { AreEqual ((AF_VSOCK, 40) ∷ (AF_XDP, 44) ∷ []) }
-    ensures netlink_requests { AreEqual ((NDIAG_PROTO_ALL, 255) ∷ (NDIAG_SHOW_MEMINFO, 1) ∷
+    ensures families { PairsAreEqual ((AF_VSOCK, 40) ∷ (AF_XDP, 44) ∷ []) }
+    ensures netlink_requests { PairsAreEqual ((NDIAG_PROTO_ALL, 255) ∷ (NDIAG_SHOW_MEMINFO, 1) ∷
         (NDIAG_SHOW_GROUPS, 2) ∷ (NDIAG_SHOW_FLAGS, 8) ∷ []) }
-    ensures netlink_attributes { AreEqual ((NETLINK_DIAG_MEMINFO, 0) ∷ (NETLINK_DIAG_GROUPS, 1)
+    ensures netlink_attributes { PairsAreEqual ((NETLINK_DIAG_MEMINFO, 0) ∷ (NETLINK_DIAG_GROUPS, 1)
         ∷ (NETLINK_DIAG_RX_RING, 2) ∷ (NETLINK_DIAG_TX_RING, 3) ∷ (NETLINK_DIAG_FLAGS, 4) ∷ []) }
-    ensures packet_requests { AreEqual ((PACKET_SHOW_INFO, 1) ∷ (PACKET_SHOW_MCLIST, 2) ∷
+    ensures packet_requests { PairsAreEqual ((PACKET_SHOW_INFO, 1) ∷ (PACKET_SHOW_MCLIST, 2) ∷
         (PACKET_SHOW_RING_CFG, 4) ∷ (PACKET_SHOW_FANOUT, 8) ∷ (PACKET_SHOW_MEMINFO, 16) ∷
         (PACKET_SHOW_FILTER, 32) ∷ []) }
-    ensures packet_attributes { AreEqual ((PACKET_DIAG_INFO, 0) ∷ (PACKET_DIAG_MCLIST, 1) ∷
+    ensures packet_attributes { PairsAreEqual ((PACKET_DIAG_INFO, 0) ∷ (PACKET_DIAG_MCLIST, 1) ∷
         (PACKET_DIAG_RX_RING, 2) ∷ (PACKET_DIAG_TX_RING, 3) ∷ (PACKET_DIAG_FANOUT, 4) ∷
         (PACKET_DIAG_UID, 5) ∷ (PACKET_DIAG_MEMINFO, 6) ∷ (PACKET_DIAG_FILTER, 7) ∷ []) }
-    ensures xdp_requests { AreEqual ((XDP_SHOW_INFO, 1) ∷ (XDP_SHOW_RING_CFG, 2) ∷
+    ensures xdp_requests { PairsAreEqual ((XDP_SHOW_INFO, 1) ∷ (XDP_SHOW_RING_CFG, 2) ∷
         (XDP_SHOW_UMEM, 4) ∷ (XDP_SHOW_MEMINFO, 8) ∷ (XDP_SHOW_STATS, 16) ∷ []) }
-    ensures xdp_attributes { AreEqual ((XDP_DIAG_INFO, 1) ∷ (XDP_DIAG_UID, 2) ∷
+    ensures xdp_attributes { PairsAreEqual ((XDP_DIAG_INFO, 1) ∷ (XDP_DIAG_UID, 2) ∷
         (XDP_DIAG_RX_RING, 3) ∷ (XDP_DIAG_TX_RING, 4) ∷ (XDP_DIAG_UMEM, 5) ∷
         (XDP_DIAG_UMEM_FILL_RING, 6) ∷ (XDP_DIAG_UMEM_COMPLETION_RING, 7) ∷
         (XDP_DIAG_MEMINFO, 8) ∷ (XDP_DIAG_STATS, 9) ∷ []) }
     ensures show_request_size { (family : ℕ) → SHOW_REQUEST_LEN ≡ (show_request family).least }
-    ensures sizes { AreEqual ((VSOCK_REQUEST_LEN, vsock_request.least) ∷
+    ensures sizes { PairsAreEqual ((VSOCK_REQUEST_LEN, vsock_request.least) ∷
         (NETLINK_RESPONSE_HEADER_LEN, netlink_header.least) ∷
         (PACKET_RESPONSE_HEADER_LEN, packet_header.least) ∷
         (VSOCK_RESPONSE_HEADER_LEN, vsock_header.least) ∷

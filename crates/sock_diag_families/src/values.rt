@@ -2,7 +2,7 @@
 
 ghost use Rattle.std.specs.Prelude.{◌≡◌};
 ghost use Rattle.netlink_core.specs.Faults.{map_ok};
-ghost use Rattle.sock_diag_families.specs.Found.{enough};
+ghost use Rattle.sock_diag_families.specs.Found.{with_length_at_least};
 
 use netlink_core::{DecodeError, RecordName};
 
@@ -14,7 +14,8 @@ pub(crate) fn enough_in(
     kind: u16,
     need: usize,
 ) -> Result<&[u8], DecodeError>
-    ensures { map_ok (λ value. value.now) result ≡ enough family kind need value.entry.now }
+    ensures { map_ok (λ value. value.now) result
+        ≡ with_length_at_least family kind need value.entry.now }
 {
     if value.len() < need {
         return Err(DecodeError::BufferTooSmall {

@@ -1,7 +1,7 @@
 //! Raw attributes.
 
 ghost use Rattle.std.specs.Prelude.{[], refl};
-ghost use Rattle.netlink_core.specs.Walk.{attribute_of};
+ghost use Rattle.netlink_core.specs.Walk.{buffered_attribute};
 
 use netlink_core::{DecodeError, FamilyView, Nla, NlaBuffer};
 
@@ -10,7 +10,7 @@ use netlink_core::{DecodeError, FamilyView, Nla, NlaBuffer};
 pub struct WholeNla<'a>(pub NlaBuffer<'a>);
 
 impl Nla for WholeNla<'_> {
-    ghost attribute = { λ nla. attribute_of nla.0 };
+    ghost attribute = { λ nla. buffered_attribute nla.0 };
 
     fn value_len(&self) -> usize {
         self.0.value().len()
@@ -30,7 +30,7 @@ impl Nla for WholeNla<'_> {
 impl<'a> FamilyView<'a> for WholeNla<'a> {
     ghost attribute_set = { [] };
 
-    ghost model = { λ nla. attribute_of nla.0 };
+    ghost model = { λ nla. buffered_attribute nla.0 };
 
     ghost written_as = { λ _. refl };
 

@@ -5,9 +5,9 @@ use Rattle.std.specs.List.{filter_map, last_or}
 use Rattle.std.proofs.lemmas.List.Elements.{filter_map-append}
 use Rattle.sock_diag_filters.specs.declared.request.RequestAttribute.{RequestAttribute}
 use Rattle.sock_diag_filters.specs.declared.view.Found.{Found}
-use Rattle.sock_diag_filters.specs.Asked.{Keeps, AskedAttribute, nothing_asked, program_in}
-use Rattle.sock_diag_filters.specs.Asked.{protocol_in}
-use Rattle.sock_diag_filters.specs.private.Asked.{found_with, asked_or_nothing}
+use Rattle.sock_diag_filters.specs.Asked.{HasLastContents, RequestContent, nothing_asked}
+use Rattle.sock_diag_filters.specs.Asked.{program_in, protocol_in}
+use Rattle.sock_diag_filters.specs.private.Asked.{found_attributes_after, optional_request_content}
 
 last_or-append : {A : Type 0} (o : Option A) (xs ys : List A)
     → last_or o (xs ++ ys) ≡ last_or (last_or o xs) ys
@@ -21,9 +21,11 @@ last_more : {A B : Type 0} (f : A → Option B) (xs : List A) (x : A)
 last_more f xs x =
     grind (arith, filter_map-append f xs (x ∷ []), last_or-append)
 
-pub keeps_more : (found : Found) (decoded : List AskedAttribute) (o : Option RequestAttribute)
-    → Keeps found decoded → Keeps (found_with found o) (decoded ++ asked_or_nothing o ∷ [])
-keeps_more found decoded o keeps =
+pub has_last_contents_after : (found : Found) (decoded : List RequestContent)
+    (o : Option RequestAttribute)
+    → HasLastContents found decoded
+    → HasLastContents (found_attributes_after found o) (decoded ++ optional_request_content o ∷ [])
+has_last_contents_after found decoded o keeps =
     grind (
       arith,
       last_more program_in decoded nothing_asked,

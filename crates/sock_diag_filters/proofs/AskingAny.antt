@@ -7,27 +7,29 @@ use Rattle.std.proofs.lemmas.Bool.{ne_eqb}
 use Rattle.netlink_core.specs.declared.fault.DecodeError.{DecodeError}
 use Rattle.netlink_core.specs.declared.fault.DecodeError.TheVariants.{UnknownMessageType}
 use Rattle.netlink_core.specs.declared.header.NetlinkHeader.{NetlinkHeader}
-use Rattle.sock_diag_filters.specs.AnyRequest.{AskedFamily, asked_family}
-use Rattle.sock_diag_filters.specs.AnyRequest.{family_in, refuses_by}
+use Rattle.sock_diag_filters.specs.AnyRequest.{RequestedFamily, family_of_request_payload}
+use Rattle.sock_diag_filters.specs.AnyRequest.{family_of_message, IsRejectedByRequestFamily}
 use Rattle.sock_diag_filters.specs.AnyRequest.{family_by_byte}
 use Rattle.sock_diag_filters.specs.Asked.{IsRequestType}
 
 -- The first byte of a request's payload determines its family.
-pub asked_is : (payload : List ℕ) (t : ℕ) (decoded : Result AskedFamily DecodeError)
+pub family_by_first_byte : (payload : List ℕ) (t : ℕ) (decoded : Result RequestedFamily DecodeError)
     → 2 ≤ length payload → IsRequestType t → family_by_byte (slice_index payload 0) ≡ decoded
-    → asked_family payload t ≡ decoded
-asked_is payload t decoded long h is =
+    → family_of_request_payload payload t ≡ decoded
+family_by_first_byte payload t decoded long h is =
     grind (arith, le-ltb (length payload) 2 long)
 
 -- A message type other than 20 and 21 is rejected.
-pub other_is_refused : (payload : List ℕ) (t : ℕ) → 2 ≤ length payload → ¬ IsRequestType t
-    → asked_family payload t ≡ Err (UnknownMessageType t)
-other_is_refused payload t long other =
+pub other_request_type_is_rejected : (payload : List ℕ) (t : ℕ) → 2 ≤ length payload
+    → ¬ IsRequestType t
+    → family_of_request_payload payload t ≡ Err (UnknownMessageType t)
+other_request_type_is_rejected payload t long other =
     grind (arith, le-ltb (length payload) 2 long, ne_eqb t 20, ne_eqb t 21)
 
 module _ (message : List ℕ) (h : NetlinkHeader) (e : DecodeError) where
-  abbrev by : Result AskedFamily DecodeError → Type 0
-  by decoded = refuses_by decoded message h e
+  abbrev by : Result RequestedFamily DecodeError → Type 0
+  by decoded = IsRejectedByRequestFamily decoded message h e
 
-  pub refused_family : family_in message h ≡ Err e → refuses_by (family_in message h) message h e
-  refused_family decoded = subst by (sym decoded) refl
+  pub rejected_request_family : family_of_message message h ≡ Err e
+      → IsRejectedByRequestFamily (family_of_message message h) message h e
+  rejected_request_family decoded = subst by (sym decoded) refl

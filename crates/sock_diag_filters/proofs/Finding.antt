@@ -14,28 +14,30 @@ use Rattle.sock_diag_filters.specs.declared.filter.Filter.{Filter}
 use Rattle.sock_diag_filters.specs.declared.filter.Filter.TheVariants as parts
 use Rattle.sock_diag_filters.specs.Conditions.{arguments, code_of}
 use Rattle.sock_diag_filters.specs.Filters.{meaning}
-use Rattle.sock_diag_filters.specs.Sockets.{AreInRange, IsInRange, IsPort, Socket, finds_address}
-use Rattle.sock_diag_filters.specs.Sockets.{finds_host, found_by, has_port, has_prefix, is_host}
-use Rattle.sock_diag_filters.specs.Sockets.{is_within, meets}
+use Rattle.sock_diag_filters.specs.Sockets.{AreInRange, IsConditionInRange, IsPort, Socket}
+use Rattle.sock_diag_filters.specs.Sockets.{kernel_matches_address, kernel_matches_host}
+use Rattle.sock_diag_filters.specs.Sockets.{kernel_evaluates, has_port, address_has_optional_prefix}
+use Rattle.sock_diag_filters.specs.Sockets.{is_host, address_has_prefix, meets}
 use Rattle.sock_diag_filters.proofs.Operations.{host, with_address}
 
 -- A number that fits `n` bytes round-trips through little-endian bytes.
-back : (n x : ℕ) (rest : List ℕ) → x < 256 ^ n → little_number n (little_bytes n x ++ rest) ≡ x
-back n x rest fits = number-reads_back little_endian n x rest fits
+little_endian_round_trips : (n x : ℕ) (rest : List ℕ) → x < 256 ^ n
+    → little_number n (little_bytes n x ++ rest) ≡ x
+little_endian_round_trips n x rest fits = number-reads_back little_endian n x rest fits
 
-port_back : (x : ℕ) → x < 2 ^ 16 → little_number 2 (little_bytes 2 x) ≡ x
-port_back x fits = back 2 x [] fits
+port_round_trips : (x : ℕ) → x < 2 ^ 16 → little_number 2 (little_bytes 2 x) ≡ x
+port_round_trips x fits = little_endian_round_trips 2 x [] fits
 
-word_back : (x : ℕ) → x < 2 ^ 32 → little_number 4 (little_bytes 4 x) ≡ x
-word_back x fits = back 4 x [] fits
+u32_round_trips : (x : ℕ) → x < 2 ^ 32 → little_number 4 (little_bytes 4 x) ≡ x
+u32_round_trips x fits = little_endian_round_trips 4 x [] fits
 
-long_back : (x : ℕ) → x < 2 ^ 64 → little_number 8 (little_bytes 8 x) ≡ x
-long_back x fits = back 8 x [] fits
+u64_round_trips : (x : ℕ) → x < 2 ^ 64 → little_number 8 (little_bytes 8 x) ≡ x
+u64_round_trips x fits = little_endian_round_trips 8 x [] fits
 
 -- ---- hosts
 
-word_of : (o : Option ℕ) → IsPort o → unwrap_or o 0xffffffff < 2 ^ 32
-word_of o h =
+optional_port_is_u32 : (o : Option ℕ) → IsPort o → unwrap_or o 0xffffffff < 2 ^ 32
+optional_port_is_u32 o h =
     grind arith
 
 port_found : (o : Option ℕ) (port : ℕ) → IsPort o
@@ -44,48 +46,56 @@ port_found o port h =
     grind (arith, ne_eqb)
 
 address_found : (a : IpAddr) (bits port family : ℕ) (octets : List ℕ)
-    → finds_address family octets (slice_index (with_address a bits port) 0)
+    → kernel_matches_address family octets (slice_index (with_address a bits port) 0)
     (slice_index (with_address a bits port) 1) (drop 8 (with_address a bits port))
-    ≡ is_within a bits family octets
+    ≡ address_has_prefix a bits family octets
 address_found a bits port family octets =
     grind arith
 
 prefix_found : (o : Option Prefix) (port family : ℕ) (octets : List ℕ)
-    → finds_address family octets (slice_index (host o port) 0) (slice_index (host o port) 1)
-    (drop 8 (host o port)) ≡ has_prefix o family octets
+    → kernel_matches_address family octets (slice_index (host o port) 0)
+    (slice_index (host o port) 1)
+    (drop 8 (host o port)) ≡ address_has_optional_prefix o family octets
 prefix_found o port family octets =
     grind (arith, address_found)
 
 port_at : (o : Option Prefix) (port : ℕ) → port < 2 ^ 32
     → little_number 4 (drop 4 (host o port)) ≡ port
 port_at o port h =
-    grind (arith, back 4 port)
+    grind (arith, little_endian_round_trips 4 port)
 
 host_found : (h : Host) (family port : ℕ) (octets : List ℕ) → IsPort h.port
-    → finds_host family port octets (host h.prefix (unwrap_or h.port 0xffffffff))
+    → kernel_matches_host family port octets (host h.prefix (unwrap_or h.port 0xffffffff))
     ≡ is_host h family port octets
 host_found h family port octets range =
     grind (
       arith,
       host h.prefix,
       port_at h.prefix,
-      word_of h.port range,
+      optional_port_is_u32 h.port range,
       port_found h.port port range,
       prefix_found h.prefix,
     )
 
 -- ---- conditions and filters
 
-condition_found : (s : Socket) (c : Condition) → IsInRange c
-    → found_by s (code_of c) (arguments c) ≡ meets s c
+condition_found : (s : Socket) (c : Condition) → IsConditionInRange c
+    → kernel_evaluates s (code_of c) (arguments c) ≡ meets s c
 condition_found s c range =
-    grind (arith, port_back, host_found, word_back, back 4, long_back)
+    grind (
+      arith,
+      port_round_trips,
+      host_found,
+      u32_round_trips,
+      little_endian_round_trips 4,
+      u64_round_trips,
+    )
 
-pub filter_found : (s : Socket) (f : Filter) → AreInRange f
-    → meaning (λ c. found_by s (code_of c) (arguments c)) f ≡ meaning (meets s) f
-filter_found s (parts.Condition c) range = condition_found s c range
-filter_found s (parts.And' p a q b) range =
-    grind (arith, filter_found s a range.0, filter_found s b range.1)
-filter_found s (parts.Or' p a q b) range =
-    grind (arith, filter_found s a range.0, filter_found s b range.1)
-filter_found s (parts.Not' p a) range = ap not (filter_found s a range)
+pub evaluation_is_meaning : (s : Socket) (f : Filter) → AreInRange f
+    → meaning (λ c. kernel_evaluates s (code_of c) (arguments c)) f ≡ meaning (meets s) f
+evaluation_is_meaning s (parts.Condition c) range = condition_found s c range
+evaluation_is_meaning s (parts.And' p a q b) range =
+    grind (arith, evaluation_is_meaning s a range.0, evaluation_is_meaning s b range.1)
+evaluation_is_meaning s (parts.Or' p a q b) range =
+    grind (arith, evaluation_is_meaning s a range.0, evaluation_is_meaning s b range.1)
+evaluation_is_meaning s (parts.Not' p a) range = ap not (evaluation_is_meaning s a range)

@@ -12,9 +12,10 @@ use Rattle.sock_diag_filters.specs.declared.condition.Condition.{Condition}
 use Rattle.sock_diag_filters.specs.declared.filter.Filter.{Filter}
 use Rattle.sock_diag_filters.specs.declared.filter.Filter.TheVariants as parts
 use Rattle.sock_diag_filters.specs.Prefixes.{bits_of, family_of, octets_of}
-use Rattle.sock_diag_filters.specs.Conditions.{arguments, code_of, front_of, octets_behind}
-use Rattle.sock_diag_filters.specs.Filters.{size}
-use Rattle.sock_diag_filters.specs.Audit.{address_length, least_of, no_at, yes_at}
+use Rattle.sock_diag_filters.specs.Conditions.{arguments, code_of, host_family_bytes}
+use Rattle.sock_diag_filters.specs.Conditions.{host_address_bytes}
+use Rattle.sock_diag_filters.specs.Filters.{program_size}
+use Rattle.sock_diag_filters.specs.Audit.{address_length, min_operation_length, no_at, yes_at}
 use Rattle.sock_diag_filters.specs.private.Assembly.{operation, program_of}
 
 -- ---- an operation followed by other bytes
@@ -23,9 +24,9 @@ pub operation_length : (code : ℕ) (args : List ℕ) (far : ℕ)
     → length (operation code args far) ≡ 4 + length args
 operation_length code args far = omega arith
 
-pub behind_operation : (code : ℕ) (args : List ℕ) (far : ℕ) (rest : List ℕ)
+pub bytes_after_operation : (code : ℕ) (args : List ℕ) (far : ℕ) (rest : List ℕ)
     → drop (yes_at (operation code args far ++ rest)) (operation code args far ++ rest) ≡ rest
-behind_operation code args far rest =
+bytes_after_operation code args far rest =
     grind (
       arith,
       drop_at (operation code args far) rest (4 + length args)
@@ -49,7 +50,7 @@ with_address a bits port =
 
 -- The bytes of a `struct inet_diag_hostcond` with or without an address.
 abbrev pub host : Option Prefix → ℕ → List ℕ
-host o port = front_of o ++ (little_bytes 4 port ++ octets_behind o)
+host o port = host_family_bytes o ++ (little_bytes 4 port ++ host_address_bytes o)
 
 address_in_fours : (a : IpAddr) (bits port : ℕ) → length (with_address a bits port) % 4 ≡ 0
 address_in_fours a bits port =
@@ -85,14 +86,14 @@ host_bits o code far port rest =
     grind (arith, address_bits)
 
 -- The length of a condition's arguments is a multiple of 4.
-pub arguments_in_fours : (c : Condition) → length (arguments c) % 4 ≡ 0
-arguments_in_fours c =
+pub arguments_length_multiple_of_4 : (c : Condition) → length (arguments c) % 4 ≡ 0
+arguments_length_multiple_of_4 c =
     grind (arith, host_in_fours)
 
 -- The kernel knows the operation of each condition, and its minimum length is the operation's
 -- length.
 pub condition_known : (c : Condition) (far : ℕ) (rest : List ℕ)
-    → least_of (operation (code_of c) (arguments c) far ++ rest)
+    → min_operation_length (operation (code_of c) (arguments c) far ++ rest)
     ≡ Some (4 + length (arguments c))
 condition_known c far rest =
     grind (arith, host_least)
@@ -107,15 +108,15 @@ condition_bits c far rest h =
 
 -- ---- programs
 
-pub program_length : (f : Filter) (far : ℕ) → length (program_of f far) ≡ size f
+pub program_length : (f : Filter) (far : ℕ) → length (program_of f far) ≡ program_size f
 program_length (parts.Condition c) far = operation_length (code_of c) (arguments c) far
 program_length (parts.And' p a q b) far =
     grind (
       arith,
-      program_length a (size b + far),
+      program_length a (program_size b + far),
       program_length b far,
-      length-append (program_of a (size b + far)) (program_of b far),
-      program_of a (size b + far),
+      length-append (program_of a (program_size b + far)) (program_of b far),
+      program_of a (program_size b + far),
       program_of b far,
     )
 program_length (parts.Or' p a q b) far =
@@ -138,15 +139,17 @@ program_length (parts.Not' p a) far =
     )
 
 -- The length of a program is a multiple of 4.
-pub size_in_fours : (f : Filter) → size f % 4 ≡ 0
-size_in_fours (parts.Condition c) = let four = arguments_in_fours c in omega arith
-size_in_fours (parts.And' p a q b) =
-    grind (arith, size_in_fours a, size_in_fours b)
-size_in_fours (parts.Or' p a q b) =
-    grind (arith, size_in_fours a, size_in_fours b)
-size_in_fours (parts.Not' p a) = let first = size_in_fours a in omega arith
+pub program_size_multiple_of_4 : (f : Filter) → program_size f % 4 ≡ 0
+program_size_multiple_of_4 (parts.Condition c) = let four = arguments_length_multiple_of_4 c in
+    omega arith
+program_size_multiple_of_4 (parts.And' p a q b) =
+    grind (arith, program_size_multiple_of_4 a, program_size_multiple_of_4 b)
+program_size_multiple_of_4 (parts.Or' p a q b) =
+    grind (arith, program_size_multiple_of_4 a, program_size_multiple_of_4 b)
+program_size_multiple_of_4 (parts.Not' p a) = let first = program_size_multiple_of_4 a in
+    omega arith
 
 -- A program has at least 4 bytes.
-pub size_some : (f : Filter) → 4 ≤ size f
-size_some (parts.And' p a q b) = let first = size_some a in omega arith
-size_some f = grind arith
+pub program_size_at_least_4 : (f : Filter) → 4 ≤ program_size f
+program_size_at_least_4 (parts.And' p a q b) = let first = program_size_at_least_4 a in omega arith
+program_size_at_least_4 f = grind arith

@@ -9,12 +9,12 @@ use Rattle.sock_diag_filters.specs.declared.condition.Condition.{Condition}
 use Rattle.sock_diag_filters.specs.declared.filter.Filter.{Filter}
 use Rattle.sock_diag_filters.specs.declared.filter.Filter.TheVariants as parts
 use Rattle.sock_diag_filters.specs.Conditions.{arguments, code_of}
-use Rattle.sock_diag_filters.specs.Filters.{meaning, size}
+use Rattle.sock_diag_filters.specs.Filters.{meaning, program_size}
 use Rattle.sock_diag_filters.specs.Audit.{no_at, yes_at}
 use Rattle.sock_diag_filters.specs.Run.{Runs, arguments_at, ends, goes_on, goes_past, is_met, step}
 use Rattle.sock_diag_filters.specs.private.Assembly.{jump, operation, program_of}
-use Rattle.sock_diag_filters.proofs.Operations.{behind_operation, no_of_operation, operation_length}
-use Rattle.sock_diag_filters.proofs.Operations.{program_length}
+use Rattle.sock_diag_filters.proofs.Operations.{bytes_after_operation, no_of_operation}
+use Rattle.sock_diag_filters.proofs.Operations.{operation_length, program_length}
 
 -- ---- Boolean values
 
@@ -83,19 +83,19 @@ module _ (found : ℕ → List ℕ → Bool) where
 
   -- The verdict `v` of a run that continues `far` bytes after the start of `rest`: the verdict of
   -- the run there, or `false` if this is past the end.
-  abbrev Goes : ℕ → List ℕ → Bool → Type 0
-  Goes far rest v =
+  abbrev ContinuesWithVerdict : ℕ → List ℕ → Bool → Type 0
+  ContinuesWithVerdict far rest v =
       ((far ≤ length rest) × Runs found (drop far rest) v) ⊎ ((length rest < far) × (v ≡ false))
 
-  goes_behind : (front rest : List ℕ) (far own : ℕ) (v : Bool) → length front ≡ own
-      → Goes far rest v → Goes (own + far) (front ++ rest) v
-  goes_behind front rest far own v long goes =
+  continues_after_prefix : (front rest : List ℕ) (far own : ℕ) (v : Bool) → length front ≡ own
+      → ContinuesWithVerdict far rest v → ContinuesWithVerdict (own + far) (front ++ rest) v
+  continues_after_prefix front rest far own v long goes =
       grind (arith, length-append front rest, drop-append-add front rest far)
 
   operation_runs : (code : ℕ) (args : List ℕ) (far : ℕ) (rest : List ℕ) (v : Bool)
       → 4 + length args + far ≤ 65535
       → (is_met found (operation code args far ++ rest) ≡ true → Runs found rest v)
-      → (is_met found (operation code args far ++ rest) ≡ false → Goes far rest v)
+      → (is_met found (operation code args far ++ rest) ≡ false → ContinuesWithVerdict far rest v)
       → Runs found (operation code args far ++ rest) v
   operation_runs code args far rest v near wanted unwanted =
       let left : List ℕ = operation code args far ++ rest in
@@ -109,12 +109,12 @@ module _ (found : ℕ → List ℕ → Bool) where
       ap (λ (b : Bool). if b then yes_at left else no_at left) met in
       goes_on left v (omega arith) (omega arith)
       (subst (λ (l : List ℕ). Runs found l v)
-      (sym (ap (λ (n : ℕ). drop n left) takes ∙ behind_operation code args far rest))
+      (sym (ap (λ (n : ℕ). drop n left) takes ∙ bytes_after_operation code args far rest))
       (wanted met)))
       (λ unmet.
       let takes : step found left ≡ 4 + length args + far =
       ap (λ (b : Bool). if b then yes_at left else no_at left) unmet ∙ no_is in
-      let goes = goes_behind (operation code args far) rest far (4 + length args) v own
+      let goes = continues_after_prefix (operation code args far) rest far (4 + length args) v own
       (unwanted unmet) in
       elim goes [
         | inl within ↦
@@ -128,17 +128,19 @@ module _ (found : ℕ → List ℕ → Bool) where
             (goes_past left (omega arith) (omega arith))
       ])
 
-  jump_runs : (far : ℕ) (rest : List ℕ) (v : Bool) → 4 + far ≤ 65535 → Goes far rest v
+  jump_runs : (far : ℕ) (rest : List ℕ) (v : Bool) → 4 + far ≤ 65535
+      → ContinuesWithVerdict far rest v
       → Runs found (jump far ++ rest) v
   jump_runs far rest v near goes =
       operation_runs 1 [] far rest v (omega arith) (λ met. absurd cc) (λ unmet. goes)
 
   -- Whether the filter selects the socket.
-  abbrev wants : Filter → Bool
-  wants f = meaning (λ (c : Condition). found (code_of c) (arguments c)) f
+  abbrev filter_selects : Filter → Bool
+  filter_selects f = meaning (λ (c : Condition). found (code_of c) (arguments c)) f
 
-  program_runs : (f : Filter) (far : ℕ) (rest : List ℕ) (v : Bool) → size f + far ≤ 65535
-      → (wants f ≡ true → Runs found rest v) → (wants f ≡ false → Goes far rest v)
+  program_runs : (f : Filter) (far : ℕ) (rest : List ℕ) (v : Bool) → program_size f + far ≤ 65535
+      → (filter_selects f ≡ true → Runs found rest v)
+      → (filter_selects f ≡ false → ContinuesWithVerdict far rest v)
       → Runs found (program_of f far ++ rest) v
   program_runs (parts.Condition c) far rest v near wanted unwanted =
       grind (arith, condition_met c far rest, operation_runs (code_of c) (arguments c) far rest v)
@@ -146,13 +148,13 @@ module _ (found : ℕ → List ℕ → Bool) where
       grind (
         arith,
         program_of b far,
-        append_assoc (program_of a (size b + far)),
-        program_of a (size b + far),
-        program_runs a (size b + far),
+        append_assoc (program_of a (program_size b + far)),
+        program_of a (program_size b + far),
+        program_runs a (program_size b + far),
         program_runs b far rest v,
         both_true,
         second_false,
-        goes_behind,
+        continues_after_prefix,
         program_length b far,
         first_false,
       )
@@ -161,12 +163,12 @@ module _ (found : ℕ → List ℕ → Bool) where
         arith,
         program_of a 4,
         program_of b far,
-        jump (size b),
+        jump (program_size b),
         append_assoc,
         program_length b far,
         length-append,
         program_runs a 4,
-        jump_runs (size b),
+        jump_runs (program_size b),
         drop_at,
         first_true,
         program_runs b far rest v,
@@ -185,9 +187,10 @@ module _ (found : ℕ → List ℕ → Bool) where
         is_true,
       )
 
-  pub program_wants : (f : Filter) → size f ≤ 65531 → Runs found (program_of f 4) (wants f)
-  program_wants f short =
-      subst (λ (l : List ℕ). Runs found l (wants f)) (append-nil (program_of f 4))
-      (program_runs f 4 [] (wants f) (omega arith)
+  pub program_verdict_is_meaning : (f : Filter) → program_size f ≤ 65531
+      → Runs found (program_of f 4) (filter_selects f)
+  program_verdict_is_meaning f short =
+      subst (λ (l : List ℕ). Runs found l (filter_selects f)) (append-nil (program_of f 4))
+      (program_runs f 4 [] (filter_selects f) (omega arith)
       (λ is. subst (Runs found []) (sym is) (ends [] refl))
       (λ is. inr (omega arith, is)))

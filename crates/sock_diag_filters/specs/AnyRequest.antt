@@ -1,7 +1,7 @@
 -- Requests (sock_diag(7)) for sockets of any family that this crate parses.
 use Rattle.std.specs.Prelude.{◌≡◌, ℕ, ◌==◌, ◌||◌, not, nat_lt, if◌then◌else◌, ◌⊎◌, List, length}
 use Rattle.std.specs.Prelude.{drop, slice_index, Result, Ok, Err}
-use Rattle.netlink_core.specs.Header.{HasHeader, IsEnvelopeFault}
+use Rattle.netlink_core.specs.Header.{HasHeader, IsMessageError}
 use Rattle.netlink_core.specs.ValueCodec.{ValueCodec, value_codec}
 use Rattle.netlink_core.specs.declared.fault.DecodeError.{DecodeError}
 use Rattle.netlink_core.specs.declared.fault.DecodeError.TheVariants.{MessageTooShort}
@@ -14,7 +14,7 @@ use Rattle.sock_diag_families.specs.VsockRequest.{vsock_request}
 use Rattle.sock_diag_filters.specs.declared.any.AnyRequestView.{AnyRequestView}
 use Rattle.sock_diag_filters.specs.declared.any.AnyRequestView.TheVariants as view
 use Rattle.sock_diag_filters.specs.declared.view.RequestView.{RequestView}
-use Rattle.sock_diag_filters.specs.Asked.{Asks, RefusesRequest, payload_of}
+use Rattle.sock_diag_filters.specs.Asked.{ParsesAsRequest, IsRejectedRequest, message_payload}
 
 -- The families whose request consists of one record.
 pub data RecordFamily : Type 0 where
@@ -22,30 +22,30 @@ pub data RecordFamily : Type 0 where
 
 -- The codec of each family's record. The argument of `show_request` is the family: 16 AF_NETLINK,
 -- 17 AF_PACKET, 44 AF_XDP.
-abbrev pub codec_of : RecordFamily → ValueCodec (Unit {0})
-codec_of unix = value_codec unix_request
-codec_of netlink = value_codec (show_request 16)
-codec_of packet = value_codec (show_request 17)
-codec_of vsock = value_codec vsock_request
-codec_of xdp = value_codec (show_request 44)
+abbrev pub record_request_codec : RecordFamily → ValueCodec (Unit {0})
+record_request_codec unix = value_codec unix_request
+record_request_codec netlink = value_codec (show_request 16)
+record_request_codec packet = value_codec (show_request 17)
+record_request_codec vsock = value_codec vsock_request
+record_request_codec xdp = value_codec (show_request 44)
 
 -- The size of each family's record in bytes: of `struct unix_diag_req`, `netlink_diag_req`,
 -- `packet_diag_req`, `vsock_diag_req` and `xdp_diag_req`.
-abbrev pub size_of : RecordFamily → ℕ
-size_of unix = 24
-size_of netlink = 20
-size_of packet = 20
-size_of vsock = 24
-size_of xdp = 20
+abbrev pub record_request_size : RecordFamily → ℕ
+record_request_size unix = 24
+record_request_size netlink = 20
+record_request_size packet = 20
+record_request_size vsock = 24
+record_request_size xdp = 20
 
 -- The family of a request: `inet` for IPv4 and IPv6, or another family.
-pub data AskedFamily : Type 0 where
-  inet : AskedFamily
-  of_record : RecordFamily → AskedFamily
+pub data RequestedFamily : Type 0 where
+  inet : RequestedFamily
+  of_record : RecordFamily → RequestedFamily
 
 -- The family by the first byte of the payload: 2 AF_INET, 10 AF_INET6, 1 AF_UNIX, 16 AF_NETLINK, 17
 -- AF_PACKET, 40 AF_VSOCK, 44 AF_XDP. Any other byte is UnknownFamily.
-abbrev pub family_by_byte : ℕ → Result AskedFamily DecodeError
+abbrev pub family_by_byte : ℕ → Result RequestedFamily DecodeError
 family_by_byte first =
     if (first == 2) || (first == 10) then Ok inet
     else if first == 1 then Ok (of_record unix)
@@ -58,53 +58,56 @@ family_by_byte first =
 -- The family of a payload of a message of type `t`, or the first error of one that is not a
 -- request: fewer than 2 bytes are MessageTooShort; a type other than 20 (SOCK_DIAG_BY_FAMILY) and
 -- 21 (SOCK_DESTROY) is UnknownMessageType; then UnknownFamily by the first byte.
-abbrev pub asked_family : List ℕ → ℕ → Result AskedFamily DecodeError
-asked_family payload t =
+abbrev pub family_of_request_payload : List ℕ → ℕ → Result RequestedFamily DecodeError
+family_of_request_payload payload t =
     if nat_lt (length payload) 2 then Err (MessageTooShort (length payload))
     else if not ((t == 20) || (t == 21)) then Err (UnknownMessageType t)
     else family_by_byte (slice_index payload 0)
 
 -- The family of a message with the netlink header `h`, or its error.
-abbrev pub family_in : List ℕ → NetlinkHeader → Result AskedFamily DecodeError
-family_in message h = asked_family (payload_of message h) h.message_type
+abbrev pub family_of_message : List ℕ → NetlinkHeader → Result RequestedFamily DecodeError
+family_of_message message h = family_of_request_payload (message_payload message h) h.message_type
 
 -- A parsed request: a view for IPv4 and IPv6; for another family the netlink header, the record and
 -- the bytes after the record.
 pub data AnyRequest : Type 0 where
   of_inet : RequestView → AnyRequest
-  of_family : (family : RecordFamily) → NetlinkHeader → (codec_of family).Value → List ℕ
+  of_family : (family : RecordFamily) → NetlinkHeader → (record_request_codec family).Value → List ℕ
       → AnyRequest
 
 -- The request in an `AnyRequestView`.
-abbrev pub asked_any : AnyRequestView → AnyRequest
-asked_any (view.Inet v) = of_inet v
-asked_any (view.Unix v) = of_family unix v.header v.request v.attributes.now
-asked_any (view.Netlink v) = of_family netlink v.header v.request v.attributes.now
-asked_any (view.Packet v) = of_family packet v.header v.request v.attributes.now
-asked_any (view.Vsock v) = of_family vsock v.header v.request v.attributes.now
-asked_any (view.Xdp v) = of_family xdp v.header v.request v.attributes.now
+abbrev pub any_request_content : AnyRequestView → AnyRequest
+any_request_content (view.Inet v) = of_inet v
+any_request_content (view.Unix v) = of_family unix v.header v.request v.attributes.now
+any_request_content (view.Netlink v) = of_family netlink v.header v.request v.attributes.now
+any_request_content (view.Packet v) = of_family packet v.header v.request v.attributes.now
+any_request_content (view.Vsock v) = of_family vsock v.header v.request v.attributes.now
+any_request_content (view.Xdp v) = of_family xdp v.header v.request v.attributes.now
 
 -- The message parses as the request. It starts with the netlink header, its payload is of the
 -- request's family and starts with the record, and the attributes are the bytes after the record,
 -- up to the length in the header.
-abbrev pub AnyAsks : List ℕ → AnyRequest → Type 0
-AnyAsks message (of_inet v) = (family_in message v.header ≡ Ok inet) × Asks message v
-AnyAsks message (of_family family h request attributes) =
-    HasHeader message h × (family_in message h ≡ Ok (of_record family))
-    × ((codec_of family).reads tt (payload_of message h) ≡ Ok request)
-    × (attributes ≡ drop (size_of family) (payload_of message h))
+abbrev pub ParsesAsAnyRequest : List ℕ → AnyRequest → Type 0
+ParsesAsAnyRequest message (of_inet v) =
+    (family_of_message message v.header ≡ Ok inet) × ParsesAsRequest message v
+ParsesAsAnyRequest message (of_family family h request attributes) =
+    HasHeader message h × (family_of_message message h ≡ Ok (of_record family))
+    × ((record_request_codec family).reads tt (message_payload message h) ≡ Ok request)
+    × (attributes ≡ drop (record_request_size family) (message_payload message h))
 
 -- The message with the header `h` is rejected with `e`: with the error in place of its family; or
 -- by the parser of `RequestView` for IPv4 and IPv6; or by the parser of the family's record.
-abbrev pub refuses_by : Result AskedFamily DecodeError → List ℕ → NetlinkHeader → DecodeError
+abbrev pub IsRejectedByRequestFamily : Result RequestedFamily DecodeError → List ℕ → NetlinkHeader
+    → DecodeError
     → Type 0
-refuses_by (Err fault) message h e = e ≡ fault
-refuses_by (Ok inet) message h e = RefusesRequest message e
-refuses_by (Ok (of_record family)) message h e =
-    (codec_of family).reads tt (payload_of message h) ≡ Err e
+IsRejectedByRequestFamily (Err fault) message h e = e ≡ fault
+IsRejectedByRequestFamily (Ok inet) message h e = IsRejectedRequest message e
+IsRejectedByRequestFamily (Ok (of_record family)) message h e =
+    (record_request_codec family).reads tt (message_payload message h) ≡ Err e
 
 -- The message is rejected with `e`, its first error: the bytes do not start with a netlink message,
 -- or the message that they start with is rejected.
-abbrev pub RefusesAnyRequest : List ℕ → DecodeError → Type 0
-RefusesAnyRequest message e = IsEnvelopeFault message e
-    ⊎ ((h : NetlinkHeader) × HasHeader message h × refuses_by (family_in message h) message h e)
+abbrev pub IsRejectedAnyRequest : List ℕ → DecodeError → Type 0
+IsRejectedAnyRequest message e = IsMessageError message e
+    ⊎ ((h : NetlinkHeader) × HasHeader message h
+    × IsRejectedByRequestFamily (family_of_message message h) message h e)

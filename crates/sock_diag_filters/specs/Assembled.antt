@@ -3,11 +3,11 @@ use Rattle.std.specs.Prelude.{◌<◌, ◌≤◌}
 use Rattle.sock_diag_filters.specs.declared.assembly.AssembleError.{AssembleError}
 use Rattle.sock_diag_filters.specs.declared.assembly.AssembleError.TheVariants.{Memory, TooLong}
 use Rattle.sock_diag_filters.specs.declared.filter.Filter.{Filter}
-use Rattle.sock_diag_filters.specs.Filters.{size}
+use Rattle.sock_diag_filters.specs.Filters.{program_size}
 
 -- The error of a filter. It is `TooLong` only if the program has more than 65,531 bytes, so that
 -- its length does not fit the length field of an attribute. It is `Memory` only if the program is
 -- not too long.
-abbrev pub IsRefused : Filter → AssembleError → Type 0
-IsRefused filter TooLong = 65531 < size filter
-IsRefused filter Memory = size filter ≤ 65531
+abbrev pub IsAssembleError : Filter → AssembleError → Type 0
+IsAssembleError filter TooLong = 65531 < program_size filter
+IsAssembleError filter Memory = program_size filter ≤ 65531

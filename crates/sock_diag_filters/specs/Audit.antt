@@ -38,8 +38,8 @@ address_length family =
 -- bytes. Comparisons of ports (2 to 5, 11, 12) and DEV_COND (9) have 8. MARK_COND (10) and
 -- CGROUP_COND (13) have 12. S_COND (7) and D_COND (8) have 12 and an address, whose family is the
 -- byte at 4. The list has an entry for each code from 0 to 13; its zeros for 7 and 8 are not used.
-abbrev pub least_of : List ℕ → Option ℕ
-least_of left =
+abbrev pub min_operation_length : List ℕ → Option ℕ
+min_operation_length left =
     if code_at left == 7 then option_map (λ n. 12 + n) (address_length (slice_index left 4))
     else if code_at left == 8 then option_map (λ n. 12 + n) (address_length (slice_index left 4))
     else slice_get (4 ∷ 4 ∷ 8 ∷ 8 ∷ 8 ∷ 8 ∷ 4 ∷ 0 ∷ 0 ∷ 8 ∷ 12 ∷ 8 ∷ 8 ∷ 12 ∷ []) (code_at left)
@@ -58,10 +58,10 @@ abbrev pub IsReachable : List ℕ → ℕ → Type 0
 IsReachable program n = (later : List ℕ) × Steps program later × (length later ≡ n)
 
 -- The operation at the start of `left` passes the checks of the kernel.
-pub record IsFine (program left : List ℕ) : Type 0 where
+pub record IsOperationAudited (program left : List ℕ) : Type 0 where
   -- the kernel knows its code, and `left` has at least its minimum length
   pub least : ℕ
-  pub known : least_of left ≡ Some least
+  pub known : min_operation_length left ≡ Some least
   pub whole : least ≤ length left
   -- S_COND and D_COND: `prefix_len`, the byte at 5, is at most the length of the address in bits
   pub bits : (code_at left ≡ 7) ⊎ (code_at left ≡ 8) → slice_index left 5 ≤ 8 * (least - 12)
@@ -78,12 +78,13 @@ pub record IsFine (program left : List ℕ) : Type 0 where
   pub steps_in_fours : yes_at left % 4 ≡ 0
 
 -- Each operation from `left` on passes the checks, stepping by their `yes` up to the end.
-pub data Passes (program : List ℕ) : List ℕ → Type 0 where
-  at_end : Passes program []
-  on : (left : List ℕ) → IsFine program left → Passes program (drop (yes_at left) left)
-      → Passes program left
+pub data AllOperationsPass (program : List ℕ) : List ℕ → Type 0 where
+  at_end : AllOperationsPass program []
+  on : (left : List ℕ) → IsOperationAudited program left
+      → AllOperationsPass program (drop (yes_at left) left)
+      → AllOperationsPass program left
 
 -- The kernel accepts the program: it has at least 4 bytes, and each of its operations passes the
 -- checks.
 abbrev pub IsAudited : List ℕ → Type 0
-IsAudited program = (4 ≤ length program) × Passes program program
+IsAudited program = (4 ≤ length program) × AllOperationsPass program program

@@ -18,9 +18,9 @@ use Rattle.sock_diag_filters.specs.Prefixes.{bits_of, family_of, octets_of, port
 
 -- The result of `Prefix::new`: the prefix of `bits` bits of `address`, or `None` only if the
 -- address has fewer bits. A `Prefix` never has more bits than its address.
-abbrev pub IsPrefix : Option Prefix → IpAddr → ℕ → Type 0
-IsPrefix (Some p) address bits = (p.address ≡ address) × (p.bits ≡ bits)
-IsPrefix None address bits = bits ≤ bits_of address → ⊥
+abbrev pub IsNewPrefix : Option Prefix → IpAddr → ℕ → Type 0
+IsNewPrefix (Some p) address bits = (p.address ≡ address) × (p.bits ≡ bits)
+IsNewPrefix None address bits = bits ≤ bits_of address → ⊥
 
 -- The code of a comparison of the local port: 2 INET_DIAG_BC_S_GE, 3 S_LE, 11 S_EQ.
 abbrev pub source_code : Comparison → ℕ
@@ -48,20 +48,21 @@ code_of AutoBound = 6
 
 -- The first four bytes of a `struct inet_diag_hostcond`: `family`, `prefix_len` and two bytes of
 -- padding. Without a prefix, the family is 0 (AF_UNSPEC) and `prefix_len` 0.
-abbrev pub front_of : Option Prefix → List ℕ
-front_of None = 0 ∷ 0 ∷ 0 ∷ 0 ∷ []
-front_of (Some p) = family_of p.address ∷ p.bits ∷ 0 ∷ 0 ∷ []
+abbrev pub host_family_bytes : Option Prefix → List ℕ
+host_family_bytes None = 0 ∷ 0 ∷ 0 ∷ 0 ∷ []
+host_family_bytes (Some p) = family_of p.address ∷ p.bits ∷ 0 ∷ 0 ∷ []
 
 -- The bytes of `addr` of a `struct inet_diag_hostcond`: the octets of the address, if there is one.
-abbrev pub octets_behind : Option Prefix → List ℕ
-octets_behind None = []
-octets_behind (Some p) = octets_of p.address
+abbrev pub host_address_bytes : Option Prefix → List ℕ
+host_address_bytes None = []
+host_address_bytes (Some p) = octets_of p.address
 
 -- The bytes of a `struct inet_diag_hostcond`: `family`, `prefix_len`, padding, then `port` as a
 -- little-endian number of 32 bits, which is -1 without a port, and `addr`.
 abbrev pub host_bytes : Host → List ℕ
 host_bytes h =
-    front_of h.prefix ++ (little_bytes 4 (unwrap_or h.port 0xffffffff) ++ octets_behind h.prefix)
+    host_family_bytes h.prefix ++ (little_bytes 4 (unwrap_or h.port 0xffffffff)
+    ++ host_address_bytes h.prefix)
 
 -- The arguments of a condition's operation: the bytes after its `struct inet_diag_bc_op` of four
 -- bytes. For a port they are a second `struct inet_diag_bc_op`, for a host a

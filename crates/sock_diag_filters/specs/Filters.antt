@@ -15,8 +15,8 @@ meaning met (parts.Not' p filter) = not (meaning met filter)
 -- The length of a filter's program in bytes. An operation has 4 bytes (`struct inet_diag_bc_op`)
 -- and its arguments. A condition is one operation. `or` and `not` add one operation without
 -- arguments, a jump; `and` adds none.
-abbrev pub size : Filter → ℕ
-size (parts.Condition c) = 4 + length (arguments c)
-size (parts.And' p first q second) = size first + size second
-size (parts.Or' p first q second) = size first + 4 + size second
-size (parts.Not' p filter) = size filter + 4
+abbrev pub program_size : Filter → ℕ
+program_size (parts.Condition c) = 4 + length (arguments c)
+program_size (parts.And' p first q second) = program_size first + program_size second
+program_size (parts.Or' p first q second) = program_size first + 4 + program_size second
+program_size (parts.Not' p filter) = program_size filter + 4

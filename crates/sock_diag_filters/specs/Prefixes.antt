@@ -4,7 +4,7 @@ use Rattle.std.specs.List.{flat_map}
 use Rattle.byteorder.specs.Endian.{big_bytes, little_bytes}
 use Rattle.std.specs.declared.net.ip_addr.IpAddr.{IpAddr}
 use Rattle.std.specs.declared.net.ip_addr.IpAddr.TheVariants.{V4, V6}
-use Rattle.netlink_core.specs.Table.{first}
+use Rattle.netlink_core.specs.Table.{first_numbers}
 
 -- The length of an address in bits.
 abbrev pub bits_of : IpAddr → ℕ
@@ -18,8 +18,8 @@ family_of (V6 ip) = 10
 
 -- The octets of an address in network byte order: four, or two for each of eight segments.
 abbrev pub octets_of : IpAddr → List ℕ
-octets_of (V4 ip) = first 4 ip.octets
-octets_of (V6 ip) = flat_map (big_bytes 2) (first 8 ip.segments)
+octets_of (V4 ip) = first_numbers 4 ip.octets
+octets_of (V6 ip) = flat_map (big_bytes 2) (first_numbers 8 ip.segments)
 
 -- The arguments of a comparison of ports: a `struct inet_diag_bc_op` whose `code` and `yes` are 0
 -- and whose `no` is the port, a little-endian u16.

@@ -2,9 +2,9 @@
 use Rattle.std.specs.Prelude.{◌≡◌, ◌+◌, ◌^◌, ◌<◌, ◌≤◌, List, length, map, option_map, unwrap_or}
 use Rattle.std.specs.Prelude.{None}
 use Rattle.std.specs.List.{AllByRecursion, filter_map, flat_map, last_or}
-use Rattle.netlink_core.specs.Attribute.{written}
+use Rattle.netlink_core.specs.Attribute.{attribute_bytes}
 use Rattle.netlink_core.specs.Layout.{IsNormal, IsInRange}
-use Rattle.netlink_core.specs.Table.{Fit}
+use Rattle.netlink_core.specs.Table.{FitFields}
 use Rattle.netlink_core.specs.Header.{header_fields, header_values}
 use Rattle.netlink_core.specs.declared.header.NetlinkHeader.{NetlinkHeader}
 use Rattle.sock_diag_records.specs.InetRequest.{inet_request}
@@ -12,41 +12,42 @@ use Rattle.sock_diag_records.specs.declared.inet.request.InetRequest.{InetReques
 use Rattle.sock_diag_filters.specs.declared.request.RequestAttribute.{RequestAttribute}
 use Rattle.sock_diag_filters.specs.declared.request.RequestAttribute.TheVariants.{Program, Protocol}
 use Rattle.sock_diag_filters.specs.declared.view.RequestView.{RequestView}
-use Rattle.sock_diag_filters.specs.Asked.{asked_of, program_in, protocol_in}
-use Rattle.sock_diag_filters.specs.Requests.{attribute_of, header_under}
+use Rattle.sock_diag_filters.specs.Asked.{request_attribute_content, program_in, protocol_in}
+use Rattle.sock_diag_filters.specs.Requests.{request_attribute, header_with_length}
 
 -- The header that is serialized: its length is the length of the message, 72 bytes and the
 -- attributes.
-abbrev pub written_header : NetlinkHeader → List RequestAttribute → NetlinkHeader
-written_header h attributes =
-    header_under h (72 + length (flat_map written (map attribute_of attributes)))
+abbrev pub serialized_request_header : NetlinkHeader → List RequestAttribute → NetlinkHeader
+serialized_request_header h attributes =
+    header_with_length h (72 + length (flat_map attribute_bytes (map request_attribute attributes)))
 
 -- The attribute fits: a program has at most 65,531 bytes, and a protocol is below 2^32.
-abbrev pub Fits : RequestAttribute → Type 0
-Fits (Program program) = length program.now ≤ 65531
-Fits (Protocol protocol) = protocol < 2 ^ 32
+abbrev pub IsRequestAttributeInRange : RequestAttribute → Type 0
+IsRequestAttributeInRange (Program program) = length program.now ≤ 65531
+IsRequestAttributeInRange (Protocol protocol) = protocol < 2 ^ 32
 
 -- The conditions under which a request round-trips, other than on the message type: its numbers are
 -- in range, it is in normal form, and its lengths fit.
-pub record CanBeAsked (h : NetlinkHeader) (request : InetRequest)
+pub record IsRoundTrippingRequest (h : NetlinkHeader) (request : InetRequest)
     (attributes : List RequestAttribute) : Type 0 where
   -- each number of the header that is serialized fits its field; so the message is below 2^32 bytes
-  pub header : Fit header_fields (header_values (written_header h attributes))
+  pub header : FitFields header_fields (header_values (serialized_request_header h attributes))
   -- each number of the record fits its field
   pub in_range : IsInRange inet_request request
   -- the record is in normal form
   pub normal : IsNormal inet_request tt request
   -- each attribute fits
-  pub fit : AllByRecursion Fits attributes
+  pub fit : AllByRecursion IsRequestAttributeInRange attributes
 
 -- The view has the header that was serialized, the record, and the last program of the attributes,
 -- or `None` if there is none. Its protocol is the last protocol of the attributes, or the record's
 -- protocol if there is none.
-pub record IsReadBack (h : NetlinkHeader) (request : InetRequest)
+pub record IsParsedRequest (h : NetlinkHeader) (request : InetRequest)
     (attributes : List RequestAttribute) (view : RequestView) : Type 0 where
-  pub header : view.header ≡ written_header h attributes
+  pub header : view.header ≡ serialized_request_header h attributes
   pub same_request : view.request ≡ request
   pub program : option_map (λ program. program.now) view.program
-      ≡ last_or None (filter_map program_in (map asked_of attributes))
+      ≡ last_or None (filter_map program_in (map request_attribute_content attributes))
   pub protocol : view.protocol
-      ≡ unwrap_or (last_or None (filter_map protocol_in (map asked_of attributes))) request.protocol
+      ≡ unwrap_or (last_or None (filter_map protocol_in (map request_attribute_content attributes)))
+      request.protocol

@@ -2,9 +2,9 @@
 use Rattle.std.specs.Prelude.{ℕ, ◌+◌, List, ◌++◌, length}
 use Rattle.std.specs.List.{flat_map}
 use Rattle.byteorder.specs.Endian.{little_bytes}
-use Rattle.netlink_core.specs.Attribute.{Attribute, written}
+use Rattle.netlink_core.specs.Attribute.{Attribute, attribute_bytes}
 use Rattle.netlink_core.specs.declared.header.NetlinkHeader.{NetlinkHeader}
-use Rattle.netlink_core.specs.Layout.{bytes}
+use Rattle.netlink_core.specs.Layout.{record_bytes}
 use Rattle.netlink_core.specs.Header.{header_bytes}
 use Rattle.sock_diag_records.specs.InetRequest.{inet_request}
 use Rattle.sock_diag_records.specs.declared.inet.request.InetRequest.{InetRequest}
@@ -13,13 +13,13 @@ use Rattle.sock_diag_filters.specs.declared.request.RequestAttribute.TheVariants
 
 -- The attribute of a request: type 1 (INET_DIAG_REQ_BYTECODE) with the bytes of a program, or type
 -- 3 (INET_DIAG_REQ_PROTOCOL) with the protocol as a little-endian u32.
-abbrev pub attribute_of : RequestAttribute → Attribute
-attribute_of (Program program) = record { type_word = 1; value = program.now }
-attribute_of (Protocol protocol) = record { type_word = 3; value = little_bytes 4 protocol }
+abbrev pub request_attribute : RequestAttribute → Attribute
+request_attribute (Program program) = record { type_word = 1; value = program.now }
+request_attribute (Protocol protocol) = record { type_word = 3; value = little_bytes 4 protocol }
 
 -- The header with its length replaced by `len`.
-abbrev pub header_under : NetlinkHeader → ℕ → NetlinkHeader
-header_under h len = record {
+abbrev pub header_with_length : NetlinkHeader → ℕ → NetlinkHeader
+header_with_length h len = record {
   length = len;
   message_type = h.message_type;
   flags = h.flags;
@@ -31,5 +31,5 @@ header_under h len = record {
 -- message; 56 of the request, `struct inet_diag_req_v2`; and the attributes, each with its padding.
 abbrev pub request_bytes : NetlinkHeader → InetRequest → List Attribute → List ℕ
 request_bytes h request attributes =
-    header_bytes (header_under h (72 + length (flat_map written attributes)))
-    ++ bytes inet_request request ++ flat_map written attributes
+    header_bytes (header_with_length h (72 + length (flat_map attribute_bytes attributes)))
+    ++ record_bytes inet_request request ++ flat_map attribute_bytes attributes

@@ -43,60 +43,60 @@ pub record Socket : Type 0 where
 
 -- The first `bits` bits of `octets` and `others` are equal, as in the kernel's `bitstring_match`.
 -- Both are read as big-endian numbers of the length of `others`.
-abbrev pub begins_alike : ℕ → List ℕ → List ℕ → Bool
-begins_alike bits octets others =
+abbrev pub have_equal_prefix : ℕ → List ℕ → List ℕ → Bool
+have_equal_prefix bits octets others =
     let behind = 2 ^ (8 * length others - bits) in
     (big_number (length others) octets / behind) == (big_number (length others) others / behind)
 
 -- The octets are an IPv4-mapped IPv6 address, ::ffff:a.b.c.d: the first 12 octets are ten times 0,
 -- then 255 and 255.
-abbrev pub is_mapped : List ℕ → Bool
-is_mapped octets = big_number 12 octets == 0xffff
+abbrev pub is_ipv4_mapped : List ℕ → Bool
+is_ipv4_mapped octets = big_number 12 octets == 0xffff
 
 -- ---- conditions as `inet_diag_bc_run` of the kernel's net/ipv4/inet_diag.c evaluates them
 
 -- The port in the arguments of a port comparison. The arguments are a second
 -- `struct inet_diag_bc_op`, whose `no` (offset 2) is the port.
-abbrev pub port_in : List ℕ → ℕ
-port_in args = little_number 2 (drop 2 args)
+abbrev pub compared_port : List ℕ → ℕ
+compared_port args = little_number 2 (drop 2 args)
 
 -- The address `octets`, of the family `family`, matches a condition: it starts with the first
 -- `bits` bits of `prefix`. The condition's family is `asked`. If it is 0 (AF_UNSPEC), it matches
 -- each family. If it is 2 (AF_INET), it also matches an IPv4-mapped address of family 10 (AF_INET6)
 -- by its last four octets.
-abbrev pub finds_address : ℕ → List ℕ → ℕ → ℕ → List ℕ → Bool
-finds_address family octets asked bits prefix =
-    if asked == 0 then bits == 0 || begins_alike bits octets prefix
-    else if asked == family then bits == 0 || begins_alike bits octets prefix
+abbrev pub kernel_matches_address : ℕ → List ℕ → ℕ → ℕ → List ℕ → Bool
+kernel_matches_address family octets asked bits prefix =
+    if asked == 0 then bits == 0 || have_equal_prefix bits octets prefix
+    else if asked == family then bits == 0 || have_equal_prefix bits octets prefix
     else
     asked == 2
-    && (family == 10 && (is_mapped octets && begins_alike bits (drop 12 octets) prefix))
+    && (family == 10 && (is_ipv4_mapped octets && have_equal_prefix bits (drop 12 octets) prefix))
 
 -- A port and an address match the arguments of S_COND or D_COND, a `struct inet_diag_hostcond`:
 -- `family` at 0, `prefix_len` at 1, `port` at 4 as 32 bits (-1 matches each port), `addr` at 8.
-abbrev pub finds_host : ℕ → ℕ → List ℕ → List ℕ → Bool
-finds_host family port octets args =
+abbrev pub kernel_matches_host : ℕ → ℕ → List ℕ → List ℕ → Bool
+kernel_matches_host family port octets args =
     (little_number 4 (drop 4 args) == 0xffffffff || little_number 4 (drop 4 args) == port)
-    && finds_address family octets (slice_index args 0) (slice_index args 1) (drop 8 args)
+    && kernel_matches_address family octets (slice_index args 0) (slice_index args 1) (drop 8 args)
 
 -- Whether the kernel finds that the socket meets the condition of an operation with this code
 -- (INET_DIAG_BC_..) and these arguments: 2 S_GE, 3 S_LE, 4 D_GE, 5 D_LE, 6 AUTO, 7 S_COND, 8
 -- D_COND, 9 DEV_COND (a u32), 10 MARK_COND (`struct inet_diag_markcond`: `mark` at 0, `mask` at 4),
 -- 11 S_EQ, 12 D_EQ, 13 CGROUP_COND (a u64). Other codes count as met; `Run.antt` handles JMP
 -- before.
-abbrev pub found_by : Socket → ℕ → List ℕ → Bool
-found_by s code args =
-    if code == 2 then nat_le (port_in args) s.source_port
-    else if code == 3 then nat_le s.source_port (port_in args)
-    else if code == 4 then nat_le (port_in args) s.destination_port
-    else if code == 5 then nat_le s.destination_port (port_in args)
+abbrev pub kernel_evaluates : Socket → ℕ → List ℕ → Bool
+kernel_evaluates s code args =
+    if code == 2 then nat_le (compared_port args) s.source_port
+    else if code == 3 then nat_le s.source_port (compared_port args)
+    else if code == 4 then nat_le (compared_port args) s.destination_port
+    else if code == 5 then nat_le s.destination_port (compared_port args)
     else if code == 6 then s.is_auto_bound
-    else if code == 7 then finds_host s.family s.source_port s.source args
-    else if code == 8 then finds_host s.family s.destination_port s.destination args
+    else if code == 7 then kernel_matches_host s.family s.source_port s.source args
+    else if code == 8 then kernel_matches_host s.family s.destination_port s.destination args
     else if code == 9 then s.interface == little_number 4 args
     else if code == 10 then bit_and s.mark (little_number 4 (drop 4 args)) == little_number 4 args
-    else if code == 11 then s.source_port == port_in args
-    else if code == 12 then s.destination_port == port_in args
+    else if code == 11 then s.source_port == compared_port args
+    else if code == 12 then s.destination_port == compared_port args
     else if code == 13 then s.cgroup == little_number 8 args
     else true
 
@@ -116,23 +116,25 @@ has_port (Some asked) port = asked == port
 -- The address `octets`, of the family `family`, starts with the first `bits` bits of the given
 -- address. An IPv4 address is also compared with the last four octets of an IPv4-mapped IPv6
 -- address.
-abbrev pub is_within : IpAddr → ℕ → ℕ → List ℕ → Bool
-is_within (V4 ip) bits family octets =
-    if 2 == family then bits == 0 || begins_alike bits octets (octets_of (V4 ip))
+abbrev pub address_has_prefix : IpAddr → ℕ → ℕ → List ℕ → Bool
+address_has_prefix (V4 ip) bits family octets =
+    if 2 == family then bits == 0 || have_equal_prefix bits octets (octets_of (V4 ip))
     else
     family == 10
-    && (is_mapped octets && begins_alike bits (drop 12 octets) (octets_of (V4 ip)))
-is_within (V6 ip) bits family octets =
-    if 10 == family then bits == 0 || begins_alike bits octets (octets_of (V6 ip)) else false
+    && (is_ipv4_mapped octets && have_equal_prefix bits (drop 12 octets) (octets_of (V4 ip)))
+address_has_prefix (V6 ip) bits family octets =
+    if 10 == family then bits == 0 || have_equal_prefix bits octets (octets_of (V6 ip)) else false
 
 -- The address `octets` has the prefix, if there is one.
-abbrev pub has_prefix : Option Prefix → ℕ → List ℕ → Bool
-has_prefix None family octets = true
-has_prefix (Some p) family octets = is_within p.address p.bits family octets
+abbrev pub address_has_optional_prefix : Option Prefix → ℕ → List ℕ → Bool
+address_has_optional_prefix None family octets = true
+address_has_optional_prefix (Some p) family octets =
+    address_has_prefix p.address p.bits family octets
 
 -- The port and the address of one end of a socket meet the condition.
 abbrev pub is_host : Host → ℕ → ℕ → List ℕ → Bool
-is_host h family port octets = has_port h.port port && has_prefix h.prefix family octets
+is_host h family port octets =
+    has_port h.port port && address_has_optional_prefix h.prefix family octets
 
 -- A socket meets a condition.
 abbrev pub meets : Socket → Condition → Bool
@@ -153,19 +155,19 @@ IsPort None = ⊤
 IsPort (Some port) = port < 2 ^ 16
 
 -- Each number of a condition fits its Rust type.
-abbrev pub IsInRange : Condition → Type 0
-IsInRange (SourcePort comparison port) = port < 2 ^ 16
-IsInRange (DestinationPort comparison port) = port < 2 ^ 16
-IsInRange (Source h) = IsPort h.port
-IsInRange (Destination h) = IsPort h.port
-IsInRange (Interface number) = number < 2 ^ 32
-IsInRange (Mark mark mask) = (mark < 2 ^ 32) × (mask < 2 ^ 32)
-IsInRange (Cgroup number) = number < 2 ^ 64
-IsInRange AutoBound = ⊤
+abbrev pub IsConditionInRange : Condition → Type 0
+IsConditionInRange (SourcePort comparison port) = port < 2 ^ 16
+IsConditionInRange (DestinationPort comparison port) = port < 2 ^ 16
+IsConditionInRange (Source h) = IsPort h.port
+IsConditionInRange (Destination h) = IsPort h.port
+IsConditionInRange (Interface number) = number < 2 ^ 32
+IsConditionInRange (Mark mark mask) = (mark < 2 ^ 32) × (mask < 2 ^ 32)
+IsConditionInRange (Cgroup number) = number < 2 ^ 64
+IsConditionInRange AutoBound = ⊤
 
 -- Each number of each condition of a filter fits its Rust type.
 abbrev pub AreInRange : Filter → Type 0
-AreInRange (parts.Condition c) = IsInRange c
+AreInRange (parts.Condition c) = IsConditionInRange c
 AreInRange (parts.And' p first q second) = AreInRange first × AreInRange second
 AreInRange (parts.Or' p first q second) = AreInRange first × AreInRange second
 AreInRange (parts.Not' p filter) = AreInRange filter

@@ -4,7 +4,7 @@ use Rattle.byteorder.specs.Endian.{little_bytes}
 use Rattle.std.specs.declared.net.ip_addr.IpAddr.{IpAddr}
 use Rattle.std.specs.declared.net.ip_addr.IpAddr.TheVariants.{V4}
 use Rattle.netlink_core.specs.Attribute.{Attribute}
-use Rattle.netlink_core.specs.Layout.{bytes}
+use Rattle.netlink_core.specs.Layout.{record_bytes}
 use Rattle.netlink_core.specs.declared.header.NetlinkHeader.{NetlinkHeader}
 use Rattle.sock_diag_records.specs.SocketId.{socket_id as identity}
 use Rattle.sock_diag_records.specs.declared.inet.request.InetRequest.{InetRequest}
@@ -13,8 +13,8 @@ use Rattle.sock_diag_filters.specs.Prefixes.{family_of}
 
 -- A netlink header with this type, flags and sequence number, and port 0. Its length 0 is replaced
 -- when the request is serialized.
-abbrev pub asked_header : ℕ → ℕ → ℕ → NetlinkHeader
-asked_header message_type flags sequence_number = record {
+abbrev pub example_request_header : ℕ → ℕ → ℕ → NetlinkHeader
+example_request_header message_type flags sequence_number = record {
   length = 0;
   message_type = message_type;
   flags = flags;
@@ -23,24 +23,24 @@ asked_header message_type flags sequence_number = record {
 }
 
 -- The IPv4 address 0.0.0.0.
-abbrev pub no_address : IpAddr
-no_address = V4 record { octets = replicate 4 0 }
+abbrev pub zero_ipv4_address : IpAddr
+zero_ipv4_address = V4 record { octets = replicate 4 0 }
 
 -- A socket id of zeros, of IPv4: `struct inet_diag_sockid`.
-abbrev pub no_socket : SocketId
-no_socket = record {
+abbrev pub zero_socket_id : SocketId
+zero_socket_id = record {
   source_port = 0;
   destination_port = 0;
-  source_address = no_address;
-  destination_address = no_address;
+  source_address = zero_ipv4_address;
+  destination_address = zero_ipv4_address;
   interface_id = 0;
   cookie = replicate 8 0;
 }
 
 -- A request (`struct inet_diag_req_v2`) for TCP sockets (protocol 6) with these states and this
 -- socket id. Its family is the family of the source address, and it requests no attributes.
-abbrev pub asked_tcp : ℕ → SocketId → InetRequest
-asked_tcp states socket_id = record {
+abbrev pub tcp_request_with : ℕ → SocketId → InetRequest
+tcp_request_with states socket_id = record {
   family = family_of socket_id.source_address;
   protocol = 6;
   extensions = record { 0 = 0 };
@@ -56,8 +56,8 @@ program_attribute program = record { type_word = 1; value = program }
 -- (SOCK_DESTROY), flags 5 (NLM_F_REQUEST and NLM_F_ACK), the sequence number, and port 0. The
 -- `struct inet_diag_req_v2`: the family, protocol 6 (TCP), no extensions, padding, all states, and
 -- the 48 bytes of the socket id.
-abbrev pub closing_bytes : SocketId → ℕ → List ℕ
-closing_bytes socket_id sequence_number =
+abbrev pub close_request_bytes : SocketId → ℕ → List ℕ
+close_request_bytes socket_id sequence_number =
     (72 ∷ 0 ∷ 0 ∷ 0 ∷ 21 ∷ 0 ∷ 5 ∷ 0 ∷ [])
     ++ (little_bytes 4 sequence_number ++ (0 ∷ 0 ∷ 0 ∷ 0 ∷ family_of socket_id.source_address ∷ 6
-    ∷ 0 ∷ 0 ∷ 255 ∷ 255 ∷ 255 ∷ 255 ∷ bytes identity socket_id))
+    ∷ 0 ∷ 0 ∷ 255 ∷ 255 ∷ 255 ∷ 255 ∷ record_bytes identity socket_id))

@@ -2,9 +2,10 @@
 
 ghost use Rattle.std.specs.Prelude.{◌≡◌, IfOk, IfErr, drop};
 ghost use Rattle.netlink_core.specs.Header.{HasHeader};
-ghost use Rattle.netlink_core.specs.Layout.{read};
-ghost use Rattle.sock_diag_filters.specs.AnyRequest.{AnyAsks, RefusesAnyRequest, asked_any};
-ghost use Rattle.sock_diag_filters.specs.AnyRequest.{family_in, refuses_by};
+ghost use Rattle.netlink_core.specs.Layout.{parse_record};
+ghost use Rattle.sock_diag_filters.specs.AnyRequest.{ParsesAsAnyRequest, IsRejectedAnyRequest};
+ghost use Rattle.sock_diag_filters.specs.AnyRequest.{any_request_content, family_of_message};
+ghost use Rattle.sock_diag_filters.specs.AnyRequest.{IsRejectedByRequestFamily};
 
 use crate::view::{RequestView, is_request};
 use netlink_core::{DecodeError, NETLINK_HEADER_LEN, NetlinkHeader, Record, read_record};
@@ -32,10 +33,10 @@ impl<'a, R: Record<Param = ()>> RecordRequestView<'a, R> {
     fn read(header: NetlinkHeader, payload: &'a [u8]) -> Result<Self, DecodeError>
         ensures header { IfOk result (λ view. view.header ≡ header) }
         ensures request { IfOk result (λ view.
-            read R.layout tt payload.entry.now ≡ Ok view.request) }
+            parse_record R.layout tt payload.entry.now ≡ Ok view.request) }
         ensures attributes { IfOk result (λ view.
             view.attributes.now ≡ drop R.layout.least payload.entry.now) }
-        ensures fault { IfErr result (λ e. read R.layout tt payload.entry.now ≡ Err e) }
+        ensures fault { IfErr result (λ e. parse_record R.layout tt payload.entry.now ≡ Err e) }
     {
         let (_, least) = R::name_and_least();
         let request = read_record::<R>(payload, ())?;
@@ -79,8 +80,9 @@ impl<'a> AnyRequestView<'a> {
     /// 5. an error of the parser of that family's request: of [`RequestView::parse`], or of the
     ///    record.
     pub fn parse(message: &'a [u8]) -> Result<AnyRequestView<'a>, DecodeError>
-        ensures value { IfOk result (λ view. AnyAsks message.entry.now (asked_any view)) }
-        ensures fault { IfErr result (RefusesAnyRequest message.entry.now) }
+        ensures value { IfOk result (λ view. ParsesAsAnyRequest message.entry.now
+            (any_request_content view)) }
+        ensures fault { IfErr result (IsRejectedAnyRequest message.entry.now) }
     {
         match NetlinkHeader::from_prefix(message) {
             Ok(header) => read_under(header, message),
@@ -95,9 +97,11 @@ fn read_under<'a>(
     message: &'a [u8],
 ) -> Result<AnyRequestView<'a>, DecodeError>
     requires { HasHeader message.now header }
-    ensures value { IfOk result (λ view. AnyAsks message.entry.now (asked_any view)) }
+    ensures value { IfOk result (λ view. ParsesAsAnyRequest message.entry.now
+        (any_request_content view)) }
     ensures fault { IfErr result
-        (refuses_by (family_in message.entry.now header) message.entry.now header) }
+        (IsRejectedByRequestFamily (family_of_message message.entry.now header) message.entry.now
+        header) }
 {
     let message_type = header.message_type;
     let payload = &message[NETLINK_HEADER_LEN..header.length as usize];

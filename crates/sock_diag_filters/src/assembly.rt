@@ -2,13 +2,14 @@
 
 ghost use Rattle.std.specs.Prelude.{◌≡◌, ◌+◌, ◌<◌, ◌≤◌, ℕ, List, Bool, length, IfOk, IfErr};
 ghost use Rattle.sock_diag_filters.specs.Audit.{IsAudited};
-ghost use Rattle.sock_diag_filters.specs.private.Assembly.{front_bytes, operation, program_of};
-ghost use Rattle.sock_diag_filters.specs.Filters.{meaning, size};
+ghost use Rattle.sock_diag_filters.specs.private.Assembly.{operation_header_bytes, operation};
+ghost use Rattle.sock_diag_filters.specs.private.Assembly.{program_of};
+ghost use Rattle.sock_diag_filters.specs.Filters.{meaning, program_size};
 ghost use Rattle.sock_diag_filters.specs.Conditions.{arguments, code_of};
 ghost use Rattle.sock_diag_filters.specs.Run.{Runs};
-ghost use Rattle.sock_diag_filters.specs.Sockets.{Socket, found_by, meets};
+ghost use Rattle.sock_diag_filters.specs.Sockets.{Socket, kernel_evaluates, meets};
 ghost use Rattle.sock_diag_filters.specs.declared.assembly.AssembleError.TheVariants.{Memory};
-ghost use Rattle.sock_diag_filters.specs.Assembled.{IsRefused};
+ghost use Rattle.sock_diag_filters.specs.Assembled.{IsAssembleError};
 
 use crate::condition::Condition;
 use crate::filter::Filter;
@@ -48,14 +49,14 @@ impl From<AllocError> for AssembleError {
 /// does, for any results of its conditions. If the results are those of the kernel's comparisons,
 /// the selected sockets are the sockets that meet the filter.
 pub fn assemble(alloc: Global, filter: &Filter) -> Result<Vec<u8>, AssembleError>
-    ensures size { IfOk result (λ program. length program.items ≡ size filter.now) }
+    ensures size { IfOk result (λ program. length program.items ≡ program_size filter.now) }
     ensures short { IfOk result (λ program. length program.items ≤ 65531) }
     ensures audited { IfOk result (λ program. IsAudited program.items) }
     ensures runs { IfOk result (λ program. (found : ℕ → List ℕ → Bool) → Runs found program.items
         (meaning (λ c. found (code_of c) (arguments c)) filter.now)) }
     ensures wanted { IfOk result (λ program. (socket : Socket)
-        → Runs (found_by socket) program.items (meaning (meets socket) filter.now)) }
-    ensures refused { IfErr result (λ e. IsRefused filter.now e) }
+        → Runs (kernel_evaluates socket) program.items (meaning (meets socket) filter.now)) }
+    ensures refused { IfErr result (λ e. IsAssembleError filter.now e) }
 {
     filter.in_range();
     let Some(len) = filter.len_within(MAX_PROGRAM) else {
@@ -69,8 +70,8 @@ pub fn assemble(alloc: Global, filter: &Filter) -> Result<Vec<u8>, AssembleError
 // Writes the program of a filter to a buffer of its length. A run continues at the end of the
 // program for a selected socket, and `far` bytes after the end for any other socket.
 fn write_program(filter: &Filter, far: usize, buffer: &mut [u8])
-    requires whole { length buffer.old ≡ size filter.now }
-    requires near { size filter.now + far ≤ 65535 }
+    requires whole { length buffer.old ≡ program_size filter.now }
+    requires near { program_size filter.now + far ≤ 65535 }
     ensures { buffer.new ≡ program_of filter.now far }
 {
     match filter {
@@ -113,7 +114,7 @@ fn write_operation(code: u8, arguments_len: usize, far: usize, front: &mut [u8])
     requires front { length front.old ≡ 4 }
     requires short { 4 + arguments_len ≤ 255 }
     requires near { 4 + arguments_len + far ≤ 65535 }
-    ensures { front.new ≡ front_bytes code arguments_len far }
+    ensures { front.new ≡ operation_header_bytes code arguments_len far }
 {
     let yes = 4 + arguments_len;
     let (kind, no) = front.split_at_mut(2);

@@ -31,11 +31,11 @@ pub struct Prefix {
 }
 
 impl Prefix {
-    ghost use Rattle.sock_diag_filters.specs.Conditions.{IsPrefix};
+    ghost use Rattle.sock_diag_filters.specs.Conditions.{IsNewPrefix};
 
     /// Returns the prefix of `bits` bits, or `None` if the address has fewer bits.
     pub fn new(address: IpAddr, bits: u8) -> Option<Prefix>
-        ensures { IsPrefix result address bits }
+        ensures { IsNewPrefix result address bits }
     {
         let most = match address {
             IpAddr::V4(_) => 32,
@@ -89,7 +89,7 @@ pub enum Condition {
 
 impl Condition {
     ghost use Rattle.sock_diag_filters.specs.Conditions.{arguments, code_of};
-    ghost use Rattle.sock_diag_filters.specs.Sockets.{IsInRange};
+    ghost use Rattle.sock_diag_filters.specs.Sockets.{IsConditionInRange};
 
     // Returns the code of the condition's operation.
     pub(crate) fn code(self) -> u8
@@ -143,7 +143,7 @@ impl Condition {
 
     // Proof only: puts the range of each number in scope. No run-time effect.
     pub(crate) fn in_range(self)
-        ensures { IsInRange self }
+        ensures { IsConditionInRange self }
     {
         match self {
             Condition::SourcePort(_, _port) | Condition::DestinationPort(_, _port) => {}

@@ -18,12 +18,12 @@ pub enum Filter<'a> {
 }
 
 impl Filter<'_> {
-    ghost use Rattle.sock_diag_filters.specs.Filters.{size};
+    ghost use Rattle.sock_diag_filters.specs.Filters.{program_size};
     ghost use Rattle.sock_diag_filters.specs.Sockets.{AreInRange};
 
     /// Returns the length of the filter's program in bytes, or `None` if it is more than `most`.
     pub fn len_within(&self, most: usize) -> Option<usize>
-        ensures { SomeIff result (size self.now ≤ most) (size self.now) }
+        ensures { SomeIff result (program_size self.now ≤ most) (program_size self.now) }
     {
         match self {
             Filter::Condition(condition) => within(4 + condition.arguments_len(), most),
@@ -62,8 +62,8 @@ impl Filter<'_> {
 
     // Returns the length of the filter's program in bytes.
     pub(crate) fn len(&self) -> usize
-        requires { size self.now ≤ 65535 }
-        ensures { result ≡ size self.now }
+        requires { program_size self.now ≤ 65535 }
+        ensures { result ≡ program_size self.now }
     {
         self.len_within(65535).unwrap()
     }

@@ -4,22 +4,25 @@
 ghost use Rattle.std.specs.Prelude.{◌≡◌, ◌↔◌, ℕ, Bool, List, [], ◌∷◌, map, IfOk, IsOk, IsTrue};
 ghost use Rattle.netlink_core.specs.declared.fault.DecodeError.{DecodeError};
 ghost use Rattle.netlink_core.specs.declared.header.NetlinkHeader.{NetlinkHeader};
-ghost use Rattle.sock_diag_records.specs.Constants.{AreEqual};
+ghost use Rattle.sock_diag_records.specs.Constants.{PairsAreEqual};
 ghost use Rattle.sock_diag_records.specs.declared.inet.request.InetRequest.{InetRequest};
 ghost use Rattle.sock_diag_filters.specs.declared.filter.Filter.{Filter};
 ghost use Rattle.sock_diag_filters.specs.Conditions.{arguments, code_of};
 ghost use Rattle.sock_diag_filters.specs.Filters.{meaning};
 ghost use Rattle.sock_diag_filters.specs.Run.{Runs};
-ghost use Rattle.sock_diag_filters.specs.Sockets.{AreInRange, Socket, found_by, meets};
-ghost use Rattle.sock_diag_filters.specs.Asked.{Asks, IsRequestType, RefusesRequest, asked_of};
-ghost use Rattle.sock_diag_filters.specs.AnyRequest.{AnyAsks, AnyRequest, RecordFamily};
-ghost use Rattle.sock_diag_filters.specs.AnyRequest.{RefusesAnyRequest, codec_of, of_family};
-ghost use Rattle.sock_diag_filters.specs.AnyReadBack.{IsInetReadBack, IsWhole};
+ghost use Rattle.sock_diag_filters.specs.Sockets.{AreInRange, Socket, kernel_evaluates, meets};
+ghost use Rattle.sock_diag_filters.specs.Asked.{ParsesAsRequest, IsRequestType, IsRejectedRequest};
+ghost use Rattle.sock_diag_filters.specs.Asked.{request_attribute_content};
+ghost use Rattle.sock_diag_filters.specs.AnyRequest.{ParsesAsAnyRequest, AnyRequest, RecordFamily};
+ghost use Rattle.sock_diag_filters.specs.AnyRequest.{IsRejectedAnyRequest, record_request_codec};
+ghost use Rattle.sock_diag_filters.specs.AnyRequest.{of_family};
+ghost use Rattle.sock_diag_filters.specs.AnyReadBack.{IsParsedInetRequest, IsCompleteRecordRequest};
 ghost use Rattle.sock_diag_filters.specs.AnyReadBack.{record_request_bytes};
-ghost use Rattle.sock_diag_filters.specs.ReadBack.{CanBeAsked, IsReadBack};
-ghost use Rattle.sock_diag_filters.specs.Requests.{attribute_of, request_bytes};
+ghost use Rattle.sock_diag_filters.specs.ReadBack.{IsRoundTrippingRequest, IsParsedRequest};
+ghost use Rattle.sock_diag_filters.specs.Requests.{request_attribute, request_bytes};
 ghost use Rattle.sock_diag_filters.specs.declared.request.RequestAttribute.{RequestAttribute};
-ghost use Rattle.sock_diag_filters.specs.ViewModels.{any_request_of, record_request_of, request_of};
+ghost use Rattle.sock_diag_filters.specs.ViewModels.{any_request_view_model};
+ghost use Rattle.sock_diag_filters.specs.ViewModels.{record_request_view_model, request_view_model};
 ghost use Rattle.sock_diag_filters.specs.declared.view.RequestView.{RequestView};
 
 use crate::any::{AnyRequestView, RecordRequestView};
@@ -31,53 +34,57 @@ use netlink_core::Exact;
 use std::alloc::AllocError;
 
 /// States that a `RequestWithAttributes` round-trips, if its request is in range and in normal form
-/// and its lengths fit (`CanBeAsked`). The bytes that it serializes to parse only as its header
-/// with the length of the message, its request, and its last program and protocol. They are not
-/// rejected by `RequestView::parse` if the message type is `SOCK_DIAG_BY_FAMILY` or `SOCK_DESTROY`.
+/// and its lengths fit (`IsRoundTrippingRequest`). The bytes that it serializes to parse only as
+/// its header with the length of the message, its request, and its last program and protocol. They
+/// are not rejected by `RequestView::parse` if the message type is `SOCK_DIAG_BY_FAMILY` or
+/// `SOCK_DESTROY`.
 pub fn written_request_is_read_back()
     ensures view { (h : NetlinkHeader) (request : InetRequest) (attributes : List RequestAttribute)
-        (view : RequestView) → CanBeAsked h request attributes
-        → Asks (request_bytes h request (map attribute_of attributes)) view
-        → IsReadBack h request attributes view }
+        (view : RequestView) → IsRoundTrippingRequest h request attributes
+        → ParsesAsRequest (request_bytes h request (map request_attribute attributes)) view
+        → IsParsedRequest h request attributes view }
     ensures accepted { (h : NetlinkHeader) (request : InetRequest)
-        (attributes : List RequestAttribute) (e : DecodeError) → CanBeAsked h request attributes
+        (attributes : List RequestAttribute) (e : DecodeError)
+        → IsRoundTrippingRequest h request attributes
         → IsRequestType h.message_type
-        → RefusesRequest (request_bytes h request (map attribute_of attributes)) e → ⊥ }
+        → IsRejectedRequest (request_bytes h request (map request_attribute attributes)) e → ⊥ }
 {}
 
 /// States that requests round-trip through `AnyRequestView::parse`. A header, a record and any
 /// bytes after it are accepted and parsed as these, if the record is in range and in normal form,
-/// and the header has the type of a request and the length of the message (`IsWhole`). A
-/// `RequestWithAttributes` with the type of a request is accepted and parsed as by
-/// `RequestView::parse`, under the conditions above (`CanBeAsked`).
+/// and the header has the type of a request and the length of the message
+/// (`IsCompleteRecordRequest`). A `RequestWithAttributes` with the type of a request is accepted
+/// and parsed as by `RequestView::parse`, under the conditions above (`IsRoundTrippingRequest`).
 pub fn any_written_request_is_read_back()
     ensures records { (family : RecordFamily) (h : NetlinkHeader)
-        (request : (codec_of family).Value) (attributes : List ℕ) (other : AnyRequest)
-        → IsWhole family h request attributes
-        → AnyAsks (record_request_bytes family h request attributes) other
+        (request : (record_request_codec family).Value) (attributes : List ℕ) (other : AnyRequest)
+        → IsCompleteRecordRequest family h request attributes
+        → ParsesAsAnyRequest (record_request_bytes family h request attributes) other
         → other ≡ of_family family h request attributes }
     ensures records_accepted { (family : RecordFamily) (h : NetlinkHeader)
-        (request : (codec_of family).Value) (attributes : List ℕ) (e : DecodeError)
-        → IsWhole family h request attributes
-        → RefusesAnyRequest (record_request_bytes family h request attributes) e → ⊥ }
+        (request : (record_request_codec family).Value) (attributes : List ℕ) (e : DecodeError)
+        → IsCompleteRecordRequest family h request attributes
+        → IsRejectedAnyRequest (record_request_bytes family h request attributes) e → ⊥ }
     ensures inet { (h : NetlinkHeader) (request : InetRequest) (attributes : List RequestAttribute)
-        (other : AnyRequest) → CanBeAsked h request attributes → IsRequestType h.message_type
-        → AnyAsks (request_bytes h request (map attribute_of attributes)) other
-        → IsInetReadBack h request attributes other }
-    ensures inet_accepted { (h : NetlinkHeader) (request : InetRequest)
-        (attributes : List RequestAttribute) (e : DecodeError) → CanBeAsked h request attributes
+        (other : AnyRequest) → IsRoundTrippingRequest h request attributes
         → IsRequestType h.message_type
-        → RefusesAnyRequest (request_bytes h request (map attribute_of attributes)) e → ⊥ }
+        → ParsesAsAnyRequest (request_bytes h request (map request_attribute attributes)) other
+        → IsParsedInetRequest h request attributes other }
+    ensures inet_accepted { (h : NetlinkHeader) (request : InetRequest)
+        (attributes : List RequestAttribute) (e : DecodeError)
+        → IsRoundTrippingRequest h request attributes
+        → IsRequestType h.message_type
+        → IsRejectedAnyRequest (request_bytes h request (map request_attribute attributes)) e → ⊥ }
 {}
 
-/// States that the result of `found_by`, which the kernel computes from an operation's code and
-/// arguments, is whether the socket meets the condition. By the contract of `assemble`, a program
-/// therefore selects a socket if and only if the socket meets its filter. For a `Filter` value,
-/// `Filter::in_range` proves the premise.
-#[tactic(auto, using(crate::proofs::Finding::filter_found))]
+/// States that the result of `kernel_evaluates`, which the kernel computes from an operation's code
+/// and arguments, is whether the socket meets the condition. By the contract of `assemble`, a
+/// program therefore selects a socket if and only if the socket meets its filter. For a `Filter`
+/// value, `Filter::in_range` proves the premise.
+#[tactic(auto, using(crate::proofs::Finding::evaluation_is_meaning))]
 pub fn filters_find_what_they_mean()
     ensures { (socket : Socket) (filter : Filter) → AreInRange filter
-        → meaning (λ c. found_by socket (code_of c) (arguments c)) filter
+        → meaning (λ c. kernel_evaluates socket (code_of c) (arguments c)) filter
         ≡ meaning (meets socket) filter }
 {}
 
@@ -91,7 +98,7 @@ pub fn one_verdict()
 /// States that `==` holds if and only if two attributes of requests have the same kind and the same
 /// content.
 pub fn equal_request_attributes(v: &RequestAttribute<'_>, w: &RequestAttribute<'_>) -> bool
-    ensures { IsTrue result ↔ (asked_of v.now ≡ asked_of w.now) }
+    ensures { IsTrue result ↔ (request_attribute_content v.now ≡ request_attribute_content w.now) }
 {
     v == w
 }
@@ -101,7 +108,8 @@ pub fn copied_request_attribute<'a>(
     attribute: &RequestAttribute<'a>,
 ) -> Result<RequestAttribute<'a>, AllocError>
     ensures ok { IsOk result }
-    ensures same { IfOk result (λ copy. asked_of copy ≡ asked_of attribute.now) }
+    ensures same { IfOk result (λ copy. request_attribute_content copy
+        ≡ request_attribute_content attribute.now) }
 {
     attribute.clone()
 }
@@ -124,7 +132,7 @@ pub fn equal_assemble_errors(v: &AssembleError, w: &AssembleError) -> bool
 /// States that `==` holds if and only if two requests have the same header, record, protocol and
 /// program.
 pub fn equal_request_views(v: &RequestView<'_>, w: &RequestView<'_>) -> bool
-    ensures { IsTrue result ↔ (request_of v.now ≡ request_of w.now) }
+    ensures { IsTrue result ↔ (request_view_model v.now ≡ request_view_model w.now) }
 {
     v == w
 }
@@ -135,7 +143,7 @@ pub fn equal_record_request_views<R: Exact>(
     v: &RecordRequestView<'_, R>,
     w: &RecordRequestView<'_, R>,
 ) -> bool
-    ensures { IsTrue result ↔ (record_request_of v.now ≡ record_request_of w.now) }
+    ensures { IsTrue result ↔ (record_request_view_model v.now ≡ record_request_view_model w.now) }
 {
     v == w
 }
@@ -143,12 +151,12 @@ pub fn equal_record_request_views<R: Exact>(
 /// States that `==` holds if and only if two requests are of the same family and have the same
 /// content.
 pub fn equal_any_request_views(v: &AnyRequestView<'_>, w: &AnyRequestView<'_>) -> bool
-    ensures { IsTrue result ↔ (any_request_of v.now ≡ any_request_of w.now) }
+    ensures { IsTrue result ↔ (any_request_view_model v.now ≡ any_request_view_model w.now) }
 {
     v == w
 }
 
 /// States the numeric value of each constant.
 pub fn filter_constants_have_their_numbers()
-    ensures { AreEqual ((MAX_PROGRAM, 65531) ∷ (REQUEST_FRONT, 72) ∷ []) }
+    ensures { PairsAreEqual ((MAX_PROGRAM, 65531) ∷ (REQUEST_FRONT, 72) ∷ []) }
 {}

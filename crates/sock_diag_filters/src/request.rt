@@ -1,9 +1,10 @@
 //! Requests for IPv4 and IPv6 sockets with attributes, serialized as complete netlink messages.
 
 ghost use Rattle.std.specs.Prelude.{◌≡◌, ◌+◌, ◌++◌, length, map};
-ghost use Rattle.netlink_core.specs.Attribute.{AreWritable};
+ghost use Rattle.netlink_core.specs.Attribute.{AreWritableWithin};
 ghost use Rattle.netlink_core.specs.Header.{header_bytes};
-ghost use Rattle.sock_diag_filters.specs.Requests.{attribute_of, header_under, request_bytes};
+ghost use Rattle.sock_diag_filters.specs.Requests.{request_attribute, header_with_length};
+ghost use Rattle.sock_diag_filters.specs.Requests.{request_bytes};
 
 use byteorder::{ByteOrder, LittleEndian};
 use netlink_core::{
@@ -32,7 +33,7 @@ pub enum RequestAttribute<'a> {
 }
 
 impl Nla for RequestAttribute<'_> {
-    ghost attribute = { attribute_of };
+    ghost attribute = { request_attribute };
 
     fn value_len(&self) -> usize {
         match self {
@@ -72,9 +73,10 @@ pub struct RequestWithAttributes<'a> {
 }
 
 impl Emitable for RequestWithAttributes<'_> {
-    ghost bytes = { λ r. request_bytes r.header r.request (map attribute_of r.attributes.now) };
+    ghost bytes = { λ r. request_bytes r.header r.request
+        (map request_attribute r.attributes.now) };
 
-    ghost writable = { λ r. AreWritable (map attribute_of r.attributes.now) 4294967223 };
+    ghost writable = { λ r. AreWritableWithin (map request_attribute r.attributes.now) 4294967223 };
 
     /// Returns whether each program has at most 65,531 bytes, and the length of the message fits
     /// the length field of its header.
@@ -98,7 +100,7 @@ impl Emitable for RequestWithAttributes<'_> {
 fn write_front<R: Emitable>(header: &NetlinkHeader, len: u32, value: &R, front: &mut [u8])
     requires writable { R.writable value.now }
     requires whole { length front.old ≡ 16 + length (R.bytes value.now) }
-    ensures { front.new ≡ header_bytes (header_under header.now len) ++ R.bytes value.now }
+    ensures { front.new ≡ header_bytes (header_with_length header.now len) ++ R.bytes value.now }
 {
     let (first, behind) = front.split_at_mut(NETLINK_HEADER_LEN);
     write_header(header, len, first);
@@ -117,7 +119,7 @@ fn write_all<R: Emitable>(value: &R, buffer: &mut [u8])
 // Serializes the header, with the length `len`, to a buffer of 16 bytes.
 fn write_header(header: &NetlinkHeader, len: u32, buffer: &mut [u8])
     requires { length buffer.old ≡ 16 }
-    ensures { buffer.new ≡ header_bytes (header_under header.now len) }
+    ensures { buffer.new ≡ header_bytes (header_with_length header.now len) }
 {
     let (first, rest) = buffer.split_at_mut(4);
     let (kind, numbers) = rest.split_at_mut(4);

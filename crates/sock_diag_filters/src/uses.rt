@@ -5,7 +5,8 @@ ghost use Rattle.sock_diag_filters.specs.Audit.{IsAudited};
 ghost use Rattle.sock_diag_filters.specs.Prefixes.{port_bytes};
 ghost use Rattle.sock_diag_filters.specs.Requests.{request_bytes};
 ghost use Rattle.sock_diag_filters.specs.Run.{Runs};
-ghost use Rattle.sock_diag_filters.specs.Uses.{asked_header, asked_tcp, closing_bytes, no_socket};
+ghost use Rattle.sock_diag_filters.specs.Uses.{example_request_header, tcp_request_with};
+ghost use Rattle.sock_diag_filters.specs.Uses.{close_request_bytes, zero_socket_id};
 ghost use Rattle.sock_diag_filters.specs.Uses.{program_attribute};
 ghost use Rattle.sock_diag_filters.specs.declared.assembly.AssembleError.TheVariants.{Memory};
 
@@ -37,8 +38,8 @@ pub fn listening_on(
     ensures asked { IfOk result (λ message. (program : List ℕ) × IsAudited program
         × ((found : ℕ → List ℕ → Bool)
         → Runs found program (found 2 (port_bytes first) && found 3 (port_bytes last)))
-        × (message.items ≡ request_bytes (asked_header 20 0x301 sequence_number)
-        (asked_tcp 0x400 no_socket) (program_attribute program ∷ []))) }
+        × (message.items ≡ request_bytes (example_request_header 20 0x301 sequence_number)
+        (tcp_request_with 0x400 zero_socket_id) (program_attribute program ∷ []))) }
     ensures fails { IfErr result (λ e. e ≡ Memory) }
 {
     let from = Filter::Condition(Condition::SourcePort(Comparison::AtLeast, first));
@@ -62,9 +63,9 @@ pub fn listening_on(
 /// Returns the request to close one TCP socket, which is identified by its addresses, ports and
 /// cookie, with a flag that requests an acknowledgement. The kernel requires `CAP_NET_ADMIN`.
 pub fn close_tcp(socket_id: SocketId, sequence_number: u32) -> [u8; REQUEST_FRONT]
-    ensures written { result ≡ request_bytes (asked_header 21 5 sequence_number)
-        (asked_tcp 0xffffffff socket_id) [] }
-    ensures bytes { result ≡ closing_bytes socket_id sequence_number }
+    ensures written { result ≡ request_bytes (example_request_header 21 5 sequence_number)
+        (tcp_request_with 0xffffffff socket_id) [] }
+    ensures bytes { result ≡ close_request_bytes socket_id sequence_number }
 {
     let request = RequestWithAttributes {
         header: header(SOCK_DESTROY, NLM_F_REQUEST | NLM_F_ACK, sequence_number),
@@ -78,7 +79,7 @@ pub fn close_tcp(socket_id: SocketId, sequence_number: u32) -> [u8; REQUEST_FRON
 
 // Returns the header of a request, with the length 0: `emit` writes the length.
 fn header(message_type: u16, flags: u16, sequence_number: u32) -> NetlinkHeader
-    ensures { result ≡ asked_header message_type flags sequence_number }
+    ensures { result ≡ example_request_header message_type flags sequence_number }
 {
     NetlinkHeader {
         message_type,
@@ -91,7 +92,7 @@ fn header(message_type: u16, flags: u16, sequence_number: u32) -> NetlinkHeader
 // Returns the request for TCP sockets in these states, or for the TCP socket with this identity. It
 // requests no attributes.
 fn tcp(states: StateFlags, socket_id: SocketId) -> InetRequest
-    ensures { result ≡ asked_tcp states.0 socket_id }
+    ensures { result ≡ tcp_request_with states.0 socket_id }
 {
     InetRequest {
         family: match socket_id.source_address {

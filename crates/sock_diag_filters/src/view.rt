@@ -1,18 +1,19 @@
 //! Borrowed requests for IPv4 and IPv6 sockets, as a test kernel parses them.
 
 ghost use Rattle.std.specs.Prelude.{◌≡◌, ◌↔◌, List, IsTrue, IfOk, IfErr};
-ghost use Rattle.netlink_core.specs.Attribute.{AttributeFault, AttributesMean};
-ghost use Rattle.netlink_core.specs.Walk.{attribute_of};
+ghost use Rattle.netlink_core.specs.Attribute.{HasAttributeError, DecodeTo};
+ghost use Rattle.netlink_core.specs.Walk.{buffered_attribute};
 ghost use Rattle.netlink_core.specs.Faults.{map_ok};
 ghost use Rattle.sock_diag_filters.specs.Asked.{
-  Asks,
+  ParsesAsRequest,
   IsRequestType,
-  Keeps,
-  AskedAttribute,
-  decodes_asked,
+  HasLastContents,
+  RequestContent,
+  decode_request_attribute,
 };
-ghost use Rattle.sock_diag_filters.specs.Asked.{RefusesRequest};
-ghost use Rattle.sock_diag_filters.specs.private.Asked.{found_with, asked_or_nothing};
+ghost use Rattle.sock_diag_filters.specs.Asked.{IsRejectedRequest};
+ghost use Rattle.sock_diag_filters.specs.private.Asked.{found_attributes_after};
+ghost use Rattle.sock_diag_filters.specs.private.Asked.{optional_request_content};
 
 use crate::request::{INET_DIAG_REQ_BYTECODE, INET_DIAG_REQ_PROTOCOL, RequestAttribute};
 use netlink_core::{
@@ -48,8 +49,8 @@ impl<'a> RequestView<'a> {
     /// 4. the error of the first invalid attribute: a framing error, or `WrongLength` for an
     ///    `INET_DIAG_REQ_PROTOCOL` with a length other than 4.
     pub fn parse(message: &'a [u8]) -> Result<RequestView<'a>, DecodeError>
-        ensures value { IfOk result (Asks message.entry.now) }
-        ensures fault { IfErr result (RefusesRequest message.entry.now) }
+        ensures value { IfOk result (ParsesAsRequest message.entry.now) }
+        ensures fault { IfErr result (IsRejectedRequest message.entry.now) }
     {
         let header = NetlinkHeader::from_prefix(message)?;
         let message_type = header.message_type;
@@ -86,7 +87,7 @@ struct Found<'a> {
 impl<'a> Found<'a> {
     // Returns the values after one more attribute.
     fn with(self, decoded: Option<RequestAttribute<'a>>) -> Found<'a>
-        ensures { result ≡ found_with self.entry decoded.entry }
+        ensures { result ≡ found_attributes_after self.entry decoded.entry }
     {
         match decoded {
             None => self,
@@ -104,9 +105,10 @@ impl<'a> Found<'a> {
 
 // Returns the last program and the last protocol in the attributes, or the first error.
 fn find_attributes<'a>(bytes: &'a [u8]) -> Result<Found<'a>, DecodeError>
-    ensures value { IfOk result (λ found. (decoded : List AskedAttribute)
-        × AttributesMean decodes_asked bytes.entry.now decoded × Keeps found decoded) }
-    ensures fault { IfErr result (AttributeFault decodes_asked bytes.entry.now) }
+    ensures value { IfOk result (λ found. (decoded : List RequestContent)
+        × DecodeTo decode_request_attribute bytes.entry.now decoded
+        × HasLastContents found decoded) }
+    ensures fault { IfErr result (HasAttributeError decode_request_attribute bytes.entry.now) }
 {
     let mut found = Found {
         program: None,
@@ -122,7 +124,8 @@ fn find_attributes<'a>(bytes: &'a [u8]) -> Result<Found<'a>, DecodeError>
 
 // Parses an attribute. Returns `None` for an attribute of another kind.
 fn decode<'a>(attribute: &NlaBuffer<'a>) -> Result<Option<RequestAttribute<'a>>, DecodeError>
-    ensures { decodes_asked (attribute_of attribute.entry.now) ≡ map_ok asked_or_nothing result }
+    ensures { decode_request_attribute (buffered_attribute attribute.entry.now)
+        ≡ map_ok optional_request_content result }
 {
     match attribute.kind() {
         INET_DIAG_REQ_BYTECODE => Ok(Some(RequestAttribute::Program(attribute.value()))),

@@ -9,12 +9,12 @@ use Rattle.std.proofs.lemmas.Bool.{cases_lt, eqb-true}
 use Rattle.std.proofs.lemmas.List.Splits.{join_with_byte-slice_split, length-slice_split}
 use Rattle.std.proofs.lemmas.List.Splits.{slice_split_first, slice_split_none}
 use Rattle.netlink_core.specs.Bytes.{IsBytes}
-use Rattle.sock_diag_lines.specs.Answer.{IsAnswerOf, IsRequest, entry_of}
-use Rattle.sock_diag_lines.specs.private.Asked.{IsAnswerTo, IsNoRequest, IsReadAs}
+use Rattle.sock_diag_lines.specs.Answer.{IsAnswerOf, IsRequest, name_entry}
+use Rattle.sock_diag_lines.specs.private.Asked.{IsAnswerTo, IsBadLine, IsParsedAs}
 use Rattle.sock_diag_lines.specs.DumpLine.{IsDumpRequest, IsDumpAnswer, dump_text}
 use Rattle.sock_diag_lines.specs.HexField.{IsHexField}
 use Rattle.sock_diag_lines.specs.private.ReadDump.{AreHexFields, IsWritable}
-use Rattle.sock_diag_lines.specs.AnswerText.{IsAnswerAs}
+use Rattle.sock_diag_lines.specs.AnswerText.{IsAnswerUnder}
 use Rattle.sock_diag_lines.specs.private.Text.{is_space}
 use Rattle.sock_diag_lines.specs.declared.answers.Asked.{Asked}
 use Rattle.sock_diag_lines.specs.declared.answers.Asked.TheVariants.{Field, Dump, Nothing}
@@ -24,14 +24,14 @@ use Rattle.sock_diag_lines.specs.declared.answers.Name.TheVariants.{InetRequest,
 use Rattle.sock_diag_lines.specs.declared.answers.Name.TheVariants.{SocketId4, SocketId6, Message}
 use Rattle.sock_diag_lines.specs.declared.answers.Name.TheVariants.{NetlinkMessage, UnixView}
 use Rattle.sock_diag_lines.proofs.AnswerTexts.{answers_more, same_answer, some_answer}
-use Rattle.sock_diag_lines.proofs.AnswerTexts.{texts_as_idle}
+use Rattle.sock_diag_lines.proofs.AnswerTexts.{same_text_iff_equivalent}
 use Rattle.sock_diag_lines.proofs.Deciding.{both_or_not, same_or_not}
 use Rattle.sock_diag_lines.proofs.DumpLaws.{fields_in_range, has_dump_text, one_dump_text}
 use Rattle.sock_diag_lines.proofs.FieldLaws.{IsBytes-field}
 use Rattle.sock_diag_lines.proofs.FieldLists.{field_or_not, one_field, one_list_of_bytes}
 use Rattle.sock_diag_lines.proofs.FieldLists.{row_or_not}
-use Rattle.sock_diag_lines.proofs.NameLaws.{laws_of}
-use Rattle.sock_diag_lines.proofs.SubjectLaws.{AreIdleAs, IsAccepted}
+use Rattle.sock_diag_lines.proofs.NameLaws.{name_answer_laws}
+use Rattle.sock_diag_lines.proofs.SubjectLaws.{AreEquivalentUnder, IsAccepted}
 
 -- ---- names
 
@@ -41,39 +41,40 @@ names = UnixRequest ∷ UnixResponse ∷ InetRequest ∷ InetResponse ∷ Socket
     ∷ NetlinkMessage ∷ UnixView ∷ []
 
 -- the name that is spelled in this way, if there is one
-abbrev name_of : List ℕ → Name
-name_of word =
-    get_or names (position_or_len (λ name. bytes_eq word (entry_of name).0) names) UnixView
+abbrev name_of_spelling : List ℕ → Name
+name_of_spelling word =
+    get_or names (position_or_len (λ name. bytes_eq word (name_entry name).0) names) UnixView
 
 -- each name is found by its spelling, which ends at the first space
-spelled : (name : Name) → (name_of (entry_of name).0 ≡ name)
-    × ((text : List ℕ) → slice_split is_space ((entry_of name).0 ++ 32 ∷ text)
-    ≡ (entry_of name).0 ∷ slice_split is_space text)
-spelled UnixRequest = (refl, λ text. refl)
-spelled UnixResponse = (refl, λ text. refl)
-spelled InetRequest = (refl, λ text. refl)
-spelled InetResponse = (refl, λ text. refl)
-spelled SocketId4 = (refl, λ text. refl)
-spelled SocketId6 = (refl, λ text. refl)
-spelled Message = (refl, λ text. refl)
-spelled NetlinkMessage = (refl, λ text. refl)
-spelled UnixView = (refl, λ text. refl)
+spelling_of_name : (name : Name) → (name_of_spelling (name_entry name).0 ≡ name)
+    × ((text : List ℕ) → slice_split is_space ((name_entry name).0 ++ 32 ∷ text)
+    ≡ (name_entry name).0 ∷ slice_split is_space text)
+spelling_of_name UnixRequest = (refl, λ text. refl)
+spelling_of_name UnixResponse = (refl, λ text. refl)
+spelling_of_name InetRequest = (refl, λ text. refl)
+spelling_of_name InetResponse = (refl, λ text. refl)
+spelling_of_name SocketId4 = (refl, λ text. refl)
+spelling_of_name SocketId6 = (refl, λ text. refl)
+spelling_of_name Message = (refl, λ text. refl)
+spelling_of_name NetlinkMessage = (refl, λ text. refl)
+spelling_of_name UnixView = (refl, λ text. refl)
 
 -- different names have different spellings
-one_name : (name other : Name) → (entry_of name).0 ≡ (entry_of other).0 → name ≡ other
-one_name name other e = sym (spelled name).0 ∙ ap name_of e ∙ (spelled other).0
+one_name : (name other : Name) → (name_entry name).0 ≡ (name_entry other).0 → name ≡ other
+one_name name other e = sym (spelling_of_name name).0 ∙ ap name_of_spelling e
+    ∙ (spelling_of_name other).0
 
-pub not_dump : (name : Name) → (entry_of name).0 ≢ codes "dump"
+pub not_dump : (name : Name) → (name_entry name).0 ≢ codes "dump"
 not_dump name e =
-    let is : name ≡ UnixView = sym (spelled name).0 ∙ ap name_of e in
+    let is : name ≡ UnixView = sym (spelling_of_name name).0 ∙ ap name_of_spelling e in
     let same = rw is at e in omega (arith, ap length same)
 
 -- a word is the spelling of a name, or of none
-name_or_not : (word : List ℕ) → ((name : Name) × (word ≡ (entry_of name).0))
-    ⊎ ¬ ((name : Name) × (word ≡ (entry_of name).0))
-name_or_not word = elim (same_or_not word (entry_of (name_of word)).0) [
-  | inl is ↦ inl (name_of word, is)
-  | inr other ↦ inr (λ known. other (rw (known.1, (spelled known.0).0)))
+name_or_not : (word : List ℕ) → ((name : Name) × (word ≡ (name_entry name).0))
+    ⊎ ¬ ((name : Name) × (word ≡ (name_entry name).0))
+name_or_not word = elim (same_or_not word (name_entry (name_of_spelling word)).0) [
+  | inl is ↦ inl (name_of_spelling word, is)
+  | inr other ↦ inr (λ known. other (rw (known.1, (spelling_of_name known.0).0)))
 ]
 
 -- ---- the word before the first space
@@ -95,10 +96,10 @@ first_space line = elim (cases_lt (position_or_len is_space line) (length line))
 -- after it
 module _ (line word text : List ℕ)
     (cut : slice_split is_space line ≡ word ∷ slice_split is_space text) where
-  asked_here : (name : List ℕ) (Q : List ℕ → Type 0)
+  request_is_named : (name : List ℕ) (Q : List ℕ → Type 0)
       → ((t : List ℕ) → slice_split is_space (name ++ 32 ∷ t) ≡ name ∷ slice_split is_space t)
       → (t : List ℕ) × (line ≡ name ++ 32 ∷ t) × Q t → (word ≡ name) × Q text
-  asked_here name Q ends (t, e, q) =
+  request_is_named name Q ends (t, e, q) =
       let parts = sym cut ∙ ap (slice_split is_space) e ∙ ends t in
       let same : slice_split is_space text ≡ slice_split is_space t = cc in
       let texts = simp (join_with_byte-slice_split 32) at (ap (join_with_byte 32) same) in
@@ -106,21 +107,24 @@ module _ (line word text : List ℕ)
 
   -- if the text is neither a hex field of a name nor hex fields of a dump, the line is not a
   -- request
-  pub no_request : ((name : Name) (bytes : List ℕ) → word ≡ (entry_of name).0
+  pub no_request : ((name : Name) (bytes : List ℕ) → word ≡ (name_entry name).0
       → ¬ IsHexField text bytes)
       → ((datagrams : List (List ℕ)) → word ≡ codes "dump" → ¬ AreHexFields text datagrams)
-      → IsNoRequest line
+      → IsBadLine line
   no_request unnamed undumped = record {
     unnamed = λ name bytes h.
-        let here = asked_here _ _ (spelled name).1 h in unnamed name bytes here.0 here.1;
+        let here = request_is_named _ _ (spelling_of_name name).1 h in
+        unnamed name bytes here.0 here.1;
     undumped = λ datagrams h.
-        let here = asked_here (codes "dump") _ (λ t. refl) h in undumped datagrams here.0 here.1;
+        let here = request_is_named (codes "dump") _ (λ t. refl) h in
+        undumped datagrams here.0 here.1;
   }
 
 -- a line without a space is not a request
-no_space : (line : List ℕ) → slice_split is_space line ≡ line ∷ [] → IsNoRequest line
+no_space : (line : List ℕ) → slice_split is_space line ≡ line ∷ [] → IsBadLine line
 no_space line none = record {
-  unnamed = λ name bytes h. apart _ h.0 (ap (slice_split is_space) h.1 ∙ (spelled name).1 h.0);
+  unnamed = λ name bytes h. apart _ h.0
+      (ap (slice_split is_space) h.1 ∙ (spelling_of_name name).1 h.0);
   undumped = λ datagrams h. apart _ h.0 (ap (slice_split is_space) h.1);
 }
   where
@@ -132,15 +136,16 @@ no_space line none = record {
 
 -- the answer to the name and the bytes of a line answers the line
 field_answers : (line : List ℕ) (name : Name) (bytes text : List ℕ) → IsRequest line name bytes
-    → IsAnswerAs (entry_of name).1 bytes text → IsAnswerOf line text
+    → IsAnswerUnder (name_entry name).1 bytes text → IsAnswerOf line text
 field_answers line name bytes text (t, e, field) tells =
-    let cut = ap (slice_split is_space) e ∙ (spelled name).1 t in
+    let cut = ap (slice_split is_space) e ∙ (spelling_of_name name).1 t in
     record {
       asked = λ other bytes' also.
-          let here = asked_here line _ t cut _ _ (spelled other).1 also in
+          let here = request_is_named line _ t cut _ _ (spelling_of_name other).1 also in
           rw (← one_name name other here.0, ← one_field t bytes bytes' field here.1) tells;
       dumped = λ datagrams dump.
-          absurd (not_dump name (asked_here line _ t cut (codes "dump") _ (λ t. refl) dump).0);
+          absurd (not_dump name (request_is_named line _ t cut (codes "dump") _
+          (λ t. refl) dump).0);
       other = λ unnamed undumped. absurd (unnamed name bytes (t, e, field));
     }
 
@@ -151,17 +156,18 @@ dump_answers line datagrams text (t, e, fields) tells =
     let cut = ap (slice_split is_space) e in
     record {
       asked = λ name bytes asked.
-          absurd (not_dump name (sym (asked_here line _ t cut _ _ (spelled name).1 asked).0));
+          absurd (not_dump name
+          (sym (request_is_named line _ t cut _ _ (spelling_of_name name).1 asked).0));
       dumped = λ others also.
-          let here = asked_here line _ t cut (codes "dump") _ (λ t. refl) also in
+          let here = request_is_named line _ t cut (codes "dump") _ (λ t. refl) also in
           rw (← one_list_of_bytes (slice_split is_space t) datagrams others fields here.1) tells;
       other = λ unnamed undumped. absurd (undumped datagrams (t, e, fields));
     }
 
 -- `bad line` answers a line that is not a request
-bad_answers : (line text : List ℕ) → IsNoRequest line → text ≡ codes "bad line"
+bad_line_answers : (line text : List ℕ) → IsBadLine line → text ≡ codes "bad line"
     → IsAnswerOf line text
-bad_answers line text none e = record {
+bad_line_answers line text none e = record {
   asked = λ name bytes asked. absurd (none.unnamed name bytes asked);
   dumped = λ datagrams dump. absurd (none.undumped datagrams dump);
   other = λ unnamed undumped. e;
@@ -181,9 +187,9 @@ field_answer : (line : List ℕ) (name : Name) (bytes : List ℕ) → IsRequest 
     → TheAnswer line
 field_answer line name bytes asked =
     let in_range = IsBytes-field asked.0 bytes asked.2 in
-    let text = some_answer (entry_of name).1 (laws_of name).0 bytes in_range in
-    let only = λ (other : List ℕ) (is : IsAnswerOf line other). same_answer (entry_of name).1
-    (laws_of name).0 bytes other text.0 in_range (is.asked name bytes asked) text.1 in
+    let text = some_answer (name_entry name).1 (name_answer_laws name).0 bytes in_range in
+    let only = λ (other : List ℕ) (is : IsAnswerOf line other). same_answer (name_entry name).1
+    (name_answer_laws name).0 bytes other text.0 in_range (is.asked name bytes asked) text.1 in
     (text.0, field_answers line name bytes text.0 asked text.1, only)
 
 dump_answer : (line : List ℕ) (datagrams : List (List ℕ)) → IsDumpRequest line datagrams
@@ -195,9 +201,9 @@ dump_answer line datagrams dump =
     one_dump_text datagrams in_range other text.0 (is.dumped datagrams dump) text.1 in
     (text.0, dump_answers line datagrams text.0 dump text.1, only)
 
-bad_answer : (line : List ℕ) → IsNoRequest line → TheAnswer line
+bad_answer : (line : List ℕ) → IsBadLine line → TheAnswer line
 bad_answer line none =
-    (_, bad_answers line _ none refl, λ other is. is.other none.unnamed none.undumped)
+    (_, bad_line_answers line _ none refl, λ other is. is.other none.unnamed none.undumped)
 
 the_answer : (line : List ℕ) → TheAnswer line
 the_answer line = elim (first_space line) [
@@ -224,17 +230,19 @@ unfolding answer_of
 answer_of-is line = (the_answer line).1
 
 -- each line has at most one answer
-pub one_answer : (line a b : List ℕ) → IsAnswerOf line a → IsAnswerOf line b → a ≡ b
-one_answer line a b h k = (the_answer line).2 a h ∙ sym ((the_answer line).2 b k)
+pub one_answer_of_line : (line a b : List ℕ) → IsAnswerOf line a → IsAnswerOf line b → a ≡ b
+one_answer_of_line line a b h k = (the_answer line).2 a h ∙ sym ((the_answer line).2 b k)
 
 -- any function that returns an answer to each line is this one
 pub one_function : (f : List ℕ → List ℕ) → ((line : List ℕ) → IsAnswerOf line (f line))
     → answer_of ≡ f
-one_function f h = λ i line. one_answer line (answer_of line) (f line) (answer_of-is line) (h line)
+one_function f h = λ i line. one_answer_of_line line (answer_of line) (f line) (answer_of-is line)
+    (h line)
     i
 
 -- the answer to the request in a line answers the line
-pub read_answer : (line : List ℕ) (asked : Asked) (bytes text : List ℕ) → IsReadAs line asked bytes
+pub read_answer : (line : List ℕ) (asked : Asked) (bytes text : List ℕ)
+    → IsParsedAs line asked bytes
     → IsAnswerTo asked bytes text → IsAnswerOf line text
 read_answer line (Field name) bytes text asked tells =
     field_answers line name bytes text asked tells
@@ -242,20 +250,21 @@ read_answer line (Dump dump) bytes text (datagrams, asked, read) tells =
     dump_answers line datagrams text asked
     (answers_more IsWritable dump_text (λ d same. rw same read.is) (λ fault never. absurd never)
     tells)
-read_answer line Nothing bytes text none e = bad_answers line text none e
+read_answer line Nothing bytes text none e = bad_line_answers line text none e
 
 -- ---- the answers to two lines
 
 -- two inputs of one name with writable values have the same answer if they are equivalent (`idle`),
 -- and, except for `unixview`, only if they are
-pub answers_as_idle : (name : Name) (line other bytes bytes' text text' : List ℕ)
+pub same_answer_iff_equivalent : (name : Name) (line other bytes bytes' text text' : List ℕ)
     → IsAnswerOf line text → IsAnswerOf other text' → IsRequest line name bytes
-    → IsRequest other name bytes' → IsAccepted (entry_of name).1 bytes
-    → IsAccepted (entry_of name).1 bytes'
-    → (name ≢ UnixView → text ≡ text' → AreIdleAs (entry_of name).1 bytes bytes')
-    × (AreIdleAs (entry_of name).1 bytes bytes' → text ≡ text')
-answers_as_idle name line other bytes bytes' text text' is is' asked asked' ok ok' =
-    let both = texts_as_idle (entry_of name).1 (laws_of name).0 bytes bytes' text text'
+    → IsRequest other name bytes' → IsAccepted (name_entry name).1 bytes
+    → IsAccepted (name_entry name).1 bytes'
+    → (name ≢ UnixView → text ≡ text' → AreEquivalentUnder (name_entry name).1 bytes bytes')
+    × (AreEquivalentUnder (name_entry name).1 bytes bytes' → text ≡ text')
+same_answer_iff_equivalent name line other bytes bytes' text text' is is' asked asked' ok ok' =
+    let both = same_text_iff_equivalent (name_entry name).1 (name_answer_laws name).0 bytes bytes'
+    text text'
     (IsBytes-field asked.0 bytes asked.2) (IsBytes-field asked'.0 bytes' asked'.2)
     (is.asked name bytes asked) (is'.asked name bytes' asked') ok ok' in
-    (λ all. both.0 ((laws_of name).1 all), both.1)
+    (λ all. both.0 ((name_answer_laws name).1 all), both.1)

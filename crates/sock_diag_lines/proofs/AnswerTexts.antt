@@ -4,9 +4,10 @@ use Rattle.std.proofs.Common.{◌≡◌, ◌⊎◌, ◌∙◌, inl, inr, ℕ, Li
 use Rattle.std.proofs.lemmas.List.{append_cancel_left}
 use Rattle.netlink_core.specs.Bytes.{IsBytes}
 use Rattle.netlink_core.specs.declared.fault.DecodeError.{DecodeError}
-use Rattle.sock_diag_lines.specs.AnswerText.{IsAnswerAs, IsAnswerText, Subject}
-use Rattle.sock_diag_lines.specs.private.Text.{accepted, refused, unwritable}
-use Rattle.sock_diag_lines.proofs.SubjectLaws.{AreIdleAs, HasFullText, IsAccepted, LawsOf}
+use Rattle.sock_diag_lines.specs.AnswerText.{IsAnswerUnder, IsAnswerText, AnswerCodec}
+use Rattle.sock_diag_lines.specs.private.Text.{ok_text, refused_text, unwritable_text}
+use Rattle.sock_diag_lines.proofs.SubjectLaws.{AreEquivalentUnder, HasFullText, IsAccepted}
+use Rattle.sock_diag_lines.proofs.SubjectLaws.{AnswerLawsOf}
 
 -- an answer under some values and errors is an answer under more of them
 pub answers_more : {Value : Type 0} (fits : Value → Type 0) (text_of : Value → List ℕ)
@@ -24,10 +25,10 @@ module _ {Value : Type 0} (fits : Value → Type 0) (text_of : Value → List �
       → ((v : Value) → fits v ⊎ ¬ fits v)
       → (text : List ℕ) × IsAnswerText reads refuses fits text_of text
   has_text (inl (v, r)) decide = elim (decide v) [
-    | inl f ↦ (accepted (text_of v), inl (v, r, f, refl))
-    | inr unfit ↦ (unwritable, inr (inl (v, r, unfit, refl)))
+    | inl f ↦ (ok_text (text_of v), inl (v, r, f, refl))
+    | inr unfit ↦ (unwritable_text, inr (inl (v, r, unfit, refl)))
   ]
-  has_text (inr (e, r)) decide = (refused e, inr (inr (e, r, refl)))
+  has_text (inr (e, r)) decide = (refused_text e, inr (inr (e, r, refl)))
 
   -- if there is at most one value or error, there is at most one answer
   module _ (one : (v w : Value) → reads v → reads w → v ≡ w)
@@ -45,37 +46,39 @@ module _ {Value : Type 0} (fits : Value → Type 0) (text_of : Value → List �
     one_text x y (inr (inr (a, r, e))) (inr (inl (w, s, g, k))) = absurd (apart w a s r)
     one_text x y (inr (inr (a, r, e))) (inr (inr (b, s, k))) = rw (e, k, fault a b r s)
 
-module _ (S : Subject) (laws : LawsOf S) where
+module _ (S : AnswerCodec) (laws : AnswerLawsOf S) where
   -- bytes have one value
-  pub one_value : (b : List ℕ) (v w : S.1.Value) → IsBytes b → S.1.reads b S.2 v
+  pub bytes_have_one_value : (b : List ℕ) (v w : S.1.Value) → IsBytes b → S.1.reads b S.2 v
       → S.1.reads b S.2 w → v ≡ w
-  one_value b v w h r s = (laws.same_value b b v w h h r s).1
+  bytes_have_one_value b v w h r s = (laws.same_value b b v w h h r s).1
       ((laws.same_value b b v v h h r r).0 refl)
 
   -- bytes have an answer
-  pub some_answer : (b : List ℕ) → IsBytes b → (text : List ℕ) × IsAnswerAs S b text
+  pub some_answer : (b : List ℕ) → IsBytes b → (text : List ℕ) × IsAnswerUnder S b text
   some_answer b h = has_text S.1.fits S.3 (S.1.reads b S.2)
       (S.1.refuses b S.2) (laws.answered b h) laws.fits_or_not
 
   -- bytes have at most one answer
-  pub same_answer : (b x y : List ℕ) → IsBytes b → IsAnswerAs S b x → IsAnswerAs S b y → x ≡ y
+  pub same_answer : (b x y : List ℕ) → IsBytes b → IsAnswerUnder S b x → IsAnswerUnder S b y → x ≡ y
   same_answer b x y h = one_text S.1.fits S.3 (S.1.reads b S.2)
-      (S.1.refuses b S.2) (λ v w. one_value b v w h) (laws.one_answer b)
+      (S.1.refuses b S.2) (λ v w. bytes_have_one_value b v w h) (laws.one_answer b)
       (laws.one_fault b) x y
 
   -- two inputs with writable values
-  module _ (b c x y : List ℕ) (hb : IsBytes b) (hc : IsBytes c) (tells : IsAnswerAs S b x)
-      (also : IsAnswerAs S c y) (ok : IsAccepted S b) (ok' : IsAccepted S c) where
-    shown : x ≡ accepted (S.3 ok.0)
-    shown = same_answer b x _ hb tells (inl (ok.0, ok.1, ok.2, refl))
+  module _ (b c x y : List ℕ) (hb : IsBytes b) (hc : IsBytes c) (tells : IsAnswerUnder S b x)
+      (also : IsAnswerUnder S c y) (ok : IsAccepted S b) (ok' : IsAccepted S c) where
+    answer_is_ok_text : x ≡ ok_text (S.3 ok.0)
+    answer_is_ok_text = same_answer b x _ hb tells (inl (ok.0, ok.1, ok.2, refl))
 
-    shown' : y ≡ accepted (S.3 ok'.0)
-    shown' = same_answer c y _ hc also (inl (ok'.0, ok'.1, ok'.2, refl))
+    other_answer_is_ok_text : y ≡ ok_text (S.3 ok'.0)
+    other_answer_is_ok_text = same_answer c y _ hc also (inl (ok'.0, ok'.1, ok'.2, refl))
 
     -- equivalent inputs have the same answer, and only they, if the text shows the whole value
-    pub texts_as_idle : (HasFullText S → x ≡ y → AreIdleAs S b c) × (AreIdleAs S b c → x ≡ y)
-    texts_as_idle = let same = laws.same_value b c ok.0 ok'.0 hb hc ok.1 ok'.1 in (
+    pub same_text_iff_equivalent : (HasFullText S → x ≡ y → AreEquivalentUnder S b c)
+        × (AreEquivalentUnder S b c → x ≡ y)
+    same_text_iff_equivalent = let same = laws.same_value b c ok.0 ok'.0 hb hc ok.1 ok'.1 in (
       λ full e. same.0 (full b c ok.0 ok'.0 hb hc ok.1 ok'.1 ok.2 ok'.2
-          (append_cancel_left (codes "ok ") _ _ (sym shown ∙ e ∙ shown'))),
-      λ idle. rw (shown, shown', same.1 idle),
+          (append_cancel_left (codes "ok ") _ _
+          (sym answer_is_ok_text ∙ e ∙ other_answer_is_ok_text))),
+      λ idle. rw (answer_is_ok_text, other_answer_is_ok_text, same.1 idle),
     )

@@ -2,25 +2,26 @@
 use Rattle.std.proofs.Common.{◌≡◌, ℕ, ◌<◌, ◌^◌, List, decimal, sym, subst, arith}
 use Rattle.std.proofs.lemmas.Fmt.{decimal_injective}
 use Rattle.netlink_core.specs.Bytes.{IsBytes}
-use Rattle.netlink_core.specs.Envelope.{Payload, PayloadIs, payload_bytes}
+use Rattle.netlink_core.specs.Envelope.{Payload, ParsesAsPayload, payload_bytes}
 use Rattle.netlink_core.specs.declared.message.NetlinkPayload.TheVariants.{Done, Error, Noop}
 use Rattle.netlink_core.specs.declared.message.NetlinkPayload.TheVariants.{Overrun, InnerMessage}
-use Rattle.netlink_core.proofs.Framing.{envelope_or_fault, envelope_or_fault_apart}
-use Rattle.netlink_core.proofs.Framing.{one_envelope_fault, payload_in_range}
-use Rattle.netlink_core.proofs.Idle.{equal_where_idle, payloads_alike}
+use Rattle.netlink_core.proofs.Framing.{message_or_error, message_or_error_apart}
+use Rattle.netlink_core.proofs.Framing.{one_message_error, payload_in_range}
+use Rattle.netlink_core.proofs.Idle.{messages_equal_iff_equivalent, payloads_equal_by_bytes}
 use Rattle.netlink_packet_sock_diag.specs.Message.{message_codec, Message}
 use Rattle.netlink_packet_sock_diag.specs.laws.Message.{message_laws}
-use Rattle.sock_diag_lines.proofs.CanonicalLaws.{same_written}
-use Rattle.sock_diag_lines.proofs.Deciding.{envelope_fits_or_not}
-use Rattle.sock_diag_lines.specs.private.Text.{word}
-use Rattle.sock_diag_lines.proofs.FieldLaws.{decimal_digits, field_of-same, word_and_rest}
-use Rattle.sock_diag_lines.specs.Answer.{entry_of}
+use Rattle.sock_diag_lines.proofs.CanonicalLaws.{equal_by_serialized}
+use Rattle.sock_diag_lines.proofs.Deciding.{netlink_message_fits_or_not}
+use Rattle.sock_diag_lines.specs.private.Text.{number_then_rest}
+use Rattle.sock_diag_lines.proofs.FieldLaws.{decimal_digits, hex_field_of-same, word_and_rest}
+use Rattle.sock_diag_lines.specs.Answer.{name_entry}
 use Rattle.sock_diag_lines.specs.declared.answers.Name.TheVariants.{NetlinkMessage}
-use Rattle.sock_diag_lines.proofs.SubjectLaws.{LawsOf, HasFullText}
+use Rattle.sock_diag_lines.proofs.SubjectLaws.{AnswerLawsOf, HasFullText}
 
 -- ---- numbers
 
-word-same : (m n : ℕ) (rest other : List ℕ) → m < 2 ^ 32 → n < 2 ^ 32 → word m rest ≡ word n other
+word-same : (m n : ℕ) (rest other : List ℕ) → m < 2 ^ 32 → n < 2 ^ 32
+    → number_then_rest m rest ≡ number_then_rest n other
     → (m ≡ n) × (rest ≡ other)
 word-same m n rest other hm hn e =
     let both = word_and_rest (decimal m) (decimal n) rest other (decimal_digits m (omega arith))
@@ -31,7 +32,7 @@ word-same m n rest other hm hn e =
 
 -- a parsed payload serializes to bytes
 payload_written : (t : ℕ) (x : List ℕ) (p : Payload Message) → IsBytes x
-    → PayloadIs message_codec.reads x t p → IsBytes (payload_bytes message_codec.written p)
+    → ParsesAsPayload message_codec.reads x t p → IsBytes (payload_bytes message_codec.written p)
 payload_written t x Noop hx r = λ i. omega arith
 payload_written t x (Error given) hx r = subst IsBytes (sym r.1) hx
 payload_written t x (Done given) hx r = subst IsBytes (sym r.1) hx
@@ -42,8 +43,8 @@ payload_written t x (InnerMessage m) hx r =
 -- ---- messages
 
 -- the header fields and the serialized payload show the whole message
-pub envelope_has_full_text : HasFullText (entry_of NetlinkMessage).1
-envelope_has_full_text b c v w hb hc r s f g e =
+pub netlink_message_has_full_text : HasFullText (name_entry NetlinkMessage).1
+netlink_message_has_full_text b c v w hb hc r s f g e =
     let h = r.0.1 in
     let k = s.0.1 in
     let of_v = v.header in
@@ -59,10 +60,11 @@ envelope_has_full_text b c v w hb hc r s f g e =
     let hx = payload_in_range of_v.length b hb in
     let hy = payload_in_range of_w.length c hc in
     let t = of_v.message_type in
-    let written = field_of-same _ _ (payload_written _ _ v.payload hx r.1)
+    let written = hex_field_of-same _ _ (payload_written _ _ v.payload hx r.1)
     (payload_written _ _ w.payload hy s.1) ports.1 in
-    let payloads = payloads_alike message_codec.reads message_codec.written message_codec.fits t _ _
-    (λ m n. same_written message_codec message_laws t _ _ m n hx hy) v.payload w.payload r.1
+    let payloads = payloads_equal_by_bytes message_codec.reads message_codec.written
+    message_codec.fits t _ _
+    (λ m n. equal_by_serialized message_codec message_laws t _ _ m n hx hy) v.payload w.payload r.1
     (rw (← types.0) at s.1) f.0 g.0 written in
     λ i. record {
       header = record {
@@ -75,13 +77,13 @@ envelope_has_full_text b c v w hb hc r s f g e =
       payload = payloads i;
     }
 
-pub envelope_laws : LawsOf (entry_of NetlinkMessage).1
-envelope_laws = record {
-  answered = λ b h. envelope_or_fault message_codec b h message_laws.answered;
-  one_answer = λ b v e. envelope_or_fault_apart message_codec b v e
+pub netlink_message_answer_laws : AnswerLawsOf (name_entry NetlinkMessage).1
+netlink_message_answer_laws = record {
+  answered = λ b h. message_or_error message_codec b h message_laws.answered;
+  one_answer = λ b v e. message_or_error_apart message_codec b v e
       (λ x t m. message_laws.one_answer x t m e);
-  one_fault = λ b e f. one_envelope_fault message_codec b e f
+  one_fault = λ b e f. one_message_error message_codec b e f
       (λ x t. message_laws.one_fault x t e f);
-  same_value = equal_where_idle message_codec message_laws.same_value;
-  fits_or_not = envelope_fits_or_not;
+  same_value = messages_equal_iff_equivalent message_codec message_laws.same_value;
+  fits_or_not = netlink_message_fits_or_not;
 }

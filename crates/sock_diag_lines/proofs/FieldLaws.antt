@@ -7,7 +7,7 @@ use Rattle.std.proofs.lemmas.Fmt.{digits_decimal}
 use Rattle.std.proofs.lemmas.Str.Parse.{numerals_by_value, tells_all_ascii_digits}
 use Rattle.hex.proofs.HexLemmas.{decode_of-encode_lower, decode_of-ok}
 use Rattle.netlink_core.specs.Bytes.{IsBytes}
-use Rattle.sock_diag_lines.specs.HexField.{IsHexField, field_of}
+use Rattle.sock_diag_lines.specs.HexField.{IsHexField, hex_field_of}
 use Rattle.sock_diag_lines.proofs.FieldLists.{one_field}
 
 -- the contents of a hex field are bytes
@@ -16,16 +16,17 @@ IsBytes-field field content (inl dash) = λ i. rw dash.1 (omega arith)
 IsBytes-field field content (inr digits) = (decode_of-ok field content digits.1).3
 
 -- the hex field of bytes has these bytes
-field_stands : (x : List ℕ) → IsBytes x → IsHexField (field_of x) x
-field_stands [] h = inl (refl, refl)
-field_stands (b ∷ x) h =
+hex_field_has_bytes : (x : List ℕ) → IsBytes x → IsHexField (hex_field_of x) x
+hex_field_has_bytes [] h = inl (refl, refl)
+hex_field_has_bytes (b ∷ x) h =
     let some = false_from_ne_true (length (b ∷ x) == 0) (λ e. omega (arith, eqb-true _ 0 e)) in
     rw some (inr (omega arith, decode_of-encode_lower (b ∷ x) h))
 
 -- equal hex fields have equal bytes
-pub field_of-same : (x y : List ℕ) → IsBytes x → IsBytes y → field_of x ≡ field_of y → x ≡ y
-field_of-same x y hx hy e = one_field (field_of x) x y (field_stands x hx)
-    (subst (λ (f : List ℕ). IsHexField f y) (sym e) (field_stands y hy))
+pub hex_field_of-same : (x y : List ℕ) → IsBytes x → IsBytes y → hex_field_of x ≡ hex_field_of y
+    → x ≡ y
+hex_field_of-same x y hx hy e = one_field (hex_field_of x) x y (hex_field_has_bytes x hx)
+    (subst (λ (f : List ℕ). IsHexField f y) (sym e) (hex_field_has_bytes y hy))
 
 -- digits before a space, and the rest after it, are determined by the text
 pub word_and_rest : (x y rest other : List ℕ) → all_ascii_digits x ≡ true

@@ -19,10 +19,11 @@ no_digits field bytes dash read =
     omega (arith, (decode_of-ok field bytes read).0, ap length dash)
 
 -- an empty field is not a hex field
-pub no_field : (field bytes : List ℕ) → (length field == 0) ≡ true → IsHexField field bytes → ⊥
-no_field field bytes empty (inl dash) =
+pub empty_is_no_hex_field : (field bytes : List ℕ) → (length field == 0) ≡ true
+    → IsHexField field bytes → ⊥
+empty_is_no_hex_field field bytes empty (inl dash) =
     omega (arith, ap length dash.0, eqb-true (length field) 0 empty)
-no_field field bytes empty (inr digits) =
+empty_is_no_hex_field field bytes empty (inr digits) =
     omega (arith, (decode_of-ok field bytes digits.1).2, eqb-true (length field) 0 empty, digits.0)
 
 pub one_field : (field b c : List ℕ) → IsHexField field b → IsHexField field c → b ≡ c

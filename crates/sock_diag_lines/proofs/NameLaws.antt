@@ -13,50 +13,55 @@ use Rattle.sock_diag_replies.specs.InetResponseSpec.{inet_response_spec}
 use Rattle.sock_diag_replies.specs.laws.InetResponseSpec.{inet_response_laws}
 use Rattle.netlink_packet_sock_diag.specs.Message.{message_codec}
 use Rattle.netlink_packet_sock_diag.specs.laws.Message.{message_laws}
-use Rattle.netlink_core.specs.Codec.{Codec, KeepsLaws, record_codec}
+use Rattle.netlink_core.specs.Codec.{Codec, KeepsCodecLaws, record_codec}
 use Rattle.netlink_core.specs.Response.{response_codec}
-use Rattle.netlink_core.proofs.LayoutLaws.{keeps_laws}
-use Rattle.netlink_core.proofs.Responses.{responses_keep_laws}
-use Rattle.sock_diag_lines.specs.Answer.{entry_of}
+use Rattle.netlink_core.proofs.LayoutLaws.{layout_codec_laws}
+use Rattle.netlink_core.proofs.Responses.{reply_codec_laws}
+use Rattle.sock_diag_lines.specs.Answer.{name_entry}
 use Rattle.sock_diag_lines.specs.declared.answers.Name.{Name}
 use Rattle.sock_diag_lines.specs.declared.answers.Name.TheVariants.{UnixRequest, UnixResponse}
 use Rattle.sock_diag_lines.specs.declared.answers.Name.TheVariants.{InetRequest, InetResponse}
 use Rattle.sock_diag_lines.specs.declared.answers.Name.TheVariants.{SocketId4, SocketId6, Message}
 use Rattle.sock_diag_lines.specs.declared.answers.Name.TheVariants.{NetlinkMessage, UnixView}
-use Rattle.sock_diag_lines.specs.AnswerText.{subject}
-use Rattle.sock_diag_lines.proofs.CanonicalLaws.{canonical_has_full_text, text_laws}
+use Rattle.sock_diag_lines.specs.AnswerText.{answer_codec}
+use Rattle.sock_diag_lines.proofs.CanonicalLaws.{canonical_has_full_text, subject_laws_of_codec}
 use Rattle.sock_diag_lines.proofs.Deciding.{message_fits_or_not, reply_fits_or_not}
-use Rattle.sock_diag_lines.proofs.EnvelopeLaws.{envelope_laws, envelope_has_full_text}
-use Rattle.sock_diag_lines.proofs.SubjectLaws.{LawsOf, HasFullText}
+use Rattle.sock_diag_lines.proofs.EnvelopeLaws.{netlink_message_answer_laws}
+use Rattle.sock_diag_lines.proofs.EnvelopeLaws.{netlink_message_has_full_text}
+use Rattle.sock_diag_lines.proofs.SubjectLaws.{AnswerLawsOf, HasFullText}
 
 -- the laws of a subject that shows the canonical form
-shown : {Param P : Type 0} (C : Codec Param) → KeepsLaws C → (param : Param)
+codec_answer_laws : {Param P : Type 0} (C : Codec Param) → KeepsCodecLaws C → (param : Param)
     → ((v : C.Value) → C.fits v ⊎ ¬ C.fits v)
-    → LawsOf (subject C param) × (P → HasFullText (subject C param))
-shown C laws param fits_or_not =
-    (text_laws C laws param C.fits fits_or_not, λ p. canonical_has_full_text C laws param)
+    → AnswerLawsOf (answer_codec C param) × (P → HasFullText (answer_codec C param))
+codec_answer_laws C laws param fits_or_not = (
+  subject_laws_of_codec C laws param C.fits fits_or_not,
+  λ p. canonical_has_full_text C laws param,
+)
 
 -- the laws of each name; every name except `unixview` shows the whole value
-pub laws_of : (name : Name)
-    → LawsOf (entry_of name).1 × (name ≢ UnixView → HasFullText (entry_of name).1)
-laws_of UnixRequest = shown (record_codec unix_request)
-    (keeps_laws unix_request unix_request_sound) tt (λ v. inl tt)
-laws_of UnixResponse = shown (response_codec unix_response_spec)
-    (responses_keep_laws unix_response_spec unix_response_laws) tt
+pub name_answer_laws : (name : Name)
+    → AnswerLawsOf (name_entry name).1 × (name ≢ UnixView → HasFullText (name_entry name).1)
+name_answer_laws UnixRequest = codec_answer_laws (record_codec unix_request)
+    (layout_codec_laws unix_request unix_request_sound) tt (λ v. inl tt)
+name_answer_laws UnixResponse = codec_answer_laws (response_codec unix_response_spec)
+    (reply_codec_laws unix_response_spec unix_response_laws) tt
     (reply_fits_or_not unix_response_spec)
-laws_of InetRequest = shown (record_codec inet_request)
-    (keeps_laws inet_request inet_request_sound) tt (λ v. inl tt)
-laws_of InetResponse = shown (response_codec inet_response_spec)
-    (responses_keep_laws inet_response_spec inet_response_laws) tt
+name_answer_laws InetRequest = codec_answer_laws (record_codec inet_request)
+    (layout_codec_laws inet_request inet_request_sound) tt (λ v. inl tt)
+name_answer_laws InetResponse = codec_answer_laws (response_codec inet_response_spec)
+    (reply_codec_laws inet_response_spec inet_response_laws) tt
     (reply_fits_or_not inet_response_spec)
-laws_of SocketId4 = shown (record_codec socket_id) (keeps_laws socket_id socket_id_sound) 2
+name_answer_laws SocketId4 = codec_answer_laws (record_codec socket_id)
+    (layout_codec_laws socket_id socket_id_sound) 2
     (λ v. inl tt)
-laws_of SocketId6 = shown (record_codec socket_id) (keeps_laws socket_id socket_id_sound) 10
+name_answer_laws SocketId6 = codec_answer_laws (record_codec socket_id)
+    (layout_codec_laws socket_id socket_id_sound) 10
     (λ v. inl tt)
-laws_of Message = shown message_codec message_laws 20 message_fits_or_not
-laws_of NetlinkMessage = (envelope_laws, λ h. envelope_has_full_text)
-laws_of UnixView = (
-  text_laws (response_codec unix_response_spec)
-      (responses_keep_laws unix_response_spec unix_response_laws) tt (λ v. ⊤) (λ v. inl tt),
+name_answer_laws Message = codec_answer_laws message_codec message_laws 20 message_fits_or_not
+name_answer_laws NetlinkMessage = (netlink_message_answer_laws, λ h. netlink_message_has_full_text)
+name_answer_laws UnixView = (
+  subject_laws_of_codec (response_codec unix_response_spec)
+      (reply_codec_laws unix_response_spec unix_response_laws) tt (λ v. ⊤) (λ v. inl tt),
   λ h. absurd (h refl),
 )

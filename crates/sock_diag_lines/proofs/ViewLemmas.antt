@@ -21,9 +21,10 @@ join_next first word [] = refl
 join_next first word (next ∷ words) =
     append_assoc first (32 ∷ word) (32 ∷ join_with_byte 32 (next ∷ words))
 
-pub joined : (front first : List ℕ) (words : List (List ℕ))
+pub joined_by_spaces : (front first : List ℕ) (words : List (List ℕ))
     → with_words (front ++ first) words ≡ front ++ join_with_byte 32 (first ∷ words)
-joined front first [] = refl
-joined front first (word ∷ words) =
+joined_by_spaces front first [] = refl
+joined_by_spaces front first (word ∷ words) =
     ap (λ t. with_words t words) (append_assoc front first (32 ∷ word))
-    ∙ joined front (first ++ 32 ∷ word) words ∙ ap (λ t. front ++ t) (join_next first word words)
+    ∙ joined_by_spaces front (first ++ 32 ∷ word) words
+    ∙ ap (λ t. front ++ t) (join_next first word words)

@@ -12,8 +12,8 @@ use Rattle.netlink_core.specs.Codec.{record_codec}
 use Rattle.netlink_core.specs.Response.{response_codec}
 use Rattle.sock_diag_lines.specs.DumpLine.{IsDumpRequest, IsDumpAnswer}
 use Rattle.sock_diag_lines.specs.HexField.{IsHexField}
-use Rattle.sock_diag_lines.specs.AnswerText.{Subject, subject, IsAnswerAs}
-use Rattle.sock_diag_lines.specs.EnvelopeLine.{envelope_text}
+use Rattle.sock_diag_lines.specs.AnswerText.{AnswerCodec, answer_codec, IsAnswerUnder}
+use Rattle.sock_diag_lines.specs.EnvelopeLine.{netlink_message_text}
 use Rattle.sock_diag_lines.specs.ViewLine.{reply_text}
 use Rattle.sock_diag_lines.specs.declared.answers.Name.{Name}
 use Rattle.sock_diag_lines.specs.declared.answers.Name.TheVariants.{UnixRequest, UnixResponse}
@@ -25,30 +25,30 @@ use Rattle.sock_diag_lines.specs.declared.answers.Name.TheVariants.{NetlinkMessa
 -- The parameter of a socket id is the address family, AF_INET (2) or AF_INET6 (10). The parameter
 -- of a message is its type, SOCK_DIAG_BY_FAMILY (20). The text is the canonical form in hex, except
 -- for the last two names.
-abbrev pub entry_of : Name → List ℕ × Subject
-entry_of UnixRequest = (codes "unixreq", subject (record_codec unix_request) tt)
-entry_of UnixResponse = (codes "unix", subject (response_codec unix_response_spec) tt)
-entry_of InetRequest = (codes "inetreq", subject (record_codec inet_request) tt)
-entry_of InetResponse = (codes "inet", subject (response_codec inet_response_spec) tt)
-entry_of SocketId4 = (codes "sockid4", subject (record_codec socket_id) 2)
-entry_of SocketId6 = (codes "sockid6", subject (record_codec socket_id) 10)
-entry_of Message = (codes "message", subject message_codec 20)
+abbrev pub name_entry : Name → List ℕ × AnswerCodec
+name_entry UnixRequest = (codes "unixreq", answer_codec (record_codec unix_request) tt)
+name_entry UnixResponse = (codes "unix", answer_codec (response_codec unix_response_spec) tt)
+name_entry InetRequest = (codes "inetreq", answer_codec (record_codec inet_request) tt)
+name_entry InetResponse = (codes "inet", answer_codec (response_codec inet_response_spec) tt)
+name_entry SocketId4 = (codes "sockid4", answer_codec (record_codec socket_id) 2)
+name_entry SocketId6 = (codes "sockid6", answer_codec (record_codec socket_id) 10)
+name_entry Message = (codes "message", answer_codec message_codec 20)
 -- the fields of the header as they were parsed, and the serialized payload
-entry_of NetlinkMessage = (codes "netlink", (_, netlink_message_codec, tt, envelope_text))
+name_entry NetlinkMessage = (codes "netlink", (_, netlink_message_codec, tt, netlink_message_text))
 -- thirteen values of a reply about a UNIX socket; never `unwritable`, since each value counts as
 -- writable (`fits`)
-entry_of UnixView = let replies = record (response_codec unix_response_spec) { fits = λ v. ⊤ } in
+name_entry UnixView = let replies = record (response_codec unix_response_spec) { fits = λ v. ⊤ } in
     (codes "unixview", (_, replies, tt, reply_text))
 
 -- the line is this name, one space and a hex field of these bytes
 abbrev pub IsRequest : List ℕ → Name → List ℕ → Type 0
-IsRequest line name b = (hex : List ℕ) × (line ≡ (entry_of name).0 ++ 32 ∷ hex) × IsHexField hex b
+IsRequest line name b = (hex : List ℕ) × (line ≡ (name_entry name).0 ++ 32 ∷ hex) × IsHexField hex b
 
 -- The text answers the line. If the line is a name and a hex field, it answers the bytes. If it is
 -- a dump over datagrams, it answers the dump. Else it is `bad line`.
 pub record IsAnswerOf (line text : List ℕ) : Type 0 where
   -- if the line is a name and a hex field
-  pub asked : (n : Name) (b : List ℕ) → IsRequest line n b → IsAnswerAs (entry_of n).1 b text
+  pub asked : (n : Name) (b : List ℕ) → IsRequest line n b → IsAnswerUnder (name_entry n).1 b text
   -- if the line is a dump over datagrams
   pub dumped : (given : List (List ℕ)) → IsDumpRequest line given → IsDumpAnswer given text
   -- if the line is neither

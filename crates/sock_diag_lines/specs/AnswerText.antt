@@ -1,8 +1,8 @@
 -- The answer to bytes: the text of their value, `unwritable`, or their first error.
 use Rattle.std.specs.Prelude.{◌≡◌, ◌⊎◌, ℕ, List, ◌++◌, codes, decimal}
-use Rattle.sock_diag_lines.specs.HexField.{field_of}
+use Rattle.sock_diag_lines.specs.HexField.{hex_field_of}
 use Rattle.netlink_core.specs.Codec.{Codec}
-use Rattle.netlink_core.specs.Faults.{number_of}
+use Rattle.netlink_core.specs.Faults.{error_code}
 use Rattle.netlink_core.specs.declared.fault.DecodeError.{DecodeError}
 
 -- IsAnswerText reads refuses fits text_of text: given are the values that the bytes parse as
@@ -14,16 +14,16 @@ abbrev pub IsAnswerText : {Value : Type 0} → (Value → Type 0) → (DecodeErr
 IsAnswerText {Value} reads refuses fits text_of text =
     ((value : Value) × reads value × fits value × (text ≡ codes "ok " ++ text_of value))
     ⊎ (((value : Value) × reads value × ¬ fits value × (text ≡ codes "unwritable"))
-    ⊎ ((e : DecodeError) × refuses e × (text ≡ codes "refused " ++ decimal (number_of e))))
+    ⊎ ((e : DecodeError) × refuses e × (text ≡ codes "refused " ++ decimal (error_code e))))
 
 -- how bytes are parsed and shown: a parameter type, a codec, a parameter, and the text of a value
-abbrev pub Subject : Type 1
-Subject = (Param : Type 0) × (C : Codec Param) × Param × (C.Value → List ℕ)
+abbrev pub AnswerCodec : Type 1
+AnswerCodec = (Param : Type 0) × (C : Codec Param) × Param × (C.Value → List ℕ)
 
 -- a codec and a parameter; a value is shown as the hex field of the bytes that it serializes to
-abbrev pub subject : {Param : Type 0} → Codec Param → Param → Subject
-subject C param = (_, C, param, λ v. field_of (C.written v))
+abbrev pub answer_codec : {Param : Type 0} → Codec Param → Param → AnswerCodec
+answer_codec C param = (_, C, param, λ v. hex_field_of (C.written v))
 
 -- the text answers the bytes under this subject
-abbrev pub IsAnswerAs : Subject → List ℕ → List ℕ → Type 0
-IsAnswerAs (_, C, p, text_of) b = IsAnswerText (C.reads b p) (C.refuses b p) C.fits text_of
+abbrev pub IsAnswerUnder : AnswerCodec → List ℕ → List ℕ → Type 0
+IsAnswerUnder (_, C, p, text_of) b = IsAnswerText (C.reads b p) (C.refuses b p) C.fits text_of

@@ -3,13 +3,13 @@ use Rattle.std.specs.Prelude.{◌≡◌, ◌==◌, ℕ, List, [], ◌∷◌, ◌
 use Rattle.std.specs.Prelude.{Err}
 use Rattle.std.specs.List.{AllByRecursion, AllZip, flat_map, slice_split}
 use Rattle.netlink_core.specs.declared.fault.DecodeError.{DecodeError}
-use Rattle.netlink_core.specs.Faults.{number_of}
+use Rattle.netlink_core.specs.Faults.{error_code}
 use Rattle.netlink_packet_sock_diag.specs.declared.dump.DumpState.TheVariants.{Reading, Done, Error}
 use Rattle.netlink_packet_sock_diag.specs.declared.dump.DumpState.TheVariants.{Overrun, Failed}
-use Rattle.netlink_core.specs.Items.{ItemIs}
-use Rattle.netlink_packet_sock_diag.specs.Dump.{DatagramsDump, Standing}
+use Rattle.netlink_core.specs.Items.{IsItemOf}
+use Rattle.netlink_packet_sock_diag.specs.Dump.{DumpOfDatagrams, DumpStatus}
 use Rattle.netlink_packet_sock_diag.specs.Message.{Message, message_codec}
-use Rattle.sock_diag_lines.specs.HexField.{IsHexField, field_of}
+use Rattle.sock_diag_lines.specs.HexField.{IsHexField, hex_field_of}
 use Rattle.sock_diag_lines.specs.AnswerText.{IsAnswerText}
 
 -- the line is `dump`, a space, and one or more hex fields separated by one space, 32, whose bytes
@@ -20,22 +20,22 @@ IsDumpRequest line datagrams = (fields : List ℕ) × (line ≡ codes "dump" ++ 
 
 -- The name of the state, or `failed:` and the code of the error. No dump ends with
 -- `Ok (Failed, _)`.
-abbrev pub end_word : Result Standing DecodeError → List ℕ
-end_word (Ok (Reading, number)) = codes "reading"
-end_word (Ok (Done, number)) = codes "done"
-end_word (Ok (Error, number)) = codes "error"
-end_word (Ok (Overrun, number)) = codes "overrun"
-end_word (Ok (Failed, number)) = codes "failed"
-end_word (Err fault) = codes "failed:" ++ decimal (number_of fault)
+abbrev pub dump_state_text : Result DumpStatus DecodeError → List ℕ
+dump_state_text (Ok (Reading, number)) = codes "reading"
+dump_state_text (Ok (Done, number)) = codes "done"
+dump_state_text (Ok (Error, number)) = codes "error"
+dump_state_text (Ok (Overrun, number)) = codes "overrun"
+dump_state_text (Ok (Failed, number)) = codes "failed"
+dump_state_text (Err fault) = codes "failed:" ++ decimal (error_code fault)
 
 -- dump_text (messages, end): the state, a space, and the number of messages; then a space and a hex
 -- field for each message
-abbrev pub dump_text : List Message × Result Standing DecodeError → List ℕ
-dump_text dump = end_word dump.1 ++ 32 ∷ decimal (length dump.0)
-    ++ flat_map (λ message. 32 ∷ field_of (message_codec.written message)) dump.0
+abbrev pub dump_text : List Message × Result DumpStatus DecodeError → List ℕ
+dump_text dump = dump_state_text dump.1 ++ 32 ∷ decimal (length dump.0)
+    ++ flat_map (λ message. 32 ∷ hex_field_of (message_codec.written message)) dump.0
 
 -- The text answers the dump over the datagrams. It is never `refused`, and it is `unwritable`
 -- unless each message of the dump is writable.
 abbrev pub IsDumpAnswer : List (List ℕ) → List ℕ → Type 0
-IsDumpAnswer given = IsAnswerText (λ d. DatagramsDump (ItemIs message_codec) [] given d.0 d.1)
+IsDumpAnswer given = IsAnswerText (λ d. DumpOfDatagrams (IsItemOf message_codec) [] given d.0 d.1)
     (λ e. ⊥) (λ d. AllByRecursion message_codec.fits d.0) dump_text

@@ -2,27 +2,28 @@
 use Rattle.std.specs.Prelude.{◌==◌, if◌then◌else◌, ℕ, List, [], ◌∷◌, ◌++◌, length, map, codes}
 use Rattle.std.specs.Prelude.{decimal, Option, option_map, unwrap_or}
 use Rattle.std.specs.List.{join_by, join_with_byte}
-use Rattle.netlink_core.specs.AttributeSet.{content}
+use Rattle.netlink_core.specs.AttributeSet.{value_of_kind}
 use Rattle.sock_diag_attributes.specs.declared.unix.name.SocketName.{SocketName}
 use Rattle.sock_diag_attributes.specs.declared.unix.name.SocketName.TheVariants.{Abstract, Pathname}
-use Rattle.sock_diag_attributes.specs.UnixAttributes.{unix}
+use Rattle.sock_diag_attributes.specs.UnixAttributes.{unix_attribute_set}
 use Rattle.sock_diag_records.specs.declared.constants.TheConstants.{UNIX_DIAG_ICONS}
 use Rattle.sock_diag_records.specs.declared.constants.TheConstants.{UNIX_DIAG_MEMINFO}
 use Rattle.sock_diag_records.specs.declared.constants.TheConstants.{UNIX_DIAG_NAME, UNIX_DIAG_PEER}
 use Rattle.sock_diag_records.specs.declared.constants.TheConstants.{UNIX_DIAG_SHUTDOWN}
-use Rattle.netlink_core.specs.Response.{ValueOf}
-use Rattle.sock_diag_replies.specs.UnixGetters.{first_of, listening_queue_of, other_queue_of}
+use Rattle.netlink_core.specs.Response.{ReplyValue}
+use Rattle.sock_diag_replies.specs.UnixGetters.{first_content_of, listening_queue_of}
+use Rattle.sock_diag_replies.specs.UnixGetters.{nonlistening_queue_of}
 use Rattle.sock_diag_replies.specs.UnixResponseSpec.{unix_response_spec}
-use Rattle.sock_diag_lines.specs.HexField.{field_of}
+use Rattle.sock_diag_lines.specs.HexField.{hex_field_of}
 
 -- the text of a value, or `none` if it is absent
 abbrev pub or_none : {A : Type 0} → (A → List ℕ) → Option A → List ℕ
 or_none text_of found = unwrap_or (option_map text_of found) (codes "none")
 
 -- the kind of a name, and its bytes as a hex field
-abbrev pub name_word : SocketName (List ℕ) → List ℕ
-name_word (Pathname path) = codes "path:" ++ field_of path
-name_word (Abstract address) = codes "abstract:" ++ field_of address
+abbrev pub socket_name_text : SocketName (List ℕ) → List ℕ
+socket_name_text (Pathname path) = codes "path:" ++ hex_field_of path
+socket_name_text (Abstract address) = codes "abstract:" ++ hex_field_of address
 
 -- numbers in decimal, separated by commas; `-` for an empty list
 abbrev pub comma_list : List ℕ → List ℕ
@@ -31,17 +32,18 @@ comma_list ns = if length ns == 0 then codes "-" else join_by decimal (codes ","
 -- Thirteen values separated by one space, 32: three of the header, and one for each getter.
 -- `found k` is the value of the first attribute of type k, and `both` are the two numbers of a
 -- pair. A value that is absent is `none`.
-abbrev pub reply_text : ValueOf unix_response_spec → List ℕ
-reply_text v = let found = λ (k : ℕ). first_of (content unix k) v.nlas in
+abbrev pub reply_text : ReplyValue unix_response_spec → List ℕ
+reply_text v = let found = λ (k : ℕ). first_content_of (value_of_kind unix_attribute_set k)
+    v.nlas in
     let both = λ (o : Option (ℕ × ℕ)). option_map (λ p. p.0) o ∷ option_map (λ p. p.1) o ∷ [] in
     join_with_byte 32 (map decimal (v.header.kind ∷ v.header.state ∷ v.header.inode ∷ [])
     -- UNIX_DIAG_PEER, UNIX_DIAG_NAME, UNIX_DIAG_ICONS
-    ++ or_none decimal (found UNIX_DIAG_PEER) ∷ or_none name_word (found UNIX_DIAG_NAME)
+    ++ or_none decimal (found UNIX_DIAG_PEER) ∷ or_none socket_name_text (found UNIX_DIAG_NAME)
     ∷ or_none comma_list (found UNIX_DIAG_ICONS)
     -- UNIX_DIAG_SHUTDOWN; then twice the two queue lengths of UNIX_DIAG_RQLEN, if the socket is
     -- listening and if it is not
     ∷ map (or_none decimal) (found UNIX_DIAG_SHUTDOWN
-    ∷ both (listening_queue_of v) ++ both (other_queue_of v)
+    ∷ both (listening_queue_of v) ++ both (nonlistening_queue_of v)
     -- two fields of UNIX_DIAG_MEMINFO: `SK_MEMINFO_SNDBUF` and `SK_MEMINFO_WMEM_QUEUED`
     ++ option_map (λ info. info.max_datagram_size) (found UNIX_DIAG_MEMINFO)
     ∷ option_map (λ info. info.alloc) (found UNIX_DIAG_MEMINFO) ∷ []))

@@ -6,21 +6,21 @@ ghost use Rattle.std.specs.Prelude.{◌≡◌, ◌≢◌, ◌↔◌, ◌++◌, �
 ghost use Rattle.std.specs.Prelude.{IfOk, OnOk, MatchOption};
 ghost use Rattle.std.specs.List.{AllZip, concat, flat_map};
 ghost use Rattle.netlink_core.specs.Envelope.{Payload};
-ghost use Rattle.netlink_core.specs.Items.{ItemIs, ItemsAre};
+ghost use Rattle.netlink_core.specs.Items.{IsItemOf, AreItemsOf};
 ghost use Rattle.netlink_core.specs.declared.message.NetlinkPayload.TheVariants.{InnerMessage};
 ghost use Rattle.netlink_core.specs.declared.fault.DecodeError.{DecodeError};
-ghost use Rattle.netlink_packet_sock_diag.specs.Dump.{AreSplit};
+ghost use Rattle.netlink_packet_sock_diag.specs.Dump.{AreCompleteExceptLast};
 ghost use Rattle.netlink_packet_sock_diag.specs.Message.{Message, message_codec};
 ghost use Rattle.netlink_packet_sock_diag.specs.Message.{netlink_message_codec};
 ghost use Rattle.netlink_packet_sock_diag.specs.MessageViewModel.{message_view_model};
-ghost use Rattle.netlink_packet_sock_diag.specs.PayloadViewModel.{envelope_view_model};
-ghost use Rattle.sock_diag_lines.specs.Answer.{IsAnswerOf, IsRequest, entry_of};
-ghost use Rattle.sock_diag_lines.specs.private.Asked.{IsAnswerTo, IsReadAs};
+ghost use Rattle.netlink_packet_sock_diag.specs.PayloadViewModel.{netlink_message_view_model};
+ghost use Rattle.sock_diag_lines.specs.Answer.{IsAnswerOf, IsRequest, name_entry};
+ghost use Rattle.sock_diag_lines.specs.private.Asked.{IsAnswerTo, IsParsedAs};
 ghost use Rattle.sock_diag_lines.specs.DumpLine.{IsDumpRequest};
-ghost use Rattle.sock_diag_lines.specs.EnvelopeLine.{envelope_text};
-ghost use Rattle.sock_diag_lines.specs.HexField.{field_of};
-ghost use Rattle.sock_diag_lines.specs.AnswerText.{IsAnswerAs, IsAnswerText};
-ghost use Rattle.sock_diag_lines.specs.private.Text.{Adds, accepted, word};
+ghost use Rattle.sock_diag_lines.specs.EnvelopeLine.{netlink_message_text};
+ghost use Rattle.sock_diag_lines.specs.HexField.{hex_field_of};
+ghost use Rattle.sock_diag_lines.specs.AnswerText.{IsAnswerUnder, IsAnswerText};
+ghost use Rattle.sock_diag_lines.specs.private.Text.{AppendsSome, ok_text, number_then_rest};
 
 use crate::dump_line::{ReadDump, push_dump, read_dump};
 use crate::fields::{find_space, read_field};
@@ -81,7 +81,7 @@ pub fn answer(alloc: Global, line: &[u8]) -> Result<Vec<u8>, AllocError>
     // if and only if they are equivalent (`idle`). `C` is the codec of the name. `unixview` does
     // not show the whole value.
     ensures same { IfOk result (λ text. (name : Name) → name ≢ UnixView
-        → let C = (entry_of name).1.1 in let param = (entry_of name).1.2 in
+        → let C = (name_entry name).1.1 in let param = (name_entry name).1.2 in
         (other bytes bytes' text' : List ℕ) (value value' : C.Value)
         → IsRequest line.now name bytes → IsRequest other name bytes'
         → C.reads bytes param value → C.fits value
@@ -89,7 +89,7 @@ pub fn answer(alloc: Global, line: &[u8]) -> Result<Vec<u8>, AllocError>
         → IsAnswerOf other text' → ((text.items ≡ text') ↔ C.idle param bytes bytes')) }
     // Two equivalent inputs of any name, both with writable values, have the same answer.
     ensures alike { IfOk result (λ text. (name : Name)
-        → let C = (entry_of name).1.1 in let param = (entry_of name).1.2 in
+        → let C = (name_entry name).1.1 in let param = (name_entry name).1.2 in
         (other bytes bytes' text' : List ℕ) (value value' : C.Value)
         → IsRequest line.now name bytes → IsRequest other name bytes'
         → C.reads bytes param value → C.fits value
@@ -100,8 +100,8 @@ pub fn answer(alloc: Global, line: &[u8]) -> Result<Vec<u8>, AllocError>
         (λ text. (other text' : List ℕ) (datagrams datagrams' : List (List ℕ))
         (items items' : List (List (Result (Payload Message) DecodeError)))
         → IsDumpRequest line.now datagrams → IsDumpRequest other datagrams'
-        → AllZip (ItemsAre (ItemIs message_codec)) datagrams items
-        → AllZip (ItemsAre (ItemIs message_codec)) datagrams' items'
+        → AllZip (AreItemsOf (IsItemOf message_codec)) datagrams items
+        → AllZip (AreItemsOf (IsItemOf message_codec)) datagrams' items'
         → flat_map (λ one. one) items ≡ flat_map (λ one. one) items'
         → IsAnswerOf other text' → text.items ≡ text') }
     // Two dumps of the same concatenated bytes have the same answer, if each of their datagrams
@@ -109,7 +109,7 @@ pub fn answer(alloc: Global, line: &[u8]) -> Result<Vec<u8>, AllocError>
     ensures split { IfOk result
         (λ text. (other text' : List ℕ) (datagrams datagrams' : List (List ℕ))
         → IsDumpRequest line.now datagrams → IsDumpRequest other datagrams'
-        → AreSplit datagrams → AreSplit datagrams'
+        → AreCompleteExceptLast datagrams → AreCompleteExceptLast datagrams'
         → concat datagrams ≡ concat datagrams'
         → IsAnswerOf other text' → text.items ≡ text') }
 {
@@ -133,7 +133,7 @@ pub(crate) fn push_answer(
     text: &mut Vec<u8>,
     line: &[u8],
 ) -> Result<(), AllocError>
-    ensures { OnOk result (Adds text.old.items text.new.items (IsAnswerOf line.now)) }
+    ensures { OnOk result (AppendsSome text.old.items text.new.items (IsAnswerOf line.now)) }
 {
     let asked = read_request(alloc, bytes, line)?;
     push_answer_text(alloc, text, asked, bytes.as_slice())
@@ -145,7 +145,7 @@ pub(crate) fn read_request(
     bytes: &mut Vec<u8>,
     line: &[u8],
 ) -> Result<Asked, AllocError>
-    ensures { IfOk result (λ asked. IsReadAs line.now asked bytes.new.items) }
+    ensures { IfOk result (λ asked. IsParsedAs line.now asked bytes.new.items) }
 {
     let Some(space) = find_space(line) else {
         return Ok(Asked::Nothing);
@@ -165,7 +165,7 @@ pub(crate) fn read_request(
 
 /// Parses a line whose name is `dump`, given the text after the space.
 fn read_dump_request(alloc: Global, bytes: &mut Vec<u8>, fields: &[u8]) -> Result<Asked, AllocError>
-    ensures { IfOk result (λ asked. IsReadAs (codes "dump" ++ 32 ∷ fields.now) asked
+    ensures { IfOk result (λ asked. IsParsedAs (codes "dump" ++ 32 ∷ fields.now) asked
         bytes.new.items) }
 {
     match read_dump(alloc, bytes, fields)? {
@@ -181,7 +181,7 @@ pub(crate) fn push_answer_text(
     asked: Asked,
     bytes: &[u8],
 ) -> Result<(), AllocError>
-    ensures { OnOk result (Adds text.old.items text.new.items (IsAnswerTo asked bytes.now)) }
+    ensures { OnOk result (AppendsSome text.old.items text.new.items (IsAnswerTo asked bytes.now)) }
 {
     match asked {
         Asked::Field(name) => push_named(alloc, text, name, bytes),
@@ -192,8 +192,8 @@ pub(crate) fn push_answer_text(
 
 /// Appends the answer to a name and the bytes of its field.
 fn push_named(alloc: Global, text: &mut Vec<u8>, name: Name, bytes: &[u8]) -> Result<(), AllocError>
-    ensures { OnOk result (Adds text.old.items text.new.items
-        (IsAnswerAs (entry_of name).1 bytes.now)) }
+    ensures { OnOk result (AppendsSome text.old.items text.new.items
+        (IsAnswerUnder (name_entry name).1 bytes.now)) }
 {
     match name {
         Name::UnixRequest => push_canonical::<UnixRequest>(alloc, text, bytes, ()),
@@ -217,9 +217,9 @@ fn push_canonical<T: Wire + Drop>(
     bytes: &[u8],
     param: T::Param,
 ) -> Result<(), AllocError>
-    ensures { OnOk result (Adds text.old.items text.new.items
+    ensures { OnOk result (AppendsSome text.old.items text.new.items
         (IsAnswerText (T.codec.reads bytes.now param) (T.codec.refuses bytes.now param) T.codec.fits
-        (λ v. field_of (T.codec.written v)))) }
+        (λ v. hex_field_of (T.codec.written v)))) }
 {
     match canonical::<T>(alloc, bytes, param) {
         Ok(written) => push_accepted(text, written.as_slice()),
@@ -232,8 +232,8 @@ fn push_canonical<T: Wire + Drop>(
 /// Appends `ok` and the text of a netlink message, `unwritable`, or `refused` and the code of the
 /// error.
 fn push_netlink_message(alloc: Global, text: &mut Vec<u8>, bytes: &[u8]) -> Result<(), AllocError>
-    ensures { OnOk result (Adds text.old.items text.new.items
-        (IsAnswerAs (entry_of NetlinkMessage).1 bytes.now)) }
+    ensures { OnOk result (AppendsSome text.old.items text.new.items
+        (IsAnswerUnder (name_entry NetlinkMessage).1 bytes.now)) }
 {
     match MessageView::parse(bytes) {
         Ok(message) => push_envelope_text(alloc, text, &message),
@@ -247,9 +247,9 @@ fn push_envelope_text(
     text: &mut Vec<u8>,
     message: &MessageView<'_>,
 ) -> Result<(), AllocError>
-    ensures { OnOk result (Adds text.old.items text.new.items
-        (IsAnswerText (λ e. e ≡ envelope_view_model message.now) (λ fault. ⊥)
-        netlink_message_codec.fits envelope_text)) }
+    ensures { OnOk result (AppendsSome text.old.items text.new.items
+        (IsAnswerText (λ e. e ≡ netlink_message_view_model message.now) (λ fault. ⊥)
+        netlink_message_codec.fits netlink_message_text)) }
 {
     if !message.is_writable() {
         return text.extend_from_slice(UNWRITABLE);
@@ -271,8 +271,8 @@ fn push_inner(
     inner: &SockDiagView<'_>,
 ) -> Result<(), AllocError>
     requires { message_codec.fits (message_view_model inner.now) }
-    ensures { OnOk result (text.new.items ≡ text.old.items ++ accepted
-        (envelope_text (record {
+    ensures { OnOk result (text.new.items ≡ text.old.items ++ ok_text
+        (netlink_message_text (record {
           header = header.now;
           payload = InnerMessage (message_view_model inner.now);
         }))) }
@@ -288,9 +288,11 @@ fn push_envelope(
     header: &NetlinkHeader,
     payload: &[u8],
 ) -> Result<(), AllocError>
-    ensures { OnOk result (text.new.items ≡ text.old.items ++ accepted
-        (word header.now.length (word header.now.message_type (word header.now.flags
-        (word header.now.sequence_number (word header.now.port_number (field_of payload.now))))))) }
+    ensures { OnOk result (text.new.items ≡ text.old.items ++ ok_text
+        (number_then_rest header.now.length
+        (number_then_rest header.now.message_type (number_then_rest header.now.flags
+        (number_then_rest header.now.sequence_number
+        (number_then_rest header.now.port_number (hex_field_of payload.now))))))) }
 {
     text.extend_from_slice(OK)?;
     push_word(text, header.length)?;
@@ -311,8 +313,8 @@ fn push_word(text: &mut Vec<u8>, number: u32) -> Result<(), AllocError>
 
 /// Returns the name that is spelled in this way, or `None`.
 fn find_name(word: &[u8]) -> Option<Name>
-    ensures { MatchOption result ((name : Name) → word.now ≢ (entry_of name).0)
-        (λ name. word.now ≡ (entry_of name).0) }
+    ensures { MatchOption result ((name : Name) → word.now ≢ (name_entry name).0)
+        (λ name. word.now ≡ (name_entry name).0) }
 {
     if word == b"unixreq".as_slice() {
         Some(Name::UnixRequest)

@@ -5,13 +5,13 @@ ghost use Rattle.std.specs.Prelude.{MatchBool, MatchOption, Ok};
 ghost use Rattle.std.specs.List.{AllByRecursion, flat_map};
 ghost use Rattle.netlink_packet_sock_diag.specs.Message.{message_codec};
 ghost use Rattle.netlink_packet_sock_diag.specs.MessageModel.{message_model};
-ghost use Rattle.sock_diag_lines.specs.DumpLine.{end_word, dump_text};
+ghost use Rattle.sock_diag_lines.specs.DumpLine.{dump_state_text, dump_text};
 ghost use Rattle.sock_diag_lines.specs.HexField.{IsHexField};
 ghost use Rattle.sock_diag_lines.specs.private.ReadDump.{AreHexFields, IsReadDump, IsWritable};
-ghost use Rattle.sock_diag_lines.specs.private.ReadDump.{TakesDatagram};
-ghost use Rattle.sock_diag_lines.specs.private.ReadDump.{end_of, message_text, dump_outcome};
+ghost use Rattle.sock_diag_lines.specs.private.ReadDump.{FeedsOneDatagram, read_dump_end};
+ghost use Rattle.sock_diag_lines.specs.private.ReadDump.{message_text, read_dump_outcome};
 ghost use Rattle.sock_diag_lines.specs.AnswerText.{IsAnswerText};
-ghost use Rattle.sock_diag_lines.specs.private.Text.{Adds};
+ghost use Rattle.sock_diag_lines.specs.private.Text.{AppendsSome};
 
 use crate::fields::{find_space, read_field};
 use crate::words::{OK, UNWRITABLE, push_field, push_number};
@@ -61,7 +61,7 @@ pub(crate) fn read_dump(
 fn take_field(dump: &mut ReadDump, bytes: &mut Vec<u8>, field: &[u8]) -> Result<bool, AllocError>
     ensures { IfOk result (λ is_field. MatchBool is_field
         ((datagram : List ℕ) × IsHexField field.now datagram
-        × TakesDatagram dump.old datagram dump.new)
+        × FeedsOneDatagram dump.old datagram dump.new)
         ((content : List ℕ) → ¬ IsHexField field.now content)) }
 {
     if !read_field(bytes, field)? {
@@ -73,7 +73,7 @@ fn take_field(dump: &mut ReadDump, bytes: &mut Vec<u8>, field: &[u8]) -> Result<
 
 /// Feeds a datagram. A dump that has ended is unchanged.
 fn take_datagram(dump: &mut ReadDump, datagram: &[u8]) -> Result<(), AllocError>
-    ensures { OnOk result (TakesDatagram dump.old datagram.now dump.new) }
+    ensures { OnOk result (FeedsOneDatagram dump.old datagram.now dump.new) }
 {
     match dump.reader.feed(datagram) {
         Ok(()) => Ok(()),
@@ -95,8 +95,8 @@ pub(crate) fn push_dump(
     text: &mut Vec<u8>,
     dump: &ReadDump,
 ) -> Result<(), AllocError>
-    ensures { OnOk result (Adds text.old.items text.new.items
-        (IsAnswerText (λ d. d ≡ dump_outcome dump.now) (λ fault. ⊥) IsWritable dump_text)) }
+    ensures { OnOk result (AppendsSome text.old.items text.new.items
+        (IsAnswerText (λ d. d ≡ read_dump_outcome dump.now) (λ fault. ⊥) IsWritable dump_text)) }
 {
     let messages = dump.reader.messages();
     if !are_writable(messages) {
@@ -111,7 +111,8 @@ pub(crate) fn push_dump(
 
 /// Appends the name of the state, or `failed:` and the code of the error.
 fn push_end(text: &mut Vec<u8>, dump: &ReadDump) -> Result<(), AllocError>
-    ensures { OnOk result (text.new.items ≡ text.old.items ++ end_word (end_of dump.now)) }
+    ensures { OnOk result (text.new.items
+        ≡ text.old.items ++ dump_state_text (read_dump_end dump.now)) }
 {
     let Some(fault) = &dump.fault else {
         return text.extend_from_slice(state_word(dump.reader.state()));
@@ -122,7 +123,7 @@ fn push_end(text: &mut Vec<u8>, dump: &ReadDump) -> Result<(), AllocError>
 
 /// Returns the name of a state.
 fn state_word(state: DumpState) -> &'static [u8]
-    ensures { (number : Option ℤ) → result.now ≡ end_word (Ok (state, number)) }
+    ensures { (number : Option ℤ) → result.now ≡ dump_state_text (Ok (state, number)) }
 {
     match state {
         DumpState::Reading => b"reading",

@@ -18,7 +18,7 @@ pub(crate) fn find_space(line: &[u8]) -> Option<usize>
 
 /// Parses a hex field, and replaces the contents of `bytes` by its bytes. Returns whether it is a
 /// hex field.
-#[tactic(auto, using(crate::proofs::FieldLists::no_field))]
+#[tactic(auto, using(crate::proofs::FieldLists::empty_is_no_hex_field))]
 pub(crate) fn read_field(bytes: &mut Vec<u8>, field: &[u8]) -> Result<bool, AllocError>
     ensures { IfOk result (λ is_field. MatchBool is_field (IsHexField field.now bytes.new.items)
         ((content : List ℕ) → ¬ IsHexField field.now content)) }

@@ -7,8 +7,8 @@ ghost use Rattle.std.specs.Prelude.{ℕ, Bool, List, Result, codes, IfSome, IfEr
 ghost use Rattle.std.specs.Process.{exit_status};
 ghost use Rattle.std.specs.Io.KnownBytes.{Appends, IsAtEnd, Keeps};
 ghost use Rattle.sock_diag_lines.specs.Answer.{IsAnswerOf, is_good};
-ghost use Rattle.line_server.specs.Lines.{Splits, with_rest};
-ghost use Rattle.line_server.specs.Run.{Answers, answer_lines};
+ghost use Rattle.line_server.specs.Lines.{SplitsIntoLines, all_lines};
+ghost use Rattle.line_server.specs.Run.{AnswersInput, answer_lines};
 ghost use Rattle.line_server.specs.declared.stream.RunError.{RunError};
 
 mod answers;
@@ -44,9 +44,9 @@ pub fn run_to_status<R: Read, W: Write, E: Write>(
     ensures ended { exit_status result ≢ 1 → IsAtEnd (R.remaining input.new) }
     ensures complete { exit_status result ≢ 1 → IfSome (R.remaining input.old) (λ text.
         (answer : List ℕ → List ℕ) (whole : List (List ℕ)) (rest : List ℕ)
-        → ((line : List ℕ) → IsAnswerOf line (answer line)) → Splits text whole rest
+        → ((line : List ℕ) → IsAnswerOf line (answer line)) → SplitsIntoLines text whole rest
         → Appends (W.contents output.old) (W.contents output.new)
-        (answer_lines answer (with_rest whole rest))) }
+        (answer_lines answer (all_lines whole rest))) }
     ensures silent { exit_status result ≢ 1
         → Keeps (E.contents errors.old) (E.contents errors.new) }
     // The outcome of the run, and whether each answer is good. After a failure `errors` has the
@@ -57,7 +57,7 @@ pub fn run_to_status<R: Read, W: Write, E: Write>(
         × MatchResult outcome
         (λ good. exit_status result ≡ (if is_strict && not good then 3 else 0))
         (λ _. exit_status result ≡ 1)
-        × Answers answer (R.remaining input.old) (R.remaining input.new)
+        × AnswersInput answer (R.remaining input.old) (R.remaining input.new)
         (W.contents output.old) (W.contents output.new) is_good outcome
         × IfErr outcome (λ e. (reported more : List ℕ)
         × Appends (E.contents errors.old) (E.contents errors.new) reported

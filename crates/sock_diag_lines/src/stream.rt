@@ -2,11 +2,11 @@
 ghost use Rattle.std.specs.Prelude.{◌≡◌, ℕ, Bool, List, ◌++◌, Result, Ok, Err, OnOk, IfErr, IfSome};
 ghost use Rattle.std.specs.Prelude.{MatchResult};
 ghost use Rattle.std.specs.Io.KnownBytes.{Appends, IsAtEnd, Keeps};
-ghost use Rattle.line_server.specs.Lines.{Splits, with_rest};
-ghost use Rattle.line_server.specs.Run.{Answers, SendsOrFails, answer_lines};
+ghost use Rattle.line_server.specs.Lines.{SplitsIntoLines, all_lines};
+ghost use Rattle.line_server.specs.Run.{AnswersInput, WritesAllOrFails, answer_lines};
 ghost use Rattle.line_server.specs.declared.stream.RunError.{RunError};
 ghost use Rattle.sock_diag_lines.specs.Answer.{IsAnswerOf, is_good};
-ghost use Rattle.sock_diag_lines.specs.private.Asked.{IsReadAs};
+ghost use Rattle.sock_diag_lines.specs.private.Asked.{IsParsedAs};
 ghost use Rattle.sock_diag_lines.specs.private.Run.{failure_line};
 
 use crate::answers::{Asked, push_answer_text, read_request};
@@ -24,7 +24,7 @@ impl LineAnswers for Protocol {
 
     ghost answers = { IsAnswerOf };
 
-    ghost asks = { IsReadAs };
+    ghost asks = { IsParsedAs };
 
     ghost good = { is_good };
 
@@ -60,15 +60,15 @@ pub fn run<R: Read, W: Write>(alloc: Global, input: &mut R, output: &mut W) -> R
     ensures ended { OnOk result (IsAtEnd (R.remaining input.new)) }
     ensures complete { OnOk result (IfSome (R.remaining input.old) (λ text.
         (answer : List ℕ → List ℕ) (whole : List (List ℕ)) (rest : List ℕ)
-        → ((line : List ℕ) → IsAnswerOf line (answer line)) → Splits text whole rest
+        → ((line : List ℕ) → IsAnswerOf line (answer line)) → SplitsIntoLines text whole rest
         → Appends (W.contents output.old) (W.contents output.new)
-        (answer_lines answer (with_rest whole rest)))) }
+        (answer_lines answer (all_lines whole rest)))) }
 
     // The bytes that were read and written, for each outcome.
     ensures answered { (answer : List ℕ → List ℕ)
         → ((line : List ℕ) → IsAnswerOf line (answer line))
         → (outcome : Result Bool RunError)
-        × Answers answer (R.remaining input.old) (R.remaining input.new)
+        × AnswersInput answer (R.remaining input.old) (R.remaining input.new)
         (W.contents output.old) (W.contents output.new) is_good outcome
         × MatchResult outcome (λ _. result ≡ Ok tt) (λ error. result ≡ Err error) }
 {
@@ -89,14 +89,14 @@ fn answer_all<R: Read, W: Write>(
     ensures ended { OnOk result (IsAtEnd (R.remaining input.new)) }
     ensures complete { OnOk result (IfSome (R.remaining input.old) (λ text.
         (answer : List ℕ → List ℕ) (whole : List (List ℕ)) (rest : List ℕ)
-        → ((line : List ℕ) → IsAnswerOf line (answer line)) → Splits text whole rest
+        → ((line : List ℕ) → IsAnswerOf line (answer line)) → SplitsIntoLines text whole rest
         → Appends (W.contents output.old) (W.contents output.new)
-        (answer_lines answer (with_rest whole rest)))) }
+        (answer_lines answer (all_lines whole rest)))) }
 
     // The bytes that were read and written, for each outcome.
     ensures answered { (answer : List ℕ → List ℕ)
         → ((line : List ℕ) → IsAnswerOf line (answer line))
-        → Answers answer (R.remaining input.old) (R.remaining input.new)
+        → AnswersInput answer (R.remaining input.old) (R.remaining input.new)
         (W.contents output.old) (W.contents output.new) is_good result }
 {
     serve::<Brand, Protocol, R, W>(alloc, input, output)
@@ -112,15 +112,15 @@ pub(crate) fn answer_and_report<R: Read, W: Write, E: AnswerWrite>(
     ensures ended { OnOk result (IsAtEnd (R.remaining input.new)) }
     ensures complete { OnOk result (IfSome (R.remaining input.old) (λ text.
         (answer : List ℕ → List ℕ) (whole : List (List ℕ)) (rest : List ℕ)
-        → ((line : List ℕ) → IsAnswerOf line (answer line)) → Splits text whole rest
+        → ((line : List ℕ) → IsAnswerOf line (answer line)) → SplitsIntoLines text whole rest
         → Appends (W.contents output.old) (W.contents output.new)
-        (answer_lines answer (with_rest whole rest)))) }
+        (answer_lines answer (all_lines whole rest)))) }
     ensures answered { (answer : List ℕ → List ℕ)
         → ((line : List ℕ) → IsAnswerOf line (answer line))
-        → Answers answer (R.remaining input.old) (R.remaining input.new)
+        → AnswersInput answer (R.remaining input.old) (R.remaining input.new)
         (W.contents output.old) (W.contents output.new) is_good result }
     ensures silent { OnOk result (Keeps (E.held errors.old) (E.held errors.new)) }
-    ensures reported { IfErr result (λ e. SendsOrFails (E.held errors.old) (E.held errors.new)
+    ensures reported { IfErr result (λ e. WritesAllOrFails (E.held errors.old) (E.held errors.new)
         (E.failed errors.new) (failure_line e)) }
 {
     let outcome = answer_all(alloc, input, output);
@@ -132,7 +132,8 @@ pub(crate) fn answer_and_report<R: Read, W: Write, E: AnswerWrite>(
 /// been written.
 fn report<E: AnswerWrite>(errors: &mut E, outcome: &Result<bool, RunError>)
     ensures silent { OnOk outcome.now (Keeps (E.held errors.old) (E.held errors.new)) }
-    ensures reported { IfErr outcome.now (λ e. SendsOrFails (E.held errors.old) (E.held errors.new)
+    ensures reported { IfErr outcome.now
+        (λ e. WritesAllOrFails (E.held errors.old) (E.held errors.new)
         (E.failed errors.new) (failure_line e)) }
 {
     if let Err(error) = outcome {

@@ -3,12 +3,12 @@
 
 ghost use Rattle.std.specs.Prelude.{◌≡◌, ◌∷◌, ◌++◌, decimal, OnOk};
 ghost use Rattle.sock_diag_replies.specs.ViewModel.{view_model};
-ghost use Rattle.sock_diag_lines.specs.Answer.{entry_of};
-ghost use Rattle.sock_diag_lines.specs.AnswerText.{IsAnswerAs};
+ghost use Rattle.sock_diag_lines.specs.Answer.{name_entry};
+ghost use Rattle.sock_diag_lines.specs.AnswerText.{IsAnswerUnder};
 ghost use Rattle.sock_diag_lines.specs.declared.answers.Name.TheVariants.{UnixView};
-ghost use Rattle.sock_diag_lines.specs.private.Text.{Adds, accepted};
+ghost use Rattle.sock_diag_lines.specs.private.Text.{AppendsSome, ok_text};
 ghost use Rattle.sock_diag_lines.specs.ViewLine.{reply_text};
-ghost use Rattle.sock_diag_lines.specs.private.View.{with_details, with_memory, with_queues};
+ghost use Rattle.sock_diag_lines.specs.private.View.{with_socket_details, with_memory, with_queues};
 
 use crate::words::{
     OK, push_name_word, push_number, push_number_word, push_numbers_word, push_refused,
@@ -18,8 +18,8 @@ use std::alloc::AllocError;
 
 /// Appends `ok` and thirteen values of the reply, or `refused` and the code of the error.
 pub(crate) fn push_view(text: &mut Vec<u8>, bytes: &[u8]) -> Result<(), AllocError>
-    ensures { OnOk result (Adds text.old.items text.new.items
-        (IsAnswerAs (entry_of UnixView).1 bytes.now)) }
+    ensures { OnOk result (AppendsSome text.old.items text.new.items
+        (IsAnswerUnder (name_entry UnixView).1 bytes.now)) }
 {
     match UnixResponseView::parse(bytes) {
         Ok(view) => push_reply(text, &view),
@@ -30,7 +30,7 @@ pub(crate) fn push_view(text: &mut Vec<u8>, bytes: &[u8]) -> Result<(), AllocErr
 /// Appends `ok` and the values of a reply.
 fn push_reply(text: &mut Vec<u8>, view: &UnixResponseView<'_>) -> Result<(), AllocError>
     ensures { OnOk result (text.new.items ≡ text.old.items
-        ++ accepted (reply_text (view_model view.now))) }
+        ++ ok_text (reply_text (view_model view.now))) }
 {
     text.extend_from_slice(OK)?;
     push_header(text, &view.header())?;
@@ -41,7 +41,8 @@ fn push_reply(text: &mut Vec<u8>, view: &UnixResponseView<'_>) -> Result<(), All
 
 /// Appends the peer, the name, the pending connections and the directions that are shut down.
 fn push_details(text: &mut Vec<u8>, view: &UnixResponseView<'_>) -> Result<(), AllocError>
-    ensures { OnOk result (text.new.items ≡ with_details text.old.items (view_model view.now)) }
+    ensures { OnOk result (text.new.items
+        ≡ with_socket_details text.old.items (view_model view.now)) }
 {
     push_number_word(text, view.peer())?;
     push_name_word(text, view.name())?;

@@ -3,11 +3,11 @@
 ghost use Rattle.std.specs.Prelude.{◌≡◌, ◌≢◌, ◌∷◌, ◌++◌, decimal, OnOk, option_map};
 ghost use Rattle.hex.specs.Hex.{encode_lower};
 ghost use Rattle.netlink_core.specs.declared.fault.DecodeError.TheVariants.{Memory};
-ghost use Rattle.sock_diag_attributes.specs.NameModel.{name_of};
+ghost use Rattle.sock_diag_attributes.specs.NameModel.{socket_name_model};
 ghost use Rattle.sock_diag_attributes.specs.NumbersModel.{numbers_view_model};
-ghost use Rattle.sock_diag_lines.specs.HexField.{field_of};
-ghost use Rattle.sock_diag_lines.specs.private.Text.{accepted, refused};
-ghost use Rattle.sock_diag_lines.specs.ViewLine.{comma_list, name_word, or_none};
+ghost use Rattle.sock_diag_lines.specs.HexField.{hex_field_of};
+ghost use Rattle.sock_diag_lines.specs.private.Text.{ok_text, refused_text};
+ghost use Rattle.sock_diag_lines.specs.ViewLine.{comma_list, socket_name_text, or_none};
 
 use netlink_core::DecodeError;
 use netlink_packet_sock_diag::unix::nlas::{NameView, NumbersView};
@@ -35,7 +35,7 @@ pub(crate) fn push_number(text: &mut Vec<u8>, number: u64) -> Result<(), AllocEr
 
 /// Appends bytes as a hex field.
 pub(crate) fn push_field(text: &mut Vec<u8>, bytes: &[u8]) -> Result<(), AllocError>
-    ensures { OnOk result (text.new.items ≡ text.old.items ++ field_of bytes.now) }
+    ensures { OnOk result (text.new.items ≡ text.old.items ++ hex_field_of bytes.now) }
 {
     if bytes.is_empty() {
         return Ok(text.push(b'-')?);
@@ -63,7 +63,7 @@ fn push_digits(text: &mut Vec<u8>, bytes: &[u8]) -> Result<(), AllocError>
 
 /// Appends `ok` and bytes as a hex field.
 pub(crate) fn push_accepted(text: &mut Vec<u8>, written: &[u8]) -> Result<(), AllocError>
-    ensures { OnOk result (text.new.items ≡ text.old.items ++ accepted (field_of written.now)) }
+    ensures { OnOk result (text.new.items ≡ text.old.items ++ ok_text (hex_field_of written.now)) }
 {
     text.extend_from_slice(OK)?;
     push_field(text, written)
@@ -73,7 +73,7 @@ pub(crate) fn push_accepted(text: &mut Vec<u8>, written: &[u8]) -> Result<(), Al
 /// which is not an error of the bytes.
 pub(crate) fn push_refused(text: &mut Vec<u8>, fault: &DecodeError) -> Result<(), AllocError>
     ensures { OnOk result ((fault.now ≢ Memory)
-        × (text.new.items ≡ text.old.items ++ refused fault.now)) }
+        × (text.new.items ≡ text.old.items ++ refused_text fault.now)) }
 {
     match fault {
         DecodeError::Memory => Err(AllocError),
@@ -101,7 +101,8 @@ pub(crate) fn push_name_word(
     name: Option<NameView<'_>>,
 ) -> Result<(), AllocError>
     ensures { OnOk result (text.new.items
-        ≡ text.old.items ++ 32 ∷ or_none name_word (option_map (name_of (λ b. b.now)) name.entry)) }
+        ≡ text.old.items ++ 32 ∷ or_none socket_name_text
+        (option_map (socket_name_model (λ b. b.now)) name.entry)) }
 {
     match name {
         Some(NameView::Pathname(path)) => {

@@ -3,5 +3,5 @@ use Rattle.std.specs.Prelude.{ℕ, ◌==◌, List, IsTrue}
 use Rattle.std.specs.List.{list_all}
 
 -- both numbers of each pair are equal: a constant, and the value that the contract lists for it
-abbrev pub AreEqual : List (ℕ × ℕ) → Type 0
-AreEqual table = IsTrue (list_all (λ row. row.0 == row.1) table)
+abbrev pub PairsAreEqual : List (ℕ × ℕ) → Type 0
+PairsAreEqual table = IsTrue (list_all (λ row. row.0 == row.1) table)

@@ -5,26 +5,29 @@ use Rattle.std.specs.List.{enumerate_from, slice_split}
 
 -- the words of a text that is separated by spaces, each with its bit: 2^n for the first, 2^(n + 1)
 -- for the second, and so on
-abbrev pub bits_from : ℕ → List ℕ → List (List ℕ × ℕ)
-bits_from n text = map (λ w. (w.1, 2 ^ w.0)) (enumerate_from n (slice_split (λ c. c == 32) text))
+abbrev pub named_bits_from : ℕ → List ℕ → List (List ℕ × ℕ)
+named_bits_from n text = map (λ w. (w.1, 2 ^ w.0))
+    (enumerate_from n (slice_split (λ c. c == 32) text))
 
 -- `idiag_states` of `struct inet_diag_req_v2`: bit n for state n, from `TCP_ESTABLISHED` (1) to
 -- `TCP_CLOSING` (11)
-abbrev pub inet_states : List (List ℕ × ℕ)
-inet_states = bits_from 1 (codes "ESTABLISHED SYN_SENT SYN_RECV FIN_WAIT1 FIN_WAIT2 TIME_WAIT "
+abbrev pub inet_state_flags : List (List ℕ × ℕ)
+inet_state_flags = named_bits_from 1
+    (codes "ESTABLISHED SYN_SENT SYN_RECV FIN_WAIT1 FIN_WAIT2 TIME_WAIT "
     ++ codes "CLOSE CLOSE_WAIT LAST_ACK LISTEN CLOSING")
 
 -- `idiag_ext` of `struct inet_diag_req_v2`: bit n - 1 for attribute kind n, from
 -- `INET_DIAG_MEMINFO` (1) to `INET_DIAG_SHUTDOWN` (8)
-abbrev pub inet_extensions : List (List ℕ × ℕ)
-inet_extensions = bits_from 0 (codes "MEMINFO INFO VEGASINFO CONG TOS TCLASS SKMEMINFO SHUTDOWN")
+abbrev pub inet_extension_flags : List (List ℕ × ℕ)
+inet_extension_flags = named_bits_from 0
+    (codes "MEMINFO INFO VEGASINFO CONG TOS TCLASS SKMEMINFO SHUTDOWN")
 
 -- `udiag_states` of `struct unix_diag_req`: bit n for state n, `TCP_ESTABLISHED` (1) and
 -- `TCP_LISTEN` (10). `TCP_CLOSE` (7) has no name here.
-abbrev pub unix_states : List (List ℕ × ℕ)
-unix_states = (codes "ESTABLISHED", 0x2) ∷ (codes "LISTEN", 0x400) ∷ []
+abbrev pub unix_state_flags : List (List ℕ × ℕ)
+unix_state_flags = (codes "ESTABLISHED", 0x2) ∷ (codes "LISTEN", 0x400) ∷ []
 
 -- `udiag_show` of `struct unix_diag_req`: `UDIAG_SHOW_NAME` (0x1) to `UDIAG_SHOW_MEMINFO` (0x20).
 -- `UDIAG_SHOW_UID` (0x40) of newer kernels has no name here.
-abbrev pub unix_shown : List (List ℕ × ℕ)
-unix_shown = bits_from 0 (codes "NAME VFS PEER ICONS RQLEN MEMINFO")
+abbrev pub unix_show_flags : List (List ℕ × ℕ)
+unix_show_flags = named_bits_from 0 (codes "NAME VFS PEER ICONS RQLEN MEMINFO")

@@ -4,15 +4,15 @@ use Rattle.netlink_core.specs.Rows.{u8, flags32, skip, embed}
 use Rattle.netlink_core.specs.Layout.{Layout}
 use Rattle.netlink_core.specs.declared.fault.RecordName.TheVariants as name
 use Rattle.sock_diag_records.specs.declared.inet.request.InetRequest.{InetRequest}
-use Rattle.sock_diag_records.specs.SocketId.{IsShaped, socket_id_rows}
+use Rattle.sock_diag_records.specs.SocketId.{HasArrayLengths, socket_id_rows}
 use Rattle.sock_diag_records.specs.IpVersions.{IpVersions, versions_of, versions_of_family}
 use Rattle.sock_diag_records.specs.inverse.InetRequest.{inet_request_of}
 
 -- `struct inet_diag_req_v2` (linux/inet_diag.h): `sdiag_family`, `sdiag_protocol`, `idiag_ext`,
 -- `pad`, `idiag_states`, `id`. The family, the first byte, has to be AF_INET or AF_INET6, and
 -- selects the IP version of both addresses. All bits of `idiag_ext` are defined. The mask of
--- `idiag_states` has the bits of `inet_states`, 1 to 11. `pad` is ignored, and serialized as 0. In
--- normal form (`is_own`) both addresses are of the family's IP version.
+-- `idiag_states` has the bits of `inet_state_flags`, 1 to 11. `pad` is ignored, and serialized as
+-- 0. In normal form (`is_own`) both addresses are of the family's IP version.
 unfoldable pub inet_request : Layout (Unit {0}) IpVersions InetRequest
 inet_request = record {
   name = name.InetRequest;
@@ -27,6 +27,6 @@ inet_request = record {
       flags32 4 0xffe (λ request. request.states.0) ∷
       embed InetRequest.socket_id (socket_id_rows 8 versions) ∷ [];
   value = inet_request_of;
-  is_shaped = λ value. IsShaped value.socket_id;
+  is_shaped = λ value. HasArrayLengths value.socket_id;
   is_own = λ param value. versions_of_family value.family ≡ Ok (versions_of value.socket_id);
 }

@@ -6,10 +6,10 @@ use Rattle.sock_diag_records.specs.declared.inet.response.InetResponseHeader.{In
 use Rattle.netlink_core.specs.Faults.{map_ok}
 use Rattle.netlink_core.specs.declared.fault.RecordName.TheVariants as name
 use Rattle.sock_diag_records.specs.IpVersions.{IpVersions, versions_of, versions_of_family}
-use Rattle.sock_diag_records.specs.SocketId.{IsShaped, socket_id_rows}
-use Rattle.sock_diag_records.specs.Timer.{class_of_byte, timer_data, milliseconds}
-use Rattle.sock_diag_records.specs.Timer.{IsWholeMilliseconds}
-use Rattle.sock_diag_records.specs.inverse.InetResponse.{header_of}
+use Rattle.sock_diag_records.specs.SocketId.{HasArrayLengths, socket_id_rows}
+use Rattle.sock_diag_records.specs.Timer.{timer_class, timer_data, u32_milliseconds}
+use Rattle.sock_diag_records.specs.Timer.{IsWholeU32Milliseconds}
+use Rattle.sock_diag_records.specs.inverse.InetResponse.{inet_response_header_of}
 use Rattle.netlink_core.specs.Rows.{u8, u32, skip, embed}
 
 -- `struct inet_diag_msg` (linux/inet_diag.h). The tag is the IP versions, which the family selects
@@ -23,7 +23,7 @@ unfoldable pub inet_response_header : Layout (Unit {0}) (IpVersions × ℕ) Inet
 inet_response_header = record {
   name = name.InetResponseHeader;
   least = 72;
-  tag_at = λ param left. map_ok (λ versions. (versions, class_of_byte (slice_index left 2)))
+  tag_at = λ param left. map_ok (λ versions. (versions, timer_class (slice_index left 2)))
       (versions_of_family (slice_index left 0));
   tag_of = λ value. (versions_of value.socket_id, (timer_data value.timer).0);
   rows = λ (versions, class).
@@ -33,13 +33,13 @@ inet_response_header = record {
       (if class == 1 then u8 3 (λ h. (timer_data h.timer).1) else skip 3 (0 ∷ [])) ∷
       embed InetResponseHeader.socket_id (socket_id_rows 4 versions) ∷
       (if class == 0 || class == 3 then skip 52 (replicate 4 0)
-      else u32 52 (λ h. milliseconds (timer_data h.timer).2)) ∷
+      else u32 52 (λ h. u32_milliseconds (timer_data h.timer).2)) ∷
       u32 56 InetResponseHeader.recv_queue ∷
       u32 60 InetResponseHeader.send_queue ∷
       u32 64 InetResponseHeader.uid ∷
       u32 68 InetResponseHeader.inode ∷ [];
-  value = header_of;
-  is_shaped = λ value. IsShaped value.socket_id;
+  value = inet_response_header_of;
+  is_shaped = λ value. HasArrayLengths value.socket_id;
   is_own = λ param v. (versions_of_family v.family ≡ Ok (versions_of v.socket_id))
-      × IsWholeMilliseconds (timer_data v.timer).2;
+      × IsWholeU32Milliseconds (timer_data v.timer).2;
 }

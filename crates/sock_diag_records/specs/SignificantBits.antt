@@ -29,7 +29,7 @@ inet_request_masks family = significant 3 ++ ignored 1 ++ (0xfe ∷ 0x0f ∷ 0 �
 
 -- `struct inet_diag_msg`; `timer` is its byte `idiag_timer`:
 --   0..2    `idiag_family`, `idiag_state`
---   2       `idiag_timer`: ignored by the mask, since `SameTimerClass` compares it
+--   2       `idiag_timer`: ignored by the mask, since `HaveSameTimerClass` compares it
 --   3       `idiag_retrans`: only if the timer is 1, retransmit
 --   4..52   `id`, for the family
 --   52..56  `idiag_expires`: only if the timer is 1, 2 or 4
@@ -46,16 +46,16 @@ HasNoTimer timer = (timer ≡ 0) ⊎ (4 < timer)
 
 -- two bytes `idiag_timer` are equal, or neither has a timer; the classes are 1, 2, 3, 4 and all
 -- others
-abbrev pub SameTimerClass : ℕ → ℕ → Type 0
-SameTimerClass x y = (x ≡ y) ⊎ (HasNoTimer x × HasNoTimer y)
+abbrev pub HaveSameTimerClass : ℕ → ℕ → Type 0
+HaveSameTimerClass x y = (x ≡ y) ⊎ (HasNoTimer x × HasNoTimer y)
 
 -- `struct unix_diag_req`:
 --   0..4    `sdiag_family`, `sdiag_protocol`, `pad`: ignored, the parser does not check them
 --   4..8    `udiag_states`: bits 1 (`TCP_ESTABLISHED`) and 10 (`TCP_LISTEN`), 0x402;
---           not bit 7 (`TCP_CLOSE`), which has no name in `unix_states`
+--           not bit 7 (`TCP_CLOSE`), which has no name in `unix_state_flags`
 --   8..12   `udiag_ino`
 --   12..16  `udiag_show`: `UDIAG_SHOW_NAME` (0x1) to `UDIAG_SHOW_MEMINFO` (0x20), 0x3f;
---           not `UDIAG_SHOW_UID` (0x40), which has no name in `unix_shown`
+--           not `UDIAG_SHOW_UID` (0x40), which has no name in `unix_show_flags`
 --   16..24  `udiag_cookie`
 abbrev pub unix_request_masks : List ℕ
 unix_request_masks = ignored 4 ++ (0x02 ∷ 0x04 ∷ 0 ∷ 0 ∷ []) ++ significant 4

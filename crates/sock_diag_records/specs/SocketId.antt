@@ -3,7 +3,7 @@
 use Rattle.std.specs.Prelude.{◌≡◌, ℕ, ◌+◌, List, [], ◌∷◌, ◌++◌, length, replicate, Ok}
 use Rattle.std.specs.declared.net.ip_addr.IpAddr.{IpAddr}
 use Rattle.netlink_core.specs.Table.{Field, unread, bytes_at}
-use Rattle.netlink_core.specs.Table.{first}
+use Rattle.netlink_core.specs.Table.{first_numbers}
 use Rattle.netlink_core.specs.Layout.{Layout}
 use Rattle.sock_diag_records.specs.declared.inet.socket_id.SocketId.{SocketId}
 use Rattle.netlink_core.specs.declared.fault.RecordName.TheVariants as name
@@ -20,7 +20,7 @@ address_fields offset ipv6 = array network offset 2 8
 
 -- the four octets or eight segments of an address
 abbrev pub address_values : IpAddr → List ℕ
-address_values address = first (address_data address).1 (address_data address).2
+address_values address = first_numbers (address_data address).1 (address_data address).2
 
 -- ---- the record
 
@@ -45,8 +45,9 @@ abbrev pub IsAddress : IpAddr → Type 0
 IsAddress address = length (address_data address).2 ≡ (address_data address).1
 
 -- the addresses have their numbers of octets or segments, and the cookie has eight bytes
-abbrev pub IsShaped : SocketId → Type 0
-IsShaped v = IsAddress v.source_address × IsAddress v.destination_address × (length v.cookie ≡ 8)
+abbrev pub HasArrayLengths : SocketId → Type 0
+HasArrayLengths v = IsAddress v.source_address × IsAddress v.destination_address
+    × (length v.cookie ≡ 8)
 
 -- `struct inet_diag_sockid` by itself. The parameter is the address family. It has to be AF_INET or
 -- AF_INET6, and selects the IP version of both addresses. In normal form (`is_own`) both addresses
@@ -59,6 +60,6 @@ socket_id = record {
   tag_of = versions_of;
   rows = socket_id_rows 0;
   value = socket_id_of;
-  is_shaped = IsShaped;
+  is_shaped = HasArrayLengths;
   is_own = λ family value. versions_of_family family ≡ Ok (versions_of value);
 }

@@ -9,16 +9,16 @@ use Rattle.sock_diag_records.specs.declared.inet.response.Timer.TheVariants.{Ret
 use Rattle.sock_diag_records.specs.declared.inet.response.Timer.TheVariants.{TimeWait, Probe}
 
 -- the whole milliseconds of a duration, modulo 2^32
-abbrev pub milliseconds : Duration → ℕ
-milliseconds time = as_nanos time / 1_000_000 % 2 ^ 32
+abbrev pub u32_milliseconds : Duration → ℕ
+u32_milliseconds time = as_nanos time / 1_000_000 % 2 ^ 32
 
 -- the class of a byte `idiag_timer`: the byte itself if it is below 5, else 0
-abbrev pub class_of_byte : ℕ → ℕ
-class_of_byte timer = if nat_lt timer 5 then timer else 0
+abbrev pub timer_class : ℕ → ℕ
+timer_class timer = if nat_lt timer 5 then timer else 0
 
 -- the duration is a whole number of milliseconds below 2^32
-abbrev pub IsWholeMilliseconds : Duration → Type 0
-IsWholeMilliseconds time = as_nanos time ≡ milliseconds time * 1_000_000
+abbrev pub IsWholeU32Milliseconds : Duration → Type 0
+IsWholeU32Milliseconds time = as_nanos time ≡ u32_milliseconds time * 1_000_000
 
 -- the class of a timer (`idiag_timer`), its number of retransmits (`idiag_retrans`) and its
 -- duration (`idiag_expires`); 0 for each that the timer does not have

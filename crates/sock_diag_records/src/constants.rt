@@ -2,7 +2,7 @@
 //! kernel's names.
 
 ghost use Rattle.std.specs.Prelude.{[], ◌∷◌};
-ghost use Rattle.sock_diag_records.specs.Constants.{AreEqual};
+ghost use Rattle.sock_diag_records.specs.Constants.{PairsAreEqual};
 
 use crate::inet::{
     INET_DIAG_REQ_BYTECODE, INET_DIAG_REQ_NONE, INET_DIAG_REQ_PROTOCOL,
@@ -454,8 +454,8 @@ pub const SHUT_RDWR: u8 = 2;
 ///
 /// Proof only: the contract states the property.
 pub fn constants_have_their_numbers()
-    ensures message_types { AreEqual ((SOCK_DIAG_BY_FAMILY, 20) ∷ (SOCK_DESTROY, 21) ∷ []) }
-    ensures address_families { AreEqual ((AF_UNSPEC, 0) ∷ (AF_UNIX, 1) ∷ (AF_INET, 2) ∷
+    ensures message_types { PairsAreEqual ((SOCK_DIAG_BY_FAMILY, 20) ∷ (SOCK_DESTROY, 21) ∷ []) }
+    ensures address_families { PairsAreEqual ((AF_UNSPEC, 0) ∷ (AF_UNIX, 1) ∷ (AF_INET, 2) ∷
         (AF_AX25, 3) ∷ (AF_IPX, 4) ∷ (AF_APPLETALK, 5) ∷ (AF_NETROM, 6) ∷ (AF_BRIDGE, 7) ∷
         (AF_ATMPVC, 8) ∷ (AF_X25, 9) ∷ (AF_INET6, 10) ∷ (AF_ROSE, 11) ∷ (AF_DECNET, 12) ∷
         (AF_NETBEUI, 13) ∷ (AF_SECURITY, 14) ∷ (AF_KEY, 15) ∷ (AF_NETLINK, 16) ∷
@@ -463,7 +463,7 @@ pub fn constants_have_their_numbers()
         (AF_SNA, 22) ∷ (AF_IRDA, 23) ∷ (AF_PPPOX, 24) ∷ (AF_WANPIPE, 25) ∷ (AF_LLC, 26) ∷
         (AF_CAN, 29) ∷ (AF_TIPC, 30) ∷ (AF_BLUETOOTH, 31) ∷ (AF_IUCV, 32) ∷ (AF_RXRPC, 33) ∷
         (AF_ISDN, 34) ∷ (AF_PHONET, 35) ∷ (AF_IEEE802154, 36) ∷ (AF_CAIF, 37) ∷ (AF_ALG, 38) ∷ []) }
-    ensures internet_protocols { AreEqual ((IPPROTO_IP, 0) ∷ (IPPROTO_ICMP, 1) ∷
+    ensures internet_protocols { PairsAreEqual ((IPPROTO_IP, 0) ∷ (IPPROTO_ICMP, 1) ∷
         (IPPROTO_IGMP, 2) ∷ (IPPROTO_IPIP, 4) ∷ (IPPROTO_TCP, 6) ∷ (IPPROTO_EGP, 8) ∷
         (IPPROTO_PUP, 12) ∷ (IPPROTO_UDP, 17) ∷ (IPPROTO_IDP, 22) ∷ (IPPROTO_TP, 29) ∷
         (IPPROTO_DCCP, 33) ∷ (IPPROTO_IPV6, 41) ∷ (IPPROTO_RSVP, 46) ∷ (IPPROTO_GRE, 47) ∷
@@ -473,34 +473,34 @@ pub fn constants_have_their_numbers()
         (IPPROTO_HOPOPTS, 0) ∷ (IPPROTO_ROUTING, 43) ∷ (IPPROTO_FRAGMENT, 44) ∷
         (IPPROTO_ICMPV6, 58) ∷ (IPPROTO_NONE, 59) ∷ (IPPROTO_DSTOPTS, 60) ∷ (IPPROTO_MH, 135) ∷
         []) }
-    ensures inet_attributes { AreEqual ((INET_DIAG_NONE, 0) ∷ (INET_DIAG_MEMINFO, 1) ∷
+    ensures inet_attributes { PairsAreEqual ((INET_DIAG_NONE, 0) ∷ (INET_DIAG_MEMINFO, 1) ∷
         (INET_DIAG_INFO, 2) ∷ (INET_DIAG_VEGASINFO, 3) ∷ (INET_DIAG_CONG, 4) ∷
         (INET_DIAG_TOS, 5) ∷ (INET_DIAG_TCLASS, 6) ∷ (INET_DIAG_SKMEMINFO, 7) ∷
         (INET_DIAG_SHUTDOWN, 8) ∷ (INET_DIAG_DCTCPINFO, 9) ∷ (INET_DIAG_PROTOCOL, 10) ∷
         (INET_DIAG_SKV6ONLY, 11) ∷ (INET_DIAG_LOCALS, 12) ∷ (INET_DIAG_PEERS, 13) ∷
         (INET_DIAG_PAD, 14) ∷ (INET_DIAG_MARK, 15) ∷ (INET_DIAG_BBRINFO, 16) ∷
         (INET_DIAG_CLASS_ID, 17) ∷ (INET_DIAG_MD5SIG, 18) ∷ []) }
-    ensures request_attributes { AreEqual ((INET_DIAG_REQ_NONE, 0) ∷
+    ensures request_attributes { PairsAreEqual ((INET_DIAG_REQ_NONE, 0) ∷
         (INET_DIAG_REQ_BYTECODE, 1) ∷ (INET_DIAG_REQ_SK_BPF_STORAGES, 2) ∷
         (INET_DIAG_REQ_PROTOCOL, 3) ∷ []) }
-    ensures socket_states { AreEqual ((TCP_ESTABLISHED, 1) ∷ (TCP_SYN_SENT, 2) ∷
+    ensures socket_states { PairsAreEqual ((TCP_ESTABLISHED, 1) ∷ (TCP_SYN_SENT, 2) ∷
         (TCP_SYN_RECV, 3) ∷ (TCP_FIN_WAIT1, 4) ∷ (TCP_FIN_WAIT2, 5) ∷ (TCP_TIME_WAIT, 6) ∷
         (TCP_CLOSE, 7) ∷ (TCP_CLOSE_WAIT, 8) ∷ (TCP_LAST_ACK, 9) ∷ (TCP_LISTEN, 10) ∷
         (TCP_CLOSING, 11) ∷ []) }
-    ensures shown_attributes { AreEqual ((UDIAG_SHOW_NAME, 1) ∷ (UDIAG_SHOW_VFS, 2) ∷
+    ensures shown_attributes { PairsAreEqual ((UDIAG_SHOW_NAME, 1) ∷ (UDIAG_SHOW_VFS, 2) ∷
         (UDIAG_SHOW_PEER, 4) ∷ (UDIAG_SHOW_ICONS, 8) ∷ (UDIAG_SHOW_RQLEN, 16) ∷
         (UDIAG_SHOW_MEMINFO, 32) ∷ []) }
-    ensures unix_attributes { AreEqual ((UNIX_DIAG_NAME, 0) ∷ (UNIX_DIAG_VFS, 1) ∷
+    ensures unix_attributes { PairsAreEqual ((UNIX_DIAG_NAME, 0) ∷ (UNIX_DIAG_VFS, 1) ∷
         (UNIX_DIAG_PEER, 2) ∷ (UNIX_DIAG_ICONS, 3) ∷ (UNIX_DIAG_RQLEN, 4) ∷
         (UNIX_DIAG_MEMINFO, 5) ∷ (UNIX_DIAG_SHUTDOWN, 6) ∷ []) }
-    ensures socket_types { AreEqual ((SOCK_STREAM, 1) ∷ (SOCK_DGRAM, 2) ∷ (SOCK_RAW, 3) ∷
+    ensures socket_types { PairsAreEqual ((SOCK_STREAM, 1) ∷ (SOCK_DGRAM, 2) ∷ (SOCK_RAW, 3) ∷
         (SOCK_RDM, 4) ∷ (SOCK_SEQPACKET, 5) ∷ (SOCK_PACKET, 10) ∷ []) }
-    ensures congestion_states { AreEqual ((TCP_CA_OPEN, 0) ∷ (TCP_CA_DISORDER, 1) ∷
+    ensures congestion_states { PairsAreEqual ((TCP_CA_OPEN, 0) ∷ (TCP_CA_DISORDER, 1) ∷
         (TCP_CA_CWR, 2) ∷ (TCP_CA_RECOVERY, 3) ∷ (TCP_CA_LOSS, 4) ∷ []) }
-    ensures congestion_state_bits { AreEqual ((TCPF_CA_OPEN, 1) ∷ (TCPF_CA_DISORDER, 2) ∷
+    ensures congestion_state_bits { PairsAreEqual ((TCPF_CA_OPEN, 1) ∷ (TCPF_CA_DISORDER, 2) ∷
         (TCPF_CA_CWR, 4) ∷ (TCPF_CA_RECOVERY, 8) ∷ (TCPF_CA_LOSS, 16) ∷ []) }
-    ensures connection_options { AreEqual ((TCPI_OPT_TIMESTAMPS, 1) ∷ (TCPI_OPT_SACK, 2) ∷
+    ensures connection_options { PairsAreEqual ((TCPI_OPT_TIMESTAMPS, 1) ∷ (TCPI_OPT_SACK, 2) ∷
         (TCPI_OPT_WSCALE, 4) ∷ (TCPI_OPT_ECN, 8) ∷ (TCPI_OPT_ECN_SEEN, 16) ∷
         (TCPI_OPT_SYN_DATA, 32) ∷ []) }
-    ensures shutdown_states { AreEqual ((SHUT_RD, 0) ∷ (SHUT_WR, 1) ∷ (SHUT_RDWR, 2) ∷ []) }
+    ensures shutdown_states { PairsAreEqual ((SHUT_RD, 0) ∷ (SHUT_WR, 1) ∷ (SHUT_RDWR, 2) ∷ []) }
 {}

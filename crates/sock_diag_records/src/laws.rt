@@ -10,7 +10,7 @@ ghost use Rattle.sock_diag_records.specs.InetRequest.{inet_request};
 ghost use Rattle.sock_diag_records.specs.InetResponse.{inet_response_header};
 ghost use Rattle.sock_diag_records.specs.SignificantBits.{inet_request_masks, IsInetFamily};
 ghost use Rattle.sock_diag_records.specs.SignificantBits.{inet_response_header_masks};
-ghost use Rattle.sock_diag_records.specs.SignificantBits.{SameTimerClass, socket_id_masks};
+ghost use Rattle.sock_diag_records.specs.SignificantBits.{HaveSameTimerClass, socket_id_masks};
 ghost use Rattle.sock_diag_records.specs.SignificantBits.{unix_request_masks};
 ghost use Rattle.sock_diag_records.specs.SignificantBits.{unix_response_header_masks};
 ghost use Rattle.sock_diag_records.specs.SocketId.{socket_id};
@@ -52,7 +52,7 @@ pub fn equivalent_inet_response_headers()
     ensures { (b c : List ℕ) → IsBytes b → IsBytes c
         → ⟦<InetResponseHeader as Coded>⟧.codec.idle tt b c
         ↔ ((72 ≤ length b) × (72 ≤ length c)
-        × (IsInetFamily (slice_index b 0) × SameTimerClass (slice_index b 2) (slice_index c 2))
+        × (IsInetFamily (slice_index b 0) × HaveSameTimerClass (slice_index b 2) (slice_index c 2))
         × EqualUnder (inet_response_header_masks (slice_index b 0) (slice_index b 2)) b c) }
 {}
 

@@ -11,19 +11,20 @@ use Rattle.std.specs.Slice.Iter.{iter_rest, iter_steps}
 use Rattle.std.proofs.lemmas.Iterator.{YieldsList}
 use Rattle.std.proofs.lemmas.Iterator.Consumers.{YieldsList-so_far, YieldsList-end}
 use Rattle.std.proofs.lemmas.Iterator.Consumers.{YieldsList-from_shown, YieldsList-from_first}
-use Rattle.attribute_lists.specs.AttributesIn.{values_in}
-use Rattle.netlink_core.specs.AttributeSet.{AttributeValue, ValueAt, content, decodes}
+use Rattle.attribute_lists.specs.AttributesIn.{decoded_in}
+use Rattle.netlink_core.specs.AttributeSet.{AttributeValue, ValueOfKind, value_of_kind}
+use Rattle.netlink_core.specs.AttributeSet.{decode_attribute}
 use Rattle.netlink_core.specs.declared.attribute.NlaBuffer.{NlaBuffer}
 use Rattle.netlink_core.specs.declared.nla.DefaultNla.{DefaultNla}
-use Rattle.netlink_core.specs.Walk.{bytes_left}
+use Rattle.netlink_core.specs.Walk.{unread_bytes}
 use Rattle.sock_diag_attributes.specs.declared.numbers.NumbersView.{NumbersView}
 use Rattle.sock_diag_attributes.specs.declared.unix.name.SocketName.{SocketName}
 use Rattle.sock_diag_attributes.specs.declared.unix.nlas.UnixNla.{UnixNla}
-use Rattle.sock_diag_attributes.specs.UnixModel.{nla_model, nla_view_model}
-use Rattle.sock_diag_attributes.specs.UnixAttributes.{unix}
+use Rattle.sock_diag_attributes.specs.UnixModel.{unix_nla_model, unix_nla_view_model}
+use Rattle.sock_diag_attributes.specs.UnixAttributes.{unix_attribute_set}
 use Rattle.sock_diag_replies.specs.declared.view.AttributeViews.{AttributeViews}
 use Rattle.sock_diag_replies.specs.declared.view.ReplyHeader.{Ghosts}
-use Rattle.sock_diag_replies.specs.UnixGetters.{first_of}
+use Rattle.sock_diag_replies.specs.UnixGetters.{first_content_of}
 use denote.Param.Members.{Mut}
 use lib.ListN.{length-map}
 
@@ -42,25 +43,26 @@ module _ {A B D : Type 0} (told : B → Option D) (v : A → B) where
   stays more o some = grind arith
 
   -- if no item of the list has a value, there is no first value
-  none_in : (xs : List A) → ((k : ℕ) → IfSome (slice_get xs k) (λ x. told (v x) ≡ None))
-      → first_of told (map v xs) ≡ None
-  none_in [] none = refl
-  none_in (x ∷ xs) none = rw (none 0) (none_in xs (λ k. none (suc k)))
+  no_item_has_value : (xs : List A) → ((k : ℕ) → IfSome (slice_get xs k) (λ x. told (v x) ≡ None))
+      → first_content_of told (map v xs) ≡ None
+  no_item_has_value [] none = refl
+  no_item_has_value (x ∷ xs) none = rw (none 0) (no_item_has_value xs (λ k. none (suc k)))
 
   -- if the items before index `i` have no value, the first value is that of the item at `i`
-  first_at : (xs : List A) (i : ℕ) (more : List B) (o : Option D) → IsSome o
+  first_value_at : (xs : List A) (i : ℕ) (more : List B) (o : Option D) → IsSome o
       → IsSomeAnd (slice_get xs i) (λ x. told (v x) ≡ o)
       → ((k : ℕ) → k < i → IsSomeAnd (slice_get xs k) (λ x. told (v x) ≡ None))
-      → first_of told (map v xs ++ more) ≡ o
-  first_at [] i more o some here none = absurd here
-  first_at (x ∷ xs) zero more o some here none = rw here (stays _ o some)
-  first_at (x ∷ xs) (suc i) more o some here none = rw (none 0 (omega arith))
-      (first_at xs i more o some here (λ k low. none (suc k) (omega arith)))
+      → first_content_of told (map v xs ++ more) ≡ o
+  first_value_at [] i more o some here none = absurd here
+  first_value_at (x ∷ xs) zero more o some here none = rw here (stays _ o some)
+  first_value_at (x ∷ xs) (suc i) more o some here none = rw (none 0 (omega arith))
+      (first_value_at xs i more o some here (λ k low. none (suc k) (omega arith)))
 
 -- what the contract of `find_map` states of its result
-abbrev Finds : {S A C F : Type 0} (steps : S → Option A → S → Type 0)
+abbrev FindMapReturns : {S A C F : Type 0} (steps : S → Option A → S → Type 0)
     → Mut F (A × Unit {0}) (Option C) → S → F → Option C → Type 0
-Finds steps g s f r = SomeRun steps s (λ p. MatchOption r (IsTrue p.whole × AllItemsGive p g f None)
+FindMapReturns steps g s f r =
+    SomeRun steps s (λ p. MatchOption r (IsTrue p.whole × AllItemsGive p g f None)
     (λ y. (i : ℕ) × (i < p.len) × (p.len ≡ i + 1) × IsFirstToGive p g f (Some y) None i))
 
 module _ {A B C D F : Type 0} {g : Mut F (A × Unit {0}) (Option C)} {f : F} (v : A → B) (tells : B
@@ -69,19 +71,19 @@ module _ {A B C D F : Type 0} {g : Mut F (A × Unit {0}) (Option C)} {f : F} (v 
     (told : (x : A) (o : Option C) (q : F) → Called g f (x, tt) o q → (q ≡ f)
     × (shows o ≡ tells (v x))) where
   -- the result of `find_map` over an iterator is the first value among all items that it yields
-  first_found : {S : Type 0} {steps : S → Option A → S → Type 0} {s : S} {all : List B}
-      → YieldsList steps v s all → (r : Option C) → Finds steps g s f r
-      → shows r ≡ first_of tells all
+  first_value_of_iterator : {S : Type 0} {steps : S → Option A → S → Type 0} {s : S} {all : List B}
+      → YieldsList steps v s all → (r : Option C) → FindMapReturns steps g s f r
+      → shows r ≡ first_content_of tells all
   unfolding YieldsRun
-  first_found {steps = steps} {all = all} gives None (p, from, run) =
+  first_value_of_iterator {steps = steps} {all = all} gives None (p, from, run) =
       let none = run.1 (λ a o q c. (told a.0 o q c).0) in
       let last = p.gave.0.2 run.0 in
       let calls = rw from at p.gave.0.1 in
       let items = (YieldsList-end gives p.items p.gave.0.0 calls None last.0 refl last.1).0 in
       let empty = λ (k : ℕ). rw (p.gave.1 k) at
       (if_some (λ x c. sym (told x None f c).1 ∙ blank) (p.at k) (none k)) in
-      rw (← items, none_in tells v p.items empty) blank
-  first_found {steps = steps} {all = all} gives (Some y) (p, from, run) =
+      rw (← items, no_item_has_value tells v p.items empty) blank
+  first_value_of_iterator {steps = steps} {all = all} gives (Some y) (p, from, run) =
       let first = run.3 (λ a o q c. (told a.0 o q c).0) in
       let calls = rw from at p.gave.0.1 in
       let rest = drop (length p.items) all in
@@ -92,7 +94,8 @@ module _ {A B C D F : Type 0} {g : Mut F (A × Unit {0}) (Option C)} {f : F} (v 
       (some_and (λ x c. sym (told x (Some y) f c).1) (p.at run.0) first.0) in
       let none = λ (k : ℕ) (low : k < run.0). rw (p.gave.1 k) at
       (some_and (λ x c. sym (told x None f c).1 ∙ blank) (p.at k) (first.1 k low)) in
-      rw parts (sym (first_at tells v p.items run.0 rest (shows (Some y)) (filled y) here none))
+      rw parts
+      (sym (first_value_at tells v p.items run.0 rest (shows (Some y)) (filled y) here none))
 
 -- the attributes of a UNIX socket, owned and borrowed
 abbrev Nla : Type 0
@@ -103,34 +106,38 @@ NlaView = UnixNla (SocketName (Bor (List ℕ))) NumbersView NlaBuffer
 
 -- `find_map` over a list of owned attributes finds the first value of the attribute type `k`
 pub first_owned : {C F : Type 0} {g : Mut F (Bor Nla × Unit {0}) (Option C)} {f : F} {s : Iter Nla}
-    (k : ℕ) (shows : Option C → Option (ValueAt unix k))
+    (k : ℕ) (shows : Option C → Option (ValueOfKind unix_attribute_set k))
     → shows None ≡ None → ((y : C) → IsSome (shows (Some y)))
     → (xs : List Nla) → iter_rest s ≡ xs
     → ((x : Bor Nla) (o : Option C) (q : F) → Called g f (x, tt) o q → (q ≡ f)
-    × (shows o ≡ content unix k (nla_model x.now)))
-    → (r : Option C) → Finds iter_steps g s f r
-    → shows r ≡ first_of (content unix k) (map nla_model xs)
+    × (shows o ≡ value_of_kind unix_attribute_set k (unix_nla_model x.now)))
+    → (r : Option C) → FindMapReturns iter_steps g s f r
+    → shows r ≡ first_content_of (value_of_kind unix_attribute_set k) (map unix_nla_model xs)
 first_owned {s = s} k shows blank filled xs rest told =
-    let said = YieldsList-from_shown iter_steps (λ x. nla_model x.now)
-    (λ j. map nla_model (iter_rest j)) (λ j t h. length-map (iter_rest j) nla_model ∙ h.0)
-    (λ j x t h. ap (map nla_model) h) s in
-    first_found (λ x. nla_model x.now) (content unix k) shows blank filled told
-    (subst (λ ys. YieldsList iter_steps (λ x. nla_model x.now) s (map nla_model ys)) rest said)
+    let said = YieldsList-from_shown iter_steps (λ x. unix_nla_model x.now)
+    (λ j. map unix_nla_model (iter_rest j)) (λ j t h. length-map (iter_rest j) unix_nla_model ∙ h.0)
+    (λ j x t h. ap (map unix_nla_model) h) s in
+    first_value_of_iterator (λ x. unix_nla_model x.now) (value_of_kind unix_attribute_set k) shows
+    blank filled told
+    (subst (λ ys. YieldsList iter_steps (λ x. unix_nla_model x.now) s (map unix_nla_model ys)) rest
+    said)
 
 -- the values of the attributes that the iterator has not yielded yet
-abbrev left_in : {H : Type 0} {of : Ghosts H} → AttributeViews H of → List (AttributeValue unix)
-left_in views = values_in (decodes unix) (bytes_left views.walk)
+abbrev values_left_in : {H : Type 0} {of : Ghosts H} → AttributeViews H of
+    → List (AttributeValue unix_attribute_set)
+values_left_in views = decoded_in (decode_attribute unix_attribute_set) (unread_bytes views.walk)
 
 -- `find_map` over borrowed attributes finds the first value of the attribute type `k`
 pub first_in_view : {H : Type 0} {of : Ghosts H} {C F : Type 0}
     {g : Mut F (NlaView × Unit {0}) (Option C)} {f : F} {s : AttributeViews H of} (k : ℕ)
-    (shows : Option C → Option (ValueAt unix k))
+    (shows : Option C → Option (ValueOfKind unix_attribute_set k))
     → shows None ≡ None → ((y : C) → IsSome (shows (Some y)))
-    → (all : List (AttributeValue unix)) → left_in s ≡ all
+    → (all : List (AttributeValue unix_attribute_set)) → values_left_in s ≡ all
     → ((x : NlaView) (o : Option C) (q : F) → Called g f (x, tt) o q → (q ≡ f)
-    × (shows o ≡ content unix k (nla_view_model x)))
-    → (r : Option C) → Finds (YieldsFirstBy nla_view_model left_in) g s f r
-    → shows r ≡ first_of (content unix k) all
+    × (shows o ≡ value_of_kind unix_attribute_set k (unix_nla_view_model x)))
+    → (r : Option C) → FindMapReturns (YieldsFirstBy unix_nla_view_model values_left_in) g s f r
+    → shows r ≡ first_content_of (value_of_kind unix_attribute_set k) all
 first_in_view k shows blank filled all rest told =
-    first_found nla_view_model (content unix k) shows blank filled told
-    (YieldsList-from_first nla_view_model left_in all rest)
+    first_value_of_iterator unix_nla_view_model (value_of_kind unix_attribute_set k) shows blank
+    filled told
+    (YieldsList-from_first unix_nla_view_model values_left_in all rest)

@@ -3,11 +3,11 @@ use Rattle.std.proofs.Common.{◌≡◌, Bool, true, false, Result, IsOk, OnOk, 
 use Rattle.std.specs.Result.{is_err}
 
 -- a result that is not an error has the property of `Ok` results
-pub on_no_fault : {T E P : Type 0} (r : Result T E) (is_fault : Bool)
+pub on_no_error : {T E P : Type 0} (r : Result T E) (is_fault : Bool)
     → is_fault ≡ false → is_fault ≡ is_err r → OnOk r P → P
-on_no_fault r is_fault good test fact = grind arith
+on_no_error r is_fault good test fact = grind arith
 
 -- a result that is an error has no value
-pub fault_is_no_value : {T E : Type 0} (r : Result T E) (is_fault : Bool)
+pub error_is_no_value : {T E : Type 0} (r : Result T E) (is_fault : Bool)
     → is_fault ≡ true → is_fault ≡ is_err r → IsOk r → ⊥
-fault_is_no_value r is_fault bad test ok = grind arith
+error_is_no_value r is_fault bad test ok = grind arith

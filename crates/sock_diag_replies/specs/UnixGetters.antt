@@ -1,25 +1,27 @@
 -- Definitions of what the getters of a reply about a UNIX socket return.
 use Rattle.std.specs.Prelude.{ℕ, ◌==◌, if◌then◌else◌, List, Option, None, slice_get}
 use Rattle.std.specs.List.{filter_map}
-use Rattle.netlink_core.specs.AttributeSet.{content}
-use Rattle.netlink_core.specs.Response.{ValueOf}
-use Rattle.sock_diag_attributes.specs.UnixAttributes.{unix}
+use Rattle.netlink_core.specs.AttributeSet.{value_of_kind}
+use Rattle.netlink_core.specs.Response.{ReplyValue}
+use Rattle.sock_diag_attributes.specs.UnixAttributes.{unix_attribute_set}
 use Rattle.sock_diag_records.specs.declared.constants.TheConstants.{TCP_LISTEN, UNIX_DIAG_RQLEN}
 use Rattle.sock_diag_replies.specs.UnixResponseSpec.{unix_response_spec}
 
 -- `content x` for the first `x` of the list for which it is a `Some`; `None` if there is no such
 -- `x`
-abbrev pub first_of : {A B : Type 0} → (A → Option B) → List A → Option B
-first_of content xs = slice_get (filter_map content xs) 0
+abbrev pub first_content_of : {A B : Type 0} → (A → Option B) → List A → Option B
+first_content_of content xs = slice_get (filter_map content xs) 0
 
 -- the queue lengths of a socket that listens: the pair (`udiag_rqueue`, `udiag_wqueue`) of the
 -- first `UNIX_DIAG_RQLEN` if the state is `TCP_LISTEN`; `None` in every other state
-abbrev pub listening_queue_of : ValueOf unix_response_spec → Option (ℕ × ℕ)
+abbrev pub listening_queue_of : ReplyValue unix_response_spec → Option (ℕ × ℕ)
 listening_queue_of v =
-    if v.header.state == TCP_LISTEN then first_of (content unix UNIX_DIAG_RQLEN) v.nlas else None
+    if v.header.state == TCP_LISTEN
+    then first_content_of (value_of_kind unix_attribute_set UNIX_DIAG_RQLEN) v.nlas else None
 
 -- the queue lengths of a socket that does not listen: the pair (`udiag_rqueue`, `udiag_wqueue`) of
 -- the first `UNIX_DIAG_RQLEN` if the state is not `TCP_LISTEN`; `None` if it is
-abbrev pub other_queue_of : ValueOf unix_response_spec → Option (ℕ × ℕ)
-other_queue_of v =
-    if v.header.state == TCP_LISTEN then None else first_of (content unix UNIX_DIAG_RQLEN) v.nlas
+abbrev pub nonlistening_queue_of : ReplyValue unix_response_spec → Option (ℕ × ℕ)
+nonlistening_queue_of v =
+    if v.header.state == TCP_LISTEN then None
+    else first_content_of (value_of_kind unix_attribute_set UNIX_DIAG_RQLEN) v.nlas

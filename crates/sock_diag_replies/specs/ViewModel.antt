@@ -1,11 +1,11 @@
 -- The model of a borrowed reply of any family and of its iterator: what contracts see of them.
 use Rattle.std.specs.Prelude.{ℕ, List, drop}
-use Rattle.netlink_core.specs.Response.{ValueOf}
-use Rattle.netlink_core.specs.Walk.{bytes_left}
+use Rattle.netlink_core.specs.Response.{ReplyValue}
+use Rattle.netlink_core.specs.Walk.{unread_bytes}
 use Rattle.sock_diag_replies.specs.declared.view.AttributeViews.{AttributeViews}
 use Rattle.sock_diag_replies.specs.declared.view.ReplyHeader.{Ghosts}
 use Rattle.sock_diag_replies.specs.declared.view.ReplyView.{ReplyView}
-use Rattle.attribute_lists.specs.AttributesIn.{response_behind}
+use Rattle.attribute_lists.specs.AttributesIn.{reply_after}
 
 -- all bytes of the reply
 abbrev pub view_bytes : {H : Type 0} {of : Ghosts H} → ReplyView H of → List ℕ
@@ -16,9 +16,9 @@ abbrev pub bytes_after_header : {H : Type 0} {of : Ghosts H} → ReplyView H of 
 bytes_after_header {of = of} view = drop of.reply.size (view_bytes view)
 
 -- the model of the header in the bytes, and the value of each attribute after it, in order
-abbrev pub view_model : {H : Type 0} {of : Ghosts H} → ReplyView H of → ValueOf of.reply
-view_model {of = of} view = response_behind of.reply view.head.0 (bytes_after_header view)
+abbrev pub view_model : {H : Type 0} {of : Ghosts H} → ReplyView H of → ReplyValue of.reply
+view_model {of = of} view = reply_after of.reply view.head.0 (bytes_after_header view)
 
 -- the bytes that the iterator over attributes has not read yet
-abbrev pub attributes_left : {H : Type 0} {of : Ghosts H} → AttributeViews H of → List ℕ
-attributes_left views = bytes_left views.walk
+abbrev pub unread_attributes : {H : Type 0} {of : Ghosts H} → AttributeViews H of → List ℕ
+unread_attributes views = unread_bytes views.walk

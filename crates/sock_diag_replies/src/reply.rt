@@ -3,12 +3,13 @@
 ghost use Rattle.std.specs.Prelude.{◌≡◌, ◌≤◌, ◌↔◌, length, map, Bool, IsSome, IfSome};
 ghost use Rattle.std.specs.Prelude.{IfErr, IfOk, OnOk, SomeIff};
 ghost use lib.Pointwise.{pointwise};
-ghost use Rattle.attribute_lists.specs.AttributesIn.{HasNoFault, values_in};
-ghost use Rattle.netlink_core.specs.Attribute.{AttributeFault};
+ghost use Rattle.attribute_lists.specs.AttributesIn.{HasNoAttributeError, decoded_in};
+ghost use Rattle.netlink_core.specs.Attribute.{HasAttributeError};
 ghost use Rattle.netlink_core.specs.Bytes.{HoldsAtStart};
 ghost use Rattle.netlink_core.specs.declared.fault.DecodeError.TheVariants.{Memory};
-ghost use Rattle.netlink_core.specs.AttributeSet.{AttributeValue, decodes, encodes};
-ghost use Rattle.netlink_core.specs.private.Response.{framed, FramedFits};
+ghost use Rattle.netlink_core.specs.AttributeSet.{AttributeValue, decode_attribute};
+ghost use Rattle.netlink_core.specs.AttributeSet.{encode_attribute};
+ghost use Rattle.netlink_core.specs.private.Response.{header_and_attributes, HasWritableLengths};
 
 use attribute_lists::{
     check_nlas_len, emit_values, emit_views, next_view, values_len, values_len_within, views_len,
@@ -28,12 +29,12 @@ pub(crate) fn without_memory<T: Drop>(_begun: T) -> DecodeError
 /// Returns whether `left` and `right` contain equal attributes in the same order. Two attributes
 /// are compared by `==` of their views. Neither may contain a decode error.
 pub fn same_views<'a, V: FamilyView<'a> + Drop>(left: &'a [u8], right: &'a [u8]) -> bool
-    requires left { HasNoFault (decodes V.attribute_set) left.now }
-    requires right { HasNoFault (decodes V.attribute_set) right.now }
+    requires left { HasNoAttributeError (decode_attribute V.attribute_set) left.now }
+    requires right { HasNoAttributeError (decode_attribute V.attribute_set) right.now }
     ensures { (test : AttributeValue V.attribute_set → AttributeValue V.attribute_set → Bool)
         → ((v w : V) → V.PartialEq.eq v w ≡ test (V.model v) (V.model w))
-        → result ≡ pointwise test (values_in (decodes V.attribute_set) left.entry.now)
-        (values_in (decodes V.attribute_set) right.entry.now) }
+        → result ≡ pointwise test (decoded_in (decode_attribute V.attribute_set) left.entry.now)
+        (decoded_in (decode_attribute V.attribute_set) right.entry.now) }
 {
     let mut walk = NlasIterator::new(left);
     let mut others = NlasIterator::new(right);
@@ -50,9 +51,9 @@ pub fn same_views<'a, V: FamilyView<'a> + Drop>(left: &'a [u8], right: &'a [u8])
 /// attribute has more than 65,531 bytes, or if the whole has more than 4,294,967,295 bytes.
 pub(crate) fn reply_len<H: Emitable, T: FamilyNla>(header: &H, nlas: &[T]) -> Option<usize>
     requires { H.writable header.now }
-    ensures { let attributes = map (encodes T.attribute_set) (map T.model nlas.now) in
-        SomeIff result (FramedFits (H.bytes header.now) attributes)
-        (length (framed (H.bytes header.now) attributes)) }
+    ensures { let attributes = map (encode_attribute T.attribute_set) (map T.model nlas.now) in
+        SomeIff result (HasWritableLengths (H.bytes header.now) attributes)
+        (length (header_and_attributes (H.bytes header.now) attributes)) }
 {
     let len = header.buffer_len();
     let room = (u32::MAX as usize).checked_sub(len)?;
@@ -62,10 +63,11 @@ pub(crate) fn reply_len<H: Emitable, T: FamilyNla>(header: &H, nlas: &[T]) -> Op
 /// Returns the length of the serialized header and attributes, which must be writable.
 pub(crate) fn fitting_reply_len<H: Emitable, T: FamilyNla>(header: &H, nlas: &[T]) -> usize
     requires header { H.writable header.now }
-    requires fits { FramedFits (H.bytes header.now)
-        (map (encodes T.attribute_set) (map T.model nlas.now)) }
+    requires fits { HasWritableLengths (H.bytes header.now)
+        (map (encode_attribute T.attribute_set) (map T.model nlas.now)) }
     ensures { result ≡ length
-        (framed (H.bytes header.now) (map (encodes T.attribute_set) (map T.model nlas.now))) }
+        (header_and_attributes (H.bytes header.now)
+        (map (encode_attribute T.attribute_set) (map T.model nlas.now))) }
 {
     header.buffer_len() + values_len(nlas)
 }
@@ -74,11 +76,12 @@ pub(crate) fn fitting_reply_len<H: Emitable, T: FamilyNla>(header: &H, nlas: &[T
 /// unchanged.
 pub(crate) fn emit_reply<H: Emitable, T: FamilyNla>(header: &H, nlas: &[T], buffer: &mut [u8])
     requires header { H.writable header.now }
-    requires fits { FramedFits (H.bytes header.now)
-        (map (encodes T.attribute_set) (map T.model nlas.now)) }
-    requires room { length (framed (H.bytes header.now)
-        (map (encodes T.attribute_set) (map T.model nlas.now))) ≤ length buffer.old }
-    ensures { HoldsAtStart (framed (H.bytes header.now) (map (encodes T.attribute_set)
+    requires fits { HasWritableLengths (H.bytes header.now)
+        (map (encode_attribute T.attribute_set) (map T.model nlas.now)) }
+    requires room { length (header_and_attributes (H.bytes header.now)
+        (map (encode_attribute T.attribute_set) (map T.model nlas.now))) ≤ length buffer.old }
+    ensures { HoldsAtStart (header_and_attributes (H.bytes header.now)
+        (map (encode_attribute T.attribute_set)
         (map T.model nlas.now))) buffer.old buffer.new }
 {
     let (front, rest) = buffer.split_at_mut(header.buffer_len());
@@ -95,12 +98,14 @@ pub(crate) fn check_reply_len<'a, H: Emitable, V: FamilyView<'a> + Drop>(
     bytes: &'a [u8],
 ) -> Result<Option<usize>, DecodeError>
     requires { H.writable header.now }
-    ensures clean { OnOk result (HasNoFault (decodes V.attribute_set) bytes.entry.now) }
-    ensures len { let attributes = map (encodes V.attribute_set)
-        (values_in (decodes V.attribute_set) bytes.entry.now) in
-        IfOk result (λ len. SomeIff len (FramedFits (H.bytes header.now) attributes)
-        (length (framed (H.bytes header.now) attributes))) }
-    ensures fault { IfErr result (AttributeFault (decodes V.attribute_set) bytes.entry.now) }
+    ensures clean { OnOk result (HasNoAttributeError
+        (decode_attribute V.attribute_set) bytes.entry.now) }
+    ensures len { let attributes = map (encode_attribute V.attribute_set)
+        (decoded_in (decode_attribute V.attribute_set) bytes.entry.now) in
+        IfOk result (λ len. SomeIff len (HasWritableLengths (H.bytes header.now) attributes)
+        (length (header_and_attributes (H.bytes header.now) attributes))) }
+    ensures fault { IfErr result (HasAttributeError
+        (decode_attribute V.attribute_set) bytes.entry.now) }
 {
     let len = header.buffer_len();
     match check_nlas_len::<V>(bytes, (u32::MAX as usize).checked_sub(len)) {
@@ -118,13 +123,15 @@ pub(crate) fn reply_view_len<'a, H: Emitable, V: FamilyView<'a> + Drop>(
     bytes: &'a [u8],
 ) -> Option<usize>
     requires header { H.writable header.now }
-    requires clean { HasNoFault (decodes V.attribute_set) bytes.now }
+    requires clean { HasNoAttributeError (decode_attribute V.attribute_set) bytes.now }
     ensures fits { IsSome result
-        ↔ FramedFits (H.bytes header.now)
-        (map (encodes V.attribute_set) (values_in (decodes V.attribute_set) bytes.entry.now)) }
+        ↔ HasWritableLengths (H.bytes header.now)
+        (map (encode_attribute V.attribute_set)
+        (decoded_in (decode_attribute V.attribute_set) bytes.entry.now)) }
     ensures len { IfSome result (λ len. len
-        ≡ length (framed (H.bytes header.now)
-        (map (encodes V.attribute_set) (values_in (decodes V.attribute_set) bytes.entry.now)))) }
+        ≡ length (header_and_attributes (H.bytes header.now)
+        (map (encode_attribute V.attribute_set)
+        (decoded_in (decode_attribute V.attribute_set) bytes.entry.now)))) }
 {
     let len = header.buffer_len();
     if len > u32::MAX as usize {
@@ -141,14 +148,17 @@ pub(crate) fn emit_reply_view<'a, H: Emitable, V: FamilyView<'a> + Drop>(
     buffer: &mut [u8],
 )
     requires header { H.writable header.now }
-    requires clean { HasNoFault (decodes V.attribute_set) bytes.now }
-    requires fits { FramedFits (H.bytes header.now)
-        (map (encodes V.attribute_set) (values_in (decodes V.attribute_set) bytes.now)) }
-    requires room { length (framed (H.bytes header.now)
-        (map (encodes V.attribute_set) (values_in (decodes V.attribute_set) bytes.now)))
+    requires clean { HasNoAttributeError (decode_attribute V.attribute_set) bytes.now }
+    requires fits { HasWritableLengths (H.bytes header.now)
+        (map (encode_attribute V.attribute_set)
+        (decoded_in (decode_attribute V.attribute_set) bytes.now)) }
+    requires room { length (header_and_attributes (H.bytes header.now)
+        (map (encode_attribute V.attribute_set)
+        (decoded_in (decode_attribute V.attribute_set) bytes.now)))
         ≤ length buffer.old }
-    ensures { HoldsAtStart (framed (H.bytes header.now) (map (encodes V.attribute_set) (values_in
-        (decodes V.attribute_set) bytes.entry.now))) buffer.old buffer.new }
+    ensures { HoldsAtStart (header_and_attributes (H.bytes header.now)
+        (map (encode_attribute V.attribute_set) (decoded_in
+        (decode_attribute V.attribute_set) bytes.entry.now))) buffer.old buffer.new }
 {
     let (front, rest) = buffer.split_at_mut(header.buffer_len());
     header.emit(front);

@@ -3,12 +3,13 @@
 ghost use Rattle.std.specs.Prelude.{◌≡◌, ◌≤◌, ◌↔◌, ℕ, List, [], length, map, IfOk, IsOk};
 ghost use Rattle.std.specs.Prelude.{OnOk, IsTrue, true, refl};
 ghost use Rattle.std.specs.List.{AllByRecursion};
-ghost use Rattle.netlink_core.specs.Attribute.{AttributeFault};
-ghost use Rattle.netlink_core.specs.Codec.{KeepsLaws};
+ghost use Rattle.netlink_core.specs.Attribute.{HasAttributeError};
+ghost use Rattle.netlink_core.specs.Codec.{KeepsCodecLaws};
 ghost use Rattle.netlink_core.specs.declared.fault.DecodeError.{DecodeError};
-ghost use Rattle.netlink_core.specs.AttributeSet.{decodes, encodes, IsSpareBy};
+ghost use Rattle.netlink_core.specs.AttributeSet.{decode_attribute, encode_attribute};
+ghost use Rattle.netlink_core.specs.AttributeSet.{NeedsNoMemoryIn};
 ghost use Rattle.netlink_core.specs.Response.{response_bytes, response_codec};
-ghost use Rattle.attribute_lists.specs.AttributesIn.{HasNoFault, response_behind, values_in};
+ghost use Rattle.attribute_lists.specs.AttributesIn.{HasNoAttributeError, reply_after, decoded_in};
 
 use crate::reply::{emit_reply, fitting_reply_len, reply_len, without_memory};
 use crate::view::{ReplyHeader, ReplyView};
@@ -58,14 +59,16 @@ pub trait ReplyOwned: ReplyHeader + Exact + Emitable {
     ghost same: { let set = Self.Nla.FamilyNla.attribute_set in
         let view_set = Self.ReplyHeader.reply.attribute_set in
         ((b : List ℕ) (e : DecodeError)
-        → AttributeFault (decodes view_set) b e → AttributeFault (decodes set) b e)
-        × ((b : List ℕ) → HasNoFault (decodes view_set) b → HasNoFault (decodes set) b)
-        × ((b : List ℕ) → length (values_in (decodes view_set) b)
-        ≡ length (values_in (decodes set) b))
-        × ((b : List ℕ) → map (encodes view_set) (values_in (decodes view_set) b)
-        ≡ map (encodes set) (values_in (decodes set) b)) };
+        → HasAttributeError (decode_attribute view_set) b e
+        → HasAttributeError (decode_attribute set) b e)
+        × ((b : List ℕ) → HasNoAttributeError (decode_attribute view_set) b
+        → HasNoAttributeError (decode_attribute set) b)
+        × ((b : List ℕ) → length (decoded_in (decode_attribute view_set) b)
+        ≡ length (decoded_in (decode_attribute set) b))
+        × ((b : List ℕ) → map (encode_attribute view_set) (decoded_in (decode_attribute view_set) b)
+        ≡ map (encode_attribute set) (decoded_in (decode_attribute set) b)) };
 
-    ghost keeps: { KeepsLaws (response_codec
+    ghost keeps: { KeepsCodecLaws (response_codec
         (record (Self.ReplyHeader.reply) { attribute_set = Self.Nla.FamilyNla.attribute_set })) };
 }
 
@@ -142,12 +145,12 @@ impl<H: ReplyOwned> ReplyView<'_, H> {
     fn own_into(&self, alloc: Global, nlas: &mut SmallVec<H::Nla, 8>) -> Result<(), AllocError>
         requires { nlas.old.items ≡ [] }
         ensures equal { OnOk result (map H.Nla.FamilyNla.model nlas.new.items
-            ≡ values_in (decodes H.Nla.FamilyNla.attribute_set)
+            ≡ decoded_in (decode_attribute H.Nla.FamilyNla.attribute_set)
             (bytes_after_header self.now)) }
         ensures spare { let set = H.Nla.FamilyNla.attribute_set in
-            let values = values_in (decodes set) (bytes_after_header self.now) in
+            let values = decoded_in (decode_attribute set) (bytes_after_header self.now) in
             nlas.old.capacity ≡ 8
-            → (length values ≤ 8) × AllByRecursion (IsSpareBy set) values
+            → (length values ≤ 8) × AllByRecursion (NeedsNoMemoryIn set) values
             → IsOk result }
     {
         if self.count() == 0 {
@@ -160,12 +163,12 @@ impl<H: ReplyOwned> ReplyView<'_, H> {
     pub fn to_owned(&self, alloc: Global) -> Result<Reply<H, H::Nla>, AllocError>
         ensures equal { IfOk result (λ reply.
             response_model H.header_model H.Nla.FamilyNla.model reply
-            ≡ response_behind (record (H.reply) { attribute_set = H.Nla.FamilyNla.attribute_set })
+            ≡ reply_after (record (H.reply) { attribute_set = H.Nla.FamilyNla.attribute_set })
             (view_model self.now).header
             (bytes_after_header self.now)) }
         ensures spare { (response_codec
             (record (H.reply) { attribute_set = H.Nla.FamilyNla.attribute_set })).is_spare
-            (response_behind (record (H.reply) { attribute_set = H.Nla.FamilyNla.attribute_set })
+            (reply_after (record (H.reply) { attribute_set = H.Nla.FamilyNla.attribute_set })
             (view_model self.now).header
             (bytes_after_header self.now)) → IsOk result }
     {
@@ -182,7 +185,7 @@ impl<H: ReplyOwned> ReplyView<'_, H> {
     pub fn to_boxed(&self, alloc: Global) -> Result<Box<Reply<H, H::Nla>>, AllocError>
         ensures { IfOk result (λ reply. response_model H.header_model H.Nla.FamilyNla.model
             reply.value
-            ≡ response_behind (record (H.reply) { attribute_set = H.Nla.FamilyNla.attribute_set })
+            ≡ reply_after (record (H.reply) { attribute_set = H.Nla.FamilyNla.attribute_set })
             (view_model self.now).header
             (bytes_after_header self.now)) }
     {
@@ -282,13 +285,13 @@ fn write_reply<H: ReplyHeader>(
     bytes: &[u8],
     len: usize,
 ) -> Result<Vec<u8>, AllocError>
-    requires clean { HasNoFault (decodes H.reply.attribute_set) bytes.now }
+    requires clean { HasNoAttributeError (decode_attribute H.reply.attribute_set) bytes.now }
     requires fits { (response_codec H.reply).fits
-        (response_behind H.reply (H.header_model header.now) bytes.now) }
+        (reply_after H.reply (H.header_model header.now) bytes.now) }
     requires len { len ≡ length (response_bytes H.reply
-        (response_behind H.reply (H.header_model header.now) bytes.now)) }
+        (reply_after H.reply (H.header_model header.now) bytes.now)) }
     ensures { IfOk result (λ form. form.items ≡ response_bytes H.reply
-        (response_behind H.reply (H.header_model header.now) bytes.now)) }
+        (reply_after H.reply (H.header_model header.now) bytes.now)) }
 {
     let mut form = vec![in alloc; 0; len]?;
     header.emit_with(bytes, &mut form);

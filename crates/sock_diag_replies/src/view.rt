@@ -8,15 +8,15 @@ ghost use Rattle.std.specs.Iterator.SizeHint.{IsWithinCount};
 ghost use Rattle.netlink_core.specs.Bytes.{HoldsAtStart};
 ghost use Rattle.netlink_core.specs.declared.fault.DecodeError.{DecodeError as Fault};
 ghost use Rattle.netlink_core.specs.declared.fault.DecodeError.TheVariants.{Memory};
-ghost use Rattle.netlink_core.specs.Attribute.{AttributeFault};
-ghost use Rattle.netlink_core.specs.Codec.{KeepsLaws};
-ghost use Rattle.netlink_core.specs.AttributeSet.{decodes};
-ghost use Rattle.netlink_core.specs.Response.{ResponseSpec, ValueOf, response_bytes};
+ghost use Rattle.netlink_core.specs.Attribute.{HasAttributeError};
+ghost use Rattle.netlink_core.specs.Codec.{KeepsCodecLaws};
+ghost use Rattle.netlink_core.specs.AttributeSet.{decode_attribute};
+ghost use Rattle.netlink_core.specs.Response.{ResponseSpec, ReplyValue, response_bytes};
 ghost use Rattle.netlink_core.specs.Response.{response_codec};
-ghost use Rattle.netlink_core.specs.Walk.{bytes_left};
+ghost use Rattle.netlink_core.specs.Walk.{unread_bytes};
 ghost use Rattle.netlink_core.proofs.Equality.{equivalence};
-ghost use Rattle.attribute_lists.specs.AttributesIn.{HasNoFault, response_behind, values_in};
-ghost use Rattle.sock_diag_replies.specs.laws.OneValue.{one_value_in};
+ghost use Rattle.attribute_lists.specs.AttributesIn.{HasNoAttributeError, reply_after, decoded_in};
+ghost use Rattle.sock_diag_replies.specs.laws.OneValue.{result_has_one_value};
 
 use attribute_lists::{CheckedNlas, next_view};
 use netlink_core::{DecodeError, Emitable, FamilyView, NlasIterator};
@@ -34,7 +34,7 @@ pub trait ReplyHeader: Drop + Sized {
 
     ghost header_model: { Self → reply.header.Value };
 
-    ghost test: { ValueOf reply → ValueOf reply → Bool };
+    ghost test: { ReplyValue reply → ReplyValue reply → Bool };
 
     /// Returns the length of the header in bytes.
     fn length() -> usize
@@ -49,47 +49,51 @@ pub trait ReplyHeader: Drop + Sized {
     /// Checks each attribute and returns their number, or returns the first error. Does not
     /// allocate.
     fn check(bytes: &[u8]) -> Result<usize, DecodeError>
-        ensures clean { OnOk result (HasNoFault (decodes reply.attribute_set) bytes.now) }
+        ensures clean { OnOk result (HasNoAttributeError (decode_attribute reply.attribute_set)
+            bytes.now) }
         ensures count { IfOk result (λ count.
-            count ≡ length (values_in (decodes reply.attribute_set) bytes.now)) }
-        ensures fault { IfErr result (AttributeFault (decodes reply.attribute_set) bytes.now) };
+            count ≡ length (decoded_in (decode_attribute reply.attribute_set) bytes.now)) }
+        ensures fault { IfErr result (HasAttributeError (decode_attribute reply.attribute_set)
+            bytes.now) };
 
     /// Checks each attribute, or returns the first error. Returns the length that the header and
     /// the attributes have in canonical form, or `None` if a length does not fit its field. Does
     /// not allocate.
     fn check_len(&self, bytes: &[u8]) -> Result<Option<usize>, DecodeError>
-        ensures clean { OnOk result (HasNoFault (decodes reply.attribute_set) bytes.now) }
-        ensures len { let v = response_behind reply (header_model self.now) bytes.now in
+        ensures clean { OnOk result (HasNoAttributeError (decode_attribute reply.attribute_set)
+            bytes.now) }
+        ensures len { let v = reply_after reply (header_model self.now) bytes.now in
             IfOk result (λ len. SomeIff len ((response_codec reply).fits v)
             (length (response_bytes reply v))) }
-        ensures fault { IfErr result (AttributeFault (decodes reply.attribute_set) bytes.now) };
+        ensures fault { IfErr result (HasAttributeError (decode_attribute reply.attribute_set)
+            bytes.now) };
 
     /// Returns whether the headers are equal, and `left` and `right` contain equal attributes in
     /// the same order.
     fn is_same(&self, left: &[u8], other: &Self, right: &[u8]) -> bool
-        requires left { HasNoFault (decodes reply.attribute_set) left.now }
-        requires right { HasNoFault (decodes reply.attribute_set) right.now }
+        requires left { HasNoAttributeError (decode_attribute reply.attribute_set) left.now }
+        requires right { HasNoAttributeError (decode_attribute reply.attribute_set) right.now }
         ensures { result ≡ test
-            (response_behind reply (header_model self.now) left.now)
-            (response_behind reply (header_model other.now) right.now) };
+            (reply_after reply (header_model self.now) left.now)
+            (reply_after reply (header_model other.now) right.now) };
 
     /// Returns the length that the header and the attributes in `bytes` have in canonical form.
     /// Returns `None` if the reply is not writable.
     fn len_with(&self, bytes: &[u8]) -> Option<usize>
-        requires { HasNoFault (decodes reply.attribute_set) bytes.now }
-        ensures { let v = response_behind reply (header_model self.now) bytes.now in
+        requires { HasNoAttributeError (decode_attribute reply.attribute_set) bytes.now }
+        ensures { let v = reply_after reply (header_model self.now) bytes.now in
             SomeIff result ((response_codec reply).fits v) (length (response_bytes reply v)) };
 
     /// Writes the header and the attributes in `bytes`, in canonical form, at the start of
     /// `buffer`. The bytes after them are unchanged.
     fn emit_with(&self, bytes: &[u8], buffer: &mut [u8])
-        requires clean { HasNoFault (decodes reply.attribute_set) bytes.now }
+        requires clean { HasNoAttributeError (decode_attribute reply.attribute_set) bytes.now }
         requires fits { (response_codec reply).fits
-            (response_behind reply (header_model self.now) bytes.now) }
+            (reply_after reply (header_model self.now) bytes.now) }
         requires room { length (response_bytes reply
-            (response_behind reply (header_model self.now) bytes.now))
+            (reply_after reply (header_model self.now) bytes.now))
             ≤ length buffer.old }
-        ensures { HoldsAtStart (response_bytes reply (response_behind reply
+        ensures { HoldsAtStart (response_bytes reply (reply_after reply
             (header_model self.now) bytes.now)) buffer.old buffer.new };
 
     // Bytes with a valid header have at least `size` bytes. The codec of the replies satisfies the
@@ -97,9 +101,9 @@ pub trait ReplyHeader: Drop + Sized {
     ghost enough: { (b : List ℕ) (h : reply.header.Value) → reply.header.reads tt b ≡ Ok h
         → reply.size ≤ length b };
 
-    ghost keeps: { KeepsLaws (response_codec reply) };
+    ghost keeps: { KeepsCodecLaws (response_codec reply) };
 
-    ghost compared: { (v w : ValueOf reply) → IsTrue (test v w) ↔ (v ≡ w) };
+    ghost compared: { (v w : ReplyValue reply) → IsTrue (test v w) ↔ (v ≡ w) };
 }
 
 /// A header whose replies have a borrowed form.
@@ -111,9 +115,10 @@ pub trait ReplyViews<'a>: ReplyHeader {
     // the same number of values in them.
     ghost same: { let view_set = Self.View.FamilyView.attribute_set in
         let set = Self.ReplyHeader.reply.attribute_set in
-        ((b : List ℕ) → HasNoFault (decodes view_set) b ↔ HasNoFault (decodes set) b)
-        × ((b : List ℕ) → length (values_in (decodes view_set) b)
-        ≡ length (values_in (decodes set) b)) };
+        ((b : List ℕ) → HasNoAttributeError (decode_attribute view_set) b
+        ↔ HasNoAttributeError (decode_attribute set) b)
+        × ((b : List ℕ) → length (decoded_in (decode_attribute view_set) b)
+        ≡ length (decoded_in (decode_attribute set) b)) };
 }
 
 /// A borrowed reply: bytes that have been checked completely.
@@ -127,9 +132,11 @@ pub struct ReplyView<'a, H: ReplyHeader> {
     ghost head: { (h : H.reply.header.Value)
         × (H.reply.header.reads tt bytes.now ≡ Ok h) } by { one_value_in
             (H.reply.header.reads tt bytes.now) },
-    ghost clean: { HasNoFault (decodes H.reply.attribute_set) (drop H.reply.size bytes.now) },
+    ghost clean: { HasNoAttributeError (decode_attribute H.reply.attribute_set)
+        (drop H.reply.size bytes.now) },
     ghost counted: { count
-        ≡ length (values_in (decodes H.reply.attribute_set) (drop H.reply.size bytes.now)) },
+        ≡ length (decoded_in (decode_attribute H.reply.attribute_set)
+        (drop H.reply.size bytes.now)) },
 }
 
 impl<H: ReplyHeader> Copy for ReplyView<'_, H> {}
@@ -200,15 +207,15 @@ impl<'a, H: ReplyHeader> ReplyView<'a, H> {
     // Returns the bytes after the header.
     pub(crate) fn attribute_bytes(&self) -> &'a [u8]
         ensures part { result.now ≡ bytes_after_header self.now }
-        ensures clean { HasNoFault (decodes H.reply.attribute_set) result.now }
+        ensures clean { HasNoAttributeError (decode_attribute H.reply.attribute_set) result.now }
     {
         &self.bytes[H::length()..]
     }
 }
 
 impl<'a, H: ReplyViews<'a>> ReplyView<'a, H> {
-    ghost use Rattle.sock_diag_replies.specs.ViewModel.{attributes_left, bytes_after_header};
-    ghost use Rattle.attribute_lists.specs.CheckedModel.{checked_left};
+    ghost use Rattle.sock_diag_replies.specs.ViewModel.{unread_attributes, bytes_after_header};
+    ghost use Rattle.attribute_lists.specs.CheckedModel.{unchecked_bytes};
     ghost use Rattle.attribute_lists.specs.declared.checked.CheckedNlas.{CheckedNlas};
 
     /// Parses the header, and returns it with an iterator that checks each attribute when it yields
@@ -222,7 +229,7 @@ impl<'a, H: ReplyViews<'a>> ReplyView<'a, H> {
         ensures header { IfOk result (λ parts.
             H.reply.header.reads tt bytes.entry.now ≡ Ok (H.header_model parts.0)) }
         ensures left { IfOk result (λ parts.
-            checked_left parts.1 ≡ drop H.reply.size bytes.entry.now) }
+            unchecked_bytes parts.1 ≡ drop H.reply.size bytes.entry.now) }
         ensures value { let reply = response_codec
             (record (H.reply) { attribute_set = H.View.FamilyView.attribute_set }) in
             let gives = ⟦<CheckedNlas<'a, H::View> as Iterator>⟧.next_gives in
@@ -247,9 +254,9 @@ impl<'a, H: ReplyViews<'a>> ReplyView<'a, H> {
 
     /// Returns an iterator over the attributes, in wire order.
     pub fn attributes(&self) -> AttributeViews<'a, H>
-        ensures { let reads = decodes H.View.FamilyView.attribute_set in
-            values_in reads (attributes_left result)
-            ≡ values_in reads (bytes_after_header self.now) }
+        ensures { let reads = decode_attribute H.View.FamilyView.attribute_set in
+            decoded_in reads (unread_attributes result)
+            ≡ decoded_in reads (bytes_after_header self.now) }
     {
         AttributeViews {
             walk: NlasIterator::new(self.attribute_bytes()),
@@ -318,16 +325,18 @@ pub struct AttributeViews<'a, H: ReplyHeader> {
     // The number of attributes that were not yielded yet.
     count: usize,
     header: PhantomData<H>,
-    ghost clean: { HasNoFault (decodes H.reply.attribute_set) (bytes_left walk) },
-    ghost counted: { count ≡ length (values_in (decodes H.reply.attribute_set) (bytes_left walk)) },
+    ghost clean: { HasNoAttributeError (decode_attribute H.reply.attribute_set)
+        (unread_bytes walk) },
+    ghost counted: { count ≡ length
+        (decoded_in (decode_attribute H.reply.attribute_set) (unread_bytes walk)) },
 }
 
 impl<H: ReplyHeader> Clone for AttributeViews<'_, H> {
-    ghost use Rattle.sock_diag_replies.specs.ViewModel.{attributes_left};
+    ghost use Rattle.sock_diag_replies.specs.ViewModel.{unread_attributes};
 
-    ghost is_clone = { λ views copy. values_in (decodes H.reply.attribute_set)
-        (attributes_left copy)
-        ≡ values_in (decodes H.reply.attribute_set) (attributes_left views) };
+    ghost is_clone = { λ views copy. decoded_in (decode_attribute H.reply.attribute_set)
+        (unread_attributes copy)
+        ≡ decoded_in (decode_attribute H.reply.attribute_set) (unread_attributes views) };
 
     ghost is_infallible = { λ _. ⊤ };
 
@@ -341,16 +350,18 @@ impl<H: ReplyHeader> Clone for AttributeViews<'_, H> {
 }
 
 impl<'a, H: ReplyViews<'a>> Iterator for AttributeViews<'a, H> {
-    ghost use Rattle.sock_diag_replies.specs.ViewModel.{attributes_left};
+    ghost use Rattle.sock_diag_replies.specs.ViewModel.{unread_attributes};
 
     type Item = H::View;
 
     ghost next_gives = { λ old given new. YieldsFirstBy H.View.FamilyView.model (λ walk.
-        values_in (decodes H.View.FamilyView.attribute_set) (bytes_left walk)) old.walk given
+        decoded_in (decode_attribute H.View.FamilyView.attribute_set) (unread_bytes walk)) old.walk
+        given
         new.walk };
 
     ghost remaining = { λ views. at_most (length
-        (values_in (decodes H.View.FamilyView.attribute_set) (attributes_left views))) };
+        (decoded_in (decode_attribute H.View.FamilyView.attribute_set)
+        (unread_attributes views))) };
 
     #[inline(always)]
     fn next(&mut self) -> Option<H::View> {
@@ -361,14 +372,14 @@ impl<'a, H: ReplyViews<'a>> Iterator for AttributeViews<'a, H> {
 
     /// Returns the exact number of attributes that were not yielded yet.
     fn size_hint(&self) -> (usize, Option<usize>)
-        ensures lower { let left = values_in (decodes H.View.FamilyView.attribute_set)
-            (attributes_left self.now) in
+        ensures lower { let left = decoded_in (decode_attribute H.View.FamilyView.attribute_set)
+            (unread_attributes self.now) in
             IsWithinCount result.0 (at_most (length left)) }
-        ensures upper { let left = values_in (decodes H.View.FamilyView.attribute_set)
-            (attributes_left self.now) in
+        ensures upper { let left = decoded_in (decode_attribute H.View.FamilyView.attribute_set)
+            (unread_attributes self.now) in
             IfSome result.1 (UpTo (at_most (length left))) }
-        ensures exact { let left = values_in (decodes H.View.FamilyView.attribute_set)
-            (attributes_left self.now) in
+        ensures exact { let left = decoded_in (decode_attribute H.View.FamilyView.attribute_set)
+            (unread_attributes self.now) in
             result ≡ (length left, Some (length left)) }
     {
         (self.count, Some(self.count))

@@ -12,8 +12,8 @@ use Rattle.sock_diag_values.specs.declared.inet.mem_info.MemInfoBytes.TheVariant
 use Rattle.netlink_core.specs.Rows.{u32, when}
 
 -- The number of whole `u32` in `bytes` bytes, at most nine. It is used for 28 bytes or more.
-abbrev pub words_in : ℕ → ℕ
-words_in bytes = if nat_lt bytes 32 then 7 else if nat_lt bytes 36 then 8 else 9
+abbrev pub mem_info_u32_count : ℕ → ℕ
+mem_info_u32_count bytes = if nat_lt bytes 32 then 7 else if nat_lt bytes 36 then 8 else 9
 
 -- An array of `u32`, indexed by `SK_MEMINFO_*` (linux/sock_diag.h), of at least 28 bytes. The tag
 -- is the number of elements. Bytes are parsed with as many elements as they contain. A value is
@@ -24,7 +24,7 @@ abbrev pub mem_info : Layout (Unit {0}) ℕ MemInfo
 mem_info = record {
   name = name.MemInfo;
   least = 28;
-  tag_at = λ param left. Ok (words_in (length left));
+  tag_at = λ param left. Ok (mem_info_u32_count (length left));
   tag_of = λ m. if is_some m.drops then 9 else if is_some m.backlog_queue_length then 8 else 7;
   rows = λ words.
       u32 0 MemInfo.receive_queue ∷
@@ -42,7 +42,7 @@ mem_info = record {
 }
 
 -- the 28, 32 or 36 bytes of seven, eight or nine `u32`
-abbrev pub held_bytes : MemInfoBytes → List ℕ
-held_bytes (Seven bytes) = bytes
-held_bytes (Eight bytes) = bytes
-held_bytes (Nine bytes) = bytes
+abbrev pub mem_info_buffer_bytes : MemInfoBytes → List ℕ
+mem_info_buffer_bytes (Seven bytes) = bytes
+mem_info_buffer_bytes (Eight bytes) = bytes
+mem_info_buffer_bytes (Nine bytes) = bytes

@@ -18,8 +18,8 @@ abbrev pub legacy_mem_info_masks : List ℕ
 legacy_mem_info_masks = significant 16
 
 -- the number of whole `u32` in the bytes, at most nine
-abbrev pub word_count : List ℕ → ℕ
-word_count bytes = min 9 (length bytes / 4)
+abbrev pub whole_u32_count : List ℕ → ℕ
+whole_u32_count bytes = min 9 (length bytes / 4)
 
 -- the first `words` elements of the array that `SK_MEMINFO_*` indexes, of four bytes each
 abbrev pub mem_info_masks : ℕ → List ℕ

@@ -9,7 +9,7 @@ ghost use Rattle.sock_diag_values.specs.LegacyMemInfo.{legacy_mem_info};
 ghost use Rattle.sock_diag_values.specs.MemInfo.{mem_info};
 ghost use Rattle.sock_diag_values.specs.SignificantBits.{legacy_mem_info_masks, mem_info_masks};
 ghost use Rattle.sock_diag_values.specs.SignificantBits.{tcp_info_masks, unix_mem_info_masks};
-ghost use Rattle.sock_diag_values.specs.SignificantBits.{vfs_masks, word_count};
+ghost use Rattle.sock_diag_values.specs.SignificantBits.{vfs_masks, whole_u32_count};
 ghost use Rattle.sock_diag_values.specs.TcpInfo.{tcp_info};
 ghost use Rattle.sock_diag_values.specs.UnixMemInfo.{unix_mem_info};
 ghost use Rattle.sock_diag_values.specs.Vfs.{vfs};
@@ -47,8 +47,8 @@ pub fn equivalent_legacy_mem_infos()
 /// fields are equal.
 pub fn equivalent_mem_infos()
     ensures { (b c : List ℕ) → IsBytes b → IsBytes c → ⟦<MemInfo as Coded>⟧.codec.idle tt b c
-        ↔ ((28 ≤ length b) × (28 ≤ length c) × (word_count b ≡ word_count c)
-        × EqualUnder (mem_info_masks (word_count b)) b c) }
+        ↔ ((28 ≤ length b) × (28 ≤ length c) × (whole_u32_count b ≡ whole_u32_count c)
+        × EqualUnder (mem_info_masks (whole_u32_count b)) b c) }
 {}
 
 /// States that two byte strings are equivalent as [`TcpInfo`] if and only if both have at least 232

@@ -4,35 +4,38 @@ use Rattle.std.proofs.Common.{arith}
 use Rattle.std.specs.Prelude.{◌↔◌}
 use Rattle.std.proofs.lemmas.List.{take_at}
 use Rattle.netlink_core.specs.Bytes.{IsBytes}
-use Rattle.netlink_core.specs.Codec.{Codec, KeepsLaws}
-use Rattle.netlink_core.specs.Response.{ResponseSpec, ValueOf, response_bytes, response_codec}
+use Rattle.netlink_core.specs.Codec.{Codec, KeepsCodecLaws}
+use Rattle.netlink_core.specs.Response.{ResponseSpec, ReplyValue, response_bytes, response_codec}
 use Rattle.sockdiag_c.specs.declared.rewriting.Outcome.{Outcome}
-use Rattle.sockdiag_c.specs.Rewriting.{IsCanonical, Writes}
+use Rattle.sockdiag_c.specs.Rewriting.{IsCanonical, WritesValue}
 
-module _ {Param : Type 0} (C : Codec Param) (laws : KeepsLaws C) where
+module _ {Param : Type 0} (C : Codec Param) (laws : KeepsCodecLaws C) where
   -- an accepted input has one value
-  one_value : (b : List ℕ) (p : Param) (v w : C.Value) → IsBytes b → C.reads b p v → C.reads b p w
+  accepted_input_has_one_value : (b : List ℕ) (p : Param) (v w : C.Value) → IsBytes b
+      → C.reads b p v → C.reads b p w
       → v ≡ w
-  one_value b p v w tb r s =
+  accepted_input_has_one_value b p v w tb r s =
       (laws.same_value b b p v w tb tb r s).1 ((laws.same_value b b p v v tb tb r r).0 refl)
 
   -- two accepted inputs with writable values serialize to the same bytes if and only if they are
   -- equivalent (`idle`)
-  written_alike : (b c : List ℕ) (p : Param) (v w : C.Value) → IsBytes b → IsBytes c → C.reads b p v
+  equal_bytes_iff_equivalent : (b c : List ℕ) (p : Param) (v w : C.Value) → IsBytes b → IsBytes c
+      → C.reads b p v
       → C.reads c p w → C.fits v → C.fits w
       → ((C.written v ≡ C.written w) ↔ C.idle p b c)
-  written_alike b c p v w tb tc r s fv fw =
-      grind (arith, one_value)
+  equal_bytes_iff_equivalent b c p v w tb tc r s fv fw =
+      grind (arith, accepted_input_has_one_value)
 
 -- the bytes that are written for the value of a reply are its canonical form
-pub canonical_where_written : (R : ResponseSpec) → KeepsLaws (response_codec R)
-    → (payload old new : List ℕ) (v : ValueOf R) (outcome : Outcome) (answer : ℕ) → IsBytes payload
+pub written_is_canonical : (R : ResponseSpec) → KeepsCodecLaws (response_codec R)
+    → (payload old new : List ℕ) (v : ReplyValue R) (outcome : Outcome) (answer : ℕ)
+    → IsBytes payload
     → (response_codec R).reads payload tt v
-    → Writes ((response_codec R).fits v) (response_bytes R v) old new outcome answer
+    → WritesValue ((response_codec R).fits v) (response_bytes R v) old new outcome answer
     → IsCanonical R payload new answer
-canonical_where_written R laws payload old new v outcome answer tb r (inl h) some d w td s fw =
-    grind (arith, take_at, written_alike (response_codec R) laws payload d)
-canonical_where_written R laws payload old new v outcome answer tb r (inr (inl h)) some d w td s
+written_is_canonical R laws payload old new v outcome answer tb r (inl h) some d w td s fw =
+    grind (arith, take_at, equal_bytes_iff_equivalent (response_codec R) laws payload d)
+written_is_canonical R laws payload old new v outcome answer tb r (inr (inl h)) some d w td s
     fw = absurd (omega (arith, h.3.0))
-canonical_where_written R laws payload old new v outcome answer tb r (inr (inr h)) some d w td s
+written_is_canonical R laws payload old new v outcome answer tb r (inr (inr h)) some d w td s
     fw = absurd (omega (arith, h.2.0))

@@ -4,72 +4,78 @@ use Rattle.std.proofs.Common.{arith}
 use Rattle.std.proofs.Common.{◌≡◌, ℕ, inl, inr, List, [], ◌∷◌, subst, sym}
 use Rattle.std.specs.Prelude.{Option, Some, None}
 use Rattle.netlink_core.specs.Bytes.{IsBytes}
-use Rattle.netlink_core.specs.Datagram.{CutIntoMessages}
+use Rattle.netlink_core.specs.Datagram.{SplitsIntoMessages}
 use Rattle.netlink_core.specs.declared.fault.DecodeError.{DecodeError}
-use Rattle.netlink_core.specs.Faults.{number_of}
-use Rattle.netlink_core.proofs.Datagrams.{one_cut_into_messages}
-use Rattle.netlink_core.proofs.Framing.{one_framing_fault}
+use Rattle.netlink_core.specs.Faults.{error_code}
+use Rattle.netlink_core.proofs.Datagrams.{one_split_into_messages}
+use Rattle.netlink_core.proofs.Framing.{one_message_framing_error}
 use Rattle.netlink_core.proofs.Items.{items_of, rest_in_range}
 use Rattle.netlink_packet_sock_diag.specs.Message.{message_codec}
 use Rattle.netlink_packet_sock_diag.specs.laws.Message.{message_laws}
 use Rattle.sockdiag_c.specs.declared.walks.Cursor.{Cursor}
 use Rattle.sockdiag_c.specs.declared.walks.MessagePart.{MessagePart}
-use Rattle.sockdiag_c.specs.Walks.{IsMessageAt, NextMessage, left_of}
+use Rattle.sockdiag_c.specs.Walks.{StoresCheckedMessage, NextMessage, bytes_after_cursor}
 
 -- the bytes left by a step are split into messages, and so are the bytes before the step
-cut_with_step : (bytes : List ℕ) (old new : Cursor) (now : MessagePart) (answer : ℕ)
-    → IsBytes (left_of bytes old) → IsMessageAt bytes old new now answer
+step_splits_off_message : (bytes : List ℕ) (old new : Cursor) (now : MessagePart) (answer : ℕ)
+    → IsBytes (bytes_after_cursor bytes old) → StoresCheckedMessage bytes old new now answer
     → (message : List ℕ) × (later : List (List ℕ)) × (end : Option DecodeError)
-    × CutIntoMessages (left_of bytes new) later end
-    × CutIntoMessages (left_of bytes old) (message ∷ later) end
-cut_with_step bytes old new now answer in_range s =
-    let items = (items_of message_codec message_laws.answered (left_of bytes new)
-    (rest_in_range (left_of bytes old) s.0.0 (left_of bytes new) s.0.1 in_range)).1 in
-    (s.0.0, items.0, items.1, items.3, (left_of bytes new, s.0.1, items.3))
+    × SplitsIntoMessages (bytes_after_cursor bytes new) later end
+    × SplitsIntoMessages (bytes_after_cursor bytes old) (message ∷ later) end
+step_splits_off_message bytes old new now answer in_range s =
+    let items = (items_of message_codec message_laws.answered (bytes_after_cursor bytes new)
+    (rest_in_range (bytes_after_cursor bytes old) s.0.0 (bytes_after_cursor bytes new) s.0.1
+    in_range)).1 in
+    (s.0.0, items.0, items.1, items.3, (bytes_after_cursor bytes new, s.0.1, items.3))
 
 -- a step returns the first message, and leaves the others
 pub step_at_message : (bytes : List ℕ) (old new : Cursor) (was now : MessagePart) (answer : ℕ)
     (message : List ℕ) (later : List (List ℕ)) (end : Option DecodeError)
-    → IsBytes (left_of bytes old)
-    → CutIntoMessages (left_of bytes old) (message ∷ later) end
-    → NextMessage bytes old new was now answer → IsMessageAt bytes old new now answer
-    × CutIntoMessages (left_of bytes new) later end
+    → IsBytes (bytes_after_cursor bytes old)
+    → SplitsIntoMessages (bytes_after_cursor bytes old) (message ∷ later) end
+    → NextMessage bytes old new was now answer → StoresCheckedMessage bytes old new now answer
+    × SplitsIntoMessages (bytes_after_cursor bytes new) later end
 step_at_message bytes old new was now answer message later end in_range h (inl ends) =
-    grind (arith, common_steps, one_cut_into_messages)
+    grind (arith, common_steps, one_split_into_messages)
 step_at_message bytes old new was now answer message later end in_range h (inr (inl s)) =
-    let own = cut_with_step bytes old new now answer in_range s in
-    let same = one_cut_into_messages (left_of bytes old) (message ∷ later) (own.0 ∷ own.1) end own.2
+    let own = step_splits_off_message bytes old new now answer in_range s in
+    let same = one_split_into_messages (bytes_after_cursor bytes old) (message ∷ later)
+    (own.0 ∷ own.1) end own.2
     h own.4 in
     let others : own.1 ≡ later = let e = same.0 in cc in (
       s,
-      subst (λ (e : Option DecodeError). CutIntoMessages (left_of bytes new) later e) (sym same.1)
-          (subst (λ (xs : List (List ℕ)). CutIntoMessages (left_of bytes new) xs own.2) others
+      subst (λ (e : Option DecodeError). SplitsIntoMessages (bytes_after_cursor bytes new) later e)
+          (sym same.1)
+          (subst (λ (xs : List (List ℕ)). SplitsIntoMessages
+          (bytes_after_cursor bytes new) xs own.2) others
           own.3),
     )
 step_at_message bytes old new was now answer message later end in_range h (inr (inr fails)) =
-    grind (arith, common_steps, one_cut_into_messages)
+    grind (arith, common_steps, one_split_into_messages)
 
 -- if no message is left, the iteration ends
 pub step_at_no_message : (bytes : List ℕ) (old new : Cursor) (was now : MessagePart) (answer : ℕ)
-    → IsBytes (left_of bytes old)
-    → CutIntoMessages (left_of bytes old) [] None → NextMessage bytes old new was now answer
+    → IsBytes (bytes_after_cursor bytes old)
+    → SplitsIntoMessages (bytes_after_cursor bytes old) [] None
+    → NextMessage bytes old new was now answer
     → answer ≡ 0
 step_at_no_message bytes old new was now answer in_range h k =
     grind (
       arith,
-      cut_with_step bytes old new now answer in_range,
-      one_cut_into_messages (left_of bytes old),
+      step_splits_off_message bytes old new now answer in_range,
+      one_split_into_messages (bytes_after_cursor bytes old),
     )
 
 -- at a framing error, the iteration fails
-pub step_at_fault : (bytes : List ℕ) (old new : Cursor) (was now : MessagePart) (answer : ℕ)
-    (e : DecodeError) → IsBytes (left_of bytes old)
-    → CutIntoMessages (left_of bytes old) [] (Some e) → NextMessage bytes old new was now answer
-    → (answer ≡ number_of e) × (left_of bytes new ≡ [])
-step_at_fault bytes old new was now answer e in_range h k =
+pub step_at_framing_error : (bytes : List ℕ) (old new : Cursor) (was now : MessagePart) (answer : ℕ)
+    (e : DecodeError) → IsBytes (bytes_after_cursor bytes old)
+    → SplitsIntoMessages (bytes_after_cursor bytes old) [] (Some e)
+    → NextMessage bytes old new was now answer
+    → (answer ≡ error_code e) × (bytes_after_cursor bytes new ≡ [])
+step_at_framing_error bytes old new was now answer e in_range h k =
     grind (
       arith,
-      cut_with_step bytes old new now answer in_range,
-      one_cut_into_messages (left_of bytes old),
-      one_framing_fault (left_of bytes old),
+      step_splits_off_message bytes old new now answer in_range,
+      one_split_into_messages (bytes_after_cursor bytes old),
+      one_message_framing_error (bytes_after_cursor bytes old),
     )

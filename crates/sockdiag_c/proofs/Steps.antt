@@ -2,25 +2,27 @@
 use Rattle.std.proofs.Common.{◌≡◌, ℕ, ◌+◌, ◌-◌, ◌⊎◌, inl, inr, List, [], ◌∷◌, ◌++◌}
 use Rattle.std.proofs.Common.{length, take, drop, refl, sym, arith}
 use Rattle.std.proofs.lemmas.List.{drop-drop, take_at}
-use Rattle.netlink_core.specs.Attribute.{Attribute, Cut, StartsWith, fill}
+use Rattle.netlink_core.specs.Attribute.{Attribute, SplitsIntoAttributes, StartsWithAttribute}
+use Rattle.netlink_core.specs.Attribute.{padding_length}
 use Rattle.netlink_core.specs.Datagram.{StartsWithMessage}
 use Rattle.netlink_core.specs.declared.header.NetlinkHeader.{NetlinkHeader}
 use Rattle.netlink_core.specs.declared.message.NetlinkPayload.TheVariants.{Done, Error, Noop}
 use Rattle.netlink_core.specs.declared.message.NetlinkPayload.TheVariants.{Overrun}
 use Rattle.netlink_core.specs.Header.{HasHeader}
-use Rattle.netlink_core.specs.laws.Prefix.{prefix_or_fault_apart}
-use Rattle.netlink_core.proofs.Cutting.{one_start}
+use Rattle.netlink_core.specs.laws.Prefix.{prefix_or_error_apart}
+use Rattle.netlink_core.proofs.Cutting.{one_first_attribute}
 use Rattle.netlink_core.proofs.Datagrams.{starts_with_message}
-use Rattle.netlink_core.proofs.Padding.{starts_with}
-use Rattle.netlink_core.proofs.Walking.{prefix_of_start}
+use Rattle.netlink_core.proofs.Padding.{starts_with_attribute}
+use Rattle.netlink_core.proofs.Walking.{attribute_prefix_of_start}
 use Rattle.sockdiag_c.specs.declared.walks.AttributePart.{AttributePart}
 use Rattle.sockdiag_c.specs.declared.walks.Cursor.{Cursor}
 use Rattle.sockdiag_c.specs.declared.walks.MessagePart.{MessagePart}
-use Rattle.sockdiag_c.specs.Walks.{Carries, NextAttribute, attribute_in, header_in, left_of}
+use Rattle.sockdiag_c.specs.Walks.{IsPayloadCheckResult, NextAttribute, attribute_in, header_in}
+use Rattle.sockdiag_c.specs.Walks.{bytes_after_cursor}
 
 -- the value of the attribute at an offset is four bytes after the offset
 attribute_read : (bytes rest : List ℕ) (place : ℕ) (a : Attribute)
-    → StartsWith (drop place bytes) a rest
+    → StartsWithAttribute (drop place bytes) a rest
     → a ≡ attribute_in bytes
     (record { offset = place + 4; length = length a.value; type_word = a.type_word })
 attribute_read bytes rest place a s =
@@ -28,8 +30,9 @@ attribute_read bytes rest place a s =
 
 -- a step over an attribute, to the offset after its padding
 pub attribute_passed : (bytes rest : List ℕ) (place end : ℕ) (a : Attribute)
-    → StartsWith (drop place bytes) a rest → end ≡ 4 + length a.value + fill (4 + length a.value)
-    → StartsWith (drop place bytes)
+    → StartsWithAttribute (drop place bytes) a rest
+    → end ≡ 4 + length a.value + padding_length (4 + length a.value)
+    → StartsWithAttribute (drop place bytes)
     (attribute_in bytes (record {
       offset = place + 4;
       length = length a.value;
@@ -39,9 +42,10 @@ attribute_passed bytes rest place end a s end-is =
     grind (
       arith,
       attribute_read bytes rest place a s,
-      starts_with (drop place bytes) (drop (place + end) bytes) a end (prefix_of_start
+      starts_with_attribute (drop place bytes) (drop (place + end) bytes) a end
+          (attribute_prefix_of_start
           (drop place bytes) rest a s) end-is (sym (drop-drop end place bytes)),
-      prefix_of_start (drop place bytes) rest a s,
+      attribute_prefix_of_start (drop place bytes) rest a s,
       drop-drop end place bytes,
     )
 
@@ -70,7 +74,7 @@ header_is_framed bytes place h head =
 
 -- a step over a message, to the offset after its padding
 pub message_passed : (bytes : List ℕ) (place end : ℕ) (h : NetlinkHeader)
-    → HasHeader (drop place bytes) h → end ≡ h.length + fill h.length
+    → HasHeader (drop place bytes) h → end ≡ h.length + padding_length h.length
     → StartsWithMessage (drop place bytes) (take h.length (drop place bytes))
     (drop (place + end) bytes)
 message_passed bytes place end h head end-is =
@@ -82,31 +86,37 @@ message_passed bytes place end h head end-is =
     )
 
 -- the payload of a control message, types 1 to 4, is accepted
-pub kept_is_carried : (payload : List ℕ) (t : ℕ) → (t ≡ 1) ⊎ ((t ≡ 2) ⊎ ((t ≡ 3) ⊎ (t ≡ 4)))
-    → Carries payload t 1
-kept_is_carried payload t (inl one) = inl (refl, (Noop, one))
-kept_is_carried payload t (inr (inl two)) = inl (refl, (Error payload, (two, refl)))
-kept_is_carried payload t (inr (inr (inl three))) = inl (refl, (Done payload, (three, refl)))
-kept_is_carried payload t (inr (inr (inr four))) = inl (refl, (Overrun payload, (four, refl)))
+pub control_payload_is_accepted : (payload : List ℕ) (t : ℕ)
+    → (t ≡ 1) ⊎ ((t ≡ 2) ⊎ ((t ≡ 3) ⊎ (t ≡ 4)))
+    → IsPayloadCheckResult payload t 1
+control_payload_is_accepted payload t (inl one) = inl (refl, (Noop, one))
+control_payload_is_accepted payload t (inr (inl two)) = inl (refl, (Error payload, (two, refl)))
+control_payload_is_accepted payload t (inr (inr (inl three))) =
+    inl (refl, (Done payload, (three, refl)))
+control_payload_is_accepted payload t (inr (inr (inr four))) =
+    inl (refl, (Overrun payload, (four, refl)))
 
 -- ---- steps over bytes that are split into attributes
 
 -- a step returns the first attribute
 pub step_at_attribute : (bytes : List ℕ) (old new : Cursor) (was now : AttributePart) (answer : ℕ)
     (first : Attribute) (later : List Attribute)
-    → Cut (left_of bytes old) (first ∷ later) [] → NextAttribute bytes old new was now answer
-    → (answer ≡ 1) × (attribute_in bytes now ≡ first) × Cut (left_of bytes new) later []
+    → SplitsIntoAttributes (bytes_after_cursor bytes old) (first ∷ later) []
+    → NextAttribute bytes old new was now answer
+    → (answer ≡ 1) × (attribute_in bytes now ≡ first)
+    × SplitsIntoAttributes (bytes_after_cursor bytes new) later []
 step_at_attribute bytes old new was now answer first later h k =
     grind (
       arith,
-      one_start (left_of bytes old) h.0 (left_of bytes new) first
+      one_first_attribute (bytes_after_cursor bytes old) h.0 (bytes_after_cursor bytes new) first
           (attribute_in bytes now) h.1,
-      prefix_or_fault_apart (left_of bytes old) first,
-      prefix_of_start (left_of bytes old) h.0 first h.1,
+      prefix_or_error_apart (bytes_after_cursor bytes old) first,
+      attribute_prefix_of_start (bytes_after_cursor bytes old) h.0 first h.1,
     )
 
 -- if no attribute is left, the iteration ends
 pub step_at_end : (bytes : List ℕ) (old new : Cursor) (was now : AttributePart) (answer : ℕ)
-    → Cut (left_of bytes old) [] [] → NextAttribute bytes old new was now answer → answer ≡ 0
+    → SplitsIntoAttributes (bytes_after_cursor bytes old) [] []
+    → NextAttribute bytes old new was now answer → answer ≡ 0
 step_at_end bytes old new was now answer none h =
     grind arith

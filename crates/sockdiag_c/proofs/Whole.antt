@@ -3,14 +3,14 @@ use Rattle.std.proofs.Common.{◌≡◌, ℕ, ◌+◌, ◌<◌, ◌≤◌, List,
 use Rattle.std.proofs.Common.{refl}
 use Rattle.std.proofs.lemmas.Bool.{lt-ltb, le-ltb}
 use Rattle.byteorder.specs.Endian.{little_bytes}
-use Rattle.netlink_core.specs.Layout.{bytes}
+use Rattle.netlink_core.specs.Layout.{record_bytes}
 use Rattle.netlink_core.specs.Header.{header_bytes}
 use Rattle.sock_diag_records.specs.declared.inet.request.InetRequest as inet
 use Rattle.sock_diag_records.specs.InetRequest.{inet_request}
-use Rattle.sock_diag_records.specs.laws.InetRequest.{request_length}
+use Rattle.sock_diag_records.specs.laws.InetRequest.{inet_request_length}
 use Rattle.sockdiag_c.specs.declared.requests.InetRequest.{InetRequest}
-use Rattle.sockdiag_c.specs.Requests.{WritesWhole, header_of, inet_message, inet_request_of}
-use Rattle.sockdiag_c.specs.Requests.{protocol_attribute}
+use Rattle.sockdiag_c.specs.Requests.{WritesMessage, request_header_of, inet_message}
+use Rattle.sockdiag_c.specs.Requests.{inet_request_from_c, protocol_attribute}
 
 -- a protocol below 256 needs no attribute
 pub no_attribute : (p : ℕ) → p < 256 → [] ≡ protocol_attribute p
@@ -23,10 +23,11 @@ an_attribute p word high is = rw (le-ltb p 256 high, is) refl
 -- the message is the header, the record and the attribute
 pub message_written : (t : ℕ) (r : InetRequest) (it : inet.InetRequest)
     (attribute old new : List ℕ) (answer : ℕ)
-    → it ≡ inet_request_of r → attribute ≡ protocol_attribute r.protocol
-    → WritesWhole (16 + length (bytes inet_request it) + length attribute)
-    (header_bytes (header_of (16 + length (bytes inet_request it) + length attribute) t r.header)
-    ++ bytes inet_request it ++ attribute) old new answer
-    → WritesWhole (72 + length (protocol_attribute r.protocol)) (inet_message t r) old new answer
+    → it ≡ inet_request_from_c r → attribute ≡ protocol_attribute r.protocol
+    → WritesMessage (16 + length (record_bytes inet_request it) + length attribute)
+    (header_bytes (request_header_of (16 + length (record_bytes inet_request it) + length attribute)
+    t r.header)
+    ++ record_bytes inet_request it ++ attribute) old new answer
+    → WritesMessage (72 + length (protocol_attribute r.protocol)) (inet_message t r) old new answer
 message_written t r it attribute old new answer is found given =
-    grind (arith, request_length it)
+    grind (arith, inet_request_length it)

@@ -1,34 +1,35 @@
 -- The bytes of requests for netlink, packet, XDP and vsock sockets.
 use Rattle.std.specs.Prelude.{ℕ, List, ◌++◌}
-use Rattle.netlink_core.specs.Layout.{bytes}
+use Rattle.netlink_core.specs.Layout.{record_bytes}
 use Rattle.netlink_core.specs.Header.{header_bytes}
 use Rattle.sock_diag_families.specs.ShowRequest.{show_request}
 use Rattle.sock_diag_families.specs.VsockRequest.{vsock_request}
 use Rattle.sock_diag_families.specs.declared.request.ShowRequest as show
 use Rattle.sock_diag_families.specs.declared.vsock.request.VsockRequest as vsock
-use Rattle.sockdiag_c.specs.Requests.{header_of}
+use Rattle.sockdiag_c.specs.Requests.{request_header_of}
 use Rattle.sockdiag_c.specs.declared.family_requests.ShowRequest.{ShowRequest}
 use Rattle.sockdiag_c.specs.declared.family_requests.VsockRequest.{VsockRequest}
 
 -- The records `struct netlink_diag_req`, `packet_diag_req` and `xdp_diag_req`, which have one
 -- layout, from `struct sockdiag_show_request`. Each field is the field with the same name.
-abbrev pub show_request_of : (family : ℕ) → ShowRequest → show.ShowRequest family
-show_request_of family r =
+abbrev pub show_request_from_c : (family : ℕ) → ShowRequest → show.ShowRequest family
+show_request_from_c family r =
     record { protocol = r.protocol; inode = r.inode; show = r.show; cookie = r.cookie }
 
 -- `struct vsock_diag_req` from `struct sockdiag_vsock_request`, in the same way
-abbrev pub vsock_request_of : VsockRequest → vsock.VsockRequest
-vsock_request_of r = record { states = r.states; cookie = r.cookie }
+abbrev pub vsock_request_from_c : VsockRequest → vsock.VsockRequest
+vsock_request_from_c r = record { states = r.states; cookie = r.cookie }
 
 -- a netlink message of 36 bytes with type 20, SOCK_DIAG_BY_FAMILY: a header of 16 bytes, then a
 -- record of 20 bytes
 abbrev pub show_message : ℕ → ShowRequest → List ℕ
 show_message family r =
-    header_bytes (header_of 36 20 r.header)
-    ++ bytes (show_request family) (show_request_of family r)
+    header_bytes (request_header_of 36 20 r.header)
+    ++ record_bytes (show_request family) (show_request_from_c family r)
 
 -- a netlink message of 40 bytes with type 20, SOCK_DIAG_BY_FAMILY: a header of 16 bytes, then a
 -- record of 24 bytes
 abbrev pub vsock_message : VsockRequest → List ℕ
 vsock_message r =
-    header_bytes (header_of 40 20 r.header) ++ bytes vsock_request (vsock_request_of r)
+    header_bytes (request_header_of 40 20 r.header)
+    ++ record_bytes vsock_request (vsock_request_from_c r)

@@ -4,7 +4,7 @@ use Rattle.std.specs.declared.net.ip_addr.IpAddr.{IpAddr}
 use Rattle.netlink_core.specs.Table.{bytes_of}
 use Rattle.sock_diag_records.specs.declared.inet.response.InetResponseHeader.{InetResponseHeader}
 use Rattle.sock_diag_records.specs.declared.unix.response.UnixResponseHeader.{UnixResponseHeader}
-use Rattle.sock_diag_records.specs.Timer.{timer_data, milliseconds}
+use Rattle.sock_diag_records.specs.Timer.{timer_data, u32_milliseconds}
 use Rattle.sock_diag_records.specs.IpVersions.{address_data}
 use Rattle.sock_diag_records.specs.SocketId.{address_fields, address_values}
 use Rattle.netlink_packet_sock_diag.specs.Message.{Message, message_of}
@@ -21,8 +21,8 @@ unix_header_of h = record { kind = h.kind; state = h.state; inode = h.inode; coo
 
 -- the 16 bytes of an address field, in network byte order: 4 bytes and 12 zeros for IPv4, 16 bytes
 -- for IPv6
-abbrev pub address_bytes : IpAddr → List ℕ
-address_bytes ip = bytes_of (address_fields 0 (address_data ip).0) (address_values ip)
+abbrev pub address_octets_of : IpAddr → List ℕ
+address_octets_of ip = bytes_of (address_fields 0 (address_data ip).0) (address_values ip)
 
 -- `struct sockdiag_inet_header` from `struct inet_diag_msg`: each field is the field with the same
 -- name, except for `timer`, `retransmits` and `expires`. They are the code of the timer, its number
@@ -33,11 +33,11 @@ inet_header_of h = record {
   state = h.state;
   timer = (timer_data h.timer).0;
   retransmits = (timer_data h.timer).1;
-  expires = milliseconds (timer_data h.timer).2;
+  expires = u32_milliseconds (timer_data h.timer).2;
   source_port = h.socket_id.source_port;
   destination_port = h.socket_id.destination_port;
-  source_address = address_bytes h.socket_id.source_address;
-  destination_address = address_bytes h.socket_id.destination_address;
+  source_address = address_octets_of h.socket_id.source_address;
+  destination_address = address_octets_of h.socket_id.destination_address;
   interface_id = h.socket_id.interface_id;
   cookie = h.socket_id.cookie;
   recv_queue = h.recv_queue;

@@ -1,14 +1,15 @@
 -- The contents of a reply about a packet socket: `struct sockdiag_packet_details`.
 use Rattle.std.specs.Prelude.{◌≡◌, List, [], ◌∷◌, Option, IsOkAnd}
 use Rattle.std.specs.Result.{result_err}
-use Rattle.netlink_core.specs.Response.{ValueOf}
+use Rattle.netlink_core.specs.Response.{ReplyValue}
 use Rattle.netlink_core.specs.declared.fault.DecodeError.{DecodeError}
 use Rattle.sock_diag_families.specs.PacketAttributes.{packet_info, packet_ring}
 use Rattle.sock_diag_families.specs.PacketResponseHeader.{packet_header}
-use Rattle.sock_diag_any.specs.WholeReply.{whole_reply}
-use Rattle.sockdiag_c.specs.Answers.{AnswersItem}
-use Rattle.sockdiag_c.specs.Details.{number_of, text_of}
-use Rattle.sockdiag_c.specs.FamilyValues.{bytes_of, memory, memory_of, read_of, word}
+use Rattle.sock_diag_any.specs.WholeReply.{raw_reply_spec}
+use Rattle.sockdiag_c.specs.Answers.{IsGetterResult}
+use Rattle.sockdiag_c.specs.Details.{optional_number, text_parts}
+use Rattle.sockdiag_c.specs.FamilyValues.{first_value_as_text, parse_socket_memory, memory_struct}
+use Rattle.sockdiag_c.specs.FamilyValues.{parse_first, parse_u32_value}
 use Rattle.sockdiag_c.specs.declared.packet_details.PacketDetails.{PacketDetails}
 
 -- The header, and the first value of each kind: PACKET_DIAG_INFO 0, PACKET_DIAG_MCLIST 1,
@@ -16,24 +17,29 @@ use Rattle.sockdiag_c.specs.declared.packet_details.PacketDetails.{PacketDetails
 -- PACKET_DIAG_MEMINFO 6, PACKET_DIAG_FILTER 7. A value of kind 0 or 2 to 6 parses, if there is one.
 -- `has_info` and the like are 1 if the record is present; else they are 0 and the record is
 -- unchanged from `old`.
-abbrev pub IsPacketDetailsOf : PacketDetails → ValueOf (whole_reply packet_header) → PacketDetails
+abbrev pub IsPacketDetailsOf : PacketDetails → ReplyValue (raw_reply_spec packet_header)
+    → PacketDetails
     → Type 0
 IsPacketDetailsOf old v d =
     (d.header ≡ v.header)
-    × IsOkAnd (read_of packet_info 0 v.nlas) (λ o. AnswersItem o old.info d.info d.has_info)
-    × (text_of d.addresses ≡ bytes_of 1 v.nlas)
-    × IsOkAnd (read_of (packet_ring 2) 2 v.nlas)
-    (λ o. AnswersItem o old.receive_ring d.receive_ring d.has_receive_ring)
-    × IsOkAnd (read_of (packet_ring 3) 3 v.nlas)
-    (λ o. AnswersItem o old.send_ring d.send_ring d.has_send_ring)
-    × IsOkAnd (read_of word 4 v.nlas) (λ o. d.fanout ≡ number_of o)
-    × IsOkAnd (read_of word 5 v.nlas) (λ o. d.owner ≡ number_of o)
-    × IsOkAnd (read_of memory 6 v.nlas) (λ o. d.memory ≡ memory_of o)
-    × (text_of d.filter ≡ bytes_of 7 v.nlas)
+    × IsOkAnd (parse_first packet_info 0 v.nlas) (λ o. IsGetterResult o old.info d.info d.has_info)
+    × (text_parts d.addresses ≡ first_value_as_text 1 v.nlas)
+    × IsOkAnd (parse_first (packet_ring 2) 2 v.nlas)
+    (λ o. IsGetterResult o old.receive_ring d.receive_ring d.has_receive_ring)
+    × IsOkAnd (parse_first (packet_ring 3) 3 v.nlas)
+    (λ o. IsGetterResult o old.send_ring d.send_ring d.has_send_ring)
+    × IsOkAnd (parse_first parse_u32_value 4 v.nlas) (λ o. d.fanout ≡ optional_number o)
+    × IsOkAnd (parse_first parse_u32_value 5 v.nlas) (λ o. d.owner ≡ optional_number o)
+    × IsOkAnd (parse_first parse_socket_memory 6 v.nlas) (λ o. d.memory ≡ memory_struct o)
+    × (text_parts d.filter ≡ first_value_as_text 7 v.nlas)
 
 -- the errors of its values, in the order in which they are reported
-abbrev pub packet_faults : ValueOf (whole_reply packet_header) → List (Option DecodeError)
-packet_faults v =
-    result_err (read_of packet_info 0 v.nlas) ∷ result_err (read_of (packet_ring 2) 2 v.nlas)
-    ∷ result_err (read_of (packet_ring 3) 3 v.nlas) ∷ result_err (read_of word 4 v.nlas)
-    ∷ result_err (read_of word 5 v.nlas) ∷ result_err (read_of memory 6 v.nlas) ∷ []
+abbrev pub packet_value_errors : ReplyValue (raw_reply_spec packet_header)
+    → List (Option DecodeError)
+packet_value_errors v =
+    result_err (parse_first packet_info 0 v.nlas)
+    ∷ result_err (parse_first (packet_ring 2) 2 v.nlas)
+    ∷ result_err (parse_first (packet_ring 3) 3 v.nlas)
+    ∷ result_err (parse_first parse_u32_value 4 v.nlas)
+    ∷ result_err (parse_first parse_u32_value 5 v.nlas)
+    ∷ result_err (parse_first parse_socket_memory 6 v.nlas) ∷ []

@@ -6,9 +6,10 @@ use Rattle.std.specs.declared.net.ip_addr.IpAddr.{IpAddr}
 use Rattle.std.specs.declared.net.ip_addr.IpAddr.TheVariants.{V4, V6}
 use Rattle.std.specs.Net.Addr.{segments_of}
 use Rattle.netlink_core.specs.declared.header.NetlinkHeader.{NetlinkHeader}
-use Rattle.netlink_core.specs.Attribute.{Attribute, CutOff, IsFramingFault, fill, written}
+use Rattle.netlink_core.specs.Attribute.{Attribute, SplitsUntilError, IsFramingError}
+use Rattle.netlink_core.specs.Attribute.{padding_length, attribute_bytes}
 use Rattle.netlink_core.specs.declared.fault.DecodeError.{DecodeError}
-use Rattle.netlink_core.specs.Layout.{bytes}
+use Rattle.netlink_core.specs.Layout.{record_bytes}
 use Rattle.netlink_core.specs.Header.{header_bytes}
 use Rattle.sock_diag_records.specs.InetRequest.{inet_request}
 use Rattle.sock_diag_records.specs.UnixRequest.{unix_request}
@@ -18,9 +19,10 @@ use Rattle.sockdiag_c.specs.declared.requests.InetRequest.{InetRequest}
 use Rattle.sockdiag_c.specs.declared.requests.RequestHeader.{RequestHeader}
 use Rattle.sockdiag_c.specs.declared.requests.UnixRequest.{UnixRequest}
 
--- header_of len t h: `struct nlmsghdr` of a message of `len` bytes, header included, and of type t
-abbrev pub header_of : ℕ → ℕ → RequestHeader → NetlinkHeader
-header_of len t h = record {
+-- request_header_of len t h: `struct nlmsghdr` of a message of `len` bytes, header included, and of
+-- type t
+abbrev pub request_header_of : ℕ → ℕ → RequestHeader → NetlinkHeader
+request_header_of len t h = record {
   length = len;
   message_type = t;
   flags = h.flags;
@@ -30,18 +32,18 @@ header_of len t h = record {
 
 -- `struct unix_diag_req` from `struct sockdiag_unix_request`: each field is the field with the same
 -- name
-abbrev pub unix_request_of : UnixRequest → unix.UnixRequest
-unix_request_of r = record {
+abbrev pub unix_request_from_c : UnixRequest → unix.UnixRequest
+unix_request_from_c r = record {
   state_flags = record { 0 = r.states };
   inode = r.inode;
   show_flags = record { 0 = r.show };
   cookie = r.cookie;
 }
 
--- address_under family octets: for AF_INET, 2, the IPv4 address of the first four octets; else the
--- IPv6 address of the sixteen octets
-abbrev pub address_under : ℕ → List ℕ → IpAddr
-address_under family octets =
+-- address_of_family family octets: for AF_INET, 2, the IPv4 address of the first four octets; else
+-- the IPv6 address of the sixteen octets
+abbrev pub address_of_family : ℕ → List ℕ → IpAddr
+address_of_family family octets =
     if family == 2 then V4 record {
       octets = slice_index octets 0 ∷ slice_index octets 1 ∷ slice_index octets 2
           ∷ slice_index octets 3 ∷ [];
@@ -50,8 +52,8 @@ address_under family octets =
 
 -- `struct inet_diag_req_v2` from `struct sockdiag_inet_request`: each field is the field with the
 -- same name; the addresses are of the IP version of the family, and the protocol is its low byte
-abbrev pub inet_request_of : InetRequest → inet.InetRequest
-inet_request_of r = record {
+abbrev pub inet_request_from_c : InetRequest → inet.InetRequest
+inet_request_from_c r = record {
   family = r.family;
   protocol = r.protocol % 256;
   extensions = record { 0 = r.extensions };
@@ -59,8 +61,8 @@ inet_request_of r = record {
   socket_id = record {
     source_port = r.source_port;
     destination_port = r.destination_port;
-    source_address = address_under r.family r.source_address;
-    destination_address = address_under r.family r.destination_address;
+    source_address = address_of_family r.family r.source_address;
+    destination_address = address_of_family r.family r.destination_address;
     interface_id = r.interface_id;
     cookie = r.cookie;
   };
@@ -70,26 +72,27 @@ inet_request_of r = record {
 -- no bytes
 abbrev pub protocol_attribute : ℕ → List ℕ
 protocol_attribute p =
-    if nat_lt p 256 then [] else written record { type_word = 3; value = little_bytes 4 p }
+    if nat_lt p 256 then [] else attribute_bytes record { type_word = 3; value = little_bytes 4 p }
 
 -- the netlink message of 40 bytes with type t of a UNIX request: 20 is SOCK_DIAG_BY_FAMILY, and 21
 -- is SOCK_DESTROY
 abbrev pub unix_message : ℕ → UnixRequest → List ℕ
-unix_message t r = header_bytes (header_of 40 t r.header) ++ bytes unix_request (unix_request_of r)
+unix_message t r = header_bytes (request_header_of 40 t r.header)
+    ++ record_bytes unix_request (unix_request_from_c r)
 
 -- the netlink message with type t of an internet request: 72 bytes, and 8 more if it has the
 -- attribute
 abbrev pub inet_message : ℕ → InetRequest → List ℕ
 inet_message t r =
-    header_bytes (header_of (72 + length (protocol_attribute r.protocol)) t r.header)
-    ++ bytes inet_request (inet_request_of r) ++ protocol_attribute r.protocol
+    header_bytes (request_header_of (72 + length (protocol_attribute r.protocol)) t r.header)
+    ++ record_bytes inet_request (inet_request_from_c r) ++ protocol_attribute r.protocol
 
--- WritesWhole len all old new answer: `all` are `len` bytes; `old` and `new` are the buffer before
--- and after the call. If the buffer has at least `len` bytes, `all` is written at its start, the
--- rest is unchanged, and the return value is `len`. Else nothing is written, and the return value
--- is 0.
-abbrev pub WritesWhole : ℕ → List ℕ → List ℕ → List ℕ → ℕ → Type 0
-WritesWhole len all old new answer =
+-- WritesMessage len all old new answer: `all` are `len` bytes; `old` and `new` are the buffer
+-- before and after the call. If the buffer has at least `len` bytes, `all` is written at its start,
+-- the rest is unchanged, and the return value is `len`. Else nothing is written, and the return
+-- value is 0.
+abbrev pub WritesMessage : ℕ → List ℕ → List ℕ → List ℕ → ℕ → Type 0
+WritesMessage len all old new answer =
     (len ≤ length old → (answer ≡ len) × (new ≡ all ++ drop len old))
     × (length old < len → (answer ≡ 0) × (new ≡ old))
 
@@ -97,23 +100,24 @@ WritesWhole len all old new answer =
 
 -- the attributes, followed by zeros up to a multiple of 4
 abbrev pub with_padding : List ℕ → List ℕ
-with_padding attributes = attributes ++ replicate (fill (length attributes)) 0
+with_padding attributes = attributes ++ replicate (padding_length (length attributes)) 0
 
 -- the bytes after the record: the attribute with the protocol, if any, and the caller's attributes
-abbrev pub behind_record : InetRequest → List ℕ → List ℕ
-behind_record r attributes = protocol_attribute r.protocol ++ with_padding attributes
+abbrev pub bytes_after_record : InetRequest → List ℕ → List ℕ
+bytes_after_record r attributes = protocol_attribute r.protocol ++ with_padding attributes
 
 -- a request of type 20, SOCK_DIAG_BY_FAMILY, with the caller's attributes
-abbrev pub filtered_message : InetRequest → List ℕ → List ℕ
-filtered_message r attributes =
-    header_bytes (header_of (72 + length (behind_record r attributes)) 20 r.header)
-    ++ bytes inet_request (inet_request_of r) ++ behind_record r attributes
+abbrev pub request_with_attributes : InetRequest → List ℕ → List ℕ
+request_with_attributes r attributes =
+    header_bytes (request_header_of (72 + length (bytes_after_record r attributes)) 20 r.header)
+    ++ record_bytes inet_request (inet_request_from_c r) ++ bytes_after_record r attributes
 
 -- the family is AF_INET, 2, or AF_INET6, 10, and the length of the message fits `nlmsg_len`
-abbrev pub HasRoomForLength : InetRequest → List ℕ → Type 0
-HasRoomForLength r attributes =
-    ((r.family ≡ 2) ⊎ (r.family ≡ 10)) × (72 + length (behind_record r attributes) ≤ 4294967295)
+abbrev pub IsWritableRequest : InetRequest → List ℕ → Type 0
+IsWritableRequest r attributes =
+    ((r.family ≡ 2) ⊎ (r.family ≡ 10))
+    × (72 + length (bytes_after_record r attributes) ≤ 4294967295)
 
 -- attributes come first, if any; then bytes are left that are not an attribute, for the reason e
-abbrev pub AreCutOff : List ℕ → DecodeError → Type 0
-AreCutOff bytes e = (given : List Attribute) × CutOff IsFramingFault bytes given e
+abbrev pub HasFramingError : List ℕ → DecodeError → Type 0
+HasFramingError bytes e = (given : List Attribute) × SplitsUntilError IsFramingError bytes given e

@@ -2,45 +2,45 @@
 use Rattle.std.specs.Prelude.{◌≡◌, ℕ, ◌<◌, ◌≤◌, ◌↔◌, ◌⊎◌, List, ◌++◌, length, take, drop}
 use Rattle.netlink_core.specs.Bytes.{IsBytes}
 use Rattle.netlink_core.specs.declared.fault.DecodeError.{DecodeError}
-use Rattle.netlink_core.specs.Faults.{number_of}
-use Rattle.netlink_core.specs.Response.{ResponseSpec, ValueOf, response_bytes, response_codec}
+use Rattle.netlink_core.specs.Faults.{error_code}
+use Rattle.netlink_core.specs.Response.{ResponseSpec, ReplyValue, response_bytes, response_codec}
 use Rattle.sockdiag_c.specs.declared.rewriting.Outcome.{Outcome}
 
 -- `struct sockdiag_outcome`: the code of an error or 0, and the number of bytes to write
-abbrev pub outcome_of : ℕ → ℕ → Outcome
-outcome_of fault needed = record { fault = fault; needed = needed }
+abbrev pub outcome_struct : ℕ → ℕ → Outcome
+outcome_struct fault needed = record { fault = fault; needed = needed }
 
 -- the return value is 0 and the buffer is unchanged
-abbrev pub StaysAsItWas : List ℕ → List ℕ → ℕ → Type 0
-StaysAsItWas old new answer = (answer ≡ 0) × (new ≡ old)
+abbrev pub WritesNothing : List ℕ → List ℕ → ℕ → Type 0
+WritesNothing old new answer = (answer ≡ 0) × (new ≡ old)
 
 -- Writes fits bytes old new outcome answer: `old` and `new` are the buffer before and after the
 -- call. Either the value is writable (`fits`) and the buffer is long enough: the bytes are written
 -- at its start, the rest is unchanged, and the return value is their number. Or the value is
 -- writable and the buffer is too short; `outcome.needed` is the number of bytes. Or the value is
 -- not writable.
-abbrev pub Writes : Type 0 → List ℕ → List ℕ → List ℕ → Outcome → ℕ → Type 0
-Writes fits bytes old new outcome answer =
-    (fits × (length bytes ≤ length old) × (outcome ≡ outcome_of 0 (length bytes))
+abbrev pub WritesValue : Type 0 → List ℕ → List ℕ → List ℕ → Outcome → ℕ → Type 0
+WritesValue fits bytes old new outcome answer =
+    (fits × (length bytes ≤ length old) × (outcome ≡ outcome_struct 0 (length bytes))
     × (answer ≡ length bytes) × (new ≡ bytes ++ drop (length bytes) old))
-    ⊎ ((fits × (length old < length bytes) × (outcome ≡ outcome_of 0 (length bytes))
-    × StaysAsItWas old new answer)
-    ⊎ (¬ fits × (outcome ≡ outcome_of 0 0) × StaysAsItWas old new answer))
+    ⊎ ((fits × (length old < length bytes) × (outcome ≡ outcome_struct 0 (length bytes))
+    × WritesNothing old new answer)
+    ⊎ (¬ fits × (outcome ≡ outcome_struct 0 0) × WritesNothing old new answer))
 
 -- Rewrites reads refuses fits bytes old new outcome answer: either the input has a value, and
 -- Writes holds for it; or the input is rejected with the error e, whose code is in the outcome, and
 -- nothing is written
-abbrev pub Rewrites : {V : Type 0} → (V → Type 0) → (DecodeError → Type 0) → (V → Type 0)
+abbrev pub ParsesAndWrites : {V : Type 0} → (V → Type 0) → (DecodeError → Type 0) → (V → Type 0)
     → (V → List ℕ) → List ℕ → List ℕ → Outcome → ℕ → Type 0
-Rewrites {V} reads refuses fits bytes old new outcome answer =
-    ((v : V) × reads v × Writes (fits v) (bytes v) old new outcome answer)
-    ⊎ ((e : DecodeError) × refuses e × (outcome ≡ outcome_of (number_of e) 0)
-    × StaysAsItWas old new answer)
+ParsesAndWrites {V} reads refuses fits bytes old new outcome answer =
+    ((v : V) × reads v × WritesValue (fits v) (bytes v) old new outcome answer)
+    ⊎ ((e : DecodeError) × refuses e × (outcome ≡ outcome_struct (error_code e) 0)
+    × WritesNothing old new answer)
 
 -- If anything was written, it is the canonical form of the payload: an accepted input with a
 -- writable value serializes to these bytes if and only if it is equivalent (`idle`) to the payload.
 abbrev pub IsCanonical : ResponseSpec → List ℕ → List ℕ → ℕ → Type 0
 IsCanonical R payload new answer =
-    0 < answer → (d : List ℕ) (w : ValueOf R) → IsBytes d → (response_codec R).reads d tt w
+    0 < answer → (d : List ℕ) (w : ReplyValue R) → IsBytes d → (response_codec R).reads d tt w
     → (response_codec R).fits w
     → ((response_bytes R w ≡ take answer new) ↔ (response_codec R).idle tt payload d)

@@ -4,7 +4,7 @@ ghost use Rattle.netlink_core.specs.Response.{response_codec};
 ghost use Rattle.sock_diag_replies.specs.InetResponseSpec.{inet_response_spec};
 ghost use Rattle.netlink_packet_sock_diag.specs.Message.{message_codec};
 ghost use Rattle.sock_diag_replies.specs.UnixResponseSpec.{unix_response_spec};
-ghost use Rattle.sockdiag_c.specs.Answers.{Answers};
+ghost use Rattle.sockdiag_c.specs.Answers.{IsCheckResult};
 ghost use Rattle.sockdiag_c.specs.Headers.{inet_header_of, reply_of, unix_header_of};
 
 use crate::headers::{INET, InetHeader, Reply, UNIX, UnixHeader};
@@ -19,7 +19,7 @@ pub(crate) const OK: u32 = 0;
 /// the netlink message. Returns 0, or the code of the first error; then the header is unchanged.
 #[unsafe(no_mangle)]
 pub extern "C" fn sockdiag_check_unix_reply(payload: &[u8], header: &mut UnixHeader) -> u32
-    ensures { Answers ((response_codec unix_response_spec).reads payload.now tt)
+    ensures { IsCheckResult ((response_codec unix_response_spec).reads payload.now tt)
         ((response_codec unix_response_spec).refuses payload.now tt)
         (λ v. unix_header_of v.header) header.old header.new result }
 {
@@ -37,7 +37,7 @@ pub extern "C" fn sockdiag_check_unix_reply(payload: &[u8], header: &mut UnixHea
 /// unchanged.
 #[unsafe(no_mangle)]
 pub extern "C" fn sockdiag_check_inet_reply(payload: &[u8], header: &mut InetHeader) -> u32
-    ensures { Answers ((response_codec inet_response_spec).reads payload.now tt)
+    ensures { IsCheckResult ((response_codec inet_response_spec).reads payload.now tt)
         ((response_codec inet_response_spec).refuses payload.now tt)
         (λ v. inet_header_of v.header) header.old header.new result }
 {
@@ -59,7 +59,7 @@ pub extern "C" fn sockdiag_check_message(
     message_type: u16,
     reply: &mut Reply,
 ) -> u32
-    ensures { Answers (message_codec.reads payload.now message_type)
+    ensures { IsCheckResult (message_codec.reads payload.now message_type)
         (message_codec.refuses payload.now message_type)
         (reply_of reply.old) reply.old reply.new result }
 {

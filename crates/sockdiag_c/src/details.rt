@@ -2,17 +2,17 @@
 
 ghost use Rattle.std.specs.Prelude.{◌≡◌, ◌≢◌, List, [], ◌∷◌, ◌++◌, drop, Ok, Err, IfOk};
 ghost use Rattle.std.specs.Prelude.{IfErr, None, OnOk, Some};
-ghost use Rattle.netlink_core.specs.Attribute.{AttributeFault, AttributesMean};
-ghost use Rattle.netlink_core.specs.AttributeSet.{AttributeValue, decodes};
-ghost use Rattle.netlink_core.specs.Response.{ResponseSpec, ValueOf, response_codec};
-ghost use Rattle.netlink_core.specs.Walk.{attribute_of};
+ghost use Rattle.netlink_core.specs.Attribute.{HasAttributeError, DecodeTo};
+ghost use Rattle.netlink_core.specs.AttributeSet.{AttributeValue, decode_attribute};
+ghost use Rattle.netlink_core.specs.Response.{ResponseSpec, ReplyValue, response_codec};
+ghost use Rattle.netlink_core.specs.Walk.{buffered_attribute};
 ghost use Rattle.sock_diag_replies.specs.InetResponseSpec.{inet_response_spec};
 ghost use Rattle.sock_diag_replies.specs.UnixResponseSpec.{unix_response_spec};
-ghost use Rattle.sockdiag_c.specs.Answers.{AnswersBy};
-ghost use Rattle.sockdiag_c.specs.Details.{text_of};
+ghost use Rattle.sockdiag_c.specs.Answers.{IsCheckResultBy};
+ghost use Rattle.sockdiag_c.specs.Details.{text_parts};
 ghost use Rattle.sockdiag_c.specs.InetDetails.{IsInetDetailsOf};
 ghost use Rattle.sockdiag_c.specs.UnixDetails.{IsUnixDetailsOf};
-ghost use Rattle.sockdiag_c.specs.private.FirstNumber.{next_number, first_of_two};
+ghost use Rattle.sockdiag_c.specs.private.FirstNumber.{set_number_once, first_present};
 
 use crate::check::OK;
 use crate::inet_details::InetDetails;
@@ -58,7 +58,7 @@ pub(crate) const NO_NUMBER: Number = Number {
 impl Number {
     /// Sets the number, unless it is set already.
     pub(crate) fn set(&mut self, value: u32)
-        ensures { self.new ≡ next_number self.old (Some value) }
+        ensures { self.new ≡ set_number_once self.old (Some value) }
     {
         if self.is_told == 0 {
             *self = Number { is_told: 1, value };
@@ -69,7 +69,7 @@ impl Number {
 impl<'a> Text<'a> {
     /// Returns the text of a reply that contains none.
     pub(crate) fn none() -> Text<'a>
-        ensures { text_of result ≡ None }
+        ensures { text_parts result ≡ None }
     {
         Text {
             kind: 0,
@@ -80,8 +80,8 @@ impl<'a> Text<'a> {
     /// Sets the text, unless it is set already.
     pub(crate) fn set(&mut self, kind: u32, bytes: &'a [u8])
         requires { kind ≢ 0 }
-        ensures { text_of self.new
-            ≡ first_of_two (text_of self.old) (Some (kind, bytes.entry.now)) }
+        ensures { text_parts self.new
+            ≡ first_present (text_parts self.old) (Some (kind, bytes.entry.now)) }
     {
         if self.kind == 0 {
             *self = Text { kind, bytes };
@@ -110,11 +110,11 @@ pub(crate) trait KeepsDetails<'a>: Copy {
     /// them.
     fn set_detail(&mut self, nla: &NlaBuffer<'a>) -> Result<(), DecodeError>
         ensures value { OnOk result ((v : AttributeValue reply.attribute_set)
-            × (decodes reply.attribute_set (attribute_of nla.now) ≡ Ok v)
+            × (decode_attribute reply.attribute_set (buffered_attribute nla.now) ≡ Ok v)
             × ((h : reply.header.Value) (before : List (AttributeValue reply.attribute_set))
             → describes h self.old before → describes h self.new (before ++ v ∷ []))) }
         ensures fault { IfErr result (λ e.
-            decodes reply.attribute_set (attribute_of nla.now) ≡ Err e) };
+            decode_attribute reply.attribute_set (buffered_attribute nla.now) ≡ Err e) };
 }
 
 /// Checks a whole reply about a UNIX socket, and returns its contents, in one pass. The bytes are
@@ -125,7 +125,7 @@ pub extern "C" fn sockdiag_unix_get_details<'a>(
     payload: &'a [u8],
     details: &mut UnixDetails<'a>,
 ) -> u32
-    ensures { AnswersBy ((response_codec unix_response_spec).reads payload.entry.now tt)
+    ensures { IsCheckResultBy ((response_codec unix_response_spec).reads payload.entry.now tt)
         ((response_codec unix_response_spec).refuses payload.entry.now tt) IsUnixDetailsOf
         details.old details.new
         result }
@@ -142,7 +142,7 @@ pub extern "C" fn sockdiag_inet_get_details<'a>(
     payload: &'a [u8],
     details: &mut InetDetails<'a>,
 ) -> u32
-    ensures { AnswersBy ((response_codec inet_response_spec).reads payload.entry.now tt)
+    ensures { IsCheckResultBy ((response_codec inet_response_spec).reads payload.entry.now tt)
         ((response_codec inet_response_spec).refuses payload.entry.now tt) IsInetDetailsOf
         details.old details.new
         result }
@@ -153,7 +153,7 @@ pub extern "C" fn sockdiag_inet_get_details<'a>(
 // Stores the contents of the reply in the details. Returns 0, or the code of the first error; then
 // the details are unchanged.
 fn tell_reply<'a, T: KeepsDetails<'a>>(payload: &'a [u8], details: &mut T) -> u32
-    ensures { AnswersBy ((response_codec T.reply).reads payload.entry.now tt)
+    ensures { IsCheckResultBy ((response_codec T.reply).reads payload.entry.now tt)
         ((response_codec T.reply).refuses payload.entry.now tt)
         (λ v details. T.describes v.header details v.nlas) details.old details.new result }
 {
@@ -168,7 +168,7 @@ fn tell_reply<'a, T: KeepsDetails<'a>>(payload: &'a [u8], details: &mut T) -> u3
 
 // Parses the reply, and returns its contents or the first error.
 fn read_details<'a, T: KeepsDetails<'a>>(payload: &'a [u8]) -> Result<T, DecodeError>
-    ensures value { IfOk result (λ details. (v : ValueOf T.reply)
+    ensures value { IfOk result (λ details. (v : ReplyValue T.reply)
         × (response_codec T.reply).reads payload.entry.now tt v
         × T.describes v.header details v.nlas) }
     ensures fault { IfErr result ((response_codec T.reply).refuses payload.entry.now tt) }
@@ -181,10 +181,11 @@ fn read_details<'a, T: KeepsDetails<'a>>(payload: &'a [u8]) -> Result<T, DecodeE
 // Parses each attribute and sets its fields, or returns the first error.
 fn set_details<'a, T: KeepsDetails<'a>>(bytes: &'a [u8], details: &mut T) -> Result<(), DecodeError>
     ensures value { OnOk result ((vs : List (AttributeValue T.reply.attribute_set))
-        × AttributesMean (decodes T.reply.attribute_set) bytes.entry.now vs
+        × DecodeTo (decode_attribute T.reply.attribute_set) bytes.entry.now vs
         × ((h : T.reply.header.Value) → T.describes h details.old []
         → T.describes h details.new vs)) }
-    ensures fault { IfErr result (AttributeFault (decodes T.reply.attribute_set) bytes.entry.now) }
+    ensures fault { IfErr result (HasAttributeError (decode_attribute T.reply.attribute_set)
+        bytes.entry.now) }
 {
     for item in NlasIterator::new(bytes) {
         let nla = item?;

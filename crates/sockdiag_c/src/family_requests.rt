@@ -1,8 +1,8 @@
 //! Requests for netlink, packet, XDP and vsock sockets, serialized as whole netlink messages.
 
 ghost use Rattle.std.specs.Prelude.{◌≡◌, ◌≢◌, ◌⊎◌};
-ghost use Rattle.sockdiag_c.specs.FamilyRequests.{show_message, show_request_of, vsock_message};
-ghost use Rattle.sockdiag_c.specs.Requests.{WritesWhole};
+ghost use Rattle.sockdiag_c.specs.FamilyRequests.{show_message, show_request_from_c, vsock_message};
+ghost use Rattle.sockdiag_c.specs.Requests.{WritesMessage};
 
 use crate::requests::{RequestHeader, write_message};
 use netlink_packet_sock_diag::constants::SOCK_DIAG_BY_FAMILY;
@@ -51,7 +51,7 @@ pub struct VsockRequest {
 #[unsafe(no_mangle)]
 pub extern "C" fn sockdiag_write_show_request(request: &ShowRequest, buffer: &mut [u8]) -> usize
     ensures written { (request.now.family ≡ 16) ⊎ ((request.now.family ≡ 17)
-        ⊎ (request.now.family ≡ 44)) → WritesWhole 36
+        ⊎ (request.now.family ≡ 44)) → WritesMessage 36
         (show_message request.now.family request.now) buffer.old buffer.new result }
     ensures family { request.now.family ≢ 16 → request.now.family ≢ 17
         → request.now.family ≢ 44 → (result ≡ 0) × (buffer.new ≡ buffer.old) }
@@ -68,7 +68,7 @@ pub extern "C" fn sockdiag_write_show_request(request: &ShowRequest, buffer: &mu
 /// Returns 40, or 0 if the buffer is shorter; then nothing is written.
 #[unsafe(no_mangle)]
 pub extern "C" fn sockdiag_write_vsock_request(request: &VsockRequest, buffer: &mut [u8]) -> usize
-    ensures { WritesWhole 40 (vsock_message request.now) buffer.old buffer.new result }
+    ensures { WritesMessage 40 (vsock_message request.now) buffer.old buffer.new result }
 {
     let record = vsock::VsockRequest {
         states: request.states,
@@ -79,7 +79,7 @@ pub extern "C" fn sockdiag_write_vsock_request(request: &VsockRequest, buffer: &
 
 // Writes a request for the sockets of the family.
 fn write_show<const FAMILY: u8>(request: &ShowRequest, buffer: &mut [u8]) -> usize
-    ensures { WritesWhole 36 (show_message FAMILY request.now) buffer.old buffer.new result }
+    ensures { WritesMessage 36 (show_message FAMILY request.now) buffer.old buffer.new result }
 {
     let record = sock_diag_families::ShowRequest::<FAMILY> {
         protocol: request.protocol,

@@ -2,10 +2,10 @@
 
 ghost use Rattle.std.specs.Prelude.{◌≡◌, None, Ok, option_map};
 ghost use Rattle.std.specs.Result.{result_err};
-ghost use Rattle.sockdiag_c.specs.Answers.{AnswersItem};
-ghost use Rattle.sockdiag_c.specs.Details.{number_of, text_of};
-ghost use Rattle.sockdiag_c.specs.FamilyValues.{memory_of};
-ghost use Rattle.sockdiag_c.specs.private.FirstNumber.{first_of_two};
+ghost use Rattle.sockdiag_c.specs.Answers.{IsGetterResult};
+ghost use Rattle.sockdiag_c.specs.Details.{optional_number, text_parts};
+ghost use Rattle.sockdiag_c.specs.FamilyValues.{memory_struct};
+ghost use Rattle.sockdiag_c.specs.private.FirstNumber.{first_present};
 
 use crate::details::{BYTES, NO_NUMBER, Number, Text};
 use crate::walks::{END, ITEM};
@@ -52,7 +52,7 @@ const NO_MEMORY: Memory = Memory {
 };
 
 impl From<Option<u32>> for Number {
-    ghost from_gives = { λ told number. number ≡ number_of told };
+    ghost from_gives = { λ told number. number ≡ optional_number told };
 
     fn from(told: Option<u32>) -> Number {
         match told {
@@ -63,7 +63,7 @@ impl From<Option<u32>> for Number {
 }
 
 impl<'a> From<Option<&'a [u8]>> for Text<'a> {
-    ghost from_gives = { λ told text. text_of text
+    ghost from_gives = { λ told text. text_parts text
         ≡ option_map (λ bytes. (3, bytes)) (option_map (λ bytes. bytes.now) told) };
 
     fn from(told: Option<&'a [u8]>) -> Text<'a> {
@@ -75,7 +75,7 @@ impl<'a> From<Option<&'a [u8]>> for Text<'a> {
 }
 
 impl From<Option<MemInfo>> for Memory {
-    ghost from_gives = { λ told memory. memory ≡ memory_of told };
+    ghost from_gives = { λ told memory. memory ≡ memory_struct told };
 
     fn from(told: Option<MemInfo>) -> Memory {
         let Some(memory) = told else {
@@ -98,7 +98,7 @@ impl From<Option<MemInfo>> for Memory {
 /// Stores the record, if there is one. Returns 1, or 0 if there is none; then the target is
 /// unchanged.
 pub(crate) fn tell<T: Copy>(found: Option<T>, place: &mut T) -> u32
-    ensures { AnswersItem found place.old place.new result }
+    ensures { IsGetterResult found place.old place.new result }
 {
     match found {
         Some(item) => {
@@ -119,7 +119,7 @@ impl Faults {
     /// Returns the value. If the value is rejected, returns `None` and keeps the error, unless
     /// there was an earlier one.
     pub(crate) fn keep<T>(&mut self, found: Result<Option<T>, DecodeError>) -> Option<T>
-        ensures first { self.new.first ≡ first_of_two self.old.first (result_err found) }
+        ensures first { self.new.first ≡ first_present self.old.first (result_err found) }
         ensures value { self.new.first ≡ None → found ≡ Ok result }
     {
         match found {

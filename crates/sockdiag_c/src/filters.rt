@@ -2,14 +2,14 @@
 
 ghost use Rattle.std.specs.Prelude.{◌≡◌, ◌+◌, ◌≤◌, ◌⊎◌, ◌++◌, List, [], length, OnOk, IfErr};
 ghost use Rattle.netlink_core.specs.Bytes.{HoldsAtStart};
-ghost use Rattle.netlink_core.specs.Attribute.{Attribute, Cut, fill};
-ghost use Rattle.netlink_core.specs.Layout.{bytes};
+ghost use Rattle.netlink_core.specs.Attribute.{Attribute, SplitsIntoAttributes, padding_length};
+ghost use Rattle.netlink_core.specs.Layout.{record_bytes};
 ghost use Rattle.netlink_core.specs.Header.{header_bytes};
 ghost use Rattle.sock_diag_records.specs.InetRequest.{inet_request};
-ghost use Rattle.sockdiag_c.specs.Requests.{AreCutOff, HasRoomForLength, filtered_message};
-ghost use Rattle.sockdiag_c.specs.Requests.{header_of, inet_request_of, protocol_attribute};
-ghost use Rattle.sockdiag_c.specs.Requests.{with_padding};
-ghost use Rattle.sockdiag_c.specs.Rewriting.{Rewrites};
+ghost use Rattle.sockdiag_c.specs.Requests.{HasFramingError, IsWritableRequest};
+ghost use Rattle.sockdiag_c.specs.Requests.{request_with_attributes, request_header_of};
+ghost use Rattle.sockdiag_c.specs.Requests.{inet_request_from_c, protocol_attribute, with_padding};
+ghost use Rattle.sockdiag_c.specs.Rewriting.{ParsesAndWrites};
 
 use crate::requests::{InetRequest, write_inet};
 use crate::rewriting::{Outcome, refuse, write_value};
@@ -35,9 +35,10 @@ pub extern "C" fn sockdiag_write_inet_request_with_attributes(
     buffer: &mut [u8],
     outcome: &mut Outcome,
 ) -> usize
-    ensures { Rewrites (λ given. Cut attributes.now given []) (AreCutOff attributes.now)
-        (λ _. HasRoomForLength request.now attributes.now)
-        (λ _. filtered_message request.now attributes.now)
+    ensures { ParsesAndWrites (λ given. SplitsIntoAttributes attributes.now given [])
+        (HasFramingError attributes.now)
+        (λ _. IsWritableRequest request.now attributes.now)
+        (λ _. request_with_attributes request.now attributes.now)
         buffer.old buffer.new outcome.new result }
 {
     match check_framing(attributes) {
@@ -55,8 +56,9 @@ pub extern "C" fn sockdiag_write_inet_request_with_attributes(
 
 // Checks that the bytes are a sequence of attributes, or returns the first framing error.
 fn check_framing(bytes: &[u8]) -> Result<(), DecodeError>
-    ensures whole { OnOk result ((given : List Attribute) × Cut bytes.now given []) }
-    ensures fault { IfErr result (AreCutOff bytes.now) }
+    ensures whole { OnOk result ((given : List Attribute)
+        × SplitsIntoAttributes bytes.now given []) }
+    ensures fault { IfErr result (HasFramingError bytes.now) }
 {
     for item in NlasIterator::new(bytes) {
         let _nla = item?;
@@ -72,9 +74,9 @@ struct FilteredRequest<'a> {
 }
 
 impl Emitable for FilteredRequest<'_> {
-    ghost bytes = { λ r. filtered_message r.request.now r.attributes.now };
+    ghost bytes = { λ r. request_with_attributes r.request.now r.attributes.now };
 
-    ghost writable = { λ r. HasRoomForLength r.request.now r.attributes.now };
+    ghost writable = { λ r. IsWritableRequest r.request.now r.attributes.now };
 
     fn is_writable(&self) -> bool {
         let family = self.request.family;
@@ -114,8 +116,8 @@ fn front_len(protocol: u32) -> usize
 fn write_front(len: u32, request: &InetRequest, front: &mut [u8])
     requires family { (request.now.family ≡ 2) ⊎ (request.now.family ≡ 10) }
     requires whole { length front.old ≡ 72 + length (protocol_attribute request.now.protocol) }
-    ensures { front.new ≡ header_bytes (header_of len 20 request.now.header)
-        ++ bytes inet_request (inet_request_of request.now)
+    ensures { front.new ≡ header_bytes (request_header_of len 20 request.now.header)
+        ++ record_bytes inet_request (inet_request_from_c request.now)
         ++ protocol_attribute request.now.protocol }
 {
     write_inet(SOCK_DIAG_BY_FAMILY, request, front);
@@ -126,7 +128,8 @@ fn write_front(len: u32, request: &InetRequest, front: &mut [u8])
 // Writes the attributes at the start of the buffer, followed by zeros up to a multiple of 4.
 fn write_padded(attributes: &[u8], buffer: &mut [u8])
     requires small { length attributes.now ≤ 4294967295 }
-    requires room { length attributes.now + fill (length attributes.now) ≤ length buffer.old }
+    requires room { length attributes.now + padding_length (length attributes.now)
+        ≤ length buffer.old }
     ensures { HoldsAtStart (with_padding attributes.now) buffer.old buffer.new }
 {
     let len = attributes.len();

@@ -1,8 +1,8 @@
 //! The headers of replies, as C structs.
 
 ghost use Rattle.std.specs.Prelude.{◌≡◌};
-ghost use Rattle.sock_diag_records.specs.Timer.{timer_data, milliseconds};
-ghost use Rattle.sockdiag_c.specs.Headers.{address_bytes, inet_header_of, unix_header_of};
+ghost use Rattle.sock_diag_records.specs.Timer.{timer_data, u32_milliseconds};
+ghost use Rattle.sockdiag_c.specs.Headers.{address_octets_of, inet_header_of, unix_header_of};
 
 use byteorder::{BigEndian, ByteOrder};
 use netlink_packet_sock_diag::inet::{InetResponseHeader, SocketId, Timer};
@@ -143,7 +143,7 @@ impl From<InetResponseHeader> for InetHeader {
 fn timer_numbers(timer: &Option<Timer>) -> (u8, u8, u32)
     ensures byte { result.0 ≡ (timer_data timer.now).0 }
     ensures retransmits { result.1 ≡ (timer_data timer.now).1 }
-    ensures expires { result.2 ≡ milliseconds (timer_data timer.now).2 }
+    ensures expires { result.2 ≡ u32_milliseconds (timer_data timer.now).2 }
 {
     match timer {
         Some(Timer::Retransmit(expires, count)) => (1, *count, whole_milliseconds(*expires)),
@@ -156,7 +156,7 @@ fn timer_numbers(timer: &Option<Timer>) -> (u8, u8, u32)
 
 // Returns the whole milliseconds of a duration, modulo 2^32.
 fn whole_milliseconds(time: Duration) -> u32
-    ensures { result ≡ milliseconds time }
+    ensures { result ≡ u32_milliseconds time }
 {
     (time.as_millis() % 0x1_0000_0000) as u32
 }
@@ -164,7 +164,7 @@ fn whole_milliseconds(time: Duration) -> u32
 // Returns the 16 bytes of an address field, in network byte order. An IPv4 address is followed by
 // twelve zeros.
 fn address_octets(address: IpAddr) -> [u8; 16]
-    ensures { result ≡ address_bytes address }
+    ensures { result ≡ address_octets_of address }
 {
     let mut octets = [0; 16];
     match address {

@@ -2,13 +2,13 @@
 //! `tcp_info`.
 
 ghost use Rattle.std.specs.Prelude.{◌≡◌};
-ghost use Rattle.sock_diag_attributes.specs.InetModel.{nla_view_model};
+ghost use Rattle.sock_diag_attributes.specs.InetModel.{inet_nla_view_model};
 ghost use Rattle.sock_diag_replies.specs.InetResponseSpec.{inet_response_spec};
-ghost use Rattle.sockdiag_c.specs.Details.{text_of};
+ghost use Rattle.sockdiag_c.specs.Details.{text_parts};
 ghost use Rattle.sockdiag_c.specs.Headers.{inet_header_of};
-ghost use Rattle.sockdiag_c.specs.InetDetails.{HasInetDetails, controlled};
-ghost use Rattle.sockdiag_c.specs.private.InetDetails.{inet_with};
-ghost use Rattle.sockdiag_c.specs.private.FirstNumber.{first_of_two};
+ghost use Rattle.sockdiag_c.specs.InetDetails.{HasInetDetails, congestion_text};
+ghost use Rattle.sockdiag_c.specs.private.InetDetails.{inet_details_with};
+ghost use Rattle.sockdiag_c.specs.private.FirstNumber.{first_present};
 
 use crate::details::{KeepsDetails, NO_NUMBER, Number, TEXT, Text};
 use crate::headers::InetHeader;
@@ -45,10 +45,11 @@ pub struct InetDetails<'a> {
 impl<'a> InetDetails<'a> {
     // Sets the field of the attribute, unless an earlier attribute of its kind has set it.
     fn set(&mut self, nla: NlaView<'a>)
-        ensures numbers { self.new ≡ inet_with self.new.congestion self.old
-            (nla_view_model nla.entry) }
-        ensures congestion { text_of self.new.congestion
-            ≡ first_of_two (text_of self.old.congestion) (controlled (nla_view_model nla.entry)) }
+        ensures numbers { self.new ≡ inet_details_with self.new.congestion self.old
+            (inet_nla_view_model nla.entry) }
+        ensures congestion { text_parts self.new.congestion
+            ≡ first_present (text_parts self.old.congestion)
+            (congestion_text (inet_nla_view_model nla.entry)) }
     {
         match nla {
             NlaView::Congestion(name) => self.congestion.set(TEXT, name.as_bytes()),
@@ -72,7 +73,7 @@ impl<'a> KeepsDetails<'a> for InetDetails<'a> {
 
     ghost describes = { λ h found vs. HasInetDetails (inet_header_of h) found vs };
 
-    #[tactic(auto, using(sock_diag_replies::specs::laws::InetResponseSpec::header_enough))]
+    #[tactic(auto, using(sock_diag_replies::specs::laws::InetResponseSpec::inet_header_bytes_suffice))]
     fn tell_header(payload: &'a [u8]) -> Result<(Self, &'a [u8]), DecodeError> {
         let header = InetResponseHeader::from_prefix(payload)?;
         let found = InetDetails {

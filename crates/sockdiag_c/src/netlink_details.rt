@@ -1,12 +1,12 @@
 //! The contents of a reply about a netlink socket, as a C struct.
 
 ghost use Rattle.std.specs.Prelude.{◌≡◌, IfOk, IfErr};
-ghost use Rattle.netlink_core.specs.Response.{ValueOf, response_codec};
+ghost use Rattle.netlink_core.specs.Response.{ReplyValue, response_codec};
 ghost use Rattle.sock_diag_families.specs.NetlinkResponseHeader.{netlink_header};
-ghost use Rattle.sock_diag_any.specs.WholeReply.{whole_reply};
-ghost use Rattle.sockdiag_c.specs.Answers.{AnswersBy};
-ghost use Rattle.sockdiag_c.specs.FamilyValues.{RefusesValue};
-ghost use Rattle.sockdiag_c.specs.NetlinkDetails.{IsNetlinkDetailsOf, netlink_faults};
+ghost use Rattle.sock_diag_any.specs.WholeReply.{raw_reply_spec};
+ghost use Rattle.sockdiag_c.specs.Answers.{IsCheckResultBy};
+ghost use Rattle.sockdiag_c.specs.FamilyValues.{RejectsReplyOrValue};
+ghost use Rattle.sockdiag_c.specs.NetlinkDetails.{IsNetlinkDetailsOf, netlink_value_errors};
 
 use crate::check::OK;
 use crate::details::{Number, Text};
@@ -41,8 +41,9 @@ pub extern "C" fn sockdiag_netlink_get_details<'a>(
     payload: &'a [u8],
     details: &mut NetlinkDetails<'a>,
 ) -> u32
-    ensures { AnswersBy ((response_codec (whole_reply netlink_header)).reads payload.entry.now tt)
-        (RefusesValue (whole_reply netlink_header) netlink_faults payload.entry.now)
+    ensures { IsCheckResultBy ((response_codec (raw_reply_spec netlink_header)).reads
+        payload.entry.now tt)
+        (RejectsReplyOrValue (raw_reply_spec netlink_header) netlink_value_errors payload.entry.now)
         IsNetlinkDetailsOf
         details.old details.new
         result }
@@ -58,11 +59,12 @@ pub extern "C" fn sockdiag_netlink_get_details<'a>(
 
 // Parses the reply, and returns its contents or the first error.
 fn read<'a>(payload: &'a [u8]) -> Result<NetlinkDetails<'a>, DecodeError>
-    ensures value { IfOk result (λ found. (v : ValueOf (whole_reply netlink_header))
-        × (response_codec (whole_reply netlink_header)).reads payload.entry.now tt v
+    ensures value { IfOk result (λ found. (v : ReplyValue (raw_reply_spec netlink_header))
+        × (response_codec (raw_reply_spec netlink_header)).reads payload.entry.now tt v
         × IsNetlinkDetailsOf v found) }
     ensures fault { IfErr result
-        (RefusesValue (whole_reply netlink_header) netlink_faults payload.entry.now) }
+        (RejectsReplyOrValue (raw_reply_spec netlink_header) netlink_value_errors
+        payload.entry.now) }
 {
     let reply = NetlinkResponseView::parse(payload)?;
     let mut seen = Faults { first: None };

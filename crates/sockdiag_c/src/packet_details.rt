@@ -1,12 +1,12 @@
 //! The contents of a reply about a packet socket, as a C struct.
 
 ghost use Rattle.std.specs.Prelude.{◌≡◌, IfOk, IfErr};
-ghost use Rattle.netlink_core.specs.Response.{ValueOf, response_codec};
+ghost use Rattle.netlink_core.specs.Response.{ReplyValue, response_codec};
 ghost use Rattle.sock_diag_families.specs.PacketResponseHeader.{packet_header};
-ghost use Rattle.sock_diag_any.specs.WholeReply.{whole_reply};
-ghost use Rattle.sockdiag_c.specs.Answers.{AnswersBy};
-ghost use Rattle.sockdiag_c.specs.FamilyValues.{RefusesValue};
-ghost use Rattle.sockdiag_c.specs.PacketDetails.{IsPacketDetailsOf, packet_faults};
+ghost use Rattle.sock_diag_any.specs.WholeReply.{raw_reply_spec};
+ghost use Rattle.sockdiag_c.specs.Answers.{IsCheckResultBy};
+ghost use Rattle.sockdiag_c.specs.FamilyValues.{RejectsReplyOrValue};
+ghost use Rattle.sockdiag_c.specs.PacketDetails.{IsPacketDetailsOf, packet_value_errors};
 
 use crate::check::OK;
 use crate::details::{Number, Text};
@@ -56,8 +56,9 @@ pub extern "C" fn sockdiag_packet_get_details<'a>(
     payload: &'a [u8],
     details: &mut PacketDetails<'a>,
 ) -> u32
-    ensures { AnswersBy ((response_codec (whole_reply packet_header)).reads payload.entry.now tt)
-        (RefusesValue (whole_reply packet_header) packet_faults payload.entry.now)
+    ensures { IsCheckResultBy ((response_codec (raw_reply_spec packet_header)).reads
+        payload.entry.now tt)
+        (RejectsReplyOrValue (raw_reply_spec packet_header) packet_value_errors payload.entry.now)
         (IsPacketDetailsOf details.old)
         details.old details.new
         result }
@@ -73,11 +74,11 @@ pub extern "C" fn sockdiag_packet_get_details<'a>(
 
 // Parses the reply over the old details, and returns its contents or the first error.
 fn read<'a>(payload: &'a [u8], old: &PacketDetails<'a>) -> Result<PacketDetails<'a>, DecodeError>
-    ensures value { IfOk result (λ found. (v : ValueOf (whole_reply packet_header))
-        × (response_codec (whole_reply packet_header)).reads payload.entry.now tt v
+    ensures value { IfOk result (λ found. (v : ReplyValue (raw_reply_spec packet_header))
+        × (response_codec (raw_reply_spec packet_header)).reads payload.entry.now tt v
         × IsPacketDetailsOf old.now v found) }
     ensures fault { IfErr result
-        (RefusesValue (whole_reply packet_header) packet_faults payload.entry.now) }
+        (RejectsReplyOrValue (raw_reply_spec packet_header) packet_value_errors payload.entry.now) }
 {
     let reply = PacketResponseView::parse(payload)?;
     let mut seen = Faults { first: None };

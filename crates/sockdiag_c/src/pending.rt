@@ -2,10 +2,10 @@
 
 ghost use Rattle.std.specs.Prelude.{◌≡◌, ◌⊎◌, slice_get};
 ghost use Rattle.netlink_core.specs.declared.fault.DecodeError.{DecodeError};
-ghost use Rattle.netlink_core.specs.Response.{ValueOf, response_codec};
+ghost use Rattle.netlink_core.specs.Response.{ReplyValue, response_codec};
 ghost use Rattle.sock_diag_replies.specs.UnixResponseSpec.{unix_response_spec};
-ghost use Rattle.sockdiag_c.specs.Answers.{AnswersItem};
-ghost use Rattle.sockdiag_c.specs.UnixDetails.{pending};
+ghost use Rattle.sockdiag_c.specs.Answers.{IsGetterResult};
+ghost use Rattle.sockdiag_c.specs.UnixDetails.{pending_inodes};
 
 use crate::walks::{END, ITEM};
 use netlink_packet_sock_diag::unix::UnixResponseView;
@@ -15,9 +15,9 @@ use netlink_packet_sock_diag::unix::UnixResponseView;
 /// then the inode is unchanged.
 #[unsafe(no_mangle)]
 pub extern "C" fn sockdiag_unix_get_pending(payload: &[u8], index: usize, inode: &mut u32) -> u32
-    ensures { ((v : ValueOf unix_response_spec)
+    ensures { ((v : ReplyValue unix_response_spec)
         × (response_codec unix_response_spec).reads payload.now tt v
-        × AnswersItem (slice_get (pending v.nlas) index) inode.old inode.new result)
+        × IsGetterResult (slice_get (pending_inodes v.nlas) index) inode.old inode.new result)
         ⊎ ((e : DecodeError) × (response_codec unix_response_spec).refuses payload.now tt e
         × (result ≡ 0)
         × (inode.new ≡ inode.old)) }

@@ -1,14 +1,14 @@
 //! Requests, serialized as whole netlink messages.
 
 ghost use Rattle.std.specs.Prelude.{◌≡◌, ◌≢◌, ◌+◌, ◌<◌, ◌≤◌, ◌⊎◌, ◌++◌, length, drop};
-ghost use Rattle.netlink_core.specs.Attribute.{written};
-ghost use Rattle.netlink_core.specs.Layout.{bytes};
+ghost use Rattle.netlink_core.specs.Attribute.{attribute_bytes};
+ghost use Rattle.netlink_core.specs.Layout.{record_bytes};
 ghost use Rattle.netlink_core.specs.Header.{header_bytes};
 ghost use Rattle.sock_diag_records.specs.InetRequest.{inet_request};
 ghost use Rattle.sock_diag_records.specs.UnixRequest.{unix_request};
-ghost use Rattle.sockdiag_c.specs.Requests.{WritesWhole, address_under, header_of, inet_message};
-ghost use Rattle.sockdiag_c.specs.Requests.{inet_request_of, protocol_attribute, unix_message};
-ghost use Rattle.sockdiag_c.specs.Requests.{unix_request_of};
+ghost use Rattle.sockdiag_c.specs.Requests.{WritesMessage, address_of_family, request_header_of};
+ghost use Rattle.sockdiag_c.specs.Requests.{inet_message, inet_request_from_c, protocol_attribute};
+ghost use Rattle.sockdiag_c.specs.Requests.{unix_message, unix_request_from_c};
 
 use bitflags::Flags;
 use byteorder::{ByteOrder, LittleEndian};
@@ -87,7 +87,7 @@ const PROTOCOL: u8 = 3;
 /// Returns 40, or 0 if the buffer is shorter; then nothing is written.
 #[unsafe(no_mangle)]
 pub extern "C" fn sockdiag_write_unix_request(request: &UnixRequest, buffer: &mut [u8]) -> usize
-    ensures { WritesWhole 40 (unix_message 20 request.now) buffer.old buffer.new result }
+    ensures { WritesMessage 40 (unix_message 20 request.now) buffer.old buffer.new result }
 {
     write_unix(SOCK_DIAG_BY_FAMILY, request, buffer)
 }
@@ -96,7 +96,7 @@ pub extern "C" fn sockdiag_write_unix_request(request: &UnixRequest, buffer: &mu
 /// UNIX socket with the inode and the cookie. Linux returns `EOPNOTSUPP`.
 #[unsafe(no_mangle)]
 pub extern "C" fn sockdiag_write_unix_destroy(request: &UnixRequest, buffer: &mut [u8]) -> usize
-    ensures { WritesWhole 40 (unix_message 21 request.now) buffer.old buffer.new result }
+    ensures { WritesMessage 40 (unix_message 21 request.now) buffer.old buffer.new result }
 {
     write_unix(SOCK_DESTROY, request, buffer)
 }
@@ -108,7 +108,7 @@ pub extern "C" fn sockdiag_write_unix_destroy(request: &UnixRequest, buffer: &mu
 #[unsafe(no_mangle)]
 pub extern "C" fn sockdiag_write_inet_request(request: &InetRequest, buffer: &mut [u8]) -> usize
     ensures written { (request.now.family ≡ 2) ⊎ (request.now.family ≡ 10)
-        → WritesWhole (72 + length (protocol_attribute request.now.protocol))
+        → WritesMessage (72 + length (protocol_attribute request.now.protocol))
         (inet_message 20 request.now) buffer.old buffer.new result }
     ensures family { request.now.family ≢ 2 → request.now.family ≢ 10 → (result ≡ 0)
         × (buffer.new ≡ buffer.old) }
@@ -121,7 +121,7 @@ pub extern "C" fn sockdiag_write_inet_request(request: &InetRequest, buffer: &mu
 #[unsafe(no_mangle)]
 pub extern "C" fn sockdiag_write_inet_destroy(request: &InetRequest, buffer: &mut [u8]) -> usize
     ensures written { (request.now.family ≡ 2) ⊎ (request.now.family ≡ 10)
-        → WritesWhole (72 + length (protocol_attribute request.now.protocol))
+        → WritesMessage (72 + length (protocol_attribute request.now.protocol))
         (inet_message 21 request.now) buffer.old buffer.new result }
     ensures family { request.now.family ≢ 2 → request.now.family ≢ 10 → (result ≡ 0)
         × (buffer.new ≡ buffer.old) }
@@ -131,7 +131,8 @@ pub extern "C" fn sockdiag_write_inet_destroy(request: &InetRequest, buffer: &mu
 
 // Writes a request for UNIX sockets with this message type.
 fn write_unix(message_type: u16, request: &UnixRequest, buffer: &mut [u8]) -> usize
-    ensures { WritesWhole 40 (unix_message message_type request.now) buffer.old buffer.new result }
+    ensures { WritesMessage 40 (unix_message message_type request.now) buffer.old buffer.new
+        result }
 {
     let cookie = request.cookie;
     let record = unix::UnixRequest {
@@ -146,7 +147,7 @@ fn write_unix(message_type: u16, request: &UnixRequest, buffer: &mut [u8]) -> us
 // Writes a request for IPv4 or IPv6 sockets with this message type.
 pub(crate) fn write_inet(message_type: u16, request: &InetRequest, buffer: &mut [u8]) -> usize
     ensures written { (request.now.family ≡ 2) ⊎ (request.now.family ≡ 10)
-        → WritesWhole (72 + length (protocol_attribute request.now.protocol))
+        → WritesMessage (72 + length (protocol_attribute request.now.protocol))
         (inet_message message_type request.now) buffer.old buffer.new result }
     ensures family { request.now.family ≢ 2 → request.now.family ≢ 10 → (result ≡ 0)
         × (buffer.new ≡ buffer.old) }
@@ -165,7 +166,7 @@ pub(crate) fn write_inet(message_type: u16, request: &InetRequest, buffer: &mut 
 
 // Returns the record of a request for IPv4 or IPv6 sockets, `struct inet_diag_req_v2`.
 fn inet_record(request: &InetRequest) -> inet::InetRequest
-    ensures { result ≡ inet_request_of request.now }
+    ensures { result ≡ inet_request_from_c request.now }
 {
     let cookie = request.cookie;
     let socket_id = SocketId {
@@ -187,7 +188,7 @@ fn inet_record(request: &InetRequest) -> inet::InetRequest
 
 // Returns the address in the bytes, of the IP version of the family: IPv4 for `AF_INET`, else IPv6.
 fn address_in(family: u8, octets: &[u8; 16]) -> IpAddr
-    ensures { result ≡ address_under family octets.now }
+    ensures { result ≡ address_of_family family octets.now }
 {
     if family == AF_INET {
         return IpAddr::V4(Ipv4Addr::new(octets[0], octets[1], octets[2], octets[3]));
@@ -207,7 +208,7 @@ pub(crate) fn write_message<R: Emitable>(
     requires writable { R.writable value.now }
     requires small { 16 + length (R.bytes value.now) + length attributes.now ≤ 4294967295 }
     ensures { let len = 16 + length (R.bytes value.now) + length attributes.now in
-        WritesWhole len (header_bytes (header_of len message_type header.now)
+        WritesMessage len (header_bytes (request_header_of len message_type header.now)
         ++ R.bytes value.now ++ attributes.now) buffer.old buffer.new result }
 {
     let end = NETLINK_HEADER_LEN + value.buffer_len();
@@ -227,7 +228,7 @@ pub(crate) fn write_message<R: Emitable>(
 // Writes a netlink header to sixteen bytes, whatever they contain.
 fn write_header(len: u32, message_type: u16, header: &RequestHeader, row: &mut [u8])
     requires { length row.old ≡ 16 }
-    ensures { row.new ≡ header_bytes (header_of len message_type header.now) }
+    ensures { row.new ≡ header_bytes (request_header_of len message_type header.now) }
 {
     let (first, rest) = row.split_at_mut(4);
     let (kind, numbers) = rest.split_at_mut(4);

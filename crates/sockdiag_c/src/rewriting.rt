@@ -2,11 +2,12 @@
 //! have the same canonical form.
 
 ghost use Rattle.std.specs.Prelude.{◌≡◌};
-ghost use Rattle.netlink_core.specs.Faults.{number_of};
+ghost use Rattle.netlink_core.specs.Faults.{error_code};
 ghost use Rattle.netlink_core.specs.Response.{response_bytes, response_codec};
 ghost use Rattle.sock_diag_replies.specs.InetResponseSpec.{inet_response_spec};
 ghost use Rattle.sock_diag_replies.specs.UnixResponseSpec.{unix_response_spec};
-ghost use Rattle.sockdiag_c.specs.Rewriting.{IsCanonical, Rewrites, Writes, outcome_of};
+ghost use Rattle.sockdiag_c.specs.Rewriting.{IsCanonical, ParsesAndWrites, WritesValue};
+ghost use Rattle.sockdiag_c.specs.Rewriting.{outcome_struct};
 
 use netlink_core::{DecodeError, Emitable};
 use netlink_packet_sock_diag::inet::InetResponseHeader;
@@ -33,7 +34,7 @@ pub extern "C" fn sockdiag_rewrite_unix_reply(
     buffer: &mut [u8],
     outcome: &mut Outcome,
 ) -> usize
-    ensures rewrites { Rewrites ((response_codec unix_response_spec).reads payload.now tt)
+    ensures rewrites { ParsesAndWrites ((response_codec unix_response_spec).reads payload.now tt)
         ((response_codec unix_response_spec).refuses payload.now tt)
         (response_codec unix_response_spec).fits
         (response_bytes unix_response_spec)
@@ -51,7 +52,7 @@ pub extern "C" fn sockdiag_rewrite_inet_reply(
     buffer: &mut [u8],
     outcome: &mut Outcome,
 ) -> usize
-    ensures rewrites { Rewrites ((response_codec inet_response_spec).reads payload.now tt)
+    ensures rewrites { ParsesAndWrites ((response_codec inet_response_spec).reads payload.now tt)
         ((response_codec inet_response_spec).refuses payload.now tt)
         (response_codec inet_response_spec).fits
         (response_bytes inet_response_spec)
@@ -63,7 +64,7 @@ pub extern "C" fn sockdiag_rewrite_inet_reply(
 
 // Writes the canonical form of a reply with this kind of header.
 fn rewrite<H: ReplyHeader>(payload: &[u8], buffer: &mut [u8], outcome: &mut Outcome) -> usize
-    ensures rewrites { Rewrites ((response_codec H.reply).reads payload.now tt)
+    ensures rewrites { ParsesAndWrites ((response_codec H.reply).reads payload.now tt)
         ((response_codec H.reply).refuses payload.now tt)
         (response_codec H.reply).fits
         (response_bytes H.reply)
@@ -78,7 +79,8 @@ fn rewrite<H: ReplyHeader>(payload: &[u8], buffer: &mut [u8], outcome: &mut Outc
 
 // Serializes the value, if it is writable and the buffer is long enough.
 pub(crate) fn write_value<V: Emitable>(value: &V, buffer: &mut [u8], outcome: &mut Outcome) -> usize
-    ensures { Writes (V.writable value.now) (V.bytes value.now) buffer.old buffer.new outcome.new
+    ensures { WritesValue (V.writable value.now) (V.bytes value.now) buffer.old buffer.new
+        outcome.new
         result }
 {
     let Some(needed) = value.writable_len() else {
@@ -98,7 +100,7 @@ pub(crate) fn write_value<V: Emitable>(value: &V, buffer: &mut [u8], outcome: &m
 
 // Stores the code of the error in the outcome. Returns 0, since nothing is written.
 pub(crate) fn refuse(fault: &DecodeError, outcome: &mut Outcome) -> usize
-    ensures outcome { outcome.new ≡ outcome_of (number_of fault.now) 0 }
+    ensures outcome { outcome.new ≡ outcome_struct (error_code fault.now) 0 }
     ensures none { result ≡ 0 }
 {
     *outcome = Outcome {

@@ -3,8 +3,8 @@
 
 ghost use Rattle.std.specs.Prelude.{◌≡◌, List, [], drop, length, unwrap_or};
 ghost use Rattle.netlink_core.specs.Attribute.{Attribute};
-ghost use Rattle.sock_diag_replies.specs.UnixGetters.{first_of};
-ghost use Rattle.sockdiag_c.specs.TcpInfo.{StandIn, filled, value_of};
+ghost use Rattle.sock_diag_replies.specs.UnixGetters.{first_content_of};
+ghost use Rattle.sockdiag_c.specs.TcpInfo.{AreAttributesIn, padded_or_truncated, value_of_type};
 
 use netlink_core::NlasIterator;
 use netlink_packet_sock_diag::constants::{INET_DIAG_INFO, INET_DIAG_SKMEMINFO};
@@ -19,9 +19,9 @@ use netlink_packet_sock_diag::inet::nlas::{MEM_INFO_LEN, TCP_INFO_LEN};
 /// returned too. Attributes after a framing error are not found.
 #[unsafe(no_mangle)]
 pub extern "C" fn sockdiag_inet_get_tcp_info(payload: &[u8], info: &mut [u8; TCP_INFO_LEN]) -> usize
-    ensures { (attributes : List Attribute) → StandIn (drop 72 payload.now) attributes
-        → let value = unwrap_or (first_of (value_of 2) attributes) [] in
-        (result ≡ length value) × (info.new ≡ filled 232 value) }
+    ensures { (attributes : List Attribute) → AreAttributesIn (drop 72 payload.now) attributes
+        → let value = unwrap_or (first_content_of (value_of_type 2) attributes) [] in
+        (result ≡ length value) × (info.new ≡ padded_or_truncated 232 value) }
 {
     let value = first_value(behind_header(payload), INET_DIAG_INFO);
     fill(value, info);
@@ -32,9 +32,9 @@ pub extern "C" fn sockdiag_inet_get_tcp_info(payload: &[u8], info: &mut [u8; TCP
 /// fields `SK_MEMINFO_..`, of which older kernels send seven or eight.
 #[unsafe(no_mangle)]
 pub extern "C" fn sockdiag_inet_get_memory(payload: &[u8], memory: &mut [u8; MEM_INFO_LEN]) -> usize
-    ensures { (attributes : List Attribute) → StandIn (drop 72 payload.now) attributes
-        → let value = unwrap_or (first_of (value_of 7) attributes) [] in
-        (result ≡ length value) × (memory.new ≡ filled 36 value) }
+    ensures { (attributes : List Attribute) → AreAttributesIn (drop 72 payload.now) attributes
+        → let value = unwrap_or (first_content_of (value_of_type 7) attributes) [] in
+        (result ≡ length value) × (memory.new ≡ padded_or_truncated 36 value) }
 {
     let value = first_value(behind_header(payload), INET_DIAG_SKMEMINFO);
     fill(value, memory);
@@ -53,8 +53,8 @@ fn behind_header(payload: &[u8]) -> &[u8]
 
 // Returns the value of the first attribute of the kind, or no bytes if there is none.
 fn first_value(bytes: &[u8], kind: u16) -> &[u8]
-    ensures { (attributes : List Attribute) → StandIn bytes.entry.now attributes
-        → result.now ≡ unwrap_or (first_of (value_of kind) attributes) [] }
+    ensures { (attributes : List Attribute) → AreAttributesIn bytes.entry.now attributes
+        → result.now ≡ unwrap_or (first_content_of (value_of_type kind) attributes) [] }
 {
     for item in NlasIterator::new(bytes) {
         match item {
@@ -71,7 +71,7 @@ fn first_value(bytes: &[u8], kind: u16) -> &[u8]
 
 // Copies the value, truncated to `N` bytes or followed by zeros.
 fn fill<const N: usize>(value: &[u8], found: &mut [u8; N])
-    ensures { found.new ≡ filled N value.now }
+    ensures { found.new ≡ padded_or_truncated N value.now }
 {
     let len = value.len().min(N);
     let (front, behind) = found.split_at_mut(len);

@@ -1,13 +1,13 @@
 //! The contents of a reply about a UNIX socket, as a C struct.
 
 ghost use Rattle.std.specs.Prelude.{◌≡◌};
-ghost use Rattle.sock_diag_attributes.specs.UnixModel.{nla_view_model};
+ghost use Rattle.sock_diag_attributes.specs.UnixModel.{unix_nla_view_model};
 ghost use Rattle.sock_diag_replies.specs.UnixResponseSpec.{unix_response_spec};
-ghost use Rattle.sockdiag_c.specs.Details.{text_of};
+ghost use Rattle.sockdiag_c.specs.Details.{text_parts};
 ghost use Rattle.sockdiag_c.specs.Headers.{unix_header_of};
-ghost use Rattle.sockdiag_c.specs.private.FirstNumber.{first_of_two};
-ghost use Rattle.sockdiag_c.specs.UnixDetails.{HasUnixDetails, named};
-ghost use Rattle.sockdiag_c.specs.private.UnixDetails.{unix_with};
+ghost use Rattle.sockdiag_c.specs.private.FirstNumber.{first_present};
+ghost use Rattle.sockdiag_c.specs.UnixDetails.{HasUnixDetails, name_text};
+ghost use Rattle.sockdiag_c.specs.private.UnixDetails.{unix_details_with};
 
 use crate::details::{ABSTRACT, KeepsDetails, NO_NUMBER, Number, TEXT, Text};
 use crate::headers::UnixHeader;
@@ -53,9 +53,10 @@ pub struct UnixDetails<'a> {
 impl<'a> UnixDetails<'a> {
     // Sets the fields of the attribute, unless an earlier attribute of its kind has set them.
     fn set(&mut self, nla: NlaView<'a>)
-        ensures numbers { self.new ≡ unix_with self.new.name self.old (nla_view_model nla.entry) }
-        ensures name { text_of self.new.name
-            ≡ first_of_two (text_of self.old.name) (named (nla_view_model nla.entry)) }
+        ensures numbers { self.new ≡ unix_details_with self.new.name self.old
+            (unix_nla_view_model nla.entry) }
+        ensures name { text_parts self.new.name
+            ≡ first_present (text_parts self.old.name) (name_text (unix_nla_view_model nla.entry)) }
     {
         match nla {
             NlaView::Name(NameView::Pathname(path)) => self.name.set(TEXT, path),

@@ -2,8 +2,8 @@
 
 ghost use Rattle.netlink_core.specs.Response.{response_codec};
 ghost use Rattle.sock_diag_families.specs.VsockResponseHeader.{vsock_header};
-ghost use Rattle.sock_diag_any.specs.WholeReply.{whole_reply};
-ghost use Rattle.sockdiag_c.specs.Answers.{Answers};
+ghost use Rattle.sock_diag_any.specs.WholeReply.{raw_reply_spec};
+ghost use Rattle.sockdiag_c.specs.Answers.{IsCheckResult};
 
 use crate::check::OK;
 use sock_diag_any::vsock::VsockResponseView;
@@ -17,8 +17,8 @@ pub extern "C" fn sockdiag_vsock_get_details(
     payload: &[u8],
     details: &mut VsockResponseHeader,
 ) -> u32
-    ensures { Answers ((response_codec (whole_reply vsock_header)).reads payload.now tt)
-        ((response_codec (whole_reply vsock_header)).refuses payload.now tt)
+    ensures { IsCheckResult ((response_codec (raw_reply_spec vsock_header)).reads payload.now tt)
+        ((response_codec (raw_reply_spec vsock_header)).refuses payload.now tt)
         (λ v. v.header) details.old details.new result }
 {
     match VsockResponseView::parse(payload) {

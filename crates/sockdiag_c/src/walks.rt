@@ -1,11 +1,12 @@
 //! Iteration over the attributes of a reply and the messages of a datagram, without copying.
 
 ghost use Rattle.std.specs.Prelude.{◌≡◌, ◌+◌, ◌<◌, ◌^◌, ◌⊎◌, OnOk, IfErr};
-ghost use Rattle.netlink_core.specs.Envelope.{leading_number};
-ghost use Rattle.sockdiag_c.specs.Answers.{AnswersItem};
-ghost use Rattle.netlink_core.specs.Header.{IsEnvelopeFault};
-ghost use Rattle.sockdiag_c.specs.Walks.{Carries, EndsAt, FailsAt, IsFramed, NextAttribute};
-ghost use Rattle.sockdiag_c.specs.Walks.{NextEnvelope, NextMessage};
+ghost use Rattle.netlink_core.specs.Envelope.{leading_error_number};
+ghost use Rattle.sockdiag_c.specs.Answers.{IsGetterResult};
+ghost use Rattle.netlink_core.specs.Header.{IsMessageError};
+ghost use Rattle.sockdiag_c.specs.Walks.{IsPayloadCheckResult, IterationEnds, IterationFails};
+ghost use Rattle.sockdiag_c.specs.Walks.{StoresMessage, NextAttribute, NextUncheckedMessage};
+ghost use Rattle.sockdiag_c.specs.Walks.{NextMessage};
 
 use netlink_core::{
     NETLINK_HEADER_LEN, NLA_HEADER_SIZE, NLMSG_DONE, NLMSG_ERROR, NLMSG_NOOP, NLMSG_OVERRUN,
@@ -123,7 +124,8 @@ pub extern "C" fn sockdiag_next_envelope(
     cursor: &mut Cursor,
     message: &mut MessagePart,
 ) -> u32
-    ensures { NextEnvelope datagram.now cursor.old cursor.new message.old message.new result }
+    ensures { NextUncheckedMessage datagram.now cursor.old cursor.new message.old message.new
+        result }
 {
     match take_message(datagram, cursor, message) {
         Ok(()) => ITEM,
@@ -135,10 +137,10 @@ pub extern "C" fn sockdiag_next_envelope(
 // `Err` 0 at the end of the bytes, or the code of the framing error.
 #[inline(always)]
 fn take_message(datagram: &[u8], cursor: &mut Cursor, message: &mut MessagePart) -> Result<(), u32>
-    ensures found { OnOk result (IsFramed datagram.now cursor.old cursor.new message.new) }
+    ensures found { OnOk result (StoresMessage datagram.now cursor.old cursor.new message.new) }
     ensures ended { IfErr result (λ answer.
-        EndsAt datagram.now cursor.old cursor.new message.old message.new answer
-        ⊎ FailsAt IsEnvelopeFault datagram.now cursor.old cursor.new message.old message.new
+        IterationEnds datagram.now cursor.old cursor.new message.old message.new answer
+        ⊎ IterationFails IsMessageError datagram.now cursor.old cursor.new message.old message.new
         answer) }
 {
     let place = cursor.place;
@@ -171,7 +173,7 @@ fn take_message(datagram: &[u8], cursor: &mut Cursor, message: &mut MessagePart)
 /// number is unchanged.
 #[unsafe(no_mangle)]
 pub extern "C" fn sockdiag_get_error_number(payload: &[u8], number: &mut i32) -> u32
-    ensures { AnswersItem (leading_number payload.now) number.old number.new result }
+    ensures { IsGetterResult (leading_error_number payload.now) number.old number.new result }
 {
     match error_number(payload) {
         Some(found) => {
@@ -184,7 +186,7 @@ pub extern "C" fn sockdiag_get_error_number(payload: &[u8], number: &mut i32) ->
 
 // Checks the payload by its message type. Returns 1, or the code of the first error.
 fn check_payload(payload: &[u8], message_type: u16) -> u32
-    ensures { Carries payload.now message_type result }
+    ensures { IsPayloadCheckResult payload.now message_type result }
 {
     match message_type {
         NLMSG_NOOP => ITEM,

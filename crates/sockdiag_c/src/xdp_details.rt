@@ -1,12 +1,12 @@
 //! The contents of a reply about an XDP socket, as a C struct.
 
 ghost use Rattle.std.specs.Prelude.{◌≡◌, IfOk, IfErr};
-ghost use Rattle.netlink_core.specs.Response.{ValueOf, response_codec};
-ghost use Rattle.sock_diag_any.specs.WholeReply.{whole_reply};
+ghost use Rattle.netlink_core.specs.Response.{ReplyValue, response_codec};
+ghost use Rattle.sock_diag_any.specs.WholeReply.{raw_reply_spec};
 ghost use Rattle.sock_diag_families.specs.XdpResponseHeader.{xdp_header};
-ghost use Rattle.sockdiag_c.specs.Answers.{AnswersBy};
-ghost use Rattle.sockdiag_c.specs.FamilyValues.{RefusesValue};
-ghost use Rattle.sockdiag_c.specs.XdpDetails.{IsXdpDetailsOf, xdp_faults};
+ghost use Rattle.sockdiag_c.specs.Answers.{IsCheckResultBy};
+ghost use Rattle.sockdiag_c.specs.FamilyValues.{RejectsReplyOrValue};
+ghost use Rattle.sockdiag_c.specs.XdpDetails.{IsXdpDetailsOf, xdp_value_errors};
 
 use crate::check::OK;
 use crate::details::Number;
@@ -58,8 +58,8 @@ pub struct XdpDetails {
 /// `sockdiag_netlink_get_details` does. A record that the reply does not contain is unchanged.
 #[unsafe(no_mangle)]
 pub extern "C" fn sockdiag_xdp_get_details(payload: &[u8], details: &mut XdpDetails) -> u32
-    ensures { AnswersBy ((response_codec (whole_reply xdp_header)).reads payload.now tt)
-        (RefusesValue (whole_reply xdp_header) xdp_faults payload.now)
+    ensures { IsCheckResultBy ((response_codec (raw_reply_spec xdp_header)).reads payload.now tt)
+        (RejectsReplyOrValue (raw_reply_spec xdp_header) xdp_value_errors payload.now)
         (IsXdpDetailsOf details.old)
         details.old details.new
         result }
@@ -75,10 +75,11 @@ pub extern "C" fn sockdiag_xdp_get_details(payload: &[u8], details: &mut XdpDeta
 
 // Parses the reply over the old details, and returns its contents or the first error.
 fn read(payload: &[u8], old: &XdpDetails) -> Result<XdpDetails, DecodeError>
-    ensures value { IfOk result (λ found. (v : ValueOf (whole_reply xdp_header))
-        × (response_codec (whole_reply xdp_header)).reads payload.now tt v
+    ensures value { IfOk result (λ found. (v : ReplyValue (raw_reply_spec xdp_header))
+        × (response_codec (raw_reply_spec xdp_header)).reads payload.now tt v
         × IsXdpDetailsOf old.now v found) }
-    ensures fault { IfErr result (RefusesValue (whole_reply xdp_header) xdp_faults payload.now) }
+    ensures fault { IfErr result (RejectsReplyOrValue (raw_reply_spec xdp_header) xdp_value_errors
+        payload.now) }
 {
     let reply = XdpResponseView::parse(payload)?;
     let mut seen = Faults { first: None };

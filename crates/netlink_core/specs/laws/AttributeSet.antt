@@ -5,91 +5,99 @@ use Rattle.std.specs.Prelude.{◌≢◌}
 use Rattle.std.proofs.lemmas.Nat.{and_mask}
 use Rattle.std.proofs.lemmas.Bool.Decides.{nat_tests}
 use Rattle.netlink_core.specs.declared.fault.DecodeError.TheVariants.{Memory}
-use Rattle.netlink_core.specs.Attribute.{Attribute, attribute_type}
+use Rattle.netlink_core.specs.Attribute.{Attribute, attribute_kind}
 use Rattle.netlink_core.specs.laws.Prefix.{IsAttributeInRange}
-use Rattle.netlink_core.specs.AttributeSet.{AttributeSpec, AttributeSet, AttributeValue, decodes}
-use Rattle.netlink_core.specs.AttributeSet.{encodes, AreIdleAttributes}
-use Rattle.netlink_core.specs.AttributeSet.{IsInRangeBy, IsNormalBy}
+use Rattle.netlink_core.specs.AttributeSet.{AttributeSpec, AttributeSet, AttributeValue}
+use Rattle.netlink_core.specs.AttributeSet.{decode_attribute, encode_attribute}
+use Rattle.netlink_core.specs.AttributeSet.{AreEquivalentAttributes, IsInRangeIn, IsNormalIn}
 use Rattle.netlink_core.specs.laws.Shown.{AttributeSetLaws}
 
 -- a value of the first type is decoded from an attribute of its kind, any other value from an
 -- attribute of another kind
-is_here : (spec : AttributeSpec) (others : AttributeSet) (a : Attribute) (x : spec.value.Value)
-    → decodes (spec ∷ others) a ≡ Ok (inl x)
-    → (attribute_type a ≡ spec.number) × (spec.value.reads tt a.value ≡ Ok x)
-is_here spec others a x h =
+decoded_at_first_type : (spec : AttributeSpec) (others : AttributeSet) (a : Attribute)
+    (x : spec.value.Value)
+    → decode_attribute (spec ∷ others) a ≡ Ok (inl x)
+    → (attribute_kind a ≡ spec.number) × (spec.value.reads tt a.value ≡ Ok x)
+decoded_at_first_type spec others a x h =
     grind (arith, nat_tests)
 
-is_there : (spec : AttributeSpec) (others : AttributeSet) (a : Attribute)
-    (v : AttributeValue others) → decodes (spec ∷ others) a ≡ Ok (inr v)
-    → (attribute_type a ≢ spec.number) × (decodes others a ≡ Ok v)
-is_there spec others a v h =
+decoded_at_later_type : (spec : AttributeSpec) (others : AttributeSet) (a : Attribute)
+    (v : AttributeValue others) → decode_attribute (spec ∷ others) a ≡ Ok (inr v)
+    → (attribute_kind a ≢ spec.number) × (decode_attribute others a ≡ Ok v)
+decoded_at_later_type spec others a v h =
     grind (arith, nat_tests)
 
 -- decoding an attribute never fails with `Memory`
-pub set_faults_named : (F : AttributeSet) → AttributeSetLaws F → (a : Attribute)
-    → decodes F a ≡ Err Memory → ⊥
-set_faults_named [] laws a h = cc
-set_faults_named (spec ∷ others) laws a h =
-    grind (arith, nat_tests, laws.0.value.named_fault a.value tt, set_faults_named others laws.1 a)
-
--- a decoded value serializes with the kind that it was decoded from
-own_type : (F : AttributeSet) → AttributeSetLaws F → (a : Attribute) (v : AttributeValue F)
-    → decodes F a ≡ Ok v
-    → attribute_type (encodes F v) ≡ attribute_type a
-own_type [] laws a v h = cc
-own_type (spec ∷ others) laws a v h =
-    grind (arith, nat_tests, laws.0.plain, own_type others laws.1 a)
-
--- what an attribute decodes to is in range and in normal form
-pub set_gives_normal : (F : AttributeSet) → AttributeSetLaws F
-    → (a : Attribute) (v : AttributeValue F)
-    → IsAttributeInRange a → decodes F a ≡ Ok v
-    → IsInRangeBy F v × IsNormalBy F v
-set_gives_normal [] laws a v in_range h = grind arith
-set_gives_normal (spec ∷ others) laws a (inl x) in_range h =
-    laws.0.value.reads_normal a.value tt x in_range.1 (is_here spec others a x h).1
-set_gives_normal (spec ∷ others) laws a (inr v) in_range h =
+pub decode_error_is_not_memory : (F : AttributeSet) → AttributeSetLaws F → (a : Attribute)
+    → decode_attribute F a ≡ Err Memory → ⊥
+decode_error_is_not_memory [] laws a h = cc
+decode_error_is_not_memory (spec ∷ others) laws a h =
     grind (
       arith,
-      is_there spec others a v h,
-      set_gives_normal others laws.1 a v in_range,
-      own_type others laws.1 a v,
+      nat_tests,
+      laws.0.value.named_fault a.value tt,
+      decode_error_is_not_memory others laws.1 a,
+    )
+
+-- a decoded value serializes with the kind that it was decoded from
+encoding_keeps_kind : (F : AttributeSet) → AttributeSetLaws F
+    → (a : Attribute) (v : AttributeValue F)
+    → decode_attribute F a ≡ Ok v
+    → attribute_kind (encode_attribute F v) ≡ attribute_kind a
+encoding_keeps_kind [] laws a v h = cc
+encoding_keeps_kind (spec ∷ others) laws a v h =
+    grind (arith, nat_tests, laws.0.plain, encoding_keeps_kind others laws.1 a)
+
+-- what an attribute decodes to is in range and in normal form
+pub decoded_is_normal : (F : AttributeSet) → AttributeSetLaws F
+    → (a : Attribute) (v : AttributeValue F)
+    → IsAttributeInRange a → decode_attribute F a ≡ Ok v
+    → IsInRangeIn F v × IsNormalIn F v
+decoded_is_normal [] laws a v in_range h = grind arith
+decoded_is_normal (spec ∷ others) laws a (inl x) in_range h =
+    laws.0.value.reads_normal a.value tt x in_range.1 (decoded_at_first_type spec others a x h).1
+decoded_is_normal (spec ∷ others) laws a (inr v) in_range h =
+    grind (
+      arith,
+      decoded_at_later_type spec others a v h,
+      decoded_is_normal others laws.1 a v in_range,
+      encoding_keeps_kind others laws.1 a v,
     )
 
 -- two attributes decode to the same value if and only if they are equivalent
-pub set_same_value : (F : AttributeSet) → AttributeSetLaws F
+pub decoded_equal_iff_equivalent : (F : AttributeSet) → AttributeSetLaws F
     → (a b : Attribute) (v w : AttributeValue F)
-    → IsAttributeInRange a → IsAttributeInRange b → decodes F a ≡ Ok v → decodes F b ≡ Ok w
-    → ((v ≡ w) ↔ AreIdleAttributes F a b)
-set_same_value [] laws a b v w s t h k = (λ e. cc, λ e. cc)
-set_same_value (spec ∷ others) laws a b (inl x) (inl y) s t h k =
-    grind (arith, is_here spec others a x h, is_here spec others b y k)
-set_same_value (spec ∷ others) laws a b (inr v) (inr w) s t h k =
+    → IsAttributeInRange a → IsAttributeInRange b → decode_attribute F a ≡ Ok v
+    → decode_attribute F b ≡ Ok w
+    → ((v ≡ w) ↔ AreEquivalentAttributes F a b)
+decoded_equal_iff_equivalent [] laws a b v w s t h k = (λ e. cc, λ e. cc)
+decoded_equal_iff_equivalent (spec ∷ others) laws a b (inl x) (inl y) s t h k =
+    grind (arith, decoded_at_first_type spec others a x h, decoded_at_first_type spec others b y k)
+decoded_equal_iff_equivalent (spec ∷ others) laws a b (inr v) (inr w) s t h k =
     grind (
       arith,
-      is_there spec others a v h,
-      is_there spec others b w k,
-      set_same_value others laws.1 a b v w s t,
+      decoded_at_later_type spec others a v h,
+      decoded_at_later_type spec others b w k,
+      decoded_equal_iff_equivalent others laws.1 a b v w s t,
     )
-set_same_value (spec ∷ others) laws a b v w s t h k =
+decoded_equal_iff_equivalent (spec ∷ others) laws a b v w s t h k =
     grind (arith, nat_tests)
 
 -- a decoded value in range serializes as an attribute in range
-pub writes_in_range : (F : AttributeSet) → AttributeSetLaws F → (v : AttributeValue F)
-    → IsInRangeBy F v
-    → IsAttributeInRange (encodes F v)
-writes_in_range [] laws a t = t
-writes_in_range (spec ∷ others) laws (inl x) t =
+pub encoded_in_range : (F : AttributeSet) → AttributeSetLaws F → (v : AttributeValue F)
+    → IsInRangeIn F v
+    → IsAttributeInRange (encode_attribute F v)
+encoded_in_range [] laws a t = t
+encoded_in_range (spec ∷ others) laws (inl x) t =
     grind (arith, and_mask spec.number 14)
-writes_in_range (spec ∷ others) laws (inr v) t = writes_in_range others laws.1 v t
+encoded_in_range (spec ∷ others) laws (inr v) t = encoded_in_range others laws.1 v t
 
 -- a decoded value in range and in normal form is decoded from the attribute that it serializes as
-pub reads_back : (F : AttributeSet) → AttributeSetLaws F → (v : AttributeValue F)
-    → IsInRangeBy F v → IsNormalBy F v
-    → decodes F (encodes F v) ≡ Ok v
-reads_back [] laws a t n = refl
-reads_back (spec ∷ others) laws (inl x) t n =
+pub decoded_round_trips : (F : AttributeSet) → AttributeSetLaws F → (v : AttributeValue F)
+    → IsInRangeIn F v → IsNormalIn F v
+    → decode_attribute F (encode_attribute F v) ≡ Ok v
+decoded_round_trips [] laws a t n = refl
+decoded_round_trips (spec ∷ others) laws (inl x) t n =
     grind (arith, nat_tests, laws.0.plain, laws.0.value.reads_back tt x t n tt)
-reads_back (spec ∷ others) laws (inr v) t n =
-    grind (arith, nat_tests, reads_back others laws.1 v t n.1)
+decoded_round_trips (spec ∷ others) laws (inr v) t n =
+    grind (arith, nat_tests, decoded_round_trips others laws.1 v t n.1)

@@ -9,14 +9,14 @@ use Rattle.netlink_core.specs.declared.fault.DecodeError.TheVariants.{AttributeH
 use Rattle.netlink_core.specs.declared.fault.DecodeError.TheVariants.{AttributeLengthUnder4}
 use Rattle.netlink_core.specs.declared.fault.DecodeError.TheVariants.{AttributeLengthPast}
 use Rattle.netlink_core.specs.Bytes.{IsBytes}
-use Rattle.netlink_core.specs.Attribute.{Attribute, unpadded}
-use Rattle.netlink_core.specs.Attribute.{written, HasPrefix, IsFramingFault, IsPrefixFault}
+use Rattle.netlink_core.specs.Attribute.{Attribute, header_and_value, attribute_bytes}
+use Rattle.netlink_core.specs.Attribute.{HasAttributePrefix, IsFramingError, IsFirstAttributeError}
 use Rattle.netlink_core.specs.laws.Byte.{IsBytes-append, IsBytes-left, IsBytes-number}
 use Rattle.netlink_core.specs.laws.Byte.{IsBytes-zeros}
 
 -- the type field and the length field have 16 bits
-abbrev pub FitsWords : Attribute → Type 0
-FitsWords a = (a.type_word < 2 ^ 16) × (length a.value ≤ 65531)
+abbrev pub FitsHeaderFields : Attribute → Type 0
+FitsHeaderFields a = (a.type_word < 2 ^ 16) × (length a.value ≤ 65531)
 
 -- the type field has 16 bits, and the value is bytes
 abbrev pub IsAttributeInRange : Attribute → Type 0
@@ -26,12 +26,15 @@ IsAttributeInRange a = (a.type_word < 2 ^ 16) × IsBytes a.value
 
 -- bytes with a valid length field begin with an attribute whose value is between its header and the
 -- end that the length field gives
-pub has_prefix : (bytes : List ℕ) (word type_word : ℕ) → IsBytes bytes
+pub has_attribute_prefix : (bytes : List ℕ) (word type_word : ℕ) → IsBytes bytes
     → word ≡ little_number 2 bytes
     → type_word ≡ little_number 2 (take (length bytes - 2) (drop 2 bytes))
     → 4 ≤ word → word ≤ length bytes
-    → HasPrefix bytes (record { type_word = type_word; value = take (word - 4) (drop 4 bytes) })
-has_prefix (a ∷ b ∷ c ∷ d ∷ tail) word type_word fits word-is type-given low high =
+    → HasAttributePrefix bytes (record {
+      type_word = type_word;
+      value = take (word - 4) (drop 4 bytes);
+    })
+has_attribute_prefix (a ∷ b ∷ c ∷ d ∷ tail) word type_word fits word-is type-given low high =
     let number : type_word ≡ c + 256 * (d + 256 * 0) =
     type-given ∙ ap (little_number 2) (take_all _ (c ∷ d ∷ tail) (omega arith)) in
     let len : length (take (word - 4) tail) ≡ word - 4 =
@@ -43,89 +46,102 @@ has_prefix (a ∷ b ∷ c ∷ d ∷ tail) word type_word fits word-is type-given
       cc (take-append-drop (word - 4) tail),
       omega (arith, fits 2, fits 3),
     )
-has_prefix bytes word type_word fits word-is type-is low high = absurd (omega arith)
+has_attribute_prefix bytes word type_word fits word-is type-is low high = absurd (omega arith)
 
 -- if two concatenations are equal and their first parts have the same length, then both parts are
 -- equal
-pub same_parts : (xs ys s t : List ℕ) → length xs ≡ length ys → xs ++ s ≡ ys ++ t → (xs ≡ ys)
+pub equal_parts : (xs ys s t : List ℕ) → length xs ≡ length ys → xs ++ s ≡ ys ++ t → (xs ≡ ys)
     × (s ≡ t)
-same_parts [] [] s t len e = (refl, e)
-same_parts (x ∷ xs) (y ∷ ys) s t len e =
-    grind (arith, same_parts xs ys s t)
-same_parts xs ys s t len e = absurd (omega arith)
+equal_parts [] [] s t len e = (refl, e)
+equal_parts (x ∷ xs) (y ∷ ys) s t len e =
+    grind (arith, equal_parts xs ys s t)
+equal_parts xs ys s t len e = absurd (omega arith)
 
 -- the first attribute is determined by the bytes, and so are the bytes after it
-pub one_prefix : (a b : Attribute) (s t : List ℕ) → FitsWords a → FitsWords b
-    → unpadded a ++ s ≡ unpadded b ++ t → (a ≡ b) × (s ≡ t)
-one_prefix a b s t a-fits b-fits e =
-    grind (arith, same_parts a.value b.value s t)
+pub one_attribute_prefix : (a b : Attribute) (s t : List ℕ) → FitsHeaderFields a
+    → FitsHeaderFields b
+    → header_and_value a ++ s ≡ header_and_value b ++ t → (a ≡ b) × (s ≡ t)
+one_attribute_prefix a b s t a-fits b-fits e =
+    grind (arith, equal_parts a.value b.value s t)
 
 -- the attribute at the start of bytes is in range
-pub prefix_in_range : (b : List ℕ) (a : Attribute) → IsBytes b → HasPrefix b a
+pub attribute_prefix_in_range : (b : List ℕ) (a : Attribute) → IsBytes b → HasAttributePrefix b a
     → IsAttributeInRange a
-prefix_in_range b a in_range h = (
+attribute_prefix_in_range b a in_range h = (
   h.2.0,
   IsBytes-left a.value h.0 (λ i. (rw h.1 at in_range) (suc (suc (suc (suc i))))),
 )
 
 -- bytes begin with at most one attribute
-pub one_attribute : (b : List ℕ) (x y : Attribute) → HasPrefix b x → HasPrefix b y → x ≡ y
-one_attribute b x y h k = (one_prefix x y h.0 k.0 h.2 k.2 (sym h.1 ∙ k.1)).0
+pub one_attribute : (b : List ℕ) (x y : Attribute) → HasAttributePrefix b x → HasAttributePrefix b y
+    → x ≡ y
+one_attribute b x y h k = (one_attribute_prefix x y h.0 k.0 h.2 k.2 (sym h.1 ∙ k.1)).0
 
 -- an attribute in range serializes to bytes
-pub written_in_range : (a : Attribute) → IsAttributeInRange a → IsBytes (written a)
-written_in_range a in_range = search (IsBytes-append, IsBytes-number, IsBytes-zeros) depth 7
+pub attribute_bytes_in_range : (a : Attribute) → IsAttributeInRange a → IsBytes (attribute_bytes a)
+attribute_bytes_in_range a in_range = search (IsBytes-append, IsBytes-number, IsBytes-zeros) depth 7
 
 -- ---- an attribute or an error
 
 -- the length field of bytes that begin with an attribute counts its header and its value, and is at
 -- most the number of bytes
-pub word_is : (bytes : List ℕ) (a : Attribute) → HasPrefix bytes a
+pub length_field_counts : (bytes : List ℕ) (a : Attribute) → HasAttributePrefix bytes a
     → (little_number 2 bytes ≡ 4 + length a.value) × (4 + length a.value ≤ length bytes)
-word_is bytes a head =
+length_field_counts bytes a head =
     grind (arith, length-append)
 
 -- bytes that begin with an attribute have no framing error
-pub prefix_or_fault_apart : (bytes : List ℕ) (a : Attribute) (e : DecodeError) → HasPrefix bytes a
-    → IsFramingFault bytes e → ⊥
-prefix_or_fault_apart bytes a e head f =
-    grind (arith, word_is bytes a head)
+pub prefix_or_error_apart : (bytes : List ℕ) (a : Attribute) (e : DecodeError)
+    → HasAttributePrefix bytes a
+    → IsFramingError bytes e → ⊥
+prefix_or_error_apart bytes a e head f =
+    grind (arith, length_field_counts bytes a head)
 
 -- too few bytes for a header; or a length field below the header's length; or a length field above
 -- the number of bytes; or none of these
-pub framed_or_not : (least len word : ℕ) → (len < least) ⊎ (((least ≤ len) × (word < least))
+pub length_field_cases : (least len word : ℕ) → (len < least) ⊎ (((least ≤ len) × (word < least))
     ⊎ (((least ≤ len) × (least ≤ word) × (len < word)) ⊎ ((least ≤ word) × (word ≤ len))))
-framed_or_not least len word = grind arith
+length_field_cases least len word = grind arith
 
 -- bytes begin with an attribute or have a framing error
-pub prefix_or_fault : (bytes : List ℕ) → IsBytes bytes → ((a : Attribute) × HasPrefix bytes a)
-    ⊎ ((e : DecodeError) × IsFramingFault bytes e)
-prefix_or_fault bytes fits = elim (framed_or_not 4 (length bytes) (little_number 2 bytes)) [
-  | inl short ↦ inr (AttributeHeaderCut (length bytes), (refl, short))
-  | inr (inl under) ↦ inr (AttributeLengthUnder4 (little_number 2 bytes), (refl, under.0, under.1))
-  | inr (inr (inl past)) ↦ inr (
-    AttributeLengthPast (little_number 2 bytes) (length bytes),
-    (refl, refl, past.0, past.1, past.2),
-  )
-  | inr (inr (inr there)) ↦ inl (_, has_prefix bytes _ _ fits refl refl there.0 there.1)
-]
+pub prefix_or_framing_error : (bytes : List ℕ) → IsBytes bytes
+    → ((a : Attribute) × HasAttributePrefix bytes a)
+    ⊎ ((e : DecodeError) × IsFramingError bytes e)
+prefix_or_framing_error bytes fits =
+    elim (length_field_cases 4 (length bytes) (little_number 2 bytes)) [
+      | inl short ↦ inr (AttributeHeaderCut (length bytes), (refl, short))
+      | inr (inl under) ↦ inr (
+        AttributeLengthUnder4 (little_number 2 bytes),
+        (refl, under.0, under.1),
+      )
+      | inr (inr (inl past)) ↦ inr (
+        AttributeLengthPast (little_number 2 bytes) (length bytes),
+        (refl, refl, past.0, past.1, past.2),
+      )
+      | inr (inr (inr there)) ↦ inl (
+        _,
+        has_attribute_prefix bytes _ _ fits refl refl there.0 there.1,
+      )
+    ]
 
 -- a result is a value or an error
-pub value_or_reason : {A : Type 0} (read : Result A DecodeError) → ((value : A) × (read ≡ Ok value))
+pub value_or_error : {A : Type 0} (read : Result A DecodeError) → ((value : A) × (read ≡ Ok value))
     ⊎ ((e : DecodeError) × (read ≡ Err e))
-value_or_reason (Ok value) = inl (value, refl)
-value_or_reason (Err e) = inr (e, refl)
+value_or_error (Ok value) = inl (value, refl)
+value_or_error (Err e) = inr (e, refl)
 
 -- bytes have at most one framing error, and at most one error of their first attribute
-pub one_framing_fault : (bytes : List ℕ) (e f : DecodeError) → IsFramingFault bytes e
-    → IsFramingFault bytes f → e ≡ f
-one_framing_fault bytes e f h k = grind arith
+pub one_attribute_framing_error : (bytes : List ℕ) (e f : DecodeError) → IsFramingError bytes e
+    → IsFramingError bytes f → e ≡ f
+one_attribute_framing_error bytes e f h k = grind arith
 
 module _ {A : Type 0} (reads : Attribute → Result A DecodeError) where
-  pub one_prefix_fault : (bytes : List ℕ) (e f : DecodeError) → IsPrefixFault reads bytes e
-      → IsPrefixFault reads bytes f → e ≡ f
-  one_prefix_fault bytes e f (inl framing) (inl also) = one_framing_fault bytes e f framing also
-  one_prefix_fault bytes e f (inl framing) (inr (a, head, refused)) =
-      grind (arith, prefix_or_fault_apart bytes a e head framing)
-  one_prefix_fault bytes e f (inr (a, head, refused)) k =
-      grind (arith, prefix_or_fault_apart bytes a f head, one_attribute bytes a)
+  pub one_first_attribute_error : (bytes : List ℕ) (e f : DecodeError)
+      → IsFirstAttributeError reads bytes e
+      → IsFirstAttributeError reads bytes f → e ≡ f
+  one_first_attribute_error bytes e f (inl framing) (inl also) =
+      one_attribute_framing_error bytes e f framing also
+  one_first_attribute_error bytes e f (inl framing) (inr (a, head, refused)) =
+      grind (arith, prefix_or_error_apart bytes a e head framing)
+  one_first_attribute_error bytes e f (inr (a, head, refused)) k =
+      grind (arith, prefix_or_error_apart bytes a f head, one_attribute bytes a)

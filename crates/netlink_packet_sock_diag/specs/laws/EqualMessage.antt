@@ -1,7 +1,7 @@
 -- `==` of messages is true if and only if their models are equal.
 use Rattle.std.proofs.Common.{arith}
 use Rattle.std.proofs.Common.{◌≡◌, ◌↔◌, Bool, IsTrue, ap}
-use Rattle.netlink_core.proofs.Equality.{apart}
+use Rattle.netlink_core.proofs.Equality.{false_decides}
 use Rattle.sock_diag_records.specs.contracts.inet.exact.InetRequestExact.TheImpl.Laws.{exact-law as exact_inet_request}
 use Rattle.sock_diag_records.specs.contracts.unix.request.UnixRequestExact.TheImpl.Laws.{exact-law as exact_unix_request}
 use Rattle.sock_diag_attributes.specs.contracts.inet.coded.NlaCoded.TheImpl.Laws.{eq_is_model-law as same_inet}
@@ -13,7 +13,8 @@ use Rattle.sock_diag_records.specs.contracts.unix.response.UnixResponseHeaderExa
 use Rattle.netlink_packet_sock_diag.specs.declared.message.SockDiagMessage.{SockDiagMessage}
 use Rattle.netlink_packet_sock_diag.specs.declared.message.SockDiagMessage.TheVariants as message
 use Rattle.netlink_packet_sock_diag.specs.contracts.message.SockDiagMessagePartialEq.TheImpl.{ghosts}
-use Rattle.netlink_packet_sock_diag.specs.Message.{codec_of, Message, message_of, by_kind}
+use Rattle.netlink_packet_sock_diag.specs.Message.{codec_of_message_kind, Message, message_of}
+use Rattle.netlink_packet_sock_diag.specs.Message.{apply_by_kind}
 use Rattle.sock_diag_records.specs.ResponseKind.{MessageKind, inet_request, inet_response}
 use Rattle.sock_diag_records.specs.ResponseKind.{unix_request, unix_response}
 use Rattle.netlink_packet_sock_diag.specs.MessageModel.{message_model}
@@ -27,46 +28,47 @@ use Rattle.sock_diag_replies.specs.ViewModel.{view_model}
 use Rattle.netlink_packet_sock_diag.specs.MessageViewModel.{message_view_model}
 
 -- the request or reply of a message of this kind; `other` if the message is of another kind
-abbrev held_as : (kind : MessageKind) → (codec_of kind).Value → Message → (codec_of kind).Value
-held_as inet_request other (message_of inet_request v) = v
-held_as inet_response other (message_of inet_response v) = v
-held_as unix_request other (message_of unix_request v) = v
-held_as unix_response other (message_of unix_response v) = v
-held_as _ other _ = other
+abbrev content_of_message_kind : (kind : MessageKind) → (codec_of_message_kind kind).Value → Message
+    → (codec_of_message_kind kind).Value
+content_of_message_kind inet_request other (message_of inet_request v) = v
+content_of_message_kind inet_response other (message_of inet_response v) = v
+content_of_message_kind unix_request other (message_of unix_request v) = v
+content_of_message_kind unix_response other (message_of unix_response v) = v
+content_of_message_kind _ other _ = other
 
 -- equal messages of one kind have equal requests or replies
-same_held : (kind : MessageKind) (v w : (codec_of kind).Value)
+equal_contents : (kind : MessageKind) (v w : (codec_of_message_kind kind).Value)
     → message_of kind v ≡ message_of kind w → v ≡ w
-same_held inet_request v w e = ap (held_as inet_request v) e
-same_held inet_response v w e = ap (held_as inet_response v) e
-same_held unix_request v w e = ap (held_as unix_request v) e
-same_held unix_response v w e = ap (held_as unix_response v) e
+equal_contents inet_request v w e = ap (content_of_message_kind inet_request v) e
+equal_contents inet_response v w e = ap (content_of_message_kind inet_response v) e
+equal_contents unix_request v w e = ap (content_of_message_kind unix_request v) e
+equal_contents unix_response v w e = ap (content_of_message_kind unix_response v) e
 
 -- a test that decides whether the requests or replies are equal decides whether the messages are
-by_held : (kind : MessageKind) (is : Bool) (v w : (codec_of kind).Value)
+content_test_decides : (kind : MessageKind) (is : Bool) (v w : (codec_of_message_kind kind).Value)
     → (IsTrue is ↔ (v ≡ w)) → (IsTrue is ↔ (message_of kind v ≡ message_of kind w))
-by_held kind is v w same =
-    grind (arith, same_held kind v w)
+content_test_decides kind is v w same =
+    grind (arith, equal_contents kind v w)
 
 pub message_equal : (v w : SockDiagMessage) → IsTrue (ghosts.eq v w)
     ↔ (message_model v ≡ message_model w)
 message_equal (message.InetRequest a) (message.InetRequest x) =
-    by_held inet_request _ _ _ (exact_inet_request.0 a x)
+    content_test_decides inet_request _ _ _ (exact_inet_request.0 a x)
 message_equal (message.InetResponse a) (message.InetResponse x) =
-    by_held inet_response _ _ _
-    (responses_equal (λ h. h) inet.nla_model exact_inet.0 same_inet a.value x.value)
+    content_test_decides inet_response _ _ _
+    (responses_equal (λ h. h) inet.inet_nla_model exact_inet.0 same_inet a.value x.value)
 message_equal (message.UnixRequest a) (message.UnixRequest x) =
-    by_held unix_request _ _ _ (exact_unix_request.0 a x)
+    content_test_decides unix_request _ _ _ (exact_unix_request.0 a x)
 message_equal (message.UnixResponse a) (message.UnixResponse x) =
-    by_held unix_response _ _ _
-    (responses_equal (λ h. h) unix.nla_model exact_unix.0 same_unix a.value x.value)
-message_equal v w = apart (λ e. let kinds = ap (by_kind (λ kind v. kind)) e in cc)
+    content_test_decides unix_response _ _ _
+    (responses_equal (λ h. h) unix.unix_nla_model exact_unix.0 same_unix a.value x.value)
+message_equal v w = false_decides (λ e. let kinds = ap (apply_by_kind (λ kind v. kind)) e in cc)
 
 -- `==` of borrowed messages is true if and only if their models are equal
 pub view_equal : (v w : SockDiagView) → IsTrue (views.eq v w)
     ↔ (message_view_model v ≡ message_view_model w)
 view_equal (view.InetResponse a) (view.InetResponse x) =
-    by_held inet_response _ _ _ (inet_test_decides (view_model a) (view_model x))
+    content_test_decides inet_response _ _ _ (inet_test_decides (view_model a) (view_model x))
 view_equal (view.UnixResponse a) (view.UnixResponse x) =
-    by_held unix_response _ _ _ (unix_test_decides (view_model a) (view_model x))
-view_equal v w = apart (λ e. let kinds = ap (by_kind (λ kind v. kind)) e in cc)
+    content_test_decides unix_response _ _ _ (unix_test_decides (view_model a) (view_model x))
+view_equal v w = false_decides (λ e. let kinds = ap (apply_by_kind (λ kind v. kind)) e in cc)

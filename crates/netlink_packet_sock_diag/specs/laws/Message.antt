@@ -6,13 +6,13 @@ use Rattle.std.specs.Prelude.{MatchResult}
 use Rattle.std.proofs.lemmas.Bool.{eqb-true, ne_eqb}
 use Rattle.std.proofs.lemmas.Bool.Decides.{nat_tests}
 use Rattle.netlink_core.specs.Bytes.{IsBytes}
-use Rattle.netlink_core.specs.Codec.{KeepsLaws}
+use Rattle.netlink_core.specs.Codec.{KeepsCodecLaws}
 use Rattle.netlink_core.specs.Response.{response_bytes}
 use Rattle.netlink_core.specs.declared.fault.DecodeError.{DecodeError}
 use Rattle.netlink_core.specs.declared.fault.DecodeError.TheVariants.{Memory}
 use Rattle.netlink_core.specs.declared.fault.DecodeError.TheVariants.{UnknownMessageType}
-use Rattle.netlink_core.proofs.LayoutLaws.{keeps_laws}
-use Rattle.netlink_core.proofs.Responses.{responses_keep_laws}
+use Rattle.netlink_core.proofs.LayoutLaws.{layout_codec_laws}
+use Rattle.netlink_core.proofs.Responses.{reply_codec_laws}
 use Rattle.sock_diag_records.specs.IpVersions.{IpVersions, versions_of_family}
 use Rattle.sock_diag_records.specs.InetRequest.{inet_request as inet_request_layout}
 use Rattle.sock_diag_records.specs.InetResponse.{inet_response_header}
@@ -23,23 +23,23 @@ use Rattle.sock_diag_replies.specs.InetResponseSpec.{inet_response_spec}
 use Rattle.sock_diag_replies.specs.UnixResponseSpec.{unix_response_spec}
 use Rattle.sock_diag_replies.specs.laws.InetResponseSpec.{inet_response_laws}
 use Rattle.sock_diag_replies.specs.laws.UnixResponseSpec.{unix_response_laws}
-use Rattle.netlink_packet_sock_diag.specs.Message.{codec_of, Message, message_of, by_kind}
-use Rattle.netlink_packet_sock_diag.specs.Message.{message_codec}
+use Rattle.netlink_packet_sock_diag.specs.Message.{codec_of_message_kind, Message, message_of}
+use Rattle.netlink_packet_sock_diag.specs.Message.{apply_by_kind, message_codec}
 use Rattle.sock_diag_records.specs.ResponseKind.{MessageKind, inet_request, inet_response}
 use Rattle.sock_diag_records.specs.ResponseKind.{unix_request, unix_response, response_kind}
 
 -- the codec of each kind satisfies the codec laws
-laws_of : (kind : MessageKind) → KeepsLaws (codec_of kind)
-laws_of kind =
+message_kind_laws : (kind : MessageKind) → KeepsCodecLaws (codec_of_message_kind kind)
+message_kind_laws kind =
     grind (
       arith,
-      keeps_laws inet_request_layout inet_request_sound,
+      layout_codec_laws inet_request_layout inet_request_sound,
       inet_request_sound,
-      responses_keep_laws inet_response_spec inet_response_laws,
+      reply_codec_laws inet_response_spec inet_response_laws,
       inet_response_laws,
-      keeps_laws unix_request_layout unix_request_sound,
+      layout_codec_laws unix_request_layout unix_request_sound,
       unix_request_sound,
-      responses_keep_laws unix_response_spec unix_response_laws,
+      reply_codec_laws unix_response_spec unix_response_laws,
       unix_response_laws,
     )
 
@@ -51,9 +51,9 @@ pub kind_by_first_byte : (b : List ℕ) (t first : ℕ) → 2 ≤ length b → t
     → response_kind b t ≡ response_kind (first ∷ 0 ∷ []) 20
 kind_by_first_byte b t first long is e = rw (le-ltb (length b) 2 long, is, e) refl
 
-pub other_type_refused : (b : List ℕ) (t : ℕ) → 2 ≤ length b
+pub other_type_is_rejected : (b : List ℕ) (t : ℕ) → 2 ≤ length b
     → t ≢ 20 → response_kind b t ≡ Err (UnknownMessageType t)
-other_type_refused b t long other = rw (le-ltb (length b) 2 long, ne_eqb t 20 other) refl
+other_type_is_rejected b t long other = rw (le-ltb (length b) 2 long, ne_eqb t 20 other) refl
 
 -- the type is 20 and the kind is a reply; or the error is not `Memory`
 abbrev IsResponseKind : ℕ → Result MessageKind DecodeError → Type 0
@@ -67,79 +67,85 @@ response_kinds b t found h = rw (← h) (grind (arith, nat_tests, eqb-true))
 
 -- a parsed message is a reply, under the type 20
 pub read_reply : (b : List ℕ) (t : ℕ) (m : Message) → message_codec.reads b t m
-    → (t ≡ 20) × ((by_kind (λ kind v. kind) m ≡ inet_response)
-    ⊎ (by_kind (λ kind v. kind) m ≡ unix_response))
+    → (t ≡ 20) × ((apply_by_kind (λ kind v. kind) m ≡ inet_response)
+    ⊎ (apply_by_kind (λ kind v. kind) m ≡ unix_response))
 read_reply b t (message_of kind v) r = response_kinds b t (Ok kind) r.0
 
 -- ---- one message or one error
 
 -- bytes have a message or an error, by the result of `response_kind`
-answered_as : (b : List ℕ) (t : ℕ) (found : Result MessageKind DecodeError) → IsBytes b
+parsed_or_rejected_as : (b : List ℕ) (t : ℕ) (found : Result MessageKind DecodeError) → IsBytes b
     → response_kind b t ≡ found
     → ((m : Message) × message_codec.reads b t m)
     ⊎ ((e : DecodeError) × message_codec.refuses b t e)
-answered_as b t (Err e) tb h = inr (e, inl h)
-answered_as b t (Ok kind) tb h = elim ((laws_of kind).answered b tt tb) [
+parsed_or_rejected_as b t (Err e) tb h = inr (e, inl h)
+parsed_or_rejected_as b t (Ok kind) tb h = elim ((message_kind_laws kind).answered b tt tb) [
   | inl answer ↦ inl (message_of kind answer.0, (h, answer.1))
   | inr fault ↦ inr (fault.0, inr (kind, h, fault.1))
 ]
 
-one_answer : (b : List ℕ) (t : ℕ) (m : Message) (e : DecodeError) → message_codec.reads b t m
+not_parsed_and_rejected : (b : List ℕ) (t : ℕ) (m : Message) (e : DecodeError)
+    → message_codec.reads b t m
     → message_codec.refuses b t e → ⊥
-one_answer b t (message_of kind v) e (found, r) (inl none) = cc
-one_answer b t (message_of kind v) e (found, r) (inr (other, as_other, refused)) =
-    grind (arith, laws_of kind)
+not_parsed_and_rejected b t (message_of kind v) e (found, r) (inl none) = cc
+not_parsed_and_rejected b t (message_of kind v) e (found, r) (inr (other, as_other, refused)) =
+    grind (arith, message_kind_laws kind)
 
-one_fault : (b : List ℕ) (t : ℕ) (e f : DecodeError) → message_codec.refuses b t e
+one_error_of_message : (b : List ℕ) (t : ℕ) (e f : DecodeError) → message_codec.refuses b t e
     → message_codec.refuses b t f → e ≡ f
-one_fault b t e f (inl h) (inl k) = cc
-one_fault b t e f (inl h) (inr (kind, found, refused)) = cc
-one_fault b t e f (inr (kind, found, refused)) (inl k) = cc
-one_fault b t e f (inr (kind, found, refused)) (inr (other, as_other, also)) =
-    grind (arith, laws_of kind)
+one_error_of_message b t e f (inl h) (inl k) = cc
+one_error_of_message b t e f (inl h) (inr (kind, found, refused)) = cc
+one_error_of_message b t e f (inr (kind, found, refused)) (inl k) = cc
+one_error_of_message b t e f (inr (kind, found, refused)) (inr (other, as_other, also)) =
+    grind (arith, message_kind_laws kind)
 
-named_fault : (b : List ℕ) (t : ℕ) → message_codec.refuses b t Memory → ⊥
-named_fault b t (inl none) = response_kinds b t (Err Memory) none refl
-named_fault b t (inr (kind, found, refused)) = (laws_of kind).named_fault b tt refused
+message_error_is_named : (b : List ℕ) (t : ℕ) → message_codec.refuses b t Memory → ⊥
+message_error_is_named b t (inl none) = response_kinds b t (Err Memory) none refl
+message_error_is_named b t (inr (kind, found, refused)) =
+    (message_kind_laws kind).named_fault b tt refused
 
 -- ---- equivalent bytes
 
 -- two byte strings that parse as the same message are equivalent
-idle_of : (b c : List ℕ) (t : ℕ) (m : Message) → IsBytes b → IsBytes c
+equal_messages_are_equivalent : (b c : List ℕ) (t : ℕ) (m : Message) → IsBytes b → IsBytes c
     → message_codec.reads b t m → message_codec.reads c t m → message_codec.idle t b c
-idle_of b c t (message_of kind v) tb tc r s =
-    let law = (laws_of kind).same_value b c tt v v tb tc r.1 s.1 in
+equal_messages_are_equivalent b c t (message_of kind v) tb tc r s =
+    let law = (message_kind_laws kind).same_value b c tt v v tb tc r.1 s.1 in
     (kind, r.0, s.0, law.0 refl)
 
 -- a message that is parsed from bytes of a kind is of this kind
 of_kind : (b : List ℕ) (t : ℕ) (kind : MessageKind) (m : Message) → response_kind b t ≡ Ok kind
     → message_codec.reads b t m
-    → (v : (codec_of kind).Value) × (m ≡ message_of kind v) × (codec_of kind).reads b tt v
+    → (v : (codec_of_message_kind kind).Value) × (m ≡ message_of kind v)
+    × (codec_of_message_kind kind).reads b tt v
 of_kind b t kind (message_of other v) found r =
     let same : other ≡ kind = cc (r.0) in rw (← same) (v, refl, r.1)
 
-same_value : (b c : List ℕ) (t : ℕ) (m n : Message) → IsBytes b → IsBytes c
+equal_iff_equivalent_messages : (b c : List ℕ) (t : ℕ) (m n : Message) → IsBytes b → IsBytes c
     → message_codec.reads b t m → message_codec.reads c t n → ((m ≡ n) ↔ message_codec.idle t b c)
-same_value b c t m n tb tc r s = (
-  λ e. idle_of b c t n tb tc (rw e at r) s,
+equal_iff_equivalent_messages b c t m n tb tc r s = (
+  λ e. equal_messages_are_equivalent b c t n tb tc (rw e at r) s,
   λ (kind, left, right, idle).
       let x = of_kind b t kind m left r in
       let y = of_kind c t kind n right s in
-      let law = (laws_of kind).same_value b c tt x.0 y.0 tb tc x.2 y.2 in
+      let law = (message_kind_laws kind).same_value b c tt x.0 y.0 tb tc x.2 y.2 in
       x.1 ∙ ap (message_of kind) (law.1 idle) ∙ sym y.1,
 )
 
 -- ---- parsed and serialized messages
 
-reads_normal : (b : List ℕ) (t : ℕ) (m : Message) → IsBytes b → message_codec.reads b t m
+parsed_message_is_normal : (b : List ℕ) (t : ℕ) (m : Message) → IsBytes b
+    → message_codec.reads b t m
     → message_codec.is_in_range m × message_codec.is_normal t m
-reads_normal b t (message_of kind v) tb (found, r) =
+parsed_message_is_normal b t (message_of kind v) tb (found, r) =
     let reply = response_kinds b t (Ok kind) found in
-    let parts = (laws_of kind).reads_normal b tt v tb r in
+    let parts = (message_kind_laws kind).reads_normal b tt v tb r in
     (parts.0, (reply.0, reply.1, parts.1))
 
-written_bytes : (m : Message) → message_codec.is_in_range m → IsBytes (message_codec.written m)
-written_bytes (message_of kind v) in_range = (laws_of kind).written_bytes v in_range
+message_bytes_in_range : (m : Message) → message_codec.is_in_range m
+    → IsBytes (message_codec.written m)
+message_bytes_in_range (message_of kind v) in_range =
+    (message_kind_laws kind).written_bytes v in_range
 
 -- the family of an IPv4 or IPv6 reply in normal form determines its kind
 kind_of_versions : (family : ℕ) (versions : IpVersions) → versions_of_family family ≡ Ok versions
@@ -148,43 +154,44 @@ kind_of_versions family versions h =
     grind (arith, nat_tests)
 
 -- a message in normal form serializes to bytes of its kind
-kind_written : (t : ℕ) (m : Message) → message_codec.is_normal t m
-    → response_kind (message_codec.written m) t ≡ Ok (by_kind (λ kind v. kind) m)
+serialized_kind_is_kept : (t : ℕ) (m : Message) → message_codec.is_normal t m
+    → response_kind (message_codec.written m) t ≡ Ok (apply_by_kind (λ kind v. kind) m)
 unfolding inet_response_header
-kind_written t (message_of inet_response v) (is, reply, normal) =
+serialized_kind_is_kept t (message_of inet_response v) (is, reply, normal) =
     grind (
       arith,
       kind_by_first_byte (response_bytes inet_response_spec v) t v.header.family,
       kind_of_versions v.header.family,
     )
-kind_written t (message_of unix_response v) (is, reply, normal) =
+serialized_kind_is_kept t (message_of unix_response v) (is, reply, normal) =
     grind (arith, kind_by_first_byte (response_bytes unix_response_spec v) t 1)
-kind_written t m h = grind arith
+serialized_kind_is_kept t m h = grind arith
 
-reads_back : (t : ℕ) (m : Message) → message_codec.is_in_range m → message_codec.is_normal t m
+message_value_round_trips : (t : ℕ) (m : Message) → message_codec.is_in_range m
+    → message_codec.is_normal t m
     → message_codec.fits m
     → message_codec.reads (message_codec.written m) t m
-reads_back t (message_of kind v) in_range normal fits = (
-  kind_written t (message_of kind v) normal,
-  (laws_of kind).reads_back tt v in_range normal.2 fits,
+message_value_round_trips t (message_of kind v) in_range normal fits = (
+  serialized_kind_is_kept t (message_of kind v) normal,
+  (message_kind_laws kind).reads_back tt v in_range normal.2 fits,
 )
 
-pub message_laws : KeepsLaws message_codec
+pub message_laws : KeepsCodecLaws message_codec
 message_laws = record {
-  answered = λ b t tb. answered_as b t (response_kind b t) tb refl;
-  one_answer = one_answer;
-  one_fault = one_fault;
-  named_fault = named_fault;
-  same_value = same_value;
-  reads_normal = reads_normal;
-  written_bytes = written_bytes;
-  reads_back = reads_back;
+  answered = λ b t tb. parsed_or_rejected_as b t (response_kind b t) tb refl;
+  one_answer = not_parsed_and_rejected;
+  one_fault = one_error_of_message;
+  named_fault = message_error_is_named;
+  same_value = equal_iff_equivalent_messages;
+  reads_normal = parsed_message_is_normal;
+  written_bytes = message_bytes_in_range;
+  reads_back = message_value_round_trips;
 }
 
 -- a message serializes to at least two bytes
-pub length-written : (m : Message) → 2 ≤ length (message_codec.written m)
+pub length-serialized_message : (m : Message) → 2 ≤ length (message_codec.written m)
 unfolding inet_request_layout inet_response_header
-length-written (message_of inet_request v) = omega arith
-length-written (message_of inet_response v) = omega arith
-length-written (message_of unix_request v) = omega arith
-length-written (message_of unix_response v) = omega arith
+length-serialized_message (message_of inet_request v) = omega arith
+length-serialized_message (message_of inet_response v) = omega arith
+length-serialized_message (message_of unix_request v) = omega arith
+length-serialized_message (message_of unix_response v) = omega arith

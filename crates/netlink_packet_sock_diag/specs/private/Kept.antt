@@ -1,7 +1,7 @@
 -- How what a reader of dumps keeps of payloads determines the items of messages.
 use Rattle.std.specs.Prelude.{ℕ, ◌-◌, List, take, drop, Ok, Err}
 use Rattle.netlink_core.specs.Bytes.{IsBytes}
-use Rattle.netlink_core.specs.Envelope.{IsInnerType, Payload, PayloadIs}
+use Rattle.netlink_core.specs.Envelope.{IsInnerMessageType, Payload, ParsesAsPayload}
 use Rattle.netlink_core.specs.Header.{HasHeader}
 use Rattle.netlink_core.specs.Items.{Item}
 use Rattle.netlink_core.specs.declared.fault.DecodeError.{DecodeError}
@@ -10,17 +10,17 @@ use Rattle.netlink_core.proofs.Datagrams.{IsOfOwnLength}
 
 -- `reads b t entry`: the payload `b` under the message type `t` is kept as `entry`. `refuses b t
 -- e`: it is rejected with `e`. `item_is message item`: the message has this item.
-pub record KeepsItems {Entry : Type 0} (reads : List ℕ → ℕ → Entry → Type 0)
+pub record DeterminesItems {Entry : Type 0} (reads : List ℕ → ℕ → Entry → Type 0)
     (refuses : List ℕ → ℕ → DecodeError → Type 0) (item_is : List ℕ → Item Entry → Type 0)
     : Type 0 where
   -- a message that starts with this header has its payload as its item
   pub carries : (message : List ℕ) (h : NetlinkHeader) (payload : Payload Entry)
       → HasHeader message h
-      → PayloadIs reads (take (h.length - 16) (drop 16 message)) h.message_type payload
+      → ParsesAsPayload reads (take (h.length - 16) (drop 16 message)) h.message_type payload
       → item_is message (Ok payload)
   -- a message with an inner message that is rejected with `e` has the item `Err e`
   pub refused : (message : List ℕ) (h : NetlinkHeader) (e : DecodeError) → HasHeader message h
-      → IsInnerType h.message_type
+      → IsInnerMessageType h.message_type
       → refuses (take (h.length - 16) (drop 16 message)) h.message_type e
       → item_is message (Err e)
   -- each message that is as long as its length field says has an item

@@ -4,8 +4,8 @@ ghost use Rattle.std.specs.Prelude.{◌≡◌, ◌≢◌, ◌⊎◌, ◌↔◌, 
 ghost use Rattle.std.specs.Prelude.{Err as err, MatchResult, IsBitSet, IsTrue, None, false, ◌≤◌};
 ghost use Rattle.std.specs.Prelude.{vec_capacity, vec_len};
 ghost use Rattle.netlink_core.specs.declared.fault.DecodeError.TheVariants.{Memory};
-ghost use Rattle.netlink_packet_sock_diag.specs.Feed.{DumpProgress, FeedLeaves, FeedsLeave};
-ghost use Rattle.netlink_packet_sock_diag.specs.Feed.{ReadsDatagram, ReadsUpTo, dump_with};
+ghost use Rattle.netlink_packet_sock_diag.specs.Feed.{DumpProgress, FeedLeadsTo, FeedingAllLeadsTo};
+ghost use Rattle.netlink_packet_sock_diag.specs.Feed.{ReadsDatagram, AllocationFailsAt, dump_with};
 ghost use Rattle.netlink_packet_sock_diag.specs.Feed.{new_dump};
 ghost use Rattle.netlink_packet_sock_diag.specs.declared.dump.DumpError.{DumpError as Refusal};
 ghost use Rattle.netlink_packet_sock_diag.specs.declared.dump.DumpState.TheVariants.{Reading};
@@ -44,7 +44,7 @@ fn take_messages<I: Kept>(
         (λ e. (e ≢ Memory → ReadsDatagram I.item_is
         (dump_with (map I.model messages.old.items) (Reading, None) interrupted.old) datagram.now
         (dump_with (map I.model messages.new.items) (Failed, None) interrupted.new) (err e))
-        × (e ≡ Memory → (entry : I.Entry) × ReadsUpTo I.item_is entry
+        × (e ≡ Memory → (entry : I.Entry) × AllocationFailsAt I.item_is entry
         (dump_with (map I.model messages.old.items) (Reading, None) interrupted.old) datagram.now
         (dump_with (map I.model messages.new.items) (Failed, None) interrupted.new)
         × (I.needs_memory entry ⊎ (vec_capacity messages.new ≤ vec_len messages.new)))) }
@@ -82,15 +82,15 @@ pub(crate) struct FedDump<I: Kept> {
     // Feeding some datagrams, with enough memory, leads to this progress. Or it leads to an earlier
     // progress, feeding one more datagram leads from there to this one, and the dump has failed.
     ghost fed: { ∥ ((datagrams : List (List ℕ)) × (before : DumpProgress I.Entry)
-        × FeedsLeave I.item_is new_dump datagrams before
+        × FeedingAllLeadsTo I.item_is new_dump datagrams before
         × ((before ≡ dump_with (map I.model kept.items) standing interrupted)
         ⊎ ((standing ≡ (Failed, None)) × (last : List ℕ) × (answer : Result Unit Refusal)
-        × FeedLeaves I.item_is before last
+        × FeedLeadsTo I.item_is before last
         (dump_with (map I.model kept.items) standing interrupted) answer))) ∥₁ },
 }
 
 impl<I: Kept> FedDump<I> {
-    ghost use Rattle.netlink_packet_sock_diag.specs.DumpModel.{IsFull, progress};
+    ghost use Rattle.netlink_packet_sock_diag.specs.DumpModel.{IsFull, fed_dump_progress};
     ghost use Rattle.netlink_packet_sock_diag.specs.declared.dump.DumpError.TheVariants.{Fault};
 
     /// Returns a reader that nothing was fed to. It keeps the allocator.
@@ -109,12 +109,12 @@ impl<I: Kept> FedDump<I> {
 
     /// Reads the messages of a datagram; see [`DumpReader::feed`](crate::DumpReader::feed).
     pub(crate) fn feed(&mut self, datagram: &[u8]) -> Result<(), DumpError>
-        ensures leaves { FeedLeaves I.item_is (progress I.model self.old) datagram.now
-            (progress I.model self.new) result }
+        ensures leaves { FeedLeadsTo I.item_is (fed_dump_progress I.model self.old) datagram.now
+            (fed_dump_progress I.model self.new) result }
         // Memory runs out at an entry that may need some, or because the list has to grow.
         ensures memory { result ≡ err (Fault Memory) → (entry : I.Entry)
-            × ReadsUpTo I.item_is entry (progress I.model self.old) datagram.now
-            (progress I.model self.new) × (I.needs_memory entry ⊎ IsFull self.new) }
+            × AllocationFailsAt I.item_is entry (fed_dump_progress I.model self.old) datagram.now
+            (fed_dump_progress I.model self.new) × (I.needs_memory entry ⊎ IsFull self.new) }
     {
         if self.standing.0 != DumpState::Reading {
             return Err(DumpError::Ended);

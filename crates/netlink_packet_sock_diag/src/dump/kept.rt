@@ -3,12 +3,13 @@
 ghost use Rattle.std.specs.Prelude.{◌≡◌, ◌≢◌, ℕ, List, Result as result, MatchResult, IfOk, IfErr};
 ghost use Rattle.std.specs.Prelude.{IsOk, ⊤};
 ghost use Rattle.netlink_core.specs.Faults.{map_ok};
-ghost use Rattle.netlink_core.specs.Items.{Item, ItemIs};
+ghost use Rattle.netlink_core.specs.Items.{Item, IsItemOf};
 ghost use Rattle.netlink_core.specs.declared.fault.DecodeError.{DecodeError as Fault};
 ghost use Rattle.netlink_core.specs.declared.fault.DecodeError.TheVariants.{Memory};
-ghost use Rattle.netlink_packet_sock_diag.specs.private.Kept.{KeepsItems};
-ghost use Rattle.netlink_packet_sock_diag.specs.laws.Kept.{keeps_entries, keeps_messages};
-ghost use Rattle.netlink_packet_sock_diag.specs.Lossy.{EntryIs};
+ghost use Rattle.netlink_packet_sock_diag.specs.private.Kept.{DeterminesItems};
+ghost use Rattle.netlink_packet_sock_diag.specs.laws.Kept.{entries_determine_items};
+ghost use Rattle.netlink_packet_sock_diag.specs.laws.Kept.{messages_determine_items};
+ghost use Rattle.netlink_packet_sock_diag.specs.Lossy.{HasLossyEntry};
 ghost use Rattle.netlink_packet_sock_diag.specs.Message.{Message, message_codec};
 ghost use Rattle.netlink_packet_sock_diag.specs.laws.Message.{message_laws};
 ghost use Rattle.netlink_packet_sock_diag.specs.MessageModel.{message_model};
@@ -48,7 +49,7 @@ pub(crate) trait Kept: Drop + Sized {
 
     // The item of a message follows from what its payload is kept as, or from the error of the
     // payload.
-    ghost laws: { KeepsItems reads refuses item_is };
+    ghost laws: { DeterminesItems reads refuses item_is };
 }
 
 /// Keeps the message. An invalid message ends the dump.
@@ -59,7 +60,7 @@ impl Kept for SockDiagMessage {
 
     ghost refuses = { message_codec.refuses };
 
-    ghost item_is = { ItemIs message_codec };
+    ghost item_is = { IsItemOf message_codec };
 
     ghost needs_memory = { λ message. ⊤ };
 
@@ -69,7 +70,7 @@ impl Kept for SockDiagMessage {
         SockDiagMessage::deserialize(alloc, header, payload)
     }
 
-    ghost laws = { keeps_messages message_codec message_laws };
+    ghost laws = { messages_determine_items message_codec message_laws };
 }
 
 /// Keeps the message, or its decode error. `take` fails only if an allocation for a valid message
@@ -82,7 +83,7 @@ impl Kept for Result<SockDiagMessage, DecodeError> {
 
     ghost refuses = { λ b t e. ⊥ };
 
-    ghost item_is = { EntryIs message_codec };
+    ghost item_is = { HasLossyEntry message_codec };
 
     ghost needs_memory = { λ entry. IsOk entry };
 
@@ -95,5 +96,5 @@ impl Kept for Result<SockDiagMessage, DecodeError> {
         }
     }
 
-    ghost laws = { keeps_entries message_codec message_laws };
+    ghost laws = { entries_determine_items message_codec message_laws };
 }

@@ -2,8 +2,8 @@
 
 ghost use Rattle.std.specs.Prelude.{◌≡◌, ◌⊎◌, Err, Ok as ok};
 ghost use Rattle.netlink_core.specs.declared.fault.DecodeError.TheVariants.{Memory};
-ghost use Rattle.netlink_packet_sock_diag.specs.Feed.{FeedLeaves, ReadsUpTo, new_dump};
-ghost use Rattle.netlink_packet_sock_diag.specs.Lossy.{EntryIs};
+ghost use Rattle.netlink_packet_sock_diag.specs.Feed.{FeedLeadsTo, AllocationFailsAt, new_dump};
+ghost use Rattle.netlink_packet_sock_diag.specs.Lossy.{HasLossyEntry};
 ghost use Rattle.netlink_packet_sock_diag.specs.Message.{Message, message_codec};
 
 use super::fed::FedDump;
@@ -43,10 +43,12 @@ impl LossyDump {
     /// An allocation can fail only at a valid message, or if the list of entries has to grow: the
     /// entry of an invalid message needs a slot in the list too.
     pub fn feed(&mut self, datagram: &[u8]) -> Result<(), DumpError>
-        ensures leaves { FeedLeaves (EntryIs message_codec) (lossy_progress self.old) datagram.now
+        ensures leaves { FeedLeadsTo (HasLossyEntry message_codec)
+            (lossy_progress self.old) datagram.now
             (lossy_progress self.new) result }
         ensures memory { result ≡ Err (Fault Memory) → ((m : Message)
-            × ReadsUpTo (EntryIs message_codec) (ok m) (lossy_progress self.old) datagram.now
+            × AllocationFailsAt (HasLossyEntry message_codec) (ok m)
+            (lossy_progress self.old) datagram.now
             (lossy_progress self.new)) ⊎ EntriesAreFull self.new }
     {
         self.dump.feed(datagram)

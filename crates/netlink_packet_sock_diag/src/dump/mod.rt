@@ -2,8 +2,8 @@
 
 ghost use Rattle.std.specs.Prelude.{◌≡◌, map};
 ghost use Rattle.std.proofs.Common.{rules};
-ghost use Rattle.netlink_core.specs.Items.{ItemIs};
-ghost use Rattle.netlink_packet_sock_diag.specs.Feed.{FeedLeaves, new_dump};
+ghost use Rattle.netlink_core.specs.Items.{IsItemOf};
+ghost use Rattle.netlink_packet_sock_diag.specs.Feed.{FeedLeadsTo, new_dump};
 ghost use Rattle.netlink_packet_sock_diag.specs.Message.{message_codec};
 ghost use Rattle.netlink_packet_sock_diag.specs.MessageModel.{message_model};
 
@@ -72,7 +72,8 @@ impl DumpReader {
     /// message is invalid or memory runs out, the messages before it are kept, and the dump has
     /// failed. Feeding a dump that has ended changes nothing.
     pub fn feed(&mut self, datagram: &[u8]) -> Result<(), DumpError>
-        ensures leaves { FeedLeaves (ItemIs message_codec) (reader_progress self.old) datagram.now
+        ensures leaves { FeedLeadsTo (IsItemOf message_codec)
+            (reader_progress self.old) datagram.now
             (reader_progress self.new) result }
     {
         self.dump.feed(datagram)

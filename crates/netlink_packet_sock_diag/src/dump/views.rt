@@ -1,11 +1,11 @@
 //! Borrowed messages of a datagram, with their payloads.
 
 ghost use Rattle.std.specs.Prelude.{◌≡◌, ◌↔◌, length, IfOk, IfErr, IsTrue, SomeIff};
-ghost use Rattle.netlink_core.specs.Envelope.{IsInnerType, OfInner, PayloadIs};
-ghost use Rattle.netlink_core.specs.Envelope.{payload_bytes};
+ghost use Rattle.netlink_core.specs.Envelope.{IsInnerMessageType, HoldsOfInnerMessage};
+ghost use Rattle.netlink_core.specs.Envelope.{ParsesAsPayload, payload_bytes};
 ghost use Rattle.netlink_core.specs.Faults.{map_ok};
 ghost use Rattle.netlink_core.specs.Header.{HasHeader};
-ghost use Rattle.netlink_core.specs.Items.{ItemIs};
+ghost use Rattle.netlink_core.specs.Items.{IsItemOf};
 ghost use Rattle.netlink_packet_sock_diag.specs.Message.{message_codec, netlink_message_codec};
 ghost use Rattle.netlink_packet_sock_diag.specs.PayloadViewModel.{payload_view_model};
 
@@ -25,9 +25,9 @@ fn read_payload<'a>(
     header: &NetlinkHeader,
     payload: &'a [u8],
 ) -> Result<PayloadView<'a>, DecodeError>
-    ensures value { IfOk result (λ view. PayloadIs message_codec.reads payload.entry.now
+    ensures value { IfOk result (λ view. ParsesAsPayload message_codec.reads payload.entry.now
         header.now.message_type (payload_view_model view)) }
-    ensures fault { IfErr result (λ e. IsInnerType header.now.message_type
+    ensures fault { IfErr result (λ e. IsInnerMessageType header.now.message_type
         × message_codec.refuses payload.entry.now header.now.message_type e) }
 {
     Ok(match header.message_type {
@@ -42,7 +42,8 @@ fn read_payload<'a>(
 // Returns the length of the serialized payload. Returns `None` if the inner message is not
 // writable.
 fn payload_writable_len(payload: &PayloadView<'_>) -> Option<usize>
-    ensures { SomeIff result (OfInner message_codec.fits (payload_view_model payload.now))
+    ensures { SomeIff result (HoldsOfInnerMessage message_codec.fits
+        (payload_view_model payload.now))
         (length (payload_bytes message_codec.written (payload_view_model payload.now))) }
 {
     match payload {
@@ -64,7 +65,7 @@ pub struct MessageView<'a> {
 }
 
 impl<'a> MessageView<'a> {
-    ghost use Rattle.netlink_packet_sock_diag.specs.PayloadViewModel.{envelope_view_model};
+    ghost use Rattle.netlink_packet_sock_diag.specs.PayloadViewModel.{netlink_message_view_model};
 
     /// Parses the message at the start of the bytes. Does not allocate. Bytes after the length of
     /// the message are ignored. Returns the same errors as
@@ -72,7 +73,7 @@ impl<'a> MessageView<'a> {
     #[inline(always)]
     pub fn parse(bytes: &'a [u8]) -> Result<MessageView<'a>, DecodeError>
         ensures value { IfOk result (λ view.
-            netlink_message_codec.reads bytes.entry.now tt (envelope_view_model view)) }
+            netlink_message_codec.reads bytes.entry.now tt (netlink_message_view_model view)) }
         ensures fault { IfErr result (netlink_message_codec.refuses bytes.entry.now tt) }
     {
         let header = NetlinkHeader::from_prefix(bytes)?;
@@ -85,7 +86,7 @@ impl<'a> MessageView<'a> {
     /// at most 4,294,967,295 bytes, including the 16 bytes of its header.
     pub fn is_writable(&self) -> bool
         ensures { IsTrue result
-            ↔ netlink_message_codec.fits (envelope_view_model self.now) }
+            ↔ netlink_message_codec.fits (netlink_message_view_model self.now) }
     {
         match payload_writable_len(&self.payload) {
             Some(len) => len <= u32::MAX as usize - NETLINK_HEADER_LEN,
@@ -99,7 +100,7 @@ impl<'a> MessageView<'a> {
 fn payload_of<'a>(header: &NetlinkHeader, message: &'a [u8]) -> Result<PayloadView<'a>, DecodeError>
     requires header { HasHeader message.now header.now }
     requires whole { header.now.length ≡ length message.now }
-    ensures { ItemIs message_codec message.entry.now (map_ok payload_view_model result) }
+    ensures { IsItemOf message_codec message.entry.now (map_ok payload_view_model result) }
 {
     read_payload(header, &message[NETLINK_HEADER_LEN..])
 }
@@ -116,11 +117,11 @@ pub struct DumpViews<'a> {
 }
 
 impl<'a> DumpViews<'a> {
-    ghost use Rattle.netlink_packet_sock_diag.specs.DumpWalk.{views_left};
+    ghost use Rattle.netlink_packet_sock_diag.specs.DumpWalk.{unread_views};
 
     /// Returns the iterator over the messages of this datagram.
     pub fn new(datagram: &'a [u8]) -> DumpViews<'a>
-        ensures { views_left result ≡ datagram.entry.now }
+        ensures { unread_views result ≡ datagram.entry.now }
     {
         DumpViews {
             messages: FramedMessages::new(datagram),
@@ -132,14 +133,14 @@ impl<'a> Iterator for DumpViews<'a> {
     ghost use Rattle.std.specs.Prelude.{◌+◌, ◌/◌, IfSome, None};
     ghost use Rattle.std.specs.Iterator.{at_most, UpTo};
     ghost use Rattle.std.specs.Iterator.SizeHint.{IsWithinCount};
-    ghost use Rattle.netlink_packet_sock_diag.specs.DumpWalk.{GivesView, views_left};
+    ghost use Rattle.netlink_packet_sock_diag.specs.DumpWalk.{YieldsPayloadView, unread_views};
 
     type Item = Result<PayloadView<'a>, DecodeError>;
 
-    ghost next_gives = { GivesView };
+    ghost next_gives = { YieldsPayloadView };
 
     // At most one item for each 16 bytes, rounded up.
-    ghost remaining = { λ walk. at_most ((length (views_left walk) + 15) / 16) };
+    ghost remaining = { λ walk. at_most ((length (unread_views walk) + 15) / 16) };
 
     /// Returns the payload of the next message, or its error. If the remaining bytes are not a
     /// message, the error is the one that [`NetlinkHeader::from_prefix`] returns for them.
@@ -154,9 +155,9 @@ impl<'a> Iterator for DumpViews<'a> {
     /// Returns `(0, None)`: only iterating shows how many messages are left.
     fn size_hint(&self) -> (usize, Option<usize>)
         ensures lower { IsWithinCount result.0
-            (at_most ((length (views_left self.now) + 15) / 16)) }
+            (at_most ((length (unread_views self.now) + 15) / 16)) }
         ensures upper { IfSome result.1
-            (UpTo (at_most ((length (views_left self.now) + 15) / 16))) }
+            (UpTo (at_most ((length (unread_views self.now) + 15) / 16))) }
         ensures unknown { result ≡ (0, None) }
     {
         (0, None)

@@ -16,8 +16,8 @@ use Rattle.sock_diag_values.specs.contracts.inet.tcp_info.TcpInfoExact.TheImpl.L
 use Rattle.sock_diag_values.specs.contracts.inet.tcp_info.TcpInfoPartialEq.TheImpl.{ghosts as tcp}
 use Rattle.sock_diag_values.specs.contracts.inet.mem_info.MemInfoExact.TheImpl.Laws.{exact-law as exact_memory}
 use Rattle.sock_diag_values.specs.contracts.inet.mem_info.MemInfoPartialEq.TheImpl.{ghosts as memory}
-use Rattle.sock_diag_attributes.specs.InetAttributes.{inet}
-use Rattle.sock_diag_attributes.specs.InetModel.{model}
+use Rattle.sock_diag_attributes.specs.InetAttributes.{inet_attribute_set}
+use Rattle.sock_diag_attributes.specs.InetModel.{inet_nla_value}
 use Rattle.sock_diag_attributes.specs.declared.inet.nlas.InetNla.{InetNla}
 use Rattle.sock_diag_attributes.specs.contracts.inet.nlas.InetNlaPartialEq.TheImpl.{ghosts}
 
@@ -25,7 +25,7 @@ pub truth : (a b : Bool) → IsTrue (beq a b) ↔ (a ≡ b)
 truth a b = search rules
 
 -- a test for the values of each type
-abbrev pub inet_tests : Tests inet
+abbrev pub inet_tests : Tests inet_attribute_set
 inet_tests =
     (legacy.eq, exact_legacy.0) ⊕ (tcp.eq, exact_tcp.0) ⊕ (pointwise eqb, bytes_decides)
     ⊕ number_test ⊕ number_test
@@ -39,11 +39,15 @@ module _ (T O : RattleType) (t : Ghosts T.Denot) (o : Ghosts O.Denot) (text : T.
     (texts : (a b : T.Denot) → t.eq a b ≡ pointwise eqb (text a) (text b)) (others : (a b : O.Denot)
     → o.eq a b ≡ attribute_test (other a) (other b)) where
   -- `==` of two attributes is the test of their models
-  pub tests : (v w : InetNla T.Denot O.Denot) → (ghosts T O t (given 0) o (given 0)).eq v w
-      ≡ value_test inet inet_tests (model text other v) (model text other w)
-  tests v w =
+  pub inet_test_is_model_test : (v w : InetNla T.Denot O.Denot)
+      → (ghosts T O t (given 0) o (given 0)).eq v w
+      ≡ value_test inet_attribute_set inet_tests (inet_nla_value text other v)
+      (inet_nla_value text other w)
+  inet_test_is_model_test v w =
       grind arith
 
-  pub equal : (v w : InetNla T.Denot O.Denot) → IsTrue ((ghosts T O t (given 0) o (given 0)).eq v w)
-      ↔ (model text other v ≡ model text other w)
-  equal v w = rw (tests v w) (value_test_decides inet inet_tests _ _)
+  pub inet_nlas_equal : (v w : InetNla T.Denot O.Denot)
+      → IsTrue ((ghosts T O t (given 0) o (given 0)).eq v w)
+      ↔ (inet_nla_value text other v ≡ inet_nla_value text other w)
+  inet_nlas_equal v w = rw (inet_test_is_model_test v w)
+      (value_test_decides inet_attribute_set inet_tests _ _)

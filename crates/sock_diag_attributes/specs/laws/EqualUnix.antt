@@ -18,26 +18,26 @@ use Rattle.sock_diag_attributes.specs.laws.EqualName.{name_test, name_test_decid
 use Rattle.sock_diag_attributes.specs.NumbersModel.{numbers_view_model}
 use Rattle.sock_diag_attributes.specs.laws.Number.{numbers_in_same}
 use Rattle.sock_diag_attributes.specs.Numbers.{numbers_in}
-use Rattle.sock_diag_attributes.specs.UnixAttributes.{unix}
-use Rattle.sock_diag_attributes.specs.UnixModel.{model}
+use Rattle.sock_diag_attributes.specs.UnixAttributes.{unix_attribute_set}
+use Rattle.sock_diag_attributes.specs.UnixModel.{unix_nla_value}
 use Rattle.sock_diag_attributes.specs.declared.unix.name.SocketName.{SocketName}
 use Rattle.sock_diag_attributes.specs.declared.numbers.NumbersView.{NumbersView}
 use Rattle.sock_diag_attributes.specs.contracts.numbers.NumbersViewPartialEq.TheImpl.{ghosts as number_views}
 use Rattle.sock_diag_attributes.specs.declared.unix.nlas.UnixNla.{UnixNla}
 use Rattle.sock_diag_attributes.specs.contracts.unix.nlas.UnixNlaPartialEq.TheImpl.{ghosts}
 
-abbrev two_test : ℕ × ℕ → ℕ × ℕ → Bool
-two_test a b = eqb a.0 b.0 && eqb a.1 b.1
+abbrev number_pair_test : ℕ × ℕ → ℕ × ℕ → Bool
+number_pair_test a b = eqb a.0 b.0 && eqb a.1 b.1
 
-pub two_test_decides : (a b : ℕ × ℕ) → IsTrue (two_test a b) ↔ (a ≡ b)
-two_test_decides a b = (λ h. search rules, λ e. search rules)
+pub number_pair_test_decides : (a b : ℕ × ℕ) → IsTrue (number_pair_test a b) ↔ (a ≡ b)
+number_pair_test_decides a b = (λ h. search rules, λ e. search rules)
 
 -- a test for the values of each type
-abbrev pub unix_tests : Tests unix
+abbrev pub unix_tests : Tests unix_attribute_set
 unix_tests =
     (name_test, name_test_decides) ⊕ (vfs.eq, exact_vfs.0) ⊕ number_test
     ⊕ (pointwise eqb, bytes_decides)
-    ⊕ (two_test, two_test_decides) ⊕ (memory.eq, exact_memory.0) ⊕ number_test ⊕ tt
+    ⊕ (number_pair_test, number_pair_test_decides) ⊕ (memory.eq, exact_memory.0) ⊕ number_test ⊕ tt
 
 pub number_views_equal : (v w : NumbersView) → IsTrue (number_views.eq v w)
     ↔ (numbers_view_model v ≡ numbers_view_model w)
@@ -60,13 +60,15 @@ module _ (N L O : RattleType) (n : Ghosts N.Denot) (l : Ghosts L.Denot) (o : Gho
     → l.eq a b ≡ pointwise eqb (list a) (list b))
     (others : (a b : O.Denot) → o.eq a b ≡ attribute_test (other a) (other b)) where
   -- `==` of two attributes is the test of their models
-  pub tests : (v w : UnixNla N.Denot L.Denot O.Denot)
-      → (ghosts N L O n (given 0) l (given 0) o (given 0)).eq v w ≡ value_test unix unix_tests
-      (model name list other v) (model name list other w)
-  tests v w =
+  pub unix_test_is_model_test : (v w : UnixNla N.Denot L.Denot O.Denot)
+      → (ghosts N L O n (given 0) l (given 0) o (given 0)).eq v w
+      ≡ value_test unix_attribute_set unix_tests
+      (unix_nla_value name list other v) (unix_nla_value name list other w)
+  unix_test_is_model_test v w =
       grind arith
 
-  pub equal : (v w : UnixNla N.Denot L.Denot O.Denot)
+  pub unix_nlas_equal : (v w : UnixNla N.Denot L.Denot O.Denot)
       → IsTrue ((ghosts N L O n (given 0) l (given 0) o (given 0)).eq v w)
-      ↔ (model name list other v ≡ model name list other w)
-  equal v w = rw (tests v w) (value_test_decides unix unix_tests _ _)
+      ↔ (unix_nla_value name list other v ≡ unix_nla_value name list other w)
+  unix_nlas_equal v w = rw (unix_test_is_model_test v w)
+      (value_test_decides unix_attribute_set unix_tests _ _)

@@ -3,8 +3,8 @@ use Rattle.std.proofs.Common.{◌≡◌, ◌↔◌, ℕ, []}
 use Rattle.std.proofs.Common.{slice_index, arith}
 use Rattle.std.specs.Prelude.{not, ◌==◌}
 use Rattle.netlink_core.specs.laws.Byte.{IsBytes-cons, IsBytes-nil}
-use Rattle.netlink_core.specs.Codec.{KeepsLaws, as_codec}
-use Rattle.netlink_core.specs.laws.Prefix.{value_or_reason}
+use Rattle.netlink_core.specs.Codec.{KeepsCodecLaws, as_codec}
+use Rattle.netlink_core.specs.laws.Prefix.{value_or_error}
 use Rattle.sock_diag_attributes.specs.Flag.{flag_value}
 
 -- two bytes are the same boolean if and only if both are zero or neither is zero
@@ -12,9 +12,9 @@ truth_decides : (m n : ℕ) → (not (m == 0) ≡ not (n == 0)) ↔ ((m ≡ 0) �
 truth_decides m n = (λ e. (λ z. grind arith, λ z. grind arith), λ h. grind arith)
 
 -- a flag satisfies the codec laws
-pub flag_laws : (k : ℕ) → KeepsLaws (as_codec (flag_value k))
+pub flag_laws : (k : ℕ) → KeepsCodecLaws (as_codec (flag_value k))
 flag_laws k = record {
-  answered = λ b p in_range. value_or_reason ((flag_value k).reads tt b);
+  answered = λ b p in_range. value_or_error ((flag_value k).reads tt b);
   one_answer = λ b p v e h g. cc;
   one_fault = λ b p e f h g. cc;
   named_fault = λ b p h. grind arith;

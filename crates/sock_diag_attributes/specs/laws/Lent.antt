@@ -19,8 +19,8 @@ text_row = text.the_row global.the_row ghosts
 abbrev pub text_view_row : RattleType
 text_view_row = ShrSlice (named 0) [] u8
 
-abbrev pub kept_row : RattleType
-kept_row = kept.the_row
+abbrev pub default_nla_row : RattleType
+default_nla_row = kept.the_row
 
 abbrev pub buffer_row : RattleType
 buffer_row = buffer.the_row (record { mir = named 0; lft = [] })

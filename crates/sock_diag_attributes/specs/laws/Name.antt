@@ -1,7 +1,7 @@
 -- The codec laws of the name of a UNIX socket.
 use Rattle.std.proofs.lemmas.Grind.{common_steps}
-use Rattle.netlink_core.specs.Codec.{KeepsLaws, as_codec}
-use Rattle.netlink_core.proofs.AttributeTypeLaws.{exact_laws}
+use Rattle.netlink_core.specs.Codec.{KeepsCodecLaws, as_codec}
+use Rattle.netlink_core.proofs.AttributeTypeLaws.{whole_value_laws}
 use Rattle.sock_diag_attributes.specs.Name.{name_value}
 use Rattle.std.proofs.Common.{Ok, Err, IsOk, ◌≡◌, ◌≢◌, ◌∙◌, ℕ, suc, ◌+◌, ◌<◌}
 use Rattle.std.proofs.Common.{◌==◌, List, [], ◌∷◌}
@@ -34,8 +34,8 @@ abbrev pub HasNoZero : List ℕ → Type 0
 HasNoZero bytes = All (λ byte. byte ≢ 0) bytes
 
 -- no error of a name is `Memory`
-name_named : (x : List ℕ) → read_name x ≡ Err Memory → ⊥
-name_named x h =
+name_error_is_not_memory : (x : List ℕ) → read_name x ≡ Err Memory → ⊥
+name_error_is_not_memory x h =
     grind arith
 
 -- a parsed name serializes to the bytes that it was parsed from, and is in normal form
@@ -107,9 +107,10 @@ name_reads_back u good =
     grind (arith, common_steps, reads_path)
 
 -- an accepted name whose first byte is not zero is the path before its last byte
-pub known_path : (bytes path : List ℕ) (last : ℕ) → bytes ≡ path ++ last ∷ [] → get_or bytes 0 0 ≢ 0
+pub accepted_name_is_path : (bytes path : List ℕ) (last : ℕ) → bytes ≡ path ++ last ∷ []
+    → get_or bytes 0 0 ≢ 0
     → IsOk (read_name bytes) → read_name bytes ≡ Ok (Pathname path)
-known_path bytes path last parts first ok =
+accepted_name_is_path bytes path last parts first ok =
     grind (arith, length-append path (last ∷ []), take-append_seam path (last ∷ []))
 
 -- a path with a zero byte after it consists of bytes
@@ -122,16 +123,17 @@ pub address_bytes_in_range : (address : List ℕ) → IsBytes address → IsByte
 address_bytes_in_range address in_range = IsBytes-cons 0 address (omega arith) in_range
 
 -- a name as the value of an attribute satisfies the codec laws; only equal values are equivalent
-pub name_laws : KeepsLaws (as_codec name_value)
-name_laws = exact_laws read_name name_bytes (λ u. IsBytes (name_bytes u)) IsNormalName name_named
+pub name_laws : KeepsCodecLaws (as_codec name_value)
+name_laws = whole_value_laws read_name name_bytes (λ u. IsBytes (name_bytes u)) IsNormalName
+    name_error_is_not_memory
     (λ x u in_range h. let exact = name_exact x u h in
     (exact.0, subst IsBytes exact.0 in_range, exact.1))
     (λ u in_range. in_range)
     (λ u in_range normal. name_reads_back u normal)
 
 -- a name by itself satisfies the codec laws
-pub name_keeps_laws : KeepsLaws name_codec
-name_keeps_laws = record {
+pub name_codec_laws : KeepsCodecLaws name_codec
+name_codec_laws = record {
   answered = name_laws.answered;
   one_answer = name_laws.one_answer;
   one_fault = name_laws.one_fault;

@@ -14,10 +14,10 @@ use Rattle.byteorder.specs.Numbers.{length-bytes_low_first}
 use Rattle.netlink_core.specs.Bytes.{IsBytes}
 use Rattle.netlink_core.specs.laws.Byte.{IsBytes-left, IsBytes-nil, IsBytes-number}
 use Rattle.netlink_core.specs.laws.Byte.{IsBytes-right}
-use Rattle.netlink_core.proofs.AttributeTypeLaws.{same_bytes, exact_laws}
-use Rattle.netlink_core.specs.Codec.{KeepsLaws, as_codec}
+use Rattle.netlink_core.proofs.AttributeTypeLaws.{same_bytes, whole_value_laws}
+use Rattle.netlink_core.specs.Codec.{KeepsCodecLaws, as_codec}
 use Rattle.std.specs.Prelude.{⊤, slice_index, flat_map}
-use Rattle.sock_diag_attributes.specs.Numbers.{numbers_in, two_value, numbers_value}
+use Rattle.sock_diag_attributes.specs.Numbers.{numbers_in, number_pair_value, numbers_value}
 
 -- bytes of this length are the little-endian bytes of their number
 number_exact : (width : ℕ) (x : List ℕ) → IsBytes x → length x ≡ width
@@ -41,24 +41,25 @@ numbers_in_first x long =
     grind arith
 
 -- bytes whose length is a multiple of four are the little-endian bytes of their numbers
-pub whole : (x : List ℕ) → IsBytes x → length x % 4 ≡ 0
+pub bytes_of_whole_numbers : (x : List ℕ) → IsBytes x → length x % 4 ≡ 0
     → (x ≡ flat_map (little_bytes 4) (numbers_in x))
     × AllByRecursion (λ n. n < 2 ^ 32) (numbers_in x)
-whole [] in_range four = (refl, tt)
-whole (a ∷ b ∷ c ∷ d ∷ rest) in_range four =
+bytes_of_whole_numbers [] in_range four = (refl, tt)
+bytes_of_whole_numbers (a ∷ b ∷ c ∷ d ∷ rest) in_range four =
     let word : List ℕ = a ∷ b ∷ c ∷ d ∷ [] in
     let front : IsBytes word = IsBytes-left word rest in_range in
-    let later = whole rest (IsBytes-right word rest in_range) (omega (arith, four)) in (
+    let later = bytes_of_whole_numbers rest (IsBytes-right word rest in_range)
+    (omega (arith, four)) in (
       λ i. number_exact 4 word front refl i ++ later.0 i,
       (little_from-lt 0 4 word front, later.1),
     )
-whole _ in_range four = absurd (omega (arith, four))
+bytes_of_whole_numbers _ in_range four = absurd (omega (arith, four))
 
 -- a bound on the number at each index is a bound on each number
-pub each_below : (bound : ℕ) (u : List ℕ) → ((i : ℕ) → slice_index u i < bound)
+pub each_number_below : (bound : ℕ) (u : List ℕ) → ((i : ℕ) → slice_index u i < bound)
     → AllByRecursion (λ n. n < bound) u
-each_below bound [] below = tt
-each_below bound (n ∷ u) below = (below 0, each_below bound u (λ i. below (suc i)))
+each_number_below bound [] below = tt
+each_number_below bound (n ∷ u) below = (below 0, each_number_below bound u (λ i. below (suc i)))
 
 -- the length of numbers in bytes, four for each number
 pub length_numbers : (u : List ℕ) → length (flat_map (little_bytes 4) u) ≡ 4 * length u
@@ -66,9 +67,9 @@ length_numbers [] = refl
 length_numbers (n ∷ u) = omega (arith, length_numbers u)
 
 -- the prefix of bytes that are long enough has the length of the numbers
-pub front_of : (u bytes : List ℕ) → length (flat_map (little_bytes 4) u) ≤ length bytes
+pub numbers_prefix_length : (u bytes : List ℕ) → length (flat_map (little_bytes 4) u) ≤ length bytes
     → length (take (4 * length u) bytes) ≡ 4 * length u
-front_of u bytes room = length-take-le _ bytes (omega (arith, length_numbers u))
+numbers_prefix_length u bytes room = length-take-le _ bytes (omega (arith, length_numbers u))
 
 -- numbers that have no bytes are no numbers
 pub no_numbers : (u : List ℕ) → flat_map (little_bytes 4) u ≡ [] → u ≡ []
@@ -76,15 +77,15 @@ no_numbers [] none = refl
 no_numbers (n ∷ u) none = absurd cc
 
 -- the numbers in the bytes of numbers are these numbers
-back : (u : List ℕ) → AllByRecursion (λ n. n < 2 ^ 32) u
+numbers_in_their_bytes : (u : List ℕ) → AllByRecursion (λ n. n < 2 ^ 32) u
     → numbers_in (flat_map (little_bytes 4) u) ≡ u
-back [] fit = refl
-back (n ∷ u) fit =
+numbers_in_their_bytes [] fit = refl
+numbers_in_their_bytes (n ∷ u) fit =
     grind (
       arith,
       little_number-reads_back 4 n (flat_map (little_bytes 4) u) fit.0,
       flat_map (little_bytes 4) u,
-      back u fit.1,
+      numbers_in_their_bytes u fit.1,
     )
 
 -- the bytes of numbers are bytes
@@ -94,27 +95,27 @@ numbers_in_range (n ∷ u) =
     grind (arith, flat_map (little_bytes 4) u, numbers_in_range u)
 
 -- both kinds of values satisfy the codec laws
-pub numbers_laws : KeepsLaws (as_codec numbers_value)
+pub numbers_laws : KeepsCodecLaws (as_codec numbers_value)
 numbers_laws =
     grind (
       arith,
       common_steps,
-      exact_laws,
+      whole_value_laws,
       numbers_in,
-      whole,
+      bytes_of_whole_numbers,
       numbers_in_range,
       length_numbers,
-      back,
+      numbers_in_their_bytes,
     )
 
-pub two_laws : (k : ℕ) → KeepsLaws (as_codec (two_value k))
-two_laws k = exact_laws ((two_value k).reads tt) (two_value k).bytes
+pub number_pair_laws : (k : ℕ) → KeepsCodecLaws (as_codec (number_pair_value k))
+number_pair_laws k = whole_value_laws ((number_pair_value k).reads tt) (number_pair_value k).bytes
     (λ ns. (ns.0 < 2 ^ 32) × (ns.1 < 2 ^ 32)) (λ ns. ⊤) (λ x h. grind arith)
     (λ x u in_range h.
     let same : (little_number 4 x, little_number 4 (drop 4 x)) ≡ u = grind arith in
     let numbers : numbers_in x ≡ little_number 4 x ∷ little_number 4 (drop 4 x) ∷ [] =
     grind (arith, numbers_in_first, numbers_in_none, length-drop) in
-    let exact = rw numbers at (whole x in_range (grind arith)) in
+    let exact = rw numbers at (bytes_of_whole_numbers x in_range (grind arith)) in
     rw (← same) (exact.0, (exact.1.0, exact.1.1.0), tt))
     (λ u fits. numbers_in_range (u.0 ∷ u.1 ∷ []))
     (λ u fits normal i. Ok (
@@ -125,26 +126,29 @@ two_laws k = exact_laws ((two_value k).reads tt) (two_value k).bytes
 -- ---- borrowed numbers
 
 -- the count of the numbers
-pub how_many : (x : List ℕ) → length (numbers_in x) ≡ length x / 4
-how_many (a ∷ b ∷ c ∷ d ∷ rest) = omega (arith, how_many rest)
-how_many _ = refl
+pub count_of_numbers_in : (x : List ℕ) → length (numbers_in x) ≡ length x / 4
+count_of_numbers_in (a ∷ b ∷ c ∷ d ∷ rest) = omega (arith, count_of_numbers_in rest)
+count_of_numbers_in _ = refl
 
 -- the number at an index within the bounds
-pub number_at : (x : List ℕ) (i : ℕ) → 4 * i + 4 ≤ length x
+pub number_in_list_at : (x : List ℕ) (i : ℕ) → 4 * i + 4 ≤ length x
     → slice_get (numbers_in x) i ≡ Some (little_number 4 (drop (4 * i) x))
-number_at (a ∷ b ∷ c ∷ d ∷ rest) (suc i) long =
+number_in_list_at (a ∷ b ∷ c ∷ d ∷ rest) (suc i) long =
     let next : 4 * suc i ≡ suc (suc (suc (suc (4 * i)))) = omega arith in
-    rw next (number_at rest i (omega arith))
-number_at x i long = grind arith
+    rw next (number_in_list_at rest i (omega arith))
+number_in_list_at x i long = grind arith
 
 -- numbers that were read one by one are the numbers in the bytes
-pub places : (x u : List ℕ) → length x ≡ 4 * length u → IsRead little_number 4 x u
+pub numbers_read_by_index : (x u : List ℕ) → length x ≡ 4 * length u → IsRead little_number 4 x u
     → numbers_in x ≡ u
-places x u long each = same_number_lists (numbers_in x) u (omega (arith, how_many x))
-    (λ k l. get_or_from_slice_get _ k _ 0 (number_at x k (omega (arith, how_many x, l)))
-    ∙ sym (each k (omega (arith, how_many x, l))))
+numbers_read_by_index x u long each =
+    same_number_lists (numbers_in x) u (omega (arith, count_of_numbers_in x))
+    (λ k l. get_or_from_slice_get _ k _ 0
+    (number_in_list_at x k (omega (arith, count_of_numbers_in x, l)))
+    ∙ sym (each k (omega (arith, count_of_numbers_in x, l))))
 
 -- equal numbers are in equal bytes
 pub numbers_in_same : (x y : List ℕ) → IsBytes x → IsBytes y → length x % 4 ≡ 0 → length y % 4 ≡ 0
     → numbers_in x ≡ numbers_in y → x ≡ y
-numbers_in_same x y tx ty wx wy e = cc ((whole x tx wx).0, (whole y ty wy).0)
+numbers_in_same x y tx ty wx wy e =
+    cc ((bytes_of_whole_numbers x tx wx).0, (bytes_of_whole_numbers y ty wy).0)

@@ -1,14 +1,14 @@
 //! The codec of one attribute of a reply about an IPv4 or IPv6 socket.
 
 ghost use Rattle.std.specs.Prelude.{refl, string_bytes};
-ghost use Rattle.netlink_core.specs.DefaultNla.{kept_attribute};
+ghost use Rattle.netlink_core.specs.DefaultNla.{raw_attribute};
 ghost use Rattle.netlink_core.specs.FirstAttribute.{first_attribute_codec};
-ghost use Rattle.netlink_core.specs.laws.FirstAttribute.{first_attribute_keeps_laws};
-ghost use Rattle.sock_diag_attributes.specs.InetAttributes.{inet};
+ghost use Rattle.netlink_core.specs.laws.FirstAttribute.{first_attribute_codec_laws};
+ghost use Rattle.sock_diag_attributes.specs.InetAttributes.{inet_attribute_set};
 ghost use Rattle.sock_diag_attributes.specs.laws.InetAttribute.{inet_laws};
-ghost use Rattle.sock_diag_attributes.specs.InetModel.{nla_model};
-ghost use Rattle.sock_diag_attributes.specs.laws.EqualInet.{equal};
-ghost use Rattle.sock_diag_attributes.specs.laws.Lent.{kept_row, text_row};
+ghost use Rattle.sock_diag_attributes.specs.InetModel.{inet_nla_model};
+ghost use Rattle.sock_diag_attributes.specs.laws.EqualInet.{inet_nlas_equal};
+ghost use Rattle.sock_diag_attributes.specs.laws.Lent.{default_nla_row, text_row};
 
 use super::nlas::{Nla, NlaView};
 use netlink_core::{CanonError, Coded, DecodeError, NlaBuffer, Wire, WireNla, write_new};
@@ -17,9 +17,9 @@ use std::alloc::Global;
 impl Coded for Nla {
     type Param = ();
 
-    ghost codec = { first_attribute_codec inet };
+    ghost codec = { first_attribute_codec inet_attribute_set };
 
-    ghost model = { nla_model };
+    ghost model = { inet_nla_model };
 
     ghost type_written = { λ _. 0 };
 
@@ -27,10 +27,10 @@ impl Coded for Nla {
         self.parts().1.in_range();
     }
 
-    ghost eq_is_model = { equal text_row kept_row _ _ string_bytes kept_attribute
+    ghost eq_is_model = { inet_nlas_equal text_row default_nla_row _ _ string_bytes raw_attribute
         (λ _ _. refl) (λ _ _. refl) };
 
-    ghost laws = { first_attribute_keeps_laws inet inet_laws };
+    ghost laws = { first_attribute_codec_laws inet_attribute_set inet_laws };
 }
 
 impl Wire for Nla {

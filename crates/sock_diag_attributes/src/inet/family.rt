@@ -1,8 +1,8 @@
 //! The attribute set of replies about IPv4 and IPv6 sockets.
 
 ghost use Rattle.std.specs.Prelude.{refl};
-ghost use Rattle.sock_diag_attributes.specs.InetAttributes.{inet};
-ghost use Rattle.sock_diag_attributes.specs.InetModel.{nla_model, nla_view_model};
+ghost use Rattle.sock_diag_attributes.specs.InetAttributes.{inet_attribute_set};
+ghost use Rattle.sock_diag_attributes.specs.InetModel.{inet_nla_model, inet_nla_view_model};
 ghost use Rattle.sock_diag_attributes.specs.contracts.inet.coded.NlaCoded.TheImpl.Laws.{eq_is_model-law as same_nla};
 
 use super::nlas::{Nla, NlaView};
@@ -11,9 +11,9 @@ use sock_diag_records::constants::INET_DIAG_INFO;
 use std::alloc::{AllocError, Global};
 
 impl<'a> FamilyView<'a> for NlaView<'a> {
-    ghost attribute_set = { inet };
+    ghost attribute_set = { inet_attribute_set };
 
-    ghost model = { nla_view_model };
+    ghost model = { inet_nla_view_model };
 
     ghost written_as = { λ _. refl };
 
@@ -31,9 +31,9 @@ impl<'a> FamilyView<'a> for NlaView<'a> {
 impl FamilyNla for Nla {
     const LARGE_KIND: Option<u16> = Some(INET_DIAG_INFO);
 
-    ghost attribute_set = { inet };
+    ghost attribute_set = { inet_attribute_set };
 
-    ghost model = { nla_model };
+    ghost model = { inet_nla_model };
 
     #[inline(always)]
     fn own_accepted(alloc: Global, nla: &NlaBuffer<'_>) -> Result<Self, AllocError> {

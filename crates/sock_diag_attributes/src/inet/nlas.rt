@@ -1,10 +1,10 @@
 //! The attributes of a reply about an IPv4 or IPv6 socket, and the types of their values.
 
 ghost use Rattle.std.specs.Prelude.{◌≡◌, [], Ok, Err, IsOk, IfOk, MatchResult, true};
-ghost use Rattle.netlink_core.specs.Attribute.{HasFittingValue, written};
-ghost use Rattle.netlink_core.specs.AttributeSet.{decodes, encodes, IsSpareBy};
-ghost use Rattle.netlink_core.specs.AttributeSet.{IsInRangeBy};
-ghost use Rattle.netlink_core.specs.Walk.{attribute_of};
+ghost use Rattle.netlink_core.specs.Attribute.{FitsLengthField, attribute_bytes};
+ghost use Rattle.netlink_core.specs.AttributeSet.{decode_attribute, encode_attribute};
+ghost use Rattle.netlink_core.specs.AttributeSet.{NeedsNoMemoryIn, IsInRangeIn};
+ghost use Rattle.netlink_core.specs.Walk.{buffered_attribute};
 ghost use Rattle.sock_diag_attributes.specs.private.Value.{value_bytes, IsValueInRange};
 
 use crate::lent::OtherNla;
@@ -69,13 +69,14 @@ impl Readable for Nla {
 }
 
 impl<T: AsStr, O: OtherNla> Emitable for InetNla<T, O> {
-    ghost use Rattle.sock_diag_attributes.specs.InetAttributes.{inet};
-    ghost use Rattle.sock_diag_attributes.specs.InetModel.{model};
+    ghost use Rattle.sock_diag_attributes.specs.InetAttributes.{inet_attribute_set};
+    ghost use Rattle.sock_diag_attributes.specs.InetModel.{inet_nla_value};
 
-    ghost bytes = { λ v. written (encodes inet (model T.text O.attribute v)) };
+    ghost bytes = { λ v. attribute_bytes
+        (encode_attribute inet_attribute_set (inet_nla_value T.text O.attribute v)) };
 
-    ghost writable = { λ v. HasFittingValue
-        (encodes inet (model T.text O.attribute v)) };
+    ghost writable = { λ v. FitsLengthField
+        (encode_attribute inet_attribute_set (inet_nla_value T.text O.attribute v)) };
 
     fn is_writable(&self) -> bool {
         self.value_fits()
@@ -114,31 +115,35 @@ impl MadeWith<Global> for Nla {
 }
 
 impl Nla {
-    ghost use Rattle.sock_diag_attributes.specs.InetAttributes.{inet};
-    ghost use Rattle.sock_diag_attributes.specs.InetModel.{nla_model};
+    ghost use Rattle.sock_diag_attributes.specs.InetAttributes.{inet_attribute_set};
+    ghost use Rattle.sock_diag_attributes.specs.InetModel.{inet_nla_model};
 
     /// Returns an equal attribute. Fails only if an allocation fails. Only a text, and an attribute
     /// of another kind whose value is not empty, need an allocation.
     pub fn clone(&self, alloc: Global) -> Result<Self, AllocError>
-        ensures equal { IfOk result (λ copy. nla_model copy ≡ nla_model self.now) }
-        ensures spare { IsSpareBy inet (nla_model self.now) → IsOk result }
-        ensures empty { (encodes inet (nla_model self.now)).value ≡ [] → IsOk result }
+        ensures equal { IfOk result (λ copy. inet_nla_model copy ≡ inet_nla_model self.now) }
+        ensures spare { NeedsNoMemoryIn inet_attribute_set (inet_nla_model self.now) → IsOk result }
+        ensures empty { (encode_attribute inet_attribute_set (inet_nla_model self.now)).value ≡ []
+            → IsOk result }
     {
         self.owned(alloc)
     }
 }
 
 impl<T: AsStr, O: OtherNla> InetNla<T, O> {
-    ghost use Rattle.sock_diag_attributes.specs.InetAttributes.{inet};
-    ghost use Rattle.sock_diag_attributes.specs.InetModel.{model, nla_model};
+    ghost use Rattle.sock_diag_attributes.specs.InetAttributes.{inet_attribute_set};
+    ghost use Rattle.sock_diag_attributes.specs.InetModel.{inet_nla_value, inet_nla_model};
 
     // Returns the attribute with an owned text and owned bytes.
     #[inline(always)]
     fn owned(&self, alloc: Global) -> Result<Nla, AllocError>
-        ensures equal { IfOk result (λ nla. nla_model nla ≡ model T.text O.attribute self.now) }
-        ensures spare { IsSpareBy inet (model T.text O.attribute self.now)
+        ensures equal { IfOk result (λ nla. inet_nla_model nla
+            ≡ inet_nla_value T.text O.attribute self.now) }
+        ensures spare { NeedsNoMemoryIn inet_attribute_set
+            (inet_nla_value T.text O.attribute self.now)
             → IsOk result }
-        ensures empty { (encodes inet (model T.text O.attribute self.now)).value ≡ []
+        ensures empty { (encode_attribute inet_attribute_set
+            (inet_nla_value T.text O.attribute self.now)).value ≡ []
             → IsOk result }
     {
         Ok(match self {
@@ -163,11 +168,13 @@ impl<T: AsStr, O: OtherNla> InetNla<T, O> {
     #[inline(always)]
     pub(super) fn parts(&self) -> (u16, Value<'_>)
         ensures kind { result.0
-            ≡ (encodes inet (model T.text O.attribute self.now)).type_word }
+            ≡ (encode_attribute inet_attribute_set
+            (inet_nla_value T.text O.attribute self.now)).type_word }
         ensures value { value_bytes result.1
-            ≡ (encodes inet (model T.text O.attribute self.now)).value }
+            ≡ (encode_attribute inet_attribute_set
+            (inet_nla_value T.text O.attribute self.now)).value }
         ensures in_range { IsValueInRange result.1
-            → IsInRangeBy inet (model T.text O.attribute self.now) }
+            → IsInRangeIn inet_attribute_set (inet_nla_value T.text O.attribute self.now) }
     {
         match self {
             InetNla::LegacyMemInfo(info) => (INET_DIAG_MEMINFO, Value::LegacyMemInfo(info)),
@@ -187,16 +194,17 @@ impl<T: AsStr, O: OtherNla> InetNla<T, O> {
 }
 
 impl<'a> NlaView<'a> {
-    ghost use Rattle.sock_diag_attributes.specs.InetAttributes.{inet};
-    ghost use Rattle.sock_diag_attributes.specs.InetModel.{nla_model, nla_view_model};
+    ghost use Rattle.sock_diag_attributes.specs.InetAttributes.{inet_attribute_set};
+    ghost use Rattle.sock_diag_attributes.specs.InetModel.{inet_nla_model, inet_nla_view_model};
 
     /// Parses the value by the kind of the attribute, whatever its flag bits. An attribute of an
     /// unknown kind is returned as `Other`.
     #[inline(always)]
     pub fn parse(nla: &NlaBuffer<'a>) -> Result<NlaView<'a>, DecodeError>
         ensures { MatchResult result
-            (λ view. decodes inet (attribute_of nla.now) ≡ Ok (nla_view_model view))
-            (λ e. decodes inet (attribute_of nla.now) ≡ Err e) }
+            (λ view. decode_attribute inet_attribute_set (buffered_attribute nla.now)
+            ≡ Ok (inet_nla_view_model view))
+            (λ e. decode_attribute inet_attribute_set (buffered_attribute nla.now) ≡ Err e) }
     {
         let value = nla.value();
         Ok(match nla.kind() {
@@ -218,8 +226,9 @@ impl<'a> NlaView<'a> {
     /// Parses the value of an attribute that [`NlaView::parse`] accepts.
     #[inline(always)]
     pub fn new(nla: &NlaBuffer<'a>) -> NlaView<'a>
-        requires { IsOk (decodes inet (attribute_of nla.now)) }
-        ensures { decodes inet (attribute_of nla.now) ≡ Ok (nla_view_model result) }
+        requires { IsOk (decode_attribute inet_attribute_set (buffered_attribute nla.now)) }
+        ensures { decode_attribute inet_attribute_set (buffered_attribute nla.now)
+            ≡ Ok (inet_nla_view_model result) }
     {
         let Ok(view) = NlaView::parse(nla) else {
             unreachable!();
@@ -230,9 +239,11 @@ impl<'a> NlaView<'a> {
     /// Returns the attribute with an owned text and owned bytes. Fails only if an allocation fails.
     #[inline(always)]
     pub fn to_owned(&self, alloc: Global) -> Result<Nla, AllocError>
-        ensures equal { IfOk result (λ nla. nla_model nla ≡ nla_view_model self.now) }
-        ensures spare { IsSpareBy inet (nla_view_model self.now) → IsOk result }
-        ensures empty { (encodes inet (nla_view_model self.now)).value ≡ [] → IsOk result }
+        ensures equal { IfOk result (λ nla. inet_nla_model nla ≡ inet_nla_view_model self.now) }
+        ensures spare { NeedsNoMemoryIn inet_attribute_set (inet_nla_view_model self.now)
+            → IsOk result }
+        ensures empty { (encode_attribute inet_attribute_set (inet_nla_view_model self.now)).value
+            ≡ [] → IsOk result }
     {
         self.owned(alloc)
     }
@@ -247,10 +258,11 @@ impl<'a> Parseable<NlaBuffer<'a>> for Nla {
 }
 
 impl<T: AsStr, O: OtherNla> NlaTrait for InetNla<T, O> {
-    ghost use Rattle.sock_diag_attributes.specs.InetAttributes.{inet};
-    ghost use Rattle.sock_diag_attributes.specs.InetModel.{model};
+    ghost use Rattle.sock_diag_attributes.specs.InetAttributes.{inet_attribute_set};
+    ghost use Rattle.sock_diag_attributes.specs.InetModel.{inet_nla_value};
 
-    ghost attribute = { λ v. encodes inet (model T.text O.attribute v) };
+    ghost attribute = { λ v. encode_attribute inet_attribute_set
+        (inet_nla_value T.text O.attribute v) };
 
     fn value_len(&self) -> usize {
         self.parts().1.len()

@@ -1,16 +1,17 @@
 //! The codec of one attribute of a reply about a UNIX socket.
 
 ghost use Rattle.std.specs.Prelude.{refl, vec_items};
-ghost use Rattle.netlink_core.specs.DefaultNla.{kept_attribute};
+ghost use Rattle.netlink_core.specs.DefaultNla.{raw_attribute};
 ghost use Rattle.netlink_core.specs.FirstAttribute.{first_attribute_codec};
-ghost use Rattle.netlink_core.specs.laws.FirstAttribute.{first_attribute_keeps_laws};
-ghost use Rattle.sock_diag_attributes.specs.UnixAttributes.{unix};
+ghost use Rattle.netlink_core.specs.laws.FirstAttribute.{first_attribute_codec_laws};
+ghost use Rattle.sock_diag_attributes.specs.UnixAttributes.{unix_attribute_set};
 ghost use Rattle.sock_diag_attributes.specs.laws.UnixAttribute.{unix_laws};
-ghost use Rattle.sock_diag_attributes.specs.UnixModel.{nla_model};
-ghost use Rattle.sock_diag_attributes.specs.NameModel.{name_of};
-ghost use Rattle.sock_diag_attributes.specs.laws.EqualUnix.{equal};
+ghost use Rattle.sock_diag_attributes.specs.UnixModel.{unix_nla_model};
+ghost use Rattle.sock_diag_attributes.specs.NameModel.{socket_name_model};
+ghost use Rattle.sock_diag_attributes.specs.laws.EqualUnix.{unix_nlas_equal};
 ghost use Rattle.sock_diag_attributes.specs.laws.EqualName.{same_names};
-ghost use Rattle.sock_diag_attributes.specs.laws.Lent.{byte_list_row, kept_row, list_row, name_row};
+ghost use Rattle.sock_diag_attributes.specs.laws.Lent.{byte_list_row, default_nla_row, list_row};
+ghost use Rattle.sock_diag_attributes.specs.laws.Lent.{name_row};
 
 use super::nlas::{Nla, NlaView};
 use netlink_core::{CanonError, Coded, DecodeError, NlaBuffer, Wire, WireNla, write_new};
@@ -19,9 +20,9 @@ use std::alloc::Global;
 impl Coded for Nla {
     type Param = ();
 
-    ghost codec = { first_attribute_codec unix };
+    ghost codec = { first_attribute_codec unix_attribute_set };
 
-    ghost model = { nla_model };
+    ghost model = { unix_nla_model };
 
     ghost type_written = { λ _. 0 };
 
@@ -29,11 +30,12 @@ impl Coded for Nla {
         self.parts().1.in_range();
     }
 
-    ghost eq_is_model = { equal name_row list_row kept_row _ _ _ (name_of vec_items) vec_items
-        kept_attribute (same_names byte_list_row _ vec_items (λ _ _. refl)) (λ _ _. refl)
+    ghost eq_is_model = { unix_nlas_equal name_row list_row default_nla_row _ _ _
+        (socket_name_model vec_items) vec_items
+        raw_attribute (same_names byte_list_row _ vec_items (λ _ _. refl)) (λ _ _. refl)
         (λ _ _. refl) };
 
-    ghost laws = { first_attribute_keeps_laws unix unix_laws };
+    ghost laws = { first_attribute_codec_laws unix_attribute_set unix_laws };
 }
 
 impl Wire for Nla {

@@ -1,8 +1,8 @@
 //! The attribute set of replies about UNIX sockets.
 
 ghost use Rattle.std.specs.Prelude.{refl};
-ghost use Rattle.sock_diag_attributes.specs.UnixAttributes.{unix};
-ghost use Rattle.sock_diag_attributes.specs.UnixModel.{nla_model, nla_view_model};
+ghost use Rattle.sock_diag_attributes.specs.UnixAttributes.{unix_attribute_set};
+ghost use Rattle.sock_diag_attributes.specs.UnixModel.{unix_nla_model, unix_nla_view_model};
 ghost use Rattle.sock_diag_attributes.specs.contracts.unix.coded.NlaCoded.TheImpl.Laws.{eq_is_model-law as same_nla};
 
 use super::nlas::{Nla, NlaView};
@@ -10,9 +10,9 @@ use netlink_core::{Coded, DecodeError, FamilyNla, FamilyView, NlaBuffer};
 use std::alloc::{AllocError, Global};
 
 impl<'a> FamilyView<'a> for NlaView<'a> {
-    ghost attribute_set = { unix };
+    ghost attribute_set = { unix_attribute_set };
 
-    ghost model = { nla_view_model };
+    ghost model = { unix_nla_view_model };
 
     ghost written_as = { λ _. refl };
 
@@ -28,9 +28,9 @@ impl<'a> FamilyView<'a> for NlaView<'a> {
 }
 
 impl FamilyNla for Nla {
-    ghost attribute_set = { unix };
+    ghost attribute_set = { unix_attribute_set };
 
-    ghost model = { nla_model };
+    ghost model = { unix_nla_model };
 
     #[inline(always)]
     fn own_accepted(alloc: Global, nla: &NlaBuffer<'_>) -> Result<Self, AllocError> {

@@ -5,7 +5,7 @@ ghost use Rattle.std.specs.Prelude.{IsOk, MatchOption, MatchResult, Ok, Err, tru
 ghost use Rattle.std.specs.Prelude.{⊤};
 ghost use Rattle.netlink_core.specs.Bytes.{HoldsAtStart, IsBytes};
 ghost use Rattle.sock_diag_attributes.specs.Name.{read_name, name_bytes, name_codec};
-ghost use Rattle.sock_diag_attributes.specs.laws.Name.{HasNoZero, name_keeps_laws};
+ghost use Rattle.sock_diag_attributes.specs.laws.Name.{HasNoZero, name_codec_laws};
 
 use netlink_core::{
     CanonError, Coded, DecodeError, Emitable, Parseable, Readable, Wire, bytes_in_range, copy_list,
@@ -44,20 +44,22 @@ pub type UnixDiagName = SocketName<Vec<u8>>;
 pub type NameView<'a> = SocketName<&'a [u8]>;
 
 impl UnixDiagName {
-    ghost use Rattle.sock_diag_attributes.specs.NameModel.{name_of};
+    ghost use Rattle.sock_diag_attributes.specs.NameModel.{socket_name_model};
 
     /// Returns an equal name. Fails only if an allocation fails. A name that serializes to one byte
     /// needs no allocation.
     pub fn clone(&self, alloc: Global) -> Result<Self, AllocError>
-        ensures equal { IfOk result (λ name. name_of vec_items name ≡ name_of vec_items self.now) }
-        ensures spare { length (name_bytes (name_of vec_items self.now)) ≤ 1 → IsOk result }
+        ensures equal { IfOk result (λ name. socket_name_model vec_items name
+            ≡ socket_name_model vec_items self.now) }
+        ensures spare { length (name_bytes (socket_name_model vec_items self.now)) ≤ 1
+            → IsOk result }
     {
         self.view().to_owned(alloc)
     }
 
     // Returns the name with borrowed bytes.
     pub(crate) fn view(&self) -> NameView<'_>
-        ensures { name_of (λ b. b.now) result ≡ name_of vec_items self.now }
+        ensures { socket_name_model (λ b. b.now) result ≡ socket_name_model vec_items self.now }
     {
         match self {
             UnixDiagName::Pathname(path) => NameView::Pathname(path),
@@ -67,7 +69,7 @@ impl UnixDiagName {
 }
 
 impl<'a> NameView<'a> {
-    ghost use Rattle.sock_diag_attributes.specs.NameModel.{name_of};
+    ghost use Rattle.sock_diag_attributes.specs.NameModel.{socket_name_model};
 
     /// Parses all of the bytes as a name. Returns `NameEmpty` if there are no bytes. For a path,
     /// returns `NameInnerZero` if the first zero is before the last byte, and `NameWithoutEnd` if
@@ -76,7 +78,7 @@ impl<'a> NameView<'a> {
     #[tactic(auto, using(crate::specs::laws::Name::reads_inner_zero, crate::specs::laws::Name::reads_path, crate::specs::laws::Name::reads_no_end))]
     pub fn parse(bytes: &'a [u8]) -> Result<NameView<'a>, DecodeError>
         ensures { MatchResult result
-            (λ name. read_name bytes.entry.now ≡ Ok (name_of (λ b. b.now) name))
+            (λ name. read_name bytes.entry.now ≡ Ok (socket_name_model (λ b. b.now) name))
             (λ e. read_name bytes.entry.now ≡ Err e) }
     {
         let Some((last, path)) = bytes.split_last() else {
@@ -95,10 +97,10 @@ impl<'a> NameView<'a> {
     /// Returns the name in bytes that [`NameView::parse`] accepts. They are not searched for zeros
     /// again.
     #[inline(always)]
-    #[tactic(auto, using(crate::specs::laws::Name::known_path))]
+    #[tactic(auto, using(crate::specs::laws::Name::accepted_name_is_path))]
     pub fn new(bytes: &'a [u8]) -> NameView<'a>
         requires { IsOk (read_name bytes.now) }
-        ensures { read_name bytes.entry.now ≡ Ok (name_of (λ b. b.now) result) }
+        ensures { read_name bytes.entry.now ≡ Ok (socket_name_model (λ b. b.now) result) }
     {
         let Some((_, path)) = bytes.split_last() else {
             unreachable!();
@@ -111,7 +113,7 @@ impl<'a> NameView<'a> {
 
     // Returns the length of the serialized name in bytes.
     pub(crate) fn len(&self) -> usize
-        ensures { result ≡ length (name_bytes (name_of (λ b. b.now) self.now)) }
+        ensures { result ≡ length (name_bytes (socket_name_model (λ b. b.now) self.now)) }
     {
         match self {
             NameView::Pathname(path) => path.len() + 1,
@@ -121,8 +123,10 @@ impl<'a> NameView<'a> {
 
     // Writes the name with its zero at the start of `buffer`. The bytes after it are unchanged.
     pub(crate) fn emit_name(&self, buffer: &mut [u8])
-        requires { length (name_bytes (name_of (λ b. b.now) self.now)) ≤ length buffer.old }
-        ensures { HoldsAtStart (name_bytes (name_of (λ b. b.now) self.now)) buffer.old buffer.new }
+        requires { length (name_bytes (socket_name_model (λ b. b.now) self.now))
+            ≤ length buffer.old }
+        ensures { HoldsAtStart (name_bytes (socket_name_model (λ b. b.now) self.now)) buffer.old
+            buffer.new }
     {
         match self {
             NameView::Pathname(path) => {
@@ -139,7 +143,7 @@ impl<'a> NameView<'a> {
     // Proof only: puts the range of the bytes in scope. No run-time effect.
     #[tactic(auto, using(crate::specs::laws::Name::path_bytes_in_range, crate::specs::laws::Name::address_bytes_in_range))]
     pub(crate) fn in_range(&self)
-        ensures { IsBytes (name_bytes (name_of (λ b. b.now) self.now)) }
+        ensures { IsBytes (name_bytes (socket_name_model (λ b. b.now) self.now)) }
     {
         match self {
             NameView::Pathname(path) => bytes_in_range(path),
@@ -151,8 +155,9 @@ impl<'a> NameView<'a> {
     /// to one byte needs no allocation.
     pub fn to_owned(&self, alloc: Global) -> Result<UnixDiagName, AllocError>
         ensures equal { IfOk result (λ name.
-            name_of vec_items name ≡ name_of (λ b. b.now) self.now) }
-        ensures spare { length (name_bytes (name_of (λ b. b.now) self.now)) ≤ 1 → IsOk result }
+            socket_name_model vec_items name ≡ socket_name_model (λ b. b.now) self.now) }
+        ensures spare { length (name_bytes (socket_name_model (λ b. b.now) self.now)) ≤ 1
+            → IsOk result }
     {
         Ok(match self {
             NameView::Pathname(path) => UnixDiagName::Pathname(copy_list(alloc, path)?),
@@ -177,11 +182,11 @@ impl<'a> Parseable<&'a [u8]> for UnixDiagName {
 }
 
 impl Emitable for UnixDiagName {
-    ghost use Rattle.sock_diag_attributes.specs.NameModel.{name_of};
+    ghost use Rattle.sock_diag_attributes.specs.NameModel.{socket_name_model};
 
-    ghost bytes = { λ v. name_bytes (name_of vec_items v) };
+    ghost bytes = { λ v. name_bytes (socket_name_model vec_items v) };
 
-    ghost writable = { λ v. length (name_bytes (name_of vec_items v)) ≤ 4294967295 };
+    ghost writable = { λ v. length (name_bytes (socket_name_model vec_items v)) ≤ 4294967295 };
 
     fn is_writable(&self) -> bool {
         self.view().len() <= u32::MAX as usize
@@ -197,11 +202,11 @@ impl Emitable for UnixDiagName {
 }
 
 impl Emitable for NameView<'_> {
-    ghost use Rattle.sock_diag_attributes.specs.NameModel.{name_of};
+    ghost use Rattle.sock_diag_attributes.specs.NameModel.{socket_name_model};
 
-    ghost bytes = { λ v. name_bytes (name_of (λ b. b.now) v) };
+    ghost bytes = { λ v. name_bytes (socket_name_model (λ b. b.now) v) };
 
-    ghost writable = { λ v. length (name_bytes (name_of (λ b. b.now) v)) ≤ 4294967295 };
+    ghost writable = { λ v. length (name_bytes (socket_name_model (λ b. b.now) v)) ≤ 4294967295 };
 
     fn is_writable(&self) -> bool {
         self.len() <= u32::MAX as usize
@@ -217,7 +222,7 @@ impl Emitable for NameView<'_> {
 }
 
 impl Coded for UnixDiagName {
-    ghost use Rattle.sock_diag_attributes.specs.NameModel.{name_of};
+    ghost use Rattle.sock_diag_attributes.specs.NameModel.{socket_name_model};
     ghost use Rattle.sock_diag_attributes.specs.laws.EqualName.{names_equal};
     ghost use Rattle.sock_diag_attributes.specs.laws.Lent.{byte_list_row};
 
@@ -225,7 +230,7 @@ impl Coded for UnixDiagName {
 
     ghost codec = { name_codec };
 
-    ghost model = { name_of vec_items };
+    ghost model = { socket_name_model vec_items };
 
     ghost type_written = { λ _. 0 };
 
@@ -235,7 +240,7 @@ impl Coded for UnixDiagName {
 
     ghost eq_is_model = { names_equal byte_list_row _ vec_items (λ _ _. refl) };
 
-    ghost laws = { name_keeps_laws };
+    ghost laws = { name_codec_laws };
 }
 
 impl Wire for UnixDiagName {

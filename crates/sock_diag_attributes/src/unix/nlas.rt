@@ -1,10 +1,10 @@
 //! The attributes of a reply about a UNIX socket, and the types of their values.
 
 ghost use Rattle.std.specs.Prelude.{◌≡◌, [], Ok, Err, IsOk, IfOk, MatchResult, true};
-ghost use Rattle.netlink_core.specs.Attribute.{HasFittingValue, written};
-ghost use Rattle.netlink_core.specs.AttributeSet.{decodes, encodes, IsSpareBy};
-ghost use Rattle.netlink_core.specs.AttributeSet.{IsInRangeBy};
-ghost use Rattle.netlink_core.specs.Walk.{attribute_of};
+ghost use Rattle.netlink_core.specs.Attribute.{FitsLengthField, attribute_bytes};
+ghost use Rattle.netlink_core.specs.AttributeSet.{decode_attribute, encode_attribute};
+ghost use Rattle.netlink_core.specs.AttributeSet.{NeedsNoMemoryIn, IsInRangeIn};
+ghost use Rattle.netlink_core.specs.Walk.{buffered_attribute};
 ghost use Rattle.sock_diag_attributes.specs.private.Value.{value_bytes, IsValueInRange};
 
 use crate::lent::{LendsName, LendsNumbers, OtherNla};
@@ -65,13 +65,14 @@ impl Readable for Nla {
 }
 
 impl<N: LendsName, L: LendsNumbers, O: OtherNla> Emitable for UnixNla<N, L, O> {
-    ghost use Rattle.sock_diag_attributes.specs.UnixAttributes.{unix};
-    ghost use Rattle.sock_diag_attributes.specs.UnixModel.{model};
+    ghost use Rattle.sock_diag_attributes.specs.UnixAttributes.{unix_attribute_set};
+    ghost use Rattle.sock_diag_attributes.specs.UnixModel.{unix_nla_value};
 
-    ghost bytes = { λ v. written (encodes unix (model N.name L.numbers O.attribute v)) };
+    ghost bytes = { λ v. attribute_bytes
+        (encode_attribute unix_attribute_set (unix_nla_value N.name L.numbers O.attribute v)) };
 
-    ghost writable = { λ v. HasFittingValue
-        (encodes unix (model N.name L.numbers O.attribute v)) };
+    ghost writable = { λ v. FitsLengthField
+        (encode_attribute unix_attribute_set (unix_nla_value N.name L.numbers O.attribute v)) };
 
     fn is_writable(&self) -> bool {
         self.value_fits()
@@ -98,33 +99,36 @@ impl MadeWith<Global> for Nla {
 }
 
 impl Nla {
-    ghost use Rattle.sock_diag_attributes.specs.UnixAttributes.{unix};
-    ghost use Rattle.sock_diag_attributes.specs.UnixModel.{nla_model};
+    ghost use Rattle.sock_diag_attributes.specs.UnixAttributes.{unix_attribute_set};
+    ghost use Rattle.sock_diag_attributes.specs.UnixModel.{unix_nla_model};
 
     /// Returns an equal attribute. Fails only if an allocation fails. Only a name, a list that is
     /// not empty, and an attribute of another kind whose value is not empty, need an allocation.
     pub fn clone(&self, alloc: Global) -> Result<Self, AllocError>
-        ensures equal { IfOk result (λ copy. nla_model copy ≡ nla_model self.now) }
-        ensures spare { IsSpareBy unix (nla_model self.now) → IsOk result }
-        ensures empty { (encodes unix (nla_model self.now)).value ≡ [] → IsOk result }
+        ensures equal { IfOk result (λ copy. unix_nla_model copy ≡ unix_nla_model self.now) }
+        ensures spare { NeedsNoMemoryIn unix_attribute_set (unix_nla_model self.now) → IsOk result }
+        ensures empty { (encode_attribute unix_attribute_set (unix_nla_model self.now)).value ≡ []
+            → IsOk result }
     {
         self.owned(alloc)
     }
 }
 
 impl<N: LendsName, L: LendsNumbers, O: OtherNla> UnixNla<N, L, O> {
-    ghost use Rattle.sock_diag_attributes.specs.UnixAttributes.{unix};
-    ghost use Rattle.sock_diag_attributes.specs.UnixModel.{model, nla_model};
+    ghost use Rattle.sock_diag_attributes.specs.UnixAttributes.{unix_attribute_set};
+    ghost use Rattle.sock_diag_attributes.specs.UnixModel.{unix_nla_value, unix_nla_model};
 
     // Returns the attribute with an owned name, owned numbers and owned bytes.
     #[inline(always)]
     #[tactic(auto, using(crate::specs::laws::Number::no_numbers))]
     fn owned(&self, alloc: Global) -> Result<Nla, AllocError>
         ensures equal { IfOk result (λ nla.
-            nla_model nla ≡ model N.name L.numbers O.attribute self.now) }
-        ensures spare { IsSpareBy unix (model N.name L.numbers O.attribute self.now)
+            unix_nla_model nla ≡ unix_nla_value N.name L.numbers O.attribute self.now) }
+        ensures spare { NeedsNoMemoryIn unix_attribute_set
+            (unix_nla_value N.name L.numbers O.attribute self.now)
             → IsOk result }
-        ensures empty { (encodes unix (model N.name L.numbers O.attribute self.now)).value
+        ensures empty { (encode_attribute unix_attribute_set
+            (unix_nla_value N.name L.numbers O.attribute self.now)).value
             ≡ []
             → IsOk result }
     {
@@ -144,11 +148,14 @@ impl<N: LendsName, L: LendsNumbers, O: OtherNla> UnixNla<N, L, O> {
     #[inline(always)]
     pub(super) fn parts(&self) -> (u16, Value<'_>)
         ensures kind { result.0
-            ≡ (encodes unix (model N.name L.numbers O.attribute self.now)).type_word }
+            ≡ (encode_attribute unix_attribute_set
+            (unix_nla_value N.name L.numbers O.attribute self.now)).type_word }
         ensures value { value_bytes result.1
-            ≡ (encodes unix (model N.name L.numbers O.attribute self.now)).value }
+            ≡ (encode_attribute unix_attribute_set
+            (unix_nla_value N.name L.numbers O.attribute self.now)).value }
         ensures in_range { IsValueInRange result.1
-            → IsInRangeBy unix (model N.name L.numbers O.attribute self.now) }
+            → IsInRangeIn unix_attribute_set
+            (unix_nla_value N.name L.numbers O.attribute self.now) }
     {
         match self {
             UnixNla::Name(name) => (UNIX_DIAG_NAME, Value::Name(name.lent_name())),
@@ -166,16 +173,17 @@ impl<N: LendsName, L: LendsNumbers, O: OtherNla> UnixNla<N, L, O> {
 }
 
 impl<'a> NlaView<'a> {
-    ghost use Rattle.sock_diag_attributes.specs.UnixAttributes.{unix};
-    ghost use Rattle.sock_diag_attributes.specs.UnixModel.{nla_model, nla_view_model};
+    ghost use Rattle.sock_diag_attributes.specs.UnixAttributes.{unix_attribute_set};
+    ghost use Rattle.sock_diag_attributes.specs.UnixModel.{unix_nla_model, unix_nla_view_model};
 
     /// Parses the value by the kind of the attribute, whatever its flag bits. An attribute of an
     /// unknown kind is returned as `Other`.
     #[inline(always)]
     pub fn parse(nla: &NlaBuffer<'a>) -> Result<NlaView<'a>, DecodeError>
         ensures { MatchResult result
-            (λ view. decodes unix (attribute_of nla.now) ≡ Ok (nla_view_model view))
-            (λ e. decodes unix (attribute_of nla.now) ≡ Err e) }
+            (λ view. decode_attribute unix_attribute_set (buffered_attribute nla.now)
+            ≡ Ok (unix_nla_view_model view))
+            (λ e. decode_attribute unix_attribute_set (buffered_attribute nla.now) ≡ Err e) }
     {
         let value = nla.value();
         Ok(match nla.kind() {
@@ -197,8 +205,9 @@ impl<'a> NlaView<'a> {
     /// zeros again.
     #[inline(always)]
     pub fn new(nla: &NlaBuffer<'a>) -> NlaView<'a>
-        requires { IsOk (decodes unix (attribute_of nla.now)) }
-        ensures { decodes unix (attribute_of nla.now) ≡ Ok (nla_view_model result) }
+        requires { IsOk (decode_attribute unix_attribute_set (buffered_attribute nla.now)) }
+        ensures { decode_attribute unix_attribute_set (buffered_attribute nla.now)
+            ≡ Ok (unix_nla_view_model result) }
     {
         if nla.kind() == UNIX_DIAG_NAME {
             return NlaView::Name(NameView::new(nla.value()));
@@ -213,9 +222,11 @@ impl<'a> NlaView<'a> {
     /// allocation fails.
     #[inline(always)]
     pub fn to_owned(&self, alloc: Global) -> Result<Nla, AllocError>
-        ensures equal { IfOk result (λ nla. nla_model nla ≡ nla_view_model self.now) }
-        ensures spare { IsSpareBy unix (nla_view_model self.now) → IsOk result }
-        ensures empty { (encodes unix (nla_view_model self.now)).value ≡ [] → IsOk result }
+        ensures equal { IfOk result (λ nla. unix_nla_model nla ≡ unix_nla_view_model self.now) }
+        ensures spare { NeedsNoMemoryIn unix_attribute_set (unix_nla_view_model self.now)
+            → IsOk result }
+        ensures empty { (encode_attribute unix_attribute_set (unix_nla_view_model self.now)).value
+            ≡ [] → IsOk result }
     {
         self.owned(alloc)
     }
@@ -230,10 +241,11 @@ impl<'a> Parseable<NlaBuffer<'a>> for Nla {
 }
 
 impl<N: LendsName, L: LendsNumbers, O: OtherNla> NlaTrait for UnixNla<N, L, O> {
-    ghost use Rattle.sock_diag_attributes.specs.UnixAttributes.{unix};
-    ghost use Rattle.sock_diag_attributes.specs.UnixModel.{model};
+    ghost use Rattle.sock_diag_attributes.specs.UnixAttributes.{unix_attribute_set};
+    ghost use Rattle.sock_diag_attributes.specs.UnixModel.{unix_nla_value};
 
-    ghost attribute = { λ v. encodes unix (model N.name L.numbers O.attribute v) };
+    ghost attribute = { λ v. encode_attribute unix_attribute_set
+        (unix_nla_value N.name L.numbers O.attribute v) };
 
     fn value_len(&self) -> usize {
         self.parts().1.len()

@@ -1,8 +1,8 @@
 use Rattle.std.proofs.Common.{true, ◌++◌}
 use Rattle.capture_tables.proofs.Reporting.{reports_from_start, reports_then}
-use Rattle.capture_tables.specs.Reports.{Reports, ReportsMore}
+use Rattle.capture_tables.specs.Reports.{ReportsText, ReportsMore}
 use Rattle.capture_tables.specs.declared.run.RunError.{RunError}
-use Rattle.sock_diag_captures.proofs.Failing.{outcome_of}
+use Rattle.sock_diag_captures.proofs.Failing.{run_outcome}
 use Rattle.sock_diag_captures.specs.private.Run.{closing_text}
 use Rattle.sock_diag_captures.proofs.list_to_status.Goals as goal
 
@@ -22,8 +22,8 @@ returns-clause-outcome g c =
       is_open,
       c.exit_code.ensures.success,
       c.exit_code.ensures.failure,
-      outcome_of _ _ _ _ _ _ _ (ReportsMore start none true before some opened)
-          (λ d. Reports start end last d is_open) _ outcome
+      run_outcome _ _ _ _ _ _ _ (ReportsMore start none true before some opened)
+          (λ d. ReportsText start end last d is_open) _ outcome
           (λ d first. reports_from_start start end none last is_open (d ++ closing)
           (reports_then start before end none some last true opened is_open d closing first
           c.report_outcome.ensures))

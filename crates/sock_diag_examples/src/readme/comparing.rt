@@ -2,7 +2,7 @@
 
 ghost use Rattle.std.specs.Prelude.{◌≡◌, ◌↔◌, ◌⊎◌, ◌<◌, ◌++◌, length, drop, IsTrue, IfOk, IfErr};
 ghost use Rattle.std.specs.Prelude.{MatchOption, OnOk};
-ghost use Rattle.netlink_core.specs.Response.{ValueOf, response_bytes, response_codec};
+ghost use Rattle.netlink_core.specs.Response.{ReplyValue, response_bytes, response_codec};
 ghost use Rattle.sock_diag_replies.specs.UnixResponseSpec.{unix_response_spec};
 ghost use Rattle.sock_diag_examples.specs.Readme.{IsUnixReply};
 
@@ -25,7 +25,7 @@ pub fn tell_the_same(one: &[u8], other: &[u8]) -> Result<bool, DecodeError>
 /// Serializes the canonical form of a reply at the start of a buffer. Returns the number of bytes,
 /// or `None` if the reply can't be serialized or the buffer is too short.
 pub fn rewrite(bytes: &[u8], buffer: &mut [u8]) -> Result<Option<usize>, DecodeError>
-    ensures value { IfOk result (λ written. (v : ValueOf unix_response_spec)
+    ensures value { IfOk result (λ written. (v : ReplyValue unix_response_spec)
         × (response_codec unix_response_spec).reads bytes.now tt v
         × MatchOption written
         ((buffer.new ≡ buffer.old)

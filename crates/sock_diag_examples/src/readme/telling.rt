@@ -1,10 +1,10 @@
 //! Building a reply.
 
 ghost use Rattle.std.specs.Prelude.{◌≡◌, [], ◌∷◌, replicate, IfOk};
-ghost use Rattle.netlink_core.specs.AttributeSet.{of_type};
+ghost use Rattle.netlink_core.specs.AttributeSet.{value_as_decoded};
 ghost use Rattle.sock_diag_attributes.specs.declared.unix.name.SocketName.TheVariants.{Pathname};
 ghost use Rattle.sock_diag_examples.specs.UnixResponseModel.{unix_response_model};
-ghost use Rattle.sock_diag_attributes.specs.UnixAttributes.{unix};
+ghost use Rattle.sock_diag_attributes.specs.UnixAttributes.{unix_attribute_set};
 ghost use Rattle.sock_diag_records.specs.declared.constants.TheConstants.{UNIX_DIAG_NAME};
 
 use netlink_packet_sock_diag::constants::{SOCK_STREAM, TCP_LISTEN};
@@ -23,7 +23,8 @@ pub fn listener(alloc: Global, inode: u32, path: &[u8]) -> Result<UnixResponse, 
           cookie = replicate 8 0;
         }) }
     ensures name { IfOk result
-        (λ reply. (unix_response_model reply).nlas ≡ of_type unix UNIX_DIAG_NAME
+        (λ reply. (unix_response_model reply).nlas
+        ≡ value_as_decoded unix_attribute_set UNIX_DIAG_NAME
         (Pathname path.now) ∷ []) }
 {
     let mut nlas = SmallVec::new(alloc);

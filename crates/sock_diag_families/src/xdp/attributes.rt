@@ -2,8 +2,8 @@
 
 ghost use Rattle.std.proofs.Common.{rules};
 ghost use Rattle.std.specs.Prelude.{◌≡◌, ◌≤◌, length};
-ghost use Rattle.sock_diag_families.specs.XdpAttributes.{xdp_info, xdp_umem, xdp_umem_in};
-ghost use Rattle.sock_diag_families.specs.XdpAttributes.{xdp_statistics, xdp_statistics_in};
+ghost use Rattle.sock_diag_families.specs.XdpAttributes.{xdp_info, xdp_umem, xdp_umem_fields};
+ghost use Rattle.sock_diag_families.specs.XdpAttributes.{xdp_statistics, xdp_statistics_fields};
 
 use super::{AF_XDP, XDP_DIAG_INFO, XDP_DIAG_STATS, XDP_DIAG_UMEM};
 use crate::values::enough_in;
@@ -116,7 +116,7 @@ impl XdpStatistics {
 // Parses a `struct xdp_diag_umem`.
 fn umem_in(value: &[u8]) -> XdpUmem
     requires { 40 ≤ length value.now }
-    ensures { result ≡ xdp_umem_in value.now }
+    ensures { result ≡ xdp_umem_fields value.now }
 {
     let [size] = long_words_at::<1>(value, 0);
     let [
@@ -145,7 +145,7 @@ fn umem_in(value: &[u8]) -> XdpUmem
 // Parses a `struct xdp_diag_stats`.
 fn statistics_in(value: &[u8]) -> XdpStatistics
     requires { 48 ≤ length value.now }
-    ensures { result ≡ xdp_statistics_in value.now }
+    ensures { result ≡ xdp_statistics_fields value.now }
 {
     let [
         received_dropped,

@@ -4,17 +4,17 @@ use Rattle.byteorder.specs.Endian.{little_bytes}
 use Rattle.sock_diag_filters.specs.declared.filter.Filter.{Filter}
 use Rattle.sock_diag_filters.specs.declared.filter.Filter.TheVariants as parts
 use Rattle.sock_diag_filters.specs.Conditions.{arguments, code_of}
-use Rattle.sock_diag_filters.specs.Filters.{size}
+use Rattle.sock_diag_filters.specs.Filters.{program_size}
 
 -- The `struct inet_diag_bc_op` of an operation with `n` bytes of arguments: `code`; `yes`, its
 -- length; and `no` as a little-endian u16. If its condition is not met, `no` leads to `far` bytes
 -- after its end.
-abbrev pub front_bytes : ℕ → ℕ → ℕ → List ℕ
-front_bytes code n far = code ∷ (4 + n) ∷ little_bytes 2 (4 + n + far)
+abbrev pub operation_header_bytes : ℕ → ℕ → ℕ → List ℕ
+operation_header_bytes code n far = code ∷ (4 + n) ∷ little_bytes 2 (4 + n + far)
 
 -- The bytes of an operation: its `struct inet_diag_bc_op`, and its arguments.
 abbrev pub operation : ℕ → List ℕ → ℕ → List ℕ
-operation code arguments far = front_bytes code (length arguments) far ++ arguments
+operation code arguments far = operation_header_bytes code (length arguments) far ++ arguments
 
 -- An operation INET_DIAG_BC_JMP (1) over `far` bytes. Its condition is never met.
 abbrev pub jump : ℕ → List ℕ
@@ -28,7 +28,7 @@ jump far = operation 1 [] far
 abbrev pub program_of : Filter → ℕ → List ℕ
 program_of (parts.Condition c) far = operation (code_of c) (arguments c) far
 program_of (parts.And' p first q second) far =
-    program_of first (size second + far) ++ program_of second far
+    program_of first (program_size second + far) ++ program_of second far
 program_of (parts.Or' p first q second) far =
-    program_of first 4 ++ (jump (size second) ++ program_of second far)
+    program_of first 4 ++ (jump (program_size second) ++ program_of second far)
 program_of (parts.Not' p filter) far = program_of filter 4 ++ jump far

@@ -2,7 +2,7 @@ use Rattle.std.proofs.Common.{◌≡◌, ℕ, Bool, List, [], ◌∷◌, ◌++�
 use Rattle.std.proofs.Common.{Ok, Err, sym}
 use Rattle.std.specs.Prelude.{IfErr, codes}
 use Rattle.std.specs.Io.KnownBytes.{Appends}
-use Rattle.line_server.specs.Run.{SendsOrFails}
+use Rattle.line_server.specs.Run.{WritesAllOrFails}
 use Rattle.sock_diag_lines.specs.private.Run.{failure_line}
 use Rattle.line_server.specs.declared.stream.RunError.{RunError}
 use Rattle.line_server.specs.declared.stream.RunError.TheVariants.{Read, Write, Memory}
@@ -11,7 +11,7 @@ use Rattle.sock_diag_lines.proofs.run_to_status.Goals as goal
 -- the line names the failure
 reported_as : (contents contents' : Option (List ℕ)) (failed : Type 0)
     (outcome : Result Bool RunError)
-    → IfErr outcome (λ e. SendsOrFails contents contents' failed (failure_line e))
+    → IfErr outcome (λ e. WritesAllOrFails contents contents' failed (failure_line e))
     → IfErr outcome (λ e. (reported more : List ℕ) × Appends contents contents' reported
     × (e ≡ Read → reported ++ more ≡ codes "sockdiag: reading failed" ++ 10 ∷ [])
     × (e ≡ Write → reported ++ more ≡ codes "sockdiag: writing failed" ++ 10 ∷ [])

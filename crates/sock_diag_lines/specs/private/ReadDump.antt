@@ -3,13 +3,13 @@ use Rattle.std.specs.Prelude.{◌≡◌, ◌==◌, ℕ, List, [], ◌∷◌, ◌
 use Rattle.std.specs.Prelude.{Err}
 use Rattle.netlink_core.specs.declared.fault.DecodeError.{DecodeError}
 use Rattle.netlink_packet_sock_diag.specs.DumpModel.{reader_progress}
-use Rattle.netlink_packet_sock_diag.specs.Feed.{IsReading, end_so_far}
+use Rattle.netlink_packet_sock_diag.specs.Feed.{IsReading, status_of_dump}
 use Rattle.sock_diag_lines.specs.declared.dump_line.ReadDump.{ReadDump}
 use Rattle.std.specs.List.{AllByRecursion, AllZip, slice_split}
-use Rattle.netlink_core.specs.Items.{ItemIs}
-use Rattle.netlink_packet_sock_diag.specs.Dump.{DatagramsDump, Standing}
+use Rattle.netlink_core.specs.Items.{IsItemOf}
+use Rattle.netlink_packet_sock_diag.specs.Dump.{DumpOfDatagrams, DumpStatus}
 use Rattle.netlink_packet_sock_diag.specs.Message.{Message, message_codec}
-use Rattle.sock_diag_lines.specs.HexField.{IsHexField, field_of}
+use Rattle.sock_diag_lines.specs.HexField.{IsHexField, hex_field_of}
 
 -- the parts of the text between spaces, 32, are hex fields of these datagrams
 abbrev pub AreHexFields : List ℕ → List (List ℕ) → Type 0
@@ -17,11 +17,11 @@ AreHexFields text datagrams = AllZip IsHexField (slice_split (λ c. c == 32) tex
 
 -- the messages of a dump, and its end
 abbrev pub DumpOutcome : Type 0
-DumpOutcome = List Message × Result Standing DecodeError
+DumpOutcome = List Message × Result DumpStatus DecodeError
 
 -- the dump over the datagrams
 abbrev pub IsDumpOf : List (List ℕ) → DumpOutcome → Type 0
-IsDumpOf datagrams dump = DatagramsDump (ItemIs message_codec) [] datagrams dump.0 dump.1
+IsDumpOf datagrams dump = DumpOfDatagrams (IsItemOf message_codec) [] datagrams dump.0 dump.1
 
 -- each message of the dump is writable
 abbrev pub IsWritable : DumpOutcome → Type 0
@@ -29,27 +29,28 @@ IsWritable dump = AllByRecursion message_codec.fits dump.0
 
 -- a space and the bytes of a message as a hex field
 abbrev pub message_text : Message → List ℕ
-message_text message = 32 ∷ field_of (message_codec.written message)
+message_text message = 32 ∷ hex_field_of (message_codec.written message)
 
 -- the error that ended the dump, or else its state
-abbrev pub ended_with : Standing → Option DecodeError → Result Standing DecodeError
-ended_with state None = Ok state
-ended_with state (Some fault) = Err fault
+abbrev pub error_or_state : DumpStatus → Option DecodeError → Result DumpStatus DecodeError
+error_or_state state None = Ok state
+error_or_state state (Some fault) = Err fault
 
 -- the end of the dump
-abbrev pub end_of : ReadDump → Result Standing DecodeError
-end_of dump = ended_with (end_so_far (reader_progress dump.reader)) dump.fault
+abbrev pub read_dump_end : ReadDump → Result DumpStatus DecodeError
+read_dump_end dump = error_or_state (status_of_dump (reader_progress dump.reader)) dump.fault
 
 -- the messages and the end of the dump
-abbrev pub dump_outcome : ReadDump → DumpOutcome
-dump_outcome dump = ((reader_progress dump.reader).messages, end_of dump)
+abbrev pub read_dump_outcome : ReadDump → DumpOutcome
+read_dump_outcome dump = ((reader_progress dump.reader).messages, read_dump_end dump)
 
 -- it is the dump over these datagrams, and it has no error while it is being read
 pub record IsReadDump (datagrams : List (List ℕ)) (dump : ReadDump) : Type 0 where
-  pub is : IsDumpOf datagrams (dump_outcome dump)
+  pub is : IsDumpOf datagrams (read_dump_outcome dump)
   pub faultless : IsReading (reader_progress dump.reader) → dump.fault ≡ None
 
--- TakesDatagram old datagram new: after any datagrams that were read into `old`, this one was read
-abbrev pub TakesDatagram : ReadDump → List ℕ → ReadDump → Type 0
-TakesDatagram old datagram new = (datagrams : List (List ℕ)) → IsReadDump datagrams old
+-- FeedsOneDatagram old datagram new: after any datagrams that were read into `old`, this one was
+-- read
+abbrev pub FeedsOneDatagram : ReadDump → List ℕ → ReadDump → Type 0
+FeedsOneDatagram old datagram new = (datagrams : List (List ℕ)) → IsReadDump datagrams old
     → IsReadDump (datagrams ++ datagram ∷ []) new

@@ -1,35 +1,37 @@
 -- A text after some values of a reply were appended, each after a space, 32.
 use Rattle.std.specs.Prelude.{List, ℕ, ◌∷◌, ◌++◌, decimal, option_map}
-use Rattle.netlink_core.specs.AttributeSet.{content}
-use Rattle.sock_diag_attributes.specs.UnixAttributes.{unix}
+use Rattle.netlink_core.specs.AttributeSet.{value_of_kind}
+use Rattle.sock_diag_attributes.specs.UnixAttributes.{unix_attribute_set}
 use Rattle.sock_diag_records.specs.declared.constants.TheConstants.{UNIX_DIAG_ICONS}
 use Rattle.sock_diag_records.specs.declared.constants.TheConstants.{UNIX_DIAG_MEMINFO}
 use Rattle.sock_diag_records.specs.declared.constants.TheConstants.{UNIX_DIAG_NAME, UNIX_DIAG_PEER}
 use Rattle.sock_diag_records.specs.declared.constants.TheConstants.{UNIX_DIAG_SHUTDOWN}
-use Rattle.netlink_core.specs.Response.{ValueOf}
-use Rattle.sock_diag_replies.specs.UnixGetters.{first_of, listening_queue_of, other_queue_of}
+use Rattle.netlink_core.specs.Response.{ReplyValue}
+use Rattle.sock_diag_replies.specs.UnixGetters.{first_content_of, listening_queue_of}
+use Rattle.sock_diag_replies.specs.UnixGetters.{nonlistening_queue_of}
 use Rattle.sock_diag_replies.specs.UnixResponseSpec.{unix_response_spec}
-use Rattle.sock_diag_lines.specs.ViewLine.{comma_list, name_word, or_none}
+use Rattle.sock_diag_lines.specs.ViewLine.{comma_list, socket_name_text, or_none}
 
 -- the peer, the name, the pending connections, and the directions that are shut down
-abbrev pub with_details : List ℕ → ValueOf unix_response_spec → List ℕ
-with_details text v =
-    let found = λ (k : ℕ). first_of (content unix k) v.nlas in
+abbrev pub with_socket_details : List ℕ → ReplyValue unix_response_spec → List ℕ
+with_socket_details text v =
+    let found = λ (k : ℕ). first_content_of (value_of_kind unix_attribute_set k) v.nlas in
     text ++ 32 ∷ or_none decimal (found UNIX_DIAG_PEER)
-    ++ 32 ∷ or_none name_word (found UNIX_DIAG_NAME)
+    ++ 32 ∷ or_none socket_name_text (found UNIX_DIAG_NAME)
     ++ 32 ∷ or_none comma_list (found UNIX_DIAG_ICONS)
     ++ 32 ∷ or_none decimal (found UNIX_DIAG_SHUTDOWN)
 
 -- the queue lengths: two values of a listening socket, then two values of any other socket
-abbrev pub with_queues : List ℕ → ValueOf unix_response_spec → List ℕ
+abbrev pub with_queues : List ℕ → ReplyValue unix_response_spec → List ℕ
 with_queues text v =
     text ++ 32 ∷ or_none decimal (option_map (λ queue. queue.0) (listening_queue_of v))
     ++ 32 ∷ or_none decimal (option_map (λ queue. queue.1) (listening_queue_of v))
-    ++ 32 ∷ or_none decimal (option_map (λ queue. queue.0) (other_queue_of v))
-    ++ 32 ∷ or_none decimal (option_map (λ queue. queue.1) (other_queue_of v))
+    ++ 32 ∷ or_none decimal (option_map (λ queue. queue.0) (nonlistening_queue_of v))
+    ++ 32 ∷ or_none decimal (option_map (λ queue. queue.1) (nonlistening_queue_of v))
 
 -- the memory values
-abbrev pub with_memory : List ℕ → ValueOf unix_response_spec → List ℕ
-with_memory text v = let memory = first_of (content unix UNIX_DIAG_MEMINFO) v.nlas in
+abbrev pub with_memory : List ℕ → ReplyValue unix_response_spec → List ℕ
+with_memory text v = let memory =
+    first_content_of (value_of_kind unix_attribute_set UNIX_DIAG_MEMINFO) v.nlas in
     text ++ 32 ∷ or_none decimal (option_map (λ info. info.max_datagram_size) memory)
     ++ 32 ∷ or_none decimal (option_map (λ info. info.alloc) memory)

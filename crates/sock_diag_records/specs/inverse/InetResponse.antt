@@ -7,11 +7,11 @@ use Rattle.sock_diag_records.specs.declared.inet.response.Timer.TheVariants.{Ret
 use Rattle.sock_diag_records.specs.declared.inet.response.Timer.TheVariants.{TimeWait, Probe}
 use Rattle.sock_diag_records.specs.declared.inet.response.InetResponseHeader.{InetResponseHeader}
 use Rattle.sock_diag_records.specs.IpVersions.{IpVersions}
-use Rattle.sock_diag_records.specs.inverse.SocketId.{count_of, socket_id_of}
+use Rattle.sock_diag_records.specs.inverse.SocketId.{address_value_count, socket_id_of}
 
 -- the duration of a number of milliseconds
-abbrev pub duration : ℕ → Duration
-duration milliseconds = record {
+abbrev pub duration_of_milliseconds : ℕ → Duration
+duration_of_milliseconds milliseconds = record {
   secs = milliseconds / 1_000;
   nanos = milliseconds % 1_000 * 1_000_000;
 }
@@ -28,20 +28,20 @@ expires_count class = if class == 0 || class == 3 then 0 else 1
 -- (`idiag_expires`)
 abbrev pub timer_of : ℕ → ℕ → ℕ → Option Timer
 timer_of class count expires =
-    if class == 1 then Some (Retransmit (duration expires) count)
-    else if class == 2 then Some (KeepAlive (duration expires))
+    if class == 1 then Some (Retransmit (duration_of_milliseconds expires) count)
+    else if class == 2 then Some (KeepAlive (duration_of_milliseconds expires))
     else if class == 3 then Some TimeWait
-    else if class == 4 then Some (Probe (duration expires)) else None
+    else if class == 4 then Some (Probe (duration_of_milliseconds expires)) else None
 
 -- the number of values of a socket id: two ports, the octets or segments of two addresses, the
 -- interface, and eight bytes of the cookie
 abbrev pub socket_id_count : IpVersions → ℕ
-socket_id_count versions = 2 + count_of versions.0 + count_of versions.1 + 9
+socket_id_count versions = 2 + address_value_count versions.0 + address_value_count versions.1 + 9
 
 -- the header with these numbers in the fields that are not ignored, for a tag: IP versions and a
 -- timer class
-abbrev pub header_of : IpVersions × ℕ → List ℕ → InetResponseHeader
-header_of tag values =
+abbrev pub inet_response_header_of : IpVersions × ℕ → List ℕ → InetResponseHeader
+inet_response_header_of tag values =
     let socket = drop (retransmits_count tag.1) (drop 2 values) in
     let behind = drop (socket_id_count tag.0) socket in
     let last = drop (expires_count tag.1) behind in

@@ -6,9 +6,9 @@ use Rattle.sock_diag_records.specs.declared.inet.socket_id.SocketId.{SocketId}
 use Rattle.sock_diag_records.specs.IpVersions.{IpVersion, ipv4, ipv6, IpVersions}
 
 -- the number of values of an address: four octets or eight segments
-abbrev pub count_of : IpVersion → ℕ
-count_of ipv4 = 4
-count_of ipv6 = 8
+abbrev pub address_value_count : IpVersion → ℕ
+address_value_count ipv4 = 4
+address_value_count ipv6 = 8
 
 -- the address that starts with these octets or segments
 abbrev pub address_of : IpVersion → List ℕ → IpAddr
@@ -30,6 +30,6 @@ socket_id_with source_port destination_port source destination rest = record {
 abbrev pub socket_id_of : IpVersions → List ℕ → SocketId
 socket_id_of versions values =
     let addresses = drop 2 values in
-    let destination = drop (count_of versions.0) addresses in
+    let destination = drop (address_value_count versions.0) addresses in
     socket_id_with (slice_index values 0) (slice_index values 1) (address_of versions.0 addresses)
-    (address_of versions.1 destination) (drop (count_of versions.1) destination)
+    (address_of versions.1 destination) (drop (address_value_count versions.1) destination)

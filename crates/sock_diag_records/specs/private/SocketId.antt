@@ -4,9 +4,9 @@ use Rattle.std.specs.List.{flat_map}
 use Rattle.byteorder.specs.Endian.{big_bytes}
 use Rattle.std.specs.declared.net.ip_addr.IpAddr.{IpAddr}
 use Rattle.std.specs.declared.net.ip_addr.IpAddr.TheVariants.{V4, V6}
-use Rattle.netlink_core.specs.Table.{first}
+use Rattle.netlink_core.specs.Table.{first_numbers}
 
 -- four octets and twelve zeros, or eight segments in network byte order
-abbrev pub address_bytes : IpAddr → List ℕ
-address_bytes (V4 ip) = first 4 ip.octets ++ replicate 12 0
-address_bytes (V6 ip) = flat_map (big_bytes 2) (first 8 ip.segments)
+abbrev pub address_field_bytes : IpAddr → List ℕ
+address_field_bytes (V4 ip) = first_numbers 4 ip.octets ++ replicate 12 0
+address_field_bytes (V6 ip) = flat_map (big_bytes 2) (first_numbers 8 ip.segments)

@@ -1,7 +1,8 @@
 //! `Exact` for the records that contain other records: `==` compares and `clone` copies each field.
 
 ghost use Rattle.std.proofs.Common.{rules};
-ghost use Rattle.sock_diag_records.specs.laws.EqualRecord.{request_equal, header_equal};
+ghost use Rattle.sock_diag_records.specs.laws.EqualRecord.{inet_request_equal};
+ghost use Rattle.sock_diag_records.specs.laws.EqualRecord.{inet_response_header_equal};
 ghost use Rattle.sock_diag_records.specs.contracts.inet.socket_id.SocketIdExact.TheImpl.Laws.{exact-law as exact_socket};
 ghost use Rattle.sock_diag_records.specs.contracts.inet.response.TimerExact.TheImpl.Laws.{exact-law as exact_timer};
 
@@ -10,7 +11,7 @@ use netlink_core::Exact;
 
 impl Exact for InetRequest {
     ghost exact = { (
-      request_equal _ exact_socket.0,
+      inet_request_equal _ exact_socket.0,
       Prim.search rules,
       Prim.search rules depth 12,
     ) };
@@ -18,7 +19,7 @@ impl Exact for InetRequest {
 
 impl Exact for InetResponseHeader {
     ghost exact = { (
-      header_equal _ exact_socket.0 _ exact_timer.0,
+      inet_response_header_equal _ exact_socket.0 _ exact_timer.0,
       Prim.search rules,
       Prim.search rules,
     ) };

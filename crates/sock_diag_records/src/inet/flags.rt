@@ -4,7 +4,7 @@ ghost use Rattle.std.proofs.Common.{rules};
 ghost use Rattle.std.specs.Prelude.{⊤, ◌≡◌};
 ghost use Rattle.std.specs.Int.RustNames.{bit_or};
 ghost use Rattle.bitflags.specs.Sets.{known_bits};
-ghost use Rattle.sock_diag_records.specs.Flags.{inet_states, inet_extensions};
+ghost use Rattle.sock_diag_records.specs.Flags.{inet_state_flags, inet_extension_flags};
 
 use crate::named::named_flags;
 use bitflags::{Flag, Flags};
@@ -61,7 +61,7 @@ impl Flags for StateFlags {
 
     ghost exact = { ⊤ };
 
-    ghost table = { inet_states };
+    ghost table = { inet_state_flags };
 
     ghost set_of = { λ flags. flags.0 };
 
@@ -126,7 +126,7 @@ impl Flags for ExtensionFlags {
 
     ghost exact = { ⊤ };
 
-    ghost table = { inet_extensions };
+    ghost table = { inet_extension_flags };
 
     ghost set_of = { λ flags. flags.0 };
 
@@ -151,8 +151,8 @@ impl Flags for ExtensionFlags {
 /// Proof only: the contract states the property.
 #[tactic(auto, unfolding(bitflags::proofs::OnLiterals::bitflags_on_literals))]
 pub fn flags_have_their_bits()
-    ensures states { known_bits inet_states ≡ 0xffe }
-    ensures extensions { known_bits inet_extensions ≡ 0xff }
+    ensures states { known_bits inet_state_flags ≡ 0xffe }
+    ensures extensions { known_bits inet_extension_flags ≡ 0xff }
 {}
 
 /// States the bits of each constant of [`StateFlags`].

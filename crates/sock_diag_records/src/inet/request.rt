@@ -3,7 +3,8 @@
 ghost use Rattle.netlink_core.proofs.LayoutLaws.{record_laws};
 ghost use Rattle.sock_diag_records.specs.InetRequest.{inet_request};
 ghost use Rattle.sock_diag_records.specs.IpVersions.{IpVersions};
-ghost use Rattle.sock_diag_records.specs.laws.InetRequest.{inet_request_sound, inet_request_size};
+ghost use Rattle.sock_diag_records.specs.laws.InetRequest.{inet_request_sound};
+ghost use Rattle.sock_diag_records.specs.laws.InetRequest.{inet_request_has_fixed_length};
 
 use super::{ExtensionFlags, SocketId, StateFlags};
 use bitflags::Flags;
@@ -92,7 +93,7 @@ impl Record for InetRequest {
         self.socket_id.write_fields(socket_id);
     }
 
-    #[tactic(auto, unfolding(crate::specs::InetRequest::inet_request, crate::specs::SocketId::socket_id), using(crate::specs::laws::SocketId::fit_inside))]
+    #[tactic(auto, unfolding(crate::specs::InetRequest::inet_request, crate::specs::SocketId::socket_id), using(crate::specs::laws::SocketId::nested_socket_id_fits))]
     fn fields_in_range(&self) {
         let _family = self.family;
         let _protocol = self.protocol;
@@ -105,5 +106,5 @@ impl Record for InetRequest {
 }
 
 impl Fills<INET_REQUEST_LEN> for InetRequest {
-    ghost fills = { inet_request_size };
+    ghost fills = { inet_request_has_fixed_length };
 }

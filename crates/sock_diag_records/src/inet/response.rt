@@ -3,13 +3,14 @@
 ghost use Rattle.std.proofs.Common.{rules};
 ghost use Rattle.std.specs.Prelude.{ℕ, ◌≡◌, ◌≢◌, ◌<◌, IfErr};
 ghost use Rattle.netlink_core.specs.declared.fault.DecodeError.TheVariants.{Memory};
-ghost use Rattle.netlink_core.specs.Layout.{read};
+ghost use Rattle.netlink_core.specs.Layout.{parse_record};
 ghost use Rattle.netlink_core.proofs.LayoutLaws.{record_laws};
 ghost use Rattle.sock_diag_records.specs.IpVersions.{IpVersions};
 ghost use Rattle.sock_diag_records.specs.InetResponse.{inet_response_header};
 ghost use Rattle.sock_diag_records.specs.inverse.InetResponse.{timer_of};
-ghost use Rattle.sock_diag_records.specs.Timer.{class_of_byte, timer_data, milliseconds};
-ghost use Rattle.sock_diag_records.specs.laws.InetResponse.{header_sound, header_size};
+ghost use Rattle.sock_diag_records.specs.Timer.{timer_class, timer_data, u32_milliseconds};
+ghost use Rattle.sock_diag_records.specs.laws.InetResponse.{inet_response_header_sound};
+ghost use Rattle.sock_diag_records.specs.laws.InetResponse.{inet_response_header_has_fixed_length};
 
 use super::{SOCKET_ID_LEN, SocketId};
 use byteorder::{ByteOrder, LittleEndian};
@@ -141,11 +142,11 @@ impl Record for InetResponseHeader {
         let _inode = self.inode;
     }
 
-    ghost laws = { record_laws inet_response_header header_sound };
+    ghost laws = { record_laws inet_response_header inet_response_header_sound };
 }
 
 impl Fills<INET_RESPONSE_HEADER_LEN> for InetResponseHeader {
-    ghost fills = { header_size };
+    ghost fills = { inet_response_header_has_fixed_length };
 }
 
 impl InetResponseHeader {
@@ -154,7 +155,7 @@ impl InetResponseHeader {
     /// [`DecodeError::UnsupportedFamily`].
     #[inline(always)]
     pub fn from_prefix(payload: &[u8]) -> Result<Self, DecodeError>
-        ensures value { result ≡ read inet_response_header tt payload.now }
+        ensures value { result ≡ parse_record inet_response_header tt payload.now }
         ensures named { IfErr result (λ fault. fault ≢ Memory) }
     {
         read_record(payload, ())
@@ -163,7 +164,7 @@ impl InetResponseHeader {
 
 // Returns the whole milliseconds of a duration, modulo 2^32.
 fn wrapped_milliseconds(time: Duration) -> u32
-    ensures { result ≡ milliseconds time }
+    ensures { result ≡ u32_milliseconds time }
 {
     (time.as_millis() % 0x1_0000_0000) as u32
 }
@@ -173,7 +174,7 @@ fn wrapped_milliseconds(time: Duration) -> u32
 fn timer_words(timer: &Option<Timer>) -> (u8, u8, u32)
     ensures byte { result.0 ≡ (timer_data timer.now).0 }
     ensures retransmits { result.1 ≡ (timer_data timer.now).1 }
-    ensures expires { result.2 ≡ milliseconds (timer_data timer.now).2 }
+    ensures expires { result.2 ≡ u32_milliseconds (timer_data timer.now).2 }
 {
     match timer {
         Some(Timer::Retransmit(expires, retransmits)) => {
@@ -188,7 +189,7 @@ fn timer_words(timer: &Option<Timer>) -> (u8, u8, u32)
 
 // Returns the timer with these fields `idiag_timer`, `idiag_retrans` and `idiag_expires`.
 fn timer_from(timer: u8, retransmits: u8, milliseconds: u32) -> Option<Timer>
-    ensures { result ≡ timer_of (class_of_byte timer) retransmits milliseconds }
+    ensures { result ≡ timer_of (timer_class timer) retransmits milliseconds }
 {
     let expires = Duration::from_millis(u64::from(milliseconds));
     match timer {

@@ -6,15 +6,16 @@ ghost use Rattle.std.specs.declared.net.ip_addr.IpAddr.TheVariants.{V4, V6};
 ghost use Rattle.std.specs.Net.Addr.{ipv4_octets, ipv6_segments};
 ghost use Rattle.netlink_core.specs.Table.{bytes_at, values_of};
 ghost use Rattle.netlink_core.specs.declared.fault.DecodeError.TheVariants.{Memory};
-ghost use Rattle.netlink_core.specs.Layout.{read};
+ghost use Rattle.netlink_core.specs.Layout.{parse_record};
 ghost use Rattle.netlink_core.proofs.LayoutLaws.{record_laws};
 ghost use Rattle.std.specs.Prelude.{ℕ, slice_index, ◌<◌};
-ghost use Rattle.netlink_core.specs.Table.{Fit};
+ghost use Rattle.netlink_core.specs.Table.{FitFields};
 ghost use Rattle.sock_diag_records.specs.SocketId.{IsAddress, address_fields, address_values};
 ghost use Rattle.sock_diag_records.specs.SocketId.{socket_id};
-ghost use Rattle.sock_diag_records.specs.private.SocketId.{address_bytes};
+ghost use Rattle.sock_diag_records.specs.private.SocketId.{address_field_bytes};
 ghost use Rattle.sock_diag_records.specs.IpVersions.{address_data, IpVersions};
-ghost use Rattle.sock_diag_records.specs.laws.SocketId.{socket_id_sound, socket_id_size};
+ghost use Rattle.sock_diag_records.specs.laws.SocketId.{socket_id_sound};
+ghost use Rattle.sock_diag_records.specs.laws.SocketId.{socket_id_has_fixed_length};
 ghost use Rattle.netlink_core.specs.Table.{network, array};
 
 use crate::constants::{AF_INET, AF_INET6};
@@ -125,7 +126,7 @@ fn ipv6_at(bytes: &[u8], offset: usize) -> Ipv6Addr
 // Writes an address. Zeros follow the four bytes of an IPv4 address.
 fn write_address(address: IpAddr, buffer: &mut [u8])
     requires { length buffer.old ≡ 16 }
-    ensures { buffer.new ≡ address_bytes address }
+    ensures { buffer.new ≡ address_field_bytes address }
 {
     match address {
         IpAddr::V4(ip) => {
@@ -217,7 +218,7 @@ impl SocketId {
     /// and AF_INET6 is [`DecodeError::UnsupportedFamily`].
     #[inline(always)]
     pub fn from_prefix(payload: &[u8], family: u8) -> Result<Self, DecodeError>
-        ensures value { result ≡ read socket_id family payload.now }
+        ensures value { result ≡ parse_record socket_id family payload.now }
         ensures named { IfErr result (λ fault. fault ≢ Memory) }
     {
         read_record(payload, family)
@@ -225,14 +226,14 @@ impl SocketId {
 }
 
 impl Fills<SOCKET_ID_LEN> for SocketId {
-    ghost fills = { socket_id_size };
+    ghost fills = { socket_id_has_fixed_length };
 }
 
 // Proof only: puts the range of the octets or segments in scope. No run-time effect.
 fn address_in_range(address: IpAddr)
     ensures shaped { IsAddress address }
     ensures fit { (offset : ℕ)
-        → Fit (address_fields offset (address_data address).0) (address_values address) }
+        → FitFields (address_fields offset (address_data address).0) (address_values address) }
 {
     match address {
         IpAddr::V4(ip) => bytes_in_range(&ip.octets()),

@@ -4,7 +4,7 @@ ghost use Rattle.std.proofs.Common.{rules};
 ghost use Rattle.std.specs.Prelude.{⊤, ◌≡◌};
 ghost use Rattle.std.specs.Int.RustNames.{bit_or};
 ghost use Rattle.bitflags.specs.Sets.{known_bits};
-ghost use Rattle.sock_diag_records.specs.Flags.{unix_states, unix_shown};
+ghost use Rattle.sock_diag_records.specs.Flags.{unix_state_flags, unix_show_flags};
 
 use crate::named::named_flags;
 use bitflags::{Flag, Flags};
@@ -45,7 +45,7 @@ impl Flags for StateFlags {
 
     ghost exact = { ⊤ };
 
-    ghost table = { unix_states };
+    ghost table = { unix_state_flags };
 
     ghost set_of = { λ flags. flags.0 };
 
@@ -103,7 +103,7 @@ impl Flags for ShowFlags {
 
     ghost exact = { ⊤ };
 
-    ghost table = { unix_shown };
+    ghost table = { unix_show_flags };
 
     ghost set_of = { λ flags. flags.0 };
 
@@ -126,8 +126,8 @@ impl Flags for ShowFlags {
 /// Proof only: the contract states the property.
 #[tactic(auto, unfolding(bitflags::proofs::OnLiterals::bitflags_on_literals))]
 pub fn flags_have_their_bits()
-    ensures states { known_bits unix_states ≡ 0x402 }
-    ensures shown { known_bits unix_shown ≡ 0x3f }
+    ensures states { known_bits unix_state_flags ≡ 0x402 }
+    ensures shown { known_bits unix_show_flags ≡ 0x3f }
 {}
 
 /// States the bits of each constant of [`StateFlags`].

@@ -2,7 +2,7 @@
 
 ghost use Rattle.std.proofs.Common.{rules};
 ghost use Rattle.std.specs.Prelude.{◌≡◌, refl};
-ghost use Rattle.netlink_core.specs.Layout.{read};
+ghost use Rattle.netlink_core.specs.Layout.{parse_record};
 ghost use Rattle.netlink_core.proofs.LayoutLaws.{record_laws};
 ghost use Rattle.sock_diag_records.specs.UnixResponseHeader.{unix_response_header};
 ghost use Rattle.sock_diag_records.specs.laws.UnixResponseHeader.{unix_response_header_sound};
@@ -85,7 +85,7 @@ impl UnixResponseHeader {
     /// Parses the first 16 bytes, and ignores the bytes after them. It does not allocate. Fewer
     /// bytes are [`DecodeError::BufferTooSmall`].
     pub fn from_prefix(payload: &[u8]) -> Result<Self, DecodeError>
-        ensures { result ≡ read unix_response_header tt payload.now }
+        ensures { result ≡ parse_record unix_response_header tt payload.now }
     {
         read_record(payload, ())
     }

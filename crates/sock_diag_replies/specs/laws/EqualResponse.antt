@@ -11,10 +11,10 @@ use Rattle.sock_diag_replies.specs.declared.response.Reply.{Reply}
 use Rattle.sock_diag_replies.specs.ResponseModel.{response_model}
 
 -- a test of the headers and a test of the attributes decide together whether two replies are equal
-both_equal : {H V : Type 0} (headers nlas : Bool) (v w : ResponseValue H V)
+header_and_attribute_tests_decide : {H V : Type 0} (headers nlas : Bool) (v w : ResponseValue H V)
     → (IsTrue headers ↔ (v.header ≡ w.header)) → (IsTrue nlas ↔ (v.nlas ≡ w.nlas))
     → IsTrue (headers && nlas) ↔ (v ≡ w)
-both_equal {H} {V} headers nlas v w fronts rests =
+header_and_attribute_tests_decide {H} {V} headers nlas v w fronts rests =
     grind (arith, and_decides fronts rests)
 
 -- `==` of two owned replies decides whether their models are equal
@@ -25,7 +25,7 @@ pub responses_equal : {H A V W : Type 0} {same : H → H → Bool} {test : A →
     → IsTrue (same v.header w.header && pointwise test v.nlas.items w.nlas.items)
     ↔ (response_model header_model model v ≡ response_model header_model model w)
 responses_equal header_model model headers attributes v w =
-    grind (arith, both_equal, lists_equal)
+    grind (arith, header_and_attribute_tests_decide, lists_equal)
 
 -- over a test of headers and tests of the values of an attribute set
 module _ {H : Type 0} (same : H → H → Bool) (F : AttributeSet) (tests : Tests F) where
@@ -40,7 +40,7 @@ module _ {H : Type 0} (same : H → H → Bool) (F : AttributeSet) (tests : Test
   response_test_decides headers v w =
       grind (
         arith,
-        both_equal,
+        header_and_attribute_tests_decide,
         map-id v.nlas,
         map-id w.nlas,
         lists_equal,
@@ -49,5 +49,6 @@ module _ {H : Type 0} (same : H → H → Bool) (F : AttributeSet) (tests : Test
       )
 
 -- if the test of the headers is true, the test of the attributes decides
-pub then_rest : {t rest result : Bool} → t ≡ true → result ≡ rest → result ≡ (t && rest)
-then_rest {t} {rest} {result} equal same = rw equal same
+pub attribute_test_decides_rest : {t rest result : Bool} → t ≡ true → result ≡ rest
+    → result ≡ (t && rest)
+attribute_test_decides_rest {t} {rest} {result} equal same = rw equal same

@@ -2,8 +2,8 @@
 use Rattle.std.proofs.Common.{◌≡◌, ◌↔◌, ℕ, ◌≤◌, List, Bool, IsTrue, ◌++◌, length, slice_index}
 use Rattle.std.proofs.Common.{Ok, arith}
 use Rattle.std.proofs.lemmas.List.{get_or_append_left}
-use Rattle.netlink_core.specs.Layout.{read}
-use Rattle.netlink_core.specs.Response.{ValueOf}
+use Rattle.netlink_core.specs.Layout.{parse_record}
+use Rattle.netlink_core.specs.Response.{ReplyValue}
 use Rattle.netlink_core.specs.laws.Shown.{ResponseLaws}
 use Rattle.sock_diag_records.specs.contracts.inet.exact.InetResponseHeaderExact.TheImpl.Laws.{exact-law as exact_header}
 use Rattle.sock_diag_records.specs.contracts.inet.response.InetResponseHeaderPartialEq.TheImpl.{ghosts as headers}
@@ -11,41 +11,47 @@ use Rattle.sock_diag_records.specs.declared.inet.response.InetResponseHeader.{In
 use Rattle.sock_diag_records.specs.declared.inet.response.TheConstants.{INET_RESPONSE_HEADER_LEN}
 use Rattle.sock_diag_records.specs.IpVersions.{IpVersions}
 use Rattle.sock_diag_records.specs.InetResponse.{inet_response_header}
-use Rattle.sock_diag_records.specs.Timer.{class_of_byte}
-use Rattle.sock_diag_records.specs.laws.InetResponse.{header_sound, header_size, with_class}
+use Rattle.sock_diag_records.specs.Timer.{timer_class}
+use Rattle.sock_diag_records.specs.laws.InetResponse.{inet_response_header_sound}
+use Rattle.sock_diag_records.specs.laws.InetResponse.{inet_response_header_has_fixed_length}
+use Rattle.sock_diag_records.specs.laws.InetResponse.{versions_with_timer_class}
 use Rattle.sock_diag_attributes.specs.laws.EqualInet.{inet_tests}
-use Rattle.sock_diag_attributes.specs.InetAttributes.{inet}
+use Rattle.sock_diag_attributes.specs.InetAttributes.{inet_attribute_set}
 use Rattle.sock_diag_attributes.specs.laws.InetAttribute.{inet_laws}
 use Rattle.sock_diag_replies.specs.laws.EqualResponse.{response_test, response_test_decides}
-use Rattle.sock_diag_replies.specs.laws.Header.{enough, response_laws}
+use Rattle.sock_diag_replies.specs.laws.Header.{header_bytes_suffice, response_laws}
 use Rattle.sock_diag_replies.specs.InetResponseSpec.{inet_response_spec}
 
 -- bytes after a header do not change its tag
-goes_on : (tag : IpVersions × ℕ) (left rest : List ℕ) → inet_response_header.least ≤ length left
+tag_ignores_suffix : (tag : IpVersions × ℕ) (left rest : List ℕ)
+    → inet_response_header.least ≤ length left
     → inet_response_header.tag_at tt left ≡ Ok tag → inet_response_header.tag_at tt (left ++ rest)
     ≡ Ok tag
 unfolding inet_response_header
-goes_on tag left rest long e =
+tag_ignores_suffix tag left rest long e =
     grind (
       arith,
       get_or_append_left left rest 0 0,
       get_or_append_left left rest 0 2,
-      with_class (class_of_byte (slice_index (left ++ rest) 2)),
-      with_class,
+      versions_with_timer_class (timer_class (slice_index (left ++ rest) 2)),
+      versions_with_timer_class,
     )
 
 -- bytes with a valid header have at least 72 bytes
-pub header_enough : (b : List ℕ) (h : InetResponseHeader) → read inet_response_header tt b ≡ Ok h
+pub inet_header_bytes_suffice : (b : List ℕ) (h : InetResponseHeader)
+    → parse_record inet_response_header tt b ≡ Ok h
     → INET_RESPONSE_HEADER_LEN ≤ length b
-header_enough = enough inet_response_header header_size
+inet_header_bytes_suffice = header_bytes_suffice inet_response_header
+    inet_response_header_has_fixed_length
 
 -- the codec laws of the header and of the attributes
 pub inet_response_laws : ResponseLaws inet_response_spec
-inet_response_laws = response_laws inet_response_header header_size header_sound goes_on inet_laws
+inet_response_laws = response_laws inet_response_header inet_response_header_has_fixed_length
+    inet_response_header_sound tag_ignores_suffix inet_laws
 
 -- the test of two replies
-abbrev pub inet_test : ValueOf inet_response_spec → ValueOf inet_response_spec → Bool
-inet_test = response_test headers.eq inet inet_tests
+abbrev pub inet_test : ReplyValue inet_response_spec → ReplyValue inet_response_spec → Bool
+inet_test = response_test headers.eq inet_attribute_set inet_tests
 
-pub inet_test_decides : (v w : ValueOf inet_response_spec) → IsTrue (inet_test v w) ↔ (v ≡ w)
-inet_test_decides = response_test_decides headers.eq inet inet_tests exact_header.0
+pub inet_test_decides : (v w : ReplyValue inet_response_spec) → IsTrue (inet_test v w) ↔ (v ≡ w)
+inet_test_decides = response_test_decides headers.eq inet_attribute_set inet_tests exact_header.0

@@ -1,7 +1,7 @@
 -- Laws of the replies about UNIX sockets.
 use Rattle.std.proofs.Common.{◌≡◌, ◌≤◌, ◌↔◌, ℕ, List, Bool, IsTrue, length, Ok, refl}
-use Rattle.netlink_core.specs.Layout.{read}
-use Rattle.netlink_core.specs.Response.{ValueOf}
+use Rattle.netlink_core.specs.Layout.{parse_record}
+use Rattle.netlink_core.specs.Response.{ReplyValue}
 use Rattle.netlink_core.specs.laws.Shown.{ResponseLaws}
 use Rattle.sock_diag_records.specs.contracts.unix.response.UnixResponseHeaderExact.TheImpl.Laws.{exact-law as exact_header}
 use Rattle.sock_diag_records.specs.contracts.unix.response.UnixResponseHeaderPartialEq.TheImpl.{ghosts as headers}
@@ -10,16 +10,17 @@ use Rattle.sock_diag_records.specs.declared.unix.response.UnixResponseHeader.{Un
 use Rattle.sock_diag_records.specs.UnixResponseHeader.{unix_response_header}
 use Rattle.sock_diag_records.specs.laws.UnixResponseHeader.{unix_response_header_sound}
 use Rattle.sock_diag_attributes.specs.laws.EqualUnix.{unix_tests}
-use Rattle.sock_diag_attributes.specs.UnixAttributes.{unix}
+use Rattle.sock_diag_attributes.specs.UnixAttributes.{unix_attribute_set}
 use Rattle.sock_diag_attributes.specs.laws.UnixAttribute.{unix_laws}
 use Rattle.sock_diag_replies.specs.laws.EqualResponse.{response_test, response_test_decides}
-use Rattle.sock_diag_replies.specs.laws.Header.{enough, response_laws}
+use Rattle.sock_diag_replies.specs.laws.Header.{header_bytes_suffice, response_laws}
 use Rattle.sock_diag_replies.specs.UnixResponseSpec.{unix_response_spec}
 
 -- bytes with a valid header have at least 16 bytes
-pub header_enough : (b : List ℕ) (h : UnixResponseHeader) → read unix_response_header tt b ≡ Ok h
+pub unix_header_bytes_suffice : (b : List ℕ) (h : UnixResponseHeader)
+    → parse_record unix_response_header tt b ≡ Ok h
     → UNIX_RESPONSE_HEADER_LEN ≤ length b
-header_enough = enough unix_response_header (refl, λ tag. refl)
+unix_header_bytes_suffice = header_bytes_suffice unix_response_header (refl, λ tag. refl)
 
 -- the codec laws of the header and of the attributes
 pub unix_response_laws : ResponseLaws unix_response_spec
@@ -31,8 +32,8 @@ unix_response_laws = response_laws unix_response_header (
     (λ tag left rest long e. e) unix_laws
 
 -- the test of two replies
-abbrev pub unix_test : ValueOf unix_response_spec → ValueOf unix_response_spec → Bool
-unix_test = response_test headers.eq unix unix_tests
+abbrev pub unix_test : ReplyValue unix_response_spec → ReplyValue unix_response_spec → Bool
+unix_test = response_test headers.eq unix_attribute_set unix_tests
 
-pub unix_test_decides : (v w : ValueOf unix_response_spec) → IsTrue (unix_test v w) ↔ (v ≡ w)
-unix_test_decides = response_test_decides headers.eq unix unix_tests exact_header.0
+pub unix_test_decides : (v w : ReplyValue unix_response_spec) → IsTrue (unix_test v w) ↔ (v ≡ w)
+unix_test_decides = response_test_decides headers.eq unix_attribute_set unix_tests exact_header.0

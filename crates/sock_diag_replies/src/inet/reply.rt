@@ -1,9 +1,9 @@
 //! Replies about one IPv4 or IPv6 socket, owned and borrowed.
 
 ghost use Rattle.std.specs.Prelude.{refl};
-ghost use Rattle.netlink_core.proofs.Responses.{responses_keep_laws};
+ghost use Rattle.netlink_core.proofs.Responses.{reply_codec_laws};
 ghost use Rattle.sock_diag_replies.specs.InetResponseSpec.{inet_response_spec};
-ghost use Rattle.sock_diag_replies.specs.laws.InetResponseSpec.{header_enough};
+ghost use Rattle.sock_diag_replies.specs.laws.InetResponseSpec.{inet_header_bytes_suffice};
 ghost use Rattle.sock_diag_replies.specs.laws.InetResponseSpec.{inet_response_laws};
 ghost use Rattle.sock_diag_replies.specs.laws.InetResponseSpec.{inet_test, inet_test_decides};
 ghost use Rattle.sock_diag_records.specs.contracts.inet.exact.InetResponseHeaderExact.TheImpl.Laws.{exact-law as exact_header};
@@ -78,9 +78,9 @@ impl ReplyHeader for InetResponseHeader {
         self == other && same_views::<NlaView<'_>>(left, right)
     }
 
-    ghost enough = { header_enough };
+    ghost enough = { inet_header_bytes_suffice };
 
-    ghost keeps = { responses_keep_laws inet_response_spec inet_response_laws };
+    ghost keeps = { reply_codec_laws inet_response_spec inet_response_laws };
 
     ghost compared = { inet_test_decides };
 }
@@ -108,5 +108,5 @@ impl ReplyOwned for InetResponseHeader {
 
     ghost same = { (λ _ _ h. h, λ _ h. h, λ _. refl, λ _. refl) };
 
-    ghost keeps = { responses_keep_laws inet_response_spec inet_response_laws };
+    ghost keeps = { reply_codec_laws inet_response_spec inet_response_laws };
 }

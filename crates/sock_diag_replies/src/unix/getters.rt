@@ -2,17 +2,17 @@
 
 ghost use Rattle.std.specs.Prelude.{◌≡◌, if◌then◌else◌, None, IsSome, option_map};
 ghost use Rattle.std.specs.Prelude.{option_copied, vec_items, map};
-ghost use Rattle.netlink_core.specs.AttributeSet.{content};
-ghost use Rattle.sock_diag_attributes.specs.UnixAttributes.{unix};
-ghost use Rattle.sock_diag_attributes.specs.NameModel.{name_of};
-ghost use Rattle.sock_diag_attributes.specs.UnixModel.{nla_model};
+ghost use Rattle.netlink_core.specs.AttributeSet.{value_of_kind};
+ghost use Rattle.sock_diag_attributes.specs.UnixAttributes.{unix_attribute_set};
+ghost use Rattle.sock_diag_attributes.specs.NameModel.{socket_name_model};
+ghost use Rattle.sock_diag_attributes.specs.UnixModel.{unix_nla_model};
 ghost use Rattle.sock_diag_records.specs.declared.constants.TheConstants.{UNIX_DIAG_ICONS};
 ghost use Rattle.sock_diag_records.specs.declared.constants.TheConstants.{UNIX_DIAG_MEMINFO};
 ghost use Rattle.sock_diag_records.specs.declared.constants.TheConstants.{UNIX_DIAG_NAME};
 ghost use Rattle.sock_diag_records.specs.declared.constants.TheConstants.{UNIX_DIAG_PEER};
 ghost use Rattle.sock_diag_records.specs.declared.constants.TheConstants.{UNIX_DIAG_RQLEN};
 ghost use Rattle.sock_diag_records.specs.declared.constants.TheConstants.{UNIX_DIAG_SHUTDOWN};
-ghost use Rattle.sock_diag_replies.specs.UnixGetters.{first_of};
+ghost use Rattle.sock_diag_replies.specs.UnixGetters.{first_content_of};
 
 use crate::unix::UnixResponse;
 use crate::unix::nlas::{MemInfo, Nla, UnixDiagName};
@@ -23,7 +23,8 @@ impl UnixResponse {
     /// one.
     pub fn peer(&self) -> Option<u32>
         ensures { result
-            ≡ first_of (content unix UNIX_DIAG_PEER) (map nla_model self.now.nlas.items) }
+            ≡ first_content_of (value_of_kind unix_attribute_set UNIX_DIAG_PEER)
+            (map unix_nla_model self.now.nlas.items) }
     {
         self.nlas.as_slice().iter().find_map(|nla| match nla {
             Nla::Peer(inode) => Some(*inode),
@@ -34,8 +35,9 @@ impl UnixResponse {
     /// Returns the name of the socket: the value of the first `Name` (`UNIX_DIAG_NAME`), if there
     /// is one.
     pub fn name(&self) -> Option<&UnixDiagName>
-        ensures { option_map (name_of vec_items) (option_copied result)
-            ≡ first_of (content unix UNIX_DIAG_NAME) (map nla_model self.now.nlas.items) }
+        ensures { option_map (socket_name_model vec_items) (option_copied result)
+            ≡ first_content_of (value_of_kind unix_attribute_set UNIX_DIAG_NAME)
+            (map unix_nla_model self.now.nlas.items) }
     {
         self.nlas.as_slice().iter().find_map(|nla| match nla {
             Nla::Name(name) => Some(name),
@@ -47,7 +49,8 @@ impl UnixResponse {
     /// `PendingConnections` (`UNIX_DIAG_ICONS`), if there is one.
     pub fn pending_connections(&self) -> Option<&[u32]>
         ensures { option_copied result
-            ≡ first_of (content unix UNIX_DIAG_ICONS) (map nla_model self.now.nlas.items) }
+            ≡ first_content_of (value_of_kind unix_attribute_set UNIX_DIAG_ICONS)
+            (map unix_nla_model self.now.nlas.items) }
     {
         self.nlas.as_slice().iter().find_map(|nla| match nla {
             Nla::PendingConnections(inodes) => Some(inodes.as_slice()),
@@ -59,7 +62,8 @@ impl UnixResponse {
     /// value of the first `Shutdown` (`UNIX_DIAG_SHUTDOWN`), if there is one.
     pub fn shutdown_state(&self) -> Option<u8>
         ensures { result
-            ≡ first_of (content unix UNIX_DIAG_SHUTDOWN) (map nla_model self.now.nlas.items) }
+            ≡ first_content_of (value_of_kind unix_attribute_set UNIX_DIAG_SHUTDOWN)
+            (map unix_nla_model self.now.nlas.items) }
     {
         self.nlas.as_slice().iter().find_map(|nla| match nla {
             Nla::Shutdown(state) => Some(*state),
@@ -71,7 +75,7 @@ impl UnixResponse {
 impl UnixResponse {
     ghost use Rattle.sock_diag_replies.specs.ResponseModel.{response_model};
     ghost use Rattle.sock_diag_replies.specs.UnixGetters.{listening_queue_of};
-    ghost use Rattle.sock_diag_replies.specs.UnixGetters.{other_queue_of};
+    ghost use Rattle.sock_diag_replies.specs.UnixGetters.{nonlistening_queue_of};
 
     /// Returns the number of connections that wait to be accepted, if the socket listens (state
     /// `TCP_LISTEN`): the first number of the first `ReceiveQueueLength` (`udiag_rqueue` of
@@ -81,9 +85,9 @@ impl UnixResponse {
     /// [`send_queue_size`](Self::send_queue_size) return `None`.
     pub fn number_of_pending_connection(&self) -> Option<u32>
         ensures value { result ≡ option_map (λ ns. ns.0)
-            (listening_queue_of (response_model (λ h. h) nla_model self.now)) }
+            (listening_queue_of (response_model (λ h. h) unix_nla_model self.now)) }
         ensures alone { IsSome result
-            → other_queue_of (response_model (λ h. h) nla_model self.now) ≡ None }
+            → nonlistening_queue_of (response_model (λ h. h) unix_nla_model self.now) ≡ None }
     {
         let (waiting, _) = self.queue_where(true)?;
         Some(waiting)
@@ -93,7 +97,7 @@ impl UnixResponse {
     /// second number of the first `ReceiveQueueLength` (`udiag_wqueue` of `unix_diag_rqlen`).
     pub fn max_number_of_pending_connection(&self) -> Option<u32>
         ensures { result ≡ option_map (λ ns. ns.1)
-            (listening_queue_of (response_model (λ h. h) nla_model self.now)) }
+            (listening_queue_of (response_model (λ h. h) unix_nla_model self.now)) }
     {
         let (_, limit) = self.queue_where(true)?;
         Some(limit)
@@ -102,7 +106,8 @@ impl UnixResponse {
     // Returns the value of the first `ReceiveQueueLength` (`UNIX_DIAG_RQLEN`).
     fn queue(&self) -> Option<(u32, u32)>
         ensures { result
-            ≡ first_of (content unix UNIX_DIAG_RQLEN) (map nla_model self.now.nlas.items) }
+            ≡ first_content_of (value_of_kind unix_attribute_set UNIX_DIAG_RQLEN)
+            (map unix_nla_model self.now.nlas.items) }
     {
         self.nlas.as_slice().iter().find_map(|nla| match nla {
             Nla::ReceiveQueueLength(first, second) => Some((*first, *second)),
@@ -114,8 +119,8 @@ impl UnixResponse {
     // not listen and `listens` is false. Returns `None` otherwise.
     fn queue_where(&self, listens: bool) -> Option<(u32, u32)>
         ensures { result ≡ if listens
-            then listening_queue_of (response_model (λ h. h) nla_model self.now)
-            else other_queue_of (response_model (λ h. h) nla_model self.now) }
+            then listening_queue_of (response_model (λ h. h) unix_nla_model self.now)
+            else nonlistening_queue_of (response_model (λ h. h) unix_nla_model self.now) }
     {
         if (self.header.state == TCP_LISTEN) == listens {
             self.queue()
@@ -128,7 +133,7 @@ impl UnixResponse {
     /// number of the first `ReceiveQueueLength` (`udiag_rqueue` of `unix_diag_rqlen`).
     pub fn receive_queue_size(&self) -> Option<u32>
         ensures { result ≡ option_map (λ ns. ns.0)
-            (other_queue_of (response_model (λ h. h) nla_model self.now)) }
+            (nonlistening_queue_of (response_model (λ h. h) unix_nla_model self.now)) }
     {
         let (received, _) = self.queue_where(false)?;
         Some(received)
@@ -139,7 +144,7 @@ impl UnixResponse {
     /// `unix_diag_rqlen`).
     pub fn send_queue_size(&self) -> Option<u32>
         ensures { result ≡ option_map (λ ns. ns.1)
-            (other_queue_of (response_model (λ h. h) nla_model self.now)) }
+            (nonlistening_queue_of (response_model (λ h. h) unix_nla_model self.now)) }
     {
         let (_, sent) = self.queue_where(false)?;
         Some(sent)
@@ -151,7 +156,8 @@ impl UnixResponse {
     /// `max_datagram_size` of the first `MemInfo` (`SK_MEMINFO_SNDBUF` of `UNIX_DIAG_MEMINFO`).
     pub fn max_datagram_size(&self) -> Option<u32>
         ensures { result ≡ option_map (λ info. info.max_datagram_size)
-            (first_of (content unix UNIX_DIAG_MEMINFO) (map nla_model self.now.nlas.items)) }
+            (first_content_of (value_of_kind unix_attribute_set UNIX_DIAG_MEMINFO)
+            (map unix_nla_model self.now.nlas.items)) }
     {
         Some(self.memory()?.max_datagram_size)
     }
@@ -161,7 +167,8 @@ impl UnixResponse {
     /// reports 0 here for a UNIX socket.
     pub fn memory_used_for_outgoing_data(&self) -> Option<u32>
         ensures { result ≡ option_map (λ info. info.alloc)
-            (first_of (content unix UNIX_DIAG_MEMINFO) (map nla_model self.now.nlas.items)) }
+            (first_content_of (value_of_kind unix_attribute_set UNIX_DIAG_MEMINFO)
+            (map unix_nla_model self.now.nlas.items)) }
     {
         Some(self.memory()?.alloc)
     }
@@ -169,7 +176,8 @@ impl UnixResponse {
     // Returns the value of the first `MemInfo` (`UNIX_DIAG_MEMINFO`).
     fn memory(&self) -> Option<MemInfo>
         ensures { result
-            ≡ first_of (content unix UNIX_DIAG_MEMINFO) (map nla_model self.now.nlas.items) }
+            ≡ first_content_of (value_of_kind unix_attribute_set UNIX_DIAG_MEMINFO)
+            (map unix_nla_model self.now.nlas.items) }
     {
         self.nlas.as_slice().iter().find_map(|nla| match nla {
             Nla::MemInfo(info) => Some(*info),

@@ -1,9 +1,9 @@
 //! Replies about one UNIX socket, owned and borrowed.
 
 ghost use Rattle.std.specs.Prelude.{refl};
-ghost use Rattle.netlink_core.proofs.Responses.{responses_keep_laws};
+ghost use Rattle.netlink_core.proofs.Responses.{reply_codec_laws};
 ghost use Rattle.sock_diag_replies.specs.UnixResponseSpec.{unix_response_spec};
-ghost use Rattle.sock_diag_replies.specs.laws.UnixResponseSpec.{header_enough};
+ghost use Rattle.sock_diag_replies.specs.laws.UnixResponseSpec.{unix_header_bytes_suffice};
 ghost use Rattle.sock_diag_replies.specs.laws.UnixResponseSpec.{unix_response_laws};
 ghost use Rattle.sock_diag_replies.specs.laws.UnixResponseSpec.{unix_test, unix_test_decides};
 ghost use Rattle.sock_diag_records.specs.contracts.unix.response.UnixResponseHeaderExact.TheImpl.Laws.{exact-law as exact_header};
@@ -75,9 +75,9 @@ impl ReplyHeader for UnixResponseHeader {
         emit_reply_view::<_, NlaView<'_>>(self, bytes, buffer);
     }
 
-    ghost enough = { header_enough };
+    ghost enough = { unix_header_bytes_suffice };
 
-    ghost keeps = { responses_keep_laws unix_response_spec unix_response_laws };
+    ghost keeps = { reply_codec_laws unix_response_spec unix_response_laws };
 
     ghost compared = { unix_test_decides };
 }
@@ -105,5 +105,5 @@ impl ReplyOwned for UnixResponseHeader {
 
     ghost same = { (λ _ _ h. h, λ _ h. h, λ _. refl, λ _. refl) };
 
-    ghost keeps = { responses_keep_laws unix_response_spec unix_response_laws };
+    ghost keeps = { reply_codec_laws unix_response_spec unix_response_laws };
 }

@@ -1,7 +1,7 @@
 //! Getters for the attributes of a borrowed reply about a UNIX socket.
 
 ghost use Rattle.std.specs.Prelude.{◌≡◌, if◌then◌else◌, None, IsSome, option_map};
-ghost use Rattle.sock_diag_attributes.specs.NameModel.{name_of};
+ghost use Rattle.sock_diag_attributes.specs.NameModel.{socket_name_model};
 ghost use Rattle.sock_diag_attributes.specs.NumbersModel.{numbers_view_model};
 ghost use Rattle.sock_diag_records.specs.declared.constants.TheConstants.{UNIX_DIAG_ICONS};
 ghost use Rattle.sock_diag_records.specs.declared.constants.TheConstants.{UNIX_DIAG_MEMINFO};
@@ -9,9 +9,9 @@ ghost use Rattle.sock_diag_records.specs.declared.constants.TheConstants.{UNIX_D
 ghost use Rattle.sock_diag_records.specs.declared.constants.TheConstants.{UNIX_DIAG_PEER};
 ghost use Rattle.sock_diag_records.specs.declared.constants.TheConstants.{UNIX_DIAG_RQLEN};
 ghost use Rattle.sock_diag_records.specs.declared.constants.TheConstants.{UNIX_DIAG_SHUTDOWN};
-ghost use Rattle.sock_diag_replies.specs.UnixGetters.{first_of};
-ghost use Rattle.netlink_core.specs.AttributeSet.{content};
-ghost use Rattle.sock_diag_attributes.specs.UnixAttributes.{unix};
+ghost use Rattle.sock_diag_replies.specs.UnixGetters.{first_content_of};
+ghost use Rattle.netlink_core.specs.AttributeSet.{value_of_kind};
+ghost use Rattle.sock_diag_attributes.specs.UnixAttributes.{unix_attribute_set};
 
 use crate::unix::UnixResponseView;
 use crate::unix::nlas::{MemInfo, NameView, NlaView, NumbersView};
@@ -27,7 +27,8 @@ impl<'a> UnixResponseView<'a> {
     /// one.
     pub fn peer(&self) -> Option<u32>
         ensures { result
-            ≡ first_of (content unix UNIX_DIAG_PEER) (unix_response_view_model self.now).nlas }
+            ≡ first_content_of (value_of_kind unix_attribute_set UNIX_DIAG_PEER)
+            (unix_response_view_model self.now).nlas }
     {
         self.attributes().find_map(|nla| match nla {
             NlaView::Peer(inode) => Some(inode),
@@ -38,7 +39,8 @@ impl<'a> UnixResponseView<'a> {
     /// Returns the name of the socket: the value of the first `Name` (`UNIX_DIAG_NAME`), if there
     /// is one.
     pub fn name(&self) -> Option<NameView<'a>>
-        ensures { option_map (name_of (λ b. b.now)) result ≡ first_of (content unix UNIX_DIAG_NAME)
+        ensures { option_map (socket_name_model (λ b. b.now)) result
+            ≡ first_content_of (value_of_kind unix_attribute_set UNIX_DIAG_NAME)
             (unix_response_view_model self.now).nlas }
     {
         self.attributes().find_map(|nla| match nla {
@@ -50,7 +52,8 @@ impl<'a> UnixResponseView<'a> {
     /// Returns the inodes of the connections that wait to be accepted: the value of the first
     /// `PendingConnections` (`UNIX_DIAG_ICONS`), if there is one.
     pub fn pending_connections(&self) -> Option<NumbersView<'a>>
-        ensures { option_map numbers_view_model result ≡ first_of (content unix UNIX_DIAG_ICONS)
+        ensures { option_map numbers_view_model result
+            ≡ first_content_of (value_of_kind unix_attribute_set UNIX_DIAG_ICONS)
             (unix_response_view_model self.now).nlas }
     {
         self.attributes().find_map(|nla| match nla {
@@ -63,7 +66,8 @@ impl<'a> UnixResponseView<'a> {
     /// value of the first `Shutdown` (`UNIX_DIAG_SHUTDOWN`), if there is one.
     pub fn shutdown_state(&self) -> Option<u8>
         ensures { result
-            ≡ first_of (content unix UNIX_DIAG_SHUTDOWN) (unix_response_view_model self.now).nlas }
+            ≡ first_content_of (value_of_kind unix_attribute_set UNIX_DIAG_SHUTDOWN)
+            (unix_response_view_model self.now).nlas }
     {
         self.attributes().find_map(|nla| match nla {
             NlaView::Shutdown(state) => Some(state),
@@ -78,7 +82,7 @@ impl<'a> UnixResponseView<'a> {
           unix_response_view_model,
     };
     ghost use Rattle.sock_diag_replies.specs.UnixGetters.{listening_queue_of};
-    ghost use Rattle.sock_diag_replies.specs.UnixGetters.{other_queue_of};
+    ghost use Rattle.sock_diag_replies.specs.UnixGetters.{nonlistening_queue_of};
 
     /// Returns the number of connections that wait to be accepted, if the socket listens (state
     /// `TCP_LISTEN`): the first number of the first `ReceiveQueueLength` (`udiag_rqueue` of
@@ -89,7 +93,8 @@ impl<'a> UnixResponseView<'a> {
     pub fn number_of_pending_connection(&self) -> Option<u32>
         ensures value { result ≡ option_map (λ ns. ns.0)
             (listening_queue_of (unix_response_view_model self.now)) }
-        ensures alone { IsSome result → other_queue_of (unix_response_view_model self.now) ≡ None }
+        ensures alone { IsSome result → nonlistening_queue_of (unix_response_view_model self.now)
+            ≡ None }
     {
         let (waiting, _) = self.queue_where(true)?;
         Some(waiting)
@@ -108,7 +113,8 @@ impl<'a> UnixResponseView<'a> {
     // Returns the value of the first `ReceiveQueueLength` (`UNIX_DIAG_RQLEN`).
     fn queue(&self) -> Option<(u32, u32)>
         ensures { result
-            ≡ first_of (content unix UNIX_DIAG_RQLEN) (unix_response_view_model self.now).nlas }
+            ≡ first_content_of (value_of_kind unix_attribute_set UNIX_DIAG_RQLEN)
+            (unix_response_view_model self.now).nlas }
     {
         self.attributes().find_map(|nla| match nla {
             NlaView::ReceiveQueueLength(first, second) => Some((first, second)),
@@ -120,7 +126,7 @@ impl<'a> UnixResponseView<'a> {
     // not listen and `listens` is false. Returns `None` otherwise.
     fn queue_where(&self, listens: bool) -> Option<(u32, u32)>
         ensures { result ≡ if listens then listening_queue_of (unix_response_view_model self.now)
-            else other_queue_of (unix_response_view_model self.now) }
+            else nonlistening_queue_of (unix_response_view_model self.now) }
     {
         if (self.header().state == TCP_LISTEN) == listens {
             self.queue()
@@ -133,7 +139,7 @@ impl<'a> UnixResponseView<'a> {
     /// number of the first `ReceiveQueueLength` (`udiag_rqueue` of `unix_diag_rqlen`).
     pub fn receive_queue_size(&self) -> Option<u32>
         ensures { result ≡ option_map (λ ns.
-            ns.0) (other_queue_of (unix_response_view_model self.now)) }
+            ns.0) (nonlistening_queue_of (unix_response_view_model self.now)) }
     {
         let (received, _) = self.queue_where(false)?;
         Some(received)
@@ -144,7 +150,7 @@ impl<'a> UnixResponseView<'a> {
     /// `unix_diag_rqlen`).
     pub fn send_queue_size(&self) -> Option<u32>
         ensures { result ≡ option_map (λ ns.
-            ns.1) (other_queue_of (unix_response_view_model self.now)) }
+            ns.1) (nonlistening_queue_of (unix_response_view_model self.now)) }
     {
         let (_, sent) = self.queue_where(false)?;
         Some(sent)
@@ -161,7 +167,8 @@ impl<'a> UnixResponseView<'a> {
     /// `max_datagram_size` of the first `MemInfo` (`SK_MEMINFO_SNDBUF` of `UNIX_DIAG_MEMINFO`).
     pub fn max_datagram_size(&self) -> Option<u32>
         ensures { result ≡ option_map (λ info. info.max_datagram_size)
-            (first_of (content unix UNIX_DIAG_MEMINFO) (unix_response_view_model self.now).nlas) }
+            (first_content_of (value_of_kind unix_attribute_set UNIX_DIAG_MEMINFO)
+            (unix_response_view_model self.now).nlas) }
     {
         Some(self.memory()?.max_datagram_size)
     }
@@ -171,7 +178,8 @@ impl<'a> UnixResponseView<'a> {
     /// reports 0 here for a UNIX socket.
     pub fn memory_used_for_outgoing_data(&self) -> Option<u32>
         ensures { result ≡ option_map (λ info. info.alloc)
-            (first_of (content unix UNIX_DIAG_MEMINFO) (unix_response_view_model self.now).nlas) }
+            (first_content_of (value_of_kind unix_attribute_set UNIX_DIAG_MEMINFO)
+            (unix_response_view_model self.now).nlas) }
     {
         Some(self.memory()?.alloc)
     }
@@ -179,7 +187,8 @@ impl<'a> UnixResponseView<'a> {
     // Returns the value of the first `MemInfo` (`UNIX_DIAG_MEMINFO`).
     fn memory(&self) -> Option<MemInfo>
         ensures { result
-            ≡ first_of (content unix UNIX_DIAG_MEMINFO) (unix_response_view_model self.now).nlas }
+            ≡ first_content_of (value_of_kind unix_attribute_set UNIX_DIAG_MEMINFO)
+            (unix_response_view_model self.now).nlas }
     {
         self.attributes().find_map(|nla| match nla {
             NlaView::MemInfo(info) => Some(info),

@@ -1,9 +1,9 @@
--- The layout `mem_info` is sound (`IsSound`).
+-- The layout `mem_info` is sound (`MeetsLayoutConditions`).
 use Rattle.std.proofs.Common.{arith, ◌*◌}
-use Rattle.netlink_core.specs.laws.Sound.{IsSound}
+use Rattle.netlink_core.specs.laws.Sound.{MeetsLayoutConditions}
 use Rattle.sock_diag_values.specs.MemInfo.{mem_info}
 
-pub mem_info_sound : IsSound mem_info
+pub mem_info_sound : MeetsLayoutConditions mem_info
 mem_info_sound = record {
   size = λ words. 4 * words;
   tables = λ param words left e. grind arith;

@@ -52,17 +52,17 @@ abbrev pub reorderings : TcpInfo → List ℕ
 reorderings value = take 4 (drop 50 (numbers_of tcp_info_rows value))
 
 -- the bytes 0..92
-abbrev pub front : TcpInfo → List ℕ
-front value = states value ++ (flat_map (little_bytes 4) (counts value)
+abbrev pub bytes_0_to_92 : TcpInfo → List ℕ
+bytes_0_to_92 value = states value ++ (flat_map (little_bytes 4) (counts value)
     ++ (flat_map (little_bytes 4) (ages value) ++ flat_map (little_bytes 4) (metrics value)))
 
 -- the bytes 92..192
-abbrev pub middle : TcpInfo → List ℕ
-middle value = flat_map (little_bytes 4) (receiver value)
+abbrev pub bytes_92_to_192 : TcpInfo → List ℕ
+bytes_92_to_192 value = flat_map (little_bytes 4) (receiver value)
     ++ (flat_map (little_bytes 8) (rates value)
     ++ (flat_map (little_bytes 4) (segments value) ++ flat_map (little_bytes 8) (limits value)))
 
 -- the bytes 192..232
-abbrev pub back : TcpInfo → List ℕ
-back value = flat_map (little_bytes 4) (deliveries value)
+abbrev pub bytes_192_to_232 : TcpInfo → List ℕ
+bytes_192_to_232 value = flat_map (little_bytes 4) (deliveries value)
     ++ (flat_map (little_bytes 8) (totals value) ++ flat_map (little_bytes 4) (reorderings value))

@@ -2,7 +2,7 @@
 
 ghost use Rattle.std.specs.Prelude.{◌≡◌, refl};
 ghost use Rattle.std.proofs.Common.{rules};
-ghost use Rattle.netlink_core.specs.Layout.{read};
+ghost use Rattle.netlink_core.specs.Layout.{parse_record};
 ghost use Rattle.netlink_core.proofs.LayoutLaws.{plain_sound, record_laws};
 ghost use Rattle.sock_diag_values.specs.LegacyMemInfo.{legacy_mem_info};
 
@@ -92,7 +92,7 @@ impl LegacyMemInfo {
     /// Parses the first 16 bytes, and ignores the bytes after them. Fewer bytes are
     /// [`DecodeError::BufferTooSmall`].
     pub fn parse(payload: &[u8]) -> Result<Self, DecodeError>
-        ensures { result ≡ read legacy_mem_info tt payload.now }
+        ensures { result ≡ parse_record legacy_mem_info tt payload.now }
     {
         read_record(payload, ())
     }

@@ -3,10 +3,11 @@
 ghost use Rattle.std.specs.Prelude.{ℕ, ◌≡◌, ◌≤◌, ◌+◌, ◌*◌, ◌↔◌, ◌<◌, ◌^◌, length, take, drop};
 ghost use Rattle.std.specs.Prelude.{SomeIff, IfSome, IsSome};
 ghost use Rattle.std.proofs.Common.{rules};
-ghost use Rattle.netlink_core.specs.Layout.{read, bytes, values};
+ghost use Rattle.netlink_core.specs.Layout.{parse_record, record_bytes, field_numbers};
 ghost use Rattle.netlink_core.proofs.LayoutLaws.{record_laws};
-ghost use Rattle.netlink_core.specs.Table.{Fit};
-ghost use Rattle.sock_diag_values.specs.MemInfo.{words_in, mem_info, held_bytes};
+ghost use Rattle.netlink_core.specs.Table.{FitFields};
+ghost use Rattle.sock_diag_values.specs.MemInfo.{mem_info_u32_count, mem_info};
+ghost use Rattle.sock_diag_values.specs.MemInfo.{mem_info_buffer_bytes};
 ghost use Rattle.sock_diag_values.specs.laws.MemInfo.{mem_info_sound};
 ghost use Rattle.sock_diag_values.specs.laws.MemInfoEqual.{buffer_equal, bytes_equal};
 ghost use Rattle.sock_diag_values.specs.laws.MemInfoEqual.{mem_info_equal};
@@ -171,7 +172,7 @@ impl Record for MemInfo {
 impl MemInfo {
     // Proof only: puts the range of the first seven fields in scope. No run-time effect.
     fn words_are_in_range(&self)
-        ensures { Fit (array number 0 4 7) (take 7 (values mem_info self.now)) }
+        ensures { FitFields (array number 0 4 7) (take 7 (field_numbers mem_info self.now)) }
     {
         let _receive_queue = self.receive_queue;
         let _receive_queue_max = self.receive_queue_max;
@@ -185,7 +186,7 @@ impl MemInfo {
     /// Parses the longest prefix of 36, 32 or 28 bytes, and ignores the bytes after it. Fewer than
     /// 28 bytes are [`DecodeError::BufferTooSmall`].
     pub fn parse(payload: &[u8]) -> Result<Self, DecodeError>
-        ensures { result ≡ read mem_info tt payload.now }
+        ensures { result ≡ parse_record mem_info tt payload.now }
     {
         read_record(payload, ())
     }
@@ -196,8 +197,8 @@ impl MemInfoBuffer {
     pub fn read_prefix(payload: &[u8]) -> Option<Self>
         ensures enough { IsSome result ↔ 28 ≤ length payload.now }
         ensures bytes { IfSome result
-            (λ buffer. held_bytes buffer.bytes
-            ≡ take (4 * words_in (length payload.now)) payload.now) }
+            (λ buffer. mem_info_buffer_bytes buffer.bytes
+            ≡ take (4 * mem_info_u32_count (length payload.now)) payload.now) }
     {
         let bytes = if let Some(bytes) = payload.first_chunk() {
             MemInfoBytes::Nine(*bytes)
@@ -218,7 +219,8 @@ impl MemInfoBuffer {
 }
 
 impl From<&MemInfo> for MemInfoBuffer {
-    ghost from_gives = { λ value buffer. held_bytes buffer.bytes ≡ bytes mem_info value.now };
+    ghost from_gives = { λ value buffer. mem_info_buffer_bytes buffer.bytes
+        ≡ record_bytes mem_info value.now };
 
     fn from(value: &MemInfo) -> Self {
         let bytes = match (value.backlog_queue_length, value.drops) {
@@ -233,7 +235,7 @@ impl From<&MemInfo> for MemInfoBuffer {
 impl MemInfoBytes {
     /// Returns the bytes as a slice.
     pub fn as_slice(&self) -> &[u8]
-        ensures { result.now ≡ held_bytes self.now }
+        ensures { result.now ≡ mem_info_buffer_bytes self.now }
     {
         match self {
             MemInfoBytes::Seven(bytes) => bytes,
@@ -254,8 +256,8 @@ fn word_at(payload: &[u8], offset: usize) -> Option<u32>
 
 // Serializes a value whose serialized form has `N` bytes.
 fn row_of<const N: usize>(value: &MemInfo) -> [u8; N]
-    requires { length (bytes mem_info value.now) ≡ N }
-    ensures { result ≡ bytes mem_info value.now }
+    requires { length (record_bytes mem_info value.now) ≡ N }
+    ensures { result ≡ record_bytes mem_info value.now }
 {
     let mut buffer = [0; N];
     value.write_fields(&mut buffer);

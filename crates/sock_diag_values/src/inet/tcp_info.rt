@@ -2,12 +2,13 @@
 
 ghost use Rattle.std.specs.Prelude.{◌≡◌, ⊤, length};
 ghost use Rattle.std.proofs.Common.{rules};
-ghost use Rattle.netlink_core.specs.Layout.{read};
+ghost use Rattle.netlink_core.specs.Layout.{parse_record};
 ghost use Rattle.netlink_core.proofs.LayoutLaws.{record_laws};
 ghost use Rattle.sock_diag_values.specs.TcpInfo.{tcp_info};
 ghost use Rattle.sock_diag_values.specs.private.TcpInfo.{states, counts, ages, metrics, receiver};
 ghost use Rattle.sock_diag_values.specs.private.TcpInfo.{rates, segments, limits, deliveries};
-ghost use Rattle.sock_diag_values.specs.private.TcpInfo.{totals, reorderings, front, middle, back};
+ghost use Rattle.sock_diag_values.specs.private.TcpInfo.{totals, reorderings, bytes_0_to_92};
+ghost use Rattle.sock_diag_values.specs.private.TcpInfo.{bytes_92_to_192, bytes_192_to_232};
 ghost use Rattle.sock_diag_values.specs.laws.TcpInfoEqual.{tcp_info_equal};
 ghost use Rattle.sock_diag_values.specs.laws.TcpInfo.{tcp_info_sound};
 
@@ -293,9 +294,9 @@ impl Record for TcpInfo {
 }
 
 impl Fills<TCP_INFO_LEN> for TcpInfo {
-    ghost use Rattle.sock_diag_values.specs.laws.TcpInfo.{tcp_info_long};
+    ghost use Rattle.sock_diag_values.specs.laws.TcpInfo.{tcp_info_has_fixed_length};
 
-    ghost fills = { tcp_info_long };
+    ghost fills = { tcp_info_has_fixed_length };
 }
 
 impl TcpInfo {
@@ -303,7 +304,7 @@ impl TcpInfo {
     /// [`DecodeError::BufferTooSmall`].
     #[inline(always)]
     pub fn parse(payload: &[u8]) -> Result<Self, DecodeError>
-        ensures { result ≡ read tcp_info tt payload.now }
+        ensures { result ≡ parse_record tcp_info tt payload.now }
     {
         read_record(payload, ())
     }
@@ -311,7 +312,7 @@ impl TcpInfo {
     // Writes the fields at offsets 0 to 91.
     fn write_front(&self, buffer: &mut [u8])
         requires { length buffer.old ≡ 92 }
-        ensures { buffer.new ≡ front self.now }
+        ensures { buffer.new ≡ bytes_0_to_92 self.now }
     {
         let (states, rest) = buffer.split_at_mut(8);
         let (counts, rest) = rest.split_at_mut(36);
@@ -325,7 +326,7 @@ impl TcpInfo {
     // Writes the fields at offsets 92 to 191.
     fn write_middle(&self, buffer: &mut [u8])
         requires { length buffer.old ≡ 100 }
-        ensures { buffer.new ≡ middle self.now }
+        ensures { buffer.new ≡ bytes_92_to_192 self.now }
     {
         let (receiver, rest) = buffer.split_at_mut(12);
         let (rates, rest) = rest.split_at_mut(32);
@@ -339,7 +340,7 @@ impl TcpInfo {
     // Writes the fields at offsets 192 to 231.
     fn write_back(&self, buffer: &mut [u8])
         requires { length buffer.old ≡ 40 }
-        ensures { buffer.new ≡ back self.now }
+        ensures { buffer.new ≡ bytes_192_to_232 self.now }
     {
         let (deliveries, rest) = buffer.split_at_mut(8);
         let (totals, reorderings) = rest.split_at_mut(16);

@@ -2,7 +2,7 @@
 
 ghost use Rattle.std.specs.Prelude.{◌≡◌, refl};
 ghost use Rattle.std.proofs.Common.{rules};
-ghost use Rattle.netlink_core.specs.Layout.{read};
+ghost use Rattle.netlink_core.specs.Layout.{parse_record};
 ghost use Rattle.netlink_core.proofs.LayoutLaws.{plain_sound, record_laws};
 ghost use Rattle.sock_diag_values.specs.UnixMemInfo.{unix_mem_info};
 
@@ -96,7 +96,7 @@ impl MemInfo {
     /// Parses the first 36 bytes, and ignores the bytes after them. Fewer bytes are
     /// [`DecodeError::BufferTooSmall`].
     pub fn parse(payload: &[u8]) -> Result<Self, DecodeError>
-        ensures { result ≡ read unix_mem_info tt payload.now }
+        ensures { result ≡ parse_record unix_mem_info tt payload.now }
     {
         read_record(payload, ())
     }

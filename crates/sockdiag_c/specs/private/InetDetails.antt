@@ -1,22 +1,23 @@
 -- The contents of a reply about an IPv4 or IPv6 socket after one more attribute.
 use Rattle.std.specs.Prelude.{ℕ, if◌then◌else◌, Bool}
 use Rattle.netlink_core.specs.AttributeSet.{AttributeValue}
-use Rattle.sock_diag_attributes.specs.InetAttributes.{inet}
+use Rattle.sock_diag_attributes.specs.InetAttributes.{inet_attribute_set}
 use Rattle.sockdiag_c.specs.declared.details.Text.{Text}
 use Rattle.sockdiag_c.specs.declared.inet_details.InetDetails.{InetDetails}
-use Rattle.sockdiag_c.specs.private.FirstNumber.{next}
+use Rattle.sockdiag_c.specs.private.FirstNumber.{set_attribute_number}
 
--- inet_with congestion d v: each number of the attribute v is set unless it was present; the
--- congestion text is the argument
-abbrev pub inet_with : Text → InetDetails → AttributeValue inet → InetDetails
-inet_with congestion d v = record {
+-- inet_details_with congestion d v: each number of the attribute v is set unless it was present;
+-- the congestion text is the argument
+abbrev pub inet_details_with : Text → InetDetails → AttributeValue inet_attribute_set → InetDetails
+inet_details_with congestion d v = record {
   header = d.header;
   congestion = congestion;
-  tos = next inet 5 (λ (n : ℕ). n) v d.tos;
-  tclass = next inet 6 (λ (n : ℕ). n) v d.tclass;
-  shutdown = next inet 8 (λ (n : ℕ). n) v d.shutdown;
-  protocol = next inet 10 (λ (n : ℕ). n) v d.protocol;
-  v6only = next inet 11 (λ (only : Bool). if only then 1 else 0) v d.v6only;
-  mark = next inet 15 (λ (n : ℕ). n) v d.mark;
-  class_id = next inet 17 (λ (n : ℕ). n) v d.class_id;
+  tos = set_attribute_number inet_attribute_set 5 (λ (n : ℕ). n) v d.tos;
+  tclass = set_attribute_number inet_attribute_set 6 (λ (n : ℕ). n) v d.tclass;
+  shutdown = set_attribute_number inet_attribute_set 8 (λ (n : ℕ). n) v d.shutdown;
+  protocol = set_attribute_number inet_attribute_set 10 (λ (n : ℕ). n) v d.protocol;
+  v6only = set_attribute_number inet_attribute_set 11 (λ (only : Bool). if only then 1
+      else 0) v d.v6only;
+  mark = set_attribute_number inet_attribute_set 15 (λ (n : ℕ). n) v d.mark;
+  class_id = set_attribute_number inet_attribute_set 17 (λ (n : ℕ). n) v d.class_id;
 }

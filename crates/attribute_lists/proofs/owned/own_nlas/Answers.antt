@@ -1,13 +1,14 @@
 use Rattle.std.proofs.Common.{length, refl, ap, append_assoc, rules, arith}
 use Rattle.std.proofs.lemmas.List.{length-append, map_push}
-use Rattle.netlink_core.specs.AttributeSet.{decodes}
-use Rattle.attribute_lists.proofs.Finding.{first_found, value_first, rest_has_no_fault}
+use Rattle.netlink_core.specs.AttributeSet.{decode_attribute}
+use Rattle.attribute_lists.proofs.Finding.{first_value_is_found, value_first, rest_has_no_error}
 use Rattle.attribute_lists.proofs.owned.own_nlas.Goals as goal
 
 pub push_accepted-requires : goal.push_accepted-requires
 push_accepted-requires g c =
     let start = rw c.in-Ok.is at c.in-Some.ensures.steps in
-    let first = first_found (decodes g.T.FamilyNla.attribute_set) _ _ _ c.loop-item.invariant.clean
+    let first = first_value_is_found (decode_attribute g.T.FamilyNla.attribute_set) _ _ _
+    c.loop-item.invariant.clean
     start in
     let room = rw first.2 at c.loop-item.invariant.room in
     (search rules, (rw first.1 refl, omega arith))
@@ -15,7 +16,8 @@ push_accepted-requires g c =
 pub returns-in_err-push_accepted-clause-spare : goal.returns-in_err-push_accepted-clause-spare
 returns-in_err-push_accepted-clause-spare g c = λ few each.
     let start = rw c.in-Ok.is at c.in-Some.ensures.steps in
-    let first = first_found (decodes g.T.FamilyNla.attribute_set) _ _ _ c.loop-item.invariant.clean
+    let first = first_value_is_found (decode_attribute g.T.FamilyNla.attribute_set) _ _ _
+    c.loop-item.invariant.clean
     start in
     let spare = rw first.2 at (c.loop-item.invariant.spare each) in
     let ok = c.in_err-push_accepted.ensures.spare first.0 first.1 spare.0 in
@@ -23,12 +25,12 @@ returns-in_err-push_accepted-clause-spare g c = λ few each.
 
 pub loop-item-preserved : goal.loop-item-preserved
 loop-item-preserved g c =
-    let reads = decodes g.T.FamilyNla.attribute_set in
+    let reads = decode_attribute g.T.FamilyNla.attribute_set in
     let start = rw c.in-Ok.is at c.in-Some.ensures.steps in
     let pushed = c.in_ok-push_accepted.ensures.pushed in
     let next = value_first reads _ _ _ _ start pushed.2 in
     record {
-      clean = rest_has_no_fault reads _ _ _ _ start pushed.2 c.loop-item.invariant.clean;
+      clean = rest_has_no_error reads _ _ _ _ start pushed.2 c.loop-item.invariant.clean;
       told = rw pushed.1 (simp (map_push, append_assoc) (rw next at c.loop-item.invariant.told));
       room = rw (pushed.1, length-append) (omega (arith, ap length next));
       spare = λ each. (rw next at (c.loop-item.invariant.spare each)).1;

@@ -2,31 +2,33 @@ use Rattle.std.proofs.Common.{◌≡◌, ℕ, inl, inr, [], ◌∷◌, length, a
 use Rattle.std.proofs.lemmas.List.{length-append}
 use Rattle.std.proofs.lemmas.Result.{err_from_is_err_and}
 use Rattle.netlink_core.specs.Attribute.{Attribute}
-use Rattle.netlink_core.specs.AttributeSet.{decodes, encodes}
-use Rattle.netlink_core.specs.Walk.{bytes_left}
-use Rattle.netlink_core.proofs.Walking.{later_fault, fault_here, StartsWith-some, prefix_of_start}
-use Rattle.netlink_core.proofs.Cutting.{means_or_fault_apart}
-use Rattle.attribute_lists.proofs.Emitting.{attributes_in}
+use Rattle.netlink_core.specs.AttributeSet.{decode_attribute, encode_attribute}
+use Rattle.netlink_core.specs.Walk.{unread_bytes}
+use Rattle.netlink_core.proofs.Walking.{error_of_rest, error_of_first_attribute}
+use Rattle.netlink_core.proofs.Walking.{StartsWithAttribute-nonempty, attribute_prefix_of_start}
+use Rattle.netlink_core.proofs.Cutting.{decoded_or_error_apart}
+use Rattle.attribute_lists.proofs.Emitting.{encoded_attributes_in}
 use Rattle.attribute_lists.proofs.Finding.{value_first}
-use Rattle.attribute_lists.proofs.Standing.{found_none}
+use Rattle.attribute_lists.proofs.Standing.{no_attribute_is_found}
 use Rattle.attribute_lists.proofs.Measuring.{leaves_end, leaves_less, leaves_within}
 use Rattle.attribute_lists.proofs.views.check_nlas_len.Goals as goal
 
 pub loop-item-preserved : goal.loop-item-preserved
 loop-item-preserved g c =
-    let reads = decodes g.V.FamilyView.attribute_set in
+    let reads = decode_attribute g.V.FamilyView.attribute_set in
     let start = rw c.in_ok-item.was at c.in-Some.ensures.steps in
     let read = c.in_ok-view.ensures.value in
     let kept = c.loop-item.invariant in
     let F = g.V.FamilyView.attribute_set in
     let a : Attribute = g.V.Nla.attribute c.in_ok-view.view in
-    let as_encoded : a ≡ encodes F (g.V.FamilyView.model c.in_ok-view.view) = search rules in
-    let parts : attributes_in F (bytes_left c.loop-item.item-iterator)
-    ≡ a ∷ attributes_in F (bytes_left c.next.new.self) =
+    let as_encoded : a ≡ encode_attribute F (g.V.FamilyView.model c.in_ok-view.view) =
+    search rules in
+    let parts : encoded_attributes_in F (unread_bytes c.loop-item.item-iterator)
+    ≡ a ∷ encoded_attributes_in F (unread_bytes c.next.new.self) =
     rw (value_first reads _ _ _ _ start read, as_encoded) refl in
     record {
       mean = λ later m. kept.mean (_ ∷ later) (_ ∷ m.0, (_, start, m.1), (read, m.2));
-      fault = λ e f. kept.fault e (later_fault reads _ _ _ _ e start read f);
+      fault = λ e f. kept.fault e (error_of_rest reads _ _ _ _ e start read f);
       many = omega (arith, ap length (value_first reads _ _ _ _ start read));
       few = grind (arith, ap length start.parts, length-append {A = ℕ});
       room = leaves_less _ _ _ a _ _ c.room_after-room.ensures (rw parts at kept.room);
@@ -37,7 +39,8 @@ returns-in_err-item-clause-fault g c =
     let p = err_from_is_err_and c.from_residual.result c.from_residual.ensures.1 in
     let stop = rw c.in_err-item.was at c.in-Some.ensures.steps in
     rw (p.1, p.2) (c.loop-item.invariant.fault _
-    (fault_here (decodes g.V.FamilyView.attribute_set) _ _ stop.0 (inl stop.1)))
+    (error_of_first_attribute (decode_attribute g.V.FamilyView.attribute_set) _ _ stop.0
+    (inl stop.1)))
 
 pub returns-in_err-view-clause-fault : goal.returns-in_err-view-clause-fault
 returns-in_err-view-clause-fault g c =
@@ -45,19 +48,25 @@ returns-in_err-view-clause-fault g c =
     c.from_residual-in_err-view.ensures.1 in
     let start = rw c.in_ok-item.was at c.in-Some.ensures.steps in
     rw (p.1, p.2) (c.loop-item.invariant.fault _
-    (fault_here (decodes g.V.FamilyView.attribute_set) _ _ (StartsWith-some _ _ _ start)
-    (inr (_, prefix_of_start _ _ _ start, c.in_err-view.ensures.fault))))
+    (error_of_first_attribute (decode_attribute g.V.FamilyView.attribute_set) _ _
+    (StartsWithAttribute-nonempty _ _ _ start)
+    (inr (_, attribute_prefix_of_start _ _ _ start, c.in_err-view.ensures.fault))))
 
 pub returns-clause-clean : goal.returns-clause-clean
 returns-clause-clean g c =
     let all = c.loop-item.invariant.mean [] ([], c.in-None.ensures.steps.0, tt) in record {
-      none = λ e. means_or_fault_apart (decodes g.V.FamilyView.attribute_set) _ all.0 e all.1;
+      none = λ e. decoded_or_error_apart (decode_attribute g.V.FamilyView.attribute_set) _ all.0 e
+          all.1;
     }
 
 pub used-requires : goal.used-requires
 used-requires g c =
-    leaves_within _ _ _ (rw (c.in-None.ensures.steps.0, found_none) at c.loop-item.invariant.room)
+    leaves_within _ _ _ (rw (
+      c.in-None.ensures.steps.0,
+      no_attribute_is_found,
+    ) at c.loop-item.invariant.room)
 
 pub returns-clause-len : goal.returns-clause-len
 returns-clause-len g c = leaves_end _ _ _ _
-    (rw (c.in-None.ensures.steps.0, found_none) at c.loop-item.invariant.room) c.used.ensures
+    (rw (c.in-None.ensures.steps.0, no_attribute_is_found) at c.loop-item.invariant.room)
+    c.used.ensures

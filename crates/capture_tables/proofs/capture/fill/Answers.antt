@@ -6,7 +6,7 @@ use Rattle.std.specs.Io.KnownBytes.{Consumes}
 use Rattle.std.proofs.KnownBytes.{Consumes-trans, Consumes-kept}
 use borrow.Rule.Slice.PartMut.{put_mid, post_of}
 use lib.Seq.{take-add, take-append-le}
-use Rattle.capture_tables.proofs.Stops.{failure_stops}
+use Rattle.capture_tables.proofs.Stops.{failed_read_is_stop}
 use Rattle.capture_tables.proofs.capture.fill.Goals as goal
 
 -- A prefix that does not change, followed by the range after it, is a longer prefix.
@@ -60,5 +60,5 @@ returns-in-Err-clause-stopped g c = (
   take c.reads.at c.reads.bytes,
   omega (arith, length-take-le c.reads.at c.reads.bytes c.reads.invariant.1),
   Consumes-kept _ _ _ _ c.reads.invariant.2 c.in-Err.ensures.bytes,
-  failure_stops _ _ _ c.in-Err.ensures.cause.0 c.in-Err.ensures.cause.1,
+  failed_read_is_stop _ _ _ c.in-Err.ensures.cause.0 c.in-Err.ensures.cause.1,
 )

@@ -7,16 +7,16 @@ use Rattle.std.proofs.lemmas.List.Folds.{list_all-append}
 use Rattle.std.proofs.Math.Seq.{take-append_seam}
 use Rattle.std.proofs.lemmas.Result.{err_from_is_err_and}
 use Rattle.line_server.specs.Run.{answer_lines}
-use Rattle.line_server.proofs.LinesLemmas.{split_of}
-use Rattle.line_server.proofs.RunLemmas.{answers_begin, goods_begin, read_on, run_failed, waited}
-use Rattle.line_server.proofs.RunLemmas.{write_on}
+use Rattle.line_server.proofs.LinesLemmas.{every_text_splits}
+use Rattle.line_server.proofs.RunLemmas.{answers_begin, good_answers_begin, read_more_bytes}
+use Rattle.line_server.proofs.RunLemmas.{run_failed, read_without_bytes, write_more_bytes}
 use Rattle.line_server.proofs.stream.serve.Goals as goal
 
 pub returns-in_err-count-clause-answered : goal.returns-in_err-count-clause-answered
 returns-in_err-count-clause-answered g c =
     let r = c.from_residual in let p = err_from_is_err_and r.result r.ensures.1 in
     let none = Consumes-kept _ _ _ [] (Consumes-nil _) c.in_err-count.ensures.bytes in
-    let up = waited c.reads.invariant.up _ none in
+    let up = read_without_bytes c.reads.invariant.up _ none in
     rw (p.1, p.2, c.in_err-count.ensures.cause.0) (_, _, _, up.read, up.splits, up.appended, tt)
 
 pub returns-in_err-is_last_good-clause-answered : goal.returns-in_err-is_last_good-clause-answered
@@ -25,7 +25,8 @@ returns-in_err-is_last_good-clause-answered g c =
     let p = err_from_is_err_and r.result r.ensures.1 in
     let inv = c.reads.invariant in
     let none = rw c.if-count-eq0.true at c.in_ok-count.ensures.bytes.0 in
-    rw (p.1, p.2) (run_failed (waited inv.up _ none) g.S.Start.answer g.A.LineAnswers.good
+    rw (p.1, p.2) (run_failed (read_without_bytes inv.up _ none) g.S.Start.answer
+    g.A.LineAnswers.good
     (length inv.whole) _ _ [] _ (rw (take_all, le_refl))
     (rw append-nil (answers_begin _ inv.whole _)) c.in_err-is_last_good.ensures.written)
 
@@ -33,7 +34,8 @@ pub returns-then-count-eq0-clause-answered : goal.returns-then-count-eq0-clause-
 returns-then-count-eq0-clause-answered g c =
     let inv = c.reads.invariant in
     let none = rw c.if-count-eq0.true at c.in_ok-count.ensures.bytes.0 in
-    let up = write_on (waited inv.up _ none) _ _ _ c.in_ok-is_last_good.ensures.written
+    let up = write_more_bytes (read_without_bytes inv.up _ none) _ _ _
+    c.in_ok-is_last_good.ensures.written
     (sym (answers_begin _ inv.whole _)) in
     let last = c.in_ok-is_last_good.ensures.judged in (
       _,
@@ -43,7 +45,7 @@ returns-then-count-eq0-clause-answered g c =
       up.splits,
       up.appended,
       rw (inv.judged, last)
-          (sym (goods_begin _ _ inv.whole _)),
+          (sym (good_answers_begin _ _ inv.whole _)),
     )
 
 pub returns-in_err-is_piece_good-clause-answered : goal.returns-in_err-is_piece_good-clause-answered
@@ -52,8 +54,8 @@ returns-in_err-is_piece_good-clause-answered g c =
     let p = err_from_is_err_and r.result r.ensures.1 in
     let inv = c.reads.invariant in
     let line = c.reads.kept.line.items in
-    let s = split_of (line ++ take c.in_ok-count.count c.read_prompt.new.piece) in
-    let read = read_on inv.up _ _ _ _ c.in_ok-count.ensures.bytes.0 s.splits in
+    let s = every_text_splits (line ++ take c.in_ok-count.count c.read_prompt.new.piece) in
+    let read = read_more_bytes inv.up _ _ _ _ c.in_ok-count.ensures.bytes.0 s.splits in
     rw (p.1, p.2) (
       inv.whole ++ s.whole,
       s.rest,
@@ -74,7 +76,7 @@ returns-in_err-send-clause-answered g c =
     let begins = rw flat_map-append at (answers_begin g.S.Start.answer (inv.whole ++ piece.whole)
     c.take_piece.new.kept.line.items) in
     rw (p.1, p.2) (run_failed
-    (read_on inv.up _ _ _ _ c.in_ok-count.ensures.bytes.0 piece.splits) g.S.Start.answer
+    (read_more_bytes inv.up _ _ _ _ c.in_ok-count.ensures.bytes.0 piece.splits) g.S.Start.answer
     g.A.LineAnswers.good (length inv.whole) _ _ _ _
     (ap (answer_lines _) (sym (take-append_seam inv.whole _))) begins sent)
 
@@ -85,7 +87,8 @@ reads-preserved g c =
     let sent = rw (c.as_slice-in-reads.ensures.value, piece.added) at c.in_ok-send.ensures.written
     in record {
       whole = inv.whole ++ piece.whole;
-      up = write_on (read_on inv.up _ _ _ _ c.in_ok-count.ensures.bytes.0 piece.splits) _ _ _ sent
+      up = write_more_bytes (read_more_bytes inv.up _ _ _ _ c.in_ok-count.ensures.bytes.0
+          piece.splits) _ _ _ sent
           (sym (flat_map-append _ inv.whole _));
       judged = rw (inv.judged, piece.judged) (sym (list_all-append _ inv.whole piece.whole));
       unended = piece.unended;

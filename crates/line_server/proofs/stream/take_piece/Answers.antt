@@ -4,7 +4,7 @@ use Rattle.std.proofs.lemmas.List.{length-drop, take_rest}
 use Rattle.std.proofs.lemmas.List.Elements.{All-nil}
 use Rattle.std.proofs.lemmas.List.Splits.{slice_split_none}
 use Rattle.memchr.specs.Find.{is_byte}
-use Rattle.line_server.proofs.LinesLemmas.{split_at_first, without_first}
+use Rattle.line_server.proofs.LinesLemmas.{split_at_first, no_line_feed_before_first}
 use Rattle.std.proofs.lemmas.List.Concat.{flat_map-append}
 use Rattle.std.proofs.lemmas.List.Folds.{list_all-append}
 use Rattle.std.proofs.Math.Bool.{and-true}
@@ -33,7 +33,7 @@ returns g c =
     let inv = c.lines.invariant in
     let line = c.lines.kept.line.items in
     let rest = c.lines.rest.now in
-    let unended = without_first 10 line rest inv.unended c.in_default.ensures in
+    let unended = no_line_feed_before_first 10 line rest inv.unended c.in_default.ensures in
     rw c.in_ok-extend_from_slice.ensures.items record {
       whole = inv.whole;
       splits = rw (inv.splits, slice_split_none (is_byte 10) (line ++ rest) unended);

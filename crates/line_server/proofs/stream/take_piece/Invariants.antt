@@ -2,7 +2,7 @@ use Rattle.std.proofs.Common.{◌≡◌, ◌≤◌, List, ℕ, ◌++◌, length}
 use Rattle.std.specs.List.{slice_split}
 use Rattle.memchr.specs.Find.{is_byte}
 use Rattle.line_server.specs.Run.{answer_lines}
-use Rattle.line_server.specs.private.Run.{IsLine, all_good}
+use Rattle.line_server.specs.private.Run.{HasNoLineFeed, all_answers_good}
 use Rattle.line_server.proofs.stream.take_piece.Given as goal
 
 -- the lines `whole` have been answered, and `rest` remains
@@ -12,10 +12,10 @@ invariant-lines g l = record {
   splits : slice_split (is_byte 10) (l.fn.kept.line.items ++ l.fn.piece)
       ≡ whole ++ slice_split (is_byte 10) (l.kept.line.items ++ l.rest);
   within : length l.rest ≤ length l.fn.piece;
-  unended : IsLine l.kept.line.items;
+  unended : HasNoLineFeed l.kept.line.items;
   added : l.kept.answers.items ≡ l.fn.kept.answers.items
       ++ answer_lines g.S.Start.answer whole;
-  judged : l.is_good ≡ all_good g.A.LineAnswers.good g.S.Start.answer whole;
+  judged : l.is_good ≡ all_answers_good g.A.LineAnswers.good g.S.Start.answer whole;
 }
 
 abbrev pub decreases-lines : goal.decreases-lines

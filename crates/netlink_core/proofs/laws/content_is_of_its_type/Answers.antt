@@ -1,12 +1,12 @@
-use Rattle.netlink_core.proofs.AttributeContent.{content_of_type, no_content_of_other_type}
-use Rattle.netlink_core.proofs.AttributeContent.{no_content_of_no_type}
+use Rattle.netlink_core.proofs.AttributeContent.{value_of_own_kind, no_value_of_other_kind}
+use Rattle.netlink_core.proofs.AttributeContent.{no_value_of_unknown_kind}
 use Rattle.netlink_core.proofs.laws.content_is_of_its_type.Goals as goal
 
 pub returns-clause-own : goal.returns-clause-own
-returns-clause-own g c = content_of_type _
+returns-clause-own g c = value_of_own_kind _
 
 pub returns-clause-other : goal.returns-clause-other
-returns-clause-other g c = no_content_of_other_type _
+returns-clause-other g c = no_value_of_other_kind _
 
 pub returns-clause-none : goal.returns-clause-none
-returns-clause-none g c = no_content_of_no_type _
+returns-clause-none g c = no_value_of_unknown_kind _

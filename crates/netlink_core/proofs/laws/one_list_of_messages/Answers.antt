@@ -1,5 +1,5 @@
-use Rattle.netlink_core.proofs.Datagrams.{one_cut_into_messages}
+use Rattle.netlink_core.proofs.Datagrams.{one_split_into_messages}
 use Rattle.netlink_core.proofs.laws.one_list_of_messages.Goals as goal
 
 pub returns : goal.returns
-returns c = one_cut_into_messages
+returns c = one_split_into_messages

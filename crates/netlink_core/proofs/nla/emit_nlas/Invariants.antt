@@ -1,17 +1,18 @@
 use Rattle.std.proofs.Common.{◌≡◌, ◌+◌, ◌++◌, take, drop, length}
 use Rattle.std.specs.Prelude.{map}
 use Rattle.std.specs.List.{flat_map}
-use Rattle.netlink_core.specs.Attribute.{AreWritable, written}
+use Rattle.netlink_core.specs.Attribute.{AreWritableWithin, attribute_bytes}
 use Rattle.netlink_core.proofs.nla.emit_nlas.Given as goal
 
 -- the written bytes and the bytes of the remaining attributes are the whole, and the buffer after
 -- the written bytes is unchanged
 abbrev pub invariant-loop-nla : goal.invariant-loop-nla
 invariant-loop-nla g l = record {
-  fits : AreWritable (map g.T.Nla.attribute (drop l.nla-index l.nlas)) 4294967295;
-  len : l.at + length (flat_map written (map g.T.Nla.attribute (drop l.nla-index l.nlas)))
-      ≡ length (flat_map written (map g.T.Nla.attribute l.nlas));
-  done : take l.at l.buffer ++ flat_map written (map g.T.Nla.attribute (drop l.nla-index l.nlas))
-      ≡ flat_map written (map g.T.Nla.attribute l.nlas);
+  fits : AreWritableWithin (map g.T.Nla.attribute (drop l.nla-index l.nlas)) 4294967295;
+  len : l.at + length (flat_map attribute_bytes (map g.T.Nla.attribute (drop l.nla-index l.nlas)))
+      ≡ length (flat_map attribute_bytes (map g.T.Nla.attribute l.nlas));
+  done : take l.at l.buffer ++ flat_map attribute_bytes
+      (map g.T.Nla.attribute (drop l.nla-index l.nlas))
+      ≡ flat_map attribute_bytes (map g.T.Nla.attribute l.nlas);
   left : drop l.at l.buffer ≡ drop l.at l.fn.buffer;
 }

@@ -1,7 +1,7 @@
 use Rattle.std.proofs.Common.{◌≡◌, ◌≤◌, ◌+◌, drop, length}
 use Rattle.std.specs.Prelude.{◌↔◌, map}
 use Rattle.std.specs.List.{flat_map}
-use Rattle.netlink_core.specs.Attribute.{AreWritable, written}
+use Rattle.netlink_core.specs.Attribute.{AreWritableWithin, attribute_bytes}
 use Rattle.netlink_core.proofs.nla.nlas_len_within.Given as goal
 
 -- all attributes are writable within `limit` if and only if the remaining ones are within `room`,
@@ -9,8 +9,9 @@ use Rattle.netlink_core.proofs.nla.nlas_len_within.Given as goal
 abbrev pub invariant-loop-nla : goal.invariant-loop-nla
 invariant-loop-nla g l = record {
   room : l.room ≤ l.limit;
-  same : AreWritable (map g.T.Nla.attribute (drop l.nla-index l.nlas)) l.room
-      ↔ AreWritable (map g.T.Nla.attribute l.nlas) l.limit;
-  len : l.limit + length (flat_map written (map g.T.Nla.attribute (drop l.nla-index l.nlas)))
-      ≡ l.room + length (flat_map written (map g.T.Nla.attribute l.nlas));
+  same : AreWritableWithin (map g.T.Nla.attribute (drop l.nla-index l.nlas)) l.room
+      ↔ AreWritableWithin (map g.T.Nla.attribute l.nlas) l.limit;
+  len : l.limit + length (flat_map attribute_bytes
+      (map g.T.Nla.attribute (drop l.nla-index l.nlas)))
+      ≡ l.room + length (flat_map attribute_bytes (map g.T.Nla.attribute l.nlas));
 }

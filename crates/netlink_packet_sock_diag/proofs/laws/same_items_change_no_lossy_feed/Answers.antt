@@ -1,10 +1,11 @@
-use Rattle.netlink_packet_sock_diag.specs.Lossy.{EntryIs}
+use Rattle.netlink_packet_sock_diag.specs.Lossy.{HasLossyEntry}
 use Rattle.netlink_packet_sock_diag.specs.Message.{message_codec}
 use Rattle.netlink_packet_sock_diag.specs.laws.Message.{message_laws}
-use Rattle.netlink_packet_sock_diag.proofs.DumpRows.{same_items_feeds}
+use Rattle.netlink_packet_sock_diag.proofs.DumpRows.{equal_feeds_of_items}
 use Rattle.netlink_packet_sock_diag.proofs.LossyDumps.{one_list_of_entries, some_entries}
 use Rattle.netlink_packet_sock_diag.proofs.laws.same_items_change_no_lossy_feed.Goals as goal
 
 pub returns : goal.returns
-returns c = same_items_feeds (EntryIs message_codec) (some_entries message_codec message_laws)
+returns c = equal_feeds_of_items (HasLossyEntry message_codec)
+    (some_entries message_codec message_laws)
     (one_list_of_entries message_codec message_laws)

@@ -1,5 +1,5 @@
 use Rattle.std.proofs.Common.{List, ℕ, subst}
-use Rattle.netlink_core.specs.Items.{ItemIs}
+use Rattle.netlink_core.specs.Items.{IsItemOf}
 use Rattle.netlink_packet_sock_diag.specs.Message.{message_codec}
 use Rattle.netlink_packet_sock_diag.proofs.DumpRows.{DatagramDump, dump_of_split, split_of_dump}
 use Rattle.netlink_packet_sock_diag.proofs.laws.split_changes_no_dump.Goals as goal
@@ -8,6 +8,6 @@ pub returns : goal.returns
 returns c = λ datagrams others in_range fits split cut same before after end d.
     let some = c.datagram_has_items.ensures in
     let one = c.one_list_of_items.ensures in
-    split_of_dump (ItemIs message_codec) some one others fits cut before after end
-    (subst (λ (bytes : List ℕ). DatagramDump (ItemIs message_codec) before bytes after end) same
-    (dump_of_split (ItemIs message_codec) datagrams split before after end d))
+    split_of_dump (IsItemOf message_codec) some one others fits cut before after end
+    (subst (λ (bytes : List ℕ). DatagramDump (IsItemOf message_codec) before bytes after end) same
+    (dump_of_split (IsItemOf message_codec) datagrams split before after end d))

@@ -1,17 +1,17 @@
 use Rattle.std.proofs.Common.{arith, sym}
 use Rattle.std.proofs.lemmas.List.{take_rest}
-use Rattle.netlink_core.proofs.LayoutLaws.{accepted}
+use Rattle.netlink_core.proofs.LayoutLaws.{parsed_by_fields}
 use Rattle.sock_diag_records.specs.UnixResponseHeader.{unix_response_header}
 use Rattle.sock_diag_captures.proofs.line.push_unix.Goals as goal
 
 pub slice_bounds-attributes-count : goal.slice_bounds-attributes-count
 slice_bounds-attributes-count c =
-    let long = (accepted unix_response_header tt _ _ (sym c.in-Ok.ensures)).long in
+    let long = (parsed_by_fields unix_response_header tt _ _ (sym c.in-Ok.ensures)).long in
     omega (arith, long)
 
 pub slice_bounds-attributes-start : goal.slice_bounds-attributes-start
 slice_bounds-attributes-start c =
-    let long = (accepted unix_response_header tt _ _ (sym c.in-Ok.ensures)).long in
+    let long = (parsed_by_fields unix_response_header tt _ _ (sym c.in-Ok.ensures)).long in
     omega (arith, long)
 
 pub returns-in_ok-push_unix_lines-in-Ok-clause-lines :

@@ -1,7 +1,7 @@
 use Rattle.std.proofs.Common.{◌++◌, ap, ◌∙◌}
 use Rattle.std.proofs.lemmas.Result.{on_ok_weaker}
 use Rattle.capture_tables.specs.Cells.{first_columns}
-use Rattle.capture_tables.proofs.Adding.{adds}
+use Rattle.capture_tables.proofs.Adding.{appended_texts_concatenate}
 use Rattle.sock_diag_captures.proofs.line.push_unix_line.Goals as goal
 
 pub returns : goal.returns
@@ -10,5 +10,6 @@ returns c =
     ∙ ap (λ cells. c.args.text.now.items ++ first_columns cells) c.unix_cells.ensures in
     rw (← c.queues_in.ensures, ← c.name_in.ensures, ← c.peer_in.ensures)
     (on_ok_weaker c.push_peer.result
-    (λ last. adds _ _ _ _ _ (adds _ _ _ _ _ columns c.in_ok-push_name_column.ensures) last)
+    (λ last. appended_texts_concatenate _ _ _ _ _
+    (appended_texts_concatenate _ _ _ _ _ columns c.in_ok-push_name_column.ensures) last)
     c.push_peer.ensures)

@@ -1,9 +1,10 @@
 use Rattle.std.proofs.Common.{[], ◌∷◌, sym, ◌∙◌}
-use Rattle.capture_tables.proofs.Adding.{adds}
+use Rattle.capture_tables.proofs.Adding.{appended_texts_concatenate}
 use Rattle.sock_diag_captures.proofs.line.push_unix_lines.Goals as goal
 
 pub returns : goal.returns
 returns c =
     let asked = sym c.lists_unix.ensures ∙ c.if-not-lists_unix.false in
-    let upto = adds _ _ _ _ _ c.in_ok-push_unix_line.ensures c.in_ok-push_details.ensures in
-    rw asked (adds _ _ _ _ (10 ∷ []) upto c.in_ok-push.ensures.items)
+    let upto = appended_texts_concatenate _ _ _ _ _ c.in_ok-push_unix_line.ensures
+    c.in_ok-push_details.ensures in
+    rw asked (appended_texts_concatenate _ _ _ _ (10 ∷ []) upto c.in_ok-push.ensures.items)

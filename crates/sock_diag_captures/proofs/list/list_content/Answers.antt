@@ -2,7 +2,7 @@ use Rattle.std.proofs.Common.{inl, List, ℕ, subst, ◌∙◌}
 use Rattle.std.proofs.lemmas.Result.{IfOk-weaker, on_ok_weaker}
 use Rattle.sock_diag_captures.specs.Diagnostics.{DiagnosesDatagram}
 use Rattle.sock_diag_captures.specs.Listing.{ListsDatagram}
-use Rattle.sock_diag_captures.proofs.Asking.{asked_of}
+use Rattle.sock_diag_captures.proofs.Asking.{request_of_datagram}
 use Rattle.sock_diag_captures.proofs.Diagnosing.{diagnosed_other, diagnosed_short}
 use Rattle.sock_diag_captures.proofs.list.list_content.Goals as goal
 
@@ -22,7 +22,7 @@ pub returns-in-SockDiag-clause-asked : goal.returns-in-SockDiag-clause-asked
 returns-in-SockDiag-clause-asked c =
     let found = c.in-SockDiag.ensures in
     on_ok_weaker c.list_sock_diag.result
-    (λ noted. noted ∙ asked_of c.args.requests.now.asked.items c.args.packet.now
+    (λ noted. noted ∙ request_of_datagram c.args.requests.now.asked.items c.args.packet.now
     c.in-SockDiag.datagram.now found.0 found.1 found.2)
     c.list_sock_diag.ensures.asked
 

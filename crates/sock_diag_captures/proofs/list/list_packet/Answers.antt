@@ -1,9 +1,9 @@
-use Rattle.sock_diag_captures.proofs.Listings.{listed_whole}
+use Rattle.sock_diag_captures.proofs.Listings.{listed_without_errors}
 use Rattle.sock_diag_captures.proofs.list.list_packet.Goals as goal
 
 pub returns-clause-lists : goal.returns-clause-lists
 returns-clause-lists c =
-    listed_whole _ _ _ _ _ _ _ c.in_ok-is_whole.ensures.whole
+    listed_without_errors _ _ _ _ _ _ _ c.in_ok-is_whole.ensures.whole
     (rw c.in_ok-is_whole.ensures.lines at c.in_ok-is_listed.ensures.lists)
 
 pub returns-clause-diagnosed : goal.returns-clause-diagnosed

@@ -1,7 +1,7 @@
 use Rattle.std.proofs.Common.{◌++◌, ap, ◌∙◌}
 use Rattle.std.proofs.lemmas.Result.{on_ok_weaker}
 use Rattle.capture_tables.specs.Cells.{first_columns}
-use Rattle.capture_tables.proofs.Adding.{adds}
+use Rattle.capture_tables.proofs.Adding.{appended_texts_concatenate}
 use Rattle.sock_diag_captures.proofs.others.push_other_line.Goals as goal
 
 pub returns : goal.returns
@@ -9,5 +9,6 @@ returns c =
     let columns = c.in_ok-push_first_columns.ensures
     ∙ ap (λ cells. c.args.text.now.items ++ first_columns cells) c.other_cells.ensures in
     on_ok_weaker c.push_end.result
-    (λ last. adds _ _ _ _ _ (adds _ _ _ _ _ columns c.in_ok-push_local.ensures) last)
+    (λ last. appended_texts_concatenate _ _ _ _ _
+    (appended_texts_concatenate _ _ _ _ _ columns c.in_ok-push_local.ensures) last)
     c.push_end.ensures

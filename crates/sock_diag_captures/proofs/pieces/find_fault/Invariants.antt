@@ -1,10 +1,12 @@
 use Rattle.std.proofs.Common.{◌≡◌, length}
-use Rattle.sock_diag_captures.specs.Pieces.{framing_fault, pieces, pieces_left}
+use Rattle.sock_diag_captures.specs.Pieces.{framing_error_of, attributes_or_error}
+use Rattle.sock_diag_captures.specs.Pieces.{attributes_or_error_left}
 use Rattle.sock_diag_captures.proofs.pieces.find_fault.Given as goal
 
 -- the error among the remaining pieces is the error among all pieces
 abbrev pub invariant-loop-piece : goal.invariant-loop-piece
-invariant-loop-piece l = framing_fault (pieces_left l.walk) ≡ framing_fault (pieces 0 l.bytes)
+invariant-loop-piece l = framing_error_of (attributes_or_error_left l.walk)
+    ≡ framing_error_of (attributes_or_error 0 l.bytes)
 
 abbrev pub decreases-loop-piece : goal.decreases-loop-piece
-decreases-loop-piece l = length (pieces_left l.walk)
+decreases-loop-piece l = length (attributes_or_error_left l.walk)

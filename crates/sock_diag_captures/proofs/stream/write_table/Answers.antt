@@ -4,13 +4,14 @@ use Rattle.std.proofs.KnownBytes.{Appends-kept, Appends-trans, Consumes-kept, Co
 use Rattle.std.proofs.KnownBytes.{Consumes-trans}
 use Rattle.std.proofs.lemmas.Result.{err_from_is_err_and}
 use Rattle.capture_tables.proofs.Reporting.{reports_nothing, reports_then}
-use Rattle.capture_tables.specs.Capture.{IsRecord}
+use Rattle.capture_tables.specs.Capture.{IsPacketRecord}
 use Rattle.capture_tables.specs.Reports.{ReportsMore}
 use Rattle.sock_diag_captures.specs.Run.{lines_of_packet}
 use Rattle.sock_diag_captures.proofs.Failing.{fails_at_flush, fails_at_header, fails_at_heading}
 use Rattle.sock_diag_captures.proofs.Failing.{fails_at_lines, fails_at_memory, fails_at_packet}
 use Rattle.sock_diag_captures.proofs.Failing.{fails_past_numbers, no_memory, no_write, table_of}
-use Rattle.sock_diag_captures.proofs.Progress.{goes_on_part, goes_on_whole, progress_begins}
+use Rattle.sock_diag_captures.proofs.Progress.{progress_continues_incomplete}
+use Rattle.sock_diag_captures.proofs.Progress.{progress_continues_complete, progress_begins}
 use Rattle.sock_diag_captures.proofs.stream.write_table.Goals.{then-is_whole, else-is_whole}
 use Rattle.sock_diag_captures.proofs.stream.write_table.Goals as goal
 
@@ -22,7 +23,7 @@ none_read (Some n) P Q other h = absurd (other n refl)
 
 pub packets-init : goal.packets-init
 packets-init g c = record {
-  listed = rw c.new-requests.ensures (progress_begins _ _ (IsRecord _) _ _);
+  listed = rw c.new-requests.ensures (progress_begins _ _ (IsPacketRecord _) _ _);
   reported = reports_nothing _ _ _;
   front = refl;
 }
@@ -44,13 +45,15 @@ packets-preserved g c =
     (rw c.as_slice.ensures.value at c.report.ensures) in
     elim c.if-is_whole.branch [
       | then-is_whole w ↦ rw w.is_whole-is record {
-        listed = goes_on_whole _ _ (IsRecord c.in_ok-file.file) _ _ _ _ _ _ got.0 _ _ _ _ _ _ _ _
+        listed = progress_continues_complete _ _ (IsPacketRecord c.in_ok-file.file) _ _ _ _ _ _
+            got.0 _ _ _ _ _ _ _ _
             w.if-is_whole.true inv.listed got.1 next listed diagnosed got.2 appended;
         reported = reported;
         front = rw c.in_ok-is_listed.ensures.front inv.front;
       }
       | else-is_whole w ↦ rw w.is_whole-is record {
-        listed = goes_on_part _ _ (IsRecord c.in_ok-file.file) _ _ _ _ _ _ got.0 _ _ _ _ _ _ _ _
+        listed = progress_continues_incomplete _ _ (IsPacketRecord c.in_ok-file.file) _ _ _ _ _ _
+            got.0 _ _ _ _ _ _ _ _
             w.if-is_whole.false inv.listed got.1 next listed diagnosed got.2 appended;
         reported = reported;
         front = rw c.in_ok-is_listed.ensures.front inv.front;

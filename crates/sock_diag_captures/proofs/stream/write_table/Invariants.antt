@@ -1,5 +1,5 @@
 use Rattle.std.proofs.Common.{◌≡◌}
-use Rattle.capture_tables.specs.Capture.{IsRecord}
+use Rattle.capture_tables.specs.Capture.{IsPacketRecord}
 use Rattle.capture_tables.specs.Reports.{ReportsMore}
 use Rattle.capture_tables.specs.declared.run.RunError.{RunError}
 use Rattle.sock_diag_captures.proofs.Progress.{Progress}
@@ -8,7 +8,7 @@ use Rattle.sock_diag_captures.proofs.stream.write_table.Given as goal
 -- the packets so far were read and listed, and their diagnostics were reported
 abbrev pub invariant-packets : goal.invariant-packets
 invariant-packets g l = record {
-  listed : Progress l.options l.front (IsRecord l.file) (g.R.Source.left l.initial.input)
+  listed : Progress l.options l.front (IsPacketRecord l.file) (g.R.Source.left l.initial.input)
       (g.R.Source.left l.input) (g.W.Sink.held l.initial.output) (g.W.Sink.held l.output)
       l.requests.asked.items l.is_whole l.number;
   reported : ReportsMore (g.E.Sink.held l.initial.errors)

@@ -3,7 +3,7 @@ use Rattle.std.proofs.Common.{refl, sym}
 use Rattle.std.specs.Option.{option_eq, option_map}
 use Rattle.sock_diag_attributes.specs.laws.EqualName.{names_equal}
 use Rattle.sock_diag_attributes.specs.laws.Lent.{text_view_row}
-use Rattle.sock_diag_attributes.specs.NameModel.{name_of}
+use Rattle.sock_diag_attributes.specs.NameModel.{socket_name_model}
 use Rattle.sock_diag_attributes.specs.declared.unix.name.SocketName.{SocketName}
 use Rattle.sock_diag_attributes.specs.declared.unix.name.SocketName.TheVariants.{Pathname}
 use Rattle.sock_diag_examples.proofs.bound_sockets.is_bound_to.Goals as goal
@@ -12,7 +12,7 @@ abbrev Lent : Type 0
 Lent = SocketName (Bor (List ℕ))
 
 abbrev lent_name : Lent → SocketName (List ℕ)
-lent_name name = name_of (λ (b : Bor (List ℕ)). b.now) name
+lent_name name = socket_name_model (λ (b : Bor (List ℕ)). b.now) name
 
 one_name : (x y : SocketName (List ℕ)) → Some x ≡ Some y → x ≡ y
 one_name x y e = cc

@@ -3,12 +3,12 @@ use Rattle.std.specs.Option.{option_eq}
 use Rattle.std.specs.declared.alloc.Global.{Global}
 use lib.Pointwise.{bytes_decides}
 use Rattle.netlink_core.proofs.Equality.{and_decides}
-use Rattle.sock_diag_examples.specs.Link.{text_of}
+use Rattle.sock_diag_examples.specs.Link.{string_content}
 use Rattle.sock_diag_examples.proofs.link.equal_links.Goals as goal
 
 -- names are compared by their bytes
 names_equal : (a b : Option (String Global))
-    → IsTrue (option_eq string_eq a b) ↔ (text_of a ≡ text_of b)
+    → IsTrue (option_eq string_eq a b) ↔ (string_content a ≡ string_content b)
 names_equal (Some x) (Some y) =
     grind (arith, bytes_decides x.bytes.items y.bytes.items)
 names_equal a b = grind arith

@@ -2,14 +2,16 @@ use Rattle.std.proofs.Common.{◌≢◌, rules, [], ◌∷◌, ◌++◌, refl, s
 use Rattle.std.specs.Prelude.{string_bytes}
 use Rattle.std.proofs.lemmas.List.{take_rest}
 use Rattle.std.proofs.lemmas.Result.{err_from_is_err_and}
-use Rattle.netlink_core.specs.Walk.{attribute_of}
+use Rattle.netlink_core.specs.Walk.{buffered_attribute}
 use Rattle.sock_diag_examples.specs.Link.{decodes_link, name_attribute, mtu_attribute}
 use Rattle.sock_diag_examples.specs.Link.{other_attribute, name_in, mtu_in}
-use Rattle.netlink_core.proofs.Walking.{walk_begins, walk_ends, walk_goes_on, walk_is_cut_off}
-use Rattle.netlink_core.proofs.Walking.{walk_is_refused}
-use Rattle.sock_diag_examples.proofs.LinkDecodes.{frame_named, last_found, later_name, name_here}
-use Rattle.sock_diag_examples.proofs.LinkDecodes.{none_found, number_named, refuses_mtu}
-use Rattle.sock_diag_examples.proofs.LinkDecodes.{refuses_name, decodes_mtu, decodes_name}
+use Rattle.netlink_core.proofs.Walking.{nothing_decoded_yet, all_attributes_decoded}
+use Rattle.netlink_core.proofs.Walking.{next_attribute_decoded, framing_error_of_all}
+use Rattle.netlink_core.proofs.Walking.{value_error_of_all}
+use Rattle.sock_diag_examples.proofs.LinkDecodes.{framing_error_is_not_memory, last_found}
+use Rattle.sock_diag_examples.proofs.LinkDecodes.{later_name, name_here, none_found}
+use Rattle.sock_diag_examples.proofs.LinkDecodes.{number_error_is_not_memory, rejects_mtu}
+use Rattle.sock_diag_examples.proofs.LinkDecodes.{rejects_name, decodes_mtu, decodes_name}
 use Rattle.sock_diag_examples.proofs.LinkDecodes.{decodes_other}
 use Rattle.sock_diag_examples.proofs.link.parse_link.Goals as goal
 
@@ -20,7 +22,7 @@ loop-item-init c = record {
     c.into_iter-item-iterator.ensures.into_iter_gives,
     c.new-item-items.ensures,
     take_rest c.args.payload.now 16,
-  ) (walk_begins decodes_link _);
+  ) (nothing_decoded_yet decodes_link _);
   later = rw (
     c.into_iter-item-iterator.ensures.into_iter_gives,
     c.new-item-items.ensures,
@@ -37,16 +39,16 @@ returns-in_err-attribute-clause-fault c =
     let inv = c.loop-item.invariant in
     rw (p.1, p.2) (
       c.if-payload-lt-HEADER.false,
-      λ _. walk_is_cut_off decodes_link _ _ inv.found _
+      λ _. framing_error_of_all decodes_link _ _ inv.found _
           inv.walk stop.0 stop.1,
-      λ memory. absurd (frame_named _ _ stop.1 memory),
+      λ memory. absurd (framing_error_is_not_memory _ _ stop.1 memory),
     )
 
 pub returns-in_err-parse_string-in-3-clause-fault :
     goal.returns-in_err-parse_string-in-3-clause-fault
 returns-in_err-parse_string-in-3-clause-fault c =
     let inv = c.loop-item.invariant in
-    let a = attribute_of c.in_ok-attribute.attribute in
+    let a = buffered_attribute c.in_ok-attribute.attribute in
     let start = rw c.in_ok-attribute.was at c.in-Some.ensures.steps in
     let fault = rw c.value.ensures at c.in_err-parse_string-in-3.ensures.fault in
     let wanted = rw c.value.ensures at c.in_err-parse_string-in-3.ensures.memory in
@@ -54,22 +56,23 @@ returns-in_err-parse_string-in-3-clause-fault c =
     c.from_residual-in_err-parse_string-in-3.ensures.1 in
     rw (p.1, p.2) (
       c.if-payload-lt-HEADER.false,
-      λ named. walk_is_refused decodes_link _ _ _ inv.found a _ inv.walk start
-          (refuses_name a _ (sym c.kind.ensures ∙ c.in-3.is) (fault named)),
+      λ named. value_error_of_all decodes_link _ _ _ inv.found a _ inv.walk start
+          (rejects_name a _ (sym c.kind.ensures ∙ c.in-3.is) (fault named)),
       λ memory. inv.later (name_here _ _ a start (sym c.kind.ensures ∙ c.in-3.is) (wanted memory)),
     )
 
 pub loop-item-preserved-in_ok-parse_string-in-3 : goal.loop-item-preserved-in_ok-parse_string-in-3
 loop-item-preserved-in_ok-parse_string-in-3 c =
     let inv = c.loop-item.invariant in
-    let a = attribute_of c.in_ok-attribute.attribute in
+    let a = buffered_attribute c.in_ok-attribute.attribute in
     let start = rw c.in_ok-attribute.was at c.in-Some.ensures.steps in
     let name = string_bytes c.in_ok-parse_string-in-3.field-0 in
     let tells = decodes_name a name (sym c.kind.ensures ∙ c.in-3.is)
     (rw c.value.ensures at c.in_ok-parse_string-in-3.ensures.value) in
     record {
       found = inv.found ++ name_attribute name ∷ [];
-      walk = walk_goes_on decodes_link _ _ _ inv.found a (name_attribute name) inv.walk start tells;
+      walk = next_attribute_decoded decodes_link _ _ _ inv.found a
+          (name_attribute name) inv.walk start tells;
       later = λ w. inv.later (later_name _ _ a (name_attribute name) start tells w);
       name = sym (last_found name_in inv.found (name_attribute name) name refl);
       mtu = inv.mtu ∙ sym (none_found mtu_in inv.found (name_attribute name) refl);
@@ -79,14 +82,15 @@ pub loop-item-preserved-in_ok-parse_string-in-3-2 :
     goal.loop-item-preserved-in_ok-parse_string-in-3-2
 loop-item-preserved-in_ok-parse_string-in-3-2 c =
     let inv = c.loop-item.invariant in
-    let a = attribute_of c.in_ok-attribute.attribute in
+    let a = buffered_attribute c.in_ok-attribute.attribute in
     let start = rw c.in_ok-attribute.was at c.in-Some.ensures.steps in
     let name = string_bytes c.in_ok-parse_string-in-3.field-0 in
     let tells = decodes_name a name (sym c.kind.ensures ∙ c.in-3.is)
     (rw c.value.ensures at c.in_ok-parse_string-in-3.ensures.value) in
     record {
       found = inv.found ++ name_attribute name ∷ [];
-      walk = walk_goes_on decodes_link _ _ _ inv.found a (name_attribute name) inv.walk start tells;
+      walk = next_attribute_decoded decodes_link _ _ _ inv.found a
+          (name_attribute name) inv.walk start tells;
       later = λ w. inv.later (later_name _ _ a (name_attribute name) start tells w);
       name = sym (last_found name_in inv.found (name_attribute name) name refl);
       mtu = inv.mtu ∙ sym (none_found mtu_in inv.found (name_attribute name) refl);
@@ -95,29 +99,30 @@ loop-item-preserved-in_ok-parse_string-in-3-2 c =
 pub returns-in_err-parse_u32-in-4-clause-fault : goal.returns-in_err-parse_u32-in-4-clause-fault
 returns-in_err-parse_u32-in-4-clause-fault c =
     let inv = c.loop-item.invariant in
-    let a = attribute_of c.in_ok-attribute.attribute in
+    let a = buffered_attribute c.in_ok-attribute.attribute in
     let start = rw c.in_ok-attribute.was at c.in-Some.ensures.steps in
     let fault = rw c.value-in-4.ensures at c.in_err-parse_u32-in-4.ensures in
     let p = err_from_is_err_and c.from_residual-in_err-parse_u32-in-4.result
     c.from_residual-in_err-parse_u32-in-4.ensures.1 in
     rw (p.1, p.2) (
       c.if-payload-lt-HEADER.false,
-      λ _. walk_is_refused decodes_link _ _ _ inv.found a _ inv.walk start
-          (refuses_mtu a _ (sym c.kind.ensures ∙ c.in-4.is) (sym fault)),
-      λ memory. absurd (number_named _ _ (sym fault) memory),
+      λ _. value_error_of_all decodes_link _ _ _ inv.found a _ inv.walk start
+          (rejects_mtu a _ (sym c.kind.ensures ∙ c.in-4.is) (sym fault)),
+      λ memory. absurd (number_error_is_not_memory _ _ (sym fault) memory),
     )
 
 pub loop-item-preserved-in-4 : goal.loop-item-preserved-in-4
 loop-item-preserved-in-4 c =
     let inv = c.loop-item.invariant in
-    let a = attribute_of c.in_ok-attribute.attribute in
+    let a = buffered_attribute c.in_ok-attribute.attribute in
     let start = rw c.in_ok-attribute.was at c.in-Some.ensures.steps in
     let mtu = c.in_ok-parse_u32-in-4.field-0 in
     let number = rw c.value-in-4.ensures at c.in_ok-parse_u32-in-4.ensures in
     let tells = decodes_mtu a mtu (sym c.kind.ensures ∙ c.in-4.is) (sym number) in
     record {
       found = inv.found ++ mtu_attribute mtu ∷ [];
-      walk = walk_goes_on decodes_link _ _ _ inv.found a (mtu_attribute mtu) inv.walk start tells;
+      walk = next_attribute_decoded decodes_link _ _ _ inv.found a
+          (mtu_attribute mtu) inv.walk start tells;
       later = λ w. inv.later (later_name _ _ a (mtu_attribute mtu) start tells w);
       name = inv.name ∙ sym (none_found name_in inv.found (mtu_attribute mtu) refl);
       mtu = sym (last_found mtu_in inv.found (mtu_attribute mtu) mtu refl);
@@ -126,7 +131,7 @@ loop-item-preserved-in-4 c =
 pub loop-item-preserved : goal.loop-item-preserved
 loop-item-preserved c =
     let inv = c.loop-item.invariant in
-    let a = attribute_of c.in_ok-attribute.attribute in
+    let a = buffered_attribute c.in_ok-attribute.attribute in
     let start = rw c.in_ok-attribute.was at c.in-Some.ensures.steps in
     let no_name : c.kind.result ≢ 3 = search rules in
     let no_mtu : c.kind.result ≢ 4 = search rules in
@@ -134,7 +139,8 @@ loop-item-preserved c =
     (λ is. no_mtu (c.kind.ensures ∙ is)) in
     record {
       found = inv.found ++ other_attribute ∷ [];
-      walk = walk_goes_on decodes_link _ _ _ inv.found a other_attribute inv.walk start tells;
+      walk = next_attribute_decoded decodes_link _ _ _ inv.found a other_attribute inv.walk start
+          tells;
       later = λ w. inv.later (later_name _ _ a other_attribute start tells w);
       name = inv.name ∙ sym (none_found name_in inv.found other_attribute refl);
       mtu = inv.mtu ∙ sym (none_found mtu_in inv.found other_attribute refl);
@@ -145,7 +151,7 @@ returns-clause-value c =
     let inv = c.loop-item.invariant in (
       inv.found,
       c.if-payload-lt-HEADER.false,
-      walk_ends decodes_link _ _ inv.found inv.walk
+      all_attributes_decoded decodes_link _ _ inv.found inv.walk
           c.in-None.ensures.steps.0,
       inv.name,
       inv.mtu,

@@ -1,6 +1,6 @@
 use Rattle.std.proofs.Common.{◌≡◌, ◌↔◌, IsTrue, ap, rules}
-use Rattle.netlink_core.proofs.Equality.{apart}
-use Rattle.netlink_core.proofs.FaultEquality.{fault_equal}
+use Rattle.netlink_core.proofs.Equality.{false_decides}
+use Rattle.netlink_core.proofs.FaultEquality.{decode_error_equal}
 use Rattle.sock_diag_examples.specs.declared.lister.Line.{Line}
 use Rattle.sock_diag_examples.specs.declared.lister.Line.TheVariants.{Socket, End, Failure, Refused}
 use Rattle.sock_diag_examples.specs.contracts.lister.LinePartialEq.TheImpl.{ghosts}
@@ -11,8 +11,8 @@ line_equal (Socket a b) (Socket x y) = search rules
 line_equal End End = search rules
 line_equal Failure Failure = search rules
 line_equal (Refused a) (Refused b) =
-    (λ h. ap Refused ((fault_equal a b).0 h), λ e. (fault_equal a b).1 cc)
-line_equal v w = apart (λ p. cc)
+    (λ h. ap Refused ((decode_error_equal a b).0 h), λ e. (decode_error_equal a b).1 cc)
+line_equal v w = false_decides (λ p. cc)
 
 pub returns : goal.returns
 returns c = rw c.eq.ensures (line_equal c.args.v.now c.args.w.now)

@@ -4,12 +4,12 @@ use Rattle.std.proofs.lemmas.List.{map_push}
 use Rattle.netlink_core.specs.Faults.{map_ok}
 use Rattle.netlink_packet_sock_diag.specs.PayloadViewModel.{payload_view_model}
 use Rattle.sock_diag_examples.specs.Lister.{line_of}
-use Rattle.sock_diag_examples.proofs.Pushing.{none_more, one_more}
+use Rattle.sock_diag_examples.proofs.Pushing.{nothing_is_appended, value_is_appended}
 use Rattle.sock_diag_examples.proofs.lister.lines_of.Goals as goal
 
 pub loop-item-preserved-in-Continue-1 : goal.loop-item-preserved-in-Continue-1
 loop-item-preserved-in-Continue-1 c =
-    let added = one_more line_of (map (map_ok payload_view_model) c.loop-item.yielded)
+    let added = value_is_appended line_of (map (map_ok payload_view_model) c.loop-item.yielded)
     (map_ok payload_view_model c.in-Some.item)
     c.in-Some-line_for.line (sym c.in-Some-line_for.ensures) in
     rw map_push (c.in_ok-push.ensures.items
@@ -18,7 +18,7 @@ loop-item-preserved-in-Continue-1 c =
 
 pub loop-item-preserved : goal.loop-item-preserved
 loop-item-preserved c = rw map_push (c.loop-item.invariant
-    ∙ sym (none_more line_of (map (map_ok payload_view_model) c.loop-item.yielded)
+    ∙ sym (nothing_is_appended line_of (map (map_ok payload_view_model) c.loop-item.yielded)
     (map_ok payload_view_model c.in-Some.item)
     (sym c.in_default.ensures)))
 

@@ -2,10 +2,10 @@ use Rattle.std.proofs.Common.{◌≡◌, List, Result, Ok, Err, subst}
 use Rattle.std.specs.Prelude.{IfOk, map, ℕ}
 use Rattle.std.specs.Iterator.{Drains}
 use Rattle.std.specs.List.{filter_map}
-use Rattle.netlink_core.specs.Items.{ItemIs, ItemsAre}
+use Rattle.netlink_core.specs.Items.{IsItemOf, AreItemsOf}
 use Rattle.netlink_core.specs.declared.fault.DecodeError.{DecodeError}
 use Rattle.netlink_packet_sock_diag.specs.PayloadViewModel.{PayloadView}
-use Rattle.netlink_packet_sock_diag.specs.DumpWalk.{GivesView}
+use Rattle.netlink_packet_sock_diag.specs.DumpWalk.{YieldsPayloadView}
 use Rattle.netlink_packet_sock_diag.specs.Message.{message_codec}
 use Rattle.netlink_core.specs.Faults.{map_ok}
 use Rattle.netlink_packet_sock_diag.specs.PayloadViewModel.{payload_view_model}
@@ -20,14 +20,15 @@ on_ok P Q (Err e) follows h = h
 
 pub returns : goal.returns
 returns c = on_ok
-    (λ lines. (given : List (Result PayloadView DecodeError)) × Drains GivesView c.new.result given
+    (λ lines. (given : List (Result PayloadView DecodeError))
+    × Drains YieldsPayloadView c.new.result given
     × (lines.items ≡ filter_map line_of (map (map_ok payload_view_model) given)))
     (λ lines. AreLinesOf c.args.datagram.now lines.items)
     c.lines_of.result
     (λ lines h. record {
       items = map (map_ok payload_view_model) h.0;
       are = subst
-          (λ (bytes : List ℕ). ItemsAre (ItemIs message_codec) bytes
+          (λ (bytes : List ℕ). AreItemsOf (IsItemOf message_codec) bytes
           (map (map_ok payload_view_model) h.0))
           c.new.ensures (c.whole_views_are_the_datagram.ensures c.new.result h.0 h.1);
       found = h.2;

@@ -1,6 +1,6 @@
 use Rattle.std.proofs.Common.{◌≡◌, ◌↔◌, IsTrue, ap, rules}
-use Rattle.netlink_core.proofs.Equality.{apart}
-use Rattle.netlink_core.proofs.FaultEquality.{fault_equal}
+use Rattle.netlink_core.proofs.Equality.{false_decides}
+use Rattle.netlink_core.proofs.FaultEquality.{decode_error_equal}
 use Rattle.sock_diag_examples.specs.declared.test_kernel.AnswerError.{AnswerError}
 use Rattle.sock_diag_examples.specs.declared.test_kernel.AnswerError.TheVariants.{Request, Memory}
 use Rattle.sock_diag_examples.specs.declared.test_kernel.AnswerError.TheVariants.{Unwritable}
@@ -9,10 +9,10 @@ use Rattle.sock_diag_examples.proofs.test_kernel.equal_answer_errors.Goals as go
 
 errors_equal : (v w : AnswerError) → IsTrue (ghosts.eq v w) ↔ (v ≡ w)
 errors_equal (Request a) (Request x) =
-    (λ h. ap Request ((fault_equal a x).0 h), λ e. (fault_equal a x).1 cc)
+    (λ h. ap Request ((decode_error_equal a x).0 h), λ e. (decode_error_equal a x).1 cc)
 errors_equal Unwritable Unwritable = search rules
 errors_equal Memory Memory = search rules
-errors_equal v w = apart (λ p. cc)
+errors_equal v w = false_decides (λ p. cc)
 
 pub returns : goal.returns
 returns c = rw c.eq.ensures (errors_equal c.args.v.now c.args.w.now)

@@ -3,7 +3,7 @@ use Rattle.std.specs.List.{AllByRecursion, slice_get}
 use Rattle.std.proofs.lemmas.Option.{slice_get_read}
 use Rattle.std.proofs.lemmas.Result.{err_from_is_err_and}
 use Rattle.sock_diag_examples.specs.UnixResponseModel.{unix_response_model}
-use Rattle.sock_diag_examples.specs.TestKernel.{FailsFor, ReplyHasRoom}
+use Rattle.sock_diag_examples.specs.TestKernel.{IsErrorFor, IsWritableReplyMessage}
 use Rattle.sock_diag_examples.specs.declared.test_kernel.AnswerError.{AnswerError}
 use Rattle.sock_diag_examples.specs.declared.test_kernel.AnswerError.TheVariants.{Request}
 use Rattle.sock_diag_examples.specs.declared.test_kernel.AnswerError.TheVariants.{Unwritable}
@@ -18,8 +18,8 @@ holds_at P made (y ∷ xs) zero x e all = let same : y ≡ x = cc in subst (λ z
 holds_at P made (y ∷ xs) (suc i) x e all = holds_at P made xs i x e all.1
 
 -- if the message of one reply is too long, not all are writable
-of_one : {One All : Type 0} (e : AnswerError) → (All → One) → FailsFor (¬ One) e
-    → FailsFor (¬ All) e
+of_one : {One All : Type 0} (e : AnswerError) → (All → One) → IsErrorFor (¬ One) e
+    → IsErrorFor (¬ All) e
 of_one (Request fault) each none = none
 of_one Unwritable each none = λ all. none (each all)
 of_one Memory each none = tt
@@ -28,7 +28,7 @@ pub returns-in_err-push_reply-clause-err : goal.returns-in_err-push_reply-clause
 returns-in_err-push_reply-clause-err c =
     let p = err_from_is_err_and c.from_residual.result c.from_residual.ensures.1 in
     rw (p.1, p.2) (of_one c.in_err-push_reply.field-0.0
-    (holds_at ReplyHasRoom unix_response_model c.args.replies.now c.loop-reply.reply-index
+    (holds_at IsWritableReplyMessage unix_response_model c.args.replies.now c.loop-reply.reply-index
     c.reply-item.result
     (slice_get_read c.args.replies.now (length c.args.replies.now) c.loop-reply.reply-index
     c.reply-item.result refl c.loop-reply-test.true c.reply-item.is))

@@ -1,8 +1,9 @@
-use Rattle.sock_diag_extras.proofs.WholeLenientWalk.{accepted_walk, good_walk}
+use Rattle.sock_diag_extras.proofs.WholeLenientWalk.{drained_values_are_decoded}
+use Rattle.sock_diag_extras.proofs.WholeLenientWalk.{drained_items_are_values}
 use Rattle.sock_diag_extras.proofs.laws.lenient_walk_of_good_bytes.Goals as goal
 
 pub returns-clause-strict : goal.returns-clause-strict
-returns-clause-strict g c = good_walk _ _
+returns-clause-strict g c = drained_items_are_values _ _
 
 pub returns-clause-accepted : goal.returns-clause-accepted
-returns-clause-accepted g c = accepted_walk _ _
+returns-clause-accepted g c = drained_values_are_decoded _ _

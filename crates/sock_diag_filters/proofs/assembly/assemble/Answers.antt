@@ -5,13 +5,13 @@ use Rattle.std.proofs.Math.Seq.{take-append_seam}
 use Rattle.sock_diag_filters.specs.declared.condition.Condition.{Condition}
 use Rattle.sock_diag_filters.specs.Conditions.{arguments, code_of}
 use Rattle.sock_diag_filters.specs.private.Assembly.{program_of}
-use Rattle.sock_diag_filters.specs.Filters.{meaning, size}
+use Rattle.sock_diag_filters.specs.Filters.{meaning, program_size}
 use Rattle.sock_diag_filters.specs.Run.{Runs}
-use Rattle.sock_diag_filters.specs.Sockets.{found_by}
+use Rattle.sock_diag_filters.specs.Sockets.{kernel_evaluates}
 use Rattle.sock_diag_filters.proofs.Auditing.{program_audited}
-use Rattle.sock_diag_filters.proofs.Finding.{filter_found}
+use Rattle.sock_diag_filters.proofs.Finding.{evaluation_is_meaning}
 use Rattle.sock_diag_filters.proofs.Operations.{program_length}
-use Rattle.sock_diag_filters.proofs.Running.{program_wants}
+use Rattle.sock_diag_filters.proofs.Running.{program_verdict_is_meaning}
 use Rattle.sock_diag_filters.proofs.assembly.assemble.Goals as goal
 
 -- A buffer that was overwritten as a whole contains what was written.
@@ -35,15 +35,16 @@ pub returns-clause-runs : goal.returns-clause-runs
 returns-clause-runs c = λ found.
     let filter = c.args.filter.now in
     let long = program_length filter 4 in
-    let short : size filter ≤ 65531 = omega arith in
-    let some : c.in-Some.len ≡ size filter = search rules in
+    let short : program_size filter ≤ 65531 = omega arith in
+    let some : c.in-Some.len ≡ program_size filter = search rules in
     let all : c.in_ok-program.program.len ≡ c.in-Some.len = search rules in
     let wants = meaning (λ (d : Condition). found (code_of d) (arguments d)) filter in
     subst (λ (l : List ℕ). Runs found l wants) (filled c.in_ok-program.program.len
     (program_of filter 4) _ _ c.write_program.ensures (omega arith))
-    (program_wants found filter short)
+    (program_verdict_is_meaning found filter short)
 
 pub returns-clause-wanted : goal.returns-clause-wanted
 returns-clause-wanted c = λ socket.
-    subst (Runs (found_by socket) _) (filter_found socket c.args.filter.now c.in_range.ensures)
-    (returns-clause-runs c (found_by socket))
+    subst (Runs (kernel_evaluates socket) _)
+    (evaluation_is_meaning socket c.args.filter.now c.in_range.ensures)
+    (returns-clause-runs c (kernel_evaluates socket))

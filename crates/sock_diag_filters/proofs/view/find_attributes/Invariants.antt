@@ -1,13 +1,13 @@
 use Rattle.std.proofs.Common.{List}
-use Rattle.netlink_core.specs.Walk.{bytes_left}
-use Rattle.netlink_core.proofs.Walking.{Continues}
-use Rattle.sock_diag_filters.specs.Asked.{Keeps, AskedAttribute, decodes_asked}
+use Rattle.netlink_core.specs.Walk.{unread_bytes}
+use Rattle.netlink_core.proofs.Walking.{DecodedSoFar}
+use Rattle.sock_diag_filters.specs.Asked.{HasLastContents, RequestContent, decode_request_attribute}
 use Rattle.sock_diag_filters.proofs.view.find_attributes.Given as goal
 
 -- `found` has the last program and the last protocol of the attributes parsed so far.
 abbrev pub invariant-loop-item : goal.invariant-loop-item
 invariant-loop-item l = record {
-  so_far : List AskedAttribute;
-  walk : Continues decodes_asked l.bytes so_far (bytes_left l.item-iterator);
-  keeps : Keeps l.found so_far;
+  so_far : List RequestContent;
+  walk : DecodedSoFar decode_request_attribute l.bytes so_far (unread_bytes l.item-iterator);
+  keeps : HasLastContents l.found so_far;
 }

@@ -1,25 +1,34 @@
 use Rattle.std.proofs.Common.{◌≡◌, [], List, ℕ}
 use Rattle.sock_diag_lines.specs.Answer.{IsAnswerOf}
-use Rattle.sock_diag_lines.specs.private.Text.{Adds}
-use Rattle.sock_diag_lines.proofs.AnswerLemmas.{answers_as_idle, datagrams_in_range}
+use Rattle.sock_diag_lines.specs.private.Text.{AppendsSome}
+use Rattle.sock_diag_lines.proofs.AnswerLemmas.{same_answer_iff_equivalent, datagrams_in_range}
 use Rattle.sock_diag_lines.proofs.DumpLaws.{answers_same_items, answers_split, one_dump_text}
 use Rattle.sock_diag_lines.proofs.answers.answer.Goals as goal
 
 -- what was appended to an empty text is the whole text
-whole : (line old new : List ℕ) → old ≡ [] → Adds old new (IsAnswerOf line) → IsAnswerOf line new
+whole : (line old new : List ℕ) → old ≡ [] → AppendsSome old new (IsAnswerOf line)
+    → IsAnswerOf line new
 whole line old new none (more, e, is) = rw (e, none) is
 
 pub returns-clause-same : goal.returns-clause-same
 returns-clause-same c = λ name all other bytes bytes' text' v w asked asked' r f s g is'.
     let is = whole c.args.line.now _ _ c.new-text.ensures.items c.in_ok-push_answer.ensures in
-    let t = answers_as_idle name _ other bytes bytes' _ text' is is' asked asked' (v, r, f)
+    let t = same_answer_iff_equivalent name _ other bytes bytes' _ text' is is' asked asked' (
+      v,
+      r,
+      f,
+    )
     (w, s, g) in
     (t.0 all, t.1)
 
 pub returns-clause-alike : goal.returns-clause-alike
 returns-clause-alike c = λ name other bytes bytes' text' v w asked asked' r f s g is'.
     let is = whole c.args.line.now _ _ c.new-text.ensures.items c.in_ok-push_answer.ensures in
-    (answers_as_idle name _ other bytes bytes' _ text' is is' asked asked' (v, r, f) (w, s, g)).1
+    (same_answer_iff_equivalent name _ other bytes bytes' _ text' is is' asked asked' (v, r, f) (
+      w,
+      s,
+      g,
+    )).1
 
 pub returns-clause-dumps : goal.returns-clause-dumps
 returns-clause-dumps c = λ other text' datagrams datagrams' xs ys asked asked' each also same is'.

@@ -1,7 +1,7 @@
 use Rattle.std.proofs.Common.{◌+◌, [], ◌∷◌, ◌++◌, Ok, refl, ap, arith, append_assoc}
 use Rattle.std.proofs.lemmas.List.{length-drop, take_rest}
 use Rattle.std.specs.List.{slice_split}
-use Rattle.netlink_packet_sock_diag.specs.Feed.{DumpProgress, end_so_far}
+use Rattle.netlink_packet_sock_diag.specs.Feed.{DumpProgress, status_of_dump}
 use Rattle.netlink_packet_sock_diag.specs.Message.{Message}
 use Rattle.sock_diag_lines.specs.private.Text.{is_space}
 use Rattle.sock_diag_lines.proofs.FieldLists.{each_has_bytes}
@@ -20,7 +20,7 @@ fields-init c = record {
         refl,
         tt,
         ap (λ (dump : DumpProgress Message). dump.messages) c.new.ensures,
-        ap (λ (dump : DumpProgress Message). Ok (end_so_far dump)) c.new.ensures,
+        ap (λ (dump : DumpProgress Message). Ok (status_of_dump dump)) c.new.ensures,
       ),
     );
     faultless = λ _. refl;

@@ -1,11 +1,11 @@
 use Rattle.std.proofs.Common.{◌∙◌, ℕ, slice_index, sym, ap, refl, arith}
 use Rattle.netlink_core.proofs.SignificantBits.{equivalent_by_condition, equal_first_bytes}
 use Rattle.sock_diag_records.specs.InetResponse.{inet_response_header}
-use Rattle.sock_diag_records.specs.laws.InetResponse.{header_sound}
+use Rattle.sock_diag_records.specs.laws.InetResponse.{inet_response_header_sound}
 use Rattle.sock_diag_records.specs.IpVersions.{IpVersions, versions_of_family}
-use Rattle.sock_diag_records.specs.SignificantBits.{IsInetFamily, SameTimerClass}
+use Rattle.sock_diag_records.specs.SignificantBits.{IsInetFamily, HaveSameTimerClass}
 use Rattle.sock_diag_records.specs.SignificantBits.{inet_response_header_masks}
-use Rattle.sock_diag_records.specs.Timer.{class_of_byte}
+use Rattle.sock_diag_records.specs.Timer.{timer_class}
 use Rattle.sock_diag_records.proofs.Masks.{is_inet_family, has_versions, masks_of_header}
 use Rattle.sock_diag_records.proofs.Masks.{tag_parts, tag_of_parts, same_timer, same_class}
 use Rattle.sock_diag_records.proofs.laws.equivalent_inet_response_headers.Goals as goal
@@ -17,11 +17,11 @@ returns c = λ x y hx hy.
     let other_family = slice_index y 0 in
     let timer = slice_index x 2 in
     let other_timer = slice_index y 2 in
-    let class = class_of_byte timer in
-    let other_class = class_of_byte other_timer in
+    let class = timer_class timer in
+    let other_class = timer_class other_timer in
     let masks = inet_response_header_masks family timer in
-    equivalent_by_condition inet_response_header header_sound tt masks
-    (IsInetFamily family × SameTimerClass timer other_timer) x y hx hy
+    equivalent_by_condition inet_response_header inet_response_header_sound tt masks
+    (IsInetFamily family × HaveSameTimerClass timer other_timer) x y hx hy
     (λ lx ly tag here there.
     let (ok, is) = tag_parts class (versions_of_family family) tag here in
     let other = tag_parts other_class (versions_of_family other_family) tag there in (

@@ -1,8 +1,8 @@
 use Rattle.std.proofs.Common.{List, ℕ, inl, subst}
 use Rattle.std.proofs.lemmas.Result.{err_from_is_err_and}
-use Rattle.netlink_core.specs.Attribute.{AttributesMean}
-use Rattle.netlink_core.specs.AttributeSet.{decodes}
-use Rattle.attribute_lists.proofs.Finding.{behind_refused}
+use Rattle.netlink_core.specs.Attribute.{DecodeTo}
+use Rattle.netlink_core.specs.AttributeSet.{decode_attribute}
+use Rattle.attribute_lists.proofs.Finding.{error_after_header}
 use Rattle.sockdiag_c.proofs.details.read_details.Goals as goal
 
 pub returns-in_err-details-clause-fault : goal.returns-in_err-details-clause-fault
@@ -14,7 +14,7 @@ pub returns-in_err-set_details-clause-fault : goal.returns-in_err-set_details-cl
 returns-in_err-set_details-clause-fault g c =
     let residual = c.from_residual-in_err-set_details in
     let p = err_from_is_err_and residual.result residual.ensures.1 in
-    rw (p.1, p.2) (behind_refused g.T.KeepsDetails.reply _ _ c.in_ok-details.ensures.rest _ _
+    rw (p.1, p.2) (error_after_header g.T.KeepsDetails.reply _ _ c.in_ok-details.ensures.rest _ _
     c.in_ok-details.ensures.value.1 c.in_err-set_details.ensures.fault)
 
 pub returns-clause-value : goal.returns-clause-value
@@ -25,7 +25,7 @@ returns-clause-value g c =
       record { header = head.0; nlas = said.0 },
       (
         head.1,
-        subst (λ (b : List ℕ). AttributesMean (decodes F) b said.0)
+        subst (λ (b : List ℕ). DecodeTo (decode_attribute F) b said.0)
             c.in_ok-details.ensures.rest said.1,
       ),
       said.2 head.0 head.2,

@@ -1,14 +1,16 @@
 use Rattle.std.proofs.Common.{[], ◌∷◌, ◌++◌, refl}
 use Rattle.std.proofs.lemmas.Result.{err_from_is_err_and}
-use Rattle.netlink_core.proofs.Walking.{walk_begins, walk_ends, walk_goes_on, walk_is_cut_off}
-use Rattle.sockdiag_c.proofs.Filtered.{are_cut_off, are_whole, itself}
+use Rattle.netlink_core.proofs.Walking.{nothing_decoded_yet, all_attributes_decoded}
+use Rattle.netlink_core.proofs.Walking.{next_attribute_decoded, framing_error_of_all}
+use Rattle.sockdiag_c.proofs.Filtered.{attributes_have_framing_error, attributes_are_complete}
+use Rattle.sockdiag_c.proofs.Filtered.{attribute_parses_as_itself}
 use Rattle.sockdiag_c.proofs.filters.check_framing.Goals as goal
 
 pub loop-item-init : goal.loop-item-init
 loop-item-init c = record {
   so_far = [];
   walk = rw (c.into_iter-item-iterator.ensures.into_iter_gives, c.new-item-items.ensures)
-      (walk_begins itself _);
+      (nothing_decoded_yet attribute_parses_as_itself _);
 }
 
 pub loop-item-preserved : goal.loop-item-preserved
@@ -17,7 +19,8 @@ loop-item-preserved c =
     let start = rw c.in_ok-_nla.was at c.in-Some.ensures.steps in
     record {
       so_far = inv.so_far ++ _ ∷ [];
-      walk = walk_goes_on itself _ _ _ inv.so_far _ _ inv.walk start refl;
+      walk = next_attribute_decoded attribute_parses_as_itself _ _ _ inv.so_far _ _ inv.walk start
+          refl;
     }
 
 pub returns-in_err-_nla-clause-fault : goal.returns-in_err-_nla-clause-fault
@@ -25,9 +28,11 @@ returns-in_err-_nla-clause-fault c =
     let p = err_from_is_err_and c.from_residual.result c.from_residual.ensures.1 in
     let stop = rw c.in_err-_nla.was at c.in-Some.ensures.steps in
     let inv = c.loop-item.invariant in
-    rw (p.1, p.2) (are_cut_off _ _ (walk_is_cut_off itself _ _ inv.so_far _ inv.walk stop.0 stop.1))
+    rw (p.1, p.2) (attributes_have_framing_error _ _
+    (framing_error_of_all attribute_parses_as_itself _ _ inv.so_far _ inv.walk stop.0 stop.1))
 
 pub returns-clause-whole : goal.returns-clause-whole
 returns-clause-whole c =
     let inv = c.loop-item.invariant in
-    are_whole _ _ (walk_ends itself _ _ inv.so_far inv.walk c.in-None.ensures.steps.0)
+    attributes_are_complete _ _ (all_attributes_decoded attribute_parses_as_itself _ _ inv.so_far
+    inv.walk c.in-None.ensures.steps.0)

@@ -1,14 +1,15 @@
 use Rattle.std.proofs.Common.{◌∙◌, List, ℕ, None, ap, inr, option_map}
 use Rattle.sock_diag_replies.specs.ViewModel.{view_model}
-use Rattle.sockdiag_c.proofs.ValueFaults.{before, last, none_before, of_read}
+use Rattle.sockdiag_c.proofs.ValueFaults.{first_error_before_value, stored_error_is_first}
+use Rattle.sockdiag_c.proofs.ValueFaults.{none_before, of_read}
 use Rattle.sockdiag_c.proofs.netlink_details.read.Goals as goal
 
 pub returns-in-Some-clause-fault : goal.returns-in-Some-clause-fault
 returns-in-Some-clause-fault c =
     let first =
-    before _ _ None _ _ _ c.memory.ensures c.keep.ensures.first
-    (before _ _ _ _ _ _ c.flags.ensures c.keep-2.ensures.first
-    (last _ _ c.in-Some.is)) in
+    first_error_before_value _ _ None _ _ _ c.memory.ensures c.keep.ensures.first
+    (first_error_before_value _ _ _ _ _ _ c.flags.ensures c.keep-2.ensures.first
+    (stored_error_is_first _ _ c.in-Some.is)) in
     inr (view_model c.in_ok-reply.reply, c.in_ok-reply.ensures.value, first.is)
 
 pub returns-in-None-clause-value : goal.returns-in-None-clause-value

@@ -1,12 +1,13 @@
 use Rattle.std.proofs.Common.{◌≡◌, ◌∙◌, [], ◌++◌, length, arith, ap}
 use Rattle.byteorder.specs.Endian.{little_bytes}
 use Rattle.std.proofs.lemmas.List.{append-nil}
-use Rattle.sock_diag_records.specs.laws.InetRequest.{request_length}
+use Rattle.sock_diag_records.specs.laws.InetRequest.{inet_request_length}
 use Rattle.sockdiag_c.proofs.Whole.{an_attribute, message_written, no_attribute}
 use Rattle.sockdiag_c.proofs.requests.write_inet.Goals as goal
 
 pub write_message-requires-clause-small : goal.write_message-requires-clause-small
-write_message-requires-clause-small c = omega (arith, request_length c.inet_record-record.result)
+write_message-requires-clause-small c =
+    omega (arith, inet_request_length c.inet_record-record.result)
 
 pub returns-then-request-lt256-clause-written : goal.returns-then-request-lt256-clause-written
 returns-then-request-lt256-clause-written c = λ family.
@@ -17,7 +18,7 @@ pub write_message-requires-2-clause-small : goal.write_message-requires-2-clause
 write_message-requires-2-clause-small c =
     let word : c.write_u32.new.buf ++ [] ≡ little_bytes 4 c.args.request.now.protocol =
     append-nil c.write_u32.new.buf ∙ c.write_u32.ensures in
-    omega (arith, request_length c.inet_record-record.result, ap length word)
+    omega (arith, inet_request_length c.inet_record-record.result, ap length word)
 
 pub returns-clause-written : goal.returns-clause-written
 returns-clause-written c = λ family.

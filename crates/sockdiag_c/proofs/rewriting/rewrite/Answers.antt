@@ -1,6 +1,6 @@
 use Rattle.std.proofs.Common.{arith, inl}
 use Rattle.sock_diag_replies.specs.ViewModel.{view_model}
-use Rattle.sockdiag_c.proofs.Alike.{canonical_where_written}
+use Rattle.sockdiag_c.proofs.Alike.{written_is_canonical}
 use Rattle.sockdiag_c.proofs.rewriting.rewrite.Goals as goal
 
 pub returns-in-Ok-clause-rewrites : goal.returns-in-Ok-clause-rewrites
@@ -9,6 +9,6 @@ returns-in-Ok-clause-rewrites g c =
 
 pub returns-in-Ok-clause-canonical : goal.returns-in-Ok-clause-canonical
 returns-in-Ok-clause-canonical g c =
-    canonical_where_written g.H.ReplyHeader.reply g.met.H.ReplyHeader.keeps c.args.payload.now
+    written_is_canonical g.H.ReplyHeader.reply g.met.H.ReplyHeader.keeps c.args.payload.now
     c.args.buffer.now _ _ _ _
     (λ i. omega (arith, c.type_inv.payload i)) c.in-Ok.ensures.value c.write_value.ensures

@@ -1,7 +1,7 @@
-use Rattle.netlink_core.specs.Walk.{bytes_left}
-use Rattle.sockdiag_c.proofs.Values.{FoundBehind}
+use Rattle.netlink_core.specs.Walk.{unread_bytes}
+use Rattle.sockdiag_c.proofs.Values.{FoundAfter}
 use Rattle.sockdiag_c.proofs.tcp_info.first_value.Given as goal
 
 -- no attribute of the kind was seen
 abbrev pub invariant-loop-item : goal.invariant-loop-item
-invariant-loop-item l = FoundBehind l.kind l.bytes (bytes_left l.item-iterator)
+invariant-loop-item l = FoundAfter l.kind l.bytes (unread_bytes l.item-iterator)

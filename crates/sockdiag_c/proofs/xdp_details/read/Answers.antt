@@ -1,21 +1,22 @@
 use Rattle.std.proofs.Common.{None, inr}
 use Rattle.sock_diag_replies.specs.ViewModel.{view_model}
-use Rattle.sockdiag_c.proofs.ValueFaults.{before, last, none_before, of_read}
+use Rattle.sockdiag_c.proofs.ValueFaults.{first_error_before_value, stored_error_is_first}
+use Rattle.sockdiag_c.proofs.ValueFaults.{none_before, of_read}
 use Rattle.sockdiag_c.proofs.xdp_details.read.Goals as goal
 
 pub returns-in-Some-clause-fault : goal.returns-in-Some-clause-fault
 returns-in-Some-clause-fault c =
     let first =
-    before _ _ None _ _ _ c.info.ensures c.keep.ensures.first
-    (before _ _ _ _ _ _ c.owner.ensures c.keep-2.ensures.first
-    (before _ _ _ _ _ _ c.receive_ring.ensures c.keep-3.ensures.first
-    (before _ _ _ _ _ _ c.send_ring.ensures c.keep-4.ensures.first
-    (before _ _ _ _ _ _ c.shared_memory.ensures c.keep-5.ensures.first
-    (before _ _ _ _ _ _ c.number_of.ensures c.keep-6.ensures.first
-    (before _ _ _ _ _ _ c.number_of-2.ensures c.keep-7.ensures.first
-    (before _ _ _ _ _ _ c.memory.ensures c.keep-8.ensures.first
-    (before _ _ _ _ _ _ c.statistics.ensures c.keep-9.ensures.first
-    (last _ _ c.in-Some.is))))))))) in
+    first_error_before_value _ _ None _ _ _ c.info.ensures c.keep.ensures.first
+    (first_error_before_value _ _ _ _ _ _ c.owner.ensures c.keep-2.ensures.first
+    (first_error_before_value _ _ _ _ _ _ c.receive_ring.ensures c.keep-3.ensures.first
+    (first_error_before_value _ _ _ _ _ _ c.send_ring.ensures c.keep-4.ensures.first
+    (first_error_before_value _ _ _ _ _ _ c.shared_memory.ensures c.keep-5.ensures.first
+    (first_error_before_value _ _ _ _ _ _ c.number_of.ensures c.keep-6.ensures.first
+    (first_error_before_value _ _ _ _ _ _ c.number_of-2.ensures c.keep-7.ensures.first
+    (first_error_before_value _ _ _ _ _ _ c.memory.ensures c.keep-8.ensures.first
+    (first_error_before_value _ _ _ _ _ _ c.statistics.ensures c.keep-9.ensures.first
+    (stored_error_is_first _ _ c.in-Some.is))))))))) in
     inr (view_model c.in_ok-reply.reply, c.in_ok-reply.ensures.value, first.is)
 
 pub returns-in-None-clause-value : goal.returns-in-None-clause-value

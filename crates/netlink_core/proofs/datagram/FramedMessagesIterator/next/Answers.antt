@@ -1,6 +1,6 @@
 use Rattle.std.proofs.Common.{sym, ap, take}
 use Rattle.std.proofs.lemmas.List.{drop-drop, take_rest}
-use Rattle.netlink_core.specs.DatagramWalk.{framed_left}
+use Rattle.netlink_core.specs.DatagramWalk.{unread_messages}
 use Rattle.netlink_core.proofs.Datagrams.{starts_with_message}
 use Rattle.netlink_core.proofs.Headers.{message_has_header}
 use Rattle.netlink_core.proofs.datagram.FramedMessagesIterator.next.Goals as goal
@@ -11,8 +11,8 @@ returns-in-Ok-clause-steps c =
     let h = c.in-Ok.header in
     let all = take_rest walk.bytes.now walk.at in
     let head = rw all at c.in-Ok.ensures in
-    let message = message_has_header (framed_left walk) _ h head (ap (take h.length) all) in (
-      starts_with_message (framed_left walk) _ _ h c.padded.result head (ap (take h.length) all)
+    let message = message_has_header (unread_messages walk) _ h head (ap (take h.length) all) in (
+      starts_with_message (unread_messages walk) _ _ h c.padded.result head (ap (take h.length) all)
           c.padded.ensures (sym (drop-drop _ walk.at walk.bytes.now)),
       message.0,
       message.1,

@@ -1,6 +1,6 @@
 use Rattle.std.proofs.Common.{refl, arith}
 use Rattle.std.proofs.lemmas.Result.{err_from_is_err_and}
-use Rattle.netlink_core.specs.Envelope.{IsInnerType}
+use Rattle.netlink_core.specs.Envelope.{IsInnerMessageType}
 use Rattle.netlink_core.specs.declared.message.NetlinkPayload.TheVariants.{Done, Error}
 use Rattle.netlink_core.specs.declared.message.NetlinkPayload.TheVariants.{Overrun, InnerMessage}
 use Rattle.netlink_core.proofs.message.NetlinkPayload+I.read.Goals as goal
@@ -27,6 +27,6 @@ pub returns-in_err-deserialize-in_default-clause-wanted :
 returns-in_err-deserialize-in_default-clause-wanted g c =
     let p = err_from_is_err_and c.from_residual-in_err-deserialize-in_default.result
     c.from_residual-in_err-deserialize-in_default.ensures.1 in
-    let t : IsInnerType c.args.header.now.message_type = grind arith in
+    let t : IsInnerMessageType c.args.header.now.message_type = grind arith in
     rw (p.1, p.2) (λ memory. let m = c.in_err-deserialize-in_default.ensures.wanted memory in
     (InnerMessage m.0, (t, m.1)))

@@ -1,17 +1,17 @@
 use Rattle.std.proofs.Common.{arith}
 use Rattle.std.proofs.Common.{refl}
 use Rattle.std.proofs.lemmas.Result.{err_from_is_err_and}
-use Rattle.netlink_core.specs.laws.FirstAttribute.{kept_is_read}
-use Rattle.netlink_core.specs.Walk.{attribute_of}
+use Rattle.netlink_core.specs.laws.FirstAttribute.{raw_copy_is_parsed}
+use Rattle.netlink_core.specs.Walk.{buffered_attribute}
 use Rattle.netlink_core.proofs.nla.DefaultNlaParseableNlaBuffer.parse.Goals as goal
 
 pub returns-in_err-keep-clause-wanted : goal.returns-in_err-keep-clause-wanted
 returns-in_err-keep-clause-wanted c =
     let p = err_from_is_err_and c.from_residual.result c.from_residual.ensures.1 in
-    let read = kept_is_read (attribute_of c.args.buf) _
+    let read = raw_copy_is_parsed (buffered_attribute c.args.buf) _
     (c.args.buf.word_fits, c.args.buf.value_fits) refl in
-    rw (p.1, p.2) (λ memory. (attribute_of c.args.buf, read, λ spare. spare))
+    rw (p.1, p.2) (λ memory. (buffered_attribute c.args.buf, read, λ spare. spare))
 
 pub returns-clause-value : goal.returns-clause-value
 returns-clause-value c =
-    grind (arith, kept_is_read (attribute_of c.args.buf), c.in_ok-keep.ensures.equal)
+    grind (arith, raw_copy_is_parsed (buffered_attribute c.args.buf), c.in_ok-keep.ensures.equal)

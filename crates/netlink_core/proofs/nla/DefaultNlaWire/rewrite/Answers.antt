@@ -1,10 +1,10 @@
 use Rattle.std.proofs.Common.{[], refl, ap, sym}
 use Rattle.std.specs.Prelude.{Ok}
 use Rattle.std.proofs.lemmas.Result.{err_from_is_err_and, IfOk-weaker, IfErr-weaker}
-use Rattle.netlink_core.specs.DefaultNla.{kept_attribute}
+use Rattle.netlink_core.specs.DefaultNla.{raw_attribute}
 use Rattle.netlink_core.specs.FirstAttribute.{first_attribute_codec}
-use Rattle.netlink_core.specs.Walk.{attribute_of}
-use Rattle.netlink_core.proofs.Rewriting.{gives_up}
+use Rattle.netlink_core.specs.Walk.{buffered_attribute}
+use Rattle.netlink_core.proofs.Rewriting.{canonical_fails}
 use Rattle.netlink_core.proofs.nla.DefaultNlaWire.rewrite.Goals as goal
 
 pub returns-in_err-keep-clause-err : goal.returns-in_err-keep-clause-err
@@ -12,15 +12,15 @@ returns-in_err-keep-clause-err g c =
     let p = err_from_is_err_and c.from_residual-in_err-keep.result
     c.from_residual-in_err-keep.ensures.1 in
     let head = c.in_ok-new_checked.ensures in
-    rw (p.1, p.2) (attribute_of c.in_ok-new_checked.field-0, (_, head, refl), head.2.1)
+    rw (p.1, p.2) (buffered_attribute c.in_ok-new_checked.field-0, (_, head, refl), head.2.1)
 
 pub returns-clause-written : goal.returns-clause-written
 returns-clause-written g c =
     let reads = ap Ok (sym c.in_ok-keep.ensures.equal) in
     IfOk-weaker c.write_new.result _ _
     (λ w (fits, written). (
-      kept_attribute c.in_ok-keep.field-0,
-      (attribute_of c.in_ok-new_checked.field-0, c.in_ok-new_checked.ensures, reads),
+      raw_attribute c.in_ok-keep.field-0,
+      (buffered_attribute c.in_ok-new_checked.field-0, c.in_ok-new_checked.ensures, reads),
       fits,
       written,
     ))
@@ -30,9 +30,9 @@ pub returns-clause-err : goal.returns-clause-err
 returns-clause-err g c =
     let codec = first_attribute_codec [] in
     let bytes = c.args.bytes.now in
-    let nla = attribute_of c.in_ok-new_checked.field-0 in
+    let nla = buffered_attribute c.in_ok-new_checked.field-0 in
     let decoded = ap Ok (sym c.in_ok-keep.ensures.equal) in
     IfErr-weaker c.write_new.result _ _
-    (gives_up kept_attribute (codec.reads bytes tt) (codec.refuses bytes tt) codec.fits _
+    (canonical_fails raw_attribute (codec.reads bytes tt) (codec.refuses bytes tt) codec.fits _
     c.in_ok-keep.field-0 (nla, c.in_ok-new_checked.ensures, decoded) (λ h. h, λ h. h))
     c.write_new.ensures.err

@@ -1,13 +1,14 @@
 use Rattle.std.proofs.Common.{Ok, Err, [], inl, inr, arith, refl, rules, sym}
 use Rattle.std.proofs.lemmas.Result.{err_from_is_err_and}
 use Rattle.std.proofs.lemmas.List.{append-nil, map_push}
-use Rattle.netlink_core.specs.Envelope.{IsInnerType}
+use Rattle.netlink_core.specs.Envelope.{IsInnerMessageType}
 use Rattle.netlink_core.specs.declared.message.NetlinkPayload.TheVariants.{Done, Error, Noop}
 use Rattle.netlink_core.specs.declared.message.NetlinkPayload.TheVariants.{Overrun, InnerMessage}
-use Rattle.netlink_core.proofs.Headers.{whole_payload}
+use Rattle.netlink_core.proofs.Headers.{payload_after_header}
 use Rattle.netlink_core.proofs.Items.{no_items}
-use Rattle.netlink_packet_sock_diag.proofs.Dumping.{closes, cut_off, ends_at, here}
-use Rattle.netlink_packet_sock_diag.proofs.Dumping.{passes, stops_at}
+use Rattle.netlink_packet_sock_diag.proofs.Dumping.{datagram_read_to_end, rest_is_framing_error}
+use Rattle.netlink_packet_sock_diag.proofs.Dumping.{message_ends_dump, reading_next_message}
+use Rattle.netlink_packet_sock_diag.proofs.Dumping.{message_does_not_end_dump, message_is_rejected}
 use Rattle.netlink_packet_sock_diag.proofs.dump.fed.take_messages.Goals as goal
 
 pub loop-item-init : goal.loop-item-init
@@ -24,23 +25,24 @@ pub returns-in_err-header : goal.returns-in_err-header
 returns-in_err-header g c =
     let p = err_from_is_err_and c.from_residual.result c.from_residual.ensures.1 in
     let fault = rw c.in_err-header.was at c.in-Some.ensures.steps in
-    rw (p.1, p.2) (cut_off c.loop-item.invariant fault.0 fault.1)
+    rw (p.1, p.2) (rest_is_framing_error c.loop-item.invariant fault.0 fault.1)
 
 pub loop-item-preserved-in-1 : goal.loop-item-preserved-in-1
 loop-item-preserved-in-1 g c =
     let start = rw c.in_ok-header.was at c.in-Some.ensures.steps in
     let head = start.1 in
     let told = g.met.I.Kept.laws.carries c.in_ok-header.message.now c.in_ok-header.header in
-    rw append-nil at (passes (here c.loop-item.invariant (Ok Noop) start.0 head
+    rw append-nil at (message_does_not_end_dump
+    (reading_next_message c.loop-item.invariant (Ok Noop) start.0 head
     (told Noop head c.in-1.is) c.interrupted_by.ensures) refl)
 
 pub returns-in-2 : goal.returns-in-2
 returns-in-2 g c =
     let start = rw c.in_ok-header.was at c.in-Some.ensures.steps in
     let head = start.1 in
-    let whole = whole_payload c.in_ok-header.message.now c.in_ok-header.header start.2 in
+    let whole = payload_after_header c.in_ok-header.message.now c.in_ok-header.header start.2 in
     let told = g.met.I.Kept.laws.carries c.in_ok-header.message.now c.in_ok-header.header in
-    ends_at (here c.loop-item.invariant (Ok (Error _)) start.0 head
+    message_ends_dump (reading_next_message c.loop-item.invariant (Ok (Error _)) start.0 head
     (told (Error _) head (c.in-2.is, sym whole)) c.interrupted_by.ensures)
     g.met.I.Kept.laws.some_item (rw c.error_number.ensures)
 
@@ -48,9 +50,9 @@ pub returns-in-3 : goal.returns-in-3
 returns-in-3 g c =
     let start = rw c.in_ok-header.was at c.in-Some.ensures.steps in
     let head = start.1 in
-    let whole = whole_payload c.in_ok-header.message.now c.in_ok-header.header start.2 in
+    let whole = payload_after_header c.in_ok-header.message.now c.in_ok-header.header start.2 in
     let told = g.met.I.Kept.laws.carries c.in_ok-header.message.now c.in_ok-header.header in
-    ends_at (here c.loop-item.invariant (Ok (Done _)) start.0 head
+    message_ends_dump (reading_next_message c.loop-item.invariant (Ok (Done _)) start.0 head
     (told (Done _) head (c.in-3.is, sym whole)) c.interrupted_by.ensures)
     g.met.I.Kept.laws.some_item (rw c.error_number-in-3.ensures)
 
@@ -58,9 +60,9 @@ pub returns-in-4 : goal.returns-in-4
 returns-in-4 g c =
     let start = rw c.in_ok-header.was at c.in-Some.ensures.steps in
     let head = start.1 in
-    let whole = whole_payload c.in_ok-header.message.now c.in_ok-header.header start.2 in
+    let whole = payload_after_header c.in_ok-header.message.now c.in_ok-header.header start.2 in
     let told = g.met.I.Kept.laws.carries c.in_ok-header.message.now c.in_ok-header.header in
-    ends_at (here c.loop-item.invariant (Ok (Overrun _)) start.0 head
+    message_ends_dump (reading_next_message c.loop-item.invariant (Ok (Overrun _)) start.0 head
     (told (Overrun _) head (c.in-4.is, sym whole)) c.interrupted_by.ensures)
     g.met.I.Kept.laws.some_item refl
 
@@ -70,19 +72,20 @@ returns-in_err-entry-in_default g c =
     c.from_residual-in_err-entry-in_default.ensures.1 in
     let start = rw c.in_ok-header.was at c.in-Some.ensures.steps in
     let head = start.1 in
-    let whole = whole_payload c.in_ok-header.message.now c.in_ok-header.header start.2 in
-    let other : IsInnerType c.in_ok-header.header.message_type = search rules in
+    let whole = payload_after_header c.in_ok-header.message.now c.in_ok-header.header start.2 in
+    let other : IsInnerMessageType c.in_ok-header.header.message_type = search rules in
     let laws = g.met.I.Kept.laws in
     let message = c.in_ok-header.message.now in
     let h = c.in_ok-header.header in
     rw (p.1, p.2) (
-      λ named. ends_at (here c.loop-item.invariant (Err _) start.0 head
+      λ named. message_ends_dump (reading_next_message c.loop-item.invariant (Err _) start.0 head
           (laws.refused message h _ head other
           (rw whole (c.in_err-entry-in_default.ensures.fault named)))
           c.interrupted_by.ensures) laws.some_item refl,
       λ none. let m = c.in_err-entry-in_default.ensures.wanted none in (
         m.0,
-        stops_at laws.some_item (here c.loop-item.invariant (Ok (InnerMessage m.0)) start.0 head
+        message_is_rejected laws.some_item
+            (reading_next_message c.loop-item.invariant (Ok (InnerMessage m.0)) start.0 head
             (laws.carries message h (InnerMessage m.0) head (other, rw whole m.1))
             c.interrupted_by.ensures),
         inl m.2,
@@ -93,11 +96,12 @@ pub loop-item-preserved : goal.loop-item-preserved
 loop-item-preserved g c =
     let start = rw c.in_ok-header.was at c.in-Some.ensures.steps in
     let head = start.1 in
-    let whole = whole_payload c.in_ok-header.message.now c.in_ok-header.header start.2 in
-    let other : IsInnerType c.in_ok-header.header.message_type = search rules in
+    let whole = payload_after_header c.in_ok-header.message.now c.in_ok-header.header start.2 in
+    let other : IsInnerMessageType c.in_ok-header.header.message_type = search rules in
     let told = g.met.I.Kept.laws.carries c.in_ok-header.message.now c.in_ok-header.header in
     rw (c.push_reserved.ensures.items, c.in_ok-reserve-in_default.ensures.items, map_push)
-    (passes (here c.loop-item.invariant (Ok (InnerMessage _)) start.0 head
+    (message_does_not_end_dump (reading_next_message c.loop-item.invariant
+    (Ok (InnerMessage _)) start.0 head
     (told (InnerMessage _) head (other, rw whole c.in_ok-entry-in_default.ensures.value))
     c.interrupted_by.ensures)
     refl)
@@ -109,15 +113,16 @@ returns-in_err-reserve-in_default g c =
     let reserved = c.in_err-reserve-in_default.ensures in
     let start = rw c.in_ok-header.was at c.in-Some.ensures.steps in
     let head = start.1 in
-    let whole = whole_payload c.in_ok-header.message.now c.in_ok-header.header start.2 in
-    let other : IsInnerType c.in_ok-header.header.message_type = search rules in
+    let whole = payload_after_header c.in_ok-header.message.now c.in_ok-header.header start.2 in
+    let other : IsInnerMessageType c.in_ok-header.header.message_type = search rules in
     let laws = g.met.I.Kept.laws in
     let told = laws.carries c.in_ok-header.message.now c.in_ok-header.header in
     rw (p.1, p.2, reserved.items) (
       λ named. absurd (named refl),
       λ _. (
         _,
-        stops_at laws.some_item (here c.loop-item.invariant (Ok (InnerMessage _)) start.0 head
+        message_is_rejected laws.some_item
+            (reading_next_message c.loop-item.invariant (Ok (InnerMessage _)) start.0 head
             (told (InnerMessage (g.I.Kept.model c.in_ok-entry-in_default.entry)) head
             (other, rw whole c.in_ok-entry-in_default.ensures.value))
             c.interrupted_by.ensures),
@@ -126,5 +131,5 @@ returns-in_err-reserve-in_default g c =
     )
 
 pub returns : goal.returns
-returns g c = closes c.loop-item.invariant [] _
+returns g c = datagram_read_to_end c.loop-item.invariant [] _
     (rw c.in-None.ensures.steps.0 (no_items g.I.Kept.item_is)) refl (λ never. never)

@@ -4,7 +4,7 @@ use Rattle.sock_diag_replies.specs.ViewModel.{view_model}
 use Rattle.sock_diag_replies.specs.UnixResponseSpec.{unix_response_spec}
 use Rattle.sock_diag_replies.specs.laws.UnixResponseSpec.{unix_response_laws}
 use Rattle.sock_diag_replies.specs.laws.UnixResponseSpec.{unix_test_decides}
-use Rattle.netlink_core.proofs.Responses.{responses_keep_laws}
+use Rattle.netlink_core.proofs.Responses.{reply_codec_laws}
 use Rattle.sock_diag_examples.proofs.readme.comparing.tell_the_same.Goals as goal
 
 -- `==` compares the models, which are equal if and only if the bytes are equivalent
@@ -13,7 +13,7 @@ returns-clause-value c =
     let v = view_model c.in_ok-parse.field-0 in
     let w = view_model c.in_ok-parse-2.field-0 in
     let found = unix_test_decides v w in
-    let laws = responses_keep_laws unix_response_spec unix_response_laws in
+    let laws = reply_codec_laws unix_response_spec unix_response_laws in
     let idle = laws.same_value c.args.one.now c.args.other.now tt v w
     (λ i. omega (arith, c.type_inv.one i)) (λ i. omega (arith, c.type_inv.other i))
     c.in_ok-parse.ensures.value c.in_ok-parse-2.ensures.value in

@@ -1,7 +1,7 @@
 use Rattle.std.proofs.Common.{◌≡◌, [], length}
-use Rattle.netlink_core.specs.AttributeSet.{decodes}
-use Rattle.netlink_core.specs.Walk.{bytes_left}
-use Rattle.attribute_lists.specs.AttributesIn.{HasNoFault}
+use Rattle.netlink_core.specs.AttributeSet.{decode_attribute}
+use Rattle.netlink_core.specs.Walk.{unread_bytes}
+use Rattle.attribute_lists.specs.AttributesIn.{HasNoAttributeError}
 use Rattle.sock_diag_extras.specs.Nested.{attributes_in, first_in}
 use Rattle.sock_diag_extras.proofs.nested.NestedNlas.value_of.Given as goal
 
@@ -9,9 +9,9 @@ use Rattle.sock_diag_extras.proofs.nested.NestedNlas.value_of.Given as goal
 -- of the kind in all bytes.
 abbrev pub invariant-loop-nla : goal.invariant-loop-nla
 invariant-loop-nla l = record {
-  framed : HasNoFault (decodes []) (bytes_left l.walk);
-  first : first_in l.kind (bytes_left l.walk) ≡ first_in l.kind l.self.bytes.now;
+  framed : HasNoAttributeError (decode_attribute []) (unread_bytes l.walk);
+  first : first_in l.kind (unread_bytes l.walk) ≡ first_in l.kind l.self.bytes.now;
 }
 
 abbrev pub decreases-loop-nla : goal.decreases-loop-nla
-decreases-loop-nla l = length (attributes_in (bytes_left l.walk))
+decreases-loop-nla l = length (attributes_in (unread_bytes l.walk))

@@ -1,7 +1,7 @@
 use Rattle.std.proofs.Common.{rules, refl, sym}
 use Rattle.std.proofs.lemmas.Result.{err_from_is_err_and}
 use Rattle.sock_diag_filters.specs.Asked.{IsRequestType, no_attributes, no_request, other_type}
-use Rattle.sock_diag_filters.proofs.Requesting.{enough}
+use Rattle.sock_diag_filters.proofs.Requesting.{request_record_is_long_enough}
 use Rattle.sock_diag_filters.proofs.view.RequestView.parse.Goals as goal
 
 pub returns-then-not-is_request-clause-fault : goal.returns-then-not-is_request-clause-fault
@@ -18,7 +18,8 @@ returns-in_err-request-clause-fault c =
     (sym c.in_err-request.ensures.value))
 
 pub split_at-requires : goal.split_at-requires
-split_at-requires c = enough _ c.in_ok-request.request (sym c.in_ok-request.ensures.value)
+split_at-requires c = request_record_is_long_enough _ c.in_ok-request.request
+    (sym c.in_ok-request.ensures.value)
 
 pub returns-in_err-found-clause-fault : goal.returns-in_err-found-clause-fault
 returns-in_err-found-clause-fault c =

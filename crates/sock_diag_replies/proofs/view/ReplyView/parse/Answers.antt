@@ -2,9 +2,9 @@ use Rattle.std.proofs.Common.{ℕ, List, length, drop, ap, inl, ◌∙◌, arith
 use Rattle.std.proofs.lemmas.List.{take_rest}
 use Rattle.std.proofs.lemmas.Result.{err_from_is_err_and}
 use Rattle.netlink_core.specs.Bytes.{IsBytes}
-use Rattle.netlink_core.specs.AttributeSet.{decodes}
-use Rattle.attribute_lists.specs.AttributesIn.{values_in}
-use Rattle.attribute_lists.proofs.Finding.{behind_refused, accepted_means}
+use Rattle.netlink_core.specs.AttributeSet.{decode_attribute}
+use Rattle.attribute_lists.specs.AttributesIn.{decoded_in}
+use Rattle.attribute_lists.proofs.Finding.{error_after_header, accepted_reply_is_parsed}
 use Rattle.sock_diag_replies.proofs.view.ReplyView.parse.Goals as goal
 
 pub returns-in_err-_header-clause-named : goal.returns-in_err-_header-clause-named
@@ -20,7 +20,7 @@ returns-in_err-count-clause-fault g c =
     let bytes = c.args.bytes.now in
     let part = take_rest bytes _ ∙ ap (λ (n : ℕ). drop n bytes) c.length.ensures in
     rw (p.1, p.2)
-    (behind_refused g.H.ReplyHeader.reply _ _ part _ _ c.in_ok-_header.ensures.value
+    (error_after_header g.H.ReplyHeader.reply _ _ part _ _ c.in_ok-_header.ensures.value
     c.in_err-count.ensures.fault)
 
 pub returns-in_err-count-clause-named : goal.returns-in_err-count-clause-named
@@ -29,7 +29,8 @@ returns-in_err-count-clause-named g c =
     let p = err_from_is_err_and residual.result residual.ensures.1 in
     let bytes = c.args.bytes.now in
     let part = take_rest bytes _ ∙ ap (λ (n : ℕ). drop n bytes) c.length.ensures in
-    let refused = behind_refused g.H.ReplyHeader.reply _ _ part _ _ c.in_ok-_header.ensures.value
+    let refused = error_after_header g.H.ReplyHeader.reply _ _ part _ _
+    c.in_ok-_header.ensures.value
     c.in_err-count.ensures.fault in
     rw (p.1, p.2) (λ memory. g.met.H.ReplyHeader.keeps.named_fault _ tt (rw memory at refused))
 
@@ -43,10 +44,10 @@ invariant_of-result g c =
       head = (_, c.in_ok-_header.ensures.value);
       clean = rw part at c.in_ok-count.ensures.clean;
       counted = c.in_ok-count.ensures.count
-          ∙ ap (λ (b : List ℕ). length (values_in (decodes R.attribute_set) b)) part;
+          ∙ ap (λ (b : List ℕ). length (decoded_in (decode_attribute R.attribute_set) b)) part;
     }
 
 pub returns-clause-value : goal.returns-clause-value
 returns-clause-value g c =
     let in_range : IsBytes c.args.bytes.now = λ i. omega (arith, c.type_inv.bytes i) in
-    search (in_range, accepted_means g.H.ReplyHeader.reply c.args.bytes.now)
+    search (in_range, accepted_reply_is_parsed g.H.ReplyHeader.reply c.args.bytes.now)

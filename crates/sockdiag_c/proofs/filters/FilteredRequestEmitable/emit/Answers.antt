@@ -1,15 +1,20 @@
 use Rattle.std.proofs.Common.{arith}
-use Rattle.sockdiag_c.proofs.Filtered.{behind_length, message_length}
+use Rattle.sockdiag_c.proofs.Filtered.{bytes_after_record_length, request_length_with_attributes}
 use Rattle.sockdiag_c.proofs.filters.FilteredRequestEmitable.emit.Goals as goal
 
 pub split_at_mut-front-requires : goal.split_at_mut-front-requires
 split_at_mut-front-requires c =
-    grind (arith, message_length, behind_length, c.front_len.ensures.all)
+    grind (
+      arith,
+      request_length_with_attributes,
+      bytes_after_record_length,
+      c.front_len.ensures.all,
+    )
 
 pub overflow_cast-len : goal.overflow_cast-len
 overflow_cast-len c =
     grind (
       arith,
-      message_length c.args.self.now.request.now c.args.self.now.attributes.now,
+      request_length_with_attributes c.args.self.now.request.now c.args.self.now.attributes.now,
       c.buffer_len-len.ensures,
     )

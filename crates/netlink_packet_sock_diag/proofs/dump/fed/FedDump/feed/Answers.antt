@@ -5,16 +5,17 @@ use Rattle.netlink_packet_sock_diag.specs.declared.dump.DumpError.{DumpError}
 use Rattle.netlink_packet_sock_diag.specs.declared.dump.DumpError.TheVariants.{Fault}
 use Rattle.netlink_packet_sock_diag.specs.contracts.dump.DumpState.{the_type}
 use Rattle.netlink_packet_sock_diag.specs.declared.dump.DumpState.TheVariants.{Reading}
-use Rattle.netlink_packet_sock_diag.specs.Dump.{Standing}
-use Rattle.netlink_packet_sock_diag.proofs.DumpRows.{unended, unnumbered}
-use Rattle.netlink_packet_sock_diag.proofs.Feeding.{fed_on}
+use Rattle.netlink_packet_sock_diag.specs.Dump.{DumpStatus}
+use Rattle.netlink_packet_sock_diag.proofs.DumpRows.{reading_status, reading_has_no_error_number}
+use Rattle.netlink_packet_sock_diag.proofs.Feeding.{reached_by_one_more}
 use Rattle.netlink_packet_sock_diag.proofs.dump.fed.FedDump.feed.Goals as goal
 use denote.Enum.Bare.{sameb}
 
 -- a dump that has not ended has no error number
-still_reading : (standing : Standing) (differs : Bool)
-    → (standing.0 ≡ Reading → standing ≡ unended)
-    → differs ≡ not (sameb the_type standing.0 Reading) → differs ≡ false → standing ≡ unended
+still_reading : (standing : DumpStatus) (differs : Bool)
+    → (standing.0 ≡ Reading → standing ≡ reading_status)
+    → differs ≡ not (sameb the_type standing.0 Reading) → differs ≡ false
+    → standing ≡ reading_status
 still_reading standing differs first is equal =
     grind (arith, first)
 
@@ -29,8 +30,9 @@ invariant_of-self g c =
     let read = still_reading dump.standing _ dump.unnumbered c.ne.ensures c.if-ne.false in
     let took = c.in-Ok.ensures in
     record {
-      unnumbered = unnumbered took.2.1 c.in-Ok.standing took.2.5;
-      fed = ∥∥₁_map dump.fed (λ some. fed_on g.I.Kept.item_is _ _ c.args.datagram.now (Ok tt)
+      unnumbered = reading_has_no_error_number took.2.1 c.in-Ok.standing took.2.5;
+      fed = ∥∥₁_map dump.fed (λ some. reached_by_one_more g.I.Kept.item_is _ _ c.args.datagram.now
+          (Ok tt)
           some (read, took));
     }
 
@@ -41,7 +43,7 @@ invariant_of-self-in-Err g c =
     let took = c.in-Err.ensures in
     record {
       unnumbered = λ is. cc;
-      fed = ∥∥₁_map dump.fed (λ some. fed_on g.I.Kept.item_is _ _ c.args.datagram.now
+      fed = ∥∥₁_map dump.fed (λ some. reached_by_one_more g.I.Kept.item_is _ _ c.args.datagram.now
           (Err (Fault c.in-Err.fault)) some
           (read, refl, took.0, λ memory. let stops = took.1 memory in (stops.0, stops.1)));
     }

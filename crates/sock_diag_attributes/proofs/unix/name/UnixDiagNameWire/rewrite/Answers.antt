@@ -4,20 +4,20 @@ use Rattle.netlink_core.specs.declared.fault.DecodeError.{DecodeError}
 use Rattle.netlink_core.specs.declared.fault.DecodeError.TheVariants.{Memory}
 use Rattle.netlink_core.specs.declared.canon.CanonError.{CanonError}
 use Rattle.netlink_core.specs.declared.canon.CanonError.TheVariants as canon
-use Rattle.netlink_core.specs.Canonical.{GivesUp}
-use Rattle.netlink_core.proofs.Rewriting.{gives_up}
+use Rattle.netlink_core.specs.Canonical.{CanonicalFails}
+use Rattle.netlink_core.proofs.Rewriting.{canonical_fails}
 use Rattle.sock_diag_attributes.specs.Name.{name_codec, read_name}
-use Rattle.sock_diag_attributes.specs.laws.Name.{name_keeps_laws}
-use Rattle.sock_diag_attributes.specs.NameModel.{name_of}
+use Rattle.sock_diag_attributes.specs.laws.Name.{name_codec_laws}
+use Rattle.sock_diag_attributes.specs.NameModel.{socket_name_model}
 use Rattle.sock_diag_attributes.proofs.unix.name.UnixDiagNameWire.rewrite.Goals as goal
 
 -- bytes that are rejected have no canonical form
 refused_has_no_form : (b : List ℕ) {T : Type 0} (e : DecodeError) → read_name b ≡ Err e
     → (r : Result T CanonError)
     → IsErrAnd r (λ f. (e ≡ Memory → f ≡ canon.Memory) × (e ≢ Memory → f ≡ canon.Refused e))
-    → IfErr r (GivesUp (name_codec.reads b tt) (name_codec.refuses b tt) name_codec.fits)
+    → IfErr r (CanonicalFails (name_codec.reads b tt) (name_codec.refuses b tt) name_codec.fits)
 refused_has_no_form b e refused r given =
-    let named : e ≢ Memory = λ memory. name_keeps_laws.named_fault b tt (rw memory at refused) in
+    let named : e ≢ Memory = λ memory. name_codec_laws.named_fault b tt (rw memory at refused) in
     let p = err_from_is_err_and r given in
     rw (p.1, p.2.1 named) (refused, named)
 
@@ -35,6 +35,7 @@ pub returns-clause-err : goal.returns-clause-err
 returns-clause-err g c =
     let bytes = c.args.bytes.now in
     IfErr-weaker c.write_new.result _ _
-    (gives_up (name_of (λ b. b.now)) (name_codec.reads bytes tt) (name_codec.refuses bytes tt)
+    (canonical_fails (socket_name_model (λ b. b.now)) (name_codec.reads bytes tt)
+    (name_codec.refuses bytes tt)
     name_codec.fits _ c.in_ok-parse.field-0 c.in_ok-parse.ensures (λ h. h, λ h. h))
     c.write_new.ensures.err

@@ -1,22 +1,24 @@
 use Rattle.std.proofs.Common.{drop, slice_index, sym, ap, ◌∙◌}
 use Rattle.std.proofs.lemmas.List.{take_rest}
-use Rattle.netlink_core.proofs.LayoutLaws.{accepts, accepted_fields}
+use Rattle.netlink_core.proofs.LayoutLaws.{parses_by_fields, parsed_fields}
 use Rattle.sock_diag_records.specs.SocketId.{socket_id}
 use Rattle.sock_diag_records.specs.inverse.SocketId.{socket_id_of}
-use Rattle.sock_diag_records.specs.laws.InetResponse.{header_is, with_class, class_lt}
+use Rattle.sock_diag_records.specs.laws.InetResponse.{inet_response_header_is_from_fields}
+use Rattle.sock_diag_records.specs.laws.InetResponse.{versions_with_timer_class, class_lt}
 use Rattle.sock_diag_records.specs.InetResponse.{inet_response_header}
-use Rattle.sock_diag_records.specs.Timer.{class_of_byte}
-use Rattle.sock_diag_records.specs.laws.SocketId.{values-inside}
+use Rattle.sock_diag_records.specs.Timer.{timer_class}
+use Rattle.sock_diag_records.specs.laws.SocketId.{nested_socket_id_values}
 use Rattle.sock_diag_records.proofs.inet.response.InetResponseHeaderRecord.from_fields.Goals as goal
 
 pub returns : goal.returns
 unfolding inet_response_header socket_id
 returns c =
     let payload = c.args.payload.now in
-    let class = class_of_byte (slice_index payload 2) in
-    let h = accepted_fields socket_id (slice_index payload 0) (drop 4 payload)
+    let class = timer_class (slice_index payload 2) in
+    let h = parsed_fields socket_id (slice_index payload 0) (drop 4 payload)
     c.in_ok-socket_id.socket_id (rw take_rest at (sym c.in_ok-socket_id.ensures)) in
-    let socket = h.2 ∙ ap (socket_id_of h.0) (values-inside 4 payload h.0) in
-    let read = accepts inet_response_header tt payload (h.0, class) (ap (with_class class) h.1)
-    ∙ header_is payload h.0 class (class_lt (slice_index payload 2)) in
+    let socket = h.2 ∙ ap (socket_id_of h.0) (nested_socket_id_values 4 payload h.0) in
+    let read = parses_by_fields inet_response_header tt payload (h.0, class)
+    (ap (versions_with_timer_class class) h.1)
+    ∙ inet_response_header_is_from_fields payload h.0 class (class_lt (slice_index payload 2)) in
     rw c.timer_from.ensures (rw socket (rw c.words_at.ensures (sym read)))

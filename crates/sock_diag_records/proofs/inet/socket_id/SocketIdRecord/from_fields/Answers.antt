@@ -1,7 +1,7 @@
 use Rattle.std.proofs.Common.{ℕ, List, slice_index, sym, ap, ◌∙◌, Result, Ok}
 use Rattle.std.specs.declared.net.ip_addr.IpAddr.{IpAddr}
 use Rattle.std.specs.declared.net.ip_addr.IpAddr.TheVariants.{V4, V6}
-use Rattle.netlink_core.proofs.LayoutLaws.{accepts}
+use Rattle.netlink_core.proofs.LayoutLaws.{parses_by_fields}
 use Rattle.netlink_core.proofs.Congruence.{◌⊛◌}
 use Rattle.sock_diag_records.specs.SocketId.{socket_id}
 use Rattle.sock_diag_records.specs.IpVersions.{ipv4, ipv6, versions_of_family}
@@ -33,11 +33,11 @@ returns c =
       | in-2 w ↦ (ap found c.big_shorts_at.ensures
           ⊛ (w.source_address-is ∙ (ap v4 w.ipv4_at.ensures ⊛ w.ipv4_at-in-2.ensures))
           ⊛ c.words_at.ensures ⊛ c.array_at.ensures)
-          ∙ sym (accepts socket_id c.args.family c.args.payload.now (ipv4, ipv4)
+          ∙ sym (parses_by_fields socket_id c.args.family c.args.payload.now (ipv4, ipv4)
           (ap versions_of_family w.in-2.is))
       | in-10 w ↦ (ap found c.big_shorts_at.ensures
           ⊛ (w.source_address-is ∙ (ap v6 w.ipv6_at.ensures ⊛ w.ipv6_at-in-10.ensures))
           ⊛ c.words_at.ensures ⊛ c.array_at.ensures)
-          ∙ sym (accepts socket_id c.args.family c.args.payload.now (ipv6, ipv6)
+          ∙ sym (parses_by_fields socket_id c.args.family c.args.payload.now (ipv6, ipv6)
           (ap versions_of_family w.in-10.is))
     ]

@@ -1,7 +1,7 @@
 use Rattle.std.proofs.Common.{arith}
-use Rattle.netlink_core.proofs.FieldReads.{first_all}
+use Rattle.netlink_core.proofs.FieldReads.{first_numbers_are_all}
 use Rattle.sock_diag_records.proofs.unix.request.UnixRequestRecord.write_fields.Goals as goal
 
 pub returns : goal.returns
 returns c =
-    grind (arith, first_all 8 c.args.self.now.cookie)
+    grind (arith, first_numbers_are_all 8 c.args.self.now.cookie)

@@ -1,18 +1,18 @@
 use Rattle.std.proofs.Common.{arith}
 use Rattle.netlink_core.proofs.ValueTests.{value_test}
-use Rattle.sock_diag_attributes.specs.laws.EqualInet.{inet_tests, tests}
+use Rattle.sock_diag_attributes.specs.laws.EqualInet.{inet_tests, inet_test_is_model_test}
 use Rattle.sock_diag_attributes.specs.laws.Lent.{buffer_row, text_view_row}
-use Rattle.sock_diag_replies.specs.laws.EqualResponse.{then_rest}
+use Rattle.sock_diag_replies.specs.laws.EqualResponse.{attribute_test_decides_rest}
 use Rattle.sock_diag_replies.proofs.inet.reply.InetResponseHeaderReplyHeader.is_same.Goals as goal
 
 pub returns-then-eq : goal.returns-then-eq
 returns-then-eq c =
     grind (
       arith,
-      then_rest,
+      attribute_test_decides_rest,
       value_test,
       inet_tests,
-      tests,
+      inet_test_is_model_test,
       text_view_row,
       buffer_row,
       c.eq.ensures,

@@ -1,20 +1,23 @@
 use Rattle.std.proofs.Common.{ℕ, List, Bor, refl, arith}
 use Rattle.netlink_core.proofs.ValueTests.{value_test}
-use Rattle.netlink_core.specs.Walk.{attribute_of}
+use Rattle.netlink_core.specs.Walk.{buffered_attribute}
 use Rattle.sock_diag_attributes.specs.laws.EqualName.{same_names}
-use Rattle.sock_diag_attributes.specs.laws.EqualUnix.{unix_tests, tests, list_views_model}
+use Rattle.sock_diag_attributes.specs.laws.EqualUnix.{unix_tests, unix_test_is_model_test}
+use Rattle.sock_diag_attributes.specs.laws.EqualUnix.{list_views_model}
 use Rattle.sock_diag_attributes.specs.laws.Lent.{buffer_row, name_view_row, numbers_row}
 use Rattle.sock_diag_attributes.specs.laws.Lent.{text_view_row}
-use Rattle.sock_diag_attributes.specs.NameModel.{name_of}
+use Rattle.sock_diag_attributes.specs.NameModel.{socket_name_model}
 use Rattle.sock_diag_attributes.specs.NumbersModel.{numbers_view_model}
-use Rattle.sock_diag_attributes.specs.UnixAttributes.{unix}
-use Rattle.sock_diag_replies.specs.laws.EqualResponse.{then_rest}
+use Rattle.sock_diag_attributes.specs.UnixAttributes.{unix_attribute_set}
+use Rattle.sock_diag_replies.specs.laws.EqualResponse.{attribute_test_decides_rest}
 use Rattle.sock_diag_replies.proofs.unix.reply.UnixResponseHeaderReplyHeader.is_same.Goals as goal
 
 pub returns-then-eq : goal.returns-then-eq
 returns-then-eq c =
     let held = λ (b : Bor (List ℕ)). b.now in
-    let attributes = c.same_views.ensures (value_test unix unix_tests)
-    (tests name_view_row numbers_row buffer_row _ _ _ (name_of held) numbers_view_model
-    attribute_of (same_names text_view_row _ held (λ _ _. refl)) list_views_model (λ _ _. refl)) in
-    grind (arith, then_rest, value_test, c.eq.ensures, attributes)
+    let attributes = c.same_views.ensures (value_test unix_attribute_set unix_tests)
+    (unix_test_is_model_test name_view_row numbers_row buffer_row _ _ _
+    (socket_name_model held) numbers_view_model
+    buffered_attribute (same_names text_view_row _ held (λ _ _. refl)) list_views_model
+    (λ _ _. refl)) in
+    grind (arith, attribute_test_decides_rest, value_test, c.eq.ensures, attributes)
