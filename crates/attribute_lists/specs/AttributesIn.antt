@@ -9,9 +9,13 @@ use Rattle.netlink_core.specs.Attribute.{Attribute, HasAttributeError, padding_l
 use Rattle.netlink_core.specs.AttributeSet.{decode_attribute}
 use Rattle.netlink_core.specs.Response.{ResponseSpec, ReplyValue}
 
--- The attributes in the bytes after the first `n` bytes. An attribute is `nla_len` and `nla_type`,
--- both little-endian with 16 bits, and a value of `nla_len - 4` bytes. The next attribute begins
--- `nla_len` bytes later, rounded up to a multiple of four.
+-- attributes_after n bytes: the attributes in the bytes after the first `n` bytes. An attribute is
+-- `nla_len` (`word`) and `nla_type`, both little-endian with 16 bits, and a value of `nla_len - 4`
+-- bytes. The next attribute begins `nla_len` bytes later, rounded up to a multiple of four. In the
+-- last equation the first byte is split off: `drop 1 bytes` starts at offset 2 of the attribute,
+-- and `drop 3 bytes` at offset 4.
+-- Example: the bytes 04 00 01 00 05 00 02 00 09 have two attributes, type 1 without a value, and
+-- type 2 with the value 09.
 unfoldable pub attributes_after : ℕ → List ℕ → List Attribute
 attributes_after n [] = []
 attributes_after (suc n) (byte ∷ bytes) = attributes_after n bytes
@@ -19,17 +23,20 @@ attributes_after zero (byte ∷ bytes) = let word = little_number 2 (byte ∷ by
     record { type_word = little_number 2 (drop 1 bytes); value = take (word - 4) (drop 3 bytes) }
     ∷ attributes_after (word + padding_length word - 1) bytes
 
--- the bytes have no error: neither in their framing nor in a value
+-- HasNoAttributeError reads bytes: the bytes have no error, neither in their framing nor in a
+-- value; `reads` decodes an attribute, or returns the error of its value
 pub record HasNoAttributeError {A : Type 0} (reads : Attribute
     → Result A DecodeError) (bytes : List ℕ)
     : Type 0 where
   pub none : (e : DecodeError) → HasAttributeError reads bytes e → ⊥
 
--- what the attributes in the bytes decode to, in order; attributes that are rejected are skipped
+-- decoded_in reads bytes: what the attributes in the bytes decode to by `reads`, in order;
+-- attributes that are rejected are skipped
 abbrev pub decoded_in : {A : Type 0} → (Attribute → Result A DecodeError) → List ℕ → List A
 decoded_in reads bytes = filter_map (λ a. result_ok (reads a)) (attributes_after 0 bytes)
 
--- the reply with the header `h` and the values of the attributes in the bytes after the header
+-- reply_after R h bytes: the reply with the header `h` and the values of the attributes in `bytes`,
+-- which are the bytes after the header
 abbrev pub reply_after : (R : ResponseSpec) → R.header.Value → List ℕ → ReplyValue R
 reply_after R h bytes = record {
   header = h;

@@ -3,6 +3,6 @@ use Rattle.std.specs.Prelude.{ℕ, List}
 use Rattle.netlink_core.specs.Walk.{unread_bytes}
 use Rattle.attribute_lists.specs.declared.checked.CheckedNlas.{CheckedNlas}
 
--- the bytes that the iterator has not read yet
+-- the bytes that the iterator has neither read nor checked yet
 abbrev pub unchecked_bytes : {V : Type 0} → CheckedNlas V → List ℕ
 unchecked_bytes nlas = unread_bytes nlas.walk

@@ -26,6 +26,7 @@ pub struct CheckedNlas<'a, V> {
 impl<'a, V> CheckedNlas<'a, V> {
     /// Returns an iterator over the attributes in the bytes.
     pub fn new(bytes: &'a [u8]) -> CheckedNlas<'a, V>
+        // unchecked_bytes: the bytes that the iterator has neither read nor checked yet.
         ensures { unchecked_bytes result ≡ bytes.entry.now }
     {
         CheckedNlas {
@@ -38,8 +39,10 @@ impl<'a, V> CheckedNlas<'a, V> {
 impl<'a, V: FamilyView<'a>> Iterator for CheckedNlas<'a, V> {
     type Item = Result<V, DecodeError>;
 
-    // A step yields the value of the first attribute, and the bytes after its padding are left
-    // then; or it yields the first error of these bytes, and no bytes are left.
+    // YieldsPart starts faulty left given later: a step yields `given`; `left` are the bytes that
+    // are not read before it, and `later` those after it. Here it yields the value of the attribute
+    // at the start of `left`, and the bytes after its padding are left then. Or it yields the first
+    // error of `left`, and no bytes are left. Or it yields `None`, and no bytes were left.
     ghost next_gives = { λ old given new. YieldsPart
         (λ left view later. (a : Attribute) × StartsWithAttribute left a later
         × (decode_attribute V.attribute_set a ≡ Ok (V.model view)))
@@ -49,6 +52,10 @@ impl<'a, V: FamilyView<'a>> Iterator for CheckedNlas<'a, V> {
     // At most one item for each four bytes, rounded up.
     ghost remaining = { λ nlas. at_most ((length (unchecked_bytes nlas) + 3) / 4) };
 
+    /// Returns the value of the attribute at the start of the bytes that are left, and continues
+    /// after its padding. Returns the first error if these bytes do not start with an attribute, or
+    /// if its value is rejected; then no bytes are left. Returns `None` if and only if no bytes
+    /// were left.
     #[inline(always)]
     fn next(&mut self) -> Option<Result<V, DecodeError>> {
         let nla = match self.walk.next()? {
@@ -64,6 +71,8 @@ impl<'a, V: FamilyView<'a>> Iterator for CheckedNlas<'a, V> {
 
     /// Returns `(0, None)`: the number of items is known only after iterating.
     fn size_hint(&self) -> (usize, Option<usize>)
+        // IsWithinCount n c: `n` is at most the bound `c`. UpTo c n: the bound `c` is at most `n`.
+        // Both follow from `unknown`.
         ensures lower { IsWithinCount result.0
             (at_most ((length (unchecked_bytes self.now) + 3) / 4)) }
         ensures upper { IfSome result.1

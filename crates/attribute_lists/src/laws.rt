@@ -12,6 +12,9 @@ use netlink_core::FamilyNla;
 /// the attributes of the bytes decode to, in order. The attributes that are found undecoded, in the
 /// empty set of types, are exactly the attributes of the bytes.
 pub fn found_values_are_the_attributes<T: FamilyNla>()
+    // decoded_in decode bytes: the values that are found by the length fields. DecodeTo decode
+    // bytes values: the bytes are split into attributes without a rest, and these decode to the
+    // values.
     ensures decoded { (bytes : List ℕ) (values : List (AttributeValue T.attribute_set))
         → IsBytes bytes → HasNoAttributeError (decode_attribute T.attribute_set) bytes
         → (decoded_in (decode_attribute T.attribute_set) bytes ≡ values)

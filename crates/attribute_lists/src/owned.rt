@@ -17,11 +17,13 @@ use smallvec::SmallVec;
 use std::alloc::{AllocError, Global};
 use std::default::MadeWith;
 
-/// Returns equal attributes, in the same order. Fails only if an allocation fails, and never for up
-/// to eight attributes that need no memory.
+/// Returns attributes that decode to the same values, in the same order. Fails only if an
+/// allocation fails, and never for up to eight attributes that need no memory.
 #[tactic(auto, using(std::proofs::lemmas::List::map_push))]
 pub fn copy_nlas<T: FamilyNla>(alloc: Global, nlas: &[T]) -> Result<SmallVec<T, 8>, AllocError>
     ensures equal { IfOk result (λ copy. map T.model copy.items ≡ map T.model nlas.now) }
+    // NeedsNoMemoryIn: the value is of a type whose values are stored without an allocation. A raw
+    // attribute never is.
     ensures spare { length nlas.now ≤ 8
         → AllByRecursion (NeedsNoMemoryIn T.attribute_set) (map T.model nlas.now)
         → IsOk result }
@@ -33,9 +35,11 @@ pub fn copy_nlas<T: FamilyNla>(alloc: Global, nlas: &[T]) -> Result<SmallVec<T, 
     Ok(copy)
 }
 
-/// Appends the attributes in the bytes, which have no error, to the empty list, in order and owned.
-/// Fails only if an allocation fails, and never if the list has capacity for `count` attributes and
-/// none of them needs memory.
+/// Appends the attributes in the bytes to the empty list, in order and owned. The bytes must have
+/// no error, neither in the framing nor in a value, and `count` must be the number of their
+/// attributes. Fails only if an allocation fails, and never if the list has capacity for `count`
+/// attributes and none of them needs memory. The content of the list after a failure is not
+/// specified.
 // Never inlined: for the caller, a list that is passed by reference costs less than a list that is
 // filled inline.
 #[tactic(auto, using(crate::proofs::Finding::attributes_without_error_rules))]
@@ -49,6 +53,7 @@ pub fn own_nlas<T: FamilyNla>(
     requires clean { HasNoAttributeError (decode_attribute T.attribute_set) bytes.now }
     requires count { count ≡ length (decoded_in (decode_attribute T.attribute_set) bytes.now) }
     requires empty { nlas.old.items ≡ [] }
+    // decoded_in decode bytes: what the attributes in the bytes decode to, in order.
     ensures equal { OnOk result (map T.model nlas.new.items
         ≡ decoded_in (decode_attribute T.attribute_set) bytes.now) }
     ensures spare { count ≤ nlas.old.capacity
@@ -107,7 +112,7 @@ fn make_room<T: MadeWith<Global> + Drop>(
     nlas.reserve_exact(count)
 }
 
-/// Proof only: puts the range of each number in scope. No run-time effect.
+/// Proof only: puts the range of each number of each attribute in scope. No run-time effect.
 pub fn nlas_in_range<T: FamilyNla>(nlas: &[T])
     ensures { AllByRecursion (IsInRangeIn T.attribute_set) (map T.model nlas.now) }
 {
@@ -116,9 +121,12 @@ pub fn nlas_in_range<T: FamilyNla>(nlas: &[T])
     }
 }
 
-/// Returns the number of bytes that the attributes serialize to, or `None` if a value does not fit
-/// its length field or the attributes have more than `limit` bytes.
+/// Returns the number of bytes that the attributes serialize to, with headers and paddings. Returns
+/// `None` if a value does not fit its length field, that is, has more than 65,531 bytes, or if the
+/// attributes have more than `limit` bytes.
 pub fn values_len_within<T: FamilyNla>(nlas: &[T], limit: usize) -> Option<usize>
+    // `attributes`: what the attributes serialize as (`encode_attribute`). AreWritableWithin: each
+    // value fits its length field, and all have at most `limit` bytes.
     ensures { let attributes = map (encode_attribute T.attribute_set) (map T.model nlas.now) in
         SomeIff result (AreWritableWithin attributes limit)
         (length (flat_map attribute_bytes attributes)) }
@@ -126,7 +134,9 @@ pub fn values_len_within<T: FamilyNla>(nlas: &[T], limit: usize) -> Option<usize
     nlas_len_within(nlas, limit)
 }
 
-/// Returns the number of bytes that the attributes serialize to.
+/// Returns the number of bytes that the attributes serialize to, with headers and paddings. Each
+/// value must fit its length field, and all attributes must have at most 4,294,967,295 bytes
+/// (`AreWritableWithin`).
 pub fn values_len<T: FamilyNla>(nlas: &[T]) -> usize
     requires { AreWritableWithin (map (encode_attribute T.attribute_set) (map T.model nlas.now))
         4294967295 }
@@ -136,14 +146,17 @@ pub fn values_len<T: FamilyNla>(nlas: &[T]) -> usize
     nlas_len(nlas)
 }
 
-/// Serializes the attributes, in order, to the start of the buffer. The bytes after them are
-/// unchanged.
+/// Serializes the attributes, in order and each with zeros as its padding, to the start of the
+/// buffer. The bytes after them are unchanged. Each value must fit its length field, all attributes
+/// must have at most 4,294,967,295 bytes (`AreWritableWithin`), and the buffer must be at least as
+/// long as they are.
 pub fn emit_values<T: FamilyNla>(nlas: &[T], buffer: &mut [u8])
     requires fits { AreWritableWithin
         (map (encode_attribute T.attribute_set) (map T.model nlas.now)) 4294967295 }
     requires room { length (flat_map attribute_bytes
         (map (encode_attribute T.attribute_set) (map T.model nlas.now)))
         ≤ length buffer.old }
+    // HoldsAtStart bytes old new: `new` is `bytes`, and then `old` from this offset on.
     ensures { HoldsAtStart (flat_map attribute_bytes (map (encode_attribute T.attribute_set)
         (map T.model nlas.now))) buffer.old buffer.new }
 {

@@ -14,14 +14,17 @@ ghost use Rattle.attribute_lists.specs.AttributesIn.{HasNoAttributeError, decode
 
 use netlink_core::{DecodeError, FamilyView, Nla, NlasIterator, emit_nla, nla_len};
 
-/// Checks each attribute and returns how many there are, or returns the first error. Does not
-/// allocate.
+/// Checks the framing and the value of each attribute and returns how many attributes there are, or
+/// returns the first error. Does not allocate.
 #[inline(always)]
 pub fn check_nlas<'a, V: FamilyView<'a> + Drop>(bytes: &'a [u8]) -> Result<usize, DecodeError>
     ensures clean { OnOk result (HasNoAttributeError
         (decode_attribute V.attribute_set) bytes.entry.now) }
+    // decoded_in decode bytes: what the attributes in the bytes decode to, in order.
     ensures count { IfOk result
         (λ count. count ≡ length (decoded_in (decode_attribute V.attribute_set) bytes.entry.now)) }
+    // HasAttributeError decode bytes e: `e` is the first error, which only accepted attributes
+    // precede.
     ensures fault { IfErr result (HasAttributeError
         (decode_attribute V.attribute_set) bytes.entry.now) }
 {
@@ -31,9 +34,11 @@ pub fn check_nlas<'a, V: FamilyView<'a> + Drop>(bytes: &'a [u8]) -> Result<usize
     }
 }
 
-/// Checks each attribute and returns how many there are, or returns the first error. If a limit is
-/// given, it also returns the number of bytes that the attributes serialize to, or `None` if a
-/// value does not fit its length field or if this number is above the limit. Does not allocate.
+/// Checks the framing and the value of each attribute and returns how many attributes there are, or
+/// returns the first error. If a limit is given, it also returns the number of bytes that the
+/// attributes serialize to, with headers and paddings, or `None` if a value does not fit its length
+/// field or if this number is above the limit. If no limit is given, the second part is `None`.
+/// Does not allocate.
 // A caller passes a constant `None` to count only: inlined, it then measures nothing.
 #[tactic(auto, using(crate::proofs::Finding::attributes_without_error_rules))]
 #[inline(always)]
@@ -46,6 +51,8 @@ pub fn check_nlas_len<'a, V: FamilyView<'a> + Drop>(
     ensures count { IfOk result
         (λ found. found.0
         ≡ length (decoded_in (decode_attribute V.attribute_set) bytes.entry.now)) }
+    // `attributes`: what the attributes serialize as (`encode_attribute`). AreWritableWithin: each
+    // value fits its length field, and all have at most `limit` bytes.
     ensures len { let attributes = map (encode_attribute V.attribute_set)
         (decoded_in (decode_attribute V.attribute_set) bytes.entry.now) in
         IfOk result (λ found. MatchOption limit (found.1 ≡ None) (λ limit.
@@ -92,11 +99,16 @@ fn used(limit: Option<usize>, room: Option<usize>) -> Option<usize>
     }
 }
 
-/// Returns the next attribute of bytes that have no error, or `None` at their end.
+/// Returns the attribute at the start of the bytes that are left, and continues after its padding.
+/// Returns `None` if and only if no bytes were left. The bytes must have no error, neither in the
+/// framing nor in a value; then those that are left have none either.
 #[tactic(auto, using(crate::proofs::Finding::attributes_without_error_rules))]
 #[inline(always)]
 pub fn next_view<'a, V: FamilyView<'a>>(walk: &mut NlasIterator<'a>) -> Option<V>
     requires { HasNoAttributeError (decode_attribute V.attribute_set) (unread_bytes walk.old) }
+    // YieldsFirstBy model rest old result new: `rest old` is the model of the result and then `rest
+    // new`; if the result is `None`, both are empty. `rest` is what the attributes in the bytes
+    // that are left decode to, in order.
     ensures next { YieldsFirstBy V.model (λ s.
         decoded_in (decode_attribute V.attribute_set) (unread_bytes s)) walk.old
         result walk.new }
@@ -111,10 +123,12 @@ pub fn next_view<'a, V: FamilyView<'a>>(walk: &mut NlasIterator<'a>) -> Option<V
 
 /// Returns the number of bytes that a header of `header` bytes and the attributes in the bytes
 /// serialize to. Returns `None` if a value does not fit its length field or the whole has more than
-/// 4,294,967,295 bytes.
+/// 4,294,967,295 bytes. The bytes must have no error, neither in the framing nor in a value, and
+/// the header by itself at most 4,294,967,295 bytes.
 pub fn views_len<'a, V: FamilyView<'a> + Drop>(header: usize, bytes: &'a [u8]) -> Option<usize>
     requires clean { HasNoAttributeError (decode_attribute V.attribute_set) bytes.now }
     requires small { header ≤ 4294967295 }
+    // `attributes`: what the attributes in the bytes serialize as (`encode_attribute`).
     ensures fits { let attributes = map (encode_attribute V.attribute_set)
         (decoded_in (decode_attribute V.attribute_set) bytes.entry.now) in
         IsSome result ↔ (AllByRecursion FitsLengthField attributes
@@ -137,8 +151,11 @@ pub fn views_len<'a, V: FamilyView<'a> + Drop>(header: usize, bytes: &'a [u8]) -
     Some(len)
 }
 
-/// Serializes the attributes in the bytes, in order, to the start of the buffer. The bytes after
-/// them are unchanged.
+/// Serializes the attributes in the bytes, in order and each with zeros as its padding, to the
+/// start of the buffer. The bytes after them are unchanged. The bytes must have no error, neither
+/// in the framing nor in a value. Each value must fit its length field, all attributes must have at
+/// most 4,294,967,295 bytes (`AreWritableWithin`), and the buffer must be at least as long as they
+/// are.
 pub fn emit_views<'a, V: FamilyView<'a> + Drop>(bytes: &'a [u8], buffer: &mut [u8])
     requires clean { HasNoAttributeError (decode_attribute V.attribute_set) bytes.now }
     requires fits { AreWritableWithin
@@ -148,6 +165,7 @@ pub fn emit_views<'a, V: FamilyView<'a> + Drop>(bytes: &'a [u8], buffer: &mut [u
         (map (encode_attribute V.attribute_set)
         (decoded_in (decode_attribute V.attribute_set) bytes.now)))
         ≤ length buffer.old }
+    // HoldsAtStart bytes old new: `new` is `bytes`, and then `old` from this offset on.
     ensures { HoldsAtStart (flat_map attribute_bytes
         (map (encode_attribute V.attribute_set) (decoded_in
         (decode_attribute V.attribute_set) bytes.entry.now))) buffer.old buffer.new }

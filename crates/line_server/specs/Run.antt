@@ -7,12 +7,13 @@ use Rattle.line_server.specs.Lines.{SplitsIntoLines, all_lines}
 use Rattle.line_server.specs.declared.stream.RunError.{RunError}
 use Rattle.line_server.specs.declared.stream.RunError.TheVariants.{Read, Write, Memory}
 
--- the answer to each line, in order, each followed by a line feed
+-- answer_lines answer lines: the answer to each line, in order, each followed by a line feed (10)
 abbrev pub answer_lines : (List ℕ → List ℕ) → List (List ℕ) → List ℕ
 answer_lines answer lines = flat_map (λ line. answer line ++ 10 ∷ []) lines
 
--- The text was written; or a prefix of it was written, and a write failed. `held` and `held'` are
--- the bytes that had been written before and after, if they are known.
+-- WritesAllOrFails held held' failed text: the text was written; or a prefix of it was written, and
+-- a write failed (`failed`). `held` and `held'` are the bytes that had been written before and
+-- after. Nothing is said of them if `held` is `None`: then they are not known.
 abbrev pub WritesAllOrFails : Option (List ℕ) → Option (List ℕ) → Type 0 → List ℕ → Type 0
 WritesAllOrFails held held' failed text = (sent more : List ℕ) × (text ≡ sent ++ more)
     × Appends held held' sent × ((more ≡ []) ⊎ failed)
@@ -21,10 +22,11 @@ WritesAllOrFails held held' failed text = (sent more : List ℕ) × (text ≡ se
 -- (`left`, `left'`), and the bytes that have been written before and after it (`held`, `held'`).
 -- The bytes are `None` if they are not known.
 module _ (answer : List ℕ → List ℕ) (left left' held held' : Option (List ℕ)) where
-  -- What a run with this result has written, given the complete lines and all lines that it has
-  -- read; these include a last line without a line feed. If it succeeds: the answers to all lines.
-  -- If a read fails: the answers to the complete lines. If memory runs out: the answers to the
-  -- first `k` complete lines. If a write fails: the first `k` bytes of the answers to all lines.
+  -- HasWrittenAnswers result whole all: what a run with this result has written, given the complete
+  -- lines (`whole`) and all lines (`all`) that it has read; the latter include a last line without
+  -- a line feed. If it succeeds: the answers to all lines. If a read fails: the answers to the
+  -- complete lines. If memory runs out: the answers to the first `k` complete lines. If a write
+  -- fails: the first `k` bytes of the answers to all lines.
   abbrev pub HasWrittenAnswers : Result Bool RunError → List (List ℕ) → List (List ℕ) → Type 0
   HasWrittenAnswers (Ok is_good) whole all = Appends held held' (answer_lines answer all)
   HasWrittenAnswers (Err Read) whole all = Appends held held' (answer_lines answer whole)
@@ -33,8 +35,9 @@ module _ (answer : List ℕ → List ℕ) (left left' held held' : Option (List 
   HasWrittenAnswers (Err Write) whole all =
       (k : ℕ) × Appends held held' (take k (answer_lines answer all))
 
-  -- The run read a text, which splits into complete lines and a rest. It wrote what
-  -- `HasWrittenAnswers` requires. If it succeeded, its result is whether each answer is a good one.
+  -- AnswersInput good result: the run read a text, which splits into complete lines and a rest. It
+  -- wrote what `HasWrittenAnswers` requires. If it succeeded, its result is whether each answer is
+  -- a good one, by `good`.
   abbrev pub AnswersInput : (List ℕ → Bool) → Result Bool RunError → Type 0
   AnswersInput good result = (whole : List (List ℕ)) × (rest text : List ℕ)
       × Consumes left left' text

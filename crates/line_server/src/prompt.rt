@@ -24,20 +24,28 @@ pub trait PromptRead {
     // A read failed.
     ghost failed: { Self → Type 0 };
 
-    /// Reads once into `piece`, and returns the number of bytes that were read.
+    /// Reads once into `piece`, and returns the number of bytes that were read: 0 only at the end
+    /// of the input, or if `piece` is empty. Fails only with `Read`, if the read failed; then
+    /// nothing was read.
     fn read_prompt<S: Start, W: AnswerWrite>(
         &mut self,
         output: &W,
         line: &[u8],
         piece: &mut [u8],
     ) -> Result<usize, RunError>
-        // The answers to all complete lines so far have been written, and `line` is what was read
-        // after these lines.
+        // `S` has the state at the start of the run and the answer to each line. The bytes that
+        // were read since then are the complete lines `whole`, and then `line`. What was written
+        // since then are the answers to the lines `whole`.
         requires { (whole : List (List ℕ)) × (text : List ℕ)
             × Consumes S.remaining (left self.old) text × SplitsIntoLines text whole line.now
             × Appends S.contents (W.held output.now) (answer_lines S.answer whole) }
+        // On `Ok(n)`, `n` is at most the length of `piece`.
         ensures bound { ReadsAtMost result piece.new }
+        // On `Ok(n)`, the first `n` bytes of `piece` were removed from the start of the bytes that
+        // were left, if these are known. If `n` is 0 and `piece` is not empty, none were left. On
+        // `Err`, the bytes that are left are unchanged.
         ensures bytes { ReadConsumes (left self.old) (left self.new) result piece.new }
+        // One more read was made, also if it failed.
         ensures counted { (n : ℕ) → reads self.old n → reads self.new (n + 1) }
         ensures cause { IfErr result (λ e. (e ≡ RunError.Read) × failed self.new) };
 }
@@ -45,6 +53,7 @@ pub trait PromptRead {
 impl<R: Read> PromptRead for R {
     ghost left = { λ r. R.remaining r };
 
+    // A reader of std does not count reads and does not record failures: these two always hold.
     ghost reads = { λ _ _. ⊤ };
 
     ghost failed = { λ _. ⊤ };
@@ -81,14 +90,18 @@ pub trait AnswerWrite {
     // The last call flushed it.
     ghost flushed: { Self → Type 0 };
 
-    /// Writes once, and returns the number of bytes that were written. Fails with `Write` if the
-    /// call fails or takes no bytes.
+    /// Writes once, and returns the number of bytes that were written, at least one. They are a
+    /// prefix of `bytes`. Fails only with `Write`, if the call fails or takes no bytes; then
+    /// nothing was written.
     fn write_some(&mut self, bytes: &[u8]) -> Result<usize, RunError>
         ensures some { IfOk result (λ n. (0 < n) × (n ≤ length bytes.now)) }
+        // On `Ok(n)`, the first `n` of the bytes were appended to what had been written, if that is
+        // known. On `Err`, it is unchanged.
         ensures bytes { WriteAppends (held self.old) (held self.new) result bytes.now }
         ensures cause { IfErr result (λ e. (e ≡ RunError.Write) × failed self.new) };
 
-    /// Flushes once.
+    /// Flushes once. What has been written is unchanged. Fails only with `Write`, if the call
+    /// fails.
     fn flush_answers(&mut self) -> Result<(), RunError>
         ensures bytes { Keeps (held self.old) (held self.new) }
         ensures done { OnOk result (flushed self.new) }
@@ -98,6 +111,7 @@ pub trait AnswerWrite {
 impl<W: Write> AnswerWrite for W {
     ghost held = { λ w. W.contents w };
 
+    // A writer of std does not record failures and flushes: these two always hold.
     ghost failed = { λ _. ⊤ };
 
     ghost flushed = { λ _. ⊤ };

@@ -80,7 +80,7 @@ pub trait LineAnswers {
     ghost good: { List ℕ → Bool };
 
     /// Parses the request in a line, and replaces the content of `bytes` by the bytes that it is
-    /// about.
+    /// about. Fails only if an allocation fails.
     fn read_request(
         alloc: Global,
         bytes: &mut Vec<u8>,
@@ -88,20 +88,23 @@ pub trait LineAnswers {
     ) -> Result<Self::Asked, AllocError>
         ensures { IfOk result (λ asked. asks line.now asked bytes.new.items) };
 
-    /// Appends the answer to the text, and returns whether it is a good one. If memory runs out, a
-    /// part of the answer may have been appended.
+    /// Appends the answer to the text, and returns whether it is a good one. Fails only if an
+    /// allocation fails; then a part of the answer may have been appended.
     fn push_answer(
         alloc: Global,
         text: &mut Vec<u8>,
         asked: Self::Asked,
         bytes: &[u8],
     ) -> Result<bool, AllocError>
+        // For each line that contains this request about these bytes, and each answer to this line:
+        // the answer was appended, and the result is whether it is a good one.
         ensures { IfOk result (λ is_good. (line answer : List ℕ) → asks line asked bytes.now
             → answers line answer
             → (text.new.items ≡ text.old.items ++ answer) × (is_good ≡ good answer)) };
 }
 
 impl Start for Brand {
+    // For callers: `Brand` is the type argument, and the proof of the call picks the members.
     ghost remaining = { None };
 
     ghost contents = { None };
@@ -122,18 +125,32 @@ struct Kept {
 }
 
 /// Writes the answer line of each line of `input`, flushes, and returns whether each answer is a
-/// good one. Before each read, the answers to all complete lines that were read have been written
-/// to `output`. A call that failed is not repeated.
+/// good one.
+///
+/// Fails with `Read` if a read failed, or after 2^64 - 1 reads without the end of the input; then
+/// the answers to the complete lines that were read have been written. Fails with `Write` if a
+/// write or the flush failed, or a write took no bytes; then a prefix of the answers to the lines
+/// that were read has been written. Fails with `Memory` if an allocation failed; then the answers
+/// to some of the first complete lines have been written.
+///
+/// Before each read, the answers to all complete lines that were read have been written to
+/// `output`: `read_prompt` requires this, and `serve` has no other way to read. A call that failed
+/// is not repeated; the contract does not state this.
 pub fn serve<S: Start, A: LineAnswers, R: PromptRead, W: AnswerWrite>(
     alloc: Global,
     input: &mut R,
     output: &mut W,
 ) -> Result<bool, RunError>
+    // `S` has the state when the run starts: the bytes that are left to read and those that have
+    // been written, if they are known. No read was made yet.
     requires start { (S.remaining ≡ R.left input.old) × (S.contents ≡ W.held output.old)
         × R.reads input.old 0 }
+    // `S` has an answer to each line.
     requires right { (line : List ℕ) → A.answers line (S.answer line) }
+    // If the run succeeds, no bytes are left to read, if these are known.
     ensures ended { OnOk result (IsAtEnd (R.left input.new)) }
     ensures flushed { OnOk result (W.flushed output.new) }
+    // A text was read. For each result, what has been written: see `HasWrittenAnswers`.
     ensures answered { AnswersInput S.answer S.remaining (R.left input.new) S.contents
         (W.held output.new) A.good result }
     ensures read_cause { IfErr result (λ e. e ≡ RunError.Read
@@ -307,8 +324,10 @@ fn send<W: AnswerWrite>(output: &mut W, bytes: &[u8]) -> Result<(), RunError>
     Ok(())
 }
 
-/// Writes the text. If a write fails, a prefix of the text has been written.
+/// Writes the text. If a write fails, a prefix of the text has been written. The failure is not
+/// reported.
 pub fn try_send<W: AnswerWrite>(output: &mut W, text: &[u8])
+    // All of the text was written; or a prefix of it, and a write failed.
     ensures { WritesAllOrFails (W.held output.old) (W.held output.new)
         (W.failed output.new) text.now }
 {

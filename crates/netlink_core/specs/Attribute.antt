@@ -29,7 +29,8 @@ padding_length n = (4 - n % 4) % 4
 abbrev pub header_and_value : Attribute → List ℕ
 header_and_value a = little_bytes 2 (4 + length a.value) ++ little_bytes 2 a.type_word ++ a.value
 
--- the attribute with zeros as padding, up to a multiple of four
+-- the attribute with zeros as padding, up to a multiple of four; the length of the value suffices
+-- for this, since the header has four bytes
 abbrev pub attribute_bytes : Attribute → List ℕ
 attribute_bytes a = header_and_value a ++ replicate (padding_length (length a.value)) 0
 
@@ -37,20 +38,21 @@ attribute_bytes a = header_and_value a ++ replicate (padding_length (length a.va
 abbrev pub FitsLengthField : Attribute → Type 0
 FitsLengthField a = length a.value ≤ 65531
 
--- the value of each attribute fits its length field, and all attributes with their padding have at
--- most `limit` bytes
+-- AreWritableWithin all limit: the value of each attribute has at most 65,531 bytes, and all
+-- attributes with headers and paddings have at most `limit` bytes
 abbrev pub AreWritableWithin : List Attribute → ℕ → Type 0
 AreWritableWithin all limit = AllByRecursion FitsLengthField all
     × (length (flat_map attribute_bytes all) ≤ limit)
 
--- the bytes begin with the attribute; any bytes may follow its value, and its padding may be
--- missing
+-- the bytes begin with the attribute, whose type field has 16 bits and whose value has at most
+-- 65,531 bytes; any bytes may follow its value, and its padding may be missing
 abbrev pub HasAttributePrefix : List ℕ → Attribute → Type 0
 HasAttributePrefix bytes a = (tail : List ℕ) × (bytes ≡ header_and_value a ++ tail)
     × ((a.type_word < 2 ^ 16) × FitsLengthField a)
 
--- The bytes are the attribute, its padding, and `rest`. The padding may have any content. It is
--- complete, up to a multiple of four; if nothing follows, it may be shorter.
+-- The bytes are the attribute, its padding, and `rest`. The type field has 16 bits, and the value
+-- at most 65,531 bytes. The padding may have any content. It is complete, up to a multiple of four;
+-- if nothing follows, it may be shorter.
 pub record StartsWithAttribute (bytes : List ℕ) (a : Attribute) (rest : List ℕ) : Type 0 where
   pub padding : List ℕ
   pub parts : bytes ≡ header_and_value a ++ (padding ++ rest)
@@ -58,15 +60,16 @@ pub record StartsWithAttribute (bytes : List ℕ) (a : Attribute) (rest : List �
   pub filled : (length padding ≡ padding_length (length a.value))
       ⊎ ((length padding < padding_length (length a.value)) × (rest ≡ []))
 
--- the bytes are these attributes, consecutive and each with its padding, and then `rest`
+-- SplitsIntoAttributes bytes attributes rest: the bytes are these attributes, consecutive and each
+-- with its padding, and then `rest`; the last padding may be short only if `rest` is empty
 abbrev pub SplitsIntoAttributes : List ℕ → List Attribute → List ℕ → Type 0
 SplitsIntoAttributes bytes [] rest = bytes ≡ rest
 SplitsIntoAttributes bytes (a ∷ later) rest =
     (left : List ℕ) × StartsWithAttribute bytes a left × SplitsIntoAttributes left later rest
 
 -- The first error of bytes that do not begin with an attribute: fewer than 4 bytes; else `nla_len`
--- is below 4; else `nla_len` is above the number of bytes. The error contains `nla_len` (`word`)
--- and the number of bytes (`left`).
+-- (the first two bytes, little-endian) is below 4; else `nla_len` is above the number of bytes. The
+-- error contains `nla_len` (`word`) and the number of bytes (`left`).
 abbrev pub IsFramingError : List ℕ → DecodeError → Type 0
 IsFramingError bytes (AttributeHeaderCut left) = (left ≡ length bytes) × (length bytes < 4)
 IsFramingError bytes (AttributeLengthUnder4 word) =
@@ -76,8 +79,8 @@ IsFramingError bytes (AttributeLengthPast word left) =
     × (4 ≤ length bytes) × (4 ≤ word) × (length bytes < word)
 IsFramingError bytes _ = ⊥
 
--- the bytes are the attributes `given` and then at least one byte more, and the error of these last
--- bytes is `e`, by `faulty`
+-- SplitsUntilError faulty bytes given e: the bytes are the attributes `given` and then at least one
+-- byte more, and these last bytes have the error `e`, by `faulty rest e`
 abbrev pub SplitsUntilError : (List ℕ → DecodeError → Type 0) → List ℕ → List Attribute
     → DecodeError → Type 0
 SplitsUntilError faulty bytes given e =

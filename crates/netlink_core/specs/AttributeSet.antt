@@ -26,13 +26,15 @@ AttributeSet = List AttributeSpec
 abbrev pub kind_numbers : AttributeSet → List ℕ
 kind_numbers F = map (λ (spec : AttributeSpec). spec.number) F
 
--- what an attribute decodes to: a value of one of the types, or else the attribute itself, raw
+-- What an attribute decodes to: a value of one of the types, or else the attribute itself, raw. In
+-- a set of two types, `inl x` is a value of the first one, `inr (inl y)` of the second one, and
+-- `inr (inr a)` is a raw attribute.
 abbrev pub AttributeValue : AttributeSet → Type 0
 AttributeValue [] = Attribute
 AttributeValue (spec ∷ others) = spec.value.Value ⊎ AttributeValue others
 
--- decodes an attribute by its kind, or returns the error of its value; an attribute whose kind is
--- not in the set decodes to itself
+-- decodes an attribute by the first type of its kind, or returns the error of its value; an
+-- attribute whose kind is not in the set decodes to itself; the two flag bits are not considered
 abbrev pub decode_attribute : (F : AttributeSet) → Attribute → Result (AttributeValue F) DecodeError
 decode_attribute [] a = Ok a
 decode_attribute (spec ∷ others) a =
@@ -49,24 +51,26 @@ encode_attribute (spec ∷ others) (inl x) = record {
 }
 encode_attribute (spec ∷ others) (inr v) = encode_attribute others v
 
--- two attributes are equivalent: they have the same kind in the set and equivalent values, whatever
--- their flag bits are; or both kinds are not in the set, and the attributes are equal with their
--- flag bits
+-- two attributes are equivalent: they have the same kind in the set and equivalent values (by the
+-- first type of this kind), whatever their flag bits are; or neither kind is in the set, and the
+-- attributes are equal, including their flag bits
 abbrev pub AreEquivalentAttributes : AttributeSet → Attribute → Attribute → Type 0
 AreEquivalentAttributes [] a b = a ≡ b
 AreEquivalentAttributes (spec ∷ others) a b = cond (attribute_kind a == spec.number)
     ((attribute_kind b ≡ spec.number) × spec.value.idle tt a.value b.value)
     ((attribute_kind b ≢ spec.number) × AreEquivalentAttributes others a b)
 
--- a decoded value is in range: a value of a type is, by its codec; a raw attribute has a type field
--- of 16 bits, and its value is bytes
+-- a decoded value is in range: if it is the value of an attribute type of the set (`inl`), this
+-- type's codec says that it is; if it is raw (no type left), its type field has 16 bits and its
+-- value is bytes
 abbrev pub IsInRangeIn : (F : AttributeSet) → AttributeValue F → Type 0
 IsInRangeIn [] a = (a.type_word < 2 ^ 16) × IsBytes a.value
 IsInRangeIn (spec ∷ others) (inl x) = spec.value.is_in_range x
 IsInRangeIn (spec ∷ others) (inr v) = IsInRangeIn others v
 
--- a decoded value is in normal form: a value of a type is, by its codec, and no earlier type has
--- the same kind; a raw attribute has a kind that is not in the set
+-- a decoded value is in normal form: if it is the value of an attribute type of the set (`inl`),
+-- this type's codec says that it is, and no earlier type has the same kind; if it is raw (no type
+-- left), no type has its kind
 abbrev pub IsNormalIn : (F : AttributeSet) → AttributeValue F → Type 0
 IsNormalIn [] a = ⊤
 IsNormalIn (spec ∷ F) (inl x) = spec.value.is_normal tt x
@@ -81,14 +85,14 @@ NeedsNoMemoryIn (spec ∷ others) (inr v) = NeedsNoMemoryIn others v
 
 -- ---- by kind
 
--- the values of the type of kind `k`, or raw attributes if no type has this kind
+-- the values of the first type of kind `k`, or raw attributes if no type has this kind
 abbrev pub ValueOfKind : AttributeSet → ℕ → Type 0
 ValueOfKind [] k = Attribute
 ValueOfKind (spec ∷ others) k = cond (spec.number == k) spec.value.Value (ValueOfKind others k)
 
--- One step of `value_as_decoded`, below: `x` is a value of the first type if `t` is true, else a
--- value for the rest of the set, which `later` makes. The type `cond t A B` is A if `t` is true,
--- else B.
+-- One step of `value_as_decoded`, below. inject t later x: if `t` is true, `x` is a value of the
+-- first type of the set. Else `x` is a value for the rest of the set, and `later` makes it a
+-- decoded value of the rest. The type `cond t A B` is A if `t` is true, else B.
 abbrev pub inject : {A B C : Type 0} → (t : Bool) → (B → C) → cond t A B → A ⊎ C
 inject true later x = inl x
 inject false later x = inr (later x)
@@ -98,8 +102,9 @@ abbrev pub value_as_decoded : (F : AttributeSet) → (k : ℕ) → ValueOfKind F
 value_as_decoded [] k a = a
 value_as_decoded (spec ∷ others) k x = inject (spec.number == k) (value_as_decoded others k) x
 
--- One step of `value_of_kind`, below: the value of the first type if `t` is true, else what `later`
--- finds in the rest of the set; `None` if the value is on the other side.
+-- One step of `value_of_kind`, below. project t later v: if `t` is true, `v` itself if it is of the
+-- first type of the set (`inl`). Else what `later` finds in `v` if it belongs to the rest of the
+-- set (`inr`). `None` in the other two cases.
 abbrev pub project : {A B C : Type 0} → (t : Bool) → (C → Option B) → A ⊎ C → Option (cond t A B)
 project true later (inl x) = Some x
 project false later (inr v) = later v

@@ -7,9 +7,10 @@ use Rattle.netlink_core.specs.declared.fault.DecodeError.{DecodeError}
 use Rattle.netlink_core.specs.Attribute.{padding_length}
 use Rattle.netlink_core.specs.Header.{IsMessageError}
 
--- The bytes are the message, its padding, and `rest`. The message is as long as its length field
--- (`nlmsg_len`), which includes the 16 bytes of its header. The padding may have any content. It is
--- complete, up to a multiple of four; if nothing follows, it may be shorter.
+-- The bytes are the message, its padding, and `rest`. The message has at least 16 bytes, and as
+-- many as its length field (`nlmsg_len`, the first four bytes, little-endian) says. The padding may
+-- have any content. It is complete, up to a multiple of four; if nothing follows, it may be
+-- shorter. The rest of the header and the payload are not considered.
 pub record StartsWithMessage (bytes message rest : List ℕ) : Type 0 where
   pub padding : List ℕ
   pub parts : bytes ≡ message ++ (padding ++ rest)
@@ -17,8 +18,9 @@ pub record StartsWithMessage (bytes message rest : List ℕ) : Type 0 where
   pub filled : (length padding ≡ padding_length (length message))
       ⊎ ((length padding < padding_length (length message)) × (rest ≡ []))
 
--- the bytes are split into these messages; then no bytes are left, or bytes that do not begin with
--- a message, with this error
+-- SplitsIntoMessages bytes messages end: the bytes are split into these messages, each with its
+-- padding. If `end` is `None`, no bytes are left then. If it is `Some e`, bytes are left that do
+-- not begin with a message, with the error `e`.
 abbrev pub SplitsIntoMessages : List ℕ → List (List ℕ) → Option DecodeError → Type 0
 SplitsIntoMessages bytes [] None = bytes ≡ []
 SplitsIntoMessages bytes [] (Some e) = (bytes ≢ []) × IsMessageError bytes e

@@ -13,19 +13,23 @@ use Rattle.netlink_core.specs.Gives.{YieldsPart}
 abbrev pub unread_messages : FramedMessages → List ℕ
 unread_messages messages = drop messages.at messages.bytes.now
 
+-- the bytes that the iterator has not read yet
 abbrev pub unread_datagram : MessageStrings → List ℕ
 unread_datagram strings = unread_messages strings.messages
 
--- A step yields the first message of the bytes that are left, and the bytes after its padding are
--- left then; or it yields the error of these bytes, and no bytes are left. It yields `None` only if
--- no bytes were left.
+-- YieldsMessage old given new: a step yields the first message of the bytes that are left, and the
+-- bytes after its padding are left then; or it yields the error of these bytes, and no bytes are
+-- left; or it yields `None`, and no bytes were left.
 abbrev pub YieldsMessage : MessageStrings → Option (Result (Bor (List ℕ)) DecodeError)
     → MessageStrings → Type 0
 YieldsMessage old given new =
     YieldsPart (λ left message later. StartsWithMessage left message.now later) IsMessageError
     (unread_datagram old) given (unread_datagram new)
 
--- the same, with the header of the message, whose length field counts the bytes of the message
+-- YieldsFramedMessage old given new: a step yields the header and the bytes of the first message of
+-- the bytes that are left, and the bytes after its padding are left then. The header's length field
+-- is the number of the message's bytes. Or the step yields the error of the bytes that are left,
+-- and no bytes are left; or it yields `None`, and no bytes were left.
 abbrev pub YieldsFramedMessage : FramedMessages
     → Option (Result (NetlinkHeader × Bor (List ℕ)) DecodeError)
     → FramedMessages → Type 0

@@ -24,12 +24,13 @@ pub record NetlinkMessageModel (A : Type 0) : Type 0 where
   pub header : NetlinkHeader
   pub payload : Payload A
 
--- the message types of inner messages: every type but those of the four control messages
+-- the message types of inner messages: 0, and all above 4; the control messages have 1 to 4
 abbrev pub IsInnerMessageType : ℕ → Type 0
 IsInnerMessageType t = (t ≡ 0) ⊎ (NLMSG_OVERRUN < t)
 
--- The bytes parse as this payload under the message type, given how inner messages parse.
--- NLMSG_NOOP accepts any bytes, and drops them.
+-- ParsesAsPayload reads bytes t payload: the bytes parse as this payload under the message type
+-- `t`; `reads` says how inner messages parse. The raw bytes of NLMSG_ERROR, NLMSG_DONE and
+-- NLMSG_OVERRUN are all bytes. NLMSG_NOOP accepts any bytes, and drops them.
 abbrev pub ParsesAsPayload : {A : Type 0} → (List ℕ → ℕ → A → Type 0) → List ℕ → ℕ → Payload A
     → Type 0
 ParsesAsPayload reads bytes t Noop = t ≡ NLMSG_NOOP
@@ -38,8 +39,9 @@ ParsesAsPayload reads bytes t (Done given) = (t ≡ NLMSG_DONE) × (given ≡ by
 ParsesAsPayload reads bytes t (Overrun given) = (t ≡ NLMSG_OVERRUN) × (given ≡ bytes)
 ParsesAsPayload reads bytes t (InnerMessage value) = IsInnerMessageType t × reads bytes t value
 
--- Two payloads of the same message type are equivalent, given when inner messages are: any two of
--- NLMSG_NOOP, equal bytes of the other control messages, equivalent inner messages.
+-- AreEquivalentPayloads inner t b c: two payloads of the message type `t` are equivalent; `inner`
+-- says when inner messages are. Any two of NLMSG_NOOP are; of the other control messages (2 to 4),
+-- equal bytes; of the other types, equivalent inner messages.
 abbrev pub AreEquivalentPayloads : (ℕ → List ℕ → List ℕ → Type 0) → ℕ → List ℕ → List ℕ → Type 0
 AreEquivalentPayloads inner t b c = (t ≡ NLMSG_NOOP)
     ⊎ (((NLMSG_NOOP < t) × (t ≤ NLMSG_OVERRUN) × (b ≡ c))
@@ -47,7 +49,8 @@ AreEquivalentPayloads inner t b c = (t ≡ NLMSG_NOOP)
 
 -- ---- serializing
 
--- the bytes that a payload serializes to, given the bytes of an inner message
+-- payload_bytes bytes payload: the bytes that a payload serializes to; `bytes` are those of an
+-- inner message
 abbrev pub payload_bytes : {A : Type 0} → (A → List ℕ) → Payload A → List ℕ
 payload_bytes bytes Noop = []
 payload_bytes bytes (Error given) = given
@@ -55,7 +58,8 @@ payload_bytes bytes (Done given) = given
 payload_bytes bytes (Overrun given) = given
 payload_bytes bytes (InnerMessage value) = bytes value
 
--- the message type of a payload, given the type of an inner message
+-- payload_type type_of payload: the message type of a payload; `type_of` is that of an inner
+-- message
 abbrev pub payload_type : {A : Type 0} → (A → ℕ) → Payload A → ℕ
 payload_type type_of Noop = NLMSG_NOOP
 payload_type type_of (Error given) = NLMSG_ERROR
@@ -77,7 +81,8 @@ abbrev pub leading_error_number : List ℕ → Option ℤ
 leading_error_number b = if nat_lt (length b) 4 then None
     else Some (cast_signed w32 (little_number 4 b))
 
--- the error number of a payload: only NLMSG_ERROR and NLMSG_DONE start with one
+-- the error number of a payload: that at the start of NLMSG_ERROR and NLMSG_DONE, and `None` for
+-- any other payload
 abbrev pub error_number_of : {A : Type 0} → Payload A → Option ℤ
 error_number_of (Error given) = leading_error_number given
 error_number_of (Done given) = leading_error_number given
@@ -85,8 +90,9 @@ error_number_of Noop = None
 error_number_of (Overrun given) = None
 error_number_of (InnerMessage value) = None
 
--- the header with the length (header and payload) and the type of this payload; its other fields
--- are unchanged; given are the bytes and the type of an inner message
+-- finalized_header bytes type_of e: the header of the message `e` with the length of the message,
+-- 16 and that of its payload, and with the type of its payload; the other fields are unchanged.
+-- `bytes` and `type_of` are those of an inner message.
 abbrev pub finalized_header : {A : Type 0} → (A → List ℕ) → (A → ℕ) → NetlinkMessageModel A
     → NetlinkHeader
 finalized_header bytes type_of e = record e.header {
@@ -96,8 +102,9 @@ finalized_header bytes type_of e = record e.header {
 
 -- ---- the codec
 
--- the codec of netlink messages, given the codec of inner messages, whose parameter is the message
--- type
+-- The codec of netlink messages, given the codec of inner messages, whose parameter is the message
+-- type. It does not keep the codec law `reads_back`, since the header of a value may have any
+-- length and any type: see `laws::finalized_message_reads_back`.
 abbrev pub netlink_codec : Codec ℕ → Codec (Unit {0})
 netlink_codec C = record {
   Value = NetlinkMessageModel C.Value;

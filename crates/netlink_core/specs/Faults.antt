@@ -38,7 +38,8 @@ error_code (EnvelopeCut got) = 16
 error_code (EnvelopeLengthUnder16 len) = 17
 error_code (EnvelopeLengthPast len got) = 18
 
--- the error; a wrong length without a kind gets the kind `k`
+-- with_missing_kind k e: the error `e`; if it is a `WrongLength` without a kind, it gets the kind
+-- `k`
 abbrev pub with_missing_kind : ℕ → DecodeError → DecodeError
 with_missing_kind k (WrongLength None got need) = WrongLength (Some k) got need
 with_missing_kind k other = other

@@ -7,9 +7,9 @@ use Rattle.netlink_core.specs.AttributeSet.{encode_attribute, IsInRangeIn, IsNor
 use Rattle.netlink_core.specs.AttributeSet.{NeedsNoMemoryIn, AreEquivalentAttributes}
 use Rattle.netlink_core.specs.Codec.{Codec}
 
--- Parses the attribute at the start of the bytes, by the set. Its padding and the bytes after it
--- are ignored. It is rejected with the first error of its framing or its value. Byte strings are
--- equivalent if their first attributes are.
+-- The attribute at the start of the bytes, decoded by the set `F`. Its padding and the bytes after
+-- it are ignored. It is rejected with the first error of its framing or its value. Byte strings are
+-- equivalent if their first attributes are. `p` is `tt`: there is no parameter.
 abbrev pub first_attribute_codec : AttributeSet → Codec (Unit {0})
 first_attribute_codec F = record {
   Value = AttributeValue F;

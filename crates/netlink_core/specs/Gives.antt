@@ -2,10 +2,11 @@
 use Rattle.std.specs.Prelude.{◌≡◌, ◌≢◌, ℕ, List, [], Option, Result, MatchOption, MatchResult}
 use Rattle.netlink_core.specs.declared.fault.DecodeError.{DecodeError}
 
--- The step yields `given`. It starts with the bytes `left`, and the bytes `later` are left after
--- it. It yields a part if `left` starts with this part and `later` follows, by `starts`. Or it
--- yields the error of `left`, by `faulty`, and no bytes are left. Or it yields `None`, only if no
--- bytes were left.
+-- YieldsPart starts faulty left given later: a step of the iterator yields `given`; `left` are the
+-- bytes that it has not read before the step, and `later` those after it. It yields a part with
+-- `starts left part later`: `left` starts with the part, and `later` follows. Or it yields an error
+-- with `faulty left error`, there were bytes, and none are left. Or it yields `None`, and there
+-- were no bytes.
 abbrev pub YieldsPart : {I : Type 0} → (List ℕ → I → List ℕ → Type 0)
     → (List ℕ → DecodeError → Type 0)
     → List ℕ → Option (Result I DecodeError) → List ℕ → Type 0

@@ -33,12 +33,12 @@ abbrev pub header_bytes : NetlinkHeader → List ℕ
 header_bytes h = bytes_of header_fields (header_values h)
 
 -- the bytes begin with the header, each number of which fits its field, and `nlmsg_len` is at least
--- 16 and at most the number of bytes
+-- 16 and at most the number of bytes; what follows the header is not considered
 abbrev pub HasHeader : List ℕ → NetlinkHeader → Type 0
 HasHeader bytes h = (values_of header_fields bytes ≡ header_values h)
     × FitFields header_fields (header_values h) × (16 ≤ h.length) × (h.length ≤ length bytes)
 
--- `nlmsg_type` of the header at the start of the bytes, at offset 4
+-- `nlmsg_type` of the header at the start of the bytes: two bytes, little-endian, at offset 4
 abbrev pub message_type_in : List ℕ → ℕ
 message_type_in bytes = little_number 2 (drop 4 bytes)
 

@@ -12,14 +12,14 @@ use Rattle.netlink_core.specs.Envelope.{Payload, netlink_codec}
 abbrev pub Item : Type 0 → Type 0
 Item A = Result (Payload A) DecodeError
 
--- the bytes of one message, `m`, parse as this payload with some header, or are rejected with this
--- error; `C` is the codec of inner messages, whose parameter is the message type
+-- IsItemOf C m item: the bytes of one message, `m`, parse as this payload, with some header, or are
+-- rejected with this error; `C` is the codec of inner messages, whose parameter is the message type
 abbrev pub IsItemOf : (C : Codec ℕ) → List ℕ → Item C.Value → Type 0
 IsItemOf C m item = MatchResult item (λ p. (h : NetlinkHeader) × (netlink_codec C).reads m tt
     (record { header = h; payload = p })) ((netlink_codec C).refuses m tt)
 
--- the items of a datagram: its messages in order, each as an item by `is`, and then, if bytes are
--- left that do not begin with a message, their error
+-- AreItemsOf is bytes items: the items of a datagram are its messages in order, each as an item by
+-- `is message item`, and then, if bytes are left that do not begin with a message, their error
 abbrev pub AreItemsOf : {A : Type 0} → (List ℕ → Item A → Type 0) → List ℕ → List (Item A) → Type 0
 AreItemsOf {A} is bytes items = (messages : List (List ℕ)) × (end : Option DecodeError)
     × (carried : List (Item A)) × SplitsIntoMessages bytes messages end

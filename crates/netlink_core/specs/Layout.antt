@@ -30,8 +30,9 @@ pub record Layout (Param Tag Value : Type 0) : Type 1 where
   -- what the normal form requires, in addition to defined flags
   pub is_own : Param → Value → Type 0
 
--- a record with the same rows for all values: its name, the fewest bytes, the rows, the value with
--- given numbers, and whether arrays have the length of their types
+-- plain name least rows value is_shaped: a record with the same rows for all values; its name, the
+-- fewest bytes, the rows, the value with given numbers, and whether arrays have the length of their
+-- types
 abbrev pub plain : {Value : Type 0} → RecordName → (least : ℕ) → List (Row Value)
     → (List ℕ → Value) → (Value → Type 0) → Layout (Unit {0}) (Unit {0}) Value
 plain name least rows value is_shaped = record {
@@ -68,14 +69,15 @@ module _ {Param Tag Value : Type 0} (layout : Layout Param Tag Value) where
   abbrev pub record_bytes : Value → List ℕ
   record_bytes value = bytes_of (tag_fields (layout.tag_of value)) (field_numbers value)
 
-  -- the bytes are at least `least`, have the tag, and have these numbers in the fields that are not
-  -- ignored
+  -- HasTagAndNumbers param b tag numbers: there are at least `least` bytes, they have the tag, and
+  -- these numbers in the fields of the tag that are not ignored
   abbrev pub HasTagAndNumbers : Param → List ℕ → Tag → List ℕ → Type 0
   HasTagAndNumbers param b tag numbers =
       (layout.least ≤ length b) × (layout.tag_at param b ≡ Ok tag)
       × (values_of (tag_fields tag) b ≡ numbers)
 
-  -- both byte strings have the same tag, and the same numbers in the fields that are not ignored
+  -- both byte strings have at least `least` bytes, the same tag, and the same numbers in the fields
+  -- of this tag that are not ignored
   abbrev pub AreEquivalent : Param → List ℕ → List ℕ → Type 0
   AreEquivalent param b c = (tag : Tag) × (numbers : List ℕ)
       × HasTagAndNumbers param b tag numbers × HasTagAndNumbers param c tag numbers
@@ -84,13 +86,14 @@ module _ {Param Tag Value : Type 0} (layout : Layout Param Tag Value) where
   abbrev pub IsInRange : Value → Type 0
   IsInRange v = layout.is_shaped v × FitFields (tag_fields (layout.tag_of v)) (field_numbers v)
 
-  -- flags are defined, and the value meets the layout's other conditions
+  -- no number of flags has an undefined bit, and the value meets the layout's other conditions
+  -- (`is_own`)
   abbrev pub IsNormal : Param → Value → Type 0
   IsNormal p v = HaveDefinedFlags (tag_fields (layout.tag_of v)) (field_numbers v)
       × layout.is_own p v
 
-  -- The bytes contain the value, said without `value`: they have its tag and its numbers, and it is
-  -- in range and in normal form.
+  -- The bytes contain the value, said without `value`: there are at least `least`, they have its
+  -- tag and its numbers, and the value is in range and in normal form.
   abbrev pub IsContainedIn : List ℕ → Param → Value → Type 0
   IsContainedIn b param value = HasTagAndNumbers param b (layout.tag_of value) (field_numbers value)
       × IsInRange value × IsNormal param value

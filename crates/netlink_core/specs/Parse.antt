@@ -6,8 +6,8 @@ use Rattle.byteorder.specs.Endian.{little_number}
 use Rattle.netlink_core.specs.declared.fault.DecodeError.{DecodeError}
 use Rattle.netlink_core.specs.declared.fault.DecodeError.TheVariants.{WrongLength, NotUtf8}
 
--- the little-endian number of exactly `width` bytes; the error of any other length contains the
--- kind `k`, if there is one
+-- number_of_width k width b: the little-endian number of exactly `width` bytes; the error of any
+-- other length contains the kind `k`, if there is one
 abbrev pub number_of_width : Option ℕ → ℕ → List ℕ → Result ℕ DecodeError
 number_of_width k width b =
     if length b == width then Ok (little_number width b) else Err (WrongLength k (length b) width)

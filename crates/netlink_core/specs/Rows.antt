@@ -42,15 +42,18 @@ module _ {Value : Type 0} where
   abbrev pub be16 : (offset : ℕ) → (Value → ℕ) → Row Value
   be16 offset = single (network offset 2)
 
-  -- a little-endian `__u32` of flags; the bits that are 0 in the mask are undefined
+  -- a little-endian `__u32` of flags; the bits that are 0 in the mask are undefined, and the parser
+  -- ignores them
   abbrev pub flags32 : (offset mask : ℕ) → (Value → ℕ) → Row Value
   flags32 offset mask = single (flags offset 4 mask)
 
-  -- an array of `count` bytes
+  -- u8s offset count get: an array of `count` bytes, the first at the offset; a shorter list is
+  -- filled with zeros, a longer one is cut
   abbrev pub u8s : (offset count : ℕ) → (Value → List ℕ) → Row Value
   u8s offset count get = (bytes_at offset count, λ value. first_numbers count (get value))
 
-  -- an array of `count` numbers of 16 bits in network byte order
+  -- be16s offset count get: an array of `count` numbers of 16 bits in network byte order, the first
+  -- at the offset; a shorter list is filled with zeros, a longer one is cut
   abbrev pub be16s : (offset count : ℕ) → (Value → List ℕ) → Row Value
   be16s offset count get = (array network offset 2 count, λ value. first_numbers count (get value))
 
@@ -58,10 +61,11 @@ module _ {Value : Type 0} where
   abbrev pub skip : (offset : ℕ) → (written : List ℕ) → Row Value
   skip offset written = (unread offset written ∷ [], λ value. [])
 
-  -- a row that is present only if the test holds
+  -- a row that is present only if the test is true; else it has no fields and no numbers
   abbrev pub when : Bool → Row Value → Row Value
   when test one = if test then one else ([], λ value. [])
 
--- an inner record, by its rows, whose offsets are those in the outer record
+-- an inner record, which `get` takes from the outer value, by its rows; the offsets in the rows are
+-- already those in the outer record
 abbrev pub embed : {Outer Inner : Type 0} → (Outer → Inner) → List (Row Inner) → Row Outer
 embed get rows = (fields_of rows, λ value. numbers_of rows (get value))

@@ -15,6 +15,7 @@ abbrev pub masked : List ℕ → List ℕ → List ℕ
 masked (mask ∷ masks) (one ∷ bytes) = bit_and one mask ∷ masked masks bytes
 masked _ _ = []
 
--- both byte strings have the same bits under the masks
+-- EqualUnder masks b c: both byte strings have the same bits under the masks; bytes after those
+-- that have a mask are not considered
 abbrev pub EqualUnder : List ℕ → List ℕ → List ℕ → Type 0
 EqualUnder masks b c = masked masks b ≡ masked masks c

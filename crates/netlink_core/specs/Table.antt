@@ -13,7 +13,8 @@ pub data Field : Type 0 where
   flags : (offset width mask : ℕ) → Field
   unread : (offset : ℕ) → (written : List ℕ) → Field
 
--- `count` consecutive fields of one kind and width, the first at the offset
+-- array FIELD offset width count: `count` consecutive fields of `width` bytes, made by FIELD
+-- (`number` or `network`), the first at the offset
 abbrev pub array : (ℕ → ℕ → Field) → (offset width count : ℕ) → List Field
 array field offset width zero = []
 array field offset width (suc count) =
@@ -23,7 +24,8 @@ array field offset width (suc count) =
 abbrev pub bytes_at : (offset count : ℕ) → List Field
 bytes_at offset count = array (λ at width. byte at) offset 1 count
 
--- the numbers in the bytes, one for each field that is not ignored; of flags, only the defined bits
+-- the numbers in the bytes, in order, one for each field that is not ignored; of flags, only the
+-- defined bits
 abbrev pub values_of : List Field → List ℕ → List ℕ
 values_of [] b = []
 values_of (byte at ∷ fields) b = slice_index b at ∷ values_of fields b
@@ -33,7 +35,9 @@ values_of (flags at width mask ∷ fields) b =
     bit_and (little_number width (drop at b)) mask ∷ values_of fields b
 values_of (unread at written ∷ fields) b = values_of fields b
 
--- the bytes that the fields serialize to, given one number for each field that is not ignored
+-- The bytes that the fields serialize to, given one number for each field that is not ignored. The
+-- bytes of the fields are concatenated, and their offsets are not considered. Undefined flags are
+-- not removed. If a number is missing, nothing more is written.
 abbrev pub bytes_of : List Field → List ℕ → List ℕ
 bytes_of (unread at written ∷ fields) values = written ++ bytes_of fields values
 bytes_of (byte at ∷ fields) (n ∷ rest) = n ∷ bytes_of fields rest
@@ -47,7 +51,8 @@ abbrev pub first_numbers : ℕ → List ℕ → List ℕ
 first_numbers zero xs = []
 first_numbers (suc n) xs = slice_index xs 0 ∷ first_numbers n (drop 1 xs)
 
--- there is one number for each field that is not ignored, and it fits the field's width
+-- there is exactly one number for each field that is not ignored, and it fits the field's width;
+-- masks of flags are not considered
 abbrev pub FitFields : List Field → List ℕ → Type 0
 FitFields [] [] = Unit {0}
 FitFields (unread offset written ∷ fields) values = FitFields fields values
@@ -60,7 +65,7 @@ FitFields (flags offset width mask ∷ fields) (value ∷ values) =
     (value < 256 ^ width) × FitFields fields values
 FitFields _ _ = ⊥
 
--- each number of flags has only the bits of its mask
+-- each number of flags has only bits of its mask; the other fields are not considered
 abbrev pub HaveDefinedFlags : List Field → List ℕ → Type 0
 HaveDefinedFlags (unread offset written ∷ fields) values = HaveDefinedFlags fields values
 HaveDefinedFlags (flags at width mask ∷ fields) (n ∷ rest) =

@@ -69,7 +69,8 @@ impl<'a> NlaBuffer<'a> {
         })
     }
 
-    /// Returns the length field: 4 and the number of the value's bytes, without the padding.
+    /// Returns the length field (`nla_len`): 4 plus the number of the value's bytes, without the
+    /// padding.
     pub fn length(&self) -> u16
         ensures { result ≡ 4 + length (buffered_attribute self.now).value }
     {
@@ -83,21 +84,22 @@ impl<'a> NlaBuffer<'a> {
         self.type_word
     }
 
-    /// Returns the kind: the type field without its two flag bits.
+    /// Returns the kind: the lower 14 bits of the type field, without its two flag bits.
     pub fn kind(&self) -> u16
         ensures { result ≡ attribute_kind (buffered_attribute self.now) }
     {
         self.type_word & KIND
     }
 
-    /// Returns whether the type field has the flag for nested attributes.
+    /// Returns whether the type field has the flag for nested attributes (`NLA_F_NESTED`, bit 15).
     pub fn nested_flag(&self) -> bool
         ensures { IsTrue result ↔ IsBitSet (buffered_attribute self.now).type_word 15 }
     {
         self.type_word & NESTED != 0
     }
 
-    /// Returns whether the type field has the flag for network byte order.
+    /// Returns whether the type field has the flag for network byte order (`NLA_F_NET_BYTEORDER`,
+    /// bit 14).
     pub fn network_byte_order_flag(&self) -> bool
         ensures { IsTrue result ↔ IsBitSet (buffered_attribute self.now).type_word 14 }
     {
@@ -136,6 +138,7 @@ impl<'a> NlasIterator<'a> {
 
     /// Returns an iterator over the attributes in the bytes.
     pub fn new(bytes: &'a [u8]) -> NlasIterator<'a>
+        // unread_bytes: the bytes that the iterator has not read yet.
         ensures { unread_bytes result ≡ bytes.entry.now }
     {
         NlasIterator { bytes, at: 0 }
@@ -154,6 +157,9 @@ impl<'a> Iterator for NlasIterator<'a> {
     // At most one item for each four bytes, rounded up.
     ghost remaining = { λ walk. at_most ((length (unread_bytes walk) + 3) / 4) };
 
+    /// Returns the attribute at the start of the bytes that are left, and continues after its
+    /// padding. Returns the error of [`NlaBuffer::new_checked`] if these bytes do not start with an
+    /// attribute; then no bytes are left. Returns `None` if and only if no bytes were left.
     fn next(&mut self) -> Option<Result<NlaBuffer<'a>, DecodeError>> {
         if self.at >= self.bytes.len() {
             return None;
@@ -172,6 +178,8 @@ impl<'a> Iterator for NlasIterator<'a> {
 
     /// Returns `(0, None)`: the number of items is known only after iterating.
     fn size_hint(&self) -> (usize, Option<usize>)
+        // IsWithinCount n c: `n` is at most the bound `c`. UpTo c n: the bound `c` is at most `n`.
+        // Both follow from `unknown`.
         ensures lower { IsWithinCount result.0
             (at_most ((length (unread_bytes self.now) + 3) / 4)) }
         ensures upper { IfSome result.1
@@ -182,9 +190,10 @@ impl<'a> Iterator for NlasIterator<'a> {
     }
 }
 
-/// Returns the length rounded up to a multiple of 4.
+/// Returns the length rounded up to a multiple of 4 (`NLA_ALIGN`). The bound excludes overflow.
 pub fn padded(length: usize) -> usize
     requires { length < 2 ^ 32 }
+    // padding_length n: the number of bytes, 0 to 3, from `n` to the next multiple of 4.
     ensures { result ≡ length + padding_length length }
 {
     (length + 3) / 4 * 4

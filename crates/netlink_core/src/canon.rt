@@ -51,6 +51,8 @@ pub fn canonical<T: Wire + Drop>(
     bytes: &[u8],
     param: T::Param,
 ) -> Result<Vec<u8>, CanonError>
+    // HasCanonicalForm codec param bytes form: the bytes parse as a writable value, which
+    // serializes to `form`.
     ensures written { IfOk result (λ form. HasCanonicalForm T.codec param bytes.now form.items) }
     // Other bytes have the same canonical form if and only if they are equivalent to these bytes.
     ensures same { IfOk result (λ form. (others other_form : List ℕ) → IsBytes others

@@ -24,6 +24,7 @@ impl<'a> FramedMessages<'a> {
 
     /// Returns an iterator over the messages of this datagram.
     pub fn new(datagram: &'a [u8]) -> FramedMessages<'a>
+        // unread_messages: the bytes that the iterator has not read yet.
         ensures { unread_messages result ≡ datagram.entry.now }
     {
         FramedMessages {
@@ -46,8 +47,10 @@ impl<'a> Iterator for FramedMessages<'a> {
     // At most one item for each sixteen bytes, rounded up.
     ghost remaining = { λ messages. at_most ((length (unread_messages messages) + 15) / 16) };
 
-    /// Returns the next message. If the bytes that are left do not start with one, the errors are
-    /// those of [`NetlinkHeader::from_prefix`].
+    /// Returns the header and the bytes of the message at the start of the bytes that are left, and
+    /// continues after its padding. Returns the error of [`NetlinkHeader::from_prefix`] if these
+    /// bytes do not start with a message; then no bytes are left. Returns `None` if and only if no
+    /// bytes were left.
     #[inline(always)]
     fn next(&mut self) -> Option<Result<(NetlinkHeader, &'a [u8]), DecodeError>> {
         if self.at >= self.bytes.len() {
@@ -67,8 +70,10 @@ impl<'a> Iterator for FramedMessages<'a> {
         }
     }
 
-    /// Returns no bounds: only iterating shows how many messages are left.
+    /// Returns `(0, None)`: the number of items is known only after iterating.
     fn size_hint(&self) -> (usize, Option<usize>)
+        // IsWithinCount n c: `n` is at most the bound `c`. UpTo c n: the bound `c` is at most `n`.
+        // Both follow from `unknown`.
         ensures lower { IsWithinCount result.0
             (at_most ((length (unread_messages self.now) + 15) / 16)) }
         ensures upper { IfSome result.1
@@ -94,6 +99,7 @@ impl<'a> MessageStrings<'a> {
 
     /// Returns an iterator over the messages of this datagram.
     pub fn new(datagram: &'a [u8]) -> MessageStrings<'a>
+        // unread_datagram: the bytes that the iterator has not read yet.
         ensures { unread_datagram result ≡ datagram.entry.now }
     {
         MessageStrings {
@@ -115,8 +121,10 @@ impl<'a> Iterator for MessageStrings<'a> {
     // At most one item for each sixteen bytes, rounded up.
     ghost remaining = { λ messages. at_most ((length (unread_datagram messages) + 15) / 16) };
 
-    /// Returns the bytes of the next message. If the bytes that are left do not start with one, the
-    /// errors are those of [`NetlinkHeader::from_prefix`].
+    /// Returns the bytes of the message at the start of the bytes that are left, and continues
+    /// after its padding. Returns the error of [`NetlinkHeader::from_prefix`] if these bytes do not
+    /// start with a message; then no bytes are left. Returns `None` if and only if no bytes were
+    /// left.
     #[inline(always)]
     fn next(&mut self) -> Option<Result<&'a [u8], DecodeError>> {
         match self.messages.next()? {
@@ -125,8 +133,10 @@ impl<'a> Iterator for MessageStrings<'a> {
         }
     }
 
-    /// Returns no bounds: only iterating shows how many messages are left.
+    /// Returns `(0, None)`: the number of items is known only after iterating.
     fn size_hint(&self) -> (usize, Option<usize>)
+        // IsWithinCount n c: `n` is at most the bound `c`. UpTo c n: the bound `c` is at most `n`.
+        // Both follow from `unknown`.
         ensures lower { IsWithinCount result.0
             (at_most ((length (unread_datagram self.now) + 15) / 16)) }
         ensures upper { IfSome result.1

@@ -18,15 +18,19 @@ pub trait FamilyView<'a>: Nla + PartialEq + Sized {
 
     ghost model: { Self → AttributeValue attribute_set };
 
-    /// Parses one attribute.
+    /// Returns what the attribute decodes to by the family's set: a value of the first type of its
+    /// kind, or the raw attribute if no type has its kind. Fails with the error of the value.
     fn read_view(nla: &NlaBuffer<'a>) -> Result<Self, DecodeError>
+        // decode_attribute set attribute: `Ok` of the decoded value, or `Err` of the value's error.
+        // buffered_attribute: the type field and the value that `nla` holds.
         ensures value { IfOk result (λ view. decode_attribute attribute_set
             (buffered_attribute nla.now)
             ≡ Ok (model view)) }
         ensures fault { IfErr result (λ e. decode_attribute attribute_set
             (buffered_attribute nla.now) ≡ Err e) };
 
-    /// Parses one attribute that is known to be accepted.
+    /// Returns what the attribute decodes to by the family's set. The set must accept it:
+    /// `read_view` does not fail.
     fn read_accepted(nla: &NlaBuffer<'a>) -> Self
         requires { IsOk (decode_attribute attribute_set (buffered_attribute nla.now)) }
         ensures { decode_attribute attribute_set (buffered_attribute nla.now) ≡ Ok (model result) };
@@ -47,18 +51,20 @@ pub trait FamilyNla: Nla + PartialEq + MadeWith<Global> + Drop + Sized {
 
     ghost model: { Self → AttributeValue attribute_set };
 
-    /// Parses an attribute that is known to be accepted. Fails only if an allocation fails, and
-    /// never for a value that needs no memory.
+    /// Returns, owned, what the attribute decodes to by the family's set. The set must accept it.
+    /// Fails only if an allocation fails, and never for a value that needs no memory.
     fn own_accepted(alloc: Global, nla: &NlaBuffer<'_>) -> Result<Self, AllocError>
         requires { IsOk (decode_attribute attribute_set (buffered_attribute nla.now)) }
         ensures equal { IfOk result (λ own.
             decode_attribute attribute_set (buffered_attribute nla.now) ≡ Ok (model own)) }
+        // NeedsNoMemoryIn: the value is of a type whose values are stored without an allocation. A
+        // raw attribute never is.
         ensures spare { (value : AttributeValue attribute_set)
             → decode_attribute attribute_set (buffered_attribute nla.now) ≡ Ok value
             → NeedsNoMemoryIn attribute_set value → IsOk result };
 
-    /// Returns an equal attribute. Fails only if an allocation fails, and never for a value that
-    /// needs no memory.
+    /// Returns an attribute that decodes to the same value. Fails only if an allocation fails, and
+    /// never for a value that needs no memory.
     fn copy_nla(&self, alloc: Global) -> Result<Self, AllocError>
         ensures equal { IfOk result (λ copy. model copy ≡ model self.now) }
         ensures spare { NeedsNoMemoryIn attribute_set (model self.now) → IsOk result };

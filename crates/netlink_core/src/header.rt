@@ -30,8 +30,9 @@ pub struct NetlinkHeader {
 }
 
 impl NetlinkHeader {
-    /// Parses the header at the start of the bytes, which contain the whole message. The bytes
-    /// after the header are ignored. Nothing is allocated.
+    /// Parses the header of the message at the start of the bytes. The message must be complete,
+    /// that is, its length field is at least 16 and at most the number of bytes. The bytes after
+    /// the header are not looked at. Nothing is allocated.
     ///
     /// Fails with `EnvelopeCut` if there are fewer than 16 bytes, then with `EnvelopeLengthUnder16`
     /// if the length field is below 16, then with `EnvelopeLengthPast` if it is above the number of

@@ -48,11 +48,13 @@ use crate::{
 use std::alloc::AllocError;
 
 /// Bytes are split into attributes (`SplitsIntoAttributes`) exactly as follows. Empty bytes have no
-/// attributes. Other bytes begin with the first attribute. Either its padding is complete, and the
-/// remaining bytes are split into the later attributes; or its padding is short, nothing follows,
-/// and it is the last one.
+/// attributes. Other bytes begin with the first attribute, whose type field has 16 bits and whose
+/// value fits its length field. Either its padding is complete, and the remaining bytes are split
+/// into the later attributes; or its padding is short, nothing follows, and it is the last one.
 pub fn cut_is_as_stated()
     ensures none { (bytes : List ℕ) → SplitsIntoAttributes bytes [] [] ↔ (bytes ≡ []) }
+    // header_and_value: the attribute without its padding. padding_length n: the number of bytes
+    // from `n` to the next multiple of 4.
     ensures some { (bytes : List ℕ) (a : Attribute) (later : List Attribute)
         → SplitsIntoAttributes bytes (a ∷ later) [] ↔ ((padding rest : List ℕ)
         × (bytes ≡ header_and_value a ++ (padding ++ rest))
@@ -99,9 +101,13 @@ pub fn attributes_take_memory() -> bool
     DefaultNla::TAKES_MEMORY
 }
 
-/// For any set of attribute types, the value of a type is found under the number of its type, and
-/// under no other number. Nothing is found under a number that no type has.
+/// For any set of attribute types, a value of a kind in the set is found under this kind. No value,
+/// and no raw attribute, is found under another kind than its own. Nothing is found under a kind
+/// that is not in the set.
 pub fn content_is_of_its_type<T: FamilyNla>()
+    // value_as_decoded set k x: `x`, a value of the kind `k`, as a decoded value; a raw attribute
+    // if `k` is not in the set. value_of_kind set k v: the value of the kind `k` in the decoded
+    // value `v`, or `None`.
     ensures own { (k : ℕ) (x : ValueOfKind T.attribute_set k)
         → Contains (kind_numbers T.attribute_set) k
         → value_of_kind T.attribute_set k (value_as_decoded T.attribute_set k x) ≡ Some x }
@@ -118,6 +124,8 @@ pub fn whole_walk_is_the_cut()
     ensures ended { (walk : NlasIterator) (given : List NlaBuffer)
         → Drains YieldsAttribute walk (map (λ (b : NlaBuffer). Ok b) given)
         → SplitsIntoAttributes (unread_bytes walk) (map buffered_attribute given) [] }
+    // SplitsUntilError faulty bytes attributes e: the bytes are these attributes, and then at least
+    // one byte more, whose error is `e`.
     ensures fault { (walk last : NlasIterator) (given : List NlaBuffer) (e : DecodeError)
         → YieldsThen YieldsAttribute walk (map (λ (b : NlaBuffer). Ok b) given) (Some (Err e)) last
         → SplitsUntilError IsFramingError (unread_bytes walk) (map buffered_attribute given) e
@@ -254,7 +262,6 @@ pub fn equal_messages_where_idle<I: Coded<Param = u16>>()
 {}
 
 /// Two inputs with canonical forms have the same one if and only if they are equivalent (`idle`).
-/// The canonical form of a message has its header unchanged.
 pub fn messages_written_alike<I: Coded<Param = u16>>()
     ensures { (b c form other : List ℕ) → IsBytes b → IsBytes c
         → HasCanonicalForm (netlink_codec I.codec) tt b form
@@ -262,9 +269,12 @@ pub fn messages_written_alike<I: Coded<Param = u16>>()
         → ((form ≡ other) ↔ (netlink_codec I.codec).idle tt b c) }
 {}
 
-/// A writable message whose header has the length and the type that `finalize` sets round-trips if
-/// and only if it is in normal form.
+/// A message that is writable and in range, and whose header has the length and the type that
+/// `finalize` sets, round-trips if and only if it is in normal form. This holds for any function
+/// `type_of` that maps inner messages to types.
 pub fn finalized_message_reads_back<I: Coded<Param = u16>>()
+    // finalized_header bytes type_of message: the header of `message` with the length and the type
+    // of its payload.
     ensures { (type_of : I.codec.Value → ℕ) (v : NetlinkMessageModel I.codec.Value)
         → (netlink_codec I.codec).is_in_range v → (netlink_codec I.codec).fits v
         → (v.header ≡ finalized_header I.codec.written type_of v)
@@ -286,14 +296,18 @@ pub fn whole_walk_is_the_datagram()
         × (unread_datagram last ≡ []) }
 {}
 
-/// A datagram is split into at most one list of messages, with at most one end.
+/// A datagram is split into at most one list of messages. The error at its end, or that there is
+/// none, is unique too.
 pub fn one_list_of_messages()
+    // SplitsIntoMessages bytes messages end: `end` is `None` if no bytes are left after the
+    // messages, else the error of the bytes that are left.
     ensures { (bytes : List ℕ) (xs ys : List (List ℕ)) (e f : Option DecodeError)
         → SplitsIntoMessages bytes xs e → SplitsIntoMessages bytes ys f → (xs ≡ ys) × (e ≡ f) }
 {}
 
-/// Each datagram has a list of items.
+/// Each datagram has a list of items: the payload or the error of each of its messages.
 pub fn datagram_has_items<I: Coded<Param = u16>>()
+    // AreItemsOf is bytes items: the items of the datagram. `is` relates a message to its item.
     ensures { (bytes : List ℕ) → IsBytes bytes
         → (items : List (Result (Payload I.codec.Value) DecodeError))
         × AreItemsOf (IsItemOf I.codec) bytes items }
@@ -319,7 +333,7 @@ pub fn items_of_concatenation<I: Coded<Param = u16>>()
         → AreItemsOf (IsItemOf I.codec) (front ++ back) (xs ++ ys) }
 {}
 
-/// The constants have the numbers of netlink(7).
+/// The constants have the numbers of linux/netlink.h.
 pub fn message_constants_have_their_numbers()
     ensures noop { NLMSG_NOOP ≡ 1 }
     ensures error { NLMSG_ERROR ≡ 2 }

@@ -79,12 +79,13 @@ pub trait NetlinkSerializable: Coded<Param = u16> {
     fn message_type(&self) -> u16
         ensures { result ≡ Self.type_written (Self.model self.now) };
 
-    /// Returns the number of bytes that `serialize` writes.
+    /// Returns the number of bytes that `serialize` writes. The message must be writable.
     fn buffer_len(&self) -> usize
         requires { Self.codec.fits (Self.model self.now) }
         ensures { result ≡ length (Self.codec.written (Self.model self.now)) };
 
-    /// Serializes the message to the start of the buffer. The bytes after it are unchanged.
+    /// Serializes the message to the start of the buffer. The bytes after it are unchanged. The
+    /// message must be writable, and the buffer at least as long as its bytes.
     fn serialize(&self, buffer: &mut [u8])
         requires writable { Self.codec.fits (Self.model self.now) }
         requires room { length (Self.codec.written (Self.model self.now)) ≤ length buffer.old }
@@ -94,8 +95,9 @@ pub trait NetlinkSerializable: Coded<Param = u16> {
 /// A message of a protocol that is parsed from the payload of a netlink message, under the type in
 /// the netlink header.
 pub trait NetlinkDeserializable: Coded<Param = u16> {
-    /// Parses a message under the header's type, or returns the first decode error. No other field
-    /// of the header matters.
+    /// Parses a message under the header's type (`nlmsg_type`), or returns the first decode error.
+    /// No other field of the header matters. Fails with `Memory` only if the payload has a message
+    /// that needs to allocate.
     fn deserialize(
         alloc: Global,
         header: &NetlinkHeader,
@@ -139,9 +141,10 @@ impl<I: Copy, B: Copy> Clone for NetlinkPayload<I, B> {
     }
 }
 
-/// Returns the error number at the start of the payload of an `NLMSG_ERROR` or `NLMSG_DONE`: 0 for
-/// an acknowledgement or a complete dump, else `-errno` (errno(3)). It has 4 bytes and is
-/// little-endian. Returns `None` if the payload is shorter.
+/// Returns the error number at the start of the payload of an `NLMSG_ERROR` or `NLMSG_DONE`: 4
+/// bytes, little-endian, signed. It is 0 for an acknowledgement or a complete dump, else `-errno`
+/// (errno(3)). Returns `None` if the payload has fewer than 4 bytes. The bytes after these are
+/// ignored.
 pub fn error_number(payload: &[u8]) -> Option<i32>
     ensures { result ≡ leading_error_number payload.now }
 {
@@ -152,9 +155,12 @@ pub fn error_number(payload: &[u8]) -> Option<i32>
 }
 
 impl<I: Coded> NetlinkPayload<I> {
-    /// Returns the error number of an error or of the end of a dump, as [`error_number`] does, and
-    /// `None` for any other payload.
+    /// Returns the error number at the start of an `NLMSG_ERROR` or `NLMSG_DONE`: 4 bytes,
+    /// little-endian, 0 or `-errno` (errno(3)). Returns `None` if this payload has fewer than 4
+    /// bytes, and for any other payload.
     pub fn error_number(&self) -> Option<i32>
+        // payload_model bytes model payload: the model of the payload, with raw bytes as a list
+        // (here those of a `Vec`), and an inner message as its model.
         ensures { result ≡ error_number_of (payload_model vec_items I.model self.now) }
     {
         match self {
@@ -165,9 +171,12 @@ impl<I: Coded> NetlinkPayload<I> {
 }
 
 impl<I> NetlinkPayload<I, &[u8]> {
-    /// Returns the error number of an error or of the end of a dump, as [`error_number`] does, and
-    /// `None` for any other payload.
+    /// Returns the error number at the start of an `NLMSG_ERROR` or `NLMSG_DONE`: 4 bytes,
+    /// little-endian, 0 or `-errno` (errno(3)). Returns `None` if this payload has fewer than 4
+    /// bytes, and for any other payload.
     pub fn error_number(&self) -> Option<i32>
+        // payload_model bytes model payload: the model of the payload, with raw bytes as a list
+        // (here those of a `&[u8]`), and an inner message unchanged.
         ensures { result ≡ error_number_of (payload_model (λ (b : Bor (List ℕ)). b.now) (λ m. m)
             self.now) }
     {
@@ -309,8 +318,9 @@ impl<I: NetlinkDeserializable> NetlinkMessage<I> {
     ///
     /// Fails with `EnvelopeCut` if there are fewer than 16 bytes, then with `EnvelopeLengthUnder16`
     /// if the length field is below 16, then with `EnvelopeLengthPast` if it is above the number of
-    /// bytes, then with the error of the inner message. Fails with `Memory` only if the bytes have
-    /// a message, and its type is not `NLMSG_NOOP`, whose payload is dropped.
+    /// bytes, then with the error of the inner message. The types 1 to 4 (`NLMSG_NOOP` to
+    /// `NLMSG_OVERRUN`) have no inner message. Fails with `Memory` only if the bytes have a
+    /// message, and its type is not `NLMSG_NOOP`, whose payload is dropped.
     pub fn deserialize(alloc: Global, bytes: &[u8]) -> Result<Self, DecodeError>
         // The bytes start with this header, and the payload up to the header's length parses by its
         // type.
@@ -318,6 +328,7 @@ impl<I: NetlinkDeserializable> NetlinkMessage<I> {
             (λ m. (netlink_codec I.codec).reads bytes.now tt (netlink_message_model I.model m)) }
         ensures fault { IfErr result (λ e. e ≢ Memory
             → (netlink_codec I.codec).refuses bytes.now tt e) }
+        // message_type_in: `nlmsg_type`, at offset 4.
         ensures memory { IfErr result (λ e. e ≡ Memory → message_type_in bytes.now ≢ NLMSG_NOOP) }
         // `Memory` only if the bytes have a message.
         ensures wanted { IfErr result (λ e. e ≡ Memory → (m : NetlinkMessageModel I.codec.Value)
@@ -331,9 +342,13 @@ impl<I: NetlinkDeserializable> NetlinkMessage<I> {
 }
 
 impl<I: NetlinkSerializable> NetlinkMessage<I> {
-    /// Sets the header's length to the length of the message, and its type to the payload's type.
+    /// Sets the header's length to the length of the message in bytes, including the 16 of the
+    /// header, and its type to the payload's type. The other fields of the header and the payload
+    /// are unchanged. The message must be writable.
     pub fn finalize(&mut self)
         requires { (netlink_codec I.codec).fits (netlink_message_model I.model self.old) }
+        // finalized_header bytes type_of message: the header of `message` with the length and the
+        // type of its payload. `bytes` and `type_of` are those of an inner message.
         ensures header { self.new.header ≡ finalized_header I.codec.written I.type_written
             (netlink_message_model I.model self.old) }
         ensures payload { self.new.payload ≡ self.old.payload }
@@ -351,7 +366,8 @@ impl<I: NetlinkSerializable> NetlinkMessage<I> {
         self.payload.is_writable() && self.payload.buffer_len() <= LONGEST - NETLINK_HEADER_LEN
     }
 
-    /// Returns the number of bytes that `serialize` writes.
+    /// Returns the number of bytes that `serialize` writes, including the 16 of the header. The
+    /// message must be writable.
     pub fn buffer_len(&self) -> usize
         requires { (netlink_codec I.codec).fits (netlink_message_model I.model self.now) }
         ensures { result ≡ length ((netlink_codec I.codec).written
@@ -361,7 +377,8 @@ impl<I: NetlinkSerializable> NetlinkMessage<I> {
     }
 
     /// Serializes the header, unchanged, and the payload to the start of the buffer. The bytes
-    /// after them are unchanged.
+    /// after them are unchanged. The message must be writable, and the buffer at least as long as
+    /// its bytes.
     pub fn serialize(&self, buffer: &mut [u8])
         requires writable { (netlink_codec I.codec).fits (netlink_message_model I.model self.now) }
         requires room { length ((netlink_codec I.codec).written

@@ -31,7 +31,9 @@ pub trait Nla {
     fn kind(&self) -> u16
         ensures { result ≡ (attribute self.now).type_word };
 
-    /// Serializes the value to the start of the buffer. The bytes after it are unchanged.
+    /// Serializes the value, without header and padding, to the start of the buffer. The bytes
+    /// after it are unchanged. The value must have at most 65,531 bytes, and the buffer at least as
+    /// many as the value.
     fn emit_value(&self, buffer: &mut [u8])
         requires fits { FitsLengthField (attribute self.now) }
         requires room { length (attribute self.now).value ≤ length buffer.old }
@@ -49,12 +51,14 @@ pub trait Nla {
 /// A value that is parsed and serialized as one attribute. It is writable if and only if the length
 /// of its value fits the length field.
 pub trait WireNla: Nla + Wire {
+    // The value serializes to its attribute: header, value and padding of zeros.
     ghost emitted_is: { (v : Self) → Self.bytes v ≡ attribute_bytes (Self.attribute v) };
 
     ghost writable_is: { (v : Self) → (Self.writable v ↔ FitsLengthField (Self.attribute v)) };
 }
 
-/// Returns the number of the attribute's bytes, with header and padding.
+/// Returns the number of the attribute's bytes, with header and padding. Its value must fit its
+/// length field: it has at most 65,531 bytes.
 pub fn nla_len<T: Nla>(nla: &T) -> usize
     requires { FitsLengthField (T.attribute nla.now) }
     ensures { result ≡ length (attribute_bytes (T.attribute nla.now)) }
@@ -63,7 +67,8 @@ pub fn nla_len<T: Nla>(nla: &T) -> usize
 }
 
 /// Serializes the attribute to the start of the buffer, with zeros as its padding. The bytes after
-/// it are unchanged.
+/// it are unchanged. Its value must have at most 65,531 bytes, and the buffer at least as many as
+/// the attribute with its padding.
 pub fn emit_nla<T: Nla>(nla: &T, buffer: &mut [u8])
     requires fits { FitsLengthField (T.attribute nla.now) }
     requires room { length (attribute_bytes (T.attribute nla.now)) ≤ length buffer.old }
@@ -103,6 +108,8 @@ fn zero_padding(padding: &mut [u8])
 /// Returns the number of the attributes' bytes, with headers and paddings, or `None` if a value
 /// does not fit its length field or the attributes have more than `limit` bytes.
 pub fn nlas_len_within<T: Nla>(nlas: &[T], limit: usize) -> Option<usize>
+    // AreWritableWithin attributes limit: each value has at most 65,531 bytes, and all attributes
+    // with headers and paddings have at most `limit` bytes.
     ensures { SomeIff result (AreWritableWithin (map T.attribute nlas.now) limit)
         (length (flat_map attribute_bytes (map T.attribute nlas.now))) }
 {
@@ -120,15 +127,16 @@ pub fn nlas_len_within<T: Nla>(nlas: &[T], limit: usize) -> Option<usize>
     Some(limit - room)
 }
 
-/// Returns whether each value fits its length field, and all attributes together have at most
-/// 4,294,967,295 bytes.
+/// Returns whether each value fits its length field (at most 65,531 bytes), and all attributes,
+/// with headers and paddings, have at most 4,294,967,295 bytes.
 pub fn nlas_writable<T: Nla>(nlas: &[T]) -> bool
     ensures { IsTrue result ↔ AreWritableWithin (map T.attribute nlas.now) 4294967295 }
 {
     nlas_len_within(nlas, u32::MAX as usize).is_some()
 }
 
-/// Returns the number of the attributes' bytes, with headers and paddings.
+/// Returns the number of the attributes' bytes, with headers and paddings. They must be writable:
+/// [`nlas_writable`] returns `true`.
 pub fn nlas_len<T: Nla>(nlas: &[T]) -> usize
     requires { AreWritableWithin (map T.attribute nlas.now) 4294967295 }
     ensures { result ≡ length (flat_map attribute_bytes (map T.attribute nlas.now)) }
@@ -140,8 +148,9 @@ pub fn nlas_len<T: Nla>(nlas: &[T]) -> usize
     len
 }
 
-/// Serializes the attributes, in order, to the start of the buffer. The bytes after them are
-/// unchanged.
+/// Serializes the attributes, in order and each with zeros as its padding, to the start of the
+/// buffer. The bytes after them are unchanged. They must be writable ([`nlas_writable`] returns
+/// `true`), and the buffer must be at least as long as their bytes.
 pub fn emit_nlas<T: Nla>(nlas: &[T], buffer: &mut [u8])
     requires fits { AreWritableWithin (map T.attribute nlas.now) 4294967295 }
     requires room { length (flat_map attribute_bytes (map T.attribute nlas.now))

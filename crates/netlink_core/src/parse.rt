@@ -11,8 +11,10 @@ use byteorder::{ByteOrder, LittleEndian};
 use std::alloc::Global;
 use std::str;
 
-/// Parses a number of exactly one byte. Any other length is `WrongLength` without a kind.
+/// Parses a number of exactly one byte. Any other length is `WrongLength` without a kind, with the
+/// number of bytes and the 1 that is needed.
 pub fn parse_u8(payload: &[u8]) -> Result<u8, DecodeError>
+    // number_of_width kind width bytes: the little-endian number, or the error.
     ensures { result ≡ number_of_width None 1 payload.now }
 {
     match payload {
@@ -22,7 +24,7 @@ pub fn parse_u8(payload: &[u8]) -> Result<u8, DecodeError>
 }
 
 /// Parses a little-endian number of exactly four bytes. Any other length is `WrongLength` without a
-/// kind.
+/// kind, with the number of bytes and the 4 that are needed.
 pub fn parse_u32(payload: &[u8]) -> Result<u32, DecodeError>
     ensures { result ≡ number_of_width None 4 payload.now }
 {
@@ -47,6 +49,7 @@ fn wrong_length(payload: &[u8], need: usize) -> DecodeError
 ///
 /// Fails with `NotUtf8` if this is not valid UTF-8, and with `Memory` only if the bytes are a text.
 pub fn parse_string(alloc: Global, payload: &[u8]) -> Result<String, DecodeError>
+    // parse_text: `Ok` of the text's bytes, or `Err NotUtf8`.
     ensures value { IfOk result (λ text. parse_text payload.now ≡ Ok (string_bytes text)) }
     ensures fault { IfErr result (λ e. e ≢ Memory → parse_text payload.now ≡ Err e) }
     ensures memory { IfErr result (λ e. e ≡ Memory → IsOk (parse_text payload.now)) }
@@ -59,6 +62,7 @@ pub fn parse_string(alloc: Global, payload: &[u8]) -> Result<String, DecodeError
 #[tactic(auto, using(crate::proofs::Texts::valid_utf8_is_text, crate::proofs::Texts::invalid_utf8_is_no_text))]
 #[inline(always)]
 pub fn parse_str(payload: &[u8]) -> Result<&str, DecodeError>
+    // parse_text: `Ok` of the text's bytes, or `Err NotUtf8`.
     ensures value { IfOk result (λ text. parse_text payload.entry.now ≡ Ok text.now) }
     ensures fault { IfErr result (λ e. parse_text payload.entry.now ≡ Err e) }
 {
@@ -78,7 +82,8 @@ fn text_bytes(payload: &[u8]) -> &[u8]
     }
 }
 
-/// Writes the number, little-endian, to the first four bytes. The bytes after it are unchanged.
+/// Writes the number, little-endian, to the first four bytes. There must be four. The bytes after
+/// them are unchanged.
 pub fn emit_u32(buffer: &mut [u8], value: u32)
     requires { 4 ≤ length buffer.old }
     ensures { buffer.new ≡ little_bytes 4 value ++ drop 4 buffer.old }

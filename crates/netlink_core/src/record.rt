@@ -30,16 +30,20 @@ pub trait Record: Exact + Sized {
     fn name_and_least() -> (RecordName, usize)
         ensures { result ≡ (layout.name, layout.least) };
 
-    /// Returns the number of the value's bytes.
+    /// Returns the number of bytes that the value serializes to.
     fn size(&self) -> usize
         ensures { result ≡ length (record_bytes layout self.now) };
 
-    /// Parses a value from enough bytes, or returns the first decode error.
+    /// Parses a value, or returns the error that the layout has for these bytes, for example an
+    /// unsupported family. There must be at least as many bytes as the layout needs (`least`).
     fn from_fields(bytes: &[u8], param: Self::Param) -> Result<Self, DecodeError>
         requires { layout.least ≤ length bytes.now }
+        // parse_fields: the numbers in the layout's fields as a value, without a check of the
+        // length.
         ensures { result ≡ parse_fields layout param bytes.now };
 
-    /// Serializes the value over any bytes.
+    /// Replaces the content of the buffer by the bytes that the value serializes to. The buffer
+    /// must have exactly their length.
     fn write_fields(&self, buffer: &mut [u8])
         requires { length buffer.old ≡ length (record_bytes layout self.now) }
         ensures { buffer.new ≡ record_bytes layout self.now };
@@ -52,7 +56,10 @@ pub trait Record: Exact + Sized {
     ghost laws: { RecordLaws layout };
 }
 
-/// Parses the record at the start of the bytes.
+/// Parses the record at the start of the bytes. Bytes after it are ignored. Fails with
+/// `BufferTooSmall` if there are fewer bytes than the layout needs (`least`), then with the error
+/// that the layout has for these bytes, for example an unsupported family. Never fails with
+/// `Memory`.
 #[inline(always)]
 pub fn read_record<T: Record>(bytes: &[u8], param: T::Param) -> Result<T, DecodeError>
     ensures value { result ≡ parse_record T.layout param bytes.now }
@@ -196,6 +203,7 @@ impl<T, const N: usize> RecordBuffer<T, N> {
 }
 
 impl<T: Fills<N>, const N: usize> From<&T> for RecordBuffer<T, N> {
+    // The buffer contains the bytes that the record serializes to.
     ghost from_gives = { λ value buffer. buffer ≡ record_bytes T.layout value.now };
 
     fn from(value: &T) -> Self {

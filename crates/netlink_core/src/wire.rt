@@ -115,8 +115,11 @@ pub trait Coded: PartialEq + Sized {
 
 /// A type that is parsed and serialized as its codec states.
 pub trait Wire: Coded + Readable + Emitable {
-    /// Parses a value, or returns the first decode error.
+    /// Parses a value, or returns the first decode error. Fails with `Memory` only if a parser of
+    /// the type can (`TAKES_MEMORY`), and if the bytes have a value that needs to allocate.
     fn read(alloc: Global, bytes: &[u8], param: Self::Param) -> Result<Self, DecodeError>
+        // The bytes are below 256, and the parameter fits its type. This is so for all Rust values;
+        // it is stated for the proofs of callers.
         ensures in_range { IsBytes bytes.now }
         ensures param_in_range { Self.Param.is_in_range param }
         ensures value { IfOk result (λ v. Self.codec.reads bytes.now param (Self.model v)) }
@@ -127,28 +130,34 @@ pub trait Wire: Coded + Readable + Emitable {
             → (v : Self.codec.Value) × Self.codec.reads bytes.now param v
             × ¬ Self.codec.is_spare v) };
 
-    /// Returns the bytes that the value of the bytes serializes to, as
-    /// [`canonical`](crate::canonical) does.
+    /// Returns the canonical form of the bytes, as [`canonical`](crate::canonical) does: the bytes
+    /// that their value serializes to. Fails with `Refused` and the first decode error, with
+    /// `Unwritable` if the value is not writable, and with `Memory` only if it is.
     // A type that has a view serializes the view. Parsing an owned value could run out of memory,
     // even if the value is not writable.
     fn rewrite(alloc: Global, bytes: &[u8], param: Self::Param) -> Result<Vec<u8>, CanonError>
     where
         Self: Drop,
+        // The bytes are below 256. This is so for all Rust values; it is stated for the proofs of
+        // callers.
         ensures in_range { IsBytes bytes.now }
         ensures written { IfOk result (λ form.
             HasCanonicalForm Self.codec param bytes.now form.items) }
         ensures err { IfErr result (HasNoCanonicalForm Self.codec param bytes.now) };
 
-    // `Emitable` serializes as the codec does.
+    // `Emitable` serializes to the bytes that the codec states.
     ghost written_is: { (v : Self) → Self.bytes v ≡ Self.codec.written (Self.model v) };
 
+    // A value is writable for `Emitable` if and only if it is writable by the codec.
     ghost fits_is: { (v : Self) → (Self.writable v ↔ Self.codec.fits (Self.model v)) };
 }
 
-/// Serializes a value to a new vector. Fails with `Unwritable` if the value is not writable, and
-/// with `Memory` only if it is.
+/// Serializes a value to a new vector of exactly its bytes. Fails with `Unwritable` if the value is
+/// not writable, and with `Memory` only if it is.
 pub fn write_new<T: Emitable>(alloc: Global, value: &T) -> Result<Vec<u8>, CanonError>
     ensures written { IfOk result (λ c. T.writable value.now × (c.items ≡ T.bytes value.now)) }
+    // CanonicalFails reads refuses fits error: why nothing is returned. Here the only value is this
+    // one (`reads`), and there are no decode errors (`refuses`).
     ensures err { IfErr result (CanonicalFails (λ v. v ≡ value.now) (λ fault. ⊥) T.writable) }
 {
     let Some(len) = value.writable_len() else {
@@ -159,13 +168,13 @@ pub fn write_new<T: Emitable>(alloc: Global, value: &T) -> Result<Vec<u8>, Canon
     Ok(written)
 }
 
-/// Proof only: puts the range of each byte in scope. No run-time effect. Like [`word_in_range`] it
-/// is for implementations of [`Coded::in_range`].
+/// Proof only: puts in scope that each byte is below 256. No run-time effect. Like
+/// [`word_in_range`] it is for implementations of [`Coded::in_range`].
 pub fn bytes_in_range(_bytes: &[u8])
     ensures { IsBytes _bytes.now }
 {}
 
-/// Proof only: puts the range of the number in scope. No run-time effect.
+/// Proof only: puts in scope that the number is below 2^32. No run-time effect.
 pub fn word_in_range(_word: u32)
     ensures { _word < 256 ^ 4 }
 {}

@@ -21,10 +21,10 @@ use Rattle.sock_diag_lines.specs.declared.answers.Name.TheVariants.{InetRequest,
 use Rattle.sock_diag_lines.specs.declared.answers.Name.TheVariants.{SocketId4, SocketId6, Message}
 use Rattle.sock_diag_lines.specs.declared.answers.Name.TheVariants.{NetlinkMessage, UnixView}
 
--- The spelling of each name, the codec of its bytes with its parameter, and the text of a value.
--- The parameter of a socket id is the address family, AF_INET (2) or AF_INET6 (10). The parameter
--- of a message is its type, SOCK_DIAG_BY_FAMILY (20). The text is the canonical form in hex, except
--- for the last two names.
+-- The spelling of each name; then the codec of its bytes, the codec's parameter, and the text of a
+-- value. The parameter of a socket id is the address family, AF_INET (2) or AF_INET6 (10). The
+-- parameter of a message is its type, SOCK_DIAG_BY_FAMILY (20). The others have none, `tt`. The
+-- text is the canonical form in hex, except for the last two names.
 abbrev pub name_entry : Name → List ℕ × AnswerCodec
 name_entry UnixRequest = (codes "unixreq", answer_codec (record_codec unix_request) tt)
 name_entry UnixResponse = (codes "unix", answer_codec (response_codec unix_response_spec) tt)
@@ -40,7 +40,8 @@ name_entry NetlinkMessage = (codes "netlink", (_, netlink_message_codec, tt, net
 name_entry UnixView = let replies = record (response_codec unix_response_spec) { fits = λ v. ⊤ } in
     (codes "unixview", (_, replies, tt, reply_text))
 
--- the line is this name, one space and a hex field of these bytes
+-- IsRequest line name b: the line is the spelling of this name, one space (32) and a hex field of
+-- the bytes `b`
 abbrev pub IsRequest : List ℕ → Name → List ℕ → Type 0
 IsRequest line name b = (hex : List ℕ) × (line ≡ (name_entry name).0 ++ 32 ∷ hex) × IsHexField hex b
 
@@ -55,6 +56,6 @@ pub record IsAnswerOf (line text : List ℕ) : Type 0 where
   pub other : ((name : Name) (b : List ℕ) → ¬ IsRequest line name b)
       → ((datagrams : List (List ℕ)) → ¬ IsDumpRequest line datagrams) → text ≡ codes "bad line"
 
--- the answer starts with `ok `, and it is not a dump that failed
+-- the answer starts with `ok `, and not with `ok failed`, which only the answer to a dump does
 abbrev pub is_good : List ℕ → Bool
 is_good text = starts_with eqb text (codes "ok ") && not (starts_with eqb text (codes "ok failed"))

@@ -20,10 +20,12 @@ IsAnswerText {Value} reads refuses fits text_of text =
 abbrev pub AnswerCodec : Type 1
 AnswerCodec = (Param : Type 0) × (C : Codec Param) × Param × (C.Value → List ℕ)
 
--- a codec and a parameter; a value is shown as the hex field of the bytes that it serializes to
+-- answer_codec C param: the codec `C` with this parameter; a value is shown as the hex field of the
+-- bytes that it serializes to
 abbrev pub answer_codec : {Param : Type 0} → Codec Param → Param → AnswerCodec
 answer_codec C param = (_, C, param, λ v. hex_field_of (C.written v))
 
--- the text answers the bytes under this subject
+-- IsAnswerUnder (Param, C, p, text_of) b text: the text answers the bytes `b` under the codec `C`
+-- and the parameter `p`; a value is shown by `text_of`
 abbrev pub IsAnswerUnder : AnswerCodec → List ℕ → List ℕ → Type 0
 IsAnswerUnder (_, C, p, text_of) b = IsAnswerText (C.reads b p) (C.refuses b p) C.fits text_of

@@ -12,14 +12,14 @@ use Rattle.netlink_packet_sock_diag.specs.Message.{Message, message_codec}
 use Rattle.sock_diag_lines.specs.HexField.{IsHexField, hex_field_of}
 use Rattle.sock_diag_lines.specs.AnswerText.{IsAnswerText}
 
--- the line is `dump`, a space, and one or more hex fields separated by one space, 32, whose bytes
--- are these datagrams
+-- IsDumpRequest line datagrams: the line is `dump`, a space, and one or more hex fields separated
+-- by one space (32), whose bytes are these datagrams
 abbrev pub IsDumpRequest : List ℕ → List (List ℕ) → Type 0
 IsDumpRequest line datagrams = (fields : List ℕ) × (line ≡ codes "dump" ++ 32 ∷ fields)
     × AllZip IsHexField (slice_split (λ c. c == 32) fields) datagrams
 
--- The name of the state, or `failed:` and the code of the error. No dump ends with
--- `Ok (Failed, _)`.
+-- The name of the state in which a dump ended, or `failed:` and the code of the decode error in
+-- decimal. The error number of the state is not shown. No dump ends with `Ok (Failed, _)`.
 abbrev pub dump_state_text : Result DumpStatus DecodeError → List ℕ
 dump_state_text (Ok (Reading, number)) = codes "reading"
 dump_state_text (Ok (Done, number)) = codes "done"
@@ -28,14 +28,16 @@ dump_state_text (Ok (Overrun, number)) = codes "overrun"
 dump_state_text (Ok (Failed, number)) = codes "failed"
 dump_state_text (Err fault) = codes "failed:" ++ decimal (error_code fault)
 
--- dump_text (messages, end): the state, a space, and the number of messages; then a space and a hex
--- field for each message
+-- dump_text (messages, end): the state, a space (32), and the number of messages in decimal; then a
+-- space and a hex field for each message. For example: `done 1 0200..`
 abbrev pub dump_text : List Message × Result DumpStatus DecodeError → List ℕ
 dump_text dump = dump_state_text dump.1 ++ 32 ∷ decimal (length dump.0)
     ++ flat_map (λ message. 32 ∷ hex_field_of (message_codec.written message)) dump.0
 
--- The text answers the dump over the datagrams. It is never `refused`, and it is `unwritable`
--- unless each message of the dump is writable.
+-- IsDumpAnswer given text: the text answers the dump over the datagrams `given`. `DumpOfDatagrams
+-- is [] given messages end` says that a dump without messages, fed with these datagrams, ends with
+-- these messages and this end; here `d` is the pair (messages, end). The answer is never `refused`.
+-- It is `unwritable` if and only if a message of the dump is not writable.
 abbrev pub IsDumpAnswer : List (List ℕ) → List ℕ → Type 0
 IsDumpAnswer given = IsAnswerText (λ d. DumpOfDatagrams (IsItemOf message_codec) [] given d.0 d.1)
     (λ e. ⊥) (λ d. AllByRecursion message_codec.fits d.0) dump_text

@@ -16,11 +16,11 @@ use Rattle.sock_diag_replies.specs.UnixGetters.{nonlistening_queue_of}
 use Rattle.sock_diag_replies.specs.UnixResponseSpec.{unix_response_spec}
 use Rattle.sock_diag_lines.specs.HexField.{hex_field_of}
 
--- the text of a value, or `none` if it is absent
+-- or_none text_of found: the text of a value, or `none` if it is absent
 abbrev pub or_none : {A : Type 0} → (A → List ℕ) → Option A → List ℕ
 or_none text_of found = unwrap_or (option_map text_of found) (codes "none")
 
--- the kind of a name, and its bytes as a hex field
+-- `path:` or `abstract:`, by the kind of a name, and its bytes as a hex field
 abbrev pub socket_name_text : SocketName (List ℕ) → List ℕ
 socket_name_text (Pathname path) = codes "path:" ++ hex_field_of path
 socket_name_text (Abstract address) = codes "abstract:" ++ hex_field_of address
@@ -29,9 +29,9 @@ socket_name_text (Abstract address) = codes "abstract:" ++ hex_field_of address
 abbrev pub comma_list : List ℕ → List ℕ
 comma_list ns = if length ns == 0 then codes "-" else join_by decimal (codes ",") ns
 
--- Thirteen values separated by one space, 32: three of the header, and one for each getter.
--- `found k` is the value of the first attribute of type k, and `both` are the two numbers of a
--- pair. A value that is absent is `none`.
+-- Thirteen values separated by one space (32): `udiag_type`, `udiag_state` and `udiag_ino` of the
+-- header, and ten of the attributes. `found k` is the value of the first attribute of type k, and
+-- `both` are the two numbers of a pair. A value that is absent is `none`.
 abbrev pub reply_text : ReplyValue unix_response_spec → List ℕ
 reply_text v = let found = λ (k : ℕ). first_content_of (value_of_kind unix_attribute_set k)
     v.nlas in
@@ -40,10 +40,10 @@ reply_text v = let found = λ (k : ℕ). first_content_of (value_of_kind unix_at
     -- UNIX_DIAG_PEER, UNIX_DIAG_NAME, UNIX_DIAG_ICONS
     ++ or_none decimal (found UNIX_DIAG_PEER) ∷ or_none socket_name_text (found UNIX_DIAG_NAME)
     ∷ or_none comma_list (found UNIX_DIAG_ICONS)
-    -- UNIX_DIAG_SHUTDOWN; then twice the two queue lengths of UNIX_DIAG_RQLEN, if the socket is
-    -- listening and if it is not
+    -- UNIX_DIAG_SHUTDOWN; then twice the two queue lengths of UNIX_DIAG_RQLEN (`udiag_rqueue`,
+    -- `udiag_wqueue`): first those of a socket that listens, then those of any other socket
     ∷ map (or_none decimal) (found UNIX_DIAG_SHUTDOWN
     ∷ both (listening_queue_of v) ++ both (nonlistening_queue_of v)
-    -- two fields of UNIX_DIAG_MEMINFO: `SK_MEMINFO_SNDBUF` and `SK_MEMINFO_WMEM_QUEUED`
+    -- two numbers of UNIX_DIAG_MEMINFO: SK_MEMINFO_SNDBUF and SK_MEMINFO_WMEM_QUEUED
     ++ option_map (λ info. info.max_datagram_size) (found UNIX_DIAG_MEMINFO)
     ∷ option_map (λ info. info.alloc) (found UNIX_DIAG_MEMINFO) ∷ []))

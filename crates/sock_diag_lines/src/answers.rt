@@ -69,17 +69,24 @@ const DUMP: &[u8] = b"dump";
 /// The answer to a line of another form.
 const BAD_LINE: &[u8] = b"bad line";
 
-/// Returns the answer to a line, without a line feed. It is `ok` and the text of the parsed value;
-/// or `unwritable`; or `refused` and the code of the first decode error; or `bad line`. The text is
-/// the canonical form in hex. For `netlink` it is the five fields of the header and the serialized
-/// payload. For `unixview` it is thirteen values of the reply. For `dump` it is the state of the
-/// dump, the number of its messages and each serialized message.
+/// Returns the answer to a line, without a line feed. Fails only if an allocation fails.
+///
+/// If the line is a name, one space and a hex field, the answer is `ok` and the text of the value
+/// that the bytes of the field have; or `unwritable` if this value is not writable; or `refused`
+/// and the code of the first decode error. The text is the canonical form in hex. For `netlink` it
+/// is the five fields of the header and the serialized payload. For `unixview` it is thirteen
+/// values of the reply, and the answer is never `unwritable`.
+///
+/// If the line is `dump` and one or more hex fields, the answer is `ok`, the state of the dump, the
+/// number of its messages and each serialized message; or `unwritable` if one of them is not
+/// writable. It is `bad line` for any other line.
 pub fn answer(alloc: Global, line: &[u8]) -> Result<Vec<u8>, AllocError>
     ensures answers { IfOk result (λ text. IsAnswerOf line.now text.items) }
 
     // Two inputs of one name other than `unixview`, both with writable values, have the same answer
-    // if and only if they are equivalent (`idle`). `C` is the codec of the name. `unixview` does
-    // not show the whole value.
+    // if and only if they are equivalent (`idle`). `C` is the codec of the name, and `param` its
+    // parameter. `IsRequest line name bytes`: the line is this name and a hex field of these bytes.
+    // `unixview` does not show the whole value.
     ensures same { IfOk result (λ text. (name : Name) → name ≢ UnixView
         → let C = (name_entry name).1.1 in let param = (name_entry name).1.2 in
         (other bytes bytes' text' : List ℕ) (value value' : C.Value)
@@ -95,7 +102,8 @@ pub fn answer(alloc: Global, line: &[u8]) -> Result<Vec<u8>, AllocError>
         → C.reads bytes param value → C.fits value
         → C.reads bytes' param value' → C.fits value'
         → IsAnswerOf other text' → C.idle param bytes bytes' → text.items ≡ text') }
-    // Two dumps have the same answer if the concatenated items of their datagrams are equal.
+    // Two dumps have the same answer if the concatenated items of their datagrams are equal:
+    // `items` has a list for each datagram, with the payload or the error of each message.
     ensures dumps { IfOk result
         (λ text. (other text' : List ℕ) (datagrams datagrams' : List (List ℕ))
         (items items' : List (List (Result (Payload Message) DecodeError)))

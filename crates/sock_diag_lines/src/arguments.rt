@@ -46,8 +46,9 @@ impl Exact for Choice {
     ghost exact = { Prim.search rules };
 }
 
-/// Returns what the command line requests, given the arguments after the program's name: `Answer`
-/// unless there is exactly one argument and it is a known option.
+/// Returns what the command line requests, given the arguments after the program's name: `Strict`,
+/// `Help` or `Version` if and only if the only argument is `--strict`, `--help` or `--version`;
+/// else `Answer`.
 pub fn choose(arguments: &[String]) -> Choice
     ensures strict { (result ≡ Strict) ↔ (map string_bytes arguments.now ≡ codes "--strict" ∷ []) }
     ensures help { (result ≡ Help) ↔ (map string_bytes arguments.now ≡ codes "--help" ∷ []) }

@@ -31,9 +31,13 @@ pub use stream::run;
 /// The version, as in the file `VERSION` of the repository.
 pub const VERSION: &str = "0.11.0";
 
-/// Does what `run` does, writes one line on `errors` that names the failure if there is one, and
-/// returns the exit status: 0 at the end of the input, and 1 after a failure. If `is_strict`, the
-/// status at the end of the input is 3 if an answer is not `ok`, or if a dump failed.
+/// Answers each line of `input` with one line on `output`, flushes, and returns the exit status. It
+/// is 1 if a read, a write or an allocation failed; then one line on `errors` names the failure, or
+/// a prefix of this line if a write failed there too. Otherwise all input was answered, and nothing
+/// was written on `errors`. The status then is 0; but if `is_strict`, it is 3 if an answer does not
+/// start with `ok`, or if a dump failed.
+///
+/// What has been written to `output` after a failure is what [`run`] states.
 pub fn run_to_status<R: Read, W: Write, E: Write>(
     alloc: Global,
     is_strict: bool,
@@ -41,16 +45,23 @@ pub fn run_to_status<R: Read, W: Write, E: Write>(
     output: &mut W,
     errors: &mut E,
 ) -> ExitCode
+    // If the status is not 1, no bytes of the reader are left, if these are known.
     ensures ended { exit_status result ≢ 1 → IsAtEnd (R.remaining input.new) }
+    // If the status is not 1, and the bytes of the reader were known at the start, the answers to
+    // all its lines have been written, each followed by a line feed. This holds for any function
+    // `answer` from lines to their answers; there is exactly one.
     ensures complete { exit_status result ≢ 1 → IfSome (R.remaining input.old) (λ text.
         (answer : List ℕ → List ℕ) (whole : List (List ℕ)) (rest : List ℕ)
         → ((line : List ℕ) → IsAnswerOf line (answer line)) → SplitsIntoLines text whole rest
         → Appends (W.contents output.old) (W.contents output.new)
         (answer_lines answer (all_lines whole rest))) }
+    // If the status is not 1, nothing was written on `errors`, if what had been written there is
+    // known.
     ensures silent { exit_status result ≢ 1
         → Keeps (E.contents errors.old) (E.contents errors.new) }
-    // The outcome of the run, and whether each answer is good. After a failure `errors` has the
-    // line that names it, or a prefix of that line if a write failed there too.
+    // The outcome of the run: whether each answer is good (`is_good`), or the failure.
+    // `AnswersInput` states what was read and written for each outcome. After a failure `errors`
+    // has the line that names it, or a prefix of that line (`reported`).
     ensures answered { (answer : List ℕ → List ℕ)
         → ((line : List ℕ) → IsAnswerOf line (answer line))
         → (outcome : Result Bool RunError)

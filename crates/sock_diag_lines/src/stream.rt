@@ -51,20 +51,32 @@ fn is_good(answer: &[u8]) -> bool
     answer.starts_with(OK) && !answer.starts_with(b"ok failed")
 }
 
-/// Answers each line of `input` with one line on `output`, and flushes. Before each read, the
-/// answers to all complete lines that were read have been written to `output`. A call that failed
-/// is not repeated.
+/// Answers each line of `input` with one line on `output`, and flushes.
+///
+/// Fails with `Read` if a read failed, or after 2^64 - 1 reads without the end of the input; then
+/// the answers to the complete lines that were read have been written. Fails with `Write` if a
+/// write or the flush failed, or a write took no bytes; then a prefix of the answers to the lines
+/// that were read has been written. Fails with `Memory` if an allocation failed; then the answers
+/// to some of the first complete lines have been written.
+///
+/// The contract states what has been written for each result. It does not state the causes of
+/// `Read` and `Write`, nor that before each read the answers to all complete lines that were read
+/// have been written to `output`: for both see `line_server::serve`. A call that failed is not
+/// repeated; no contract states this.
 pub fn run<R: Read, W: Write>(alloc: Global, input: &mut R, output: &mut W) -> Result<(), RunError>
-    // If the run succeeds, all input was read. The answers to all its lines are written, if the
-    // bytes of the reader were known at the start.
+    // If the run succeeds, no bytes of the reader are left, if these are known.
     ensures ended { OnOk result (IsAtEnd (R.remaining input.new)) }
+    // If the run succeeds, and the bytes of the reader were known at the start, the answers to all
+    // its lines have been written, each followed by a line feed. This holds for any function
+    // `answer` from lines to their answers; there is exactly one.
     ensures complete { OnOk result (IfSome (R.remaining input.old) (λ text.
         (answer : List ℕ → List ℕ) (whole : List (List ℕ)) (rest : List ℕ)
         → ((line : List ℕ) → IsAnswerOf line (answer line)) → SplitsIntoLines text whole rest
         → Appends (W.contents output.old) (W.contents output.new)
         (answer_lines answer (all_lines whole rest)))) }
 
-    // The bytes that were read and written, for each outcome.
+    // The bytes that were read and written, for each outcome: see `AnswersInput`. The result is the
+    // outcome, without the `bool` that says whether each answer is good.
     ensures answered { (answer : List ℕ → List ℕ)
         → ((line : List ℕ) → IsAnswerOf line (answer line))
         → (outcome : Result Bool RunError)
