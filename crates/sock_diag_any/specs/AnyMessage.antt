@@ -45,7 +45,8 @@ pub data AnyMessage : Type 0 where
   of_port : Message → AnyMessage
   of_family : (family : ExtensionFamily) → (extension_codec_of family).Value → AnyMessage
 
--- The model of a view.
+-- The value of the message that a view borrows: of the port, or of one of the four families, with
+-- the header and the attributes of the reply.
 abbrev pub any_view_model : AnySockDiagView → AnyMessage
 any_view_model (view.Port message) = of_port (message_view_model message)
 any_view_model (view.Netlink reply) = of_family netlink (view_model reply)
@@ -53,18 +54,19 @@ any_view_model (view.Packet reply) = of_family packet (view_model reply)
 any_view_model (view.Vsock reply) = of_family vsock (view_model reply)
 any_view_model (view.Xdp reply) = of_family xdp (view_model reply)
 
--- The bytes `b` of a message of type `t` parse as the given value. For a reply of another family,
--- `extension_family_of` returns that family and its codec parses the bytes as the reply. For a
--- message of the port, `extension_family_of` returns `None` and the port parses the bytes as the
--- message.
+-- `ParsesAsAnyMessage b t message`: the bytes `b` of a message of type `t` parse as `message`. For
+-- a reply of another family, `extension_family_of` returns that family and its codec parses the
+-- bytes as the reply. For a message of the port, `extension_family_of` returns `None` and the port
+-- parses the bytes as the message.
 abbrev pub ParsesAsAnyMessage : List ℕ → ℕ → AnyMessage → Type 0
 ParsesAsAnyMessage b t (of_port message) =
     (extension_family_of b t ≡ None) × message_codec.reads b t message
 ParsesAsAnyMessage b t (of_family family v) =
     (extension_family_of b t ≡ Some family) × (extension_codec_of family).reads b tt v
 
--- The codec of the given family, or the port's if it is `None`, rejects the bytes `b` with the
--- error `e`. Only the port's codec depends on the message type `t`.
+-- `IsRejectedByExtensionFamily family b t e`: the codec of the given family, or the port's if it is
+-- `None`, rejects the bytes `b` with the error `e`. Only the port's codec depends on the message
+-- type `t`.
 abbrev pub IsRejectedByExtensionFamily : Option ExtensionFamily → List ℕ → ℕ → DecodeError → Type 0
 IsRejectedByExtensionFamily None b t e = message_codec.refuses b t e
 IsRejectedByExtensionFamily (Some family) b t e = (extension_codec_of family).refuses b tt e
@@ -74,12 +76,13 @@ IsRejectedByExtensionFamily (Some family) b t e = (extension_codec_of family).re
 abbrev pub IsRejectedAsAnyMessage : List ℕ → ℕ → DecodeError → Type 0
 IsRejectedAsAnyMessage b t e = IsRejectedByExtensionFamily (extension_family_of b t) b t e
 
--- The bytes that a message is serialized to.
+-- The bytes that a message is serialized to, by the codec of the port or of the family.
 abbrev pub any_bytes : AnyMessage → List ℕ
 any_bytes (of_port message) = message_codec.written message
 any_bytes (of_family family v) = (extension_codec_of family).written v
 
--- The message is writable: its lengths fit their length fields.
+-- The message is writable: its lengths fit their length fields, by the codec of the port or of the
+-- family.
 abbrev pub IsAnyMessageWritable : AnyMessage → Type 0
 IsAnyMessageWritable (of_port message) = message_codec.fits message
 IsAnyMessageWritable (of_family family v) = (extension_codec_of family).fits v

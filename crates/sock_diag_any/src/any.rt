@@ -34,10 +34,14 @@ impl<'a> AnySockDiagView<'a> {
     ///
     /// If there are at least 2 bytes, the type is `SOCK_DIAG_BY_FAMILY` and the first byte is
     /// `AF_NETLINK`, `AF_PACKET`, `AF_VSOCK` or `AF_XDP`, they are parsed as a reply of that
-    /// family. Otherwise [`SockDiagView::parse`] parses them.
+    /// family: a header, and attributes that stay raw. Its errors are `BufferTooSmall` if there are
+    /// fewer bytes than the header has, else the first error of bytes that do not split into
+    /// attributes. Otherwise [`SockDiagView::parse`] parses the bytes, and its error is returned.
     pub fn parse(payload: &'a [u8], message_type: u16) -> Result<AnySockDiagView<'a>, DecodeError>
+        // `any_view_model view`: the family and the value of the reply, which the bytes parse as.
         ensures value { IfOk result
             (λ view. ParsesAsAnyMessage payload.entry.now message_type (any_view_model view)) }
+        // The error is the one by which the codec of the same family rejects the bytes.
         ensures fault { IfErr result (IsRejectedAsAnyMessage payload.entry.now message_type) }
     {
         if payload.len() >= 2 && message_type == SOCK_DIAG_BY_FAMILY {

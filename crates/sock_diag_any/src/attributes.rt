@@ -16,14 +16,17 @@ pub trait WholeAttributes {
     // The attributes of the reply, in order.
     ghost attributes: { Self → List Attribute };
 
-    /// Returns the value of the first attribute of the kind, or `None` if there is none.
+    /// Returns the value of the first attribute of the kind, whatever its two flag bits, or `None`
+    /// if the reply has no such attribute.
     fn value_of(&self, kind: u16) -> Option<&[u8]>
         ensures { option_map (λ value. value.now) result
             ≡ first_value_of_kind kind (attributes self.now) };
 
-    /// Parses the value of the first attribute of the kind as a little-endian `u32`. Returns `None`
-    /// if the reply has no such attribute. A length other than 4 is `WrongLength`.
+    /// Parses the value of the first attribute of the kind, whatever its two flag bits, as a
+    /// little-endian `u32`. Returns `None` if the reply has no such attribute. A length other than
+    /// 4 is `WrongLength` without a kind.
     fn number_of(&self, kind: u16) -> Result<Option<u32>, DecodeError>
+        // `None`: the error does not contain the kind.
         ensures { result ≡ parse_if_present (number_of_width None 4)
             (first_value_of_kind kind (attributes self.now)) }
     {
@@ -33,9 +36,9 @@ pub trait WholeAttributes {
         }
     }
 
-    /// Parses the record at the start of the value of the first attribute of the kind. Returns
-    /// `None` if the reply has no such attribute, and the error of the record's parser if the value
-    /// is invalid.
+    /// Parses the record at the start of the value of the first attribute of the kind, whatever its
+    /// two flag bits. Returns `None` if the reply has no such attribute, and the error of the
+    /// record's parser if it rejects the value, such as `BufferTooSmall`.
     fn record_of<T: Record<Param = ()>>(&self, kind: u16) -> Result<Option<T>, DecodeError>
         ensures { result ≡ parse_if_present (parse_record T.layout tt)
             (first_value_of_kind kind (attributes self.now)) }

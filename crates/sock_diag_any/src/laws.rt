@@ -8,7 +8,8 @@ ghost use Rattle.sock_diag_any.specs.AnyMessage.{any_view_model};
 use crate::{AnySockDiagView, FamilyHeader, Whole, WholeView};
 use std::alloc::AllocError;
 
-/// Compares two headers by `==`, which is true if and only if they are equal.
+/// Compares two headers of one family by `==`, which is true if and only if all of their fields are
+/// equal.
 pub fn equal_wholes<H: FamilyHeader>(v: &Whole<H>, w: &Whole<H>) -> bool
     ensures { IsTrue result ↔ (v.now ≡ w.now) }
 {
@@ -16,7 +17,8 @@ pub fn equal_wholes<H: FamilyHeader>(v: &Whole<H>, w: &Whole<H>) -> bool
 }
 
 /// Compares two borrowed replies of one family by `==`, which is true if and only if their headers
-/// are equal and their attributes are the same in the same order.
+/// are equal and they have equal attributes in the same order: the same type fields, with their
+/// flag bits, and the same bytes in the values. Padding is not compared.
 pub fn equal_whole_views<H: FamilyHeader>(v: &WholeView<'_, H>, w: &WholeView<'_, H>) -> bool
     ensures { IsTrue result ↔ (view_model v.now ≡ view_model w.now) }
 {
@@ -34,7 +36,8 @@ pub fn equal_any_views(v: &AnySockDiagView<'_>, w: &AnySockDiagView<'_>) -> bool
     v == w
 }
 
-/// Copies a borrowed reply of one family by `clone`, which never fails and returns the same reply.
+/// Copies a borrowed reply of one family by `clone`, which never fails and returns a reply with the
+/// same header and the same attributes.
 pub fn copied_whole_view<'a, H: FamilyHeader>(
     view: &WholeView<'a, H>,
 ) -> Result<WholeView<'a, H>, AllocError>
@@ -44,7 +47,8 @@ pub fn copied_whole_view<'a, H: FamilyHeader>(
     view.clone()
 }
 
-/// Copies a borrowed reply of any family by `clone`, which never fails and returns the same reply.
+/// Copies a borrowed reply of any family by `clone`, which never fails and returns a reply of the
+/// same family with the same header and the same attributes.
 pub fn copied_any_view<'a>(view: &AnySockDiagView<'a>) -> Result<AnySockDiagView<'a>, AllocError>
     ensures ok { IsOk result }
     ensures same { IfOk result (λ copy. any_view_model copy ≡ any_view_model view.now) }

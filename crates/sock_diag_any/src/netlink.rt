@@ -1,4 +1,6 @@
-//! Borrowed replies about netlink sockets.
+//! Borrowed replies about netlink sockets. Each getter returns or parses the value of the first
+//! attribute of its kind, whatever the two flag bits of its type field, and returns `None` if the
+//! reply has none.
 
 ghost use Rattle.std.specs.Prelude.{◌≡◌, option_map};
 ghost use Rattle.netlink_core.specs.Layout.{parse_record};
@@ -29,9 +31,9 @@ impl FamilyHeader for NetlinkResponseHeader {
     ghost keeps = { raw_reply_codec_laws netlink_header_sound };
 }
 
-/// Returns the memory counters of the socket, `NETLINK_DIAG_MEMINFO`: `u32` fields in the order of
-/// `SK_MEMINFO_..` (linux/sock_diag.h). Returns the error of [`MemInfo`]'s parser if
-/// the value is invalid.
+/// Returns the memory counters of the socket, from the first `NETLINK_DIAG_MEMINFO`, or `None` if
+/// the reply has none: `u32` fields in the order of `SK_MEMINFO_..` (linux/sock_diag.h). A value of
+/// fewer than 28 bytes, seven fields, is `BufferTooSmall`.
 pub fn memory(reply: &NetlinkResponseView<'_>) -> Result<Option<MemInfo>, DecodeError>
     ensures { result ≡ parse_if_present (parse_record mem_info tt)
         (first_value_of_kind NETLINK_DIAG_MEMINFO (view_model reply.now).nlas) }
@@ -39,8 +41,9 @@ pub fn memory(reply: &NetlinkResponseView<'_>) -> Result<Option<MemInfo>, Decode
     reply.record_of(NETLINK_DIAG_MEMINFO)
 }
 
-/// Returns the multicast groups that the socket is a member of, `NETLINK_DIAG_GROUPS`: one bit for
-/// each group. The lowest bit of the first byte is group 1.
+/// Returns the bytes of the first `NETLINK_DIAG_GROUPS`, unchecked, or `None` if the reply has
+/// none. They are the multicast groups that the socket is a member of, one bit for each group. The
+/// lowest bit of the first byte is group 1.
 pub fn groups<'a>(reply: &NetlinkResponseView<'a>) -> Option<&'a [u8]>
     ensures { option_map (λ groups. groups.now) result
         ≡ first_value_of_kind NETLINK_DIAG_GROUPS (view_model reply.now).nlas }
@@ -48,8 +51,9 @@ pub fn groups<'a>(reply: &NetlinkResponseView<'a>) -> Option<&'a [u8]>
     value_in(reply, NETLINK_DIAG_GROUPS)
 }
 
-/// Returns the flags `NDIAG_FLAG_..` of the socket, `NETLINK_DIAG_FLAGS`. A length other than 4 is
-/// `WrongLength`.
+/// Returns the flags `NDIAG_FLAG_..` of the socket: the little-endian `u32` in the first
+/// `NETLINK_DIAG_FLAGS`, or `None` if the reply has none. A length other than 4 is `WrongLength`,
+/// without a kind.
 pub fn flags(reply: &NetlinkResponseView<'_>) -> Result<Option<u32>, DecodeError>
     ensures { result ≡ parse_if_present (number_of_width None 4)
         (first_value_of_kind NETLINK_DIAG_FLAGS (view_model reply.now).nlas) }

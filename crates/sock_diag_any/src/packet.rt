@@ -1,5 +1,6 @@
-//! Borrowed replies about packet sockets. Each getter decodes the first attribute of its kind, and
-//! returns `None` if the reply has none.
+//! Borrowed replies about packet sockets. Each getter returns or parses the value of the first
+//! attribute of its kind, whatever the two flag bits of its type field, and returns `None` if the
+//! reply has none.
 
 ghost use Rattle.std.specs.Prelude.{◌≡◌, option_map};
 ghost use Rattle.netlink_core.specs.Layout.{parse_record};
@@ -44,8 +45,8 @@ fn ring(reply: &PacketResponseView<'_>, kind: u16) -> Result<Option<PacketRing>,
     }
 }
 
-/// Returns the settings of the socket, `PACKET_DIAG_INFO`. An attribute of fewer than 24 bytes is
-/// `BufferTooSmall`.
+/// Returns the settings of the socket, from the first `PACKET_DIAG_INFO`, or `None` if the reply
+/// has none. A value of fewer than 24 bytes is `BufferTooSmall`.
 pub fn info(reply: &PacketResponseView<'_>) -> Result<Option<PacketInfo>, DecodeError>
     ensures { result ≡ parse_if_present packet_info
         (first_value_of_kind PACKET_DIAG_INFO (view_model reply.now).nlas) }
@@ -56,8 +57,9 @@ pub fn info(reply: &PacketResponseView<'_>) -> Result<Option<PacketInfo>, Decode
     }
 }
 
-/// Returns the link-layer addresses that the socket receives in addition to the addresses of its
-/// interface, `PACKET_DIAG_MCLIST`: 44 bytes each, `struct packet_diag_mclist`.
+/// Returns the bytes of the first `PACKET_DIAG_MCLIST`, unchecked, or `None` if the reply has none.
+/// They are the link-layer addresses that the socket receives in addition to the addresses of its
+/// interface. The kernel sends 44 bytes for each, `struct packet_diag_mclist`.
 pub fn addresses<'a>(reply: &PacketResponseView<'a>) -> Option<&'a [u8]>
     ensures { option_map (λ value. value.now) result
         ≡ first_value_of_kind PACKET_DIAG_MCLIST (view_model reply.now).nlas }
@@ -65,8 +67,8 @@ pub fn addresses<'a>(reply: &PacketResponseView<'a>) -> Option<&'a [u8]>
     value_in(reply, PACKET_DIAG_MCLIST)
 }
 
-/// Returns the receive ring, `PACKET_DIAG_RX_RING`. An attribute of fewer than 28 bytes is
-/// `BufferTooSmall`.
+/// Returns the settings of the receive ring, from the first `PACKET_DIAG_RX_RING`, or `None` if the
+/// reply has none. A value of fewer than 28 bytes is `BufferTooSmall`.
 pub fn receive_ring(reply: &PacketResponseView<'_>) -> Result<Option<PacketRing>, DecodeError>
     ensures { result ≡ parse_if_present (packet_ring PACKET_DIAG_RX_RING)
         (first_value_of_kind PACKET_DIAG_RX_RING (view_model reply.now).nlas) }
@@ -74,8 +76,8 @@ pub fn receive_ring(reply: &PacketResponseView<'_>) -> Result<Option<PacketRing>
     ring(reply, PACKET_DIAG_RX_RING)
 }
 
-/// Returns the transmit ring, `PACKET_DIAG_TX_RING`. An attribute of fewer than 28 bytes is
-/// `BufferTooSmall`.
+/// Returns the settings of the transmit ring, from the first `PACKET_DIAG_TX_RING`, or `None` if
+/// the reply has none. A value of fewer than 28 bytes is `BufferTooSmall`.
 pub fn send_ring(reply: &PacketResponseView<'_>) -> Result<Option<PacketRing>, DecodeError>
     ensures { result ≡ parse_if_present (packet_ring PACKET_DIAG_TX_RING)
         (first_value_of_kind PACKET_DIAG_TX_RING (view_model reply.now).nlas) }
@@ -83,8 +85,9 @@ pub fn send_ring(reply: &PacketResponseView<'_>) -> Result<Option<PacketRing>, D
     ring(reply, PACKET_DIAG_TX_RING)
 }
 
-/// Returns the id of the fanout group in the low 16 bits and its mode in the high 16 bits,
-/// `PACKET_DIAG_FANOUT`. A length other than 4 is `WrongLength`.
+/// Returns the little-endian `u32` in the first `PACKET_DIAG_FANOUT`, or `None` if the reply has
+/// none: the id of the fanout group in the low 16 bits and its mode in the high 16 bits, which are
+/// not split. A length other than 4 is `WrongLength`, without a kind.
 pub fn fanout(reply: &PacketResponseView<'_>) -> Result<Option<u32>, DecodeError>
     ensures { result ≡ parse_if_present (number_of_width None 4)
         (first_value_of_kind PACKET_DIAG_FANOUT (view_model reply.now).nlas) }
@@ -92,8 +95,9 @@ pub fn fanout(reply: &PacketResponseView<'_>) -> Result<Option<u32>, DecodeError
     reply.number_of(PACKET_DIAG_FANOUT)
 }
 
-/// Returns the user id of the socket's owner, `PACKET_DIAG_UID`. A length other than 4 is
-/// `WrongLength`.
+/// Returns the user id of the socket's owner: the little-endian `u32` in the first
+/// `PACKET_DIAG_UID`, or `None` if the reply has none. A length other than 4 is `WrongLength`,
+/// without a kind.
 pub fn owner(reply: &PacketResponseView<'_>) -> Result<Option<u32>, DecodeError>
     ensures { result ≡ parse_if_present (number_of_width None 4)
         (first_value_of_kind PACKET_DIAG_UID (view_model reply.now).nlas) }
@@ -101,9 +105,9 @@ pub fn owner(reply: &PacketResponseView<'_>) -> Result<Option<u32>, DecodeError>
     reply.number_of(PACKET_DIAG_UID)
 }
 
-/// Returns the memory counters of the socket, `PACKET_DIAG_MEMINFO`: `u32` fields in the order of
-/// `SK_MEMINFO_..` (linux/sock_diag.h). Returns the error of [`MemInfo`]'s parser if
-/// the value is invalid.
+/// Returns the memory counters of the socket, from the first `PACKET_DIAG_MEMINFO`, or `None` if
+/// the reply has none: `u32` fields in the order of `SK_MEMINFO_..` (linux/sock_diag.h). A value of
+/// fewer than 28 bytes, seven fields, is `BufferTooSmall`.
 pub fn memory(reply: &PacketResponseView<'_>) -> Result<Option<MemInfo>, DecodeError>
     ensures { result ≡ parse_if_present (parse_record mem_info tt)
         (first_value_of_kind PACKET_DIAG_MEMINFO (view_model reply.now).nlas) }
@@ -111,7 +115,8 @@ pub fn memory(reply: &PacketResponseView<'_>) -> Result<Option<MemInfo>, DecodeE
     reply.record_of(PACKET_DIAG_MEMINFO)
 }
 
-/// Returns the instructions of the attached BPF filter, `PACKET_DIAG_FILTER`: 8 bytes each,
+/// Returns the bytes of the first `PACKET_DIAG_FILTER`, unchecked, or `None` if the reply has none.
+/// They are the instructions of the attached BPF filter. The kernel sends 8 bytes for each,
 /// `struct sock_filter` (linux/filter.h).
 pub fn filter<'a>(reply: &PacketResponseView<'a>) -> Option<&'a [u8]>
     ensures { option_map (λ value. value.now) result

@@ -1,5 +1,6 @@
-//! Borrowed replies about XDP sockets. Each getter decodes the first attribute of its kind, and
-//! returns `None` if the reply has none.
+//! Borrowed replies about XDP sockets. Each getter returns or parses the value of the first
+//! attribute of its kind, whatever the two flag bits of its type field, and returns `None` if the
+//! reply has none.
 
 ghost use Rattle.std.specs.Prelude.{◌≡◌};
 ghost use Rattle.netlink_core.specs.Layout.{parse_record};
@@ -31,8 +32,8 @@ impl FamilyHeader for XdpResponseHeader {
     ghost keeps = { raw_reply_codec_laws xdp_header_sound };
 }
 
-/// Returns the interface and the queue that the socket is bound to, `XDP_DIAG_INFO`. An attribute
-/// of fewer than 8 bytes is `BufferTooSmall`.
+/// Returns the interface and the queue that the socket is bound to, from the first `XDP_DIAG_INFO`,
+/// or `None` if the reply has none. A value of fewer than 8 bytes is `BufferTooSmall`.
 pub fn info(reply: &XdpResponseView<'_>) -> Result<Option<XdpInfo>, DecodeError>
     ensures { result ≡ parse_if_present xdp_info
         (first_value_of_kind XDP_DIAG_INFO (view_model reply.now).nlas) }
@@ -43,8 +44,8 @@ pub fn info(reply: &XdpResponseView<'_>) -> Result<Option<XdpInfo>, DecodeError>
     }
 }
 
-/// Returns the user id of the socket's owner: the little-endian `u32` in the first
-/// `XDP_DIAG_UID`, or `None` if the reply has none. A length other than 4 is `WrongLength`.
+/// Returns the user id of the socket's owner: the little-endian `u32` in the first `XDP_DIAG_UID`,
+/// or `None` if the reply has none. A length other than 4 is `WrongLength`, without a kind.
 pub fn owner(reply: &XdpResponseView<'_>) -> Result<Option<u32>, DecodeError>
     ensures { result ≡ parse_if_present (number_of_width None 4)
         (first_value_of_kind XDP_DIAG_UID (view_model reply.now).nlas) }
@@ -54,7 +55,7 @@ pub fn owner(reply: &XdpResponseView<'_>) -> Result<Option<u32>, DecodeError>
 
 /// Returns the number of entries of the receive ring (`struct xdp_diag_ring`): the little-endian
 /// `u32` in the first `XDP_DIAG_RX_RING`, or `None` if the reply has none. A length other than 4 is
-/// `WrongLength`.
+/// `WrongLength`, without a kind.
 pub fn receive_ring(reply: &XdpResponseView<'_>) -> Result<Option<u32>, DecodeError>
     ensures { result ≡ parse_if_present (number_of_width None 4)
         (first_value_of_kind XDP_DIAG_RX_RING (view_model reply.now).nlas) }
@@ -64,7 +65,7 @@ pub fn receive_ring(reply: &XdpResponseView<'_>) -> Result<Option<u32>, DecodeEr
 
 /// Returns the number of entries of the transmit ring (`struct xdp_diag_ring`): the little-endian
 /// `u32` in the first `XDP_DIAG_TX_RING`, or `None` if the reply has none. A length other than 4 is
-/// `WrongLength`.
+/// `WrongLength`, without a kind.
 pub fn send_ring(reply: &XdpResponseView<'_>) -> Result<Option<u32>, DecodeError>
     ensures { result ≡ parse_if_present (number_of_width None 4)
         (first_value_of_kind XDP_DIAG_TX_RING (view_model reply.now).nlas) }
@@ -72,8 +73,8 @@ pub fn send_ring(reply: &XdpResponseView<'_>) -> Result<Option<u32>, DecodeError
     reply.number_of(XDP_DIAG_TX_RING)
 }
 
-/// Returns the shared memory area of the socket (UMEM), `XDP_DIAG_UMEM`. An attribute of fewer than
-/// 40 bytes is `BufferTooSmall`.
+/// Returns the shared memory area of the socket (UMEM), from the first `XDP_DIAG_UMEM`, or `None`
+/// if the reply has none. A value of fewer than 40 bytes is `BufferTooSmall`.
 pub fn shared_memory(reply: &XdpResponseView<'_>) -> Result<Option<XdpUmem>, DecodeError>
     ensures { result ≡ parse_if_present xdp_umem
         (first_value_of_kind XDP_DIAG_UMEM (view_model reply.now).nlas) }
@@ -84,9 +85,9 @@ pub fn shared_memory(reply: &XdpResponseView<'_>) -> Result<Option<XdpUmem>, Dec
     }
 }
 
-/// Returns the memory counters of the socket, `XDP_DIAG_MEMINFO`: `u32` fields in the order of
-/// `SK_MEMINFO_..` (linux/sock_diag.h). Returns the error of [`MemInfo`]'s parser if
-/// the value is invalid.
+/// Returns the memory counters of the socket, from the first `XDP_DIAG_MEMINFO`, or `None` if the
+/// reply has none: `u32` fields in the order of `SK_MEMINFO_..` (linux/sock_diag.h). A value of
+/// fewer than 28 bytes, seven fields, is `BufferTooSmall`.
 pub fn memory(reply: &XdpResponseView<'_>) -> Result<Option<MemInfo>, DecodeError>
     ensures { result ≡ parse_if_present (parse_record mem_info tt)
         (first_value_of_kind XDP_DIAG_MEMINFO (view_model reply.now).nlas) }
@@ -94,8 +95,8 @@ pub fn memory(reply: &XdpResponseView<'_>) -> Result<Option<MemInfo>, DecodeErro
     reply.record_of(XDP_DIAG_MEMINFO)
 }
 
-/// Returns the counters of the socket, `XDP_DIAG_STATS`. An attribute of fewer than 48 bytes is
-/// `BufferTooSmall`.
+/// Returns the counters of the socket, from the first `XDP_DIAG_STATS`, or `None` if the reply has
+/// none. A value of fewer than 48 bytes is `BufferTooSmall`.
 pub fn statistics(reply: &XdpResponseView<'_>) -> Result<Option<XdpStatistics>, DecodeError>
     ensures { result ≡ parse_if_present xdp_statistics
         (first_value_of_kind XDP_DIAG_STATS (view_model reply.now).nlas) }

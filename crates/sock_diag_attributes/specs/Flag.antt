@@ -8,8 +8,8 @@ use Rattle.netlink_core.specs.Faults.{map_ok}
 use Rattle.netlink_core.specs.Parse.{number_of_width}
 
 -- A flag of the attribute type `k` is exactly one byte, which is true if it is not zero. Any other
--- length is `WrongLength`. True serializes to 1, and false to 0. Two values are equivalent (`idle`)
--- if both are zero or neither is zero.
+-- length is `WrongLength`, which contains `k`. True serializes to 1, and false to 0. Two values,
+-- accepted and so of one byte, are equivalent (`idle`) if both are zero or neither is zero.
 abbrev pub flag_value : ℕ → ValueCodec (Unit {0})
 flag_value k = record (whole_value_codec
     (λ b. map_ok (λ n. not (n == 0)) (number_of_width (Some k) 1 b))

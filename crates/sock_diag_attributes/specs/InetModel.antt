@@ -27,8 +27,9 @@ use Rattle.sock_diag_records.specs.declared.constants.TheConstants.{INET_DIAG_CL
 -- Owned and borrowed attributes differ in the types of texts and of raw attributes. `text` and
 -- `other` return the bytes of a text, and the type field and value of a raw attribute.
 module _ {T O : Type 0} (text : T → List ℕ) (other : O → Attribute) where
-  -- the decoded value of an attribute; no type in the set has the number 0xffff, so that `Other` is
-  -- a raw attribute
+  -- The decoded value of an attribute. `value_as_decoded set kind x` is the value `x` of the type
+  -- of this kind in the set. No type in the set has the number 0xffff, so that `Other` is a raw
+  -- attribute.
   abbrev pub inet_nla_value : InetNla T O → AttributeValue inet_attribute_set
   inet_nla_value (nla.LegacyMemInfo m) = value_as_decoded inet_attribute_set INET_DIAG_MEMINFO m
   inet_nla_value (nla.TcpInfo t) = value_as_decoded inet_attribute_set INET_DIAG_INFO t
@@ -43,7 +44,9 @@ module _ {T O : Type 0} (text : T → List ℕ) (other : O → Attribute) where
   inet_nla_value (nla.ClassId n) = value_as_decoded inet_attribute_set INET_DIAG_CLASS_ID n
   inet_nla_value (nla.Other a) = value_as_decoded inet_attribute_set 0xffff (other a)
 
--- the variant of a decoded value; the values of the types are nested in the order of the set
+-- The variant of a decoded value. The values of the types are nested in the order of the set:
+-- `inl memory` is a value of the first type, `inr (inl info)` one of the second, and so on; after
+-- eleven `inr` it is a raw attribute.
 abbrev pub inet_variant : AttributeValue inet_attribute_set → InetNla (List ℕ) Attribute
 inet_variant (inl memory) = nla.LegacyMemInfo memory
 inet_variant (inr (inl info)) = nla.TcpInfo info
@@ -60,11 +63,11 @@ inet_variant (inr (inr (inr (inr (inr (inr (inr (inr (inr (inr (inl class)))))))
 inet_variant (inr (inr (inr (inr (inr (inr (inr (inr (inr (inr (inr other))))))))))) =
     nla.Other other
 
--- the model of an owned attribute
+-- the model of an owned attribute: its decoded value
 abbrev pub inet_nla_model : InetNla (String Global) DefaultNla → AttributeValue inet_attribute_set
 inet_nla_model a = inet_nla_value string_bytes raw_attribute a
 
--- the model of a borrowed attribute
+-- the model of a borrowed attribute: its decoded value, with the bytes that it borrows
 abbrev pub inet_nla_view_model : InetNla (Bor (List ℕ)) NlaBuffer
     → AttributeValue inet_attribute_set
 inet_nla_view_model a = inet_nla_value (λ (t : Bor (List ℕ)). t.now) buffered_attribute a

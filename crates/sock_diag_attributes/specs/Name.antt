@@ -23,9 +23,10 @@ abbrev pub IsNormalName : SocketName (List ℕ) → Type 0
 IsNormalName (Pathname path) = All (λ byte. byte ≢ 0) path × (path ≢ [])
 IsNormalName (Abstract address) = ⊤
 
--- An empty value is an error. A name whose first byte is zero is abstract. Any other name is a path
--- that ends at the first zero byte, which must be the last byte. `i` is the index of the first zero
--- byte, or the length if there is none. A missing zero byte and an earlier one are errors.
+-- Parses all of the bytes as a name. An empty value is an error. A name whose first byte is zero is
+-- abstract. Any other name is a path that ends at the first zero byte, which must be the last byte.
+-- `i` is the index of the first zero byte, or the length if there is none. A missing zero byte and
+-- an earlier one are errors. The path `/a` is the bytes 2f 61 00; the abstract name `a` is 00 61.
 abbrev pub read_name : List ℕ → Result (SocketName (List ℕ)) DecodeError
 read_name [] = Err NameEmpty
 read_name (zero ∷ address) = Ok (Abstract address)

@@ -3,7 +3,8 @@ use Rattle.std.specs.Prelude.{ℕ, List}
 use Rattle.sock_diag_attributes.specs.declared.unix.name.SocketName.{SocketName}
 use Rattle.sock_diag_attributes.specs.declared.unix.name.SocketName.TheVariants.{Pathname, Abstract}
 
--- the name with its bytes as a list, by the function `bytes` from the type that holds them
+-- `socket_name_model bytes name`: the name with its bytes as a list. The function `bytes` returns
+-- the list from the type that holds them, such as a `Vec` or a slice.
 abbrev pub socket_name_model : {B : Type 0} → (B → List ℕ) → SocketName B → SocketName (List ℕ)
 socket_name_model bytes (Pathname path) = Pathname (bytes path)
 socket_name_model bytes (Abstract address) = Abstract (bytes address)

@@ -16,8 +16,9 @@ abbrev pub numbers_in : List ℕ → List ℕ
 numbers_in (a ∷ b ∷ c ∷ d ∷ rest) = little_number 4 (a ∷ b ∷ c ∷ d ∷ []) ∷ numbers_in rest
 numbers_in bytes = []
 
--- two little-endian numbers of four bytes each, in exactly eight bytes, as the value of an
--- attribute of type `k`; any other length is `WrongLength`
+-- Two little-endian numbers of four bytes each, in exactly eight bytes, as the value of an
+-- attribute of type `k`, such as `struct unix_diag_rqlen` (linux/unix_diag.h): `udiag_rqueue`,
+-- `udiag_wqueue`. Any other length is `WrongLength`, which contains `k`.
 abbrev pub number_pair_value : ℕ → ValueCodec (Unit {0})
 number_pair_value k = whole_value_codec {A = ℕ × ℕ}
     (λ b. if length b == 8 then Ok (little_number 4 b, little_number 4 (drop 4 b))

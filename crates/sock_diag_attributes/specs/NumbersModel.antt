@@ -4,7 +4,7 @@ use Rattle.sock_diag_attributes.specs.declared.numbers.NumbersIterator.{NumbersI
 use Rattle.sock_diag_attributes.specs.declared.numbers.NumbersView.{NumbersView}
 use Rattle.sock_diag_attributes.specs.Numbers.{numbers_in}
 
--- the numbers in the borrowed bytes
+-- the numbers in the borrowed bytes, four bytes each, little-endian
 abbrev pub numbers_view_model : NumbersView → List ℕ
 numbers_view_model numbers = numbers_in numbers.bytes.now
 

@@ -6,7 +6,8 @@ use Rattle.netlink_core.specs.Parse.{parse_text}
 use Rattle.netlink_core.specs.ValueCodec.{ValueCodec}
 use Rattle.netlink_core.specs.AttributeSpecs.{whole_value_codec}
 
--- `right` is `left` with one zero byte added, and `left` does not end in a zero byte
+-- `AddsTerminatingNul left right`: `right` is `left` with one zero byte added, and `left` does not
+-- end in a zero byte
 abbrev pub AddsTerminatingNul : List ℕ → List ℕ → Type 0
 AddsTerminatingNul left right =
     ¬ ((front : List ℕ) × (left ≡ front ++ 0 ∷ [])) × (right ≡ left ++ 0 ∷ [])

@@ -18,9 +18,10 @@ use Rattle.sock_diag_records.specs.declared.constants.TheConstants.{UNIX_DIAG_SH
 
 -- Types 0 (the name), 1 (`struct unix_diag_vfs`), 2 (the inode of the peer), 3 (the inodes of the
 -- connections that wait to be accepted), 4 (`struct unix_diag_rqlen`), 5 (`u32` values, indexed by
--- SK_MEMINFO_..) and 6 (the directions that are shut down). `number_attribute_spec t w` is a
--- little-endian number of exactly `w` bytes. The value of a `allocating_attribute_spec` needs
--- memory, the value of any other type does not.
+-- SK_MEMINFO_..) and 6 (the directions that are shut down). `attribute_spec t codec` is type `t`,
+-- whose value is parsed and serialized by `codec`; `value_codec layout` is the codec of a record.
+-- `number_attribute_spec t w` is a little-endian number of exactly `w` bytes. The value of an
+-- `allocating_attribute_spec` needs memory, the value of any other type does not.
 abbrev pub unix_attribute_set : AttributeSet
 unix_attribute_set =
     allocating_attribute_spec UNIX_DIAG_NAME name_value ∷

@@ -29,8 +29,9 @@ use Rattle.sock_diag_records.specs.declared.constants.TheConstants.{UNIX_DIAG_SH
 -- value of a raw attribute.
 module _ {N L O : Type 0} (name : N → SocketName (List ℕ)) (list : L → List ℕ)
     (other : O → Attribute) where
-  -- the decoded value of an attribute; no type in the set has the number 0xffff, so that `Other` is
-  -- a raw attribute
+  -- The decoded value of an attribute. `value_as_decoded set kind x` is the value `x` of the type
+  -- of this kind in the set. No type in the set has the number 0xffff, so that `Other` is a raw
+  -- attribute.
   abbrev pub unix_nla_value : UnixNla N L O → AttributeValue unix_attribute_set
   unix_nla_value (nla.Name n) = value_as_decoded unix_attribute_set UNIX_DIAG_NAME (name n)
   unix_nla_value (nla.Vfs v) = value_as_decoded unix_attribute_set UNIX_DIAG_VFS v
@@ -43,7 +44,9 @@ module _ {N L O : Type 0} (name : N → SocketName (List ℕ)) (list : L → Lis
   unix_nla_value (nla.Shutdown n) = value_as_decoded unix_attribute_set UNIX_DIAG_SHUTDOWN n
   unix_nla_value (nla.Other a) = value_as_decoded unix_attribute_set 0xffff (other a)
 
--- the variant of a decoded value; the values of the types are nested in the order of the set
+-- The variant of a decoded value. The values of the types are nested in the order of the set:
+-- `inl name` is a value of the first type, `inr (inl file)` one of the second, and so on; after
+-- seven `inr` it is a raw attribute.
 abbrev pub unix_variant : AttributeValue unix_attribute_set
     → UnixNla (SocketName (List ℕ)) (List ℕ) Attribute
 unix_variant (inl name) = nla.Name name
@@ -55,12 +58,12 @@ unix_variant (inr (inr (inr (inr (inr (inl memory)))))) = nla.MemInfo memory
 unix_variant (inr (inr (inr (inr (inr (inr (inl state))))))) = nla.Shutdown state
 unix_variant (inr (inr (inr (inr (inr (inr (inr other))))))) = nla.Other other
 
--- the model of an owned attribute
+-- the model of an owned attribute: its decoded value
 abbrev pub unix_nla_model : UnixNla (SocketName (Vec ℕ Global)) (Vec ℕ Global) DefaultNla
     → AttributeValue unix_attribute_set
 unix_nla_model a = unix_nla_value (socket_name_model vec_items) vec_items raw_attribute a
 
--- the model of a borrowed attribute
+-- the model of a borrowed attribute: its decoded value, with the bytes that it borrows
 abbrev pub unix_nla_view_model : UnixNla (SocketName (Bor (List ℕ))) NumbersView NlaBuffer
     → AttributeValue unix_attribute_set
 unix_nla_view_model a = unix_nla_value (socket_name_model (λ (b : Bor (List ℕ)). b.now))

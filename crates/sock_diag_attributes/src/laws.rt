@@ -18,7 +18,9 @@ use crate::unix::nlas::{
 use netlink_core::Readable;
 use std::alloc::AllocError;
 
-/// Parsers of owned attributes, of both families, and of owned names may need to allocate.
+/// States that `TAKES_MEMORY` is true for owned attributes of replies about UNIX sockets, for those
+/// of replies about IPv4 and IPv6 sockets, and for owned names: their parsers may allocate, and may
+/// return `Memory`.
 pub fn readers_take_memory() -> (bool, bool, bool)
     ensures { result ≡ (true, true, true) }
 {
@@ -29,22 +31,28 @@ pub fn readers_take_memory() -> (bool, bool, bool)
     )
 }
 
-/// Each decoded value of an attribute of a reply about a UNIX socket is the model of its variant.
+/// States that each decoded value of an attribute of a reply about a UNIX socket is the model of
+/// its variant: `unix_model` (`unix_nla_value`) returns the decoded value from which `unix_variant`
+/// makes a variant. The three functions say how the parts of a variant are modelled, here as they
+/// are.
 #[tactic(auto, using(crate::specs::laws::Variant::same_unix_variant))]
 pub fn unix_values_are_variants()
     ensures { (v : AttributeValue unix_attribute_set)
         → unix_model (λ name. name) (λ list. list) (λ other. other) (unix_variant v) ≡ v }
 {}
 
-/// Each decoded value of an attribute of a reply about an IPv4 or IPv6 socket is the model of its
-/// variant.
+/// States that each decoded value of an attribute of a reply about an IPv4 or IPv6 socket is the
+/// model of its variant: `inet_model` (`inet_nla_value`) returns the decoded value from which
+/// `inet_variant` makes a variant. The two functions say how the parts of a variant are modelled,
+/// here as they are.
 #[tactic(auto, using(crate::specs::laws::Variant::same_inet_variant))]
 pub fn inet_values_are_variants()
     ensures { (v : AttributeValue inet_attribute_set)
         → inet_model (λ text. text) (λ other. other) (inet_variant v) ≡ v }
 {}
 
-/// `==` of two borrowed names is true if and only if the names are equal.
+/// States that `==` of two borrowed names is true if and only if both are paths or both are
+/// abstract, with the same bytes.
 pub fn equal_name_views(v: &NameView<'_>, w: &NameView<'_>) -> bool
     ensures { IsTrue result ↔ (socket_name_model (λ b. b.now) v.now
         ≡ socket_name_model (λ b. b.now) w.now) }
@@ -52,7 +60,8 @@ pub fn equal_name_views(v: &NameView<'_>, w: &NameView<'_>) -> bool
     v == w
 }
 
-/// `==` of two borrowed lists of numbers is true if and only if the numbers are equal.
+/// States that `==` of two borrowed lists is true if and only if they have the same numbers in the
+/// same order.
 #[tactic(auto, using(crate::specs::laws::EqualUnix::number_views_equal))]
 pub fn equal_numbers_views(v: &NumbersView<'_>, w: &NumbersView<'_>) -> bool
     ensures { IsTrue result ↔ (numbers_view_model v.now ≡ numbers_view_model w.now) }
@@ -60,23 +69,26 @@ pub fn equal_numbers_views(v: &NumbersView<'_>, w: &NumbersView<'_>) -> bool
     v == w
 }
 
-/// `==` of two borrowed attributes of replies about UNIX sockets is true if and only if their
-/// models are equal.
+/// States that `==` of two borrowed attributes of replies about UNIX sockets is true if and only if
+/// they have the same kind and equal values, by their models. Raw attributes are equal if they have
+/// the same type field, with its flag bits, and the same bytes.
 pub fn equal_unix_views(v: &UnixNlaView<'_>, w: &UnixNlaView<'_>) -> bool
     ensures { IsTrue result ↔ (unix_view_model v.now ≡ unix_view_model w.now) }
 {
     v == w
 }
 
-/// `==` of two borrowed attributes of replies about IPv4 or IPv6 sockets is true if and only if
-/// their models are equal.
+/// States that `==` of two borrowed attributes of replies about IPv4 or IPv6 sockets is true if and
+/// only if they have the same kind and equal values, by their models. Raw attributes are equal if
+/// they have the same type field, with its flag bits, and the same bytes.
 pub fn equal_inet_views(v: &InetNlaView<'_>, w: &InetNlaView<'_>) -> bool
     ensures { IsTrue result ↔ (inet_view_model v.now ≡ inet_view_model w.now) }
 {
     v == w
 }
 
-/// The clone of a borrowed name is the same name.
+/// Clones a borrowed name, which never fails and returns a name with the same bytes: a path for a
+/// path, and an abstract name for an abstract one.
 pub fn copied_name_view<'a>(view: &NameView<'a>) -> Result<NameView<'a>, AllocError>
     ensures ok { IsOk result }
     ensures same { IfOk result (λ copy. socket_name_model (λ b. b.now) copy

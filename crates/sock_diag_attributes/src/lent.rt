@@ -31,8 +31,8 @@ pub(crate) trait OtherNla {
     fn bytes(&self) -> &[u8]
         ensures { result.now ≡ (attribute self.now).value };
 
-    /// Returns the owned attribute. Fails only if an allocation fails. An empty value needs no
-    /// allocation.
+    /// Returns the owned attribute, with the same type field and value. Fails only if an allocation
+    /// fails. An empty value needs no allocation.
     fn to_kept(&self, alloc: Global) -> Result<DefaultNla, AllocError>
         ensures equal { IfOk result (λ kept. raw_attribute kept ≡ attribute self.now) }
         ensures spare { (attribute self.now).value ≡ [] → IsOk result };
@@ -81,7 +81,8 @@ pub(crate) trait LendsName {
     // The name with its bytes.
     ghost name: { Self → SocketName (List ℕ) };
 
-    /// Returns the name with borrowed bytes.
+    /// Returns the name with borrowed bytes: a path for a path, and an abstract name for an
+    /// abstract one.
     fn lent_name(&self) -> NameView<'_>
         ensures { socket_name_model (λ b. b.now) result ≡ name self.now };
 }
@@ -109,9 +110,11 @@ pub(crate) trait LendsNumbers {
     // The numbers in the list.
     ghost numbers: { Self → List ℕ };
 
-    /// Returns the numbers as the value of an attribute.
+    /// Returns the numbers as the value of an attribute, which serializes to four bytes for each
+    /// number, little-endian.
     fn lent_value(&self) -> Value<'_>
         ensures bytes { value_bytes result ≡ flat_map (little_bytes 4) (numbers self.now) }
+        // Proof only: if the value is in range, each number is below 2^32.
         ensures in_range { IsValueInRange result
             → AllByRecursion (λ n. n < 2 ^ 32) (numbers self.now) };
 

@@ -109,7 +109,7 @@ impl<'a> NumbersView<'a> {
         self.bytes.is_empty()
     }
 
-    /// Returns an iterator over the numbers.
+    /// Returns an iterator that yields all of the numbers, in order.
     pub fn iter(&self) -> NumbersIterator<'a>
         ensures { numbers_left result ≡ numbers_view_model self.now }
     {
@@ -124,8 +124,8 @@ impl<'a> NumbersView<'a> {
         self.bytes
     }
 
-    /// Returns the numbers in an owned list. Fails only if an allocation fails. An empty list needs
-    /// no allocation.
+    /// Returns the numbers in an owned list, in order. Fails only if an allocation fails. An empty
+    /// list needs no allocation.
     pub fn to_owned(&self, alloc: Global) -> Result<Vec<u32>, AllocError>
         ensures equal { IfOk result (λ numbers. numbers.items ≡ numbers_view_model self.now) }
         ensures spare { numbers_view_model self.now ≡ [] → IsOk result }
@@ -150,6 +150,8 @@ impl<'a> Iterator for NumbersIterator<'a> {
 
     type Item = u32;
 
+    // `next` yields the first of the numbers left (`numbers_left`), after which only the others are
+    // left, or `None` if there is none.
     ghost next_gives = { λ old item new. YieldsFirst numbers_left old item new };
 
     ghost remaining = { λ walk. item_count numbers_left walk };
@@ -164,9 +166,11 @@ impl<'a> Iterator for NumbersIterator<'a> {
         Some(LittleEndian::read_u32(bytes))
     }
 
-    /// Returns the exact count of the numbers that were not yielded yet.
+    /// Returns the exact count of the numbers that were not yielded yet, as the lower bound and as
+    /// the upper bound.
     #[tactic(auto, using(crate::specs::laws::Number::count_of_numbers_in))]
     fn size_hint(&self) -> (usize, Option<usize>)
+        // `lower` and `upper` are the clauses that the trait requires of every iterator.
         ensures lower { IsWithinCount result.0 (item_count numbers_left self.now) }
         ensures upper { IfSome result.1 (UpTo (item_count numbers_left self.now)) }
         ensures exact { result ≡ (
@@ -178,8 +182,8 @@ impl<'a> Iterator for NumbersIterator<'a> {
     }
 }
 
-/// Writes the two numbers, little-endian, at the start of `buffer`. The bytes after them are
-/// unchanged.
+/// Writes the two numbers, four bytes each, little-endian, at the start of `buffer`, which has at
+/// least 8 bytes. The bytes after them are unchanged.
 pub(crate) fn emit_u32_pair(first: u32, second: u32, buffer: &mut [u8])
     requires { 8 ≤ length buffer.old }
     ensures { buffer.new ≡ little_bytes 4 first ++ little_bytes 4 second
@@ -188,7 +192,8 @@ pub(crate) fn emit_u32_pair(first: u32, second: u32, buffer: &mut [u8])
     LittleEndian::write_u32_into(&[first, second], &mut buffer[..8]);
 }
 
-/// Writes the numbers, little-endian, at the start of `buffer`. The bytes after them are unchanged.
+/// Writes the numbers, four bytes each, little-endian, at the start of `buffer`, which is long
+/// enough. The bytes after them are unchanged.
 #[tactic(auto, using(crate::specs::laws::Number::length_numbers, crate::specs::laws::Number::numbers_prefix_length))]
 pub(crate) fn emit_numbers(numbers: &[u32], buffer: &mut [u8])
     requires { length (flat_map (little_bytes 4) numbers.now) ≤ length buffer.old }

@@ -3,8 +3,8 @@
 ghost use Rattle.std.specs.Prelude.{◌≤◌, [], ◌∷◌, ◌++◌, length, IsUtf8};
 ghost use Rattle.netlink_core.specs.Bytes.{HoldsAtStart, IsBytes};
 
-/// Writes the text and a terminating NUL at the start of `buffer`. The bytes after them are
-/// unchanged.
+/// Writes the text and a terminating NUL at the start of `buffer`, which is long enough. The bytes
+/// after them are unchanged.
 pub(crate) fn emit_text(text: &str, buffer: &mut [u8])
     requires { length (text.now ++ 0 ∷ []) ≤ length buffer.old }
     ensures { HoldsAtStart (text.now ++ 0 ∷ []) buffer.old buffer.new }

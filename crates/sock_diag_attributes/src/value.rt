@@ -51,7 +51,8 @@ impl Value<'_> {
         }
     }
 
-    /// Writes the value at the start of `buffer`. The bytes after it are unchanged.
+    /// Writes the serialized value at the start of `buffer`, which is long enough. The bytes after
+    /// it are unchanged.
     #[inline(always)]
     pub(crate) fn emit(&self, buffer: &mut [u8])
         requires { length (value_bytes self.now) ≤ length buffer.old }

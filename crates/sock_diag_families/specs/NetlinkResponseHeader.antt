@@ -5,7 +5,7 @@ use Rattle.netlink_core.specs.Rows.{skip, u8, u32, u64}
 use Rattle.netlink_core.specs.declared.fault.RecordName.TheVariants as name
 use Rattle.sock_diag_families.specs.declared.netlink.response.NetlinkResponseHeader.{NetlinkResponseHeader}
 
--- the header with these numbers in the fields that are not ignored
+-- the header with these numbers in the fields that are not ignored, in the order of the rows below
 abbrev pub netlink_header_of : List ℕ → NetlinkResponseHeader
 netlink_header_of values = record {
   kind = slice_index values 0;

@@ -5,7 +5,7 @@ use Rattle.netlink_core.specs.Rows.{skip, u8, u32, u64}
 use Rattle.netlink_core.specs.declared.fault.RecordName.TheVariants as name
 use Rattle.sock_diag_families.specs.declared.request.ShowRequest.{ShowRequest}
 
--- the request with these numbers in the fields that are not ignored
+-- the request with these numbers in the fields that are not ignored, in the order of the rows below
 abbrev pub show_request_of : {family : ℕ} → List ℕ → ShowRequest family
 show_request_of values = record {
   protocol = slice_index values 0;
@@ -16,9 +16,10 @@ show_request_of values = record {
 
 -- `struct netlink_diag_req` (linux/netlink_diag.h), `struct packet_diag_req` (linux/packet_diag.h)
 -- or `struct xdp_diag_req` (linux/xdp_diag.h), by the family AF_NETLINK (16), AF_PACKET (17) or
--- AF_XDP (44). `sdiag_family` and `pad` are ignored, and serialized as the family and 0.
--- `sdiag_protocol`, `*_ino`, `*_show` and `*_cookie` follow. Arguments of `plain`: the name in
--- errors, the length in bytes, the rows, their inverse, and the condition on arrays (none).
+-- AF_XDP (44). `sdiag_family` at 0 and `pad` at 2 are ignored, and serialized as the family and 0;
+-- `family % 256` is the family, which has one byte. The others are `sdiag_protocol` at 1, `*_ino`
+-- at 4, `*_show` at 8 and `*_cookie` at 12. Arguments of `plain`: the name in errors, the length in
+-- bytes, the rows, their inverse, and the condition on arrays (none).
 abbrev pub show_request : (family : ℕ) → Layout (Unit {0}) (Unit {0}) (ShowRequest family)
 show_request family = plain (name.FamilyRequest family) 20 (
     skip 0 (family % 256 ∷ []) ∷

@@ -5,7 +5,7 @@ use Rattle.netlink_core.specs.Rows.{skip, u32, u64}
 use Rattle.netlink_core.specs.declared.fault.RecordName.TheVariants as name
 use Rattle.sock_diag_families.specs.declared.vsock.request.VsockRequest.{VsockRequest}
 
--- the request with these numbers in the fields that are not ignored
+-- the request with these numbers in the fields that are not ignored, in the order of the rows below
 abbrev pub vsock_request_of : List ℕ → VsockRequest
 vsock_request_of values = record { states = slice_index values 0; cookie = slice_index values 1 }
 

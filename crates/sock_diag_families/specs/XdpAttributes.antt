@@ -16,8 +16,8 @@ xdp_info = fields 44 1 8 (λ bytes. record {
   queue = u32_at 4 bytes;
 })
 
--- `struct xdp_diag_umem` (linux/xdp_diag.h): `size`, `id`, `num_pages`, `chunk_size`, `headroom`,
--- `ifindex`, `queue_id`, `flags`, `refs`
+-- `struct xdp_diag_umem` (linux/xdp_diag.h), in at least 40 bytes: `size`, `id`, `num_pages`,
+-- `chunk_size`, `headroom`, `ifindex`, `queue_id`, `flags`, `refs`
 abbrev pub xdp_umem_fields : List ℕ → XdpUmem
 xdp_umem_fields bytes = record {
   size = u64_at 0 bytes;
@@ -31,12 +31,12 @@ xdp_umem_fields bytes = record {
   references = u32_at 36 bytes;
 }
 
--- the value of `XDP_DIAG_UMEM` (5)
+-- the value of `XDP_DIAG_UMEM` (5), if it has at least 40 bytes
 abbrev pub xdp_umem : List ℕ → Result XdpUmem DecodeError
 xdp_umem = fields 44 5 40 xdp_umem_fields
 
--- `struct xdp_diag_stats` (linux/xdp_diag.h): `n_rx_dropped`, `n_rx_invalid`, `n_rx_full`,
--- `n_fill_ring_empty`, `n_tx_invalid`, `n_tx_ring_empty`
+-- `struct xdp_diag_stats` (linux/xdp_diag.h), in at least 48 bytes: `n_rx_dropped`, `n_rx_invalid`,
+-- `n_rx_full`, `n_fill_ring_empty`, `n_tx_invalid`, `n_tx_ring_empty`
 abbrev pub xdp_statistics_fields : List ℕ → XdpStatistics
 xdp_statistics_fields bytes = record {
   received_dropped = u64_at 0 bytes;
@@ -47,6 +47,6 @@ xdp_statistics_fields bytes = record {
   send_ring_empty = u64_at 40 bytes;
 }
 
--- the value of `XDP_DIAG_STATS` (9)
+-- the value of `XDP_DIAG_STATS` (9), if it has at least 48 bytes
 abbrev pub xdp_statistics : List ℕ → Result XdpStatistics DecodeError
 xdp_statistics = fields 44 9 48 xdp_statistics_fields

@@ -33,8 +33,8 @@ use crate::xdp::{
 use crate::{SHOW_REQUEST_LEN, WholeNla};
 use std::alloc::AllocError;
 
-/// States that `==` of two attributes returns true if and only if they have the same type field and
-/// the same value.
+/// States that `==` of two attributes returns true if and only if they have the same type field,
+/// with its two flag bits, and the same bytes in their values.
 #[tactic(auto, using(netlink_core::proofs::ValueTests::attribute_test_decides))]
 pub fn equal_whole_nlas(v: &WholeNla<'_>, w: &WholeNla<'_>) -> bool
     ensures { IsTrue result ↔ (buffered_attribute v.now.0 ≡ buffered_attribute w.now.0) }
@@ -42,7 +42,8 @@ pub fn equal_whole_nlas(v: &WholeNla<'_>, w: &WholeNla<'_>) -> bool
     v == w
 }
 
-/// States that `clone` returns the same attribute, and never fails.
+/// States that `clone` never fails, and returns an attribute with the same type field and the same
+/// bytes.
 pub fn copied_whole_nla<'a>(nla: &WholeNla<'a>) -> Result<WholeNla<'a>, AllocError>
     ensures ok { IsOk result }
     ensures same { IfOk result (λ copy. buffered_attribute copy.0 ≡ buffered_attribute nla.now.0) }
@@ -50,7 +51,10 @@ pub fn copied_whole_nla<'a>(nla: &WholeNla<'a>) -> Result<WholeNla<'a>, AllocErr
     nla.clone()
 }
 
-/// States the value of each constant, and that each size is the size in its layout.
+/// States the value of each constant of this crate. Most clauses list pairs of a constant and its
+/// value, and `PairsAreEqual` says that both numbers of each pair are equal. Each size is the
+/// fewest bytes that the record is parsed from (`least` of its layout); `SHOW_REQUEST_LEN` is that
+/// for each family.
 pub fn family_constants_have_their_numbers()
     ensures families { PairsAreEqual ((AF_VSOCK, 40) ∷ (AF_XDP, 44) ∷ []) }
     ensures netlink_requests { PairsAreEqual ((NDIAG_PROTO_ALL, 255) ∷ (NDIAG_SHOW_MEMINFO, 1) ∷

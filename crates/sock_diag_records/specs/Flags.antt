@@ -3,8 +3,9 @@
 use Rattle.std.specs.Prelude.{ℕ, ◌^◌, ◌==◌, List, [], ◌∷◌, ◌++◌, codes, map}
 use Rattle.std.specs.List.{enumerate_from, slice_split}
 
--- the words of a text that is separated by spaces, each with its bit: 2^n for the first, 2^(n + 1)
--- for the second, and so on
+-- `named_bits_from n text`: the words of a text that is separated by spaces (character 32), each
+-- with its bit: 2^n for the first, 2^(n + 1) for the second, and so on.
+-- `named_bits_from 1 (codes "A B")` is `(codes "A", 2) ∷ (codes "B", 4) ∷ []`.
 abbrev pub named_bits_from : ℕ → List ℕ → List (List ℕ × ℕ)
 named_bits_from n text = map (λ w. (w.1, 2 ^ w.0))
     (enumerate_from n (slice_split (λ c. c == 32) text))

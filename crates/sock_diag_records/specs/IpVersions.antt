@@ -15,13 +15,14 @@ pub data IpVersion : Type 0 where
 abbrev pub IpVersions : Type 0
 IpVersions = IpVersion × IpVersion
 
--- the IP versions for an address family: AF_INET (2) or AF_INET6 (10); the error for another family
+-- the IP versions for an address family: AF_INET (2) or AF_INET6 (10), the same for both addresses;
+-- for another family the error, which contains it
 abbrev pub versions_of_family : ℕ → Result IpVersions DecodeError
 versions_of_family family = if family == 2 then Ok (ipv4, ipv4)
     else if family == 10 then Ok (ipv6, ipv6) else Err (UnsupportedFamily family)
 
--- the IP version of an address, the number of its octets or segments, and these: four octets or
--- eight segments
+-- the IP version of an address (`.0`), the number of its octets or segments (`.1`), and these
+-- (`.2`): four octets or eight segments
 abbrev pub address_data : IpAddr → IpVersion × ℕ × List ℕ
 address_data (V4 ip) = (ipv4, 4, ip.octets)
 address_data (V6 ip) = (ipv6, 8, ip.segments)

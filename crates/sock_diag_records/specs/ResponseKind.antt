@@ -11,10 +11,11 @@ use Rattle.netlink_core.specs.declared.fault.DecodeError.TheVariants.{UnknownMes
 pub data MessageKind : Type 0 where
   inet_request inet_response unix_request unix_response : MessageKind
 
--- The kind of reply that the payload `b` of a netlink message of type `t` is, or its error. The
--- errors are checked in this order: fewer than two bytes; a type other than SOCK_DIAG_BY_FAMILY
--- (20); a first byte (`idiag_family`, `udiag_family`) other than AF_UNIX (1), AF_INET (2) and
--- AF_INET6 (10).
+-- `response_kind b t`: the kind of reply that the payload `b` of a netlink message of type `t` is,
+-- or its error. The errors are checked in this order: fewer than two bytes; a type other than
+-- SOCK_DIAG_BY_FAMILY (20); a first byte (`idiag_family`, `udiag_family`) other than AF_UNIX (1),
+-- AF_INET (2) and AF_INET6 (10). They contain the number of bytes, the type and the first byte. No
+-- other byte is considered here.
 abbrev pub response_kind : List ℕ → ℕ → Result MessageKind DecodeError
 response_kind b t =
     if nat_lt (length b) 2 then Err (MessageTooShort (length b))

@@ -13,6 +13,7 @@ IsInetFamily family = (family ≡ 2) ⊎ (family ≡ 10)
 --   4..20   `idiag_src`: 4..8 for AF_INET, all for AF_INET6
 --   20..36  `idiag_dst`: 20..24 for AF_INET, all for AF_INET6
 --   36..48  `idiag_if`, `idiag_cookie`
+-- The masks are not used for other families.
 abbrev pub socket_id_masks : ℕ → List ℕ
 socket_id_masks family =
     if family == 2 then significant 8 ++ ignored 12 ++ significant 4 ++ ignored 12 ++ significant 12

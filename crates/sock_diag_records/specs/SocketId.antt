@@ -13,24 +13,28 @@ use Rattle.sock_diag_records.specs.inverse.SocketId.{socket_id_of}
 use Rattle.netlink_core.specs.Table.{network, array}
 use Rattle.netlink_core.specs.Rows.{Row, be16, u32, u8s}
 
--- the fields of an address at an offset: four octets and twelve ignored bytes, or eight segments
+-- `address_fields offset version`: the fields of an address whose 16 bytes start at the offset. For
+-- IPv4: four octets, and twelve bytes that are ignored and serialized as 0. For IPv6: eight
+-- segments of two bytes, big-endian.
 abbrev pub address_fields : (offset : ℕ) → IpVersion → List Field
 address_fields offset ipv4 = bytes_at offset 4 ++ unread (offset + 4) (replicate 12 0) ∷ []
 address_fields offset ipv6 = array network offset 2 8
 
--- the four octets or eight segments of an address
+-- the four octets or eight segments of an address, one for each field of `address_fields` that is
+-- not ignored
 abbrev pub address_values : IpAddr → List ℕ
 address_values address = first_numbers (address_data address).1 (address_data address).2
 
 -- ---- the record
 
--- a row for an address: its offset, its IP version, and the member of `SocketId` that is stored
--- there; in C `__be32[4]`
+-- `address offset version member`: the row for an address at the offset, in C `__be32[4]`, of this
+-- IP version. `member` is the member of `SocketId` that is stored there.
 abbrev pub address : (offset : ℕ) → IpVersion → (SocketId → IpAddr) → Row SocketId
 address offset version get = (address_fields offset version, λ value. address_values (get value))
 
--- `struct inet_diag_sockid` (linux/inet_diag.h) at an offset: `idiag_sport`, `idiag_dport`,
--- `idiag_src`, `idiag_dst`, `idiag_if`, `idiag_cookie`
+-- `socket_id_rows offset versions`: `struct inet_diag_sockid` (linux/inet_diag.h) that starts at
+-- the offset of an outer struct, with a local and a remote address of these IP versions:
+-- `idiag_sport`, `idiag_dport`, `idiag_src`, `idiag_dst`, `idiag_if`, `idiag_cookie`
 abbrev pub socket_id_rows : (offset : ℕ) → IpVersions → List (Row SocketId)
 socket_id_rows offset versions =
     be16 offset SocketId.source_port ∷
@@ -49,9 +53,10 @@ abbrev pub HasArrayLengths : SocketId → Type 0
 HasArrayLengths v = IsAddress v.source_address × IsAddress v.destination_address
     × (length v.cookie ≡ 8)
 
--- `struct inet_diag_sockid` by itself. The parameter is the address family. It has to be AF_INET or
--- AF_INET6, and selects the IP version of both addresses. In normal form (`is_own`) both addresses
--- are of this version.
+-- `struct inet_diag_sockid` by itself. The parameter is the address family, which is not in these
+-- bytes. It has to be AF_INET or AF_INET6, and selects the IP version of both addresses (`tag_at`).
+-- A value is serialized with each address in its own IP version (`tag_of`). In normal form
+-- (`is_own`) both addresses are of the version of the family.
 unfoldable pub socket_id : Layout ℕ IpVersions SocketId
 socket_id = record {
   name = name.SocketId;

@@ -20,8 +20,9 @@ timer_class timer = if nat_lt timer 5 then timer else 0
 abbrev pub IsWholeU32Milliseconds : Duration → Type 0
 IsWholeU32Milliseconds time = as_nanos time ≡ u32_milliseconds time * 1_000_000
 
--- the class of a timer (`idiag_timer`), its number of retransmits (`idiag_retrans`) and its
--- duration (`idiag_expires`); 0 for each that the timer does not have
+-- The class of a timer (`idiag_timer`), its number of retransmits (`idiag_retrans`) and its
+-- duration (`idiag_expires`); 0 for each that the timer does not have. Members `.0`, `.1` and `.2`
+-- of the result.
 abbrev pub timer_data : Option Timer → ℕ × ℕ × Duration
 timer_data (Some (Retransmit expires count)) = (1, count, expires)
 timer_data (Some (KeepAlive expires)) = (2, 0, expires)

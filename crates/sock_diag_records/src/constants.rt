@@ -450,7 +450,8 @@ pub const SHUT_WR: u8 = 1;
 /// Disables receiving and sending.
 pub const SHUT_RDWR: u8 = 2;
 
-/// States the value of each constant of this module.
+/// States the value of each constant of this module. Each clause lists pairs of a constant and its
+/// value, and `PairsAreEqual` says that both numbers of each pair are equal.
 ///
 /// Proof only: the contract states the property.
 pub fn constants_have_their_numbers()

@@ -1,5 +1,10 @@
-//! Laws of the five records: their equivalence (`idle`), stated on bytes, and their sizes. A mask
-//! for each byte defines the significant bits.
+//! Laws of the five records: their equivalence (`idle`), stated on bytes, and their sizes.
+//!
+//! Two byte strings are equivalent if both are accepted and parse as equal values. In the contracts
+//! `EqualUnder masks b c` says that `b` and `c` have the same bits under the masks, one for each
+//! byte from the first on: a bit that is 1 in the mask is significant, a bit that is 0 is ignored.
+//! No byte after these is compared. `IsInetFamily` says that a number is `AF_INET` (2) or
+//! `AF_INET6` (10).
 //!
 //! Proof only: the contracts state the property.
 
@@ -26,7 +31,7 @@ use netlink_core::Coded;
 
 /// States that two byte strings are equivalent as [`SocketId`] of a family if and only if both have
 /// at least 48 bytes, the family is `AF_INET` or `AF_INET6`, and the bits that are significant for
-/// the family are equal.
+/// the family are equal. The family is the parameter of the parser, and not in the bytes.
 pub fn equivalent_socket_ids()
     ensures { (family : ℕ) (b c : List ℕ) → IsBytes b → IsBytes c
         → ⟦<SocketId as Coded>⟧.codec.idle family b c
@@ -34,9 +39,10 @@ pub fn equivalent_socket_ids()
         × EqualUnder (socket_id_masks family) b c) }
 {}
 
-/// States that two byte strings are equivalent as [`InetRequest`] if and only if both have at least
-/// 56 bytes, the family in the first one is `AF_INET` or `AF_INET6`, and the bits that are
-/// significant for this family are equal. The family itself is significant.
+/// States that two byte strings `b` and `c` are equivalent as [`InetRequest`] if and only if both
+/// have at least 56 bytes, the family of `b`, its first byte, is `AF_INET` or `AF_INET6`, and the
+/// bits that are significant for this family are equal. The first byte is significant, so `c` has
+/// the same family.
 pub fn equivalent_inet_requests()
     ensures { (b c : List ℕ) → IsBytes b → IsBytes c
         → ⟦<InetRequest as Coded>⟧.codec.idle tt b c
@@ -44,10 +50,11 @@ pub fn equivalent_inet_requests()
         × EqualUnder (inet_request_masks (slice_index b 0)) b c) }
 {}
 
-/// States that two byte strings are equivalent as [`InetResponseHeader`] if and only if both have
-/// at least 72 bytes, the family in the first one is `AF_INET` or `AF_INET6`, both timer bytes have
-/// the same class, and the bits that are significant for the first one's family and timer are
-/// equal. The family itself is significant.
+/// States that two byte strings `b` and `c` are equivalent as [`InetResponseHeader`] if and only if
+/// both have at least 72 bytes, the family of `b`, its first byte, is `AF_INET` or `AF_INET6`, the
+/// timer bytes of both, at offset 2, have the same class (1, 2, 3, 4, or any other number), and the
+/// bits that are significant for the family and the timer of `b` are equal. The first byte is
+/// significant, so `c` has the same family.
 pub fn equivalent_inet_response_headers()
     ensures { (b c : List ℕ) → IsBytes b → IsBytes c
         → ⟦<InetResponseHeader as Coded>⟧.codec.idle tt b c
@@ -57,7 +64,8 @@ pub fn equivalent_inet_response_headers()
 {}
 
 /// States that two byte strings are equivalent as [`UnixRequest`] if and only if both have at least
-/// 24 bytes, and their significant bits are equal.
+/// 24 bytes, and their significant bits are equal: the two named state flags, the inode, the six
+/// named show flags and the cookie. The first four bytes, with the family, are ignored.
 pub fn equivalent_unix_requests()
     ensures { (b c : List ℕ) → IsBytes b → IsBytes c
         → ⟦<UnixRequest as Coded>⟧.codec.idle tt b c
@@ -65,14 +73,16 @@ pub fn equivalent_unix_requests()
 {}
 
 /// States that two byte strings are equivalent as [`UnixResponseHeader`] if and only if both have
-/// at least 16 bytes, and their significant bits are equal.
+/// at least 16 bytes, and their significant bytes are equal: the type, the state, the inode and the
+/// cookie. The bytes at offsets 0, the family, and 3 are ignored.
 pub fn equivalent_unix_response_headers()
     ensures { (b c : List ℕ) → IsBytes b → IsBytes c
         → ⟦<UnixResponseHeader as Coded>⟧.codec.idle tt b c
         ↔ ((16 ≤ length b) × (16 ≤ length c) × EqualUnder unix_response_header_masks b c) }
 {}
 
-/// States that the constants are the sizes of the layouts.
+/// States that each constant is the fewest bytes that its record is parsed from (`least` of its
+/// layout).
 #[tactic(auto, unfolding(crate::specs::InetRequest::inet_request, crate::specs::InetResponse::inet_response_header, crate::specs::SocketId::socket_id))]
 pub fn sizes_are_those_of_layouts()
     ensures inet_request { INET_REQUEST_LEN ≡ inet_request.least }

@@ -7,8 +7,8 @@ use Rattle.sock_diag_values.specs.inverse.LegacyMemInfo.{legacy_mem_info_of}
 use Rattle.netlink_core.specs.Rows.{u32}
 
 -- `struct inet_diag_meminfo` (linux/inet_diag.h): `idiag_rmem`, `idiag_wmem`, `idiag_fmem`,
--- `idiag_tmem`. Arguments of `plain`: the name in errors, the length in bytes, the rows, their
--- inverse, and the condition on arrays (none).
+-- `idiag_tmem`, in the order of the rows. Arguments of `plain`: the name in errors, the length in
+-- bytes, the rows, their inverse, and the condition on arrays (none).
 abbrev pub legacy_mem_info : Layout (Unit {0}) (Unit {0}) LegacyMemInfo
 legacy_mem_info = plain name.LegacyMemInfo 16 (
     u32 0 LegacyMemInfo.receive_queue ∷

@@ -11,15 +11,19 @@ use Rattle.sock_diag_values.specs.declared.inet.mem_info.MemInfoBytes.TheVariant
 use Rattle.sock_diag_values.specs.declared.inet.mem_info.MemInfoBytes.TheVariants.{Nine}
 use Rattle.netlink_core.specs.Rows.{u32, when}
 
--- The number of whole `u32` in `bytes` bytes, at most nine. It is used for 28 bytes or more.
+-- The number of complete `u32` in `bytes` bytes, at most nine: 7 for 28 to 31 bytes, 8 for 32 to
+-- 35, and 9 for 36 or more. It is not used for fewer than 28 bytes.
 abbrev pub mem_info_u32_count : ℕ → ℕ
 mem_info_u32_count bytes = if nat_lt bytes 32 then 7 else if nat_lt bytes 36 then 8 else 9
 
--- An array of `u32`, indexed by `SK_MEMINFO_*` (linux/sock_diag.h), of at least 28 bytes. The tag
--- is the number of elements. Bytes are parsed with as many elements as they contain. A value is
--- serialized with nine elements if it has drops, else with eight if it has a backlog, else with
--- seven. Drops without a backlog are serialized after a backlog of 0. In normal form (`is_own`) a
--- value with drops has a backlog. There are no arrays to check (`is_shaped`).
+-- An array of `u32`, indexed by `SK_MEMINFO_*` (linux/sock_diag.h), of at least 28 bytes. The rows
+-- are `SK_MEMINFO_RMEM_ALLOC`, `_RCVBUF`, `_WMEM_ALLOC`, `_SNDBUF`, `_FWD_ALLOC`, `_WMEM_QUEUED`,
+-- `_OPTMEM`, `_BACKLOG` and `_DROPS`. The tag is the number of elements. Bytes are parsed with as
+-- many elements as they contain (`tag_at`); a missing backlog or number of drops is `None`. A value
+-- is serialized (`tag_of`) with nine elements if it has drops, else with eight if it has a backlog,
+-- else with seven. Drops without a backlog are serialized after a backlog of 0. In normal form
+-- (`is_own`) a value with drops has a backlog. There are no arrays to check (`is_shaped`).
+-- `when test row`: the row is present if the test holds.
 abbrev pub mem_info : Layout (Unit {0}) ℕ MemInfo
 mem_info = record {
   name = name.MemInfo;
@@ -41,7 +45,7 @@ mem_info = record {
   is_own = λ param value. IfSome value.drops (λ drops. IsSome value.backlog_queue_length);
 }
 
--- the 28, 32 or 36 bytes of seven, eight or nine `u32`
+-- the 28, 32 or 36 bytes in the variant `Seven`, `Eight` or `Nine`
 abbrev pub mem_info_buffer_bytes : MemInfoBytes → List ℕ
 mem_info_buffer_bytes (Seven bytes) = bytes
 mem_info_buffer_bytes (Eight bytes) = bytes

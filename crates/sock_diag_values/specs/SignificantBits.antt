@@ -3,7 +3,7 @@
 use Rattle.std.specs.Prelude.{ℕ, ◌*◌, ◌/◌, List, ◌++◌, length, min}
 use Rattle.netlink_core.specs.SignificantBits.{significant, ignored}
 
--- `struct unix_diag_vfs`: 0..8
+-- `struct unix_diag_vfs`: 0..8, all significant
 abbrev pub vfs_masks : List ℕ
 vfs_masks = significant 8
 
@@ -13,7 +13,7 @@ abbrev pub unix_mem_info_masks : List ℕ
 unix_mem_info_masks = ignored 4 ++ significant 4 ++ ignored 4 ++ significant 4 ++ ignored 4
     ++ significant 4 ++ ignored 12
 
--- `struct inet_diag_meminfo`: 0..16
+-- `struct inet_diag_meminfo`: 0..16, all significant
 abbrev pub legacy_mem_info_masks : List ℕ
 legacy_mem_info_masks = significant 16
 
@@ -21,10 +21,11 @@ legacy_mem_info_masks = significant 16
 abbrev pub whole_u32_count : List ℕ → ℕ
 whole_u32_count bytes = min 9 (length bytes / 4)
 
--- the first `words` elements of the array that `SK_MEMINFO_*` indexes, of four bytes each
+-- `mem_info_masks words`: the first `words` elements of the array that `SK_MEMINFO_*` indexes, of
+-- four bytes each, all significant
 abbrev pub mem_info_masks : ℕ → List ℕ
 mem_info_masks words = significant (4 * words)
 
--- `struct tcp_info` up to `tcpi_snd_wnd`: 0..232
+-- `struct tcp_info` up to `tcpi_snd_wnd`: 0..232, all significant
 abbrev pub tcp_info_masks : List ℕ
 tcp_info_masks = significant 232

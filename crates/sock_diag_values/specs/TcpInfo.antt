@@ -7,9 +7,10 @@ use Rattle.sock_diag_values.specs.inverse.TcpInfo.{tcp_info_of}
 use Rattle.netlink_core.specs.declared.fault.RecordName.TheVariants as name
 
 -- `struct tcp_info` (linux/tcp.h) up to `tcpi_snd_wnd`: each member has the name in C without the
--- prefix `tcpi_`. Two rows are bytes of bit fields: `wscale` is `tcpi_snd_wscale` and
--- `tcpi_rcv_wscale`; `delivery_rate_app_limited` includes `tcpi_fastopen_client_fail`. Newer
--- kernels append members, which are ignored.
+-- prefix `tcpi_`. A row is the width of the member, its offset, and the member of the Rust struct.
+-- All are little-endian. Two rows are bytes of bit fields, which are not split: `wscale` is
+-- `tcpi_snd_wscale` and `tcpi_rcv_wscale`; `delivery_rate_app_limited` includes
+-- `tcpi_fastopen_client_fail`. Newer kernels append members, which are ignored.
 abbrev pub tcp_info_rows : List (Row TcpInfo)
 tcp_info_rows =
     u8 0 TcpInfo.state ∷

@@ -1,5 +1,10 @@
 //! Laws of the five records: their equivalence (`idle`), stated on bytes, and their sizes.
 //!
+//! Two byte strings are equivalent if both are accepted and parse as equal values. In the contracts
+//! `EqualUnder masks b c` says that `b` and `c` have the same bits under the masks, one for each
+//! byte from the first on: 255 for a significant byte, 0 for an ignored one. No byte after these is
+//! compared.
+//!
 //! Proof only: the contracts state the property.
 
 ghost use Rattle.std.specs.Prelude.{◌≡◌, ◌↔◌, ◌≤◌, ◌*◌, ℕ, List, length};
@@ -43,8 +48,8 @@ pub fn equivalent_legacy_mem_infos()
 {}
 
 /// States that two byte strings are equivalent as [`MemInfo`] if and only if both have at least 28
-/// bytes, both have the same number of whole `u32` fields (at most nine are counted), and these
-/// fields are equal.
+/// bytes, both contain the same number of complete `u32` fields (seven, eight or nine; more are not
+/// counted), and these fields are equal.
 pub fn equivalent_mem_infos()
     ensures { (b c : List ℕ) → IsBytes b → IsBytes c → ⟦<MemInfo as Coded>⟧.codec.idle tt b c
         ↔ ((28 ≤ length b) × (28 ≤ length c) × (whole_u32_count b ≡ whole_u32_count c)
@@ -58,8 +63,9 @@ pub fn equivalent_tcp_infos()
         ↔ ((232 ≤ length b) × (232 ≤ length c) × EqualUnder tcp_info_masks b c) }
 {}
 
-/// States that the constants are the sizes of the layouts, of [`MemInfo`] with seven, eight or nine
-/// `u32`.
+/// States that each constant is the fewest bytes that its record is parsed from (`least` of its
+/// layout), for [`MemInfo`] the 28 bytes of seven `u32`; and that `MEM_INFO_EIGHT_LEN` and
+/// `MEM_INFO_LEN` are the bytes of eight and nine `u32`, 32 and 36.
 #[tactic(auto, unfolding(crate::specs::TcpInfo::tcp_info))]
 pub fn sizes_are_those_of_layouts()
     ensures legacy_mem_info { LEGACY_MEM_INFO_LEN ≡ legacy_mem_info.least }

@@ -72,9 +72,11 @@ impl<T: AsStr, O: OtherNla> Emitable for InetNla<T, O> {
     ghost use Rattle.sock_diag_attributes.specs.InetAttributes.{inet_attribute_set};
     ghost use Rattle.sock_diag_attributes.specs.InetModel.{inet_nla_value};
 
+    // The header, the value, and zeros as padding up to a multiple of four.
     ghost bytes = { λ v. attribute_bytes
         (encode_attribute inet_attribute_set (inet_nla_value T.text O.attribute v)) };
 
+    // The value has at most 65,531 bytes.
     ghost writable = { λ v. FitsLengthField
         (encode_attribute inet_attribute_set (inet_nla_value T.text O.attribute v)) };
 
@@ -118,11 +120,15 @@ impl Nla {
     ghost use Rattle.sock_diag_attributes.specs.InetAttributes.{inet_attribute_set};
     ghost use Rattle.sock_diag_attributes.specs.InetModel.{inet_nla_model};
 
-    /// Returns an equal attribute. Fails only if an allocation fails. Only a text, and an attribute
-    /// of another kind whose value is not empty, need an allocation.
+    /// Returns an equal attribute: of the same kind, with an equal value. Fails only if an
+    /// allocation fails. Only a text, and an attribute of another kind whose value is not empty,
+    /// may need an allocation.
     pub fn clone(&self, alloc: Global) -> Result<Self, AllocError>
         ensures equal { IfOk result (λ copy. inet_nla_model copy ≡ inet_nla_model self.now) }
+        // `spare`: no allocation for the types that need no memory: any variant except `Congestion`
+        // and `Other`.
         ensures spare { NeedsNoMemoryIn inet_attribute_set (inet_nla_model self.now) → IsOk result }
+        // `empty`: no allocation if the value serializes to no bytes: an `Other` without bytes.
         ensures empty { (encode_attribute inet_attribute_set (inet_nla_model self.now)).value ≡ []
             → IsOk result }
     {
@@ -197,10 +203,13 @@ impl<'a> NlaView<'a> {
     ghost use Rattle.sock_diag_attributes.specs.InetAttributes.{inet_attribute_set};
     ghost use Rattle.sock_diag_attributes.specs.InetModel.{inet_nla_model, inet_nla_view_model};
 
-    /// Parses the value by the kind of the attribute, whatever its flag bits. An attribute of an
-    /// unknown kind is returned as `Other`.
+    /// Parses the value by the kind of the attribute, whatever its two flag bits. An attribute of
+    /// an unknown kind is returned as `Other`, with its complete type field. Fails with the error
+    /// of the value: `BufferTooSmall` if a record is too short, `WrongLength`, with the kind, if a
+    /// number or a flag has another length, `NotUtf8` if a text is not valid UTF-8.
     #[inline(always)]
     pub fn parse(nla: &NlaBuffer<'a>) -> Result<NlaView<'a>, DecodeError>
+        // `buffered_attribute nla.now`: the type field and the value of `nla`.
         ensures { MatchResult result
             (λ view. decode_attribute inet_attribute_set (buffered_attribute nla.now)
             ≡ Ok (inet_nla_view_model view))
@@ -223,7 +232,7 @@ impl<'a> NlaView<'a> {
         })
     }
 
-    /// Parses the value of an attribute that [`NlaView::parse`] accepts.
+    /// Returns the view that [`NlaView::parse`] returns. Requires that it accepts the attribute.
     #[inline(always)]
     pub fn new(nla: &NlaBuffer<'a>) -> NlaView<'a>
         requires { IsOk (decode_attribute inet_attribute_set (buffered_attribute nla.now)) }
@@ -236,12 +245,17 @@ impl<'a> NlaView<'a> {
         view
     }
 
-    /// Returns the attribute with an owned text and owned bytes. Fails only if an allocation fails.
+    /// Returns the attribute with an owned text and owned bytes: of the same kind, with an equal
+    /// value. Fails only if an allocation fails. Only a text, and an attribute of another kind
+    /// whose value is not empty, may need an allocation.
     #[inline(always)]
     pub fn to_owned(&self, alloc: Global) -> Result<Nla, AllocError>
         ensures equal { IfOk result (λ nla. inet_nla_model nla ≡ inet_nla_view_model self.now) }
+        // `spare`: no allocation for the types that need no memory: any variant except `Congestion`
+        // and `Other`.
         ensures spare { NeedsNoMemoryIn inet_attribute_set (inet_nla_view_model self.now)
             → IsOk result }
+        // `empty`: no allocation if the value serializes to no bytes: an `Other` without bytes.
         ensures empty { (encode_attribute inet_attribute_set (inet_nla_view_model self.now)).value
             ≡ [] → IsOk result }
     {

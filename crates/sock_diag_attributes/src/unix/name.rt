@@ -46,7 +46,8 @@ pub type NameView<'a> = SocketName<&'a [u8]>;
 impl UnixDiagName {
     ghost use Rattle.sock_diag_attributes.specs.NameModel.{socket_name_model};
 
-    /// Returns an equal name. Fails only if an allocation fails. A name that serializes to one byte
+    /// Returns an equal name: a path for a path, and an abstract name for an abstract one, with the
+    /// same bytes. Fails only if an allocation fails. A name that serializes to one byte, its zero,
     /// needs no allocation.
     pub fn clone(&self, alloc: Global) -> Result<Self, AllocError>
         ensures equal { IfOk result (λ name. socket_name_model vec_items name
@@ -71,9 +72,10 @@ impl UnixDiagName {
 impl<'a> NameView<'a> {
     ghost use Rattle.sock_diag_attributes.specs.NameModel.{socket_name_model};
 
-    /// Parses all of the bytes as a name. Returns `NameEmpty` if there are no bytes. For a path,
-    /// returns `NameInnerZero` if the first zero is before the last byte, and `NameWithoutEnd` if
-    /// there is no zero.
+    /// Parses all of the bytes as a name. Returns `NameEmpty` if there are no bytes. If the first
+    /// byte is zero, the name is abstract, with the bytes after it. Otherwise it is a path, without
+    /// the zero at its end: returns `NameInnerZero`, with the index, if the first zero is before
+    /// the last byte, and `NameWithoutEnd` if there is no zero.
     #[inline(always)]
     #[tactic(auto, using(crate::specs::laws::Name::reads_inner_zero, crate::specs::laws::Name::reads_path, crate::specs::laws::Name::reads_no_end))]
     pub fn parse(bytes: &'a [u8]) -> Result<NameView<'a>, DecodeError>
@@ -94,8 +96,8 @@ impl<'a> NameView<'a> {
         }
     }
 
-    /// Returns the name in bytes that [`NameView::parse`] accepts. They are not searched for zeros
-    /// again.
+    /// Returns the name that [`NameView::parse`] returns. Requires that it accepts the bytes. They
+    /// are not searched for zeros again.
     #[inline(always)]
     #[tactic(auto, using(crate::specs::laws::Name::accepted_name_is_path))]
     pub fn new(bytes: &'a [u8]) -> NameView<'a>
@@ -151,8 +153,9 @@ impl<'a> NameView<'a> {
         }
     }
 
-    /// Returns the name with owned bytes. Fails only if an allocation fails. A name that serializes
-    /// to one byte needs no allocation.
+    /// Returns the name with owned bytes: a path for a path, and an abstract name for an abstract
+    /// one. Fails only if an allocation fails. A name that serializes to one byte, its zero, needs
+    /// no allocation.
     pub fn to_owned(&self, alloc: Global) -> Result<UnixDiagName, AllocError>
         ensures equal { IfOk result (λ name.
             socket_name_model vec_items name ≡ socket_name_model (λ b. b.now) self.now) }
@@ -173,9 +176,10 @@ impl Readable for UnixDiagName {
 }
 
 impl<'a> Parseable<&'a [u8]> for UnixDiagName {
-    /// Parses all of the bytes as a name. Returns `NameEmpty` if there are no bytes. For a path,
-    /// returns `NameInnerZero` if the first zero is before the last byte, and `NameWithoutEnd` if
-    /// there is no zero.
+    /// Parses all of the bytes as a name. Returns `NameEmpty` if there are no bytes. If the first
+    /// byte is zero, the name is abstract, with the bytes after it. Otherwise it is a path, without
+    /// the zero at its end: returns `NameInnerZero`, with the index, if the first zero is before
+    /// the last byte, and `NameWithoutEnd` if there is no zero.
     fn parse(alloc: Global, bytes: &'a [u8]) -> Result<Self, DecodeError> {
         Ok(NameView::parse(bytes)?.to_owned(alloc)?)
     }
@@ -184,6 +188,7 @@ impl<'a> Parseable<&'a [u8]> for UnixDiagName {
 impl Emitable for UnixDiagName {
     ghost use Rattle.sock_diag_attributes.specs.NameModel.{socket_name_model};
 
+    // A path and its terminating zero, or a zero and the bytes of an abstract name.
     ghost bytes = { λ v. name_bytes (socket_name_model vec_items v) };
 
     ghost writable = { λ v. length (name_bytes (socket_name_model vec_items v)) ≤ 4294967295 };
@@ -204,6 +209,7 @@ impl Emitable for UnixDiagName {
 impl Emitable for NameView<'_> {
     ghost use Rattle.sock_diag_attributes.specs.NameModel.{socket_name_model};
 
+    // A path and its terminating zero, or a zero and the bytes of an abstract name.
     ghost bytes = { λ v. name_bytes (socket_name_model (λ b. b.now) v) };
 
     ghost writable = { λ v. length (name_bytes (socket_name_model (λ b. b.now) v)) ≤ 4294967295 };

@@ -68,9 +68,11 @@ impl<N: LendsName, L: LendsNumbers, O: OtherNla> Emitable for UnixNla<N, L, O> {
     ghost use Rattle.sock_diag_attributes.specs.UnixAttributes.{unix_attribute_set};
     ghost use Rattle.sock_diag_attributes.specs.UnixModel.{unix_nla_value};
 
+    // The header, the value, and zeros as padding up to a multiple of four.
     ghost bytes = { λ v. attribute_bytes
         (encode_attribute unix_attribute_set (unix_nla_value N.name L.numbers O.attribute v)) };
 
+    // The value has at most 65,531 bytes.
     ghost writable = { λ v. FitsLengthField
         (encode_attribute unix_attribute_set (unix_nla_value N.name L.numbers O.attribute v)) };
 
@@ -102,11 +104,16 @@ impl Nla {
     ghost use Rattle.sock_diag_attributes.specs.UnixAttributes.{unix_attribute_set};
     ghost use Rattle.sock_diag_attributes.specs.UnixModel.{unix_nla_model};
 
-    /// Returns an equal attribute. Fails only if an allocation fails. Only a name, a list that is
-    /// not empty, and an attribute of another kind whose value is not empty, need an allocation.
+    /// Returns an equal attribute: of the same kind, with an equal value. Fails only if an
+    /// allocation fails. Only a name, a list that is not empty, and an attribute of another kind
+    /// whose value is not empty, may need an allocation.
     pub fn clone(&self, alloc: Global) -> Result<Self, AllocError>
         ensures equal { IfOk result (λ copy. unix_nla_model copy ≡ unix_nla_model self.now) }
+        // `spare`: no allocation for the types that need no memory: any variant except `Name`,
+        // `PendingConnections` and `Other`.
         ensures spare { NeedsNoMemoryIn unix_attribute_set (unix_nla_model self.now) → IsOk result }
+        // `empty`: no allocation if the value serializes to no bytes: a `PendingConnections` or an
+        // `Other` without bytes.
         ensures empty { (encode_attribute unix_attribute_set (unix_nla_model self.now)).value ≡ []
             → IsOk result }
     {
@@ -176,10 +183,14 @@ impl<'a> NlaView<'a> {
     ghost use Rattle.sock_diag_attributes.specs.UnixAttributes.{unix_attribute_set};
     ghost use Rattle.sock_diag_attributes.specs.UnixModel.{unix_nla_model, unix_nla_view_model};
 
-    /// Parses the value by the kind of the attribute, whatever its flag bits. An attribute of an
-    /// unknown kind is returned as `Other`.
+    /// Parses the value by the kind of the attribute, whatever its two flag bits. An attribute of
+    /// an unknown kind is returned as `Other`, with its complete type field. Fails with the error
+    /// of the value: `BufferTooSmall` if a record is too short, `WrongLength`, with the kind, if a
+    /// number or a pair has another length, `NotMultipleOfFour` for a list of numbers, or the error
+    /// of [`NameView::parse`].
     #[inline(always)]
     pub fn parse(nla: &NlaBuffer<'a>) -> Result<NlaView<'a>, DecodeError>
+        // `buffered_attribute nla.now`: the type field and the value of `nla`.
         ensures { MatchResult result
             (λ view. decode_attribute unix_attribute_set (buffered_attribute nla.now)
             ≡ Ok (unix_nla_view_model view))
@@ -201,8 +212,8 @@ impl<'a> NlaView<'a> {
         })
     }
 
-    /// Parses the value of an attribute that [`NlaView::parse`] accepts. A name is not searched for
-    /// zeros again.
+    /// Returns the view that [`NlaView::parse`] returns. Requires that it accepts the attribute. A
+    /// name is not searched for zeros again.
     #[inline(always)]
     pub fn new(nla: &NlaBuffer<'a>) -> NlaView<'a>
         requires { IsOk (decode_attribute unix_attribute_set (buffered_attribute nla.now)) }
@@ -218,13 +229,18 @@ impl<'a> NlaView<'a> {
         view
     }
 
-    /// Returns the attribute with an owned name, owned numbers and owned bytes. Fails only if an
-    /// allocation fails.
+    /// Returns the attribute with an owned name, owned numbers and owned bytes: of the same kind,
+    /// with an equal value. Fails only if an allocation fails. Only a name, a list that is not
+    /// empty, and an attribute of another kind whose value is not empty, may need an allocation.
     #[inline(always)]
     pub fn to_owned(&self, alloc: Global) -> Result<Nla, AllocError>
         ensures equal { IfOk result (λ nla. unix_nla_model nla ≡ unix_nla_view_model self.now) }
+        // `spare`: no allocation for the types that need no memory: any variant except `Name`,
+        // `PendingConnections` and `Other`.
         ensures spare { NeedsNoMemoryIn unix_attribute_set (unix_nla_view_model self.now)
             → IsOk result }
+        // `empty`: no allocation if the value serializes to no bytes: a `PendingConnections` or an
+        // `Other` without bytes.
         ensures empty { (encode_attribute unix_attribute_set (unix_nla_view_model self.now)).value
             ≡ [] → IsOk result }
     {

@@ -37,8 +37,8 @@ impl Exact for PacketInfo {
 }
 
 impl PacketInfo {
-    /// Parses the value of an attribute `PACKET_DIAG_INFO`. Fewer than 24 bytes are
-    /// `BufferTooSmall`.
+    /// Parses the first 24 bytes of the value of an attribute `PACKET_DIAG_INFO`, and ignores the
+    /// bytes after them. Fewer bytes are `BufferTooSmall`.
     pub fn parse(value: &[u8]) -> Result<PacketInfo, DecodeError>
         ensures { result ≡ packet_info value.now }
     {
@@ -90,8 +90,9 @@ impl Exact for PacketRing {
 }
 
 impl PacketRing {
-    /// Parses the value of an attribute `PACKET_DIAG_RX_RING` or `PACKET_DIAG_TX_RING`. Fewer than
-    /// 28 bytes are `BufferTooSmall`. `kind` is the attribute's kind, which this error contains.
+    /// Parses the first 28 bytes of the value of an attribute `PACKET_DIAG_RX_RING` or
+    /// `PACKET_DIAG_TX_RING`, and ignores the bytes after them. Fewer bytes are `BufferTooSmall`,
+    /// which contains `kind`, the kind of the attribute. The kind has no other effect.
     pub fn parse(value: &[u8], kind: u16) -> Result<PacketRing, DecodeError>
         ensures { result ≡ packet_ring kind value.now }
     {

@@ -26,7 +26,8 @@ impl Exact for XdpInfo {
 }
 
 impl XdpInfo {
-    /// Parses the value of an attribute `XDP_DIAG_INFO`. Fewer than 8 bytes are `BufferTooSmall`.
+    /// Parses the first 8 bytes of the value of an attribute `XDP_DIAG_INFO`, and ignores the bytes
+    /// after them. Fewer bytes are `BufferTooSmall`.
     pub fn parse(value: &[u8]) -> Result<XdpInfo, DecodeError>
         ensures { result ≡ xdp_info value.now }
     {
@@ -66,7 +67,8 @@ impl Exact for XdpUmem {
 }
 
 impl XdpUmem {
-    /// Parses the value of an attribute `XDP_DIAG_UMEM`. Fewer than 40 bytes are `BufferTooSmall`.
+    /// Parses the first 40 bytes of the value of an attribute `XDP_DIAG_UMEM`, and ignores the
+    /// bytes after them. Fewer bytes are `BufferTooSmall`.
     pub fn parse(value: &[u8]) -> Result<XdpUmem, DecodeError>
         ensures { result ≡ xdp_umem value.now }
     {
@@ -104,7 +106,8 @@ impl Exact for XdpStatistics {
 }
 
 impl XdpStatistics {
-    /// Parses the value of an attribute `XDP_DIAG_STATS`. Fewer than 48 bytes are `BufferTooSmall`.
+    /// Parses the first 48 bytes of the value of an attribute `XDP_DIAG_STATS`, and ignores the
+    /// bytes after them. Fewer bytes are `BufferTooSmall`.
     pub fn parse(value: &[u8]) -> Result<XdpStatistics, DecodeError>
         ensures { result ≡ xdp_statistics value.now }
     {

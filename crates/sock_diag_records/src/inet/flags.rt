@@ -146,7 +146,9 @@ impl Flags for ExtensionFlags {
 }
 
 /// States which bits have a name in this crate: 1 to 11 of a [`StateFlags`], and all eight of an
-/// [`ExtensionFlags`]. A parser masks off all other bits.
+/// [`ExtensionFlags`]. `known_bits table` are the bits of all flags in a table of names and bits.
+/// The contract does not concern parsers: the layout of a request has the same numbers as masks,
+/// and its parser clears all other bits.
 ///
 /// Proof only: the contract states the property.
 #[tactic(auto, unfolding(bitflags::proofs::OnLiterals::bitflags_on_literals))]

@@ -150,9 +150,11 @@ impl Fills<INET_RESPONSE_HEADER_LEN> for InetResponseHeader {
 }
 
 impl InetResponseHeader {
-    /// Parses the first 72 bytes, and ignores the bytes after them. It does not allocate. Fewer
-    /// bytes are [`DecodeError::BufferTooSmall`]; then a family other than AF_INET and AF_INET6 is
-    /// [`DecodeError::UnsupportedFamily`].
+    /// Parses the first 72 bytes, and ignores the bytes after them. The first byte is the family,
+    /// which selects the IP version of both addresses. Fails with [`DecodeError::BufferTooSmall`]
+    /// if there are fewer bytes, else with [`DecodeError::UnsupportedFamily`] if the family is
+    /// neither AF_INET (2) nor AF_INET6 (10). It does not allocate, so the error is never
+    /// [`DecodeError::Memory`].
     #[inline(always)]
     pub fn from_prefix(payload: &[u8]) -> Result<Self, DecodeError>
         ensures value { result ≡ parse_record inet_response_header tt payload.now }

@@ -54,7 +54,8 @@ pub struct SocketId {
 }
 
 impl SocketId {
-    /// Returns an id of zeros, with IPv4 addresses.
+    /// Returns the id with both ports 0, both addresses 0.0.0.0, interface 0, and a cookie of eight
+    /// zeros.
     pub fn new_v4() -> Self
         ensures { let none : IpAddr = V4 record { octets = replicate 4 0 } in result
             ≡ record {
@@ -76,7 +77,8 @@ impl SocketId {
         }
     }
 
-    /// Returns an id of zeros, with IPv6 addresses.
+    /// Returns the id with both ports 0, both addresses `::`, interface 0, and a cookie of eight
+    /// zeros.
     pub fn new_v6() -> Self
         ensures { let none : IpAddr = V6 record { segments = replicate 8 0 } in result
             ≡ record {
@@ -213,9 +215,10 @@ impl Record for SocketId {
 }
 
 impl SocketId {
-    /// Parses the first 48 bytes for the family, and ignores the bytes after them. It does not
-    /// allocate. Fewer bytes are [`DecodeError::BufferTooSmall`]; then a family other than AF_INET
-    /// and AF_INET6 is [`DecodeError::UnsupportedFamily`].
+    /// Parses the first 48 bytes, with addresses of the IP version of `family`, and ignores the
+    /// bytes after them. Fails with [`DecodeError::BufferTooSmall`] if there are fewer bytes, else
+    /// with [`DecodeError::UnsupportedFamily`] if the family is neither AF_INET (2) nor AF_INET6
+    /// (10). It does not allocate, so the error is never [`DecodeError::Memory`].
     #[inline(always)]
     pub fn from_prefix(payload: &[u8], family: u8) -> Result<Self, DecodeError>
         ensures value { result ≡ parse_record socket_id family payload.now }

@@ -121,7 +121,9 @@ impl Flags for ShowFlags {
 }
 
 /// States which bits have a name in this crate: 1 and 10 of a [`StateFlags`], and 0 to 5 of a
-/// [`ShowFlags`]. A parser masks off all other bits.
+/// [`ShowFlags`]. `known_bits table` are the bits of all flags in a table of names and bits. The
+/// contract does not concern parsers: the layout of a request has the same numbers as masks, and
+/// its parser clears all other bits.
 ///
 /// Proof only: the contract states the property.
 #[tactic(auto, unfolding(bitflags::proofs::OnLiterals::bitflags_on_literals))]

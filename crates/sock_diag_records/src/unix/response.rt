@@ -82,8 +82,9 @@ impl Record for UnixResponseHeader {
 }
 
 impl UnixResponseHeader {
-    /// Parses the first 16 bytes, and ignores the bytes after them. It does not allocate. Fewer
-    /// bytes are [`DecodeError::BufferTooSmall`].
+    /// Parses the first 16 bytes, and ignores the bytes after them. The first byte, the family, is
+    /// not checked. It does not allocate. Fewer bytes are [`DecodeError::BufferTooSmall`], the only
+    /// error.
     pub fn from_prefix(payload: &[u8]) -> Result<Self, DecodeError>
         ensures { result ≡ parse_record unix_response_header tt payload.now }
     {

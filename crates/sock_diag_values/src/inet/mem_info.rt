@@ -183,8 +183,9 @@ impl MemInfo {
         let _options = self.options;
     }
 
-    /// Parses the longest prefix of 36, 32 or 28 bytes, and ignores the bytes after it. Fewer than
-    /// 28 bytes are [`DecodeError::BufferTooSmall`].
+    /// Parses the longest prefix of 36, 32 or 28 bytes, and ignores the bytes after it. A prefix of
+    /// 32 bytes has no drops, and one of 28 bytes neither a backlog nor drops: these fields are
+    /// `None`. Fewer than 28 bytes are [`DecodeError::BufferTooSmall`].
     pub fn parse(payload: &[u8]) -> Result<Self, DecodeError>
         ensures { result ≡ parse_record mem_info tt payload.now }
     {
@@ -193,9 +194,12 @@ impl MemInfo {
 }
 
 impl MemInfoBuffer {
-    /// Copies the longest prefix of 36, 32 or 28 bytes. Returns `None` if there are fewer than 28.
+    /// Copies the longest prefix of 36, 32 or 28 bytes. Returns `None` if and only if there are
+    /// fewer than 28 bytes.
     pub fn read_prefix(payload: &[u8]) -> Option<Self>
         ensures enough { IsSome result ↔ 28 ≤ length payload.now }
+        // The bytes in the buffer, whatever its variant, are the first seven, eight or nine `u32`
+        // of the payload: as many as it contains, at most nine.
         ensures bytes { IfSome result
             (λ buffer. mem_info_buffer_bytes buffer.bytes
             ≡ take (4 * mem_info_u32_count (length payload.now)) payload.now) }
@@ -210,7 +214,7 @@ impl MemInfoBuffer {
         Some(MemInfoBuffer { bytes })
     }
 
-    /// Returns the bytes.
+    /// Returns the 28, 32 or 36 bytes, in the variant `Seven`, `Eight` or `Nine`.
     pub fn to_bytes(&self) -> MemInfoBytes
         ensures { result ≡ self.now.bytes }
     {
@@ -219,6 +223,7 @@ impl MemInfoBuffer {
 }
 
 impl From<&MemInfo> for MemInfoBuffer {
+    // The bytes in the buffer are those that the value serializes to.
     ghost from_gives = { λ value buffer. mem_info_buffer_bytes buffer.bytes
         ≡ record_bytes mem_info value.now };
 
@@ -233,7 +238,7 @@ impl From<&MemInfo> for MemInfoBuffer {
 }
 
 impl MemInfoBytes {
-    /// Returns the bytes as a slice.
+    /// Returns the 28, 32 or 36 bytes as a slice.
     pub fn as_slice(&self) -> &[u8]
         ensures { result.now ≡ mem_info_buffer_bytes self.now }
     {
