@@ -18,7 +18,8 @@ use Rattle.capture_tables.specs.declared.capture.PacketHeader.{PacketHeader}
 use Rattle.capture_tables.specs.declared.capture.TimeUnit.{TimeUnit}
 use Rattle.capture_tables.specs.declared.capture.TimeUnit.TheVariants.{Microseconds, Nanoseconds}
 
--- the number in `count` bytes at an offset, in this byte order
+-- `number_at_offset order count offset bytes`: the number in the `count` bytes from `offset` on, in
+-- this byte order
 abbrev pub number_at_offset : ByteOrder → ℕ → ℕ → List ℕ → ℕ
 number_at_offset LowFirst count offset bytes = little_number count (drop offset bytes)
 number_at_offset HighFirst count offset bytes = big_number count (drop offset bytes)
@@ -116,16 +117,18 @@ pub record IsPacketRecord (file : FileHeader) (header : List ℕ)
 
 -- ---- states of the input when reading stops
 
--- The reason why reading stopped: the input is at its end (Cut), or a read failed (Read,
--- Directory). `left` are the remaining bytes, if known. `failed` states that a read failed.
+-- `IsReadStop left failed e`: `e` is the reason why reading stopped. The input is at its end (Cut),
+-- or a read failed (Read, Directory). `left` are the remaining bytes, if known. `failed` states
+-- that a read failed.
 abbrev pub IsReadStop : Option (List ℕ) → Type 0 → CaptureError → Type 0
 IsReadStop left failed Cut = IsAtEnd left
 IsReadStop left failed Read = failed
 IsReadStop left failed Directory = failed
 IsReadStop left failed _ = ⊥
 
--- The reason why reading stopped before the file header was complete, after the bytes `part`: the
--- input is at its end, without a byte (Empty) or after at least one (Cut), or a read failed.
+-- `IsEarlyReadStop left failed part e`: `e` is the reason why reading stopped before the file
+-- header was complete, after the bytes `part`. The input is at its end, without a byte (Empty) or
+-- after at least one (Cut), or a read failed. `left` and `failed` are as in `IsReadStop`.
 abbrev pub IsEarlyReadStop : Option (List ℕ) → Type 0 → List ℕ → CaptureError → Type 0
 IsEarlyReadStop left failed part Empty = (part ≡ []) × IsAtEnd left
 IsEarlyReadStop left failed part Cut = (0 < length part) × IsAtEnd left
@@ -133,8 +136,9 @@ IsEarlyReadStop left failed part Read = failed
 IsEarlyReadStop left failed part Directory = failed
 IsEarlyReadStop left failed part _ = ⊥
 
--- The reason why no file header was read. `part` are the bytes that were read: either fewer than
--- 24, and reading stopped there; or 24 that are not a valid file header.
+-- `IsFileHeaderStop left failed part e`: `e` is the reason why no file header was read. `part` are
+-- the bytes that were read: either fewer than 24, and reading stopped there; or 24 that are not a
+-- valid file header. `left` and `failed` are as in `IsReadStop`.
 abbrev pub IsFileHeaderStop : Option (List ℕ) → Type 0 → List ℕ → CaptureError → Type 0
 IsFileHeaderStop left failed part e =
     ((length part < 24) × IsEarlyReadStop left failed part e)
@@ -148,7 +152,8 @@ IsPartOfPacket file part =
     ⊎ ((header : List ℕ) × (front : List ℕ) × (part ≡ header ++ front) × (length header ≡ 16)
     × (length front < number_at_offset file.order 4 8 header))
 
--- The reason why no packet was read. `part` are the bytes that were read: a proper prefix of a
+-- `IsPacketStop file left failed part e`: `e` is the reason why no packet was read. `left` and
+-- `failed` are as in `IsReadStop`. `part` are the bytes that were read: a proper prefix of a
 -- packet, and the input is at its end (Cut, after at least one byte) or a read failed (Read,
 -- Directory); or a packet header, whose captured length is at most 262144, but the allocation of so
 -- much memory failed (Memory), or is greater than 262144 (PacketTooLong with this length).

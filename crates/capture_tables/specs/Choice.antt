@@ -68,8 +68,8 @@ is_long_option word = list_any (bytes_eq word) (codes "--utf8" ∷ codes "--requ
 abbrev pub decides_command : List ℕ → Bool
 decides_command word = not (is_file word || has_letters word || is_long_option word)
 
--- The options `o`, and those of one more argument. An argument that is not an option changes
--- nothing.
+-- `with_argument_bytes o word`: the options `o`, and those of one more argument. An argument that
+-- is not one of these options changes nothing.
 abbrev pub with_argument_bytes : Options → List ℕ → Options
 with_argument_bytes o word =
     if bytes_eq word (codes "--utf8") then record o { utf8 = true }

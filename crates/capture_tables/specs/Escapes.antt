@@ -13,7 +13,7 @@ is_printable_byte c = (nat_le 33 c && nat_le c 126) && (if c == 92 then false el
 abbrev pub byte_digits : ℕ → List ℕ
 byte_digits c = 92 ∷ 120 ∷ encode_lower (c ∷ [])
 
--- a plain byte unchanged, any other as `\x` and two digits
+-- a printable byte unchanged, any other as `\x` and two digits
 abbrev pub escaped_byte : ℕ → List ℕ
 escaped_byte c = if is_printable_byte c then c ∷ [] else byte_digits c
 
@@ -34,8 +34,8 @@ shown_ranges =
 abbrev pub is_shown_character : ℕ → Bool
 is_shown_character c = nat_le 0x80 c && list_any (λ r. nat_le r.0 c && nat_le c r.1) shown_ranges
 
--- The UTF-8 bytes of a character, unchanged if it is shown. Else each byte is escaped if it is not
--- plain.
+-- The UTF-8 bytes of a character (its code point). They are unchanged if `is_shown_character`
+-- holds. Else each byte is escaped if it is not printable.
 abbrev pub shown_character : ℕ → List ℕ
 shown_character c = if is_shown_character c then encode_utf8 c
     else flat_map escaped_byte (encode_utf8 c)
@@ -55,7 +55,8 @@ hex_digit_value d = if nat_le 97 d then d - 87 else d - 48
 
 -- The bytes that a shown text represents, up to the first space (32). A backslash (92) is followed
 -- by `x` and two hexadecimal digits, which represent one byte. Every other byte represents itself.
--- `n` is the number of bytes that are skipped first.
+-- `n` is the number of bytes that are skipped first. Example: with `n` 0, the text `a\x20b c`
+-- represents the three bytes `a b`.
 unfoldable pub unescaped_bytes : ℕ → List ℕ → List ℕ
 unescaped_bytes n [] = []
 unescaped_bytes (suc n) (c ∷ text) = unescaped_bytes n text

@@ -13,7 +13,8 @@ use Rattle.capture_tables.specs.declared.parts.TimerWords.{TimerWords}
 abbrev pub detail : List ℕ → ℕ → List ℕ
 detail word n = 32 ∷ word ++ 58 ∷ decimal n
 
--- a space, the name, a colon, `0x` and a number in hexadecimal digits
+-- a space, the name, a colon, `0x` and a number in hexadecimal digits (`digits 16 false`: in
+-- lowercase, without leading zeros)
 abbrev pub hex_detail : List ℕ → ℕ → List ℕ
 hex_detail word n = 32 ∷ word ++ codes ":0x" ++ digits 16 false n
 
@@ -21,11 +22,11 @@ hex_detail word n = 32 ∷ word ++ codes ":0x" ++ digits 16 false n
 abbrev pub pair_detail : List ℕ → ℕ → ℕ → List ℕ
 pair_detail word n m = 32 ∷ word ++ codes ":(" ++ decimal n ++ 44 ∷ decimal m ++ 41 ∷ []
 
--- a detail with a number, if the number is not 0
+-- the detail with a name and a number, or nothing if the number is 0
 abbrev pub nonzero_detail : List ℕ → ℕ → List ℕ
 nonzero_detail word n = if n == 0 then [] else detail word n
 
--- a space and the name, if the number `n` has one of these bits
+-- `flag_detail word bits n`: a space and the name, if the number `n` has at least one of these bits
 abbrev pub flag_detail : List ℕ → ℕ → ℕ → List ℕ
 flag_detail word bits n = if bit_and n bits == 0 then [] else 32 ∷ word
 
@@ -34,9 +35,9 @@ abbrev pub optional_part : List ℕ → Option ℕ → List ℕ
 optional_part word None = []
 optional_part word (Some n) = 44 ∷ word ++ decimal n
 
--- The directions that are not shut down, by the bits of `sk_shutdown`: `<->` if none is shut down.
--- `<` (60) is `-` (45) if bit 1 (RCV_SHUTDOWN) is set, and `>` (62) is `-` if bit 2 (SEND_SHUTDOWN)
--- is set.
+-- A space, and the directions that are not shut down, by the bits of `sk_shutdown`: `<->` if none
+-- is. `<` (60) is `-` (45) if bit 1 (RCV_SHUTDOWN) is set, and `>` (62) is `-` if bit 2
+-- (SEND_SHUTDOWN) is set.
 abbrev pub directions : ℕ → List ℕ
 directions state =
     32 ∷ (if bit_and state 1 == 0 then 60 else 45) ∷ 45
@@ -57,7 +58,7 @@ timer_name class =
     else codes "unknown"
 
 -- The timer: its kind, the time until it expires, in milliseconds, and the number of retransmits.
--- Nothing if no timer runs.
+-- Nothing if no timer runs. Example: ` timer:(on,200ms,3)`.
 abbrev pub timer_text : TimerWords → List ℕ
 timer_text t =
     if t.class == 0 then []
@@ -72,7 +73,8 @@ no_timer = record { class = 0; retransmits = 0; expires = 0 }
 abbrev pub timer_if_shown : Options → TimerWords → List ℕ
 timer_if_shown o timer = if shows_detail o Timer then timer_text timer else []
 
--- the cookie as a little-endian number of eight bytes, if its group of details is shown
+-- ` sk:` and the cookie as a little-endian number of eight bytes, in hexadecimal digits, if the
+-- group of details of `-e` is shown
 abbrev pub cookie_if_shown : Options → List ℕ → List ℕ
 cookie_if_shown o cookie =
     if shows_detail o Extended then codes " sk:" ++ digits 16 false (little_number 8 cookie) else []

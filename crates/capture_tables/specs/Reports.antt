@@ -18,7 +18,8 @@ use Rattle.capture_tables.specs.declared.run.RunError.TheVariants.{Memory as NoM
 
 -- ---- diagnostics of packets
 
--- the line with this text about the packet of this number
+-- `packet_line front packet text`: the line with this text about the packet with the number
+-- `packet`
 abbrev pub packet_line : List ℕ → ℕ → List ℕ → List ℕ
 packet_line front packet text =
     front ++ codes "packet " ++ decimal packet ++ codes ": " ++ text ++ 10 ∷ []
@@ -28,7 +29,9 @@ abbrev pub truncation_text : ℕ → ℕ → List ℕ
 truncation_text captured whole =
     codes "truncated to " ++ decimal captured ++ codes " of " ++ decimal whole ++ codes " bytes"
 
--- the line about a packet with this captured length and this original length, if it was truncated
+-- `truncation_line front packet captured whole`: the line about the packet with the number
+-- `packet`, of whose `whole` bytes only the first `captured` were captured. Nothing if it was not
+-- truncated.
 abbrev pub truncation_line : List ℕ → ℕ → ℕ → ℕ → List ℕ
 truncation_line front packet captured whole =
     if nat_lt captured whole then packet_line front packet (truncation_text captured whole) else []

@@ -259,7 +259,8 @@ pub struct FileHeader {
 }
 
 impl FileHeader {
-    /// Parses the file header in the first 24 bytes.
+    /// Parses the file header in the first 24 bytes, which must be present. Bytes after them are
+    /// ignored.
     ///
     /// Returns the first error, in this order: if the magic number is unknown, `NewFormat`,
     /// `Packed` or `NoCapture`; if the major version is not 2, `OtherVersion`; if the link type is
@@ -283,11 +284,17 @@ impl FileHeader {
         Ok(FileHeader { order, unit })
     }
 
-    /// Reads the file header. Returns `Empty` if the input has no bytes.
+    /// Reads the file header: the next 24 bytes of the input.
+    ///
+    /// Fails with `Empty` if the input ends before its first byte, with `Cut` if it ends within the
+    /// header, and with `Read` or `Directory` if a read failed. If all 24 bytes were read, it fails
+    /// with the error of `parse`.
     pub fn read<R: Source>(input: &mut R) -> Result<FileHeader, CaptureError>
+        // R.left: the remaining bytes, if known.
         ensures read { IfOk result (λ file. (bytes : List ℕ) × (length bytes ≡ 24)
             × IsFileHeader bytes file
             × Consumes (R.left input.old) (R.left input.new) bytes) }
+        // R.failed: a read has failed. part: the bytes that were read.
         ensures stopped { IfErr result (λ e. (part : List ℕ)
             × Consumes (R.left input.old) (R.left input.new) part
             × IsFileHeaderStop (R.left input.new) (R.failed input.new) part e) }
@@ -299,8 +306,14 @@ impl FileHeader {
         FileHeader::parse(&bytes)
     }
 
-    /// Reads the next packet into `packet`, whose former content is dropped. Returns the fields of
-    /// the packet header, or `None` at the end of the input.
+    /// Reads a packet header of 16 bytes, and then as many bytes as its captured length, the `u32`
+    /// at offset 8, into `packet`, whose former content is dropped. Returns the other fields of the
+    /// packet header. Returns `None` if the input is at its end; then nothing was consumed.
+    ///
+    /// Fails with `Cut` if the input ends within the packet header or the bytes of the packet, with
+    /// `Read` or `Directory` if a read failed, with `PacketTooLong` if the captured length is
+    /// greater than 262144, and with `Memory` if an allocation failed. At the end of the input and
+    /// after an error, the content of `packet` is not specified.
     ///
     /// Allocates only for the bytes of the packet, and never for more than 262144 bytes.
     pub fn read_packet<R: Source>(
@@ -308,11 +321,13 @@ impl FileHeader {
         input: &mut R,
         packet: &mut Vec<u8>,
     ) -> Result<Option<PacketHeader>, CaptureError>
+        // R.left: the remaining bytes, if known. Keeps: they are unchanged.
         ensures read { IfOk result (λ found. MatchOption found
             (IsAtEnd (R.left input.new) × Keeps (R.left input.old) (R.left input.new))
             (λ told_header. (header : List ℕ)
             × IsPacketRecord self.now header (captured_packet packet.new.items told_header)
             × Consumes (R.left input.old) (R.left input.new) (header ++ packet.new.items))) }
+        // R.failed: a read has failed. part: the bytes that were read.
         ensures stopped { IfErr result (λ e. (part : List ℕ)
             × Consumes (R.left input.old) (R.left input.new) part
             × IsPacketStop self.now (R.left input.new) (R.failed input.new) part e) }
@@ -418,8 +433,10 @@ pub enum Packet<'a> {
 impl<'a> Packet<'a> {
     ghost use Rattle.capture_tables.specs.Cooked.{IsPacketOf};
 
-    /// Parses the cooked header, which has 16 bytes. The hardware type is at offset 2 and must be
-    /// 824. The netlink protocol is at offset 14 and must be 4. Both are big-endian `u16`.
+    /// Returns the content of a packet, by its cooked header of 16 bytes. Returns `SockDiag` with
+    /// the bytes after the header if the hardware type at offset 2 is 824 and the netlink protocol
+    /// at offset 14 is 4, both big-endian `u16`. Returns `Other` if they are not, and `Short` if
+    /// there are fewer than 16 bytes.
     pub fn parse(bytes: &'a [u8]) -> Packet<'a>
         ensures { IsPacketOf bytes.entry.now result }
     {

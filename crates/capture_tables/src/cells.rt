@@ -1,4 +1,5 @@
-//! Cells of a line. A function of this module allocates only to grow the text.
+//! Cells of a line. A function of this module allocates only to grow the text. If it fails, the
+//! content of the text is not specified.
 
 ghost use Rattle.std.specs.Prelude.{◌≡◌, ◌++◌, ◌∷◌, [], ◌-◌, ◌≤◌, decimal, false, replicate};
 ghost use Rattle.std.specs.Prelude.{vec_len, OnOk};
@@ -12,7 +13,7 @@ use std::alloc::AllocError;
 use std::io::Write;
 use std::net::IpAddr;
 
-/// Returns the name of a socket state, as ss(8) prints it.
+/// Returns the name of a socket state, as ss(8) prints it: `UNKNOWN` for 0 and from 12 on.
 pub fn name_of_state(state: u8) -> &'static [u8]
     ensures { result.now ≡ state_name state }
 {
@@ -42,7 +43,7 @@ pub fn push_number(text: &mut Vec<u8>, number: u64) -> Result<(), AllocError>
     }
 }
 
-/// Appends a number in lowercase hexadecimal digits.
+/// Appends a number in lowercase hexadecimal digits, without leading zeros.
 pub fn push_hex(text: &mut Vec<u8>, number: u64) -> Result<(), AllocError>
     ensures { OnOk result (text.new.items ≡ text.old.items ++ digits 16 false number) }
 {
@@ -52,7 +53,8 @@ pub fn push_hex(text: &mut Vec<u8>, number: u64) -> Result<(), AllocError>
     }
 }
 
-/// Pads what was appended after `start` with spaces up to a width, and appends one more space.
+/// Ends the column that begins at the offset `start`: appends spaces until it has `width` bytes,
+/// and one more space. A longer column is not cut. `start` must be at most the length of the text.
 pub fn end_column(text: &mut Vec<u8>, start: usize, width: usize) -> Result<(), AllocError>
     requires { start ≤ vec_len text.old }
     ensures { OnOk result (text.new.items
@@ -65,7 +67,8 @@ pub fn end_column(text: &mut Vec<u8>, start: usize, width: usize) -> Result<(), 
     Ok(text.push(b' ')?)
 }
 
-/// Appends a column with a text.
+/// Appends a column: a text, spaces until it has `width` bytes, and one more space. A longer text
+/// is not cut.
 pub fn push_column(text: &mut Vec<u8>, width: usize, content: &[u8]) -> Result<(), AllocError>
     ensures { OnOk result (text.new.items ≡ text.old.items ++ column width content.now) }
 {
@@ -74,7 +77,8 @@ pub fn push_column(text: &mut Vec<u8>, width: usize, content: &[u8]) -> Result<(
     end_column(text, start, width)
 }
 
-/// Appends a column with a number, or with `-` for `None`.
+/// Appends a column of `width` bytes, as [`push_column`] does, with a number in decimal, or with
+/// `-` for `None`.
 pub fn push_number_column(
     text: &mut Vec<u8>,
     width: usize,
@@ -107,7 +111,8 @@ pub struct Cells {
     pub uid: Option<u32>,
 }
 
-/// Appends the first columns of a line: all except the two addresses.
+/// Appends the first columns of a line, which are all except the two addresses: Netid (5 bytes and
+/// a space), State (10), Recv-Q (6), Send-Q (6), Inode (10) and Uid (5).
 pub fn push_first_columns(text: &mut Vec<u8>, cells: &Cells) -> Result<(), AllocError>
     ensures { OnOk result (text.new.items ≡ text.old.items
         ++ first_columns (cells_model cells.now)) }
@@ -154,7 +159,8 @@ pub fn push_peer(text: &mut Vec<u8>, inode: Option<u32>) -> Result<(), AllocErro
     }
 }
 
-/// Appends a column with an address and a port, as [`push_endpoint`] writes them.
+/// Appends a column of `width` bytes, as [`push_column`] does, with an address and a port, as
+/// [`push_endpoint`] writes them.
 pub fn push_endpoint_column(
     text: &mut Vec<u8>,
     width: usize,

@@ -20,8 +20,8 @@ pub enum Choice<'a> {
 }
 
 /// Returns the request of the arguments after the program's name. The first argument that is
-/// `--help`, `--version` or an unknown option decides. If there is none, the options of all
-/// arguments count.
+/// `--help`, `--version` or an unknown option decides. If there is none, captures are listed with
+/// the options of all arguments. Names of files are not considered.
 pub fn choose(arguments: &[String]) -> Choice<'_>
     ensures { IsChoice (map string_bytes arguments.entry.now) result }
 {

@@ -18,12 +18,15 @@ pub trait ListCapture {
     /// Lists the capture in the file of this name, or the one on standard input if there is none.
     /// Returns the exit status.
     fn list_capture(&mut self, name: Option<&str>) -> ExitCode
+        // After the captures that were listed before, this one was listed, with its name and
+        // status.
         ensures { (before : List Listing) → listed self.old before → listed self.new (before
             ++ listing (option_map (λ file. file.now) name.entry) (exit_status result) ∷ []) };
 }
 
 /// Lists the captures in the files that the arguments name, in order, or the one on standard input
-/// if they name none. Returns the last status that is not 0, or else 0.
+/// if they name none. Returns the last status that is not 0, or else 0. `lister` must not have
+/// listed a capture before.
 pub fn list_captures<L: ListCapture>(arguments: &[String], lister: &mut L) -> ExitCode
     requires { L.listed lister.old [] }
     ensures { (listings : List Listing) × L.listed lister.new listings

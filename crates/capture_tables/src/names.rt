@@ -38,7 +38,9 @@ const SHOWN: [(u32, u32); 18] = [
 /// bytes are valid UTF-8, the characters of the ranges of `SHOWN` are appended unchanged too.
 pub fn push_shown(text: &mut Vec<u8>, utf8: bool, bytes: &[u8]) -> Result<(), AllocError>
     ensures shown { OnOk result (text.new.items ≡ text.old.items ++ shown_name utf8 bytes.now) }
-    // The bytes can be read back from what is shown. So two different names are never shown alike.
+    // The bytes can be read back from what is shown, by `unescaped_bytes`. So two different names
+    // are never shown alike. behind: the text that follows. If it begins with a space, nothing of
+    // it is read.
     ensures told { (behind : List ℕ)
         → (unescaped_bytes 0 (shown_name utf8 bytes.now ++ behind)
         ≡ bytes.now ++ unescaped_bytes 0 behind) }

@@ -1,4 +1,5 @@
-//! The output about packets, and the diagnostics about truncated and short packets.
+//! The output about packets, and the diagnostics about truncated and short packets. If a function
+//! of this module fails, an allocation failed, and the content of the output is not specified.
 
 ghost use Rattle.std.specs.Prelude.{◌≡◌, ◌↔◌, ◌≤◌, ◌++◌, IfOk, IsTrue, OnOk, length};
 ghost use Rattle.capture_tables.specs.Reports.{truncation_line, truncation_text, packet_line};
@@ -18,8 +19,9 @@ pub struct Written<'a> {
     pub issues: Vec<u8>,
 }
 
-/// Appends a diagnostic if the packet was truncated: if it has fewer bytes than `whole_length`, its
-/// original length. Returns true if it was not truncated.
+/// Appends a line to `issues` if the packet was truncated: if `packet` has fewer bytes than
+/// `whole_length`, its original length. Returns true if it was not truncated. `number` is the
+/// number of the packet in the capture. `lines` and `front` are unchanged.
 pub fn push_cut_note(
     written: &mut Written<'_>,
     number: u64,
@@ -62,7 +64,8 @@ fn push_cut(
     }
 }
 
-/// Appends the diagnostic of a packet that is shorter than the cooked header.
+/// Appends a line to `issues`: the packet of this number is shorter than the 16 bytes of the cooked
+/// header. `lines` and `front` are unchanged.
 pub fn push_short(written: &mut Written<'_>, packet: u64) -> Result<(), AllocError>
     ensures lines { OnOk result (written.new.lines.items ≡ written.old.lines.items) }
     ensures issues { OnOk result (written.new.issues.items ≡ written.old.issues.items

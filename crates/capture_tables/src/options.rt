@@ -80,7 +80,8 @@ pub enum Family {
 }
 
 impl Options {
-    /// Returns whether a group of details is shown.
+    /// Returns whether a group of details is shown: if its option is set, or if none of `timer`,
+    /// `extended`, `memory` and `connection` is set.
     pub fn shows(self, detail: Detail) -> bool
         ensures { result ≡ shows_detail self detail }
     {
@@ -99,15 +100,18 @@ impl Options {
         }
     }
 
-    /// Returns whether UNIX sockets are listed.
+    /// Returns whether UNIX sockets are listed: if `-x` is set, or if no option that selects
+    /// sockets is set, of any family.
     pub fn lists_unix(self) -> bool
         ensures { result ≡ lists_unix self }
     {
         self.unix || !self.selects()
     }
 
-    /// Returns whether IPv4 and IPv6 sockets of a protocol are listed. A socket whose protocol is
-    /// not known (`None`) is listed if any of TCP, UDP and MPTCP is selected.
+    /// Returns whether IPv4 and IPv6 sockets of a protocol (6 TCP, 17 UDP, 262 MPTCP) are listed:
+    /// if the option of this protocol is set, or if no option that selects sockets is set, of any
+    /// family. If the protocol is not known (`None`), any of the options of TCP, UDP and MPTCP
+    /// counts.
     pub fn lists_protocol(self, protocol: Option<u32>) -> bool
         ensures { result ≡ lists_protocol self protocol }
     {
@@ -121,7 +125,8 @@ impl Options {
         is_asked || !self.selects()
     }
 
-    /// Returns whether sockets of a family are listed.
+    /// Returns whether sockets of a family are listed: if the option of this family is set, or if
+    /// no option that selects sockets is set, of any family.
     pub fn lists_family(self, family: Family) -> bool
         ensures { result ≡ lists_family self family }
     {

@@ -1,5 +1,5 @@
 //! Details of a line, each after a space. A function of this module allocates only to grow the
-//! text.
+//! text. If it fails, an allocation failed, and the content of the text is not specified.
 
 ghost use Rattle.std.specs.Prelude.{◌≡◌, ◌++◌, OnOk};
 ghost use Rattle.capture_tables.specs.Parts.{cookie_if_shown, detail, directions, flag_detail};
@@ -44,7 +44,9 @@ pub fn separator(options: Options) -> &'static [u8]
     if options.one_line { b"" } else { b"\n\t" }
 }
 
-/// Appends the timer if its group of details is shown.
+/// Appends the timer if one runs and the group of details `Timer` is shown: a space and
+/// `timer:(on,200ms,3)`, for a timer of the kind `on`, 200 milliseconds until it expires and 3
+/// retransmits.
 pub fn push_shown_timer(
     text: &mut Vec<u8>,
     options: Options,
@@ -88,7 +90,8 @@ fn name_of_timer(class: u8) -> &'static [u8]
     }
 }
 
-/// Appends the cookie if its group of details is shown.
+/// Appends ` sk:` and the cookie, as a little-endian number in hexadecimal digits, if the group of
+/// details `Extended` is shown.
 pub fn push_shown_cookie(
     text: &mut Vec<u8>,
     options: Options,
@@ -103,7 +106,9 @@ pub fn push_shown_cookie(
     push_hex(text, LittleEndian::read_u64(cookie))
 }
 
-/// Appends the directions that are not shut down, as ss(8) does: `<->` if none is.
+/// Appends a space and the directions that are not shut down, as ss(8) does: `<->` if none is shut
+/// down. `<` is `-` if `state` has the bit 1 (`RCV_SHUTDOWN`), and `>` is `-` if it has the bit 2
+/// (`SEND_SHUTDOWN`).
 pub fn push_directions(text: &mut Vec<u8>, state: u8) -> Result<(), AllocError>
     ensures { OnOk result (text.new.items ≡ text.old.items ++ directions state) }
 {
@@ -121,7 +126,9 @@ pub fn push_directions(text: &mut Vec<u8>, state: u8) -> Result<(), AllocError>
     })?)
 }
 
-/// Appends the name of each flag of a packet socket (`PDI_..` of linux/packet_diag.h) that is set.
+/// Appends a space and a name for each flag of a packet socket that is set (`PDI_..` of
+/// linux/packet_diag.h): `running` (1), `auxdata` (2), `origdev` (4), `vnethdr` (8) and `loss`
+/// (16).
 pub fn push_packet_flags(text: &mut Vec<u8>, flags: u8) -> Result<(), AllocError>
     ensures { OnOk result (text.new.items ≡ text.old.items ++ packet_flags flags) }
 {
@@ -132,7 +139,7 @@ pub fn push_packet_flags(text: &mut Vec<u8>, flags: u8) -> Result<(), AllocError
     push_flag(text, b"loss", 16, flags)
 }
 
-/// Appends a comma, a name and a number. Appends nothing for `None`.
+/// Appends a comma, a name and a number in decimal. Appends nothing for `None`.
 pub fn push_part(text: &mut Vec<u8>, word: &[u8], number: Option<u32>) -> Result<(), AllocError>
     ensures { OnOk result (text.new.items ≡ text.old.items ++ optional_part word.now number) }
 {
@@ -144,7 +151,7 @@ pub fn push_part(text: &mut Vec<u8>, word: &[u8], number: Option<u32>) -> Result
     push_number(text, number.into())
 }
 
-/// Appends a detail with a number if the number is not 0.
+/// Appends a space, a name, a colon and a number in decimal, if the number is not 0.
 pub fn push_some(text: &mut Vec<u8>, word: &[u8], number: u64) -> Result<(), AllocError>
     ensures { OnOk result (text.new.items ≡ text.old.items ++ nonzero_detail word.now number) }
 {
@@ -154,7 +161,7 @@ pub fn push_some(text: &mut Vec<u8>, word: &[u8], number: u64) -> Result<(), All
     push_detail(text, word, number)
 }
 
-/// Appends a space and a name if a number has one of these bits.
+/// Appends a space and a name if `number` has at least one of the bits of `bits`.
 pub fn push_flag(text: &mut Vec<u8>, word: &[u8], bits: u8, number: u8) -> Result<(), AllocError>
     ensures { OnOk result (text.new.items ≡ text.old.items ++ flag_detail word.now bits number) }
 {
@@ -165,7 +172,8 @@ pub fn push_flag(text: &mut Vec<u8>, word: &[u8], bits: u8, number: u8) -> Resul
     text.extend_from_slice(word)
 }
 
-/// Appends a space, a name, a colon and two numbers in parentheses.
+/// Appends a space, a name, a colon and two numbers in decimal, in parentheses and separated by a
+/// comma: ` wscale:(7,9)`.
 pub fn push_pair(text: &mut Vec<u8>, word: &[u8], first: u64, second: u64) -> Result<(), AllocError>
     ensures { OnOk result (text.new.items ≡ text.old.items
         ++ pair_detail word.now first second) }
@@ -179,7 +187,7 @@ pub fn push_pair(text: &mut Vec<u8>, word: &[u8], first: u64, second: u64) -> Re
     Ok(text.push(b')')?)
 }
 
-/// Appends a space, a name, a colon, `0x` and a number in hexadecimal digits.
+/// Appends a space, a name, a colon, `0x` and a number in lowercase hexadecimal digits.
 pub fn push_hex_detail(text: &mut Vec<u8>, word: &[u8], number: u64) -> Result<(), AllocError>
     ensures { OnOk result (text.new.items ≡ text.old.items ++ hex_detail word.now number) }
 {
@@ -189,7 +197,7 @@ pub fn push_hex_detail(text: &mut Vec<u8>, word: &[u8], number: u64) -> Result<(
     push_hex(text, number)
 }
 
-/// Appends a space, a name, a colon and a number.
+/// Appends a space, a name, a colon and a number in decimal.
 pub fn push_detail(text: &mut Vec<u8>, word: &[u8], number: u64) -> Result<(), AllocError>
     ensures { OnOk result (text.new.items ≡ text.old.items ++ detail word.now number) }
 {

@@ -35,8 +35,10 @@ impl fmt::Display for ErrorText {
 }
 
 /// Writes a text on `errors` if `is_open` is set. If a write fails, clears `is_open`, so that
-/// nothing more is written there.
+/// nothing more is written there. Then a prefix of the text was written.
 pub fn report<E: Sink>(errors: &mut E, is_open: &mut bool, text: &[u8])
+    // If some texts were reported before the call, these texts and `text` are reported after it.
+    // E.held: the bytes written, if known. The type after it: a write failed.
     ensures { ReportsMore (E.held errors.old) ((e : RunError) × E.failed errors.old e) is_open.old
         (E.held errors.new) ((e : RunError) × E.failed errors.new e) is_open.new text.now }
 {
@@ -48,8 +50,8 @@ pub fn report<E: Sink>(errors: &mut E, is_open: &mut bool, text: &[u8])
     }
 }
 
-/// Writes the line that names a failure, by [`report`]. Writes nothing if the failure is a closed
-/// output pipe. Does not allocate.
+/// Writes the line that names a failure, by [`report`]: the prefix `front`, the text of the failure
+/// and a line feed. Writes nothing if the failure is a closed output pipe. Does not allocate.
 pub fn report_failure<E: Sink>(errors: &mut E, is_open: &mut bool, front: &str, failure: &RunError)
     ensures { ReportsMore (E.held errors.old) ((e : RunError) × E.failed errors.old e) is_open.old
         (E.held errors.new) ((e : RunError) × E.failed errors.new e) is_open.new

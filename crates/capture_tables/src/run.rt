@@ -71,11 +71,14 @@ impl From<AllocError> for RunError {
     }
 }
 
-/// Reads the file header of a capture.
+/// Reads the file header of a capture: the next 24 bytes of the input. Fails with `Header`, which
+/// contains the error of `FileHeader::read`.
 pub fn read_header<R: Source>(input: &mut R) -> Result<FileHeader, RunError>
+    // R.left: the remaining bytes, if known.
     ensures read { IfOk result (λ file. (bytes : List ℕ) × (length bytes ≡ 24)
         × IsFileHeader bytes file
         × Consumes (R.left input.old) (R.left input.new) bytes) }
+    // R.failed: a read has failed. part: the bytes that were read.
     ensures stopped { IfErr result (λ e. (fault : CaptureError) × (e ≡ RunError.Header fault)
         × (part : List ℕ)
         × Consumes (R.left input.old) (R.left input.new) part
@@ -87,19 +90,22 @@ pub fn read_header<R: Source>(input: &mut R) -> Result<FileHeader, RunError>
     }
 }
 
-/// Reads the next packet into `packet`, whose former content is dropped. `number` is its number for
-/// errors. Returns the fields of the packet header, or `None` at the end of the input.
+/// Reads the next packet into `packet`, whose former content is dropped. Returns the fields of the
+/// packet header. Returns `None` if the input is at its end; then nothing was consumed. Fails with
+/// `Packet`, which contains `number` and the error of `FileHeader::read_packet`.
 pub fn read_packet<R: Source>(
     file: &FileHeader,
     input: &mut R,
     number: u64,
     packet: &mut Vec<u8>,
 ) -> Result<Option<PacketHeader>, RunError>
+    // R.left: the remaining bytes, if known. Keeps: they are unchanged.
     ensures read { IfOk result (λ found. MatchOption found
         (IsAtEnd (R.left input.new) × Keeps (R.left input.old) (R.left input.new))
         (λ told_header. (header : List ℕ)
         × IsPacketRecord file.now header (captured_packet packet.new.items told_header)
         × Consumes (R.left input.old) (R.left input.new) (header ++ packet.new.items))) }
+    // R.failed: a read has failed. part: the bytes that were read.
     ensures stopped { IfErr result (λ e. (fault : CaptureError) × (e ≡ RunError.Packet number fault)
         × (part : List ℕ)
         × Consumes (R.left input.old) (R.left input.new) part
@@ -114,9 +120,12 @@ pub fn read_packet<R: Source>(
     }
 }
 
-/// Writes all of `bytes`. Does not retry a failed write.
+/// Writes all of `bytes`. Does not retry a failed write: if one fails, a prefix of `bytes` was
+/// written, and the error is `Write` or `Closed`.
 pub fn send<W: Sink>(output: &mut W, bytes: &[u8]) -> Result<(), RunError>
+    // W.held: the bytes written, if known.
     ensures written { OnOk result (Appends (W.held output.old) (W.held output.new) bytes.now) }
+    // W.failed: a write failed with this error. front: the bytes that were written.
     ensures stopped { IfErr result (λ e. IsWriteFailure e × W.failed output.new e
         × (front : List ℕ) × (rest : List ℕ)
         × (bytes.now ≡ front ++ rest) × Appends (W.held output.old) (W.held output.new) front) }

@@ -19,9 +19,14 @@ pub trait Source {
     // A read failed.
     ghost failed: { Self → Type 0 };
 
-    /// Reads once. Returns 0 at the end of the input.
+    /// Reads once, to the start of `bytes`. Returns the number of bytes that were read. It is 0
+    /// only if the input is at its end or `bytes` is empty. If the read fails, nothing was
+    /// consumed.
     fn read_some(&mut self, bytes: &mut [u8]) -> Result<usize, CaptureError>
+        // A returned number is at most the length of `bytes`.
         ensures bound { ReadsAtMost result bytes.new }
+        // If `n` is returned, the first `n` bytes of `bytes` were consumed; if it is 0 and `bytes`
+        // is not empty, none remain. If the read fails, the remaining bytes are unchanged.
         ensures bytes { ReadConsumes (left self.old) (left self.new) result bytes.new }
         ensures cause { IfErr result (λ e. IsReadFailure e × failed self.new) };
 }
@@ -64,15 +69,17 @@ pub trait Sink {
     // The last call flushed the output.
     ghost flushed: { Self → Type 0 };
 
-    /// Writes once. Returns the number of written bytes, at least 1. `text` must not be empty, or
-    /// the call fails.
+    /// Writes once, from the start of `text`. Returns the number of bytes that were written, at
+    /// least 1. If `text` is empty, the call fails. If it fails, nothing was written.
     fn write_part(&mut self, text: &[u8]) -> Result<usize, RunError>
         ensures some { IfOk result (λ n. (0 < n) × (n ≤ length text.now)) }
+        // If `n` is returned, the first `n` bytes of `text` were written. If not, none were.
         ensures bytes { WriteAppends (held self.old) (held self.new) result text.now }
         ensures cause { IfErr result (λ e. IsWriteFailure e × failed self.new e) };
 
     /// Flushes the output once.
     fn flush_all(&mut self) -> Result<(), RunError>
+        // The bytes written so far are unchanged.
         ensures bytes { Keeps (held self.old) (held self.new) }
         ensures done { OnOk result (flushed self.new) }
         ensures cause { IfErr result (λ e. IsWriteFailure e × failed self.new e) };

@@ -8,7 +8,8 @@ use crate::cells::push_number;
 use std::alloc::AllocError;
 use std::io::Write;
 
-/// Appends the seconds since 1970, a point, and the fraction of a second.
+/// Appends the seconds since 1970, a point, and the fraction of a second: in at least six digits if
+/// its unit is microseconds, and at least nine if it is nanoseconds.
 pub fn push_time(text: &mut Vec<u8>, header: &PacketHeader) -> Result<(), AllocError>
     ensures { OnOk result (text.new.items ≡ text.old.items ++ time_text header.now) }
 {

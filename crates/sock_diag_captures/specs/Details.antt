@@ -56,7 +56,8 @@ error_reason (NameInnerZero index) = codes "inner-zero"
 error_reason NameWithoutEnd = codes "no-end"
 error_reason _ = codes "refused"
 
--- an attribute with an invalid value: its type, the length of the value, and the reason
+-- an attribute with an invalid value: its type, the length of the value, and the reason. Example: a
+-- space and `unread:(4,3,not-utf8)`.
 abbrev pub invalid_attribute_text : Attribute → DecodeError → List ℕ
 invalid_attribute_text a e =
     codes " unread:(" ++ decimal (attribute_kind a) ++ 44 ∷ decimal (length a.value)
@@ -207,7 +208,7 @@ memory_text_if_valid (Err e) = []
 
 -- ---- attributes
 
--- an unknown attribute: its type and the length of its value
+-- an unknown attribute: its type and the length of its value. Example: ` unknown:(42,8)`.
 abbrev pub unknown_attribute_text : Attribute → List ℕ
 unknown_attribute_text a = pair_detail (codes "unknown") (attribute_kind a) (length a.value)
 
@@ -227,7 +228,8 @@ inet_variant_text o a (inet_nla.Mark n) = hex_detail (codes "fwmark") n
 inet_variant_text o a (inet_nla.ClassId n) = hex_detail (codes "class_id") n
 inet_variant_text o a (inet_nla.Other other) = unknown_attribute_text a
 
--- the text of a decoded attribute of a reply about an IPv4 or IPv6 socket
+-- `inet_text o a v`: the text of the attribute `a` of a reply about an IPv4 or IPv6 socket. Its
+-- value decodes to `v`.
 abbrev pub inet_text : Options → Attribute → AttributeValue inet_attribute_set → List ℕ
 inet_text o a v = inet_variant_text o a (inet_variant v)
 
@@ -246,11 +248,13 @@ unix_variant_text a (unix_nla.MemInfo m) = memory_text_if_valid (parse_record me
 unix_variant_text a (unix_nla.Shutdown n) = directions n
 unix_variant_text a (unix_nla.Other other) = unknown_attribute_text a
 
--- the text of a decoded attribute of a reply about a UNIX socket
+-- `unix_text a v`: the text of the attribute `a` of a reply about a UNIX socket. Its value decodes
+-- to `v`.
 abbrev pub unix_text : Attribute → AttributeValue unix_attribute_set → List ℕ
 unix_text a v = unix_variant_text a (unix_variant v)
 
--- the text of a decoded attribute, or the reason why its value is invalid
+-- `text_or_reason text a result`: the text of the attribute `a`, whose value decodes to `result`,
+-- or the reason why its value is invalid
 abbrev pub text_or_reason : {A : Type 0} → (Attribute → A → List ℕ) → Attribute
     → Result A DecodeError → List ℕ
 text_or_reason text a (Ok value) = text a value
@@ -334,7 +338,7 @@ attribute_text_if_shown o sockets a =
     if shows_detail o (detail_group sockets (attribute_kind a)) then attribute_text o sockets a
     else []
 
--- the text of a piece; bytes that are not an attribute have none
+-- the text of a piece (`Pieces.antt`): of an attribute. Bytes that are not an attribute have none.
 abbrev pub attribute_or_error_detail : Options → Sockets → AttributeOrError → List ℕ
 attribute_or_error_detail o sockets (Ok a) = attribute_text_if_shown o sockets a
 attribute_or_error_detail o sockets (Err e) = []
@@ -348,8 +352,9 @@ timer_in b = record {
   expires = little_number 4 (drop 52 b);
 }
 
--- The details of a socket: the timer, the cookie and the texts of the attributes, as far as the
--- options select them.
+-- `details o sockets timer cookie given`: the details of a socket. They are the timer, the cookie
+-- (eight bytes) and the texts of the attributes `given`, as far as the options select them.
+-- `sockets` is the kind of sockets that the reply is about.
 abbrev pub details : Options → Sockets → TimerWords → List ℕ → List AttributeOrError → List ℕ
 details o sockets timer cookie given =
     timer_if_shown o timer ++ cookie_if_shown o cookie

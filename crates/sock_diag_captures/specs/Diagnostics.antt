@@ -105,7 +105,8 @@ diagnostic_text Lost = codes "the kernel lost data"
 
 -- ---- lines of messages
 
--- the line of a diagnostic: packet `packet`, message `message` in it
+-- `message_line front packet message issue`: the line of a diagnostic about the message with the
+-- number `message` in the packet with the number `packet`
 abbrev pub message_line : List ℕ → ℕ → ℕ → Issue → List ℕ
 message_line front packet message issue =
     front ++ codes "packet " ++ decimal packet ++ codes ", message " ++ decimal message
@@ -121,7 +122,9 @@ abbrev pub interrupted_diagnostic : List ℕ → Option Issue
 interrupted_diagnostic m =
     if bit_and (little_number 2 (drop 6 m)) 16 == 0 then None else Some Interrupted
 
--- the lines about a message: first whether the dump was interrupted, then its other diagnostic
+-- `lines_about_message front packet message m`: the lines about the message `m`, whose number is
+-- `message`. The first is about an interrupted dump, the second about its other diagnostic. Each is
+-- present only if there is such a diagnostic.
 abbrev pub lines_about_message : List ℕ → ℕ → ℕ → List ℕ → List ℕ
 lines_about_message front packet message m =
     diagnostic_line front packet message (interrupted_diagnostic m)
@@ -133,15 +136,18 @@ lines_about front packet message [] = []
 lines_about front packet message (m ∷ later) =
     lines_about_message front packet message m ++ lines_about front packet (message + 1) later
 
--- the line about the bytes after the last message, if there are any
+-- `end_line front packet message fault`: the line about the bytes after the last message, with
+-- their decode error, or nothing if there are no such bytes. They count as the message with the
+-- number `message`.
 abbrev pub end_line : List ℕ → ℕ → ℕ → Option DecodeError → List ℕ
 end_line front packet message None = []
 end_line front packet message (Some fault) = message_line front packet message (Refused fault)
 
 -- ---- datagrams and packets
 
--- The text `after` is the text `before`, the lines about the messages of a datagram in order, and
--- the line about the bytes after the last message, if there are any.
+-- The text `after` is the text `before`, the lines about the messages of the datagram in order, and
+-- the line about the bytes after the last message, if there are any. `packet` is the number of the
+-- packet that contains the datagram.
 pub record DiagnosesMessages (front : List ℕ) (packet : ℕ) (datagram before after : List ℕ)
     : Type 0 where
   -- the messages of the datagram, without the padding between them
@@ -152,28 +158,32 @@ pub record DiagnosesMessages (front : List ℕ) (packet : ℕ) (datagram before 
   pub lines : after ≡ before ++ (lines_about front packet 1 messages
       ++ end_line front packet (length messages + 1) end)
 
--- the lines about a datagram that is not a request; a request has none
+-- `DiagnosesDatagram front packet datagram before after`: the text `after` is the text `before` and
+-- the lines about the datagram. A request has none.
 abbrev pub DiagnosesDatagram : List ℕ → ℕ → List ℕ → List ℕ → List ℕ → Type 0
 DiagnosesDatagram front packet datagram before after =
     ((IsRequestDatagram datagram → ⊥) × DiagnosesMessages front packet datagram before after)
     ⊎ (IsRequestDatagram datagram × (after ≡ before))
 
--- The lines about the bytes of a packet: those of its datagram if it is one of sock_diag(7), a line
--- if it has fewer than 16 bytes, or else none.
+-- `DiagnosesContent front packet bytes before after`: the text `after` is the text `before` and the
+-- lines about the bytes of the packet with this number. These are the lines about its datagram if
+-- it is one of sock_diag(7), a line if it has fewer than 16 bytes, or else none.
 abbrev pub DiagnosesContent : List ℕ → ℕ → List ℕ → List ℕ → List ℕ → Type 0
 DiagnosesContent front packet bytes before after =
     (IsSockDiag bytes × DiagnosesDatagram front packet (drop 16 bytes) before after)
     ⊎ ((¬ IsSockDiag bytes)
     × (after ≡ before ++ (if nat_lt (length bytes) 16 then short_line front packet else [])))
 
--- The text `after` is the text `before` and the lines about the packet of this number: first
--- whether it was truncated, then those about its bytes.
+-- `DiagnosesPacket front number packet before after`: the text `after` is the text `before` and the
+-- lines about the packet, whose number is `number`: first a line if it was truncated, then those
+-- about its bytes.
 abbrev pub DiagnosesPacket : List ℕ → ℕ → CapturedPacket → List ℕ → List ℕ → Type 0
 DiagnosesPacket front number packet before after =
     DiagnosesContent front number packet.bytes
     (before ++ truncation_line front number (length packet.bytes) packet.header.whole_length) after
 
--- the lines about consecutive packets, of which the first has this number
+-- `AreDiagnosed front number packets lines`: `lines` are the lines about consecutive packets, of
+-- which the first has this number
 abbrev pub AreDiagnosed : List ℕ → ℕ → List CapturedPacket → List ℕ → Type 0
 AreDiagnosed front number [] lines = lines ≡ []
 AreDiagnosed front number (packet ∷ packets) lines =

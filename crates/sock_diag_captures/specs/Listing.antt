@@ -42,7 +42,8 @@ use Rattle.sock_diag_captures.specs.declared.list.Issue.TheVariants.{Invalid, No
 
 -- ---- replies
 
--- the lines of a reply with this header and these attributes, or none if the header is invalid
+-- `lines_after_header lines result given`: the lines of a reply with these attributes, whose header
+-- parses to `result`. There are none if the header is invalid.
 abbrev pub lines_after_header : {H : Type 0} → (H → List AttributeOrError → List ℕ)
     → Result H DecodeError
     → List AttributeOrError → List ℕ
@@ -84,9 +85,12 @@ family_error (Some Vsock) b = other_reply_error vsock_header b
 family_error (Some Xdp) b = other_reply_error xdp_header b
 family_error None b = None
 
--- The lines of a payload, by the kind of the reply: attributes follow a `struct unix_diag_msg` of
--- 16 bytes, or a `struct inet_diag_msg` of 72 bytes. `protocol` is the protocol of the request. A
--- payload that is not a reply has no lines.
+-- `payload_lines o protocol kind b`: the lines of the payload `b`. `kind` is the kind of the reply,
+-- or
+-- the reason why it is not one. Attributes follow a `struct unix_diag_msg` of 16 bytes, or a
+-- `struct
+-- inet_diag_msg` of 72 bytes. `protocol` is the protocol of the request. A payload that is not a
+-- reply has no lines, except for one about a netlink, packet, vsock or XDP socket (`family_lines`).
 abbrev pub payload_lines : Options → Option ℕ → Result MessageKind DecodeError → List ℕ → List ℕ
 payload_lines o protocol (Ok unix_response) b =
     lines_after_header (unix_lines o) (parse_record unix_response_header tt b)
@@ -97,8 +101,10 @@ payload_lines o protocol (Ok inet_response) b =
 payload_lines o protocol (Err (UnknownFamily n)) b = family_lines o (family_numbered n) b
 payload_lines o protocol _ b = []
 
--- The decode error of a payload: of the reply, or the reason why it is not a reply. A reply about a
--- socket of an unknown family has no error.
+-- `payload_error kind b`: the decode error of the payload `b`: of the reply, or the reason why it
+-- is
+-- not a reply. An invalid value of an attribute is not considered. A reply about a socket of an
+-- unknown family has no error.
 abbrev pub payload_error : Result MessageKind DecodeError → List ℕ → Option DecodeError
 payload_error (Ok unix_response) b =
     error_after_reply_header (parse_record unix_response_header tt b)
@@ -195,7 +201,8 @@ IsSockDiag packet = (16 ≤ length packet) × IsOfSockDiag packet
 
 -- The text `after` is the text `before` and the lines of each message of a datagram, in order.
 -- `end` is the error of the bytes after the last message, if there are any. `is_clean` is true if
--- and only if each message is plain and there is no such error.
+-- and only if each message is clean (`IsCleanMessage`) and there is no such error. `asked` are the
+-- requests that the messages may answer.
 pub record ListsMessages (o : Options) (asked : List Asked) (datagram before after : List ℕ)
     (is_clean : Bool) : Type 0 where
   -- the messages of the datagram, without the padding between them
@@ -206,8 +213,10 @@ pub record ListsMessages (o : Options) (asked : List Asked) (datagram before aft
   pub lines : after ≡ before ++ flat_map (message_lines o asked) messages
   pub clean : IsTrue is_clean ↔ (AllByRecursion IsCleanMessage messages × (end ≡ None))
 
--- The lines of a datagram. A request has only its own line, if `--requests` is set, and is always
--- clean. Any other datagram has the lines of its messages.
+-- `ListsDatagram o asked header datagram before after is_clean`: the text `after` is the text
+-- `before` and the lines of the datagram. A request has only its own line, if `--requests` is set,
+-- and is always clean. `header` is the packet header, with the time of capture. Any other datagram
+-- has the lines of its messages.
 abbrev pub ListsDatagram : Options → List Asked → PacketHeader → List ℕ → List ℕ → List ℕ → Bool
     → Type 0
 ListsDatagram o asked header datagram before after is_clean =
@@ -224,9 +233,10 @@ requests_after_packet asked packet =
     else if (big_number 2 (drop 2 packet) == 824) && (big_number 2 (drop 14 packet) == 4)
     then with_request_in_datagram asked (drop 16 packet) else asked
 
--- The text `after` is the text `before` and the lines of a packet: those of its datagram if it is
--- one of sock_diag(7), or else none. A packet of another protocol is clean, and a packet with fewer
--- than 16 bytes is not.
+-- `ListsPacket o asked packet before after is_clean`: the truncation of the packet is not
+-- considered. The text `after` is the text `before` and the lines of a packet: those of its
+-- datagram if it is one of sock_diag(7), or else none. A packet of another protocol is clean, and a
+-- packet with fewer than 16 bytes is not.
 abbrev pub ListsPacket : Options → List Asked → CapturedPacket → List ℕ → List ℕ → Bool → Type 0
 ListsPacket o asked packet before after is_clean =
     (IsSockDiag packet.bytes
@@ -234,8 +244,10 @@ ListsPacket o asked packet before after is_clean =
     ⊎ ((¬ IsSockDiag packet.bytes) × (after ≡ before)
     × (IsTrue is_clean ↔ (16 ≤ length packet.bytes)))
 
--- The lines of a packet as it was captured. It was listed without errors if it is clean and was not
--- truncated: it has at least as many bytes as its original length.
+-- `ListsCapturedPacket o asked packet before after is_whole`: the text `after` is the text `before`
+-- and the lines of the packet. `is_whole` is true if and only if the packet was listed without
+-- errors: it is clean and was not truncated, so it has at least as many bytes as its original
+-- length.
 abbrev pub ListsCapturedPacket : Options → List Asked → CapturedPacket → List ℕ → List ℕ → Bool
     → Type 0
 ListsCapturedPacket o asked packet before after is_whole =

@@ -35,7 +35,9 @@ u32_in_attribute place (Some a) =
     if nat_lt (length a.value) (place + 4) then None
     else Some (little_number 4 (drop place a.value))
 
--- the `u32` at an offset of the value of the first attribute of a type, or None if there is none
+-- `u32_of_first_attribute kind place given`: the `u32` at the offset `place` of the value of the
+-- first attribute of this type. None if there is no such attribute, if its value is too short, or
+-- if `kind` is None.
 abbrev pub u32_of_first_attribute : Option ℕ → ℕ → List AttributeOrError → Option ℕ
 u32_of_first_attribute None place given = None
 u32_of_first_attribute (Some kind) place given = u32_in_attribute place (first_of_kind kind given)
@@ -44,7 +46,7 @@ u32_of_first_attribute (Some kind) place given = u32_in_attribute place (first_o
 abbrev pub none_if_equal : ℕ → ℕ → Option ℕ
 none_if_equal none n = if n == none then None else Some n
 
--- the interface number: the `u32` at 0 of the first attribute of a type, or None if it is 0
+-- the interface number: the `u32` at 0 of the first attribute of a type. None if it is 0 or absent.
 abbrev pub interface_number : ℕ → List AttributeOrError → Option ℕ
 interface_number kind given = option_and_then (none_if_equal 0)
     (u32_of_first_attribute (Some kind) 0 given)
@@ -148,7 +150,7 @@ abbrev pub optional_numbers_text : Option (Option ℕ × Option ℕ) → List �
 optional_numbers_text None = codes "*"
 optional_numbers_text (Some end) = numbers_text end
 
--- the columns
+-- the columns: the first columns, the local address and the peer's
 abbrev pub other_line : OtherSocket → List AttributeOrError → List ℕ
 other_line s given = table_line (other_columns s given) (numbers_text s.local)
     (optional_numbers_text s.peer)

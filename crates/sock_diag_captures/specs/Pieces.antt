@@ -1,4 +1,5 @@
--- The attributes in bytes, each at a multiple of 4, up to the end or to bytes that are not an
+-- The pieces of bytes. A piece is an attribute, or the error of bytes that are not one, which is
+-- last. The attributes in bytes, each at a multiple of 4, up to the end or to bytes that are not an
 -- attribute. An attribute is a `struct nlattr` (linux/netlink.h): `nla_len` at 0, `nla_type` at 2,
 -- and the value from 4 on. `nla_len` counts these four bytes and the value.
 use Rattle.std.specs.Prelude.{ℕ, zero, suc, ◌+◌, ◌-◌, ◌==◌, nat_lt, if◌then◌else◌, List, [], ◌∷◌}
@@ -66,13 +67,15 @@ first_of_kind k [] = None
 first_of_kind k (Ok a ∷ later) = if attribute_kind a == k then Some a else first_of_kind k later
 first_of_kind k (Err e ∷ later) = first_of_kind k later
 
--- the content of a decoded attribute of type `k`, or None for a decode error
+-- `content_if_valid F k result`: the content of a decoded attribute of type `k`, or None for a
+-- decode error. `F` are the known attribute types.
 abbrev pub content_if_valid : (F : AttributeSet) → (k : ℕ) → Result (AttributeValue F) DecodeError
     → Option (ValueOfKind F k)
 content_if_valid F k (Ok value) = value_of_kind F k value
 content_if_valid F k (Err e) = None
 
--- the content of the first attribute of type `k`, or None if there is none or its value is invalid
+-- `first_content F k given`: the content of the first attribute of type `k`, or None if there is
+-- none or its value is invalid. Later attributes of the type are not considered.
 abbrev pub first_content : (F : AttributeSet) → (k : ℕ) → List AttributeOrError
     → Option (ValueOfKind F k)
 first_content F k given = option_and_then (λ a. content_if_valid F k (decode_attribute F a))

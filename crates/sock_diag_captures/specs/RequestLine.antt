@@ -15,7 +15,8 @@ use Rattle.sock_diag_captures.specs.declared.requests.Asked.{Asked}
 
 -- The requested states of UNIX sockets, a bit for each, if the datagram begins with such a request:
 -- a netlink header with `nlmsg_type` 20 (SOCK_DIAG_BY_FAMILY) at 4, and a `struct unix_diag_req` of
--- 24 bytes, with the family 1 (AF_UNIX) at 16 and `udiag_states` at 20.
+-- 24 bytes, with the family 1 (AF_UNIX) at 16 and `udiag_states` at 20. The other fields are not
+-- considered.
 abbrev pub requested_unix_states : List ℕ → Option ℕ
 requested_unix_states b =
     if nat_lt (length b) 40 || not (little_number 2 (drop 4 b) == 20)
@@ -23,7 +24,8 @@ requested_unix_states b =
     then None else Some (little_number 4 (drop 20 b))
 
 -- The netlink, packet, vsock or XDP family, if the datagram begins with a request for its sockets:
--- `nlmsg_type` at 4 is 20, and the family (`sdiag_family`) is at 16.
+-- it has at least 17 bytes, `nlmsg_type` at 4 is 20, and the family (`sdiag_family`) is at 16. The
+-- other fields are not considered.
 abbrev pub requested_family : List ℕ → Option Family
 requested_family b =
     if nat_lt (length b) 17 || not (little_number 2 (drop 4 b) == 20) then None
@@ -37,16 +39,18 @@ requested_family_text (Some Vsock) = codes "vsock"
 requested_family_text (Some Xdp) = codes "xdp"
 requested_family_text None = codes "other"
 
--- The text about the requested sockets: the protocol and the requested states of IPv4 or IPv6
--- sockets, or else `unix` and the requested states, or else the name of the family.
+-- `request_text asked states family`: the text about the requested sockets. It has the protocol and
+-- the requested states of IPv4 or IPv6 sockets (`asked`), or else `unix` and the requested states,
+-- or else the name of the family. Example: `tcp states:0xfff`.
 abbrev pub request_text : Option Asked → Option ℕ → Option Family → List ℕ
 request_text (Some a) states family =
     inet_kind (Some a.protocol) a.family ++ hex_detail (codes "states") a.states
 request_text None (Some states) family = codes "unix" ++ hex_detail (codes "states") states
 request_text None None family = requested_family_text family
 
--- The line of a request: `-- `, the time of its capture, a space (32), the text about the requested
--- sockets and a line feed (10).
+-- `request_line h datagram`: the line of a request. It has `-- `, the time of its capture, which is
+-- in the packet header `h`, a space (32), the text about the requested sockets and a line feed
+-- (10).
 abbrev pub request_line : PacketHeader → List ℕ → List ℕ
 request_line h datagram =
     codes "-- " ++ time_text h

@@ -7,8 +7,9 @@ use Rattle.netlink_core.specs.Attribute.{Attribute}
 use Rattle.sock_diag_captures.specs.Pieces.{first_of_kind, attributes_or_error}
 use Rattle.sock_diag_captures.specs.declared.requests.Asked.{Asked}
 
--- The protocol of a request: the little-endian value of its attribute INET_DIAG_REQ_PROTOCOL, if
--- there is one with four bytes, or else the byte `sdiag_protocol`.
+-- `protocol_by byte attribute`: the protocol of a request. It is the little-endian value of its
+-- attribute INET_DIAG_REQ_PROTOCOL, if there is one and its value has four bytes, or else the byte
+-- `sdiag_protocol`.
 abbrev pub protocol_by : ℕ → Option Attribute → ℕ
 protocol_by byte None = byte
 protocol_by byte (Some a) = if length a.value == 4 then little_number 4 a.value else byte

@@ -29,11 +29,13 @@ lines_of_packet listing = listing.lines
 abbrev pub IsListedWithoutErrors : ListedPacket → Type 0
 IsListedWithoutErrors listing = IsTrue listing.whole
 
--- The lines of one packet. `asked` are the requests up to and including this packet.
+-- `IsListed o asked packet listing`: `listing` has the lines of the packet, and whether it was
+-- listed without errors. `asked` are the requests up to and including this packet.
 abbrev pub IsListed : Options → List Asked → CapturedPacket → ListedPacket → Type 0
 IsListed o asked packet listing = ListsCapturedPacket o asked packet [] listing.lines listing.whole
 
--- The lines of consecutive packets. `asked` are the requests before the first of them.
+-- `AreListed o asked packets listings`: one listing for each of these consecutive packets, in
+-- order. `asked` are the requests before the first of them.
 abbrev pub AreListed : Options → List Asked → List CapturedPacket → List ListedPacket → Type 0
 AreListed o asked [] [] = ⊤
 AreListed o asked [] (listing ∷ later) = ⊥

@@ -70,7 +70,8 @@ inet_kind (Some protocol) family =
 -- ---- lines
 
 -- The columns of a UNIX socket. The name is in the attribute UNIX_DIAG_NAME (0), the inode of the
--- peer in UNIX_DIAG_PEER (2), and the lengths of the queues in UNIX_DIAG_RQLEN (4).
+-- peer in UNIX_DIAG_PEER (2), and the lengths of the queues in UNIX_DIAG_RQLEN (4): first the
+-- receive queue, then the send queue. The first attribute of each type counts.
 abbrev pub unix_line : Options → UnixResponseHeader → List AttributeOrError → List ℕ
 unix_line o h given =
     let queues = first_content unix_attribute_set 4 given in
@@ -84,7 +85,8 @@ unix_line o h given =
     }) (name_cell o.utf8 (first_content unix_attribute_set 0 given))
     (peer_cell (first_content unix_attribute_set 2 given))
 
--- The columns of an IPv4 or IPv6 socket. `protocol` is the protocol of the request.
+-- The columns of an IPv4 or IPv6 socket. `protocol` is the protocol of the request. The interface
+-- number is shown after the local address only, so that of the peer is 0.
 abbrev pub inet_line : Option ℕ → InetResponseHeader → List ℕ
 inet_line protocol h =
     let id = h.socket_id in

@@ -85,13 +85,17 @@ pub fn run_to_status<R: Read, W: Write, E: Write>(
     output: &mut W,
     errors: &mut E,
 ) -> ExitCode
+    // R.remaining: the bytes that remain to be read, if known. Status 0: the input is at its end.
     ensures ended { exit_status result ≡ 0 → IsAtEnd (R.remaining input.new) }
+    // Status 0: the whole capture was read, each packet was listed without errors, and the table
+    // was written. W.contents, E.contents: the bytes written, if known.
     ensures whole { exit_status result ≡ 0 → Finishes options (R.remaining input.old)
         (R.remaining input.new) (W.contents output.old) (W.contents output.new) HEADING.now
         front.now (WritesPrefix (E.contents errors.old) (E.contents errors.new)) true }
     // The status is 0 if and only if the whole capture was listed without errors. Otherwise it is
     // 1. On `errors` are the diagnostics and the line that names the failure, or a prefix of this
-    // text.
+    // text. ⊤: a standard reader does not report whether a read failed, so `Read` is always
+    // possible.
     ensures outcome { (outcome : Result Bool RunError)
         × ((exit_status result ≡ 0) ↔ (outcome ≡ Ok true))
         × ((exit_status result ≡ 1) ↔ ¬ (outcome ≡ Ok true))

@@ -89,14 +89,21 @@ struct Place {
     message: u64,
 }
 
-/// Appends the lines and the diagnostics of a packet. `number` is the number of the packet.
+/// Appends the lines of a packet to `written.lines`, and its diagnostics to `written.issues`.
+/// `number` is the number of the packet in the capture.
 ///
-/// Returns whether the packet was listed without errors: it has the 16 bytes of the cooked header,
-/// it was not truncated, and each of its messages is valid. None of them has an error of the kernel
-/// other than `ENOENT` and `EINVAL`, or reports lost data or a changed dump.
+/// Returns whether the packet was listed without errors. It was not if it was truncated (it has
+/// fewer bytes than `header.whole_length`), or if it has fewer than the 16 bytes of the cooked
+/// header. Nor was it if its datagram is one of sock_diag(7), but not a request, and one of its
+/// messages is invalid, has an error of the kernel other than `ENOENT` and `EINVAL`, or reports
+/// lost data or a changed dump, or bytes after the last message are not a message. An invalid value
+/// of an attribute, and a reply about a socket of an unknown family, are not errors. Packets of
+/// other
+/// protocols and the content of requests are not checked.
 ///
 /// Stores a request for IPv4 or IPv6 sockets in `requests`, so that the protocol of its replies is
-/// known. Appends a line for a request if `--requests` is set.
+/// known. Appends a line for a request if `--requests` is set. If it fails, an allocation failed,
+/// and the lines, diagnostics and requests are not specified.
 pub fn list_packet(
     written: &mut Written<'_>,
     requests: &mut Requests,
@@ -105,10 +112,13 @@ pub fn list_packet(
     packet: &[u8],
     header: &PacketHeader,
 ) -> Result<bool, AllocError>
+    // The lines and the result. `captured_packet` is the packet with its header.
     ensures lists { IfOk result (ListsCapturedPacket options requests.new.asked.items
         (captured_packet packet.now header.now) written.old.lines.items written.new.lines.items) }
+    // The request in the packet, if there is one, was added.
     ensures asked { OnOk result (requests.new.asked.items
         ≡ requests_after_packet requests.old.asked.items packet.now) }
+    // The diagnostics.
     ensures diagnosed { OnOk result (DiagnosesPacket written.old.front.now number
         (captured_packet packet.now header.now) written.old.issues.items written.new.issues.items) }
     ensures front { written.new.front ≡ written.old.front }

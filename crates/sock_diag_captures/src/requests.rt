@@ -60,7 +60,9 @@ impl Requests {
         }
     }
 
-    /// Adds the request for IPv4 or IPv6 sockets that a datagram begins with, if there is one.
+    /// Adds the request for IPv4 or IPv6 sockets that a datagram begins with, if there is one. Then
+    /// at most 15 older requests are kept. If it fails, an allocation failed, and the requests are
+    /// not specified.
     pub fn note(&mut self, datagram: &[u8]) -> Result<(), AllocError>
         ensures { OnOk result (self.new.asked.items
             ≡ with_request_in_datagram self.old.asked.items datagram.now) }
@@ -73,7 +75,8 @@ impl Requests {
     }
 
     /// Returns the protocol of the newest request that a reply with these numbers may answer: its
-    /// sequence number is equal, and its port number is equal or 0.
+    /// sequence number is equal, and its port number is equal or 0. Returns `None` if there is
+    /// none.
     pub fn find_protocol(&self, sequence_number: u32, port_number: u32) -> Option<u32>
         ensures { result ≡ protocol_of self.now.asked.items sequence_number port_number }
     {

@@ -19,6 +19,11 @@ use std::io::{Read, Write};
 /// Writes the table of a capture: a heading, and the lines of each packet before the next one is
 /// read. Writes diagnostics on `errors`. Each begins with `front`. If a write on `errors` fails,
 /// nothing more is written there. Returns whether all packets were listed without errors.
+///
+/// If it fails, nothing was written if the file header could not be read (`Header`). If a packet
+/// could not be read (`Packet`) or an allocation failed (`Memory`), the packets before it were
+/// listed. If a write or the final flush failed (`Write`, `Closed`), a prefix of the table was
+/// written.
 pub fn run<R: Read, W: Write, E: Write>(
     alloc: Global,
     options: Options,
@@ -27,10 +32,13 @@ pub fn run<R: Read, W: Write, E: Write>(
     output: &mut W,
     errors: &mut E,
 ) -> Result<bool, RunError>
+    // R.remaining: the bytes that remain to be read, if known.
     ensures ended { OnOk result (IsAtEnd (R.remaining input.new)) }
+    // W.contents, E.contents: the bytes written, if known. A prefix of the diagnostics was written.
     ensures table { IfOk result (Finishes options (R.remaining input.old) (R.remaining input.new)
         (W.contents output.old) (W.contents output.new) HEADING.now front.now
         (WritesPrefix (E.contents errors.old) (E.contents errors.new))) }
+    // ⊤: a standard reader does not report whether a read failed, so `Read` is always possible.
     ensures failed { IfErr result (Fails options (R.remaining input.old) (R.remaining input.new)
         (W.contents output.old) (W.contents output.new) HEADING.now front.now
         (WritesPrefix (E.contents errors.old) (E.contents errors.new)) ⊤) }

@@ -16,8 +16,9 @@ acked_request_length flags payload =
     if (bit_and flags 256 == 0) && not (little_number 4 payload == 0)
     then little_number 4 (drop 4 payload) else 16
 
--- The payload contains the error number and the request: it has at least 20 bytes, the length of
--- the request is at least 16 bytes, and the request ends within the payload.
+-- `HasCompleteRequest flags payload`: the payload of an NLMSG_ERROR contains the error number and
+-- the request, at least the part of it that is sent. It has at least 20 bytes, the length of the
+-- request is at least 16 bytes, and the request ends within the payload.
 abbrev pub HasCompleteRequest : ℕ → List ℕ → Type 0
 HasCompleteRequest flags payload =
     (20 ≤ length payload) × (16 ≤ acked_request_length flags payload)
@@ -27,8 +28,8 @@ HasCompleteRequest flags payload =
 abbrev pub acked_request_bytes : ℕ → List ℕ → List ℕ
 acked_request_bytes flags payload = take (acked_request_length flags payload) (drop 4 payload)
 
--- The bytes of the attributes: all bytes after the first `front` bytes of the payload, or none if
--- the flags lack NLM_F_ACK_TLVS (512).
+-- `ack_attribute_bytes_from flags front payload`: the bytes of the attributes. They are all bytes
+-- after the first `front` bytes of the payload, or none if the flags lack NLM_F_ACK_TLVS (512).
 abbrev pub ack_attribute_bytes_from : ℕ → ℕ → List ℕ → List ℕ
 ack_attribute_bytes_from flags front payload =
     if bit_and flags 512 == 0 then [] else drop front payload

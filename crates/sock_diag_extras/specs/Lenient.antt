@@ -25,14 +25,15 @@ rejection_model (refused.Attribute nla e) = record {
 }
 rejection_model (refused.Framing e) = record { attribute = None; fault = e }
 
--- The item for an attribute, by the set `F` of known attribute types: the value that it decodes to,
--- or the attribute with its error.
+-- `lenient_item_of F a`: the item for the attribute `a`, by the set `F` of known attribute types.
+-- It is the value that it decodes to, or the attribute with its error.
 abbrev pub lenient_item_of : (F : AttributeSet) → Attribute
     → Result (AttributeValue F) RejectionModel
 lenient_item_of F a = result_map_both (λ value. value) (λ e.
     record { attribute = Some a; fault = e }) (decode_attribute F a)
 
--- The model of an item that the iterator yields. `view_model` is the model of a view.
+-- `lenient_item_model F view_model item`: the model of an item that the iterator yields.
+-- `view_model` maps a view to the value that it decodes to.
 abbrev pub lenient_item_model : {V : Type 0} (F : AttributeSet) → (V → AttributeValue F)
     → Result V Refused
     → Result (AttributeValue F) RejectionModel

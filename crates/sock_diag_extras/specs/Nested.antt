@@ -17,9 +17,9 @@ attributes_in = decoded_in (decode_attribute [])
 abbrev pub first_in : ℕ → List ℕ → Option (List ℕ)
 first_in kind bytes = first_value_of_kind kind (attributes_in bytes)
 
--- The little-endian number in the first attribute of a type in the bytes. `row` is the attribute
--- type and the width of the number in bytes. `Ok None` if there is no such attribute, and
--- WrongLength with the type if its value has another length.
+-- `nested_number_in row bytes`: the little-endian number in the first attribute of a type in the
+-- bytes. `row` is the attribute type and the width of the number in bytes. `Ok None` if there is no
+-- such attribute, and WrongLength with the type if its value has another length.
 abbrev pub nested_number_in : ℕ × ℕ → List ℕ → Result (Option ℕ) DecodeError
 nested_number_in row bytes = parse_if_present (number_of_width (Some row.0) row.1)
     (first_in row.0 bytes)

@@ -16,11 +16,13 @@ pub record RecordTable (Value : Type 0) : Type 1 where
   -- each array of the value has the length of its Rust type
   pub is_shaped : Value → Type 0
 
--- Parses the start of bytes that are at least as long as the record.
+-- Parses the start of bytes that are at least as long as the record: each row reads its numbers at
+-- its offset, and `value` makes the value of all of them, in the order of the rows.
 abbrev pub parse_by_table : {Value : Type 0} → RecordTable Value → List ℕ → Value
 parse_by_table layout bytes = layout.value (values_of (fields_of layout.rows) bytes)
 
--- Serializes a value.
+-- Serializes a value: the numbers of its rows, in the order of the rows, each in the width and the
+-- byte order of its row.
 abbrev pub bytes_by_table : {Value : Type 0} → RecordTable Value → Value → List ℕ
 bytes_by_table layout value = bytes_of (fields_of layout.rows) (numbers_of layout.rows value)
 

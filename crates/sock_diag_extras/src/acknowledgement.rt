@@ -49,6 +49,7 @@ impl<'a> AckView<'a> {
     /// length field is below 16 or past the end of the bytes.
     pub fn of_error(flags: u16, payload: &'a [u8]) -> Option<AckView<'a>>
         ensures held { IsSome result ↔ HasCompleteRequest flags payload.entry.now }
+        // leading_error_number: the signed little-endian number in the first four bytes.
         ensures number { IfSome result (λ ack.
             leading_error_number payload.entry.now ≡ Some (ack_number ack)) }
         ensures request { IfSome result (λ ack.
@@ -75,6 +76,7 @@ impl<'a> AckView<'a> {
     /// attributes, if the flags have `NLM_F_ACK_TLVS`. Returns `None` if there are fewer than four
     /// bytes.
     pub fn of_done(flags: u16, payload: &'a [u8]) -> Option<AckView<'a>>
+        // leading_error_number: the signed little-endian number in the first four bytes, or `None`.
         ensures number { option_map ack_number result ≡ leading_error_number payload.entry.now }
         ensures request { IfSome result (λ ack. ack_request ack ≡ []) }
         ensures attributes { IfSome result (λ ack.
@@ -103,8 +105,10 @@ impl<'a> AckView<'a> {
         self.request
     }
 
-    /// Returns the header of the request, or `None` for the end of a dump.
+    /// Returns the header of the request. Returns `None` if the message contains fewer than the 16
+    /// bytes of a header, as for the end of a dump.
     pub fn request_header(&self) -> Option<NetlinkHeader>
+        // The five fields of the header are the numbers in the first 16 bytes of the request.
         ensures { SomeIff (option_map header_values result) (16 ≤ length (ack_request self.now))
             (values_of header_fields (ack_request self.now)) }
     {
@@ -136,8 +140,8 @@ impl<'a> AckView<'a> {
 pub struct AckAttributes<'a>(pub NestedNlas<'a>);
 
 impl<'a> AckAttributes<'a> {
-    /// Returns the error message or warning, `NLMSGERR_ATTR_MSG`. Text that is not valid UTF-8 is
-    /// `NotUtf8`.
+    /// Returns the error message or warning, `NLMSGERR_ATTR_MSG`, without one terminating NUL if it
+    /// has one. Text that is not valid UTF-8 is `NotUtf8`.
     pub fn message(&self) -> Result<Option<&'a str>, DecodeError>
         ensures { map_ok (option_map (λ text. text.now)) result
             ≡ parse_if_present parse_text (first_in NLMSGERR_ATTR_MSG (nested_bytes self.now.0)) }
@@ -146,7 +150,7 @@ impl<'a> AckAttributes<'a> {
     }
 
     /// Returns the offset of the invalid attribute in bytes, from the first byte of the request's
-    /// header, `NLMSGERR_ATTR_OFFS`. A length other than 4 is `WrongLength`.
+    /// header, `NLMSGERR_ATTR_OFFS`, little-endian. A length other than 4 is `WrongLength`.
     pub fn offset(&self) -> Result<Option<u32>, DecodeError>
         ensures { result
             ≡ parse_if_present (number_of_width None 4)
@@ -172,8 +176,8 @@ impl<'a> AckAttributes<'a> {
         self.0.value_of(NLMSGERR_ATTR_POLICY)
     }
 
-    /// Returns the kind of a required attribute that is missing, `NLMSGERR_ATTR_MISS_TYPE`. A
-    /// length other than 4 is `WrongLength`.
+    /// Returns the kind of a required attribute that is missing, `NLMSGERR_ATTR_MISS_TYPE`,
+    /// little-endian. A length other than 4 is `WrongLength`.
     pub fn missing_kind(&self) -> Result<Option<u32>, DecodeError>
         ensures { result
             ≡ parse_if_present (number_of_width None 4)
@@ -183,8 +187,8 @@ impl<'a> AckAttributes<'a> {
     }
 
     /// Returns the offset of the nest in which the attribute is missing, from the first byte of the
-    /// request's header, `NLMSGERR_ATTR_MISS_NEST`. The kernel does not send it if the attribute is
-    /// missing in the message itself. A length other than 4 is `WrongLength`.
+    /// request's header, `NLMSGERR_ATTR_MISS_NEST`, little-endian. The kernel does not send it if
+    /// the attribute is missing in the message itself. A length other than 4 is `WrongLength`.
     pub fn missing_nest(&self) -> Result<Option<u32>, DecodeError>
         ensures { result
             ≡ parse_if_present (number_of_width None 4)

@@ -50,7 +50,8 @@ impl<'a> Refused<'a> {
         }
     }
 
-    /// Returns the kind of the rejected attribute, or `None` for a framing error.
+    /// Returns the kind of the rejected attribute, its type field without the two flag bits, or
+    /// `None` for a framing error.
     pub fn kind(&self) -> Option<u16>
         ensures { result ≡ option_map attribute_kind (rejection_model self.now).attribute }
     {
@@ -155,12 +156,14 @@ pub type LenientInetReply<'a> = LenientReply<'a, InetResponseHeader>;
 pub type LenientUnixReply<'a> = LenientReply<'a, UnixResponseHeader>;
 
 impl<'a, H: LenientHeader<'a>> LenientReply<'a, H> {
-    /// Parses the header. The attributes are not parsed until they are iterated over. It does not
-    /// allocate.
+    /// Parses the header at the start of the bytes, or returns the error with which it is rejected.
+    /// The bytes after it are the attributes. They are not parsed until they are iterated over. It
+    /// does not allocate.
     #[tactic(auto, using(netlink_core::proofs::LayoutLaws::parsed_by_fields))]
     pub fn parse(bytes: &'a [u8]) -> Result<LenientReply<'a, H>, DecodeError>
         ensures header { IfOk result (λ lenient.
             parse_record H.layout tt bytes.entry.now ≡ Ok (lenient_header lenient)) }
+        // H.layout.least: the length of the header in bytes.
         ensures behind { IfOk result (λ lenient.
             lenient_bytes lenient ≡ drop H.layout.least bytes.entry.now) }
         ensures fault { IfErr result (λ fault. parse_record H.layout tt bytes.entry.now

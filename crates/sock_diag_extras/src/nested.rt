@@ -31,6 +31,7 @@ impl<'a> NestedNlas<'a> {
     /// Borrows the attributes in the bytes. Returns the first framing error, if there is one. The
     /// values are not parsed.
     pub fn parse(bytes: &'a [u8]) -> Result<NestedNlas<'a>, DecodeError>
+        // `decode_attribute []`: no attribute type is known, so every value is accepted.
         ensures kept { IfOk result (λ nested. nested_bytes nested ≡ bytes.entry.now) }
         ensures fault { IfErr result (HasAttributeError (decode_attribute []) bytes.entry.now) }
     {
@@ -45,7 +46,7 @@ impl<'a> NestedNlas<'a> {
         NlasIterator::new(self.bytes)
     }
 
-    /// Returns the value of the first attribute of the kind.
+    /// Returns the value of the first attribute of the kind, or `None` if there is none.
     pub fn value_of(&self, kind: u16) -> Option<&'a [u8]>
         ensures { option_map (λ value. value.now) result ≡ first_in kind (nested_bytes self.now) }
     {
@@ -59,7 +60,8 @@ impl<'a> NestedNlas<'a> {
     }
 
     /// Returns the value of the first attribute of the kind as text, without one terminating NUL if
-    /// it has one. Text that is not valid UTF-8 is `NotUtf8`; `value_of` returns its bytes.
+    /// it has one. Returns `Ok(None)` if there is no such attribute. Text that is not valid UTF-8
+    /// is `NotUtf8`; `value_of` returns its bytes.
     pub fn text_of(&self, kind: u16) -> Result<Option<&'a str>, DecodeError>
         ensures { map_ok (option_map (λ text. text.now)) result
             ≡ parse_if_present parse_text (first_in kind (nested_bytes self.now)) }
@@ -70,8 +72,9 @@ impl<'a> NestedNlas<'a> {
         }
     }
 
-    /// Parses the value of the first attribute of the kind as a little-endian `u32`. A length other
-    /// than 4 is `WrongLength`, without the kind.
+    /// Parses the value of the first attribute of the kind as a little-endian `u32`. Returns
+    /// `Ok(None)` if there is no such attribute. A length other than 4 is `WrongLength`, without
+    /// the kind.
     pub fn word_of(&self, kind: u16) -> Result<Option<u32>, DecodeError>
         ensures { result ≡ parse_if_present (number_of_width None 4)
             (first_in kind (nested_bytes self.now)) }
@@ -83,7 +86,8 @@ impl<'a> NestedNlas<'a> {
     }
 
     /// Parses the value of the first attribute of the kind as a little-endian number of `width`
-    /// bytes. Another length is `WrongLength`, with the kind.
+    /// bytes, which must be 1 to 8. Returns `Ok(None)` if there is no such attribute. Another
+    /// length is `WrongLength`, with the kind.
     pub fn number_of(&self, kind: u16, width: usize) -> Result<Option<u64>, DecodeError>
         requires one { 1 ≤ width }
         requires eight { width ≤ 8 }
@@ -100,8 +104,9 @@ impl<'a> NestedNlas<'a> {
         }
     }
 
-    /// Borrows the attributes nested in the value of the first attribute of the kind. Returns their
-    /// first framing error, if there is one.
+    /// Borrows the attributes nested in the value of the first attribute of the kind. Returns
+    /// `Ok(None)` if there is no such attribute, and the first framing error in its value, if there
+    /// is one.
     pub fn nested_of(&self, kind: u16) -> Result<Option<NestedNlas<'a>>, DecodeError>
         ensures kept { IfOk result (λ found. option_map (λ nested. nested_bytes nested) found
             ≡ first_in kind (nested_bytes self.now)) }

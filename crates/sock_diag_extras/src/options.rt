@@ -68,7 +68,7 @@ impl AttributeRecord for SocketOptions {
 impl SocketOptions {
     ghost use Rattle.sock_diag_extras.specs.SocketOptions.{bit_of};
 
-    /// Returns whether the option is set.
+    /// Returns whether the option is set: whether `bits` has the bit of the option.
     pub fn has(&self, option: SocketOption) -> bool
         ensures { IsTrue result ↔ IsBitSet self.now.bits (bit_of option) }
     {

@@ -39,6 +39,7 @@ pub trait AttributeRecord: Sized {
 pub fn read_attribute_record<T: AttributeRecord>(value: &[u8]) -> Option<T>
     ensures value { SomeIff result (T.layout.size ≤ length value.now)
         (parse_by_table T.layout value.now) }
+    // It is also what the layout returns, whatever name its errors have: `None` for an error.
     ensures by_layout { (name : RecordName)
         → result ≡ result_ok (parse_record (layout_with_name T.layout name) tt value.now) }
 {
@@ -48,7 +49,8 @@ pub fn read_attribute_record<T: AttributeRecord>(value: &[u8]) -> Option<T>
     Some(T::from_fields(value))
 }
 
-/// Serializes the record to the start of the buffer. The bytes after it are unchanged.
+/// Serializes the record to the start of the buffer, which must be at least as long as the record.
+/// The bytes after it are unchanged.
 pub fn write_attribute_record<T: AttributeRecord>(value: &T, buffer: &mut [u8])
     requires { T.layout.size ≤ length buffer.old }
     ensures { buffer.new ≡ bytes_by_table T.layout value.now ++ drop T.layout.size buffer.old }

@@ -28,8 +28,9 @@ impl<'a, T> AttributeRecords<'a, T> {
         }
     }
 
-    /// Returns the bytes that were not parsed yet. After the last record, these are fewer than a
-    /// record has; none are left if the length of the value is a multiple of the record's size.
+    /// Returns the bytes that were not parsed yet. After `next` has returned `None`, these are
+    /// fewer than a record has; none are left if the length of the value is a multiple of the
+    /// record's size.
     pub fn rest(&self) -> &'a [u8]
         ensures { result.now ≡ unread_record_bytes self.now }
     {

@@ -22,14 +22,15 @@ use netlink_core::{DecodeError, NlaBuffer};
 pub struct BpfStorage<'a>(pub NestedNlas<'a>);
 
 impl<'a> BpfStorage<'a> {
-    /// Parses the value of an attribute as nested attributes. Returns `None` if the kind of the
-    /// attribute is not `SK_DIAG_BPF_STORAGE`, and the first framing error in the value, if there
-    /// is one.
+    /// Borrows the attributes nested in the value of an attribute. Returns `Ok(None)` if the kind
+    /// of the attribute is not `SK_DIAG_BPF_STORAGE` (1). Otherwise returns the first framing error
+    /// in the value, if there is one.
     pub fn parse(nla: &NlaBuffer<'a>) -> Result<Option<BpfStorage<'a>>, DecodeError>
         ensures kept { IfOk result (λ found. MatchOption found
             (attribute_kind (buffered_attribute nla.now) ≢ 1)
             (λ storage. (attribute_kind (buffered_attribute nla.now) ≡ SK_DIAG_BPF_STORAGE)
             × (nested_bytes storage.0 ≡ (buffered_attribute nla.now).value))) }
+        // `decode_attribute []`: no attribute type is known, so every value is accepted.
         ensures fault { IfErr result (λ e.
             (attribute_kind (buffered_attribute nla.now) ≡ SK_DIAG_BPF_STORAGE)
             × HasAttributeError (decode_attribute []) (buffered_attribute nla.now).value e) }
@@ -40,8 +41,9 @@ impl<'a> BpfStorage<'a> {
         Ok(Some(BpfStorage(NestedNlas::parse(nla.value())?)))
     }
 
-    /// Returns the id of the map, `SK_DIAG_BPF_STORAGE_MAP_ID`. A length other than 4 is
-    /// `WrongLength`.
+    /// Returns the id of the map, the little-endian `u32` in the first
+    /// `SK_DIAG_BPF_STORAGE_MAP_ID`, or `Ok(None)` if there is none. A length other than 4 is
+    /// `WrongLength`, without the kind.
     pub fn map_id(&self) -> Result<Option<u32>, DecodeError>
         ensures { result
             ≡ parse_if_present (number_of_width None 4)
@@ -50,7 +52,8 @@ impl<'a> BpfStorage<'a> {
         self.0.word_of(SK_DIAG_BPF_STORAGE_MAP_ID)
     }
 
-    /// Returns the bytes that the map stores for the socket, `SK_DIAG_BPF_STORAGE_MAP_VALUE`.
+    /// Returns the bytes that the map stores for the socket: the value of the first
+    /// `SK_DIAG_BPF_STORAGE_MAP_VALUE`, or `None` if there is none.
     pub fn map_value(&self) -> Option<&'a [u8]>
         ensures { option_map (λ value. value.now) result
             ≡ first_in SK_DIAG_BPF_STORAGE_MAP_VALUE (nested_bytes self.now.0) }

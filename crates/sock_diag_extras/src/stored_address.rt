@@ -85,8 +85,8 @@ impl AttributeRecord for StoredAddress {
 impl StoredAddress {
     ghost use Rattle.sock_diag_extras.specs.StoredAddress.{ip_of};
 
-    /// Returns the IP address. Returns `None` if the family is neither 2 (`AF_INET`) nor 10
-    /// (`AF_INET6`).
+    /// Returns the IP address: the IPv4 address in `front` if the family is 2 (`AF_INET`), and the
+    /// IPv6 address in `segments` if it is 10 (`AF_INET6`). Returns `None` for any other family.
     pub fn ip(&self) -> Option<IpAddr>
         ensures { result ≡ ip_of self.now }
     {

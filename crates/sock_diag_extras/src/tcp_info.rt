@@ -271,7 +271,8 @@ impl<'a> TcpInfoBytes<'a> {
         self.bytes.len()
     }
 
-    /// Returns the value of the field. Returns `None` if the bytes end before the end of the field.
+    /// Returns the value of the field, a little-endian number. Returns `None` if the bytes end
+    /// before the end of the field.
     pub fn get(&self, field: TcpField) -> Option<u64>
         ensures { SomeIff result (end_offset field ≤ length (tcp_info_bytes self.now))
             (tcp_field_value field (tcp_info_bytes self.now)) }
@@ -288,7 +289,8 @@ impl<'a> TcpInfoBytes<'a> {
         TcpInfo::parse(self.bytes).ok()
     }
 
-    /// Returns the bytes from offset 280 on, after the fields that [`TcpField`] lists.
+    /// Returns the bytes from offset 280 on, after the fields that [`TcpField`] lists. There are
+    /// none if the value has at most 280 bytes.
     pub fn rest(&self) -> &'a [u8]
         ensures { result.now ≡ drop 280 (tcp_info_bytes self.now) }
     {

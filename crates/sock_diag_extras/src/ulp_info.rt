@@ -36,8 +36,9 @@ impl<'a> UlpInfo<'a> {
         Ok(UlpInfo(NestedNlas::parse(value)?))
     }
 
-    /// Returns the name of the protocol, `INET_ULP_INFO_NAME`, such as `tls` or `mptcp`. A name
-    /// that is not valid UTF-8 is `NotUtf8`.
+    /// Returns the name of the protocol, such as `tls` or `mptcp`: the first `INET_ULP_INFO_NAME`,
+    /// without one terminating NUL if it has one. Returns `Ok(None)` if there is none. A name that
+    /// is not valid UTF-8 is `NotUtf8`.
     pub fn name(&self) -> Result<Option<&'a str>, DecodeError>
         ensures { map_ok (option_map (λ text. text.now)) result
             ≡ parse_if_present parse_text (first_in INET_ULP_INFO_NAME (nested_bytes self.now.0)) }
@@ -45,8 +46,9 @@ impl<'a> UlpInfo<'a> {
         self.0.text_of(INET_ULP_INFO_NAME)
     }
 
-    /// Returns the information about TLS in the kernel, `INET_ULP_INFO_TLS`, or the first framing
-    /// error in its attributes.
+    /// Returns the information about TLS in the kernel, the attributes nested in the first
+    /// `INET_ULP_INFO_TLS`, or `Ok(None)` if there is none. Returns the first framing error in its
+    /// value, if there is one.
     pub fn tls(&self) -> Result<Option<TlsInfo<'a>>, DecodeError>
         ensures kept { IfOk result (λ found. option_map (λ tls. nested_bytes tls.0) found
             ≡ first_in INET_ULP_INFO_TLS (nested_bytes self.now.0)) }
@@ -60,8 +62,9 @@ impl<'a> UlpInfo<'a> {
         }
     }
 
-    /// Returns the information about the subflow of an MPTCP connection, `INET_ULP_INFO_MPTCP`, or
-    /// the first framing error in its attributes.
+    /// Returns the information about the subflow of an MPTCP connection, the attributes nested in
+    /// the first `INET_ULP_INFO_MPTCP`, or `Ok(None)` if there is none. Returns the first framing
+    /// error in its value, if there is one.
     pub fn mptcp(&self) -> Result<Option<SubflowInfo<'a>>, DecodeError>
         ensures kept { IfOk result (λ found. option_map (λ subflow. nested_bytes subflow.0) found
             ≡ first_in INET_ULP_INFO_MPTCP (nested_bytes self.now.0)) }
@@ -113,8 +116,9 @@ impl TlsField {
 impl TlsInfo<'_> {
     ghost use Rattle.sock_diag_extras.specs.UlpInfo.{tls_row};
 
-    /// Returns the value of the field, or `None` if it has no attribute. A length of the
-    /// attribute's value other than the field's is `WrongLength`.
+    /// Returns the value of the field, a little-endian number in the first attribute of its kind,
+    /// or `Ok(None)` if there is none. A length of the attribute's value other than the field's
+    /// (`row`) is `WrongLength`, with the kind.
     pub fn get(&self, field: TlsField) -> Result<Option<u64>, DecodeError>
         ensures { result ≡ nested_number_in (tls_row field) (nested_bytes self.now.0) }
     {
@@ -196,8 +200,9 @@ impl SubflowField {
 impl SubflowInfo<'_> {
     ghost use Rattle.sock_diag_extras.specs.UlpInfo.{subflow_row};
 
-    /// Returns the value of the field, or `None` if it has no attribute. A length of the
-    /// attribute's value other than the field's is `WrongLength`.
+    /// Returns the value of the field, a little-endian number in the first attribute of its kind,
+    /// or `Ok(None)` if there is none. A length of the attribute's value other than the field's
+    /// (`row`) is `WrongLength`, with the kind.
     pub fn get(&self, field: SubflowField) -> Result<Option<u64>, DecodeError>
         ensures { result ≡ nested_number_in (subflow_row field) (nested_bytes self.now.0) }
     {

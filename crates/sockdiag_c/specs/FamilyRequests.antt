@@ -16,7 +16,8 @@ abbrev pub show_request_from_c : (family : ℕ) → ShowRequest → show.ShowReq
 show_request_from_c family r =
     record { protocol = r.protocol; inode = r.inode; show = r.show; cookie = r.cookie }
 
--- `struct vsock_diag_req` from `struct sockdiag_vsock_request`, in the same way
+-- `struct vsock_diag_req` from `struct sockdiag_vsock_request`: each field is the field with the
+-- same name
 abbrev pub vsock_request_from_c : VsockRequest → vsock.VsockRequest
 vsock_request_from_c r = record { states = r.states; cookie = r.cookie }
 

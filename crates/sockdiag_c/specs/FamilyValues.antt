@@ -28,14 +28,14 @@ parse_u32_value = number_of_width None 4
 abbrev pub parse_socket_memory : List ℕ → Result MemInfo DecodeError
 parse_socket_memory = parse_record mem_info tt
 
--- the value of the first attribute of the kind, whatever its flag bits, as a text of kind 3,
--- SOCKDIAG_BYTES; None if there is none
+-- first_value_as_text kind attributes: the value of the first attribute of the kind, whatever its
+-- flag bits, as a text of kind 3, SOCKDIAG_BYTES; None if there is none
 abbrev pub first_value_as_text : ℕ → List Attribute → Option (ℕ × List ℕ)
 first_value_as_text kind attributes =
     option_map (λ (b : List ℕ). (3, b)) (first_value_of_kind kind attributes)
 
--- `struct sockdiag_memory`: each number is present if the value has it; the last two may be absent
--- from the value
+-- `struct sockdiag_memory`: each number is present if there is a value and the value has it. The
+-- last two may be absent from a value; all are absent if there is none (`None`).
 abbrev pub memory_struct : Option MemInfo → Memory
 memory_struct m = record {
   receive_queue = optional_number (option_map (λ (m : MemInfo). m.receive_queue) m);
@@ -51,7 +51,8 @@ memory_struct m = record {
 }
 
 -- RejectsReplyOrValue R faults payload e: e is the error with which the reply is rejected; or the
--- reply is accepted, and e is the first error of its values, in the order of `faults`
+-- reply is accepted, and e is the first error of its values. `faults` lists them in the order in
+-- which they are reported, with None for each value that has no error or is absent.
 abbrev pub RejectsReplyOrValue : (R : ResponseSpec) → (ReplyValue R → List (Option DecodeError))
     → List ℕ
     → DecodeError → Type 0

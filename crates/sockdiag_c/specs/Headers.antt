@@ -20,13 +20,13 @@ abbrev pub unix_header_of : UnixResponseHeader → UnixHeader
 unix_header_of h = record { kind = h.kind; state = h.state; inode = h.inode; cookie = h.cookie }
 
 -- the 16 bytes of an address field, in network byte order: 4 bytes and 12 zeros for IPv4, 16 bytes
--- for IPv6
+-- for IPv6. For 127.0.0.1 they are 127, 0, 0, 1 and twelve zeros.
 abbrev pub address_octets_of : IpAddr → List ℕ
 address_octets_of ip = bytes_of (address_fields 0 (address_data ip).0) (address_values ip)
 
 -- `struct sockdiag_inet_header` from `struct inet_diag_msg`: each field is the field with the same
 -- name, except for `timer`, `retransmits` and `expires`. They are the code of the timer, its number
--- of retransmissions and its milliseconds, each 0 if the timer does not have it.
+-- of retransmissions and its milliseconds modulo 2^32, each 0 if the timer does not have it.
 abbrev pub inet_header_of : InetResponseHeader → InetHeader
 inet_header_of h = record {
   family = h.family;
@@ -46,7 +46,8 @@ inet_header_of h = record {
   inode = h.inode;
 }
 
--- `struct sockdiag_reply`: the kind and the header of a reply; the header of the other kind is
+-- reply_of old message: `struct sockdiag_reply` after the call, which is `old` before it. It has
+-- the kind (1 UNIX, 2 IPv4 or IPv6) and the header of the reply; the header of the other kind is
 -- unchanged. The last two lines never apply, since a message is never parsed as a request.
 abbrev pub reply_of : Reply → Message → Reply
 reply_of old (message_of unix_response v) =

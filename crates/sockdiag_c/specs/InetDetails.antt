@@ -41,14 +41,15 @@ inet_details_of header congestion vs = record {
   class_id = first_number inet_attribute_set INET_DIAG_CLASS_ID (λ (n : ℕ). n) vs;
 }
 
--- HasInetDetails header d vs: the struct has this header, each number of the attributes, and the
--- text of the first INET_DIAG_CONG, if any
+-- HasInetDetails header d vs: the struct `d` has this header, each number of the decoded attributes
+-- `vs`, and the text of the first INET_DIAG_CONG. If there is none, the kind of the text is 0, and
+-- its bytes are not considered.
 abbrev pub HasInetDetails : InetHeader → InetDetails → List (AttributeValue inet_attribute_set)
     → Type 0
 HasInetDetails header d vs =
     (d ≡ inet_details_of header d.congestion vs)
     × (text_parts d.congestion ≡ first_content_of congestion_text vs)
 
--- the struct has the header and the attributes of the reply
+-- IsInetDetailsOf v d: the struct `d` has the header and the attributes of the reply `v`
 abbrev pub IsInetDetailsOf : ReplyValue inet_response_spec → InetDetails → Type 0
 IsInetDetailsOf v d = HasInetDetails (inet_header_of v.header) d v.nlas

@@ -10,8 +10,10 @@ use Rattle.sockdiag_c.specs.FamilyValues.{first_value_as_text, parse_socket_memo
 use Rattle.sockdiag_c.specs.FamilyValues.{parse_first, parse_u32_value}
 use Rattle.sockdiag_c.specs.declared.netlink_details.NetlinkDetails.{NetlinkDetails}
 
--- The header, and the first value of each kind: NETLINK_DIAG_MEMINFO 0, NETLINK_DIAG_GROUPS 1,
--- NETLINK_DIAG_FLAGS 4. A value of kind 0 or 4 parses, if there is one.
+-- IsNetlinkDetailsOf v d: the struct `d` has the header of the reply `v`, and the first value of
+-- each kind: NETLINK_DIAG_MEMINFO 0, NETLINK_DIAG_GROUPS 1, NETLINK_DIAG_FLAGS 4. A value of kind 0
+-- or 4 parses, if there is one. `IsOkAnd r P`: r is `Ok o` with `P o`, and `o` is None if there is
+-- none.
 abbrev pub IsNetlinkDetailsOf : ReplyValue (raw_reply_spec netlink_header) → NetlinkDetails → Type 0
 IsNetlinkDetailsOf v d =
     (d.header ≡ v.header)
@@ -19,7 +21,7 @@ IsNetlinkDetailsOf v d =
     × (text_parts d.groups ≡ first_value_as_text 1 v.nlas)
     × IsOkAnd (parse_first parse_u32_value 4 v.nlas) (λ o. d.flags ≡ optional_number o)
 
--- the errors of its values, in the order in which they are reported
+-- the errors of its values, in the order in which they are reported; None for a value without one
 abbrev pub netlink_value_errors : ReplyValue (raw_reply_spec netlink_header)
     → List (Option DecodeError)
 netlink_value_errors v = result_err (parse_first parse_socket_memory 0 v.nlas)

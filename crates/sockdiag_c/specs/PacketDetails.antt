@@ -12,7 +12,10 @@ use Rattle.sockdiag_c.specs.FamilyValues.{first_value_as_text, parse_socket_memo
 use Rattle.sockdiag_c.specs.FamilyValues.{parse_first, parse_u32_value}
 use Rattle.sockdiag_c.specs.declared.packet_details.PacketDetails.{PacketDetails}
 
--- The header, and the first value of each kind: PACKET_DIAG_INFO 0, PACKET_DIAG_MCLIST 1,
+-- IsPacketDetailsOf old v d: the struct `d` describes the reply `v`; `old` is the struct before the
+-- call. `IsOkAnd r P`: r is `Ok o` with `P o`, and `o` is None if there is no such attribute. `d`
+-- has
+-- the header, and the first value of each kind: PACKET_DIAG_INFO 0, PACKET_DIAG_MCLIST 1,
 -- PACKET_DIAG_RX_RING 2, PACKET_DIAG_TX_RING 3, PACKET_DIAG_FANOUT 4, PACKET_DIAG_UID 5,
 -- PACKET_DIAG_MEMINFO 6, PACKET_DIAG_FILTER 7. A value of kind 0 or 2 to 6 parses, if there is one.
 -- `has_info` and the like are 1 if the record is present; else they are 0 and the record is
@@ -33,7 +36,7 @@ IsPacketDetailsOf old v d =
     × IsOkAnd (parse_first parse_socket_memory 6 v.nlas) (λ o. d.memory ≡ memory_struct o)
     × (text_parts d.filter ≡ first_value_as_text 7 v.nlas)
 
--- the errors of its values, in the order in which they are reported
+-- the errors of its values, in the order in which they are reported; None for a value without one
 abbrev pub packet_value_errors : ReplyValue (raw_reply_spec packet_header)
     → List (Option DecodeError)
 packet_value_errors v =

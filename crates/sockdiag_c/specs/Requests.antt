@@ -68,8 +68,8 @@ inet_request_from_c r = record {
   };
 }
 
--- INET_DIAG_REQ_PROTOCOL, 3, with the protocol as a little-endian `__u32`, if it is above 255; else
--- no bytes
+-- the attribute INET_DIAG_REQ_PROTOCOL, 3, with the protocol as a little-endian `__u32`: 8 bytes;
+-- no bytes if the protocol is below 256
 abbrev pub protocol_attribute : ℕ → List ℕ
 protocol_attribute p =
     if nat_lt p 256 then [] else attribute_bytes record { type_word = 3; value = little_bytes 4 p }
@@ -106,7 +106,8 @@ with_padding attributes = attributes ++ replicate (padding_length (length attrib
 abbrev pub bytes_after_record : InetRequest → List ℕ → List ℕ
 bytes_after_record r attributes = protocol_attribute r.protocol ++ with_padding attributes
 
--- a request of type 20, SOCK_DIAG_BY_FAMILY, with the caller's attributes
+-- the netlink message of type 20, SOCK_DIAG_BY_FAMILY, of an internet request: its header, whose
+-- length counts all of these bytes, its record, and the attributes, the caller's being last
 abbrev pub request_with_attributes : InetRequest → List ℕ → List ℕ
 request_with_attributes r attributes =
     header_bytes (request_header_of (72 + length (bytes_after_record r attributes)) 20 r.header)
@@ -118,6 +119,7 @@ IsWritableRequest r attributes =
     ((r.family ≡ 2) ⊎ (r.family ≡ 10))
     × (72 + length (bytes_after_record r attributes) ≤ 4294967295)
 
--- attributes come first, if any; then bytes are left that are not an attribute, for the reason e
+-- HasFramingError bytes e: after zero or more attributes, bytes are left that do not begin with an
+-- attribute, and e is the error that says why
 abbrev pub HasFramingError : List ℕ → DecodeError → Type 0
 HasFramingError bytes e = (given : List Attribute) × SplitsUntilError IsFramingError bytes given e

@@ -14,11 +14,16 @@ outcome_struct fault needed = record { fault = fault; needed = needed }
 abbrev pub WritesNothing : List ℕ → List ℕ → ℕ → Type 0
 WritesNothing old new answer = (answer ≡ 0) × (new ≡ old)
 
--- Writes fits bytes old new outcome answer: `old` and `new` are the buffer before and after the
--- call. Either the value is writable (`fits`) and the buffer is long enough: the bytes are written
--- at its start, the rest is unchanged, and the return value is their number. Or the value is
--- writable and the buffer is too short; `outcome.needed` is the number of bytes. Or the value is
--- not writable.
+-- WritesValue fits bytes old new outcome answer: `old` and `new` are the buffer before and after
+-- the call, `bytes` are the bytes of the value, and `answer` is the return value. One of three
+-- holds:
+-- - The value is writable (`fits`) and the buffer is long enough. The bytes are written at its
+--   start, the rest is unchanged, and the return value and `outcome.needed` are their number.
+-- - The value is writable and the buffer is too short. Nothing is written, the return value is 0,
+-- and
+--   `outcome.needed` is the number of bytes.
+-- - The value is not writable. Nothing is written, and the return value and `outcome.needed` are 0.
+-- In each case `outcome.fault` is 0.
 abbrev pub WritesValue : Type 0 → List ℕ → List ℕ → List ℕ → Outcome → ℕ → Type 0
 WritesValue fits bytes old new outcome answer =
     (fits × (length bytes ≤ length old) × (outcome ≡ outcome_struct 0 (length bytes))
@@ -27,9 +32,9 @@ WritesValue fits bytes old new outcome answer =
     × WritesNothing old new answer)
     ⊎ (¬ fits × (outcome ≡ outcome_struct 0 0) × WritesNothing old new answer))
 
--- Rewrites reads refuses fits bytes old new outcome answer: either the input has a value, and
--- Writes holds for it; or the input is rejected with the error e, whose code is in the outcome, and
--- nothing is written
+-- ParsesAndWrites reads refuses fits bytes old new outcome answer: either the input has a value
+-- (`reads`), and WritesValue holds for it; or the input is rejected with the error e (`refuses`),
+-- `outcome.fault` is its code, `outcome.needed` is 0, and nothing is written
 abbrev pub ParsesAndWrites : {V : Type 0} → (V → Type 0) → (DecodeError → Type 0) → (V → Type 0)
     → (V → List ℕ) → List ℕ → List ℕ → Outcome → ℕ → Type 0
 ParsesAndWrites {V} reads refuses fits bytes old new outcome answer =
@@ -37,8 +42,9 @@ ParsesAndWrites {V} reads refuses fits bytes old new outcome answer =
     ⊎ ((e : DecodeError) × refuses e × (outcome ≡ outcome_struct (error_code e) 0)
     × WritesNothing old new answer)
 
--- If anything was written, it is the canonical form of the payload: an accepted input with a
--- writable value serializes to these bytes if and only if it is equivalent (`idle`) to the payload.
+-- IsCanonical R payload new answer: if anything was written (the first `answer` bytes of the buffer
+-- `new`), it is the canonical form of the payload. An accepted input `d` with a writable value `w`
+-- serializes to these bytes if and only if it is equivalent (`idle`) to the payload.
 abbrev pub IsCanonical : ResponseSpec → List ℕ → List ℕ → ℕ → Type 0
 IsCanonical R payload new answer =
     0 < answer → (d : List ℕ) (w : ReplyValue R) → IsBytes d → (response_codec R).reads d tt w

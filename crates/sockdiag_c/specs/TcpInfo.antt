@@ -11,10 +11,12 @@ AreAttributesIn bytes attributes =
     SplitsIntoAttributes bytes attributes []
     ⊎ ((e : DecodeError) × SplitsUntilError IsFramingError bytes attributes e)
 
--- the value of an attribute of type k, whatever its flag bits; None for attributes of other types
+-- value_of_type k a: the value of the attribute a if its type is k, whatever its two flag bits;
+-- None if its type is another
 abbrev pub value_of_type : ℕ → Attribute → Option (List ℕ)
 value_of_type k a = if attribute_kind a == k then Some a.value else None
 
--- filled n value: the first n bytes of the value, followed by zeros if the value is shorter
+-- padded_or_truncated n value: the first n bytes of the value, followed by zeros up to n bytes if
+-- the value is shorter
 abbrev pub padded_or_truncated : ℕ → List ℕ → List ℕ
 padded_or_truncated n value = take n value ++ replicate (n - length value) 0

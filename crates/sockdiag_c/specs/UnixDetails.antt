@@ -54,13 +54,14 @@ unix_details_of header name vs = record {
   shutdown = first_number unix_attribute_set UNIX_DIAG_SHUTDOWN (λ (n : ℕ). n) vs;
 }
 
--- HasUnixDetails header d vs: the struct has this header, each number of the attributes, and the
--- name in the first UNIX_DIAG_NAME, if any
+-- HasUnixDetails header d vs: the struct `d` has this header, each number of the decoded attributes
+-- `vs`, and the name in the first UNIX_DIAG_NAME. If there is none, the kind of the text is 0, and
+-- its bytes are not considered.
 abbrev pub HasUnixDetails : UnixHeader → UnixDetails → List (AttributeValue unix_attribute_set)
     → Type 0
 HasUnixDetails header d vs =
     (d ≡ unix_details_of header d.name vs) × (text_parts d.name ≡ first_content_of name_text vs)
 
--- the struct has the header and the attributes of the reply
+-- IsUnixDetailsOf v d: the struct `d` has the header and the attributes of the reply `v`
 abbrev pub IsUnixDetailsOf : ReplyValue unix_response_spec → UnixDetails → Type 0
 IsUnixDetailsOf v d = HasUnixDetails (unix_header_of v.header) d v.nlas

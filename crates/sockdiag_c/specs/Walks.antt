@@ -13,7 +13,7 @@ use Rattle.sockdiag_c.specs.declared.walks.AttributePart.{AttributePart}
 use Rattle.sockdiag_c.specs.declared.walks.Cursor.{Cursor}
 use Rattle.sockdiag_c.specs.declared.walks.MessagePart.{MessagePart}
 
--- the bytes that the iteration has not passed
+-- the bytes that the iteration has not passed: those from the cursor's offset `place` on
 abbrev pub bytes_after_cursor : List ℕ → Cursor → List ℕ
 bytes_after_cursor bytes cursor = drop cursor.place bytes
 
@@ -22,8 +22,9 @@ abbrev pub IterationEnds : {T : Type 0} → List ℕ → Cursor → Cursor → T
 IterationEnds bytes old new was now answer =
     (answer ≡ 0) × (bytes_after_cursor bytes old ≡ []) × (new ≡ old) × (now ≡ was)
 
--- Bytes are left, and they have an error. The return value is its code, and the output struct is
--- unchanged. The cursor is at or after the end, so that no bytes are left.
+-- IterationFails IsFault bytes old new was now answer: bytes are left, and they do not begin with
+-- an item: `IsFault bytes e` states that their error is e. The return value is its code, and the
+-- output struct is unchanged. The cursor `new` is at or after the end, so that no bytes are left.
 abbrev pub IterationFails : {T : Type 0} → (List ℕ → DecodeError → Type 0) → List ℕ → Cursor
     → Cursor
     → T → T → ℕ → Type 0
@@ -33,13 +34,15 @@ IterationFails IsFault bytes old new was now answer =
 
 -- ---- attributes
 
--- the attribute with this type field, and with the value of `length` bytes at `offset`
+-- the attribute that the output struct `part` describes: its type field, and its value of
+-- `part.length` bytes at `part.offset`
 abbrev pub attribute_in : List ℕ → AttributePart → Attribute
 attribute_in bytes part =
     record { type_word = part.type_word; value = take part.length (drop part.offset bytes) }
 
--- The iteration ends; or the attribute at the cursor is stored, its value being at offset 4 of it,
--- and the cursor is advanced past it and its padding; or there is a framing error.
+-- The iteration ends; or the return value is 1, the attribute at the cursor is stored, its value
+-- being at offset 4 of it, and the cursor is advanced past it and its padding; or there is a
+-- framing error.
 abbrev pub NextAttribute : List ℕ → Cursor → Cursor → AttributePart → AttributePart → ℕ → Type 0
 NextAttribute bytes old new was now answer =
     IterationEnds bytes old new was now answer
@@ -64,9 +67,9 @@ header_in part = record {
 abbrev pub payload_in : List ℕ → MessagePart → List ℕ
 payload_in bytes part = take part.length (drop part.offset bytes)
 
--- Carries payload t answer: the payload parses under the message type t, and the return value is 1;
--- or it is the payload of an inner message and is rejected, and the return value is the code of its
--- first error
+-- IsPayloadCheckResult payload t answer: the payload parses under the message type t, and the
+-- return value is 1; or it is the payload of an inner message (t is none of the four types
+-- NLMSG_..) and is rejected, and the return value is the code of its first error
 abbrev pub IsPayloadCheckResult : List ℕ → ℕ → ℕ → Type 0
 IsPayloadCheckResult payload t answer =
     ((answer ≡ 1) × ((carried : Payload Message)
@@ -82,7 +85,8 @@ StoresMessage bytes old new now =
     (bytes_after_cursor bytes new)
     × HasHeader (bytes_after_cursor bytes old) (header_in now) × (now.offset ≡ old.place + 16)
 
--- StoresMessage, and the payload is checked: the return value says whether it is accepted
+-- StoresMessage, and the payload is checked: the return value is 1 if it is accepted, and else the
+-- code of its first error
 abbrev pub StoresCheckedMessage : List ℕ → Cursor → Cursor → MessagePart → ℕ → Type 0
 StoresCheckedMessage bytes old new now answer =
     StoresMessage bytes old new now
@@ -96,7 +100,8 @@ NextMessage bytes old new was now answer =
     ⊎ (StoresCheckedMessage bytes old new now answer
     ⊎ IterationFails IsMessageError bytes old new was now answer)
 
--- the same without a check of the payload: the return value for a message is 1
+-- The iteration ends; or the return value is 1 and a message is stored, whose payload is not
+-- checked; or there is a framing error.
 abbrev pub NextUncheckedMessage : List ℕ → Cursor → Cursor → MessagePart → MessagePart → ℕ → Type 0
 NextUncheckedMessage bytes old new was now answer =
     IterationEnds bytes old new was now answer

@@ -50,9 +50,9 @@ pub extern "C" fn sockdiag_check_inet_reply(payload: &[u8], header: &mut InetHea
     }
 }
 
-/// Checks the whole payload of a message of this type, and returns the kind of reply and its
-/// header. The header of the other kind is unchanged. Returns 0, or the code of the first error;
-/// then the reply is unchanged.
+/// Checks the whole payload of a message of this type, and stores the kind of the reply (1 UNIX, 2
+/// IPv4 or IPv6) and its header. The header of the other kind is unchanged. Returns 0, or the code
+/// of the first error; then the reply is unchanged.
 #[unsafe(no_mangle)]
 pub extern "C" fn sockdiag_check_message(
     payload: &[u8],

@@ -91,10 +91,10 @@ impl<'a> Text<'a> {
 
 /// The contents of replies about the sockets of one family, as a C struct.
 pub(crate) trait KeepsDetails<'a>: Copy {
-    // The layout of the reply; and whether the struct holds the contents of this header and these
-    // attributes, and nothing else.
+    // The layout of the reply.
     ghost reply: { ResponseSpec };
 
+    // The struct has the contents of this header and of these attributes, and nothing else.
     ghost describes: { reply.header.Value → Self → List (AttributeValue reply.attribute_set)
         → Type 0 };
 
@@ -134,9 +134,10 @@ pub extern "C" fn sockdiag_unix_get_details<'a>(
 }
 
 /// Checks a whole reply about an IPv4 or IPv6 socket, and returns its header and the attributes
-/// that are a text or a number, in one pass. The bytes are the payload of the netlink message.
-/// Returns 0, or the code of the first error; then the details are unchanged. If the reply has
-/// several attributes of a kind, the first one counts.
+/// that are a text or a number, in one pass. Memory and `struct tcp_info` are checked, and not
+/// returned. The bytes are the payload of the netlink message. Returns 0, or the code of the first
+/// error; then the details are unchanged. If the reply has several attributes of a kind, the first
+/// one counts.
 #[unsafe(no_mangle)]
 pub extern "C" fn sockdiag_inet_get_details<'a>(
     payload: &'a [u8],

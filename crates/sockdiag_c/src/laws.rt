@@ -12,6 +12,9 @@ ghost use Rattle.sockdiag_c.specs.declared.walks.MessagePart.{MessagePart};
 ghost use Rattle.sockdiag_c.specs.Walks.{StoresCheckedMessage, NextAttribute, NextMessage};
 ghost use Rattle.sockdiag_c.specs.Walks.{attribute_in, bytes_after_cursor};
 
+/// In each clause `old` and `new` are the cursor before and after a step, `was` and `now` the
+/// output struct, and `answer` is the return value.
+///
 /// If the remaining bytes are a sequence of attributes, a step returns the first attribute and
 /// leaves the others. If no attribute remains, the iteration ends. The bytes after the header of
 /// every accepted reply are such a sequence.

@@ -49,8 +49,11 @@ pub struct PacketDetails<'a> {
     pub filter: Text<'a>,
 }
 
-/// Checks a whole reply about a packet socket, and returns its contents, as
-/// `sockdiag_netlink_get_details` does. A record that the reply does not contain is unchanged.
+/// Checks a whole reply about a packet socket, and stores its contents. The bytes are the payload
+/// of the netlink message. Returns 0, or the code of the first error; then the details are
+/// unchanged. If the reply has several attributes of a kind, the first one counts. The framing of
+/// all attributes is checked before their values, and values are checked in the order of their
+/// kinds. A record that the reply does not contain is unchanged, and its field `has_..` is 0.
 #[unsafe(no_mangle)]
 pub extern "C" fn sockdiag_packet_get_details<'a>(
     payload: &'a [u8],

@@ -10,11 +10,13 @@ ghost use Rattle.sockdiag_c.specs.UnixDetails.{pending_inodes};
 use crate::walks::{END, ITEM};
 use netlink_packet_sock_diag::unix::UnixResponseView;
 
-/// Stores the inode of the connection at this index of the first `UNIX_DIAG_ICONS`. The first
-/// connection has index 0. Returns 1. Returns 0 if the reply is rejected or has fewer connections;
-/// then the inode is unchanged.
+/// Stores the inode of the connection at this index of the first `UNIX_DIAG_ICONS` of a reply,
+/// which is the payload of a netlink message. The first connection has index 0. Returns 1. Returns
+/// 0 if the reply is rejected, or has no connection at this index; then the inode is unchanged.
 #[unsafe(no_mangle)]
 pub extern "C" fn sockdiag_unix_get_pending(payload: &[u8], index: usize, inode: &mut u32) -> u32
+    // Either the reply is accepted, and the inode at the index is stored, if there is one. Or it is
+    // rejected.
     ensures { ((v : ReplyValue unix_response_spec)
         × (response_codec unix_response_spec).reads payload.now tt v
         × IsGetterResult (slice_get (pending_inodes v.nlas) index) inode.old inode.new result)

@@ -92,8 +92,11 @@ pub extern "C" fn sockdiag_write_unix_request(request: &UnixRequest, buffer: &mu
     write_unix(SOCK_DIAG_BY_FAMILY, request, buffer)
 }
 
-/// Writes the same request with the type `SOCK_DESTROY`, which requests the kernel to close the
-/// UNIX socket with the inode and the cookie. Linux returns `EOPNOTSUPP`.
+/// Writes a request for the kernel to close the UNIX socket with the inode and the cookie, at the
+/// start of the buffer. It is a netlink message of 40 bytes, of type `SOCK_DESTROY` (21), and else
+/// equal to the one of `sockdiag_write_unix_request`. Returns 40, or 0 if the buffer is shorter;
+/// then
+/// nothing is written. Linux answers it with `EOPNOTSUPP`.
 #[unsafe(no_mangle)]
 pub extern "C" fn sockdiag_write_unix_destroy(request: &UnixRequest, buffer: &mut [u8]) -> usize
     ensures { WritesMessage 40 (unix_message 21 request.now) buffer.old buffer.new result }
@@ -107,6 +110,7 @@ pub extern "C" fn sockdiag_write_unix_destroy(request: &UnixRequest, buffer: &mu
 /// nothing is written.
 #[unsafe(no_mangle)]
 pub extern "C" fn sockdiag_write_inet_request(request: &InetRequest, buffer: &mut [u8]) -> usize
+    // protocol_attribute: 8 bytes if the protocol is above 255, else none. 20: SOCK_DIAG_BY_FAMILY.
     ensures written { (request.now.family ≡ 2) ⊎ (request.now.family ≡ 10)
         → WritesMessage (72 + length (protocol_attribute request.now.protocol))
         (inet_message 20 request.now) buffer.old buffer.new result }
@@ -116,10 +120,15 @@ pub extern "C" fn sockdiag_write_inet_request(request: &InetRequest, buffer: &mu
     write_inet(SOCK_DIAG_BY_FAMILY, request, buffer)
 }
 
-/// Writes the same request with the type `SOCK_DESTROY`, which requests the kernel to close the
-/// selected sockets.
+/// Writes a request for the kernel to close the selected IPv4 or IPv6 sockets, at the start of the
+/// buffer. It is a netlink message of type `SOCK_DESTROY` (21), and else equal to the one of
+/// `sockdiag_write_inet_request`: it has 72 bytes, or 80 if the protocol is above 255. Returns the
+/// number of bytes that were written. Returns 0 if the buffer is shorter, or if the family is
+/// neither
+/// `AF_INET` nor `AF_INET6`; then nothing is written.
 #[unsafe(no_mangle)]
 pub extern "C" fn sockdiag_write_inet_destroy(request: &InetRequest, buffer: &mut [u8]) -> usize
+    // protocol_attribute: 8 bytes if the protocol is above 255, else none. 21: SOCK_DESTROY.
     ensures written { (request.now.family ≡ 2) ⊎ (request.now.family ≡ 10)
         → WritesMessage (72 + length (protocol_attribute request.now.protocol))
         (inet_message 21 request.now) buffer.old buffer.new result }

@@ -24,10 +24,14 @@ pub struct Outcome {
     pub needed: usize,
 }
 
-/// Writes the canonical form of a reply about a UNIX socket at the start of the buffer. The reply
-/// is the payload of a netlink message. Returns the number of bytes that were written. Returns 0 if
-/// the reply is rejected, if it cannot be serialized, or if the buffer is shorter than needed; then
-/// nothing is written.
+/// Writes the canonical form of a reply about a UNIX socket at the start of the buffer; bytes after
+/// it are unchanged. The reply is the payload of a netlink message. Returns the number of bytes
+/// that were written. Returns 0 if the reply is rejected, if it cannot be serialized, or if the
+/// buffer is shorter than needed; then nothing is written.
+///
+/// Stores the code of the first error in `outcome.fault`, or 0 if the reply is accepted; and the
+/// number of bytes to write in `outcome.needed`, or 0 if the reply is rejected or cannot be
+/// serialized.
 #[unsafe(no_mangle)]
 pub extern "C" fn sockdiag_rewrite_unix_reply(
     payload: &[u8],
@@ -39,13 +43,21 @@ pub extern "C" fn sockdiag_rewrite_unix_reply(
         (response_codec unix_response_spec).fits
         (response_bytes unix_response_spec)
         buffer.old buffer.new outcome.new result }
+    // An accepted and writable reply serializes to the bytes that were written if and only if it is
+    // equivalent to this reply.
     ensures canonical { IsCanonical unix_response_spec payload.now buffer.new result }
 {
     rewrite::<UnixResponseHeader>(payload, buffer, outcome)
 }
 
-/// Writes the canonical form of a reply about an IPv4 or IPv6 socket, as
-/// `sockdiag_rewrite_unix_reply` does.
+/// Writes the canonical form of a reply about an IPv4 or IPv6 socket at the start of the buffer;
+/// bytes after it are unchanged. The reply is the payload of a netlink message. Returns the number
+/// of bytes that were written. Returns 0 if the reply is rejected, if it cannot be serialized, or
+/// if the buffer is shorter than needed; then nothing is written.
+///
+/// Stores the code of the first error in `outcome.fault`, or 0 if the reply is accepted; and the
+/// number of bytes to write in `outcome.needed`, or 0 if the reply is rejected or cannot be
+/// serialized.
 #[unsafe(no_mangle)]
 pub extern "C" fn sockdiag_rewrite_inet_reply(
     payload: &[u8],
@@ -57,6 +69,8 @@ pub extern "C" fn sockdiag_rewrite_inet_reply(
         (response_codec inet_response_spec).fits
         (response_bytes inet_response_spec)
         buffer.old buffer.new outcome.new result }
+    // An accepted and writable reply serializes to the bytes that were written if and only if it is
+    // equivalent to this reply.
     ensures canonical { IsCanonical inet_response_spec payload.now buffer.new result }
 {
     rewrite::<InetResponseHeader>(payload, buffer, outcome)

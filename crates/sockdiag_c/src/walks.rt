@@ -117,7 +117,10 @@ pub extern "C" fn sockdiag_next_message(
     }
 }
 
-/// Does the same without a check of the payload: returns 1 for a message of any type.
+/// Stores the message at the cursor, and advances the cursor past it and its padding. Returns 1,
+/// whatever the type and the payload of the message; or 0 if no bytes are left, and then nothing is
+/// written; or the code of the framing error there, and then the message is unchanged and nothing
+/// is left. The payload is not checked.
 #[unsafe(no_mangle)]
 pub extern "C" fn sockdiag_next_envelope(
     datagram: &[u8],

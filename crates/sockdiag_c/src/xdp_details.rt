@@ -54,8 +54,11 @@ pub struct XdpDetails {
     pub statistics: XdpStatistics,
 }
 
-/// Checks a whole reply about an XDP socket, and returns its contents, as
-/// `sockdiag_netlink_get_details` does. A record that the reply does not contain is unchanged.
+/// Checks a whole reply about an XDP socket, and stores its contents. The bytes are the payload of
+/// the netlink message. Returns 0, or the code of the first error; then the details are unchanged.
+/// If the reply has several attributes of a kind, the first one counts. The framing of all
+/// attributes is checked before their values, and values are checked in the order of their kinds. A
+/// record that the reply does not contain is unchanged, and its field `has_..` is 0.
 #[unsafe(no_mangle)]
 pub extern "C" fn sockdiag_xdp_get_details(payload: &[u8], details: &mut XdpDetails) -> u32
     ensures { IsCheckResultBy ((response_codec (raw_reply_spec xdp_header)).reads payload.now tt)
