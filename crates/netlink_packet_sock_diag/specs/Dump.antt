@@ -35,6 +35,8 @@ module _ {A : Type 0} where
   -- has the messages `after` and the end `end`. The inner messages up to the first item that ends
   -- the dump are appended to `before`, and `end` is what `dump_end_at` returns for that item. If no
   -- item ends the dump, `end` is `Ok (Reading, None)`: the dump is still being read.
+  -- For example, of the items m, NLMSG_NOOP, n, NLMSG_OVERRUN, k, where m, n and k are inner
+  -- messages, m and n are appended, and `end` is `Ok (Overrun, None)`.
   abbrev pub DumpOfItems : List A → List (Item A) → List A → Result DumpStatus DecodeError → Type 0
   DumpOfItems before items after end = (passed later : List (Item A)) × (items ≡ passed ++ later)
       × AllByRecursion (λ one. dump_end_at one ≡ None) passed

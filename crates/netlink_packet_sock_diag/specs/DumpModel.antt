@@ -11,7 +11,8 @@ use Rattle.netlink_packet_sock_diag.specs.Feed.{DumpProgress, dump_with}
 use Rattle.netlink_packet_sock_diag.specs.Message.{Message}
 use Rattle.netlink_packet_sock_diag.specs.MessageModel.{message_model}
 
--- the progress of a reader, with the model of each value that it keeps
+-- `fed_dump_progress model dump`: the progress of a reader; its messages are the models of the
+-- values that it keeps, in order
 abbrev pub fed_dump_progress : {I A : Type 0} {G : Ghosts I} → (I → A) → FedDump I G
     → DumpProgress A
 fed_dump_progress model dump = dump_with (map model dump.kept.items) dump.standing dump.interrupted

@@ -15,9 +15,10 @@ use Rattle.netlink_packet_sock_diag.specs.PayloadViewModel.{payload_view_model}
 abbrev pub unread_views : DumpViews → List ℕ
 unread_views views = unread_messages views.messages
 
--- A step yields the payload of the first message, or its error, and the bytes after the padding of
--- the message are left. If the bytes do not start with a message, it yields the error, and no bytes
--- are left. It yields `None` only if no bytes were left.
+-- `YieldsPayloadView old given new`: one call of `next` on the iterator `old` returns `given` and
+-- leaves `new`. It yields the payload of the first message, or the error of its payload, and the
+-- bytes after the padding of the message are left. If the bytes do not start with a message, it
+-- yields the error, and no bytes are left. It returns `None` only if no bytes were left.
 abbrev pub YieldsPayloadView : DumpViews → Option (Result PayloadView DecodeError) → DumpViews
     → Type 0
 YieldsPayloadView old given new =

@@ -23,7 +23,8 @@ pub record DumpProgress (A : Type 0) : Type 0 where
   pub error_number : Option ℤ
   pub is_interrupted : Bool
 
--- the progress with these messages, this state and error number, and this flag
+-- `dump_with messages end is_interrupted`: the progress with these messages, this state and error
+-- number, and this flag
 abbrev pub dump_with : {A : Type 0} → List A → DumpStatus → Bool → DumpProgress A
 dump_with messages end is_interrupted = record {
   messages = messages;
@@ -45,9 +46,8 @@ abbrev pub IsReading : {A : Type 0} → DumpProgress A → Type 0
 IsReading dump = status_of_dump dump ≡ (Reading, None)
 
 -- `InterruptsDump bytes items`: the messages at the start of `bytes`, which have these items,
--- interrupt a dump. That is, the header of the first message has the flag NLM_F_DUMP_INTR, 0x10,
--- which is bit
--- 4. Or the first item does not end the dump, and the messages after it interrupt the dump.
+-- interrupt a dump. Either the header of the first message has the flag NLM_F_DUMP_INTR (0x10, bit
+-- 4). Or the first item does not end the dump, and the messages after it interrupt the dump.
 abbrev pub InterruptsDump : {A : Type 0} → List ℕ → List (Item A) → Type 0
 InterruptsDump bytes [] = ⊥
 InterruptsDump bytes (item ∷ items) = (message rest : List ℕ) × StartsWithMessage bytes message rest
@@ -65,9 +65,11 @@ module _ {A : Type 0} (is : List ℕ → Item A → Type 0) where
       × DumpOfItems old.messages items new.messages end
       × (IsTrue new.is_interrupted ↔ (IsTrue old.is_interrupted ⊎ InterruptsDump datagram items))
 
-  -- `AllocationFailsAt entry old datagram new`: the datagram is read up to the inner message with
-  -- this entry, which is not kept, because an allocation failed. No item before it ends the dump.
-  -- Its own flag counts for whether the dump is interrupted.
+  -- `AllocationFailsAt entry old datagram new`: an inner message of the datagram, with the item
+  -- `Ok (InnerMessage entry)`, was not kept, because an allocation failed. No item before it ends
+  -- the dump. `new.messages` are `old.messages` and the inner messages before it. `new` is
+  -- interrupted if `old` was, or if this message or one before it has the flag NLM_F_DUMP_INTR. The
+  -- state and the error number of `old` and `new` are not considered.
   abbrev pub AllocationFailsAt : A → DumpProgress A → List ℕ → DumpProgress A → Type 0
   AllocationFailsAt entry old datagram new = (front later : List (Item A))
       × AreItemsOf is datagram (front ++ Ok (InnerMessage entry) ∷ later)
@@ -76,10 +78,13 @@ module _ {A : Type 0} (is : List ℕ → Item A → Type 0) where
       ⊎ InterruptsDump datagram (front ++ Ok (InnerMessage entry) ∷ [])))
 
   -- `FeedLeadsTo old datagram new result`, by the result of `feed`:
-  -- - `Ok`: the dump was being read, and the datagram leads to its new end;
-  -- - `Err Ended`: the dump had ended before, and is unchanged;
-  -- - `Err (Fault e)`: the dump was being read and has failed, because the datagram leads to the
-  --   error `e`, or, if `e` is `Memory`, because an allocation failed at a message.
+  -- - `Ok`: the dump was being read. `new` has the messages, the interruption, and the end that
+  --   `ReadsDatagram` states: the state `Reading`, `Done`, `Error` or `Overrun`, and the error
+  --   number.
+  -- - `Err Ended`: the dump had ended before, and is unchanged.
+  -- - `Err (Fault e)`: the dump was being read. Its state is now `Failed`, without an error number.
+  --   The messages and the interruption are those of reading the datagram up to the error `e`, or,
+  --   if `e` is `Memory`, up to an inner message at which an allocation failed.
   abbrev pub FeedLeadsTo : DumpProgress A → List ℕ → DumpProgress A → Result Unit DumpError → Type 0
   FeedLeadsTo old datagram new (Ok _) =
       IsReading old × ReadsDatagram old datagram new (Ok (status_of_dump new))
@@ -89,7 +94,9 @@ module _ {A : Type 0} (is : List ℕ → Item A → Type 0) where
       × (e ≢ Memory → ReadsDatagram old datagram new (Err e))
       × (e ≡ Memory → (entry : A) × AllocationFailsAt entry old datagram new)
 
-  -- the datagrams are fed in order, and no `feed` fails with `Memory`
+  -- `FeedingAllLeadsTo old datagrams new`: feeding the datagrams in order, starting from `old`,
+  -- leads to `new`, and no `feed` fails with `Memory`. A `feed` may fail with another error.
+  -- Datagrams after the end of the dump change nothing.
   abbrev pub FeedingAllLeadsTo : DumpProgress A → List (List ℕ) → DumpProgress A → Type 0
   FeedingAllLeadsTo = FoldsTo (λ old datagram new. (answer : Result Unit DumpError)
       × FeedLeadsTo old datagram new answer × (answer ≢ Err (Fault Memory)))

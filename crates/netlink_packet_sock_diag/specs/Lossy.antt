@@ -7,9 +7,11 @@ use Rattle.netlink_core.specs.Items.{Item}
 use Rattle.netlink_core.specs.declared.fault.DecodeError.{DecodeError}
 use Rattle.netlink_core.specs.declared.header.NetlinkHeader.{NetlinkHeader}
 
--- `HasLossyEntry C message item`: the message starts with the header `h`, and `item` is the
--- payload, the bytes from offset 16 to `h.length`. An inner message is its value, or its decode
--- error if it is invalid. A message never has an item `Err e`.
+-- `HasLossyEntry C message item`: the message starts with a netlink header `h`, and `item` is `Ok`
+-- of the payload, the bytes from offset 16 to `h.length`. An inner message is its value by the
+-- codec `C`, or its decode error if it is rejected. A control message is its bytes, except
+-- NLMSG_NOOP, whose bytes are dropped. A message never has an item `Err e`; only bytes that are not
+-- a message do.
 abbrev pub HasLossyEntry : (C : Codec ℕ) → List ℕ → Item (Result C.Value DecodeError) → Type 0
 HasLossyEntry C message (Ok payload) = (h : NetlinkHeader) × HasHeader message h
     × ParsesAsPayload (λ b t entry. MatchResult entry (C.reads b t) (C.refuses b t))

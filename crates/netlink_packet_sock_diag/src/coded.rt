@@ -31,6 +31,7 @@ macro_rules! lent {
     };
 }
 
+/// Serializes the request or reply, without a netlink header. A request is always writable.
 impl Emitable for SockDiagMessage {
     ghost bytes = { λ v. message_codec.written (message_model v) };
 
@@ -72,6 +73,8 @@ impl Emitable for SockDiagView<'_> {
     }
 }
 
+/// The codec of messages, whose parameter is the message type. Every message is serialized under
+/// the type 20.
 impl Coded for SockDiagMessage {
     type Param = u16;
 
@@ -90,6 +93,8 @@ impl Coded for SockDiagMessage {
     ghost laws = { message_laws };
 }
 
+/// The codec of the message that is contained. Only the type under which it is serialized differs:
+/// it is 21.
 impl Coded for SockDiagDestroy {
     type Param = u16;
 

@@ -51,7 +51,8 @@ use crate::unix::{UnixResponse, UnixResponseView};
 use netlink_core::{Emitable, NetlinkSerializable, Readable, laws};
 use std::alloc::{AllocError, Global};
 
-/// The length of a serialized reply, `buffer_len`, is a multiple of 4, for both families.
+/// The length of a serialized reply, `buffer_len`, is a multiple of 4, for both families, if each
+/// number of the reply fits its field.
 pub fn reply_lengths_are_multiples_of_four()
     ensures unix { (v : ReplyValue unix_response_spec)
         → (response_codec unix_response_spec).is_in_range v
@@ -76,8 +77,8 @@ pub fn read_messages_are_replies()
         ⊎ (kind_of m ≡ unix_response) }
 {}
 
-/// A request to close sockets is serialized under the type 21 (`SOCK_DESTROY`), and a message under
-/// the type 20 (`SOCK_DIAG_BY_FAMILY`).
+/// The message type of each request to close sockets is 21 (`SOCK_DESTROY`), and that of each
+/// message is 20 (`SOCK_DIAG_BY_FAMILY`). Returns both.
 pub fn types_that_are_written(destroy: &SockDiagDestroyed, message: &SockDiagMessage) -> (u16, u16)
     ensures { result ≡ (21, 20) }
 {
@@ -87,7 +88,9 @@ pub fn types_that_are_written(destroy: &SockDiagDestroyed, message: &SockDiagMes
     )
 }
 
-/// Parsers of owned replies and of messages may need to allocate.
+/// The constant `TAKES_MEMORY` is true for owned replies about UNIX sockets, for owned replies
+/// about IPv4 and IPv6 sockets, and for messages: their parsers may need to allocate. Returns these
+/// three constants.
 pub fn readers_take_memory() -> (bool, bool, bool)
     ensures { result ≡ (true, true, true) }
 {
@@ -98,9 +101,12 @@ pub fn readers_take_memory() -> (bool, bool, bool)
     )
 }
 
-/// The parser of requests to close sockets rejects a finalized request: the request is serialized
-/// under the type 21, and messages are parsed only under the type 20.
+/// The parser of requests to close sockets rejects each writable request that was finalized, with
+/// `UnknownMessageType(21)`: the request is serialized under the type 21, and messages are parsed
+/// only under the type 20.
 pub fn finalized_destroy_is_refused()
+    // `h`: the header before `finalize`, each number of which fits its field. `finalized_header`:
+    // `h` with the length of the message and the type 21, which is `destroys.type_written m`.
     ensures { (h : NetlinkHeader) (m : Message) → FitFields header_fields (header_values h)
         → netlink_message_codec.fits (record { header = h; payload = InnerMessage m })
         → netlink_message_codec.refuses
@@ -112,9 +118,12 @@ pub fn finalized_destroy_is_refused()
         (UnknownMessageType (destroys.type_written m)) }
 {}
 
-/// The same holds for Rust values: what `serialize` writes for a request after `finalize`, followed
-/// by any bytes, is rejected by the parser of the request.
+/// The parser of requests to close sockets rejects what `serialize` writes for a
+/// `NetlinkMessage<SockDiagDestroy>` after `finalize`, with any bytes after it. The error is
+/// `UnknownMessageType(21)`. The message has an inner message and is writable.
 pub fn finalized_destroy_in_hand_is_refused()
+    // `destroys.model`: the message that the request contains. `destroys.type_written` is 21.
+    // `finalized_header`: the header with the length of the message and this type.
     ensures { (message : NetlinkMessage SockDiagDestroy) (destroy : SockDiagDestroy) (rest : List ℕ)
         → message.payload ≡ InnerMessage destroy
         → FitFields header_fields (header_values message.header)
@@ -157,7 +166,8 @@ pub fn equal_messages_where_idle()
 }
 
 /// Two inputs with canonical forms have the same one if and only if they are equivalent (`idle`).
-/// The canonical form of a netlink message has its header unchanged.
+/// An input has a canonical form if it is accepted and its value is writable. The canonical form of
+/// a netlink message has its header unchanged.
 pub fn messages_written_alike()
     ensures { (b c form other : List ℕ) → IsBytes b → IsBytes c
         → HasCanonicalForm netlink_message_codec tt b form
@@ -167,8 +177,9 @@ pub fn messages_written_alike()
     laws::messages_written_alike::<SockDiagMessage>();
 }
 
-/// A writable netlink message whose header has the length and type that `finalize` sets round-trips
-/// if and only if it has no inner message, or an inner message in normal form under the type 20.
+/// A writable netlink message, each number of which fits its field, and whose header has the length
+/// and type that `finalize` sets, round-trips if and only if it has no inner message, or an inner
+/// message in normal form under the type 20.
 pub fn finalized_message_reads_back()
     ensures { (v : NetlinkMessageModel Message) → netlink_message_codec.is_in_range v
         → netlink_message_codec.fits v
@@ -179,7 +190,8 @@ pub fn finalized_message_reads_back()
     laws::finalized_message_reads_back::<SockDiagMessage>();
 }
 
-/// Each list of items has exactly one dump.
+/// Each list of items has exactly one dump, given the messages before: the messages after it and
+/// its end.
 pub fn items_have_one_dump()
     ensures some { (before : List Message) (items : List (Result (Payload Message) DecodeError))
         → (after : List Message) × (end : Result DumpStatus DecodeError)
@@ -192,6 +204,8 @@ pub fn items_have_one_dump()
 /// The dump over two concatenated lists of items is the dump over the first list if that list ends
 /// the dump. Otherwise it is continued over the second list.
 pub fn dump_over_concatenation()
+    // `Ok (Reading, None)`: no item of `xs` ends the dump. Then `ys` continues it from the messages
+    // `middle`. Otherwise the items `ys` change nothing.
     ensures { (before after : List Message) (end : Result DumpStatus DecodeError)
         (xs ys : List (Result (Payload Message) DecodeError))
         → (DumpOfItems before (xs ++ ys) after end
@@ -201,7 +215,8 @@ pub fn dump_over_concatenation()
         ⊎ ((state ≢ Ok (Reading, None)) × (after ≡ middle) × (end ≡ state))))) }
 {}
 
-/// Datagrams whose items, concatenated, are equal have the same dump.
+/// Two lists of datagrams have the same dump, from any messages before, if their items are equal:
+/// the items of all datagrams of a list, concatenated in order.
 pub fn same_items_have_one_dump()
     ensures { (datagrams others : List (List ℕ))
         (xs ys : List (List (Result (Payload Message) DecodeError)))
@@ -216,9 +231,10 @@ pub fn same_items_have_one_dump()
     laws::one_list_of_items::<SockDiagMessage>();
 }
 
-/// The dump does not depend on the split into datagrams. Any two ways to split the same bytes into
-/// datagrams have the same dump, if each datagram except the last consists of complete messages
-/// with all their padding.
+/// The dump does not depend on the split into datagrams. `datagrams` and `others` are two ways to
+/// cut the same bytes into datagrams, in each of which every datagram except the last consists of
+/// complete messages with all their padding. From any messages before, if the one has a dump with
+/// the messages `after` and the end `end`, the other has it too.
 pub fn split_changes_no_dump()
     ensures { (datagrams others : List (List ℕ)) → AllByRecursion IsBytes datagrams
         → AllByRecursion IsBytes others
@@ -232,10 +248,14 @@ pub fn split_changes_no_dump()
     laws::one_list_of_items::<SockDiagMessage>();
 }
 
-/// The result of feeding does not depend on the split either. If the same bytes are fed to two new
-/// readers in any two such ways, and no allocation fails, then the readers have the same messages,
-/// state and error number, and both or neither are interrupted. These are the same as if all bytes
-/// were read as one datagram.
+/// The result of feeding a `DumpReader` does not depend on the split into datagrams. `datagrams`
+/// and `others` are two ways to cut the same bytes into datagrams, in each of which every datagram
+/// except the last consists of complete messages with all their padding. Each is fed to a new
+/// reader, and no allocation fails (`FeedingAllLeadsTo`).
+///
+/// - `same`: both readers have the same progress: messages, state, error number, interruption.
+/// - `whole`: the messages, and whether the dump is interrupted, are those of all bytes read as one
+///   datagram. This clause does not state the state and the error number.
 pub fn split_changes_no_feed()
     ensures same { (datagrams others : List (List ℕ)) → AllByRecursion IsBytes datagrams
         → AllByRecursion IsBytes others
@@ -252,10 +272,11 @@ pub fn split_changes_no_feed()
         × ReadsDatagram (IsItemOf message_codec) new_dump (concat datagrams) left end }
 {}
 
-/// The result of feeding is the same for datagrams whose items, concatenated, are equal. They may
-/// differ in the padding after the last message of a datagram. Two new readers, if no allocation
-/// fails, have the same messages, state and error number. Whether a dump is interrupted may differ,
-/// because an item does not contain the flags of its message.
+/// The result of feeding a `DumpReader` is the same for two lists of datagrams whose items,
+/// concatenated, are equal. They may differ in the padding after the last message of a datagram.
+/// Each list is fed to a new reader. If no allocation fails, both have the same messages, state and
+/// error number. Whether a dump is interrupted may differ, because an item does not contain the
+/// flags of its message.
 pub fn same_items_change_no_feed()
     ensures { (datagrams others : List (List ℕ))
         (xs ys : List (List (Result (Payload Message) DecodeError)))
@@ -270,10 +291,14 @@ pub fn same_items_change_no_feed()
         × (left.error_number ≡ also.error_number) }
 {}
 
-/// The result of feeding a `LossyDump` does not depend on the split either. If the same bytes are
-/// fed to two new readers in any two such ways, and no allocation fails, then the readers have the
-/// same entries, state and error number, and both or neither are interrupted. These are the same as
-/// if all bytes were read as one datagram.
+/// The result of feeding a `LossyDump` does not depend on the split into datagrams. `datagrams` and
+/// `others` are two ways to cut the same bytes into datagrams, in each of which every datagram
+/// except the last consists of complete messages with all their padding. Each is fed to a new
+/// reader, and no allocation fails (`FeedingAllLeadsTo`).
+///
+/// - `same`: both readers have the same progress: entries, state, error number, interruption.
+/// - `whole`: the entries, and whether the dump is interrupted, are those of all bytes read as one
+///   datagram. This clause does not state the state and the error number.
 pub fn split_changes_no_lossy_feed()
     ensures same { (datagrams others : List (List ℕ)) → AllByRecursion IsBytes datagrams
         → AllByRecursion IsBytes others
@@ -290,8 +315,11 @@ pub fn split_changes_no_lossy_feed()
         × ReadsDatagram (HasLossyEntry message_codec) new_dump (concat datagrams) left end }
 {}
 
-/// The result of feeding a `LossyDump` is the same for datagrams whose items, concatenated, are
-/// equal. Two new readers, if no allocation fails, have the same entries, state and error number.
+/// The result of feeding a `LossyDump` is the same for two lists of datagrams whose items,
+/// concatenated, are equal. They may differ in the padding after the last message of a datagram.
+/// Each list is fed to a new reader. If no allocation fails, both have the same entries, state and
+/// error number. Whether a dump is interrupted may differ, because an item does not contain the
+/// flags of its message.
 pub fn same_items_change_no_lossy_feed()
     ensures { (datagrams others : List (List ℕ))
         (xs ys : List (List (Result (Payload (Result Message DecodeError)) DecodeError)))
@@ -310,11 +338,14 @@ pub fn same_items_change_no_lossy_feed()
 /// [`DumpReader`](crate::DumpReader) and ends in the same way. If a `LossyDump` ends with an error,
 /// it is the error of bytes that are not a message.
 pub fn lossy_dump_keeps_messages()
+    // `map (λ m. Ok m)`: messages as entries of a `LossyDump`. `Ok end`: the dump has no error;
+    // `end` is its state and error number.
     ensures kept { (datagram : List ℕ) (before after : List Message) (end : DumpStatus)
         → DumpOfDatagrams (IsItemOf message_codec) before (datagram ∷ []) after (Ok end)
         → DumpOfDatagrams (HasLossyEntry message_codec) (map (λ (m : Message). Ok m) before)
         (datagram ∷ [])
         (map (λ (m : Message). Ok m) after) (Ok end) }
+    // `rest`: the bytes at which no message starts.
     ensures fault { (datagram : List ℕ) (before after : List (Result Message DecodeError))
         (fault : DecodeError)
         → DumpOfDatagrams (HasLossyEntry message_codec) before (datagram ∷ []) after (Err fault)
@@ -386,7 +417,7 @@ pub fn equal_message_views(v: &SockDiagView<'_>, w: &SockDiagView<'_>) -> bool
     v == w
 }
 
-/// The clone of a borrowed reply about a UNIX socket has the same model.
+/// The clone of a borrowed reply about a UNIX socket has the same model, and cloning does not fail.
 pub fn copied_unix_view<'a>(view: &UnixResponseView<'a>) -> Result<UnixResponseView<'a>, AllocError>
     ensures ok { IsOk result }
     ensures same { IfOk result (λ copy. view_model copy ≡ view_model view.now) }
@@ -394,7 +425,8 @@ pub fn copied_unix_view<'a>(view: &UnixResponseView<'a>) -> Result<UnixResponseV
     view.clone()
 }
 
-/// The clone of a borrowed reply about an IPv4 or IPv6 socket has the same model.
+/// The clone of a borrowed reply about an IPv4 or IPv6 socket has the same model, and cloning does
+/// not fail.
 pub fn copied_inet_view<'a>(view: &InetResponseView<'a>) -> Result<InetResponseView<'a>, AllocError>
     ensures ok { IsOk result }
     ensures same { IfOk result (λ copy. view_model copy ≡ view_model view.now) }
@@ -402,7 +434,7 @@ pub fn copied_inet_view<'a>(view: &InetResponseView<'a>) -> Result<InetResponseV
     view.clone()
 }
 
-/// The clone of a borrowed message has the same model.
+/// The clone of a borrowed message has the same model, and cloning does not fail.
 pub fn copied_message_view<'a>(view: &SockDiagView<'a>) -> Result<SockDiagView<'a>, AllocError>
     ensures ok { IsOk result }
     ensures same { IfOk result (λ copy. message_view_model copy ≡ message_view_model view.now) }
@@ -410,7 +442,7 @@ pub fn copied_message_view<'a>(view: &SockDiagView<'a>) -> Result<SockDiagView<'
     view.clone()
 }
 
-/// The clone of a borrowed payload has the same model.
+/// The clone of a borrowed payload has the same model, and cloning does not fail.
 pub fn copied_payload_view<'a>(view: &View<'a>) -> Result<View<'a>, AllocError>
     ensures ok { IsOk result }
     ensures same { IfOk result (λ copy. payload_view_model copy ≡ payload_view_model view.now) }

@@ -105,7 +105,8 @@ impl SockDiagMessage {
             (λ m. message_codec.reads payload.now message_type (message_model m)) }
         ensures fault { IfErr result (λ e. e ≢ Memory
             → message_codec.refuses payload.now message_type e) }
-        // `Memory` is returned only for bytes that have a message.
+        // `Memory` is returned only for bytes that have a message `m`. No message counts as one
+        // that needs no memory, so the last condition always holds.
         ensures wanted { IfErr result (λ e. e ≡ Memory
             → (m : Message) × message_codec.reads payload.now message_type m
             × ¬ message_codec.is_spare m) }
@@ -150,7 +151,8 @@ impl<'a> SockDiagView<'a> {
     ghost use Rattle.netlink_packet_sock_diag.specs.MessageModel.{message_model};
     ghost use Rattle.netlink_packet_sock_diag.specs.MessageViewModel.{message_view_model};
 
-    /// Checks all of the bytes under a message type, and returns a view of them. Does not allocate.
+    /// Checks all bytes of a payload, the bytes after a netlink header, under the message type of
+    /// that header. Returns a view of them. Does not allocate.
     ///
     /// Returns the first of these errors that applies:
     ///
@@ -170,7 +172,7 @@ impl<'a> SockDiagView<'a> {
         }
     }
 
-    /// Returns the owned message. Fails only if an allocation fails.
+    /// Returns the owned message that the bytes parse as. Fails only if an allocation fails.
     pub fn to_owned(&self, alloc: Global) -> Result<SockDiagMessage, AllocError>
         ensures { IfOk result (λ message. message_model message ≡ message_view_model self.now) }
     {
@@ -277,7 +279,8 @@ pub struct SockDiagDestroy(pub(crate) SockDiagMessage);
 impl SockDiagDestroy {
     ghost use Rattle.netlink_packet_sock_diag.specs.MessageModel.{message_model};
 
-    /// Returns the request to close the sockets that `message` selects or describes.
+    /// Returns the request to close the sockets that `message` selects or describes. It contains
+    /// `message` unchanged.
     pub fn new(message: SockDiagMessage) -> Self
         ensures { message_model result.0 ≡ message_model message }
     {

@@ -57,16 +57,17 @@ abbrev pub IsNamePrefix : List ℕ → Type 0
 IsNamePrefix bytes = (a : Attribute) × HasAttributePrefix bytes a × (name : List ℕ)
     × (decodes_link a ≡ Ok (name_attribute name))
 
--- attributes that decode come first, if any, and then one that decodes to a name. `Memory` is a
--- placeholder: SplitsUntilError takes an error, and this condition ignores it.
+-- the bytes start with attributes that decode, if any, followed by one that decodes to a name.
+-- `Memory` is a placeholder: `SplitsUntilError` takes an error, and this condition ignores it.
 abbrev pub HasName : List ℕ → Type 0
 HasName bytes =
     (attributes : List Attribute) × SplitsUntilError (λ left _. IsNamePrefix left) bytes attributes
     Memory
     × AllByRecursion (λ a. IsOk (decodes_link a)) attributes
 
--- Why parse_link fails: the payload is shorter than the 16 bytes of `struct ifinfomsg`; or its
--- attributes have this first error; or memory ran out, and there is a name to allocate.
+-- `LinkFails payload e`, why parse_link fails: the payload is shorter than the 16 bytes of
+-- `struct ifinfomsg`; or its attributes have this first error; or memory ran out, and there is a
+-- name to allocate.
 abbrev pub LinkFails : List ℕ → LinkError → Type 0
 LinkFails payload (errors.TooShort got) = (got ≡ length payload) × (length payload < 16)
 LinkFails payload (errors.Attribute e) =

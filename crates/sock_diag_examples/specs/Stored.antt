@@ -5,8 +5,8 @@ use Rattle.netlink_core.specs.Canonical.{CanonicalFails}
 use Rattle.netlink_core.specs.declared.canon.CanonError.{CanonError}
 use Rattle.netlink_packet_sock_diag.specs.Message.{Message, message_codec}
 
--- the bytes parse as a message of type 20, SOCK_DIAG_BY_FAMILY, and the key is what the message
--- serializes to
+-- `IsKey reply key`: the bytes of the reply parse as a message under the type 20,
+-- SOCK_DIAG_BY_FAMILY, the message is writable, and the key is what it serializes to
 pub record IsKey (reply key : List ℕ) : Type 0 where
   -- each number is below 256
   pub in_range : IsBytes reply

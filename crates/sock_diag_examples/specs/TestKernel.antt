@@ -25,8 +25,9 @@ use Rattle.sock_diag_examples.specs.declared.test_kernel.AnswerError.TheVariants
 use Rattle.sock_diag_examples.specs.declared.test_kernel.AnswerError.TheVariants.{Unwritable}
 use Rattle.sock_diag_examples.specs.declared.test_kernel.AnswerError.TheVariants.{Memory}
 
--- the bytes of a netlink message that is one of several (flags 2, NLM_F_MULTI), with its own length
--- and type, and from port id 0
+-- `numbered_message_bytes sequence_number payload`: the bytes of a netlink message that is one of
+-- several (flags 2, NLM_F_MULTI), with its own length and type (20 for an inner message), and from
+-- port id 0
 unfoldable pub numbered_message_bytes : ℕ → Payload Message → List ℕ
 numbered_message_bytes sequence_number payload = netlink_message_codec.written (record {
   header = record {
@@ -66,8 +67,9 @@ pub record IsAnswer (request : List ℕ) (replies : List (ReplyValue unix_respon
   pub written : datagram ≡ flat_map (reply_message_bytes header.sequence_number) replies
       ++ done_message_bytes header.sequence_number
 
--- The request is rejected with the error e: its bytes do not start with a netlink message; or the
--- message has another type than 20; or its payload is rejected as a request for UNIX sockets.
+-- `RejectsUnixRequest request e`: the request is rejected with the error `e`: its bytes do not
+-- start with a netlink message; or the message has another type than 20; or its payload, the bytes
+-- from offset 16 to its length, is rejected as a request for UNIX sockets.
 pub data RejectsUnixRequest (request : List ℕ) (e : DecodeError) : Type 0 where
   no_message : IsMessageError request e → RejectsUnixRequest request e
   other_type : (h : NetlinkHeader) → HasHeader request h → h.message_type ≢ 20
@@ -101,8 +103,9 @@ IsUnixRequestMessage request = (h : NetlinkHeader) × (asked : UnixRequest)
     × HasHeader request h × (h.message_type ≡ 20)
     × (parse_record unix_request tt (take (h.length - 16) (drop 16 request)) ≡ Ok asked)
 
--- Why there is no answer: the request is rejected with this error; or it is accepted, and the
--- message of some reply is not writable; or it is accepted, and memory ran out.
+-- `AnswerFails request replies e`, why there is no answer: the request is rejected with this error;
+-- or it is accepted, and the message of some reply is not writable; or it is accepted, and memory
+-- ran out.
 abbrev pub AnswerFails : List ℕ → List (ReplyValue unix_response_spec) → AnswerError → Type 0
 AnswerFails request replies (Request e) = RejectsUnixRequest request e
 AnswerFails request replies Unwritable =

@@ -13,8 +13,12 @@ use netlink_core::DecodeError;
 use sock_diag_replies::unix::UnixResponseView;
 use sock_diag_replies::unix::nlas::NameView;
 
-/// Returns whether a reply about a UNIX socket has this path as the name of the socket.
+/// Returns whether the first `UNIX_DIAG_NAME` of a reply about a UNIX socket is this pathname.
+/// Returns `false` if there is no such attribute, or if it is an abstract name. Returns the first
+/// decode error if the reply is invalid.
 pub fn is_bound_to(reply: &[u8], path: &[u8]) -> Result<bool, DecodeError>
+    // `v`: the value that the reply parses as. `value_of_kind`: the value of an attribute of this
+    // kind.
     ensures value { IfOk result (λ bound.
         (v : ReplyValue unix_response_spec) × (response_codec unix_response_spec).reads reply.now
         tt v

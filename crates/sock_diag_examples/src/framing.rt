@@ -6,7 +6,8 @@ ghost use Rattle.netlink_core.specs.Attribute.{IsFramingError};
 
 use netlink_core::{DecodeError, NlasIterator};
 
-/// Counts the attributes that the bytes consist of, or returns the first framing error.
+/// Counts the attributes that the bytes consist of, without parsing their values. Returns the first
+/// framing error if, after some attributes or none, bytes are left that do not start with one.
 #[tactic(auto, using(crate::proofs::Counted::counting_rules))]
 pub fn count_attributes(bytes: &[u8]) -> Result<usize, DecodeError>
     ensures count { IfOk result (λ count. (attributes : List Attribute)

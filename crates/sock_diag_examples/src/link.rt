@@ -56,8 +56,17 @@ impl From<DecodeError> for LinkError {
     }
 }
 
-/// Parses the payload of a message about an interface: the bytes after the netlink header.
+/// Parses the payload of a message about an interface, the bytes after the netlink header: the 16
+/// bytes of `struct ifinfomsg`, which are not looked at, and then attributes. The last name and the
+/// last MTU count; attributes of other types are ignored.
+///
+/// - `TooShort`: the payload has fewer than 16 bytes.
+/// - `Attribute(e)`: `e` is the first error of the attributes: of their framing, a name that is not
+///   UTF-8, or an MTU that does not have four bytes. Or `e` is `Memory`, if an allocation for a
+///   name failed.
 pub fn parse_link(alloc: Global, payload: &[u8]) -> Result<Link, LinkError>
+    // `found`: what each attribute decodes to, in order. `last_or None`: the last element of a
+    // list.
     ensures value { IfOk result (λ link. (found : List LinkAttribute) × (16 ≤ length payload.now)
         × DecodeTo decodes_link (drop 16 payload.now) found
         × (string_content link.name ≡ last_or None (filter_map name_in found))
@@ -98,17 +107,25 @@ pub fn equal_link_errors(v: &LinkError, w: &LinkError) -> bool
     v == w
 }
 
-/// Returns the canonical form of the first attribute, of any family. Two attributes have the same
-/// canonical form if and only if they differ only in their padding and the bytes after it.
+/// Returns the canonical form of the attribute at the start of the bytes, of any family: its
+/// header, its value, and zeros as padding. Two attributes have the same canonical form if and only
+/// if they differ only in their padding and the bytes after it. Fails with `Refused` and the
+/// framing error if the bytes do not start with an attribute, and with `Memory` if an allocation
+/// fails.
 pub fn attribute_key(alloc: Global, attribute: &[u8]) -> Result<Vec<u8>, CanonError>
+    // `first_attribute_codec []`: the codec of one attribute of which no kind is known, so that it
+    // parses as itself.
     ensures written { IfOk result (λ key.
         (a : Attribute) × (first_attribute_codec []).reads attribute.now tt a
         × (key.items ≡ attribute_bytes a)) }
+    // The condition `FitsLengthField` holds of every attribute that was parsed.
     ensures alike { IfOk result (λ key. (other : List ℕ) (theirs : Attribute) → IsBytes other
         → (first_attribute_codec []).reads other tt theirs
         → FitsLengthField theirs
         → ((attribute_bytes theirs ≡ key.items)
         ↔ (first_attribute_codec []).idle tt attribute.now other)) }
+    // `CanonicalFails reads refuses fits`: the error by the values that the bytes parse as, the
+    // errors that reject them, and the writable values.
     ensures err { IfErr result (canon.CanonicalFails (λ a.
         (first_attribute_codec []).reads attribute.now tt a)
         (λ e. (first_attribute_codec []).refuses attribute.now tt e) FitsLengthField) }

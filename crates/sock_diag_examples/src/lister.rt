@@ -34,7 +34,7 @@ pub enum Line {
 }
 
 /// Returns the lines of a datagram, in order: one for each message except `NLMSG_NOOP`, and one for
-/// remaining bytes that are not a message.
+/// remaining bytes that are not a message. Fails only if an allocation fails.
 pub fn list(alloc: Global, datagram: &[u8]) -> Result<Vec<Line>, AllocError>
     ensures { IfOk result (λ lines. AreLinesOf datagram.now lines.items) }
 {

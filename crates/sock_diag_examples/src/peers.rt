@@ -8,8 +8,9 @@ ghost use Rattle.netlink_core.specs.Walk.{buffered_attribute};
 use netlink_core::NlaBuffer;
 use sock_diag_attributes::unix::nlas::NlaView;
 
-/// Returns the inode of the peer, if the attribute of a reply about a UNIX socket is
-/// `UNIX_DIAG_PEER` and has four bytes.
+/// Returns the inode of the peer, a little-endian u32: the value of an attribute of a reply about a
+/// UNIX socket, if its kind is `UNIX_DIAG_PEER` (2) and its value has four bytes. Otherwise returns
+/// `None`.
 pub fn peer(nla: &NlaBuffer<'_>) -> Option<u32>
     ensures { SomeIff result
         ((attribute_kind (buffered_attribute nla.now) ≡ 2)

@@ -6,8 +6,9 @@ ghost use Rattle.netlink_core.specs.declared.fault.DecodeError.TheVariants.{Memo
 use netlink_core::{DecodeError, Wire};
 use std::alloc::Global;
 
-/// Copies a writable value in normal form, by serializing and parsing it. Fails only if memory runs
-/// out.
+/// Copies a value by serializing and parsing it, and returns the equal copy. The value must be
+/// writable, and in normal form for the parser's parameter `param`. Fails only with `Memory`, if an
+/// allocation fails.
 pub fn copy_by_bytes<T: Wire + Drop>(
     alloc: Global,
     value: &T,

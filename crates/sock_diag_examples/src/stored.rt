@@ -12,8 +12,12 @@ use std::alloc::Global;
 /// Returns the key under which a reply is stored: its canonical form. The reply is the payload of a
 /// netlink message of type 20.
 ///
-/// Two replies have the same key if and only if they are equivalent (`idle`): they differ only in
-/// padding, undefined bits and bytes that no parser reads.
+/// Two replies with keys have the same key if and only if they are equivalent (`idle`): they differ
+/// only in ignored bits and bytes, such as padding, undefined flag bits and bytes that no parser
+/// reads.
+///
+/// Fails with `Refused` and the first decode error if the reply is invalid, with `Unwritable` if
+/// its value is not writable, and with `Memory` if an allocation fails.
 pub fn key(alloc: Global, reply: &[u8]) -> Result<Vec<u8>, CanonError>
     ensures key { IfOk result (λ key. IsKey reply.now key.items) }
     ensures alike { IfOk result (λ key. (other theirs : List ℕ) → IsKey other theirs
@@ -23,8 +27,9 @@ pub fn key(alloc: Global, reply: &[u8]) -> Result<Vec<u8>, CanonError>
     canonical::<SockDiagMessage>(alloc, reply, SOCK_DIAG_BY_FAMILY)
 }
 
-/// Returns whether two replies have the same key, if both have one. Otherwise returns the error of
-/// the first reply, or of the second if the first has a key.
+/// Returns whether two replies have the same key, if both have one: whether they are equivalent
+/// (`idle`). Otherwise returns the error of the first reply, or of the second if the first has a
+/// key. An error is the one of [`key`].
 pub fn same_reply(alloc: Global, one: &[u8], other: &[u8]) -> Result<bool, CanonError>
     ensures value { IfOk result (λ same. IsTrue same ↔ message_codec.idle 20 one.now other.now) }
     ensures keys { OnOk result (HasKey one.now × HasKey other.now) }

@@ -69,7 +69,13 @@ pub fn equal_answer_errors(v: &AnswerError, w: &AnswerError) -> bool
 
 /// Returns the answer to a request for UNIX sockets: each reply in its own message, and the message
 /// that ends a dump, all with the request's sequence number. The request is parsed, but does not
-/// select among the replies.
+/// select among the replies. Bytes after it are ignored.
+///
+/// - `Request(e)`: the request does not start with a netlink message, its type is not
+///   `SOCK_DIAG_BY_FAMILY` (`UnknownMessageType`), or its payload is not a request for UNIX
+///   sockets.
+/// - `Unwritable`: the request is valid, and the message of a reply is not writable.
+/// - `Memory`: the request is valid, and an allocation failed.
 pub fn answer(
     alloc: Global,
     request: &[u8],
@@ -96,8 +102,8 @@ pub fn answer(
     Ok(datagram)
 }
 
-/// The dump over an answer is complete and has the caller's replies, if each is in normal form and
-/// can be serialized. Proof only: the contract states the property.
+/// The dump over an answer is complete and has the caller's replies, if each is in range and in
+/// normal form, and its message is writable. Proof only: the contract states the property.
 pub fn answer_is_a_whole_dump()
     ensures { (request : List ℕ) (replies : List (ReplyValue unix_response_spec))
         (datagram : List ℕ)

@@ -10,13 +10,15 @@ use Rattle.sock_diag_filters.specs.AnyRequest.{of_family, of_inet, record_reques
 use Rattle.sock_diag_filters.specs.Asked.{IsRequestType}
 use Rattle.sock_diag_filters.specs.ReadBack.{IsParsedRequest}
 
--- The bytes of a message: the netlink header unchanged, the record, and the bytes after the record.
+-- `record_request_bytes family h request attributes`: the bytes of a message: the netlink header
+-- `h` unchanged, the record of the family, and the bytes after the record.
 abbrev pub record_request_bytes : (family : RecordFamily) → NetlinkHeader
     → (record_request_codec family).Value → List ℕ → List ℕ
 record_request_bytes family h request attributes =
     header_bytes h ++ ((record_request_codec family).bytes request ++ attributes)
 
--- The message is a complete request that round-trips.
+-- `IsCompleteRecordRequest family h request attributes`: the message of the header `h`, the record
+-- and the bytes `attributes` after it is a complete request, and round-trips.
 pub record IsCompleteRecordRequest (family : RecordFamily) (h : NetlinkHeader)
     (request : (record_request_codec family).Value)
     (attributes : List ℕ) : Type 0 where
@@ -31,7 +33,8 @@ pub record IsCompleteRecordRequest (family : RecordFamily) (h : NetlinkHeader)
   -- the record is in normal form
   pub normal : (record_request_codec family).is_normal tt request
 
--- The parsed request is a request for IPv4 or IPv6 sockets with the content that was serialized.
+-- `IsParsedInetRequest h request attributes parsed`: the parsed request is a request for IPv4 or
+-- IPv6 sockets with the content that was serialized (`IsParsedRequest`).
 abbrev pub IsParsedInetRequest : NetlinkHeader → InetRequest → List RequestAttribute → AnyRequest
     → Type 0
 IsParsedInetRequest h request attributes (of_inet view) = IsParsedRequest h request attributes view

@@ -84,9 +84,10 @@ any_request_content (view.Packet v) = of_family packet v.header v.request v.attr
 any_request_content (view.Vsock v) = of_family vsock v.header v.request v.attributes.now
 any_request_content (view.Xdp v) = of_family xdp v.header v.request v.attributes.now
 
--- The message parses as the request. It starts with the netlink header, its payload is of the
--- request's family and starts with the record, and the attributes are the bytes after the record,
--- up to the length in the header.
+-- `ParsesAsAnyRequest message request`: the message at the start of the bytes parses as the
+-- request. It starts with the netlink header, its payload is of the request's family and starts
+-- with the record, and the attributes are the bytes after the record, up to the length in the
+-- header. Bytes after it are ignored.
 abbrev pub ParsesAsAnyRequest : List ℕ → AnyRequest → Type 0
 ParsesAsAnyRequest message (of_inet v) =
     (family_of_message message v.header ≡ Ok inet) × ParsesAsRequest message v
@@ -95,8 +96,10 @@ ParsesAsAnyRequest message (of_family family h request attributes) =
     × ((record_request_codec family).reads tt (message_payload message h) ≡ Ok request)
     × (attributes ≡ drop (record_request_size family) (message_payload message h))
 
--- The message with the header `h` is rejected with `e`: with the error in place of its family; or
--- by the parser of `RequestView` for IPv4 and IPv6; or by the parser of the family's record.
+-- `IsRejectedByRequestFamily family message h e`: the message with the netlink header `h` is
+-- rejected with `e`. `family` is its family, or its error if it has none, and then `e` is this
+-- error. For IPv4 and IPv6, the parser of `RequestView` rejects it; for another family, the parser
+-- of the family's record does.
 abbrev pub IsRejectedByRequestFamily : Result RequestedFamily DecodeError → List ℕ → NetlinkHeader
     → DecodeError
     → Type 0

@@ -50,7 +50,8 @@ protocol_in (program_asked program) = None
 protocol_in (protocol_asked protocol) = Some protocol
 protocol_in nothing_asked = None
 
--- `found` has the last program and the last protocol of `decoded`, or `None` if there is none.
+-- `HasLastContents found decoded`: `found` has the last program and the last protocol of `decoded`,
+-- each `None` if there is none.
 pub record HasLastContents (found : Found) (decoded : List RequestContent) : Type 0 where
   pub program : option_map (λ program. program.now) found.program
       ≡ last_or None (filter_map program_in decoded)
@@ -65,7 +66,8 @@ message_payload message h = take (h.length - 16) (drop 16 message)
 abbrev pub IsRequestType : ℕ → Type 0
 IsRequestType t = (t ≡ 20) ⊎ (t ≡ 21)
 
--- The message parses as the view.
+-- `ParsesAsRequest message view`: the message at the start of the bytes parses as the view. Bytes
+-- after it are ignored.
 pub record ParsesAsRequest (message : List ℕ) (view : RequestView) : Type 0 where
   -- the message starts with the netlink header of the view
   pub framed : HasHeader message view.header

@@ -16,8 +16,9 @@ use Rattle.sock_diag_filters.specs.declared.condition.Condition.TheVariants.{Mar
 use Rattle.sock_diag_filters.specs.declared.condition.Condition.TheVariants.{AutoBound}
 use Rattle.sock_diag_filters.specs.Prefixes.{bits_of, family_of, octets_of, port_bytes}
 
--- The result of `Prefix::new`: the prefix of `bits` bits of `address`, or `None` only if the
--- address has fewer bits. A `Prefix` never has more bits than its address.
+-- `IsNewPrefix result address bits`: `result` of `Prefix::new` is the prefix of `bits` bits of
+-- `address`, or `None` only if the address has fewer bits. A `Prefix` never has more bits than its
+-- address.
 abbrev pub IsNewPrefix : Option Prefix → IpAddr → ℕ → Type 0
 IsNewPrefix (Some p) address bits = (p.address ≡ address) × (p.bits ≡ bits)
 IsNewPrefix None address bits = bits ≤ bits_of address → ⊥

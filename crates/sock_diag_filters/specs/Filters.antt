@@ -5,7 +5,9 @@ use Rattle.sock_diag_filters.specs.declared.filter.Filter.{Filter}
 use Rattle.sock_diag_filters.specs.declared.filter.Filter.TheVariants as parts
 use Rattle.sock_diag_filters.specs.Conditions.{arguments}
 
--- Whether the filter selects a socket. `met` returns whether the socket meets a condition.
+-- `meaning met filter`: whether the filter selects a socket, if `met c` says whether the socket
+-- meets the condition `c`. In `And' p first q second`, `first` and `second` are the two filters;
+-- `p` and `q` belong to the references to them, and are not used.
 abbrev pub meaning : (Condition → Bool) → Filter → Bool
 meaning met (parts.Condition c) = met c
 meaning met (parts.And' p first q second) = meaning met first && meaning met second

@@ -39,9 +39,9 @@ pub record IsRoundTrippingRequest (h : NetlinkHeader) (request : InetRequest)
   -- each attribute fits
   pub fit : AllByRecursion IsRequestAttributeInRange attributes
 
--- The view has the header that was serialized, the record, and the last program of the attributes,
--- or `None` if there is none. Its protocol is the last protocol of the attributes, or the record's
--- protocol if there is none.
+-- `IsParsedRequest h request attributes view`: the view has the header that was serialized, the
+-- record, and the last program of the attributes, or `None` if there is none. Its protocol is the
+-- last protocol of the attributes, or the record's protocol if there is none.
 pub record IsParsedRequest (h : NetlinkHeader) (request : InetRequest)
     (attributes : List RequestAttribute) (view : RequestView) : Type 0 where
   pub header : view.header ≡ serialized_request_header h attributes

@@ -27,8 +27,9 @@ header_with_length h len = record {
   port_number = h.port_number;
 }
 
--- The bytes of the message: 16 of the header, whose length is replaced by the length of the
--- message; 56 of the request, `struct inet_diag_req_v2`; and the attributes, each with its padding.
+-- `request_bytes h request attributes`: the bytes of the message: 16 of the header `h`, whose
+-- length is replaced by the length of the message; 56 of the request, `struct inet_diag_req_v2`;
+-- and the attributes, each with its padding.
 abbrev pub request_bytes : NetlinkHeader → InetRequest → List Attribute → List ℕ
 request_bytes h request attributes =
     header_bytes (header_with_length h (72 + length (flat_map attribute_bytes attributes)))

@@ -24,7 +24,9 @@ module _ (found : ℕ → List ℕ → Bool) where
   abbrev pub step : List ℕ → ℕ
   step left = if is_met left then yes_at left else no_at left
 
-  -- The run from the operation at the start has a verdict: whether the socket is selected.
+  -- `Runs left verdict`: the run from the operation at the start of `left` has a verdict: whether
+  -- the socket is selected. At most one verdict fits. A run that makes no progress has none; a
+  -- program that passes the audit always moves on.
   pub data Runs : List ℕ → Bool → Type 0 where
     -- at the end of the program, the socket is selected
     ends : (left : List ℕ) → length left ≡ 0 → Runs left true

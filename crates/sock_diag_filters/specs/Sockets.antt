@@ -41,8 +41,11 @@ pub record Socket : Type 0 where
   -- `userlocks` lacks SOCK_BINDPORT_LOCK: the kernel chose the local port
   pub is_auto_bound : Bool
 
--- The first `bits` bits of `octets` and `others` are equal, as in the kernel's `bitstring_match`.
--- Both are read as big-endian numbers of the length of `others`.
+-- `have_equal_prefix bits octets others`: the first `bits` bits of `octets` and `others` are equal,
+-- as in the kernel's `bitstring_match`. Both are read as big-endian numbers of the length of
+-- `others`, and divided by 2 to the power of the number of bits after the prefix.
+-- For example, 10.1.16.5 and 10.1.31.9 have the same first 20 bits: their numbers, 0x0a011005 and
+-- 0x0a011f09, divided by 2 ^ 12, are both 0x0a011.
 abbrev pub have_equal_prefix : ℕ → List ℕ → List ℕ → Bool
 have_equal_prefix bits octets others =
     let behind = 2 ^ (8 * length others - bits) in
@@ -60,10 +63,10 @@ is_ipv4_mapped octets = big_number 12 octets == 0xffff
 abbrev pub compared_port : List ℕ → ℕ
 compared_port args = little_number 2 (drop 2 args)
 
--- The address `octets`, of the family `family`, matches a condition: it starts with the first
--- `bits` bits of `prefix`. The condition's family is `asked`. If it is 0 (AF_UNSPEC), it matches
--- each family. If it is 2 (AF_INET), it also matches an IPv4-mapped address of family 10 (AF_INET6)
--- by its last four octets.
+-- `kernel_matches_address family octets asked bits prefix`: the address `octets`, of the family
+-- `family`, matches a condition: it starts with the first `bits` bits of `prefix`. The condition's
+-- family is `asked`. If it is 0 (AF_UNSPEC), it matches each family. If it is 2 (AF_INET), it also
+-- matches an IPv4-mapped address of family 10 (AF_INET6) by its last four octets.
 abbrev pub kernel_matches_address : ℕ → List ℕ → ℕ → ℕ → List ℕ → Bool
 kernel_matches_address family octets asked bits prefix =
     if asked == 0 then bits == 0 || have_equal_prefix bits octets prefix
@@ -72,18 +75,19 @@ kernel_matches_address family octets asked bits prefix =
     asked == 2
     && (family == 10 && (is_ipv4_mapped octets && have_equal_prefix bits (drop 12 octets) prefix))
 
--- A port and an address match the arguments of S_COND or D_COND, a `struct inet_diag_hostcond`:
--- `family` at 0, `prefix_len` at 1, `port` at 4 as 32 bits (-1 matches each port), `addr` at 8.
+-- `kernel_matches_host family port octets args`: a port and an address of the family `family` match
+-- the arguments of S_COND or D_COND, a `struct inet_diag_hostcond`: `family` at 0, `prefix_len` at
+-- 1, `port` at 4 as 32 bits (-1 matches each port), `addr` at 8.
 abbrev pub kernel_matches_host : ℕ → ℕ → List ℕ → List ℕ → Bool
 kernel_matches_host family port octets args =
     (little_number 4 (drop 4 args) == 0xffffffff || little_number 4 (drop 4 args) == port)
     && kernel_matches_address family octets (slice_index args 0) (slice_index args 1) (drop 8 args)
 
--- Whether the kernel finds that the socket meets the condition of an operation with this code
--- (INET_DIAG_BC_..) and these arguments: 2 S_GE, 3 S_LE, 4 D_GE, 5 D_LE, 6 AUTO, 7 S_COND, 8
--- D_COND, 9 DEV_COND (a u32), 10 MARK_COND (`struct inet_diag_markcond`: `mark` at 0, `mask` at 4),
--- 11 S_EQ, 12 D_EQ, 13 CGROUP_COND (a u64). Other codes count as met; `Run.antt` handles JMP
--- before.
+-- `kernel_evaluates s code args`: whether the kernel finds that the socket `s` meets the condition
+-- of an operation with this code (INET_DIAG_BC_..) and these arguments: 2 S_GE, 3 S_LE, 4 D_GE, 5
+-- D_LE, 6 AUTO, 7 S_COND, 8 D_COND, 9 DEV_COND (a u32), 10 MARK_COND (`struct inet_diag_markcond`:
+-- `mark` at 0, `mask` at 4), 11 S_EQ, 12 D_EQ, 13 CGROUP_COND (a u64). Other codes count as met;
+-- `Run.antt` handles JMP before.
 abbrev pub kernel_evaluates : Socket → ℕ → List ℕ → Bool
 kernel_evaluates s code args =
     if code == 2 then nat_le (compared_port args) s.source_port
@@ -102,20 +106,21 @@ kernel_evaluates s code args =
 
 -- ---- the meaning of conditions
 
--- The port is at least, at most, or equal to the number, by the comparison.
+-- `compares comparison port number`: the port is at least, at most, or equal to the number.
 abbrev pub compares : Comparison → ℕ → ℕ → Bool
 compares AtLeast port number = nat_le number port
 compares AtMost port number = nat_le port number
 compares Equal port number = port == number
 
--- The port is the port of the condition, if the condition has one.
+-- `has_port asked port`: the port is the port `asked` of the condition. True if the condition has
+-- no port.
 abbrev pub has_port : Option ℕ → ℕ → Bool
 has_port None port = true
 has_port (Some asked) port = asked == port
 
--- The address `octets`, of the family `family`, starts with the first `bits` bits of the given
--- address. An IPv4 address is also compared with the last four octets of an IPv4-mapped IPv6
--- address.
+-- `address_has_prefix address bits family octets`: the address `octets`, of the family `family`,
+-- starts with the first `bits` bits of `address`. An IPv4 `address` is also compared with the last
+-- four octets of an IPv4-mapped IPv6 address. Other pairs of families do not match.
 abbrev pub address_has_prefix : IpAddr → ℕ → ℕ → List ℕ → Bool
 address_has_prefix (V4 ip) bits family octets =
     if 2 == family then bits == 0 || have_equal_prefix bits octets (octets_of (V4 ip))
@@ -125,18 +130,19 @@ address_has_prefix (V4 ip) bits family octets =
 address_has_prefix (V6 ip) bits family octets =
     if 10 == family then bits == 0 || have_equal_prefix bits octets (octets_of (V6 ip)) else false
 
--- The address `octets` has the prefix, if there is one.
+-- The address `octets`, of the family `family`, has the prefix. True if there is no prefix.
 abbrev pub address_has_optional_prefix : Option Prefix → ℕ → List ℕ → Bool
 address_has_optional_prefix None family octets = true
 address_has_optional_prefix (Some p) family octets =
     address_has_prefix p.address p.bits family octets
 
--- The port and the address of one end of a socket meet the condition.
+-- `is_host h family port octets`: the port and the address `octets`, of the family `family`, of one
+-- end of a socket meet the condition `h`.
 abbrev pub is_host : Host → ℕ → ℕ → List ℕ → Bool
 is_host h family port octets =
     has_port h.port port && address_has_optional_prefix h.prefix family octets
 
--- A socket meets a condition.
+-- A socket meets a condition. `Mark mark mask`: the bits of its mark in `mask` are `mark`.
 abbrev pub meets : Socket → Condition → Bool
 meets s (SourcePort comparison port) = compares comparison s.source_port port
 meets s (DestinationPort comparison port) = compares comparison s.destination_port port

@@ -11,8 +11,8 @@ use Rattle.sock_diag_records.specs.declared.inet.request.InetRequest.{InetReques
 use Rattle.sock_diag_records.specs.declared.inet.socket_id.SocketId.{SocketId}
 use Rattle.sock_diag_filters.specs.Prefixes.{family_of}
 
--- A netlink header with this type, flags and sequence number, and port 0. Its length 0 is replaced
--- when the request is serialized.
+-- `example_request_header message_type flags sequence_number`: a netlink header with these, and
+-- port 0. Its length 0 is replaced when the request is serialized.
 abbrev pub example_request_header : ℕ → ℕ → ℕ → NetlinkHeader
 example_request_header message_type flags sequence_number = record {
   length = 0;

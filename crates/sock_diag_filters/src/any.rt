@@ -80,6 +80,8 @@ impl<'a> AnyRequestView<'a> {
     /// 5. an error of the parser of that family's request: of [`RequestView::parse`], or of the
     ///    record.
     pub fn parse(message: &'a [u8]) -> Result<AnyRequestView<'a>, DecodeError>
+        // `any_request_content`: the family, the header, the record and the bytes after it; or a
+        // `RequestView`.
         ensures value { IfOk result (λ view. ParsesAsAnyRequest message.entry.now
             (any_request_content view)) }
         ensures fault { IfErr result (IsRejectedAnyRequest message.entry.now) }

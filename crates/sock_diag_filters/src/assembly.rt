@@ -43,17 +43,27 @@ impl From<AllocError> for AssembleError {
     }
 }
 
-/// Returns the program of a filter: the value of an attribute `INET_DIAG_REQ_BYTECODE`.
+/// Returns the program of a filter: the value of an attribute `INET_DIAG_REQ_BYTECODE`. It has
+/// `program_size` bytes, which are at most 65,531.
 ///
 /// The program passes the kernel's audit. A run of it selects a socket if and only if the filter
 /// does, for any results of its conditions. If the results are those of the kernel's comparisons,
 /// the selected sockets are the sockets that meet the filter.
+///
+/// Fails with `TooLong` only if the program would have more than [`MAX_PROGRAM`] bytes. Fails with
+/// `Memory` if an allocation fails, and only for a program that is not too long.
 pub fn assemble(alloc: Global, filter: &Filter) -> Result<Vec<u8>, AssembleError>
     ensures size { IfOk result (λ program. length program.items ≡ program_size filter.now) }
     ensures short { IfOk result (λ program. length program.items ≤ 65531) }
     ensures audited { IfOk result (λ program. IsAudited program.items) }
+    // `found code arguments`: any assumed result of the condition of an operation.
+    // `Runs found program v`: a run of the program with these results has the verdict `v`.
+    // `meaning met filter`: whether the filter selects a socket, if `met` says which conditions the
+    // socket meets.
     ensures runs { IfOk result (λ program. (found : ℕ → List ℕ → Bool) → Runs found program.items
         (meaning (λ c. found (code_of c) (arguments c)) filter.now)) }
+    // `kernel_evaluates socket`: the kernel's results for this socket. `meets socket`: which
+    // conditions the socket meets.
     ensures wanted { IfOk result (λ program. (socket : Socket)
         → Runs (kernel_evaluates socket) program.items (meaning (meets socket) filter.now)) }
     ensures refused { IfErr result (λ e. IsAssembleError filter.now e) }

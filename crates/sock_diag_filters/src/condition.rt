@@ -33,7 +33,9 @@ pub struct Prefix {
 impl Prefix {
     ghost use Rattle.sock_diag_filters.specs.Conditions.{IsNewPrefix};
 
-    /// Returns the prefix of `bits` bits, or `None` if the address has fewer bits.
+    /// Returns the prefix that consists of the first `bits` bits of `address`. Returns `None` if
+    /// and only if the address has fewer bits: 32 for IPv4, 128 for IPv6. The bits after the prefix
+    /// are kept, but they do not affect which addresses match.
     pub fn new(address: IpAddr, bits: u8) -> Option<Prefix>
         ensures { IsNewPrefix result address bits }
     {

@@ -35,8 +35,8 @@ use std::alloc::AllocError;
 
 /// States that a `RequestWithAttributes` round-trips, if its request is in range and in normal form
 /// and its lengths fit (`IsRoundTrippingRequest`). The bytes that it serializes to parse only as
-/// its header with the length of the message, its request, and its last program and protocol. They
-/// are not rejected by `RequestView::parse` if the message type is `SOCK_DIAG_BY_FAMILY` or
+/// its header with the length of the message, its request, and its last program and protocol.
+/// `RequestView::parse` does not reject them if the message type is `SOCK_DIAG_BY_FAMILY` or
 /// `SOCK_DESTROY`.
 pub fn written_request_is_read_back()
     ensures view { (h : NetlinkHeader) (request : InetRequest) (attributes : List RequestAttribute)
@@ -50,11 +50,15 @@ pub fn written_request_is_read_back()
         → IsRejectedRequest (request_bytes h request (map request_attribute attributes)) e → ⊥ }
 {}
 
-/// States that requests round-trip through `AnyRequestView::parse`. A header, a record and any
-/// bytes after it are accepted and parsed as these, if the record is in range and in normal form,
-/// and the header has the type of a request and the length of the message
-/// (`IsCompleteRecordRequest`). A `RequestWithAttributes` with the type of a request is accepted
-/// and parsed as by `RequestView::parse`, under the conditions above (`IsRoundTrippingRequest`).
+/// States that requests round-trip through `AnyRequestView::parse`.
+///
+/// - `records`, `records_accepted`: a header, a record and any bytes after it are accepted and
+///   parsed as these, if the record is in range and in normal form, and the header has the type of
+///   a request and the length of the message (`IsCompleteRecordRequest`).
+/// - `inet`, `inet_accepted`: a `RequestWithAttributes` is accepted, and parsed as its header with
+///   the length of the message, its request, and its last program and protocol, if its request is
+///   in range and in normal form, its lengths fit (`IsRoundTrippingRequest`), and its header has
+///   the type of a request.
 pub fn any_written_request_is_read_back()
     ensures records { (family : RecordFamily) (h : NetlinkHeader)
         (request : (record_request_codec family).Value) (attributes : List ℕ) (other : AnyRequest)
@@ -77,10 +81,11 @@ pub fn any_written_request_is_read_back()
         → IsRejectedAnyRequest (request_bytes h request (map request_attribute attributes)) e → ⊥ }
 {}
 
-/// States that the result of `kernel_evaluates`, which the kernel computes from an operation's code
-/// and arguments, is whether the socket meets the condition. By the contract of `assemble`, a
-/// program therefore selects a socket if and only if the socket meets its filter. For a `Filter`
-/// value, `Filter::in_range` proves the premise.
+/// States that a filter selects the same sockets under two readings of its conditions: under
+/// `kernel_evaluates`, which the kernel computes from an operation's code and arguments, and under
+/// `meets`, the documented meaning of the conditions. By the contract of `assemble`, a program
+/// therefore selects a socket if and only if the socket meets its filter. The premise is that each
+/// number of the filter fits its Rust type. For a `Filter` value, `Filter::in_range` proves it.
 #[tactic(auto, using(crate::proofs::Finding::evaluation_is_meaning))]
 pub fn filters_find_what_they_mean()
     ensures { (socket : Socket) (filter : Filter) → AreInRange filter
@@ -88,7 +93,8 @@ pub fn filters_find_what_they_mean()
         ≡ meaning (meets socket) filter }
 {}
 
-/// States that a run of a program has at most one verdict.
+/// States that a run of a program, with given results of its conditions (`found`), has at most one
+/// verdict.
 #[tactic(auto, using(crate::proofs::Verdicts::one_verdict))]
 pub fn one_verdict()
     ensures { (found : ℕ → List ℕ → Bool) (program : List ℕ) (v w : Bool)

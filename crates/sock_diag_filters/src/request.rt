@@ -76,6 +76,8 @@ impl Emitable for RequestWithAttributes<'_> {
     ghost bytes = { λ r. request_bytes r.header r.request
         (map request_attribute r.attributes.now) };
 
+    // 4,294,967,223 is 2^32 - 1 - 72: the largest length of a message, less the bytes before its
+    // attributes.
     ghost writable = { λ r. AreWritableWithin (map request_attribute r.attributes.now) 4294967223 };
 
     /// Returns whether each program has at most 65,531 bytes, and the length of the message fits

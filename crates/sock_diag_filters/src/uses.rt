@@ -23,18 +23,23 @@ use sock_diag_records::inet::{ExtensionFlags, InetRequest, SocketId, StateFlags}
 use std::alloc::Global;
 use std::net::IpAddr;
 
-/// Returns the request for the TCP sockets over IPv4 that listen on a port from `first` to `last`.
+/// Returns the request for the TCP sockets over IPv4 that listen on a port from `first` to `last`:
+/// a complete netlink message with the filter's program as its only attribute.
 ///
-/// The kernel runs the program of the request. It selects a socket if and only if the kernel finds
-/// that its port is at least `first` (`INET_DIAG_BC_S_GE`, 2) and at most `last`
-/// (`INET_DIAG_BC_S_LE`, 3). The only error is `Memory`, if an allocation fails: the program is
-/// never too long. A `first` above `last` is not an error.
+/// The kernel runs the program. It selects a socket if and only if the kernel finds that its port
+/// is at least `first` (`INET_DIAG_BC_S_GE`, 2) and at most `last` (`INET_DIAG_BC_S_LE`, 3). The
+/// only error is `Memory`, if an allocation fails: the program is never too long. A `first` above
+/// `last` is not an error.
 pub fn listening_on(
     alloc: Global,
     first: u16,
     last: u16,
     sequence_number: u32,
 ) -> Result<Vec<u8>, AssembleError>
+    // There is a program that the kernel accepts, and each run of it has the verdict of the two
+    // comparisons, whatever they return (`found`). The message has the type 20
+    // (SOCK_DIAG_BY_FAMILY), the flags NLM_F_REQUEST and NLM_F_DUMP, the state LISTEN (bit 10), a
+    // socket id of zeros, and this program.
     ensures asked { IfOk result (λ message. (program : List ℕ) × IsAudited program
         × ((found : ℕ → List ℕ → Bool)
         → Runs found program (found 2 (port_bytes first) && found 3 (port_bytes last)))
@@ -60,8 +65,10 @@ pub fn listening_on(
     Ok(message)
 }
 
-/// Returns the request to close one TCP socket, which is identified by its addresses, ports and
-/// cookie, with a flag that requests an acknowledgement. The kernel requires `CAP_NET_ADMIN`.
+/// Returns the request to close one TCP socket, a complete netlink message of 72 bytes: type
+/// `SOCK_DESTROY` (21), flags `NLM_F_REQUEST` and `NLM_F_ACK` (an acknowledgement is requested),
+/// all states, and no attributes. The socket is identified by its addresses, ports and cookie. The
+/// kernel requires `CAP_NET_ADMIN`.
 pub fn close_tcp(socket_id: SocketId, sequence_number: u32) -> [u8; REQUEST_FRONT]
     ensures written { result ≡ request_bytes (example_request_header 21 5 sequence_number)
         (tcp_request_with 0xffffffff socket_id) [] }

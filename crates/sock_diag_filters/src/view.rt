@@ -39,7 +39,8 @@ pub struct RequestView<'a> {
 
 impl<'a> RequestView<'a> {
     /// Parses the netlink message at the start of the bytes. It does not allocate. Bytes after the
-    /// message are ignored.
+    /// message are ignored. Of the attributes, the last program and the last protocol count, and
+    /// attributes of other types are ignored.
     ///
     /// Returns the first of these errors:
     ///

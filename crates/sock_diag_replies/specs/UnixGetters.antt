@@ -7,8 +7,8 @@ use Rattle.sock_diag_attributes.specs.UnixAttributes.{unix_attribute_set}
 use Rattle.sock_diag_records.specs.declared.constants.TheConstants.{TCP_LISTEN, UNIX_DIAG_RQLEN}
 use Rattle.sock_diag_replies.specs.UnixResponseSpec.{unix_response_spec}
 
--- `content x` for the first `x` of the list for which it is a `Some`; `None` if there is no such
--- `x`
+-- `first_content_of content xs`: `content x` for the first `x` of the list `xs` for which it is a
+-- `Some`; `None` if there is no such `x`
 abbrev pub first_content_of : {A B : Type 0} → (A → Option B) → List A → Option B
 first_content_of content xs = slice_get (filter_map content xs) 0
 

@@ -15,7 +15,7 @@ view_bytes view = view.bytes.now
 abbrev pub bytes_after_header : {H : Type 0} {of : Ghosts H} → ReplyView H of → List ℕ
 bytes_after_header {of = of} view = drop of.reply.size (view_bytes view)
 
--- the model of the header in the bytes, and the value of each attribute after it, in order
+-- the header that the bytes start with, and what each attribute after it decodes to, in order
 abbrev pub view_model : {H : Type 0} {of : Ghosts H} → ReplyView H of → ReplyValue of.reply
 view_model {of = of} view = reply_after of.reply view.head.0 (bytes_after_header view)
 

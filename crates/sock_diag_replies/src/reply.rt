@@ -26,11 +26,15 @@ pub(crate) fn without_memory<T: Drop>(_begun: T) -> DecodeError
     DecodeError::Memory
 }
 
-/// Returns whether `left` and `right` contain equal attributes in the same order. Two attributes
-/// are compared by `==` of their views. Neither may contain a decode error.
+/// Returns whether `left` and `right`, the bytes of two lists of attributes, contain equal
+/// attributes in the same order. Two attributes are compared by `==` of their views. Neither may
+/// contain a decode error.
 pub fn same_views<'a, V: FamilyView<'a> + Drop>(left: &'a [u8], right: &'a [u8]) -> bool
     requires left { HasNoAttributeError (decode_attribute V.attribute_set) left.now }
     requires right { HasNoAttributeError (decode_attribute V.attribute_set) right.now }
+    // `test`: `==` of two views, as a function of their models. `decoded_in`: what the attributes
+    // in the bytes decode to, in order. `pointwise`: the lists have the same length, and `test` is
+    // true at each index.
     ensures { (test : AttributeValue V.attribute_set → AttributeValue V.attribute_set → Bool)
         → ((v w : V) → V.PartialEq.eq v w ≡ test (V.model v) (V.model w))
         → result ≡ pointwise test (decoded_in (decode_attribute V.attribute_set) left.entry.now)
@@ -48,7 +52,8 @@ pub fn same_views<'a, V: FamilyView<'a> + Drop>(left: &'a [u8], right: &'a [u8])
 }
 
 /// Returns the length of the serialized header and attributes. Returns `None` if the value of an
-/// attribute has more than 65,531 bytes, or if the whole has more than 4,294,967,295 bytes.
+/// attribute has more than 65,531 bytes, or if the whole has more than 4,294,967,295 bytes. The
+/// header must be writable.
 pub(crate) fn reply_len<H: Emitable, T: FamilyNla>(header: &H, nlas: &[T]) -> Option<usize>
     requires { H.writable header.now }
     ensures { let attributes = map (encode_attribute T.attribute_set) (map T.model nlas.now) in
@@ -73,7 +78,7 @@ pub(crate) fn fitting_reply_len<H: Emitable, T: FamilyNla>(header: &H, nlas: &[T
 }
 
 /// Writes the header and the attributes at the start of `buffer`. The bytes after them are
-/// unchanged.
+/// unchanged. Both must be writable, and the buffer must have at least their length.
 pub(crate) fn emit_reply<H: Emitable, T: FamilyNla>(header: &H, nlas: &[T], buffer: &mut [u8])
     requires header { H.writable header.now }
     requires fits { HasWritableLengths (H.bytes header.now)
@@ -117,7 +122,7 @@ pub(crate) fn check_reply_len<'a, H: Emitable, V: FamilyView<'a> + Drop>(
 
 /// Returns the length that the header and the attributes in `bytes` have in canonical form. Returns
 /// `None` if the value of an attribute then has more than 65,531 bytes, or if the whole has more
-/// than 4,294,967,295 bytes.
+/// than 4,294,967,295 bytes. The header must be writable, and `bytes` must have no error.
 pub(crate) fn reply_view_len<'a, H: Emitable, V: FamilyView<'a> + Drop>(
     header: &H,
     bytes: &'a [u8],
@@ -141,7 +146,8 @@ pub(crate) fn reply_view_len<'a, H: Emitable, V: FamilyView<'a> + Drop>(
 }
 
 /// Writes the header and the attributes in `bytes`, in canonical form, at the start of `buffer`.
-/// The bytes after them are unchanged.
+/// The bytes after them are unchanged. `bytes` must have no error, both must be writable, and the
+/// buffer must have at least their length.
 pub(crate) fn emit_reply_view<'a, H: Emitable, V: FamilyView<'a> + Drop>(
     header: &H,
     bytes: &'a [u8],

@@ -141,7 +141,8 @@ impl<H: ReplyOwned> ReplyView<'_, H> {
     ghost use Rattle.sock_diag_replies.specs.ViewModel.{bytes_after_header, view_model};
 
     // Appends the owned attributes to the empty list `nlas`. A caller passes the list that the
-    // reply keeps, so that the attributes are not moved afterwards.
+    // reply keeps, so that the attributes are not moved afterwards. Never fails if the list has
+    // room for eight, and there are at most eight attributes, none of which needs memory.
     fn own_into(&self, alloc: Global, nlas: &mut SmallVec<H::Nla, 8>) -> Result<(), AllocError>
         requires { nlas.old.items ≡ [] }
         ensures equal { OnOk result (map H.Nla.FamilyNla.model nlas.new.items
@@ -159,13 +160,18 @@ impl<H: ReplyOwned> ReplyView<'_, H> {
         own_nlas(alloc, self.attribute_bytes(), self.count(), nlas)
     }
 
-    /// Returns the owned reply. Fails only if an allocation fails.
+    /// Returns the owned reply: the header, and each attribute after it, in order, as an owned
+    /// attribute. Fails only if an allocation fails. Never fails for at most eight attributes that
+    /// need no memory.
     pub fn to_owned(&self, alloc: Global) -> Result<Reply<H, H::Nla>, AllocError>
+        // `reply_after`: the reply with this header and what the attributes in the bytes decode to,
+        // by the attribute set of the owned attributes.
         ensures equal { IfOk result (λ reply.
             response_model H.header_model H.Nla.FamilyNla.model reply
             ≡ reply_after (record (H.reply) { attribute_set = H.Nla.FamilyNla.attribute_set })
             (view_model self.now).header
             (bytes_after_header self.now)) }
+        // `is_spare`: the reply needs no memory.
         ensures spare { (response_codec
             (record (H.reply) { attribute_set = H.Nla.FamilyNla.attribute_set })).is_spare
             (reply_after (record (H.reply) { attribute_set = H.Nla.FamilyNla.attribute_set })
@@ -180,9 +186,13 @@ impl<H: ReplyOwned> ReplyView<'_, H> {
         })
     }
 
-    /// Returns the owned reply in a box. The attributes are built in the box, and not moved there.
+    /// Returns the owned reply in a box: the header, and each attribute after it, in order, as an
+    /// owned attribute. Fails only if an allocation fails. The attributes are built in the box, and
+    /// not moved there.
     #[inline(always)]
     pub fn to_boxed(&self, alloc: Global) -> Result<Box<Reply<H, H::Nla>>, AllocError>
+        // `reply_after`: the reply with this header and what the attributes in the bytes decode to,
+        // by the attribute set of the owned attributes.
         ensures { IfOk result (λ reply. response_model H.header_model H.Nla.FamilyNla.model
             reply.value
             ≡ reply_after (record (H.reply) { attribute_set = H.Nla.FamilyNla.attribute_set })

@@ -29,7 +29,9 @@ pub trait ReplyHeader: Drop + Sized {
     /// The name of the borrowed reply, as `Debug` prints it.
     const VIEW: &'static str;
 
-    // The format of the replies, the model of a header, and the comparison of two replies.
+    // `reply`: the format of the replies, as the codec of the header, its size, and the set of the
+    // attributes after it. `header_model`: the model of a header. `test`: the comparison of two
+    // replies, which is true if and only if they are equal (`compared`, below).
     ghost reply: { ResponseSpec };
 
     ghost header_model: { Self → reply.header.Value };
@@ -40,14 +42,14 @@ pub trait ReplyHeader: Drop + Sized {
     fn length() -> usize
         ensures { result ≡ reply.size };
 
-    /// Parses the header at the start of `bytes`.
+    /// Parses the header at the start of `bytes`, or returns its error.
     fn read_header(bytes: &[u8]) -> Result<Self, DecodeError>
         ensures value { IfOk result (λ header.
             reply.header.reads tt bytes.now ≡ Ok (header_model header)) }
         ensures fault { IfErr result (λ fault. reply.header.reads tt bytes.now ≡ Err fault) };
 
-    /// Checks each attribute and returns their number, or returns the first error. Does not
-    /// allocate.
+    /// Checks each attribute in `bytes`, the bytes after a header, and returns their number, or
+    /// returns the first error. Does not allocate.
     fn check(bytes: &[u8]) -> Result<usize, DecodeError>
         ensures clean { OnOk result (HasNoAttributeError (decode_attribute reply.attribute_set)
             bytes.now) }
@@ -56,9 +58,10 @@ pub trait ReplyHeader: Drop + Sized {
         ensures fault { IfErr result (HasAttributeError (decode_attribute reply.attribute_set)
             bytes.now) };
 
-    /// Checks each attribute, or returns the first error. Returns the length that the header and
-    /// the attributes have in canonical form, or `None` if a length does not fit its field. Does
-    /// not allocate.
+    /// Checks each attribute in `bytes`, the bytes after this header, or returns the first error.
+    /// Returns the length that the header and the attributes have in canonical form, or `None` if
+    /// the value of an attribute then has more than 65,531 bytes, or if the whole has more than
+    /// 4,294,967,295 bytes. Does not allocate.
     fn check_len(&self, bytes: &[u8]) -> Result<Option<usize>, DecodeError>
         ensures clean { OnOk result (HasNoAttributeError (decode_attribute reply.attribute_set)
             bytes.now) }
@@ -68,8 +71,8 @@ pub trait ReplyHeader: Drop + Sized {
         ensures fault { IfErr result (HasAttributeError (decode_attribute reply.attribute_set)
             bytes.now) };
 
-    /// Returns whether the headers are equal, and `left` and `right` contain equal attributes in
-    /// the same order.
+    /// Returns whether the headers are equal, and the bytes after them, `left` and `right`, contain
+    /// equal attributes in the same order. Neither may contain a decode error.
     fn is_same(&self, left: &[u8], other: &Self, right: &[u8]) -> bool
         requires left { HasNoAttributeError (decode_attribute reply.attribute_set) left.now }
         requires right { HasNoAttributeError (decode_attribute reply.attribute_set) right.now }
@@ -78,14 +81,15 @@ pub trait ReplyHeader: Drop + Sized {
             (reply_after reply (header_model other.now) right.now) };
 
     /// Returns the length that the header and the attributes in `bytes` have in canonical form.
-    /// Returns `None` if the reply is not writable.
+    /// Returns `None` if the reply is not writable. `bytes` must not contain a decode error.
     fn len_with(&self, bytes: &[u8]) -> Option<usize>
         requires { HasNoAttributeError (decode_attribute reply.attribute_set) bytes.now }
         ensures { let v = reply_after reply (header_model self.now) bytes.now in
             SomeIff result ((response_codec reply).fits v) (length (response_bytes reply v)) };
 
     /// Writes the header and the attributes in `bytes`, in canonical form, at the start of
-    /// `buffer`. The bytes after them are unchanged.
+    /// `buffer`. The bytes after them are unchanged. `bytes` must not contain a decode error, the
+    /// reply must be writable, and the buffer must have at least its length.
     fn emit_with(&self, bytes: &[u8], buffer: &mut [u8])
         requires clean { HasNoAttributeError (decode_attribute reply.attribute_set) bytes.now }
         requires fits { (response_codec reply).fits
@@ -164,9 +168,9 @@ impl<'a, H: ReplyHeader> ReplyView<'a, H> {
     ghost use Rattle.sock_diag_replies.specs.ViewModel.{bytes_after_header};
     ghost use Rattle.sock_diag_replies.specs.ViewModel.{view_bytes, view_model};
 
-    /// Checks all of the bytes, and returns a view of them. Returns the error of the header, or
-    /// else the first error of an attribute. The error is `BufferTooSmall` if the header is
-    /// truncated. Does not allocate.
+    /// Checks all of the bytes, and returns a view of all of them. Returns the error of the header,
+    /// which is `BufferTooSmall` if it is truncated, or else the first error of an attribute. The
+    /// error is never `Memory`. Does not allocate.
     // Out of line, to keep the loop over the attributes out of callers that build a list.
     #[inline(never)]
     pub fn parse(bytes: &'a [u8]) -> Result<ReplyView<'a, H>, DecodeError>
@@ -228,8 +232,12 @@ impl<'a, H: ReplyViews<'a>> ReplyView<'a, H> {
     pub fn walk(bytes: &'a [u8]) -> Result<(H, CheckedNlas<'a, H::View>), DecodeError>
         ensures header { IfOk result (λ parts.
             H.reply.header.reads tt bytes.entry.now ≡ Ok (H.header_model parts.0)) }
+        // The iterator starts at the bytes after the header.
         ensures left { IfOk result (λ parts.
             unchecked_bytes parts.1 ≡ drop H.reply.size bytes.entry.now) }
+        // If the iterator yields exactly the attributes `nlas`, without an error, and then `None`,
+        // the bytes parse as the header and these attributes. `gives`: what one call of `next`
+        // does.
         ensures value { let reply = response_codec
             (record (H.reply) { attribute_set = H.View.FamilyView.attribute_set }) in
             let gives = ⟦<CheckedNlas<'a, H::View> as Iterator>⟧.next_gives in
@@ -239,6 +247,8 @@ impl<'a, H: ReplyViews<'a>> ReplyView<'a, H> {
               header = H.header_model parts.0;
               nlas = map H.View.FamilyView.model nlas;
             })) }
+        // If the iterator yields the attributes `nlas`, and then the error `e`, the bytes are
+        // rejected with `e`.
         ensures refused { let reply = response_codec
             (record (H.reply) { attribute_set = H.View.FamilyView.attribute_set }) in
             let gives = ⟦<CheckedNlas<'a, H::View> as Iterator>⟧.next_gives in
@@ -254,6 +264,8 @@ impl<'a, H: ReplyViews<'a>> ReplyView<'a, H> {
 
     /// Returns an iterator over the attributes, in wire order.
     pub fn attributes(&self) -> AttributeViews<'a, H>
+        // `decoded_in`: what the attributes in the bytes decode to, in order. The iterator has all
+        // attributes of the reply left.
         ensures { let reads = decode_attribute H.View.FamilyView.attribute_set in
             decoded_in reads (unread_attributes result)
             ≡ decoded_in reads (bytes_after_header self.now) }
@@ -354,6 +366,8 @@ impl<'a, H: ReplyViews<'a>> Iterator for AttributeViews<'a, H> {
 
     type Item = H::View;
 
+    // A call yields the first of the attributes that are left, and the ones after it remain. It
+    // returns `None` only if none were left.
     ghost next_gives = { λ old given new. YieldsFirstBy H.View.FamilyView.model (λ walk.
         decoded_in (decode_attribute H.View.FamilyView.attribute_set) (unread_bytes walk)) old.walk
         given
@@ -372,12 +386,16 @@ impl<'a, H: ReplyViews<'a>> Iterator for AttributeViews<'a, H> {
 
     /// Returns the exact number of attributes that were not yielded yet.
     fn size_hint(&self) -> (usize, Option<usize>)
+        // `left`: the attributes that were not yielded yet. The first two clauses are those of the
+        // trait: the lower bound is at most their number, and the upper bound, if there is one, is
+        // at least their number.
         ensures lower { let left = decoded_in (decode_attribute H.View.FamilyView.attribute_set)
             (unread_attributes self.now) in
             IsWithinCount result.0 (at_most (length left)) }
         ensures upper { let left = decoded_in (decode_attribute H.View.FamilyView.attribute_set)
             (unread_attributes self.now) in
             IfSome result.1 (UpTo (at_most (length left))) }
+        // Both bounds are the number of these attributes.
         ensures exact { let left = decoded_in (decode_attribute H.View.FamilyView.attribute_set)
             (unread_attributes self.now) in
             result ≡ (length left, Some (length left)) }

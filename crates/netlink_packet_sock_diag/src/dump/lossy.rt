@@ -26,7 +26,8 @@ impl LossyDump {
     ghost use Rattle.netlink_packet_sock_diag.specs.DumpModel.{lossy_progress};
     ghost use Rattle.netlink_packet_sock_diag.specs.declared.dump.DumpError.TheVariants.{Fault};
 
-    /// Returns a reader that nothing was fed to. It keeps the allocator.
+    /// Returns a reader that nothing was fed to: it has no entries, its state is `Reading`, it has
+    /// no error number, and it is not interrupted. It keeps the allocator.
     pub fn new(alloc: Global) -> Self
         ensures { lossy_progress result ≡ new_dump }
     {
@@ -35,17 +36,27 @@ impl LossyDump {
         }
     }
 
-    /// Reads the messages of a datagram of complete messages, up to the end of the dump. An invalid
-    /// payload becomes an entry with its error. If bytes are not a message (`EnvelopeCut`,
-    /// `EnvelopeLengthUnder16` or `EnvelopeLengthPast`), or if an allocation fails, the entries
-    /// before are kept, and the dump has failed. Feeding a dump that has ended changes nothing.
+    /// Reads the messages of a datagram of complete messages, up to the end of the dump. Each inner
+    /// message before its end becomes an entry: the message, or the decode error of its payload.
+    /// `NLMSG_NOOP` is skipped.
+    ///
+    /// - `Ok`: the datagram has no framing error up to its end or the end of the dump. The state is
+    ///   `Reading`, `Done`, `Error` or `Overrun`.
+    /// - `Err(Fault(e))`: the remaining bytes are not a message (`EnvelopeCut`,
+    ///   `EnvelopeLengthUnder16` or `EnvelopeLengthPast`), or an allocation failed (`Memory`). The
+    ///   entries before it are kept. The state is `Failed`, without an error number.
+    /// - `Err(Ended)`: the dump had already ended. Nothing changes.
     ///
     /// An allocation can fail only at a valid message, or if the list of entries has to grow: the
     /// entry of an invalid message needs a slot in the list too.
     pub fn feed(&mut self, datagram: &[u8]) -> Result<(), DumpError>
+        // `FeedLeadsTo is old datagram new result`: what a call does to the progress of the reader.
+        // `HasLossyEntry`: the item of an inner message is an entry, its value or its decode error.
         ensures leaves { FeedLeadsTo (HasLossyEntry message_codec)
             (lossy_progress self.old) datagram.now
             (lossy_progress self.new) result }
+        // If an allocation failed: it failed at a valid message `m`, or the list of entries has no
+        // free slot after the call.
         ensures memory { result ≡ Err (Fault Memory) → ((m : Message)
             × AllocationFailsAt (HasLossyEntry message_codec) (ok m)
             (lossy_progress self.old) datagram.now
@@ -54,14 +65,14 @@ impl LossyDump {
         self.dump.feed(datagram)
     }
 
-    /// Returns the entries read so far: each message, or the error of an invalid one.
+    /// Returns the entries read so far, in order: each message, or the error of an invalid one.
     pub fn entries(&self) -> &[Result<SockDiagMessage, DecodeError>]
         ensures { result.now ≡ lossy_entries self.now }
     {
         self.dump.kept.as_slice()
     }
 
-    /// Returns the entries, and drops the rest of the reader.
+    /// Returns the entries read so far, in order, and drops the rest of the reader.
     pub fn into_entries(self) -> Vec<Result<SockDiagMessage, DecodeError>>
         ensures { result.items ≡ lossy_entries self }
     {
@@ -75,7 +86,8 @@ impl LossyDump {
         self.dump.standing.0
     }
 
-    /// Returns the error number that the end of the dump carries; see
+    /// Returns the error number that the end of the dump carries: 0 if the dump is complete, else
+    /// `-errno`. Returns `None` while the dump is read, and if its end carries no number. See
     /// [`DumpReader::error_number`](crate::DumpReader::error_number).
     pub fn error_number(&self) -> Option<i32>
         ensures { result ≡ (lossy_progress self.now).error_number }
@@ -83,9 +95,9 @@ impl LossyDump {
         self.dump.standing.1
     }
 
-    /// Returns whether the dump was interrupted; see
-    /// [`DumpReader::is_interrupted`](crate::DumpReader::is_interrupted). The flag of an invalid
-    /// message counts.
+    /// Returns whether the dump was interrupted: a message up to and including its end, valid or
+    /// not, had `NLM_F_DUMP_INTR`. See
+    /// [`DumpReader::is_interrupted`](crate::DumpReader::is_interrupted).
     pub fn is_interrupted(&self) -> bool
         ensures { result ≡ (lossy_progress self.now).is_interrupted }
     {

@@ -59,7 +59,8 @@ pub struct DumpReader {
 impl DumpReader {
     ghost use Rattle.netlink_packet_sock_diag.specs.DumpModel.{reader_progress};
 
-    /// Returns a reader that nothing was fed to. It keeps the allocator.
+    /// Returns a reader that nothing was fed to: it has no messages, its state is `Reading`, it has
+    /// no error number, and it is not interrupted. It keeps the allocator.
     pub fn new(alloc: Global) -> Self
         ensures { reader_progress result ≡ new_dump }
     {
@@ -68,10 +69,19 @@ impl DumpReader {
         }
     }
 
-    /// Reads the messages of a datagram of complete messages, up to the end of the dump. If a
-    /// message is invalid or memory runs out, the messages before it are kept, and the dump has
-    /// failed. Feeding a dump that has ended changes nothing.
+    /// Reads the messages of a datagram of complete messages, up to the end of the dump. The inner
+    /// messages before its end are appended to the messages of the reader, and `NLMSG_NOOP` is
+    /// skipped.
+    ///
+    /// - `Ok`: the datagram has no error up to its end or the end of the dump. The state is
+    ///   `Reading`, `Done`, `Error` or `Overrun`.
+    /// - `Err(Fault(e))`: a message is invalid, the remaining bytes are not a message, or an
+    ///   allocation failed (`Memory`). The messages before it are kept. The state is `Failed`,
+    ///   without an error number.
+    /// - `Err(Ended)`: the dump had already ended. Nothing changes.
     pub fn feed(&mut self, datagram: &[u8]) -> Result<(), DumpError>
+        // `FeedLeadsTo is old datagram new result`: what a call does to the progress of the reader.
+        // `IsItemOf`: the item of a message is its payload, or the decode error of its payload.
         ensures leaves { FeedLeadsTo (IsItemOf message_codec)
             (reader_progress self.old) datagram.now
             (reader_progress self.new) result }
@@ -79,14 +89,14 @@ impl DumpReader {
         self.dump.feed(datagram)
     }
 
-    /// Returns the messages read so far.
+    /// Returns the messages read so far, in order.
     pub fn messages(&self) -> &[SockDiagMessage]
         ensures { map message_model result.now ≡ (reader_progress self.now).messages }
     {
         self.dump.kept.as_slice()
     }
 
-    /// Returns the messages, and drops the rest of the reader.
+    /// Returns the messages read so far, in order, and drops the rest of the reader.
     pub fn into_messages(self) -> Vec<SockDiagMessage>
         ensures { map message_model result.items ≡ (reader_progress self).messages }
     {

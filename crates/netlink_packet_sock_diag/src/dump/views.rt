@@ -68,8 +68,15 @@ impl<'a> MessageView<'a> {
     ghost use Rattle.netlink_packet_sock_diag.specs.PayloadViewModel.{netlink_message_view_model};
 
     /// Parses the message at the start of the bytes. Does not allocate. Bytes after the length of
-    /// the message are ignored. Returns the same errors as
-    /// [`netlink_core::NetlinkMessage::deserialize`].
+    /// the message are ignored.
+    ///
+    /// Returns the first of these errors that applies:
+    ///
+    /// - `EnvelopeCut`, if there are fewer than 16 bytes;
+    /// - `EnvelopeLengthUnder16`, if the length in the header is below 16;
+    /// - `EnvelopeLengthPast`, if that length is above the number of bytes;
+    /// - the error of [`SockDiagView::parse`] for the payload, unless the type is the one of a
+    ///   control message: `NLMSG_NOOP`, `NLMSG_ERROR`, `NLMSG_DONE` or `NLMSG_OVERRUN`.
     #[inline(always)]
     pub fn parse(bytes: &'a [u8]) -> Result<MessageView<'a>, DecodeError>
         ensures value { IfOk result (λ view.
@@ -143,7 +150,8 @@ impl<'a> Iterator for DumpViews<'a> {
     ghost remaining = { λ walk. at_most ((length (unread_views walk) + 15) / 16) };
 
     /// Returns the payload of the next message, or its error. If the remaining bytes are not a
-    /// message, the error is the one that [`NetlinkHeader::from_prefix`] returns for them.
+    /// message, the error is the one that [`NetlinkHeader::from_prefix`] returns for them, and no
+    /// bytes are left. Returns `None` if no bytes are left.
     #[inline(always)]
     fn next(&mut self) -> Option<Result<PayloadView<'a>, DecodeError>> {
         match self.messages.next()? {
@@ -154,10 +162,14 @@ impl<'a> Iterator for DumpViews<'a> {
 
     /// Returns `(0, None)`: only iterating shows how many messages are left.
     fn size_hint(&self) -> (usize, Option<usize>)
+        // `at_most n`: at most `n` items are left, one for each 16 bytes, rounded up. The first two
+        // clauses are those of the trait: the lower bound is at most this `n`, and the upper bound,
+        // if there is one, is at least this `n`.
         ensures lower { IsWithinCount result.0
             (at_most ((length (unread_views self.now) + 15) / 16)) }
         ensures upper { IfSome result.1
             (UpTo (at_most ((length (unread_views self.now) + 15) / 16))) }
+        // The result is always this one.
         ensures unknown { result ≡ (0, None) }
     {
         (0, None)

@@ -1,4 +1,10 @@
 //! Building a request.
+//!
+//! The contract of `request` lists its bytes. The netlink header: length 40, type 20
+//! (`SOCK_DIAG_BY_FAMILY`), flags 0x301 (`NLM_F_REQUEST` and `NLM_F_DUMP`), sequence number and
+//! port id 0. Then `struct unix_diag_req`: family 1 (`AF_UNIX`), protocol 0, padding, states 0x400
+//! (bit 10, `TCP_LISTEN`), inode 0, show 1 (`UDIAG_SHOW_NAME`), and a cookie of all ones. The
+//! numbers are little-endian.
 
 ghost use Rattle.std.specs.Prelude.{◌≡◌, [], ◌∷◌, ◌++◌, replicate};
 

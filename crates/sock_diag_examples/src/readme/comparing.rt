@@ -9,22 +9,28 @@ ghost use Rattle.sock_diag_examples.specs.Readme.{IsUnixReply};
 use netlink_core::{DecodeError, Emitable};
 use netlink_packet_sock_diag::unix::UnixResponseView;
 
-/// Returns whether two replies have the same header and the same attributes, except for ignored
-/// bits such as padding.
+/// Returns whether two replies about UNIX sockets have the same header and the same attributes in
+/// the same order, except for ignored bits such as padding. Returns the decode error of the first
+/// reply if it is invalid, or else the error of the second.
 pub fn tell_the_same(one: &[u8], other: &[u8]) -> Result<bool, DecodeError>
     ensures value { IfOk result (λ same.
         IsTrue same ↔ (response_codec unix_response_spec).idle tt one.now
         other.now) }
     ensures accepted { OnOk result (IsUnixReply one.now × IsUnixReply other.now) }
+    // `IsUnixReply`: the bytes are a valid reply about a UNIX socket.
     ensures fault { IfErr result (λ e. (response_codec unix_response_spec).refuses one.now tt e
         ⊎ (IsUnixReply one.now × (response_codec unix_response_spec).refuses other.now tt e)) }
 {
     Ok(UnixResponseView::parse(one)? == UnixResponseView::parse(other)?)
 }
 
-/// Serializes the canonical form of a reply at the start of a buffer. Returns the number of bytes,
-/// or `None` if the reply can't be serialized or the buffer is too short.
+/// Serializes the canonical form of a reply about a UNIX socket at the start of a buffer, and
+/// returns its number of bytes. The bytes of the buffer after it are unchanged. Returns `None` if
+/// the reply is not writable or the buffer is too short; the buffer is unchanged. Returns the first
+/// decode error if the reply is invalid.
 pub fn rewrite(bytes: &[u8], buffer: &mut [u8]) -> Result<Option<usize>, DecodeError>
+    // `v`: the value that the reply parses as. If the result is `None` and `v` is writable, the
+    // buffer is shorter than the bytes of `v`.
     ensures value { IfOk result (λ written. (v : ReplyValue unix_response_spec)
         × (response_codec unix_response_spec).reads bytes.now tt v
         × MatchOption written

@@ -6,8 +6,10 @@ use netlink_core::DecodeError;
 use netlink_packet_sock_diag::constants::TCP_LISTEN;
 use netlink_packet_sock_diag::{DumpViews, PayloadView, SockDiagView};
 
-/// Returns the number of replies about listening UNIX sockets in a datagram, or `None` if the
-/// kernel reports that its dump failed or that data was lost.
+/// Returns the number of replies about listening UNIX sockets in a datagram, up to the message that
+/// ends the dump, if there is one. Returns `None` if the kernel reports that its dump failed or
+/// that data was lost: that message is `NLMSG_ERROR`, `NLMSG_OVERRUN`, or `NLMSG_DONE` without an
+/// error number 0. Returns the first decode error before that message.
 pub fn listening(datagram: &[u8]) -> Result<Option<usize>, DecodeError>
     ensures { IsCounted datagram.now result }
 {

@@ -1,4 +1,8 @@
 //! Parsing a borrowed reply.
+//!
+//! `path` returns the path in the first `UNIX_DIAG_NAME` of a reply about a UNIX socket. It returns
+//! `None` if the reply has no such attribute, if the name is abstract, or for a reply about an IPv4
+//! or IPv6 socket. It returns the first decode error if the payload is rejected.
 
 ghost use Rattle.std.specs.Prelude.{◌≡◌, IfOk, IfErr};
 ghost use Rattle.netlink_packet_sock_diag.specs.Message.{Message, message_codec};

@@ -13,8 +13,11 @@ use netlink_packet_sock_diag::unix::{UnixResponse, UnixResponseHeader};
 use smallvec::SmallVec;
 use std::alloc::{AllocError, Global};
 
-/// Returns a reply about a stream socket that listens at a path.
+/// Returns a reply about a stream socket that listens at a path. Its cookie is zeros, and its only
+/// attribute is `UNIX_DIAG_NAME`. The path is not checked: the reply is in normal form only if the
+/// path is not empty and contains no NUL. Fails only if an allocation fails.
 pub fn listener(alloc: Global, inode: u32, path: &[u8]) -> Result<UnixResponse, AllocError>
+    // The type is 1 (SOCK_STREAM), and the state is 10 (TCP_LISTEN).
     ensures header { IfOk result
         (λ reply. reply.header ≡ record {
           kind = 1;
@@ -22,6 +25,7 @@ pub fn listener(alloc: Global, inode: u32, path: &[u8]) -> Result<UnixResponse, 
           inode = inode;
           cookie = replicate 8 0;
         }) }
+    // `value_as_decoded`: a value of this kind, as a decoded attribute of the set.
     ensures name { IfOk result
         (λ reply. (unix_response_model reply).nlas
         ≡ value_as_decoded unix_attribute_set UNIX_DIAG_NAME

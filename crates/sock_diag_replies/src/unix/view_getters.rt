@@ -23,8 +23,8 @@ impl<'a> UnixResponseView<'a> {
           unix_response_view_model,
     };
 
-    /// Returns the inode of the peer: the value of the first `Peer` (`UNIX_DIAG_PEER`), if there is
-    /// one.
+    /// Returns the inode of the peer: the value of the first `Peer` (`UNIX_DIAG_PEER`). Returns
+    /// `None` if there is no such attribute.
     pub fn peer(&self) -> Option<u32>
         ensures { result
             ≡ first_content_of (value_of_kind unix_attribute_set UNIX_DIAG_PEER)
@@ -36,8 +36,8 @@ impl<'a> UnixResponseView<'a> {
         })
     }
 
-    /// Returns the name of the socket: the value of the first `Name` (`UNIX_DIAG_NAME`), if there
-    /// is one.
+    /// Returns the name of the socket: the value of the first `Name` (`UNIX_DIAG_NAME`). Returns
+    /// `None` if there is no such attribute.
     pub fn name(&self) -> Option<NameView<'a>>
         ensures { option_map (socket_name_model (λ b. b.now)) result
             ≡ first_content_of (value_of_kind unix_attribute_set UNIX_DIAG_NAME)
@@ -50,7 +50,7 @@ impl<'a> UnixResponseView<'a> {
     }
 
     /// Returns the inodes of the connections that wait to be accepted: the value of the first
-    /// `PendingConnections` (`UNIX_DIAG_ICONS`), if there is one.
+    /// `PendingConnections` (`UNIX_DIAG_ICONS`). Returns `None` if there is no such attribute.
     pub fn pending_connections(&self) -> Option<NumbersView<'a>>
         ensures { option_map numbers_view_model result
             ≡ first_content_of (value_of_kind unix_attribute_set UNIX_DIAG_ICONS)
@@ -63,7 +63,8 @@ impl<'a> UnixResponseView<'a> {
     }
 
     /// Returns the directions that are shut down (1 for receiving, 2 for sending, 3 for both): the
-    /// value of the first `Shutdown` (`UNIX_DIAG_SHUTDOWN`), if there is one.
+    /// value of the first `Shutdown` (`UNIX_DIAG_SHUTDOWN`). Returns `None` if there is no such
+    /// attribute.
     pub fn shutdown_state(&self) -> Option<u8>
         ensures { result
             ≡ first_content_of (value_of_kind unix_attribute_set UNIX_DIAG_SHUTDOWN)
@@ -84,15 +85,16 @@ impl<'a> UnixResponseView<'a> {
     ghost use Rattle.sock_diag_replies.specs.UnixGetters.{listening_queue_of};
     ghost use Rattle.sock_diag_replies.specs.UnixGetters.{nonlistening_queue_of};
 
-    /// Returns the number of connections that wait to be accepted, if the socket listens (state
-    /// `TCP_LISTEN`): the first number of the first `ReceiveQueueLength` (`udiag_rqueue` of
-    /// `unix_diag_rqlen`).
+    /// Returns the number of connections that wait to be accepted: the first number of the first
+    /// `ReceiveQueueLength` (`udiag_rqueue` of `unix_diag_rqlen`). Returns `None` if the socket
+    /// does not listen (its state is not `TCP_LISTEN`), or if there is no such attribute.
     ///
     /// If the result is a `Some`, [`receive_queue_size`](Self::receive_queue_size) and
     /// [`send_queue_size`](Self::send_queue_size) return `None`.
     pub fn number_of_pending_connection(&self) -> Option<u32>
         ensures value { result ≡ option_map (λ ns. ns.0)
             (listening_queue_of (unix_response_view_model self.now)) }
+        // `nonlistening_queue_of`: what the getters of the other two numbers read.
         ensures alone { IsSome result → nonlistening_queue_of (unix_response_view_model self.now)
             ≡ None }
     {
@@ -100,8 +102,9 @@ impl<'a> UnixResponseView<'a> {
         Some(waiting)
     }
 
-    /// Returns the limit on the connections that wait to be accepted, if the socket listens: the
-    /// second number of the first `ReceiveQueueLength` (`udiag_wqueue` of `unix_diag_rqlen`).
+    /// Returns the limit on the connections that wait to be accepted: the second number of the
+    /// first `ReceiveQueueLength` (`udiag_wqueue` of `unix_diag_rqlen`). Returns `None` if the
+    /// socket does not listen (its state is not `TCP_LISTEN`), or if there is no such attribute.
     pub fn max_number_of_pending_connection(&self) -> Option<u32>
         ensures { result ≡ option_map (λ ns.
             ns.1) (listening_queue_of (unix_response_view_model self.now)) }
@@ -135,8 +138,9 @@ impl<'a> UnixResponseView<'a> {
         }
     }
 
-    /// Returns the number of bytes that wait to be read, if the socket does not listen: the first
-    /// number of the first `ReceiveQueueLength` (`udiag_rqueue` of `unix_diag_rqlen`).
+    /// Returns the number of bytes that wait to be read: the first number of the first
+    /// `ReceiveQueueLength` (`udiag_rqueue` of `unix_diag_rqlen`). Returns `None` if the socket
+    /// listens (its state is `TCP_LISTEN`), or if there is no such attribute.
     pub fn receive_queue_size(&self) -> Option<u32>
         ensures { result ≡ option_map (λ ns.
             ns.0) (nonlistening_queue_of (unix_response_view_model self.now)) }
@@ -145,9 +149,9 @@ impl<'a> UnixResponseView<'a> {
         Some(received)
     }
 
-    /// Returns the memory in bytes of sent data that was not read yet, if the socket does not
-    /// listen: the second number of the first `ReceiveQueueLength` (`udiag_wqueue` of
-    /// `unix_diag_rqlen`).
+    /// Returns the memory in bytes of sent data that was not read yet: the second number of the
+    /// first `ReceiveQueueLength` (`udiag_wqueue` of `unix_diag_rqlen`). Returns `None` if the
+    /// socket listens (its state is `TCP_LISTEN`), or if there is no such attribute.
     pub fn send_queue_size(&self) -> Option<u32>
         ensures { result ≡ option_map (λ ns.
             ns.1) (nonlistening_queue_of (unix_response_view_model self.now)) }
@@ -165,6 +169,7 @@ impl<'a> UnixResponseView<'a> {
 
     /// Returns the size of the send buffer in bytes, which limits the size of a datagram: the field
     /// `max_datagram_size` of the first `MemInfo` (`SK_MEMINFO_SNDBUF` of `UNIX_DIAG_MEMINFO`).
+    /// Returns `None` if there is no such attribute.
     pub fn max_datagram_size(&self) -> Option<u32>
         ensures { result ≡ option_map (λ info. info.max_datagram_size)
             (first_content_of (value_of_kind unix_attribute_set UNIX_DIAG_MEMINFO)
@@ -175,7 +180,7 @@ impl<'a> UnixResponseView<'a> {
 
     /// Returns the field `alloc` of the first `MemInfo` (`SK_MEMINFO_WMEM_QUEUED` of
     /// `UNIX_DIAG_MEMINFO`): the memory of the data that is queued to be sent, in bytes. Linux
-    /// reports 0 here for a UNIX socket.
+    /// reports 0 here for a UNIX socket. Returns `None` if there is no such attribute.
     pub fn memory_used_for_outgoing_data(&self) -> Option<u32>
         ensures { result ≡ option_map (λ info. info.alloc)
             (first_content_of (value_of_kind unix_attribute_set UNIX_DIAG_MEMINFO)
