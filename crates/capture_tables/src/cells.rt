@@ -77,8 +77,8 @@ pub fn push_column(text: &mut Vec<u8>, width: usize, content: &[u8]) -> Result<(
     end_column(text, start, width)
 }
 
-/// Appends a column of `width` bytes, as [`push_column`] does, with a number in decimal, or with
-/// `-` for `None`.
+/// Appends a column, padded to `width` bytes as by [`push_column`], with a number in decimal, or
+/// with `-` for `None`.
 pub fn push_number_column(
     text: &mut Vec<u8>,
     width: usize,
@@ -111,8 +111,9 @@ pub struct Cells {
     pub uid: Option<u32>,
 }
 
-/// Appends the first columns of a line, which are all except the two addresses: Netid (5 bytes and
-/// a space), State (10), Recv-Q (6), Send-Q (6), Inode (10) and Uid (5).
+/// Appends the columns before the two addresses, each padded with spaces to its width and followed
+/// by one more space; longer content is not truncated. Netid (width 5); State (10), its name as in
+/// ss(8); Recv-Q (6), Send-Q (6), Inode (10) and Uid (5), in decimal, or `-` for `None`.
 pub fn push_first_columns(text: &mut Vec<u8>, cells: &Cells) -> Result<(), AllocError>
     ensures { OnOk result (text.new.items ≡ text.old.items
         ++ first_columns (cells_model cells.now)) }
@@ -159,7 +160,7 @@ pub fn push_peer(text: &mut Vec<u8>, inode: Option<u32>) -> Result<(), AllocErro
     }
 }
 
-/// Appends a column of `width` bytes, as [`push_column`] does, with an address and a port, as
+/// Appends a column, padded to `width` bytes as by [`push_column`], with an address and a port, as
 /// [`push_endpoint`] writes them.
 pub fn push_endpoint_column(
     text: &mut Vec<u8>,

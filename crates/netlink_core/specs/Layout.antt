@@ -46,6 +46,7 @@ plain name least rows value is_shaped = record {
   is_own = λ param value. ⊤;
 }
 
+-- for a layout, the fields of a tag, and what is parsed, serialized and compared by them
 module _ {Param Tag Value : Type 0} (layout : Layout Param Tag Value) where
   -- the fields for a tag
   abbrev pub tag_fields : Tag → List Field

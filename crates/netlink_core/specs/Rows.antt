@@ -9,6 +9,7 @@ use Rattle.netlink_core.specs.Table.{bytes_at, first_numbers}
 abbrev pub Row : Type 0 → Type 0
 Row Value = List Field × (Value → List ℕ)
 
+-- `Value` is the Rust type of the record
 module _ {Value : Type 0} where
   -- the fields of all rows
   abbrev pub fields_of : List (Row Value) → List Field

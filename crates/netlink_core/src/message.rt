@@ -191,6 +191,8 @@ impl<I: NetlinkSerializable> NetlinkPayload<I> {
     /// Returns the message type for the header: `NLMSG_DONE`, `NLMSG_ERROR`, `NLMSG_NOOP`,
     /// `NLMSG_OVERRUN`, or the type of the inner message.
     pub fn message_type(&self) -> u16
+        // payload_type type_of payload: the constant NLMSG_.. of a control message, or `type_of` of
+        // the inner message. `I.type_written` is what `message_type` of the inner message returns.
         ensures { result ≡ payload_type I.type_written (payload_model vec_items I.model self.now) }
     {
         match self {

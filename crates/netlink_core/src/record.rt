@@ -174,6 +174,7 @@ impl<T, const N: usize> Clone for RecordBuffer<T, N> {
     }
 }
 
+// In contracts a buffer is the list of its bytes: `self.now` is this list, not the struct.
 impl<T, const N: usize> Model for RecordBuffer<T, N> {
     ghost Value = { List ℕ };
 

@@ -16,6 +16,9 @@ use Rattle.netlink_packet_sock_diag.specs.declared.dump.DumpState.TheVariants.{O
 abbrev pub DumpStatus : Type 0
 DumpStatus = DumpState × Option ℤ
 
+-- `A` is the type of inner messages. An `Item A` is `Ok` and the payload of a message, or `Err` and
+-- its decode error. `payload.Done`, `payload.Error` and `payload.Overrun` are payloads; `Done`,
+-- `Error`, `Overrun` and `Reading` are states of a dump.
 module _ {A : Type 0} where
   -- the inner message of an item, as a list of one or no message
   abbrev pub inner_message_list : Item A → List A

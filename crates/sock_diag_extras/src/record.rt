@@ -17,8 +17,8 @@ pub trait AttributeRecord: Sized {
     fn size() -> usize
         ensures { result ≡ layout.size };
 
-    /// Parses the start of the bytes, which are at least `size()`. The bytes that follow are
-    /// ignored.
+    /// Parses the record at the start of the bytes, of which there must be at least `size()`. The
+    /// bytes after the record are ignored.
     fn from_fields(bytes: &[u8]) -> Self
         requires { layout.size ≤ length bytes.now }
         ensures { result ≡ parse_by_table layout bytes.now };

@@ -45,8 +45,11 @@ name_entry UnixView = let replies = record (response_codec unix_response_spec) {
 abbrev pub IsRequest : List ℕ → Name → List ℕ → Type 0
 IsRequest line name b = (hex : List ℕ) × (line ≡ (name_entry name).0 ++ 32 ∷ hex) × IsHexField hex b
 
--- The text answers the line. If the line is a name and a hex field, it answers the bytes. If it is
--- a dump over datagrams, it answers the dump. Else it is `bad line`.
+-- The text answers the line. A line `NAME HEX` is answered by `ok ` and the text of the value of
+-- these bytes, by `unwritable`, or by `refused ` and the code of the first error (`IsAnswerUnder`;
+-- `(name_entry n).1` is the codec, its parameter, and the text of a value). A line `dump HEX HEX
+-- ..` is answered by `ok `, the state, the number of messages and the messages, or by `unwritable`
+-- (`IsDumpAnswer`). Every other line is answered by `bad line`.
 pub record IsAnswerOf (line text : List ℕ) : Type 0 where
   -- if the line is a name and a hex field
   pub asked : (n : Name) (b : List ℕ) → IsRequest line n b → IsAnswerUnder (name_entry n).1 b text
@@ -56,6 +59,7 @@ pub record IsAnswerOf (line text : List ℕ) : Type 0 where
   pub other : ((name : Name) (b : List ℕ) → ¬ IsRequest line name b)
       → ((datagrams : List (List ℕ)) → ¬ IsDumpRequest line datagrams) → text ≡ codes "bad line"
 
--- the answer starts with `ok `, and not with `ok failed`, which only the answer to a dump does
+-- the answer starts with `ok `, and not with `ok failed`; only the answer to a dump can start with
+-- `ok failed`
 abbrev pub is_good : List ℕ → Bool
 is_good text = starts_with eqb text (codes "ok ") && not (starts_with eqb text (codes "ok failed"))
