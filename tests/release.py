@@ -6,8 +6,8 @@ Needs no kit, and takes seconds.
 - Two copies at different paths, with other times and modes of files, are packed to the same bytes.
 - Each file has its SHA-256 sum.
 - The pages of the archive for users have no broken link, by the rule of tests/links.py.
-- In the unpacked archive tools/install installs the listed files, and examples/list_sockets.c can
-  be built (skipped without a C compiler).
+- In the unpacked archive tools/install installs the listed files, and the examples in C and Rust
+  can be built (skipped without a C compiler; the one in Rust also without cargo).
 - The packages can be installed into another root and removed from it (skipped without dpkg, or for
   users other than root), and their sums match.
 - Without dpkg-deb tools/pack makes no packages. It fails if a file is missing, or if CHANGELOG.md
@@ -18,6 +18,7 @@ Needs no kit, and takes seconds.
 Prints what differs, and which parts it skips. The exit status is 1 if anything differs.
 """
 import hashlib
+import io
 import os
 import re
 import shutil
@@ -78,6 +79,8 @@ INSTALLED = [
 ]
 # The commands that tools/pack needs, except dpkg-deb.
 COMMANDS = "cat date dirname find gzip install mkdir mktemp rm sed sh sha256sum stat tar".split()
+# Start of a gzip file without a name and a time.
+GZIP = b"\x1f\x8b\x08" + bytes(5)
 CC = shutil.which(os.environ.get("CC", "cc"))
 failed = []
 
@@ -179,9 +182,7 @@ def check_archives(folder, time):
     names = check_members(folder / f"{PROOFS}.tar.gz", PROOFS, IN_PROOFS, (), time)
     expect("first member", names[0], f"{PROOFS}/KIT")
     for name in (f"{USERS}.tar.gz", f"{PROOFS}.tar.gz"):
-        # Without the flag for a name, and with the time 0.
-        head = (folder / name).read_bytes()[:8]
-        expect(f"{name}: gzip header", head, b"\x1f\x8b\x08" + bytes(5))
+        expect(f"{name}: gzip header", (folder / name).read_bytes()[:8], GZIP)
 
 
 def check_same(one, other):
@@ -197,8 +198,8 @@ def check_same(one, other):
 
 def check_unpacked(folder, room):
     """Checks the links in the archive for users, and installs it."""
-    with tarfile.open(folder / f"{USERS}.tar.gz") as archive:
-        archive.extractall(room)
+    room.mkdir()
+    expect("tar", run("tar", "-xzf", folder / f"{USERS}.tar.gz", "-C", room).stderr, "")
     top = room / USERS
     dead, pages = dead_links(top)
     expect("broken links", dead, [])
@@ -230,9 +231,22 @@ def check_unpacked(folder, room):
         done = run("make", "-C", top / "examples",
                    env={**os.environ, "PKG_CONFIG_PATH": f"{prefix}/lib/pkgconfig"})
         expect("make -C examples", (done.returncode, done.stderr), (0, ""))
+    if shutil.which("cargo"):
+        env = {**os.environ, "CARGO_TARGET_DIR": f"{room}/target"}
+        env.pop("SOCKDIAG_LIB_DIR", None)
+        done = run("cargo", "build", "--offline", "--quiet", "--example", "list_sockets",
+                   cwd=top / "rust/sockdiag", env=env)
+        expect("cargo build", (done.returncode, done.stderr), (0, ""))
 
 
-def check_debs(folder, room):
+def deb_members(path):
+    """Returns the members of a package."""
+    data = subprocess.run(["dpkg-deb", "--fsys-tarfile", path], stdout=subprocess.PIPE).stdout
+    with tarfile.open(fileobj=io.BytesIO(data)) as archive:
+        return archive.getmembers()
+
+
+def check_debs(folder, room, time):
     """Unpacks and compares the packages, and installs and removes them in another root."""
     room.mkdir()
     for name, expected in IN_DEBS.items():
@@ -246,10 +260,13 @@ def check_debs(folder, room):
         expect_files(f"{name}: md5sums", [it[34:] for it in sums], expected)
         wrong = run("md5sum", "-c", "--quiet", "DEBIAN/md5sums", cwd=root)
         expect(f"{name}: sums", (wrong.stdout, wrong.stderr), ("", ""))
-        listed = run("dpkg-deb", "-c", folder / name).stdout.splitlines()
-        expect(f"{name}: owner", {it.split()[1] for it in listed}, {"root/root"})
-        modes = {it.split()[0] for it in listed}
-        expect(f"{name}: modes", modes - {"drwxr-xr-x", "-rwxr-xr-x", "-rw-r--r--"}, set())
+        for it in deb_members(folder / name):
+            mode = 0o755 if it.isdir() or "/bin/" in it.name else 0o644
+            expect(f"{name}: owner, mode and time of {it.name}",
+                   (it.uid, it.gid, oct(it.mode), it.mtime), (0, 0, oct(mode), time))
+        for it in files:
+            if it.endswith(".gz"):
+                expect(f"{name}: gzip header of {it}", (root / it).read_bytes()[:8], GZIP)
         fields = run("dpkg-deb", "-f", folder / name).stdout
         depends = "libc6 (>= 2.34)" if name == PROGRAMS_DEB else "libc6-dev"
         for field, value in (("Package", package), ("Version", VERSION), ("Architecture", "amd64"),
@@ -279,6 +296,18 @@ def check_debs(folder, room):
     expect("left files", [it for it in files_below(root) if not it.startswith("var/")], [])
 
 
+def check_dates(top, built, room):
+    """Runs tools/pack with a time in the past and one in the future."""
+    for time in (86400, 2**32):
+        folder = room / f"{time}"
+        done = pack(top, built, folder, SOURCE_DATE_EPOCH=f"{time}")
+        expect(f"SOURCE_DATE_EPOCH={time}", done.returncode, 0)
+        with tarfile.open(folder / f"{USERS}.tar.gz") as archive:
+            expect(f"{USERS}: times", {it.mtime for it in archive}, {time})
+        for name in IN_DEBS if shutil.which("dpkg-deb") else ():
+            expect(f"{name}: times", {it.mtime for it in deb_members(folder / name)}, {time})
+
+
 def check_failures(top, built, room):
     """Runs tools/pack without dpkg-deb, without a file, and without a date."""
     commands = room / "commands"
@@ -291,11 +320,6 @@ def check_failures(top, built, room):
     archives = [it for it in PACKED if it.endswith(".tar.gz")]
     expect_files("without dpkg-deb", files_below(room / "plain"),
                  [*archives, *[f"{it}.sha256" for it in archives]])
-
-    done = pack(top, built, room / "dated", SOURCE_DATE_EPOCH="86400")
-    expect("SOURCE_DATE_EPOCH", done.returncode, 0)
-    with tarfile.open(room / "dated" / f"{USERS}.tar.gz") as archive:
-        expect("times", {it.mtime for it in archive}, {86400})
 
     (top / "docs/LINES.md").rename(top / "docs/OTHER.md")
     expect("without a page", pack(top, built, room / "less").returncode != 0, True)
@@ -357,15 +381,18 @@ def main():
             done = pack(top, built, room / folder, SOURCE_DATE_EPOCH="", **given)
             errors = done.stderr if shutil.which("dpkg-deb") else ""
             expect(f"tools/pack, {folder} time", (done.returncode, errors), (0, ""))
+        if failed:
+            return 1
         day = re.search(rf"\[{re.escape(VERSION)}\] - (\S+)", (one / "CHANGELOG.md").read_text())[1]
         time = int(run("date", "-u", "-d", day, "+%s").stdout)
         check_archives(room / "first", time)
         check_same(room / "first", room / "second")
         check_unpacked(room / "first", room / "unpacked")
         if shutil.which("dpkg-deb"):
-            check_debs(room / "first", room / "debs")
+            check_debs(room / "first", room / "debs", time)
         else:
             print("release: dpkg-deb not found; the packages are not tested")
+        check_dates(one, built, room)
         check_failures(one, built, room)
     print(f"{len(failed)} comparisons failed")
     return 1 if failed else 0
