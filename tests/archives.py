@@ -2,10 +2,11 @@
 """Runs tools/start, tools/release and tools/vendor in small repositories, with archives made here and
 an rt that proves nothing. Needs no kit, and takes seconds.
 
-- Of the archive of a release tools/start unpacks only proof results of libraries that have none.
-- It ignores an archive with a link, a device, a path out of the archive's folder or any other file
-  below crates/, such as a program or a built library, and one that is damaged, of another version
-  or by another kit. Then nothing is unpacked. In each case the program that runs is built here.
+- Of the archive of proof results tools/start unpacks only those of libraries that have none.
+- It ignores an archive with a link, a device, a path out of the archive's folder or any file that
+  is not a proof result, such as a program or a built library, and one that is damaged, of another
+  version or by another kit. Then nothing is unpacked. In each case the program that runs is built
+  here.
 - Proof results are moved in place only if all were unpacked. A later run goes on after a run that
   was killed.
 - It takes the archive that tools/release packs. tools/release refuses a kit with another logic
@@ -26,7 +27,7 @@ import tempfile
 
 TOP = os.path.dirname(os.path.dirname(os.path.realpath(__file__)))
 VERSION, LOGIC = "7.8.9", "0123456789abcdef"
-WHOLE = f"sockdiag-{VERSION}"
+WHOLE = f"sockdiag-{VERSION}-proofs"
 KIT = f"rattle-kit-1 logic {LOGIC}"
 PORT = ["netlink_core", "attribute_lists", "sock_diag_values", "sock_diag_records",
         "sock_diag_attributes", "sock_diag_replies", "netlink_packet_sock_diag"]
@@ -91,7 +92,7 @@ def files_below(folder):
 
 def repository(top, crates):
     """Makes a repository with these crates, by name with their dependencies, and the tools."""
-    for tool in ("start", "release", "vendor"):
+    for tool in ("install", "pack", "release", "start", "vendor"):
         os.makedirs(f"{top}/tools", exist_ok=True)
         shutil.copy(f"{TOP}/tools/{tool}", f"{top}/tools/{tool}")
     write(f"{top}/VERSION", f"{VERSION}\n")
@@ -120,10 +121,10 @@ def proof(crate, whole=WHOLE):
 
 
 def release(whole=WHOLE, kit=KIT):
-    """Returns the members of a right archive, as tools/release makes it."""
+    """Returns the members of a right archive, as tools/pack makes it."""
     folders = [member(f"{whole}/crates/{crate}/{PROOFS}", type=tarfile.DIRTYPE)
                for crate in LIBRARIES]
-    return [member(f"{whole}/KIT", f"{kit}\n"), member(f"{whole}/bin/sslist", "not taken"),
+    return [member(f"{whole}/KIT", f"{kit}\n"), member(f"{whole}/LICENSE-MIT", "licence\n"),
             *folders, *[proof(crate, whole) for crate in LIBRARIES]]
 
 
@@ -236,6 +237,8 @@ def refuses_tampered(room):
     program = "#!/bin/sh\necho from the archive\n"
     dirty = [
         ("program", member(f"{WHOLE}/crates/sslist/out/sslist", program, mode=0o755), "result"),
+        ("program of a release", member(f"{WHOLE}/bin/sslist", program, mode=0o755), "result"),
+        ("file at the top", member(f"{WHOLE}/crates.txt", "other crates\n"), "result"),
         ("stamp", member(f"{WHOLE}/crates/sslist/out/sslist.stamp", "right"), "result"),
         ("library", member(f"{crate}/out/rlib/low.rlib/toolchain/mir.json", "code"), "result"),
         ("source", member(f"{crate}/src/lib.rt", "other code"), "result"),
@@ -273,7 +276,7 @@ def refuses_stale(room):
     expect(start.case, "messages", start.run(), ignored(reason))
     start.expect_calls({})
 
-    for case, members in (("other version", release(whole="sockdiag-1.2.3")),
+    for case, members in (("other version", release(whole="sockdiag-1.2.3-proofs")),
                           ("no kit", release()[1:])):
         start = Start(room, case)
         pack(start.archive, members)
@@ -282,7 +285,7 @@ def refuses_stale(room):
 
     start = Start(room, "kit of this version, rest of another")
     pack(start.archive, [*release()[:1], *release(whole="sockdiag-1.2.3")[1:]])
-    reason = f"'sockdiag-1.2.3/bin/sslist' is not a path in {WHOLE}"
+    reason = f"'sockdiag-1.2.3/LICENSE-MIT' is not a path in {WHOLE}"
     expect(start.case, "messages", start.run(), ignored(reason))
     start.expect_calls({})
 
@@ -351,10 +354,12 @@ def packs_release(room):
     start = Start(room, "release")
     top = f"{room}/release"
     repository(top, {"low": [], "high": ["low"], "sockdiag": ["low"], "sslist": ["high"]})
-    for file in ("README.md", "CHANGELOG.md", "docs/page", "include/header", "examples/code",
-                 "rust/code", "tools/install", "crates/sockdiag_c/out/libsockdiag_c.a",
-                 "tests/version.py"):
+    for file in ("INSTALL.md", "docs/CAPTURE.md", "docs/KERNELS.md", "docs/LINES.md",
+                 "examples/Makefile", "examples/list_sockets.c", "include/sockdiag.h",
+                 "man/sockdiag.1", "man/sockdiag.3", "man/sslist.1", "rust/sockdiag/code",
+                 "crates/sockdiag_c/out/libsockdiag_c.a", "tests/version.py"):
         write(f"{top}/{file}", "")
+    write(f"{top}/CHANGELOG.md", f"## [{VERSION}] - 2026-01-02\n")
     for script in ("c_face.sh", "rust_face.sh"):
         write(f"{top}/tests/{script}", "#!/bin/sh\n", 0o755)
     # A second name of a file, which the archive must not have as a link.
@@ -363,15 +368,18 @@ def packs_release(room):
     env = {**os.environ, "PATH": f"{start.outer}/bin:{os.environ['PATH']}",
            "FAKE_LOG": f"{room}/release_log"}
     words = {"capture_output": True, "text": True}
-    run = subprocess.run([f"{top}/tools/release", start.archive], env=env, **words)
-    expect(start.case, "exit status of tools/release", (run.returncode, run.stderr), (0, ""))
+    run = subprocess.run([f"{top}/tools/release", f"{room}/packed"], env=env, **words)
+    errors = run.stderr if shutil.which("dpkg-deb") else ""
+    expect(start.case, "exit status of tools/release", (run.returncode, errors), (0, ""))
+    for name in (f"{WHOLE}.tar.gz", f"{WHOLE}.tar.gz.sha256"):
+        shutil.copy(f"{room}/packed/{name}", f"{start.top}/{name}")
     expect(start.case, "messages", start.run(), USED)
     start.expect_calls({it: f"proved here: {it}" for it in LIBRARIES})
     two = text_of(f"{start.top}/crates/low/{PROOFS}/build/two")
     expect(start.case, "file with two names", two, "one\n")
 
     env["FAKE_KIT"] = "rattle-kit-2 logic fedcba9876543210"
-    run = subprocess.run([f"{top}/tools/release", f"{room}/other.tar.gz"], env=env, **words)
+    run = subprocess.run([f"{top}/tools/release", f"{room}/other"], env=env, **words)
     text = f"tools/release: rt version does not print logic {LOGIC}\n"
     expect("release with another kit", "result", (run.returncode, run.stderr), (1, text))
 
