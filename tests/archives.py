@@ -354,7 +354,8 @@ def packs_release(room):
     start = Start(room, "release")
     top = f"{room}/release"
     repository(top, {"low": [], "high": ["low"], "sockdiag": ["low"], "sslist": ["high"]})
-    for file in ("INSTALL.md", "docs/CAPTURE.md", "docs/KERNELS.md", "docs/LINES.md",
+    for file in ("INSTALL.md", "docs/C.md", "docs/CAPTURE.md", "docs/KERNELS.md",
+                 "docs/LINES.md", "docs/MIGRATING.md", "docs/RUST.md",
                  "examples/Makefile", "examples/list_sockets.c", "include/sockdiag.h",
                  "man/sockdiag.1", "man/sockdiag.3", "man/sslist.1", "rust/sockdiag/code",
                  "crates/sockdiag_c/out/libsockdiag_c.a", "tests/version.py"):

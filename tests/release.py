@@ -46,9 +46,10 @@ src/sys.rs src/unix.rs src/unix/nlas.rs src/vsock.rs src/xdp.rs tests/ported.rs 
 EXECUTABLE = ["bin/sockdiag", "bin/sslist", "tools/install"]
 # The files in the archive for users.
 IN_USERS = [
-    *EXECUTABLE, "INSTALL.md", "LICENSE-MIT", "VERSION", "docs/CAPTURE.md", "docs/KERNELS.md",
-    "docs/LINES.md", "examples/Makefile", "examples/list_sockets.c", "include/sockdiag.h",
-    "lib/libsockdiag.a", "man/sockdiag.1", "man/sockdiag.3", "man/sslist.1",
+    *EXECUTABLE, "INSTALL.md", "LICENSE-MIT", "VERSION", "docs/C.md", "docs/CAPTURE.md",
+    "docs/KERNELS.md", "docs/LINES.md", "docs/MIGRATING.md", "docs/RUST.md", "examples/Makefile",
+    "examples/list_sockets.c", "include/sockdiag.h", "lib/libsockdiag.a", "man/sockdiag.1",
+    "man/sockdiag.3", "man/sslist.1",
     *[f"rust/sockdiag/{it}" for it in RUST],
 ]
 # The files in the archive of proof results.
