@@ -134,7 +134,7 @@ pub struct ReplyView<'a, H: ReplyHeader> {
     ghost long: { H.reply.size ≤ length bytes.now },
     // The model of the header.
     ghost head: { (h : H.reply.header.Value)
-        × (H.reply.header.reads tt bytes.now ≡ Ok h) } by { one_value_in
+        × (H.reply.header.reads tt bytes.now ≡ Ok h) } by { result_has_one_value
             (H.reply.header.reads tt bytes.now) },
     ghost clean: { HasNoAttributeError (decode_attribute H.reply.attribute_set)
         (drop H.reply.size bytes.now) },
