@@ -12,7 +12,7 @@ use Rattle.netlink_core.specs.Header.{IsMessageError}
 use Rattle.netlink_core.specs.Items.{Item, IsItemOf, AreItemsOf}
 use Rattle.netlink_core.proofs.Items.{FoundItemsSoFar, error_is_only_item, no_items_yet}
 use Rattle.netlink_core.proofs.Items.{next_item_found, items_with_next, no_items}
-use Rattle.netlink_core.specs.DatagramWalk.{unread_datagram}
+use Rattle.netlink_core.specs.DatagramWalk.{unread_messages}
 use Rattle.netlink_packet_sock_diag.specs.declared.dump.views.DumpViews.{DumpViews}
 use Rattle.netlink_packet_sock_diag.specs.PayloadViewModel.{PayloadView}
 use Rattle.netlink_packet_sock_diag.specs.Dump.{dump_end_at}
@@ -52,8 +52,8 @@ pub data Step (left : List ℕ) (item : Item Message) (later : List ℕ) : Type 
 -- an item of the iterator is a step
 pub step_of : (old new : DumpViews) (item : Result PayloadView DecodeError)
     → YieldsPayloadView old (Some item) new
-    → Step (unread_datagram old.messages) (map_ok payload_view_model item)
-    (unread_datagram new.messages)
+    → Step (unread_messages old.messages) (map_ok payload_view_model item)
+    (unread_messages new.messages)
 step_of old new item (inl (bytes, s, is)) = message bytes s is
 step_of old new item (inr (e, is, some, fault, none)) =
     no_message e (ap (map_ok payload_view_model) is) some fault
