@@ -1,6 +1,16 @@
-use Rattle.std.proofs.Common.{sym}
+use Rattle.std.proofs.Common.{arith, sym}
 use Rattle.std.proofs.lemmas.Result.{IfOk-weaker}
 use Rattle.sock_diag_examples.proofs.stored.key.Goals as goal
+
+pub returns-clause-key : goal.returns-clause-key
+returns-clause-key c = IfOk-weaker c.canonical.result _ _
+    (λ key (message, is, fits, written). record {
+      in_range = λ i. omega (arith, c.type_inv.reply i);
+      message = message;
+      is = is;
+      fits = fits;
+      written = written;
+    }) c.canonical.ensures.written
 
 pub returns-clause-alike : goal.returns-clause-alike
 returns-clause-alike c = IfOk-weaker c.canonical.result _ _
