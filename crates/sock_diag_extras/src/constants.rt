@@ -295,6 +295,9 @@ pub fn extra_constants_have_their_numbers()
         (MPTCP_SUBFLOW_ATTR_MAP_DATALEN, 7) ∷ (MPTCP_SUBFLOW_ATTR_FLAGS, 8) ∷
         (MPTCP_SUBFLOW_ATTR_ID_REM, 9) ∷ (MPTCP_SUBFLOW_ATTR_ID_LOC, 10) ∷
         (MPTCP_SUBFLOW_ATTR_PAD, 11) ∷ []) }
+    ensures request_attributes { PairsAreEqual ((INET_DIAG_REQ_NONE, 0) ∷
+        (INET_DIAG_REQ_BYTECODE, 1) ∷ (INET_DIAG_REQ_SK_BPF_STORAGES, 2) ∷
+        (INET_DIAG_REQ_PROTOCOL, 3) ∷ []) }
     ensures filters { PairsAreEqual ((INET_DIAG_BC_NOP, 0) ∷ (INET_DIAG_BC_JMP, 1) ∷
         (INET_DIAG_BC_S_GE, 2) ∷ (INET_DIAG_BC_S_LE, 3) ∷ (INET_DIAG_BC_D_GE, 4) ∷
         (INET_DIAG_BC_D_LE, 5) ∷ (INET_DIAG_BC_AUTO, 6) ∷ (INET_DIAG_BC_S_COND, 7) ∷
@@ -311,6 +314,10 @@ pub fn extra_constants_have_their_numbers()
     ensures groups { PairsAreEqual ((SKNLGRP_NONE, 0) ∷ (SKNLGRP_INET_TCP_DESTROY, 1) ∷
         (SKNLGRP_INET_UDP_DESTROY, 2) ∷ (SKNLGRP_INET6_TCP_DESTROY, 3) ∷
         (SKNLGRP_INET6_UDP_DESTROY, 4) ∷ []) }
+    ensures flags_of_messages { PairsAreEqual ((NLM_F_MULTI, 2) ∷ (NLM_F_ACK, 4) ∷
+        (NLM_F_ECHO, 8) ∷ (NLM_F_DUMP_INTR, 16) ∷ (NLM_F_DUMP_FILTERED, 32) ∷
+        (NLM_F_ROOT, 256) ∷ (NLM_F_MATCH, 512) ∷ (NLM_F_ATOMIC, 1024) ∷ (NLM_F_CAPPED, 256)
+        ∷ (NLM_F_ACK_TLVS, 512) ∷ []) }
     ensures error_attributes { PairsAreEqual ((NLMSGERR_ATTR_UNUSED, 0) ∷ (NLMSGERR_ATTR_MSG, 1)
         ∷ (NLMSGERR_ATTR_OFFS, 2) ∷ (NLMSGERR_ATTR_COOKIE, 3) ∷ (NLMSGERR_ATTR_POLICY, 4) ∷
         (NLMSGERR_ATTR_MISS_TYPE, 5) ∷ (NLMSGERR_ATTR_MISS_NEST, 6) ∷ []) }

@@ -28,7 +28,9 @@ ghost use Rattle.sock_diag_filters.specs.declared.view.RequestView.{RequestView}
 use crate::any::{AnyRequestView, RecordRequestView};
 use crate::assembly::{AssembleError, MAX_PROGRAM};
 use crate::filter::Filter;
-use crate::request::{REQUEST_FRONT, RequestAttribute};
+use crate::request::{
+    INET_DIAG_REQ_BYTECODE, INET_DIAG_REQ_PROTOCOL, REQUEST_FRONT, RequestAttribute,
+};
 use crate::view::RequestView;
 use netlink_core::Exact;
 use std::alloc::AllocError;
@@ -164,5 +166,6 @@ pub fn equal_any_request_views(v: &AnyRequestView<'_>, w: &AnyRequestView<'_>) -
 
 /// States the numeric value of each constant.
 pub fn filter_constants_have_their_numbers()
-    ensures { PairsAreEqual ((MAX_PROGRAM, 65531) ∷ (REQUEST_FRONT, 72) ∷ []) }
+    ensures { PairsAreEqual ((MAX_PROGRAM, 65531) ∷ (INET_DIAG_REQ_BYTECODE, 1) ∷
+        (INET_DIAG_REQ_PROTOCOL, 3) ∷ (REQUEST_FRONT, 72) ∷ []) }
 {}
