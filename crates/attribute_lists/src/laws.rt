@@ -14,13 +14,15 @@ use netlink_core::FamilyNla;
 pub fn found_values_are_the_attributes<T: FamilyNla>()
     // decoded_in decode bytes: the values that are found by the length fields. DecodeTo decode
     // bytes values: the bytes are split into attributes without a rest, and these decode to the
-    // values.
+    // values. HasNoAttributeError decode bytes: neither the framing nor a value has an error.
     ensures decoded { (bytes : List ℕ) (values : List (AttributeValue T.attribute_set))
         → IsBytes bytes → HasNoAttributeError (decode_attribute T.attribute_set) bytes
-        → (decoded_in (decode_attribute T.attribute_set) bytes ≡ values)
-        ↔ DecodeTo (decode_attribute T.attribute_set) bytes values }
+        → ((decoded_in (decode_attribute T.attribute_set) bytes ≡ values)
+        ↔ DecodeTo (decode_attribute T.attribute_set) bytes values) }
+    // decode_attribute []: the set without types, by which each attribute is its type field and its
+    // bytes.
     ensures undecoded { (bytes : List ℕ) (attributes : List Attribute)
         → IsBytes bytes → HasNoAttributeError (decode_attribute []) bytes
-        → (decoded_in (decode_attribute []) bytes ≡ attributes)
-        ↔ DecodeTo (decode_attribute []) bytes attributes }
+        → ((decoded_in (decode_attribute []) bytes ≡ attributes)
+        ↔ DecodeTo (decode_attribute []) bytes attributes) }
 {}

@@ -23,15 +23,13 @@ use Rattle.netlink_core.proofs.Items.{one_item, one_list_by, items_of_padded_mes
 use Rattle.netlink_packet_sock_diag.specs.declared.dump.DumpState.TheVariants.{Reading, Failed}
 use Rattle.netlink_packet_sock_diag.specs.declared.dump.DumpError.{DumpError}
 use Rattle.netlink_packet_sock_diag.specs.declared.dump.DumpError.TheVariants.{Ended, Fault}
-use Rattle.netlink_packet_sock_diag.specs.Dump.{AreCompleteExceptLast, DumpOfDatagrams, DumpOfItems}
-use Rattle.netlink_packet_sock_diag.specs.Dump.{DumpStatus, dump_end_at, inner_message_list}
+use Rattle.netlink_packet_sock_diag.specs.Dump.{AreCompleteExceptLast, AreSplitsOfSameBytes}
+use Rattle.netlink_packet_sock_diag.specs.Dump.{DumpOfDatagrams, DumpOfItems, DumpStatus}
+use Rattle.netlink_packet_sock_diag.specs.Dump.{HaveSameItems, IsCompleteSplit, concatenation}
+use Rattle.netlink_packet_sock_diag.specs.Dump.{dump_end_at, inner_message_list}
 use Rattle.netlink_packet_sock_diag.specs.Feed.{DumpProgress, FeedLeadsTo, FeedingAllLeadsTo}
 use Rattle.netlink_packet_sock_diag.specs.Feed.{InterruptsDump, IsReading, ReadsDatagram}
 use Rattle.netlink_packet_sock_diag.specs.Feed.{status_of_dump, new_dump}
-
--- the concatenation of the lists
-abbrev pub concatenation : {A : Type 0} → List (List A) → List A
-concatenation lists = flat_map (λ one. one) lists
 
 -- the dump has not ended
 abbrev pub reading_status : DumpStatus
@@ -243,14 +241,13 @@ module _ {A : Type 0} (item_is : List ℕ → Item A → Type 0) where
       cc (one b in_range.0 x y h.0 k.0, one_row one later in_range.1 xs ys h.1 k.1)
   one_row one datagrams in_range xs ys h k = grind arith
 
-  pub equal_dumps : OneList
-      → (datagrams others : List (List ℕ)) (xs ys : List (List (Item A)))
-      → AllByRecursion IsBytes datagrams → AllZip (AreItemsOf item_is) datagrams xs
-      → AllZip (AreItemsOf item_is) others ys → concatenation xs ≡ concatenation ys
+  pub equal_dumps : OneList → (datagrams others : List (List ℕ))
+      → AllByRecursion IsBytes datagrams → HaveSameItems item_is datagrams others
       → (before after : List A) (end : EndOrDecodeError)
       → DumpOfDatagrams item_is before datagrams after end
       → DumpOfDatagrams item_is before others after end
-  equal_dumps one datagrams others xs ys in_range each also same before after end (items, are, d) =
+  equal_dumps one datagrams others in_range (xs, ys, each, also, same) before after end
+      (items, are, d) =
       let parts = one_row one datagrams in_range items xs are each in
       (ys, also, rw (← same, ← parts) d)
 
@@ -390,7 +387,7 @@ module _ {A : Type 0} (item_is : List ℕ → Item A → Type 0) where
   feed_step : (old new : DumpProgress A) (datagram : List ℕ) (answer : Result Unit DumpError)
       → IsReading old → FeedLeadsTo item_is old datagram new answer → answer ≢ Err (Fault Memory)
       → (end : EndOrDecodeError) × ReadsDatagram item_is old datagram new end
-      × (status_of_dump new ≡ state_left end)
+      × (status_of_dump new ≡ state_left end) × (end ≢ Err Memory)
   feed_step old new datagram answer reading f some =
       grind arith
 
@@ -406,13 +403,14 @@ module _ {A : Type 0} (item_is : List ℕ → Item A → Type 0) where
       → (old new : DumpProgress A) → IsReading old → FeedingAllLeadsTo item_is old datagrams new
       → (end : EndOrDecodeError)
       × (all : DumpOfDatagrams item_is old.messages datagrams new.messages end)
-      × (status_of_dump new ≡ state_left end)
+      × (status_of_dump new ≡ state_left end) × (end ≢ Err Memory)
       × (AreCompleteExceptLast datagrams → (IsTrue new.is_interrupted
       ↔ (IsTrue old.is_interrupted ⊎ InterruptsDump (concat datagrams) (concatenation all.0))))
   feeds_dump some [] in_range old new reading f = rw (← f) (
     Ok reading_status,
     ([], tt, (dump_is old.messages old.messages [] (Ok reading_status)).1 refl),
     reading,
+    λ is. grind arith,
     λ split. grind arith,
   )
   feeds_dump some (datagram ∷ later) in_range old new reading f =
@@ -434,7 +432,8 @@ module _ {A : Type 0} (item_is : List ℕ → Item A → Type 0) where
                     (inl (on.0, parts.2)),
               ),
               rest.2,
-              λ split. grows one.1.3 (let flag = rest.3 split.1 in grind (arith, plain.0 on.0))
+              rest.3,
+              λ split. grows one.1.3 (let flag = rest.4 split.1 in grind (arith, plain.0 on.0))
                   (flags_of_split datagram later items parts.0 split are parts.1),
             )
         | inr off ↦
@@ -450,6 +449,7 @@ module _ {A : Type 0} (item_is : List ℕ → Item A → Type 0) where
                     (inr (off.0, refl, refl)),
               ),
               one.2,
+              one.3,
               λ split. grows one.1.3 (grind (arith, plain.1))
                   (flags_of_split datagram later items parts.0 split are parts.1),
             )
@@ -474,34 +474,50 @@ module _ (C : Codec ℕ) (laws : KeepsCodecLaws C) where
 
 module _ {A : Type 0} (item_is : List ℕ → Item A → Type 0) (some : SomeItems item_is)
     (one : OneList item_is) where
-  -- feeding split datagrams leads to the same progress as the dump over the concatenated bytes
-  pub feeding_split_is_dump : (datagrams : List (List ℕ)) → AllByRecursion IsBytes datagrams
-      → AreCompleteExceptLast datagrams → (left : DumpProgress A)
-      → FeedingAllLeadsTo item_is new_dump datagrams left
+  -- feeding split datagrams leads to the dump over the concatenated bytes
+  feeding_split_is_dump : (datagrams : List (List ℕ)) → IsCompleteSplit datagrams
+      → (progress : DumpProgress A) → FeedingAllLeadsTo item_is new_dump datagrams progress
       → (all : (end : EndOrDecodeError)
-      × ReadsDatagram item_is new_dump (concat datagrams) left end)
-      × (status_of_dump left ≡ state_left item_is all.0)
+      × ReadsDatagram item_is new_dump (concat datagrams) progress end)
+      × (status_of_dump progress ≡ state_left item_is all.0) × (all.0 ≢ Err Memory)
   unfolding dump_of_split
-  feeding_split_is_dump datagrams in_range split left f =
-      let a = feeds_dump item_is some datagrams in_range new_dump left refl f in
-      let d = dump_of_split item_is datagrams split [] left.messages a.0 a.1 in
-      ((a.0, (d.0, d.1, d.2, a.3 split)), a.2)
+  feeding_split_is_dump datagrams split progress f =
+      let a = feeds_dump item_is some datagrams split.0 new_dump progress refl f in
+      let d = dump_of_split item_is datagrams split.1 [] progress.messages a.0 a.1 in
+      ((a.0, (d.0, d.1, d.2, a.4 split.1)), a.2, a.3)
+
+  -- a dump over one datagram is the result of feeding it
+  feeding_one : (datagram : List ℕ) (progress : DumpProgress A) (end : EndOrDecodeError)
+      → ReadsDatagram item_is new_dump datagram progress end
+      → status_of_dump progress ≡ state_left item_is end → end ≢ Err Memory
+      → FeedingAllLeadsTo item_is new_dump (datagram ∷ []) progress
+  feeding_one datagram progress (Ok status) reads is some =
+      (progress, (Ok tt, (refl, rw (← is) at reads), λ e. grind arith), refl)
+  feeding_one datagram progress (Err e) reads is some =
+      (progress, (Err (Fault e), (refl, is, λ no. reads, λ m. grind (arith, some)),
+      λ same. grind (arith, some)), refl)
+
+  -- feeding the concatenated bytes as one datagram leads to the same progress
+  pub feeding_whole : (datagrams : List (List ℕ)) → IsCompleteSplit datagrams
+      → (progress : DumpProgress A) → FeedingAllLeadsTo item_is new_dump datagrams progress
+      → FeedingAllLeadsTo item_is new_dump (concat datagrams ∷ []) progress
+  feeding_whole datagrams split progress f =
+      let all = feeding_split_is_dump datagrams split progress f in
+      feeding_one (concat datagrams) progress all.0.0 all.0.1 all.1 all.2
 
   -- feeding the same bytes in differently split datagrams leads to the same progress
-  pub equal_feeds_of_splits : (datagrams others : List (List ℕ)) → AllByRecursion IsBytes datagrams
-      → AllByRecursion IsBytes others → AreCompleteExceptLast datagrams
-      → AreCompleteExceptLast others
-      → concat datagrams ≡ concat others → (left also : DumpProgress A)
-      → FeedingAllLeadsTo item_is new_dump datagrams left
-      → FeedingAllLeadsTo item_is new_dump others also
-      → left ≡ also
-  equal_feeds_of_splits datagrams others in_range fits split cut same left also f g =
-      let a = feeding_split_is_dump datagrams in_range split left f in
-      let b = feeding_split_is_dump others fits cut also g in
+  pub equal_feeds_of_splits : (datagrams others : List (List ℕ))
+      → AreSplitsOfSameBytes datagrams others → (progress other : DumpProgress A)
+      → FeedingAllLeadsTo item_is new_dump datagrams progress
+      → FeedingAllLeadsTo item_is new_dump others other
+      → progress ≡ other
+  equal_feeds_of_splits datagrams others (split, cut, same) progress other f g =
+      let a = feeding_split_is_dump datagrams split progress f in
+      let b = feeding_split_is_dump others cut other g in
       let ends = datagram_leads_to_one_dump item_is one (concat others)
-      (bytes-concatenation others fits) new_dump
-      left also a.0.0 b.0.0 (rw same at a.0.1) b.0.1 in
-      let state : status_of_dump left ≡ status_of_dump also = cc (a.1, b.1, ends.1) in
+      (bytes-concatenation others cut.0) new_dump
+      progress other a.0.0 b.0.0 (rw same at a.0.1) b.0.1 in
+      let state : status_of_dump progress ≡ status_of_dump other = cc (a.1, b.1, ends.1) in
       λ i. record {
         messages = ends.0 i;
         state = (state i).0;
@@ -509,21 +525,20 @@ module _ {A : Type 0} (item_is : List ℕ → Item A → Type 0) (some : SomeIte
         is_interrupted = ends.2 i;
       }
 
-  -- feeding datagrams whose concatenated items are equal leads to the same messages and state
-  pub equal_feeds_of_items : (datagrams others : List (List ℕ)) (xs ys : List (List (Item A)))
+  -- feeding datagrams with the same items leads to the same messages and state
+  pub equal_feeds_of_items : (datagrams others : List (List ℕ))
       → AllByRecursion IsBytes datagrams → AllByRecursion IsBytes others
-      → AllZip (AreItemsOf item_is) datagrams xs → AllZip (AreItemsOf item_is) others ys
-      → concatenation xs ≡ concatenation ys → (left also : DumpProgress A)
-      → FeedingAllLeadsTo item_is new_dump datagrams left
-      → FeedingAllLeadsTo item_is new_dump others also
-      → (left.messages ≡ also.messages) × (left.state ≡ also.state)
-      × (left.error_number ≡ also.error_number)
-  equal_feeds_of_items datagrams others xs ys in_range fits each them same left also f g =
-      let a = feeds_dump item_is some datagrams in_range new_dump left refl f in
-      let b = feeds_dump item_is some others fits new_dump also refl g in
-      let moved = equal_dumps item_is one datagrams others xs ys in_range each them same [] _ _
-      a.1 in
-      let ends = one_dumps item_is one [] others fits left.messages also.messages a.0 b.0
+      → HaveSameItems item_is datagrams others
+      → (progress other : DumpProgress A)
+      → FeedingAllLeadsTo item_is new_dump datagrams progress
+      → FeedingAllLeadsTo item_is new_dump others other
+      → (progress.messages ≡ other.messages) × (progress.state ≡ other.state)
+      × (progress.error_number ≡ other.error_number)
+  equal_feeds_of_items datagrams others in_range fits same progress other f g =
+      let a = feeds_dump item_is some datagrams in_range new_dump progress refl f in
+      let b = feeds_dump item_is some others fits new_dump other refl g in
+      let moved = equal_dumps item_is one datagrams others in_range same [] _ _ a.1 in
+      let ends = one_dumps item_is one [] others fits progress.messages other.messages a.0 b.0
       moved b.1 in
-      let state : status_of_dump left ≡ status_of_dump also = cc (a.2, b.2, ends.1) in
+      let state : status_of_dump progress ≡ status_of_dump other = cc (a.2, b.2, ends.1) in
       (ends.0, λ i. (state i).0, λ i. (state i).1)

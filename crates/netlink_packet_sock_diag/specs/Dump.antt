@@ -1,7 +1,8 @@
 -- The messages that a dump keeps of the items of its datagrams, and the end of the dump.
 use Rattle.std.specs.Prelude.{◌≡◌, ◌%◌, length, ℕ, ℤ, List, [], ◌∷◌, ◌++◌, ⊤, ◌⊎◌, Option, Some}
 use Rattle.std.specs.Prelude.{None, MatchOption, Result, Ok, Err, slice_get}
-use Rattle.std.specs.List.{AllByRecursion, AllZip, flat_map}
+use Rattle.std.specs.List.{AllByRecursion, AllZip, concat, flat_map}
+use Rattle.netlink_core.specs.Bytes.{IsBytes}
 use Rattle.netlink_core.specs.declared.fault.DecodeError.{DecodeError}
 use Rattle.netlink_core.specs.Datagram.{SplitsIntoMessages}
 use Rattle.netlink_core.specs.declared.message.NetlinkPayload.TheVariants as payload
@@ -47,6 +48,10 @@ module _ {A : Type 0} where
       × MatchOption (slice_get later 0) (end ≡ Ok (Reading, None))
       (λ item. dump_end_at item ≡ Some end)
 
+  -- the concatenation of lists
+  abbrev pub concatenation : List (List A) → List A
+  concatenation lists = flat_map (λ one. one) lists
+
   -- `DumpOfDatagrams is before datagrams after end`: each datagram has its list of items
   -- (`AreItemsOf is`, where `is` relates a message to its item), and the concatenation of these
   -- lists takes a dump from the messages `before` to the messages `after`, with the end `end`
@@ -54,7 +59,15 @@ module _ {A : Type 0} where
       → Result DumpStatus DecodeError → Type 0
   DumpOfDatagrams is before datagrams after end = (items : List (List (Item A)))
       × AllZip (AreItemsOf is) datagrams items
-      × DumpOfItems before (flat_map (λ one. one) items) after end
+      × DumpOfItems before (concatenation items) after end
+
+  -- `HaveSameItems is datagrams others`: the items of the datagrams of the one list, concatenated,
+  -- are those of the other list. The bytes may differ where no item depends on them: in sequence
+  -- numbers, in flags, and in the padding after the last message of a datagram.
+  abbrev pub HaveSameItems : (List ℕ → Item A → Type 0) → List (List ℕ) → List (List ℕ) → Type 0
+  HaveSameItems is datagrams others = (xs ys : List (List (Item A)))
+      × AllZip (AreItemsOf is) datagrams xs × AllZip (AreItemsOf is) others ys
+      × (concatenation xs ≡ concatenation ys)
 
 -- each datagram except the last consists of complete messages with all their padding: it splits
 -- into messages without an error, and its length is a multiple of 4
@@ -63,3 +76,13 @@ AreCompleteExceptLast [] = ⊤
 AreCompleteExceptLast (datagram ∷ later) = ((later ≡ []) ⊎ ((messages : List (List ℕ))
     × SplitsIntoMessages datagram messages None × (length datagram % 4 ≡ 0)))
     × AreCompleteExceptLast later
+
+-- The datagrams are byte strings, and each except the last consists of complete messages with all
+-- their padding.
+abbrev pub IsCompleteSplit : List (List ℕ) → Type 0
+IsCompleteSplit datagrams = AllByRecursion IsBytes datagrams × AreCompleteExceptLast datagrams
+
+-- two ways to split the same bytes into datagrams, each at ends of messages
+abbrev pub AreSplitsOfSameBytes : List (List ℕ) → List (List ℕ) → Type 0
+AreSplitsOfSameBytes datagrams others = IsCompleteSplit datagrams × IsCompleteSplit others
+    × (concat datagrams ≡ concat others)

@@ -16,7 +16,8 @@ use Rattle.netlink_packet_sock_diag.specs.declared.dump.DumpError.TheVariants.{E
 use Rattle.netlink_packet_sock_diag.specs.Dump.{DumpOfItems, DumpStatus, dump_end_at}
 
 -- The progress of a reader of dumps: the messages that it keeps, the state, the error number of the
--- message that ended the dump, and whether a message had the flag NLM_F_DUMP_INTR.
+-- message that ended the dump, and whether a message up to and including that message had the flag
+-- NLM_F_DUMP_INTR.
 pub record DumpProgress (A : Type 0) : Type 0 where
   pub messages : List A
   pub state : DumpState
@@ -54,9 +55,9 @@ InterruptsDump bytes (item ∷ items) = (message rest : List ℕ) × StartsWithM
     × (((h : NetlinkHeader) × HasHeader message h × IsBitSet h.flags 4)
     ⊎ ((dump_end_at item ≡ None) × InterruptsDump rest items))
 
--- `is` relates a message to its item
+-- `is` relates a message to its item. It is the first argument of each definition of this module.
 module _ {A : Type 0} (is : List ℕ → Item A → Type 0) where
-  -- `ReadsDatagram old datagram new end`: the items of the datagram extend the messages of `old` to
+  -- `ReadsDatagram is old datagram new end`: the items of the datagram extend the messages of `old` to
   -- those of `new`, and lead to this end. The dump is interrupted if it was before, or if the
   -- datagram interrupts it. The state and the error number of `old` and `new` are not considered.
   abbrev pub ReadsDatagram : DumpProgress A → List ℕ → DumpProgress A
@@ -65,7 +66,7 @@ module _ {A : Type 0} (is : List ℕ → Item A → Type 0) where
       × DumpOfItems old.messages items new.messages end
       × (IsTrue new.is_interrupted ↔ (IsTrue old.is_interrupted ⊎ InterruptsDump datagram items))
 
-  -- `AllocationFailsAt entry old datagram new`: an inner message of the datagram, with the item
+  -- `AllocationFailsAt is entry old datagram new`: an inner message of the datagram, with the item
   -- `Ok (InnerMessage entry)`, was not kept, because an allocation failed. No item before it ends
   -- the dump. `new.messages` are `old.messages` and the inner messages before it. `new` is
   -- interrupted if `old` was, or if this message or one before it has the flag NLM_F_DUMP_INTR. The
@@ -77,7 +78,7 @@ module _ {A : Type 0} (is : List ℕ → Item A → Type 0) where
       × (IsTrue new.is_interrupted ↔ (IsTrue old.is_interrupted
       ⊎ InterruptsDump datagram (front ++ Ok (InnerMessage entry) ∷ [])))
 
-  -- `FeedLeadsTo old datagram new result`, by the result of `feed`:
+  -- `FeedLeadsTo is old datagram new result`, by the result of `feed`:
   -- - `Ok`: the dump was being read. `new` has the messages, the interruption, and the end that
   --   `ReadsDatagram` states: the state `Reading`, `Done`, `Error` or `Overrun`, and the error
   --   number.
@@ -94,7 +95,7 @@ module _ {A : Type 0} (is : List ℕ → Item A → Type 0) where
       × (e ≢ Memory → ReadsDatagram old datagram new (Err e))
       × (e ≡ Memory → (entry : A) × AllocationFailsAt entry old datagram new)
 
-  -- `FeedingAllLeadsTo old datagrams new`: feeding the datagrams in order, starting from `old`,
+  -- `FeedingAllLeadsTo is old datagrams new`: feeding the datagrams in order, starting from `old`,
   -- leads to `new`, and no `feed` fails with `Memory`. A `feed` may fail with another error.
   -- Datagrams after the end of the dump change nothing.
   abbrev pub FeedingAllLeadsTo : DumpProgress A → List (List ℕ) → DumpProgress A → Type 0

@@ -3,7 +3,7 @@
 ghost use Rattle.std.specs.Prelude.{Bool, true, ◌≡◌, ◌≢◌, ◌%◌, ◌↔◌, ◌⊎◌, ◌++◌, ℕ, List, [], ◌∷◌};
 ghost use Rattle.std.specs.Prelude.{length, count_by, IsTrue, Result, IfOk, IsOk, map, None};
 ghost use Rattle.std.specs.Iterator.{Drains};
-ghost use Rattle.std.specs.List.{AllByRecursion, AllZip, concat, flat_map};
+ghost use Rattle.std.specs.List.{AllByRecursion, concat};
 ghost use Rattle.netlink_core.specs.Bytes.{IsBytes};
 ghost use Rattle.netlink_core.specs.declared.fault.DecodeError.{DecodeError};
 ghost use Rattle.netlink_core.specs.declared.fault.DecodeError.TheVariants.{Memory};
@@ -25,10 +25,11 @@ ghost use Rattle.netlink_packet_sock_diag.specs.contracts.coded.SockDiagViewEmit
 ghost use Rattle.netlink_packet_sock_diag.specs.contracts.coded.SockDiagDestroyCoded.TheImpl.{ghosts as destroys};
 ghost use Rattle.netlink_packet_sock_diag.specs.contracts.coded.SockDiagMessageCoded.TheImpl.{ghosts as messages};
 ghost use Rattle.netlink_packet_sock_diag.specs.declared.message.SockDiagDestroy.{SockDiagDestroy};
-ghost use Rattle.netlink_packet_sock_diag.specs.Dump.{AreCompleteExceptLast, DumpOfDatagrams};
-ghost use Rattle.netlink_packet_sock_diag.specs.Dump.{DumpOfItems, DumpStatus};
+ghost use Rattle.netlink_packet_sock_diag.specs.Dump.{AreSplitsOfSameBytes, DumpOfDatagrams};
+ghost use Rattle.netlink_packet_sock_diag.specs.Dump.{DumpOfItems, DumpStatus, HaveSameItems};
+ghost use Rattle.netlink_packet_sock_diag.specs.Dump.{IsCompleteSplit};
 ghost use Rattle.netlink_packet_sock_diag.specs.Feed.{DumpProgress, FeedingAllLeadsTo};
-ghost use Rattle.netlink_packet_sock_diag.specs.Feed.{ReadsDatagram, new_dump};
+ghost use Rattle.netlink_packet_sock_diag.specs.Feed.{new_dump};
 ghost use Rattle.netlink_packet_sock_diag.specs.declared.dump.DumpState.TheVariants.{Reading};
 ghost use Rattle.netlink_packet_sock_diag.specs.declared.dump.views.DumpViews.{DumpViews};
 ghost use Rattle.netlink_packet_sock_diag.specs.PayloadViewModel.{PayloadView};
@@ -215,15 +216,11 @@ pub fn dump_over_concatenation()
         ⊎ ((state ≢ Ok (Reading, None)) × (after ≡ middle) × (end ≡ state))))) }
 {}
 
-/// Two lists of datagrams have the same dump, from any messages before, if their items are equal:
-/// the items of all datagrams of a list, concatenated in order.
+/// Two lists of datagrams with the same items have the same dump, from any messages before
+/// (`HaveSameItems`: the items of all datagrams of a list, concatenated in order).
 pub fn same_items_have_one_dump()
-    ensures { (datagrams others : List (List ℕ))
-        (xs ys : List (List (Result (Payload Message) DecodeError)))
-        → AllByRecursion IsBytes datagrams
-        → AllZip (AreItemsOf (IsItemOf message_codec)) datagrams xs
-        → AllZip (AreItemsOf (IsItemOf message_codec)) others ys
-        → flat_map (λ one. one) xs ≡ flat_map (λ one. one) ys
+    ensures { (datagrams others : List (List ℕ)) → AllByRecursion IsBytes datagrams
+        → HaveSameItems (IsItemOf message_codec) datagrams others
         → (before after : List Message) (end : Result DumpStatus DecodeError)
         → DumpOfDatagrams (IsItemOf message_codec) before datagrams after end
         → DumpOfDatagrams (IsItemOf message_codec) before others after end }
@@ -232,14 +229,11 @@ pub fn same_items_have_one_dump()
 }
 
 /// The dump does not depend on the split into datagrams. `datagrams` and `others` are two ways to
-/// cut the same bytes into datagrams, in each of which every datagram except the last consists of
+/// split the same bytes into datagrams, in each of which every datagram except the last consists of
 /// complete messages with all their padding. From any messages before, if the one has a dump with
 /// the messages `after` and the end `end`, the other has it too.
 pub fn split_changes_no_dump()
-    ensures { (datagrams others : List (List ℕ)) → AllByRecursion IsBytes datagrams
-        → AllByRecursion IsBytes others
-        → AreCompleteExceptLast datagrams → AreCompleteExceptLast others
-        → concat datagrams ≡ concat others
+    ensures { (datagrams others : List (List ℕ)) → AreSplitsOfSameBytes datagrams others
         → (before after : List Message) (end : Result DumpStatus DecodeError)
         → DumpOfDatagrams (IsItemOf message_codec) before datagrams after end
         → DumpOfDatagrams (IsItemOf message_codec) before others after end }
@@ -249,89 +243,71 @@ pub fn split_changes_no_dump()
 }
 
 /// The result of feeding a `DumpReader` does not depend on the split into datagrams. `datagrams`
-/// and `others` are two ways to cut the same bytes into datagrams, in each of which every datagram
-/// except the last consists of complete messages with all their padding. Each is fed to a new
-/// reader, and no allocation fails (`FeedingAllLeadsTo`).
+/// and `others` are two ways to split the same bytes into datagrams, in each of which every
+/// datagram except the last consists of complete messages with all their padding. Each is fed to a
+/// new reader, and no allocation fails (`FeedingAllLeadsTo`).
 ///
 /// - `same`: both readers have the same progress: messages, state, error number, interruption.
-/// - `whole`: the messages, and whether the dump is interrupted, are those of all bytes read as one
-///   datagram. This clause does not state the state and the error number.
+/// - `whole`: feeding all bytes as one datagram leads to this progress, too.
 pub fn split_changes_no_feed()
-    ensures same { (datagrams others : List (List ℕ)) → AllByRecursion IsBytes datagrams
-        → AllByRecursion IsBytes others
-        → AreCompleteExceptLast datagrams → AreCompleteExceptLast others
-        → concat datagrams ≡ concat others
-        → (left also : DumpProgress Message)
-        → FeedingAllLeadsTo (IsItemOf message_codec) new_dump datagrams left
-        → FeedingAllLeadsTo (IsItemOf message_codec) new_dump others also → left ≡ also }
-    ensures whole { (datagrams : List (List ℕ)) → AllByRecursion IsBytes datagrams
-        → AreCompleteExceptLast datagrams
-        → (left : DumpProgress Message)
-        → FeedingAllLeadsTo (IsItemOf message_codec) new_dump datagrams left
-        → (end : Result DumpStatus DecodeError)
-        × ReadsDatagram (IsItemOf message_codec) new_dump (concat datagrams) left end }
+    ensures same { (datagrams others : List (List ℕ)) → AreSplitsOfSameBytes datagrams others
+        → (progress other : DumpProgress Message)
+        → FeedingAllLeadsTo (IsItemOf message_codec) new_dump datagrams progress
+        → FeedingAllLeadsTo (IsItemOf message_codec) new_dump others other → progress ≡ other }
+    ensures whole { (datagrams : List (List ℕ)) → IsCompleteSplit datagrams
+        → (progress : DumpProgress Message)
+        → FeedingAllLeadsTo (IsItemOf message_codec) new_dump datagrams progress
+        → FeedingAllLeadsTo (IsItemOf message_codec) new_dump (concat datagrams ∷ []) progress }
 {}
 
-/// The result of feeding a `DumpReader` is the same for two lists of datagrams whose items,
-/// concatenated, are equal. They may differ in the padding after the last message of a datagram.
-/// Each list is fed to a new reader. If no allocation fails, both have the same messages, state and
-/// error number. Whether a dump is interrupted may differ, because an item does not contain the
-/// flags of its message.
+/// The result of feeding a `DumpReader` is the same for two lists of datagrams with the same items
+/// (`HaveSameItems`). Each list is fed to a new reader. If no allocation fails, both have the same
+/// messages, state and error number. Whether a dump is interrupted may differ, because an item does
+/// not contain the flags of its message.
 pub fn same_items_change_no_feed()
-    ensures { (datagrams others : List (List ℕ))
-        (xs ys : List (List (Result (Payload Message) DecodeError)))
-        → AllByRecursion IsBytes datagrams → AllByRecursion IsBytes others
-        → AllZip (AreItemsOf (IsItemOf message_codec)) datagrams xs
-        → AllZip (AreItemsOf (IsItemOf message_codec)) others ys
-        → flat_map (λ one. one) xs ≡ flat_map (λ one. one) ys
-        → (left also : DumpProgress Message)
-        → FeedingAllLeadsTo (IsItemOf message_codec) new_dump datagrams left
-        → FeedingAllLeadsTo (IsItemOf message_codec) new_dump others also
-        → (left.messages ≡ also.messages) × (left.state ≡ also.state)
-        × (left.error_number ≡ also.error_number) }
+    ensures { (datagrams others : List (List ℕ)) → AllByRecursion IsBytes datagrams
+        → AllByRecursion IsBytes others
+        → HaveSameItems (IsItemOf message_codec) datagrams others
+        → (progress other : DumpProgress Message)
+        → FeedingAllLeadsTo (IsItemOf message_codec) new_dump datagrams progress
+        → FeedingAllLeadsTo (IsItemOf message_codec) new_dump others other
+        → (progress.messages ≡ other.messages) × (progress.state ≡ other.state)
+        × (progress.error_number ≡ other.error_number) }
 {}
 
 /// The result of feeding a `LossyDump` does not depend on the split into datagrams. `datagrams` and
-/// `others` are two ways to cut the same bytes into datagrams, in each of which every datagram
+/// `others` are two ways to split the same bytes into datagrams, in each of which every datagram
 /// except the last consists of complete messages with all their padding. Each is fed to a new
 /// reader, and no allocation fails (`FeedingAllLeadsTo`).
 ///
 /// - `same`: both readers have the same progress: entries, state, error number, interruption.
-/// - `whole`: the entries, and whether the dump is interrupted, are those of all bytes read as one
-///   datagram. This clause does not state the state and the error number.
+/// - `whole`: feeding all bytes as one datagram leads to this progress, too.
 pub fn split_changes_no_lossy_feed()
-    ensures same { (datagrams others : List (List ℕ)) → AllByRecursion IsBytes datagrams
-        → AllByRecursion IsBytes others
-        → AreCompleteExceptLast datagrams → AreCompleteExceptLast others
-        → concat datagrams ≡ concat others
-        → (left also : DumpProgress (Result Message DecodeError))
-        → FeedingAllLeadsTo (HasLossyEntry message_codec) new_dump datagrams left
-        → FeedingAllLeadsTo (HasLossyEntry message_codec) new_dump others also → left ≡ also }
-    ensures whole { (datagrams : List (List ℕ)) → AllByRecursion IsBytes datagrams
-        → AreCompleteExceptLast datagrams
-        → (left : DumpProgress (Result Message DecodeError))
-        → FeedingAllLeadsTo (HasLossyEntry message_codec) new_dump datagrams left
-        → (end : Result DumpStatus DecodeError)
-        × ReadsDatagram (HasLossyEntry message_codec) new_dump (concat datagrams) left end }
+    ensures same { (datagrams others : List (List ℕ)) → AreSplitsOfSameBytes datagrams others
+        → (progress other : DumpProgress (Result Message DecodeError))
+        → FeedingAllLeadsTo (HasLossyEntry message_codec) new_dump datagrams progress
+        → FeedingAllLeadsTo (HasLossyEntry message_codec) new_dump others other
+        → progress ≡ other }
+    ensures whole { (datagrams : List (List ℕ)) → IsCompleteSplit datagrams
+        → (progress : DumpProgress (Result Message DecodeError))
+        → FeedingAllLeadsTo (HasLossyEntry message_codec) new_dump datagrams progress
+        → FeedingAllLeadsTo (HasLossyEntry message_codec) new_dump (concat datagrams ∷ [])
+        progress }
 {}
 
-/// The result of feeding a `LossyDump` is the same for two lists of datagrams whose items,
-/// concatenated, are equal. They may differ in the padding after the last message of a datagram.
-/// Each list is fed to a new reader. If no allocation fails, both have the same entries, state and
-/// error number. Whether a dump is interrupted may differ, because an item does not contain the
-/// flags of its message.
+/// The result of feeding a `LossyDump` is the same for two lists of datagrams with the same items
+/// (`HaveSameItems`). Each list is fed to a new reader. If no allocation fails, both have the same
+/// entries, state and error number. Whether a dump is interrupted may differ, because an item does
+/// not contain the flags of its message.
 pub fn same_items_change_no_lossy_feed()
-    ensures { (datagrams others : List (List ℕ))
-        (xs ys : List (List (Result (Payload (Result Message DecodeError)) DecodeError)))
-        → AllByRecursion IsBytes datagrams → AllByRecursion IsBytes others
-        → AllZip (AreItemsOf (HasLossyEntry message_codec)) datagrams xs
-        → AllZip (AreItemsOf (HasLossyEntry message_codec)) others ys
-        → flat_map (λ one. one) xs ≡ flat_map (λ one. one) ys
-        → (left also : DumpProgress (Result Message DecodeError))
-        → FeedingAllLeadsTo (HasLossyEntry message_codec) new_dump datagrams left
-        → FeedingAllLeadsTo (HasLossyEntry message_codec) new_dump others also
-        → (left.messages ≡ also.messages) × (left.state ≡ also.state)
-        × (left.error_number ≡ also.error_number) }
+    ensures { (datagrams others : List (List ℕ)) → AllByRecursion IsBytes datagrams
+        → AllByRecursion IsBytes others
+        → HaveSameItems (HasLossyEntry message_codec) datagrams others
+        → (progress other : DumpProgress (Result Message DecodeError))
+        → FeedingAllLeadsTo (HasLossyEntry message_codec) new_dump datagrams progress
+        → FeedingAllLeadsTo (HasLossyEntry message_codec) new_dump others other
+        → (progress.messages ≡ other.messages) × (progress.state ≡ other.state)
+        × (progress.error_number ≡ other.error_number) }
 {}
 
 /// If the dump over a datagram ends without an error, a `LossyDump` keeps the same messages as a

@@ -63,11 +63,13 @@ inet_variant (inr (inr (inr (inr (inr (inr (inr (inr (inr (inr (inl class)))))))
 inet_variant (inr (inr (inr (inr (inr (inr (inr (inr (inr (inr (inr other))))))))))) =
     nla.Other other
 
--- the model of an owned attribute: its decoded value
+-- the model of an owned attribute, which contracts compare: the decoded value of its variant, a text
+-- as its bytes, and a raw attribute as its type field and value
 abbrev pub inet_nla_model : InetNla (String Global) DefaultNla → AttributeValue inet_attribute_set
 inet_nla_model a = inet_nla_value string_bytes raw_attribute a
 
--- the model of a borrowed attribute: its decoded value, with the bytes that it borrows
+-- the model of a borrowed attribute, the same as of the owned one: a text is the bytes that it
+-- borrows
 abbrev pub inet_nla_view_model : InetNla (Bor (List ℕ)) NlaBuffer
     → AttributeValue inet_attribute_set
 inet_nla_view_model a = inet_nla_value (λ (t : Bor (List ℕ)). t.now) buffered_attribute a

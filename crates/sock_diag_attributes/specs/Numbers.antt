@@ -1,6 +1,7 @@
 -- Little-endian numbers that make up the complete value of an attribute. The arguments of
--- `whole_value_codec` are: how a value is parsed, how it is serialized, which values are in range,
--- and which are in normal form. With `whole_value_codec`, only equal bytes are equivalent (`idle`).
+-- `whole_value_codec` are, in this order: how a value is parsed, how it is serialized, which values
+-- are in range, and which are in normal form. With `whole_value_codec`, only equal bytes are
+-- equivalent (`idle`).
 use Rattle.std.specs.List.{AllByRecursion}
 use Rattle.netlink_core.specs.ValueCodec.{ValueCodec}
 use Rattle.netlink_core.specs.AttributeSpecs.{whole_value_codec}
@@ -18,7 +19,8 @@ numbers_in bytes = []
 
 -- Two little-endian numbers of four bytes each, in exactly eight bytes, as the value of an
 -- attribute of type `k`, such as `struct unix_diag_rqlen` (linux/unix_diag.h): `udiag_rqueue`,
--- `udiag_wqueue`. Any other length is `WrongLength`, which contains `k`.
+-- `udiag_wqueue`. Any other length is `WrongLength`, which contains `k`, the length, and 8. Each
+-- pair is in normal form.
 abbrev pub number_pair_value : ℕ → ValueCodec (Unit {0})
 number_pair_value k = whole_value_codec {A = ℕ × ℕ}
     (λ b. if length b == 8 then Ok (little_number 4 b, little_number 4 (drop 4 b))

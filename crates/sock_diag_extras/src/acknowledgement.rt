@@ -76,7 +76,8 @@ impl<'a> AckView<'a> {
     /// attributes, if the flags have `NLM_F_ACK_TLVS`. Returns `None` if there are fewer than four
     /// bytes.
     pub fn of_done(flags: u16, payload: &'a [u8]) -> Option<AckView<'a>>
-        // leading_error_number: the signed little-endian number in the first four bytes, or `None`.
+        // leading_error_number: the signed little-endian number in the first four bytes, or `None`
+        // if there are fewer. So the result is `None` if and only if there are fewer.
         ensures number { option_map ack_number result ≡ leading_error_number payload.entry.now }
         ensures request { IfSome result (λ ack. ack_request ack ≡ []) }
         ensures attributes { IfSome result (λ ack.

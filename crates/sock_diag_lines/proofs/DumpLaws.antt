@@ -10,10 +10,11 @@ use Rattle.netlink_core.specs.Envelope.{Payload}
 use Rattle.netlink_core.specs.Items.{IsItemOf, AreItemsOf}
 use Rattle.netlink_core.proofs.Items.{items_of, one_list, zip_append}
 use Rattle.netlink_packet_sock_diag.specs.Dump.{AreCompleteExceptLast, DumpOfItems, DumpStatus}
+use Rattle.netlink_packet_sock_diag.specs.Dump.{HaveSameItems, concatenation}
 use Rattle.netlink_packet_sock_diag.specs.Message.{Message, message_codec}
 use Rattle.netlink_packet_sock_diag.specs.laws.Message.{message_laws}
 use Rattle.netlink_packet_sock_diag.proofs.DumpRows.{dump_of_split, has_dump, items_of_each}
-use Rattle.netlink_packet_sock_diag.proofs.DumpRows.{dump_of_joined, concatenation, one_dumps}
+use Rattle.netlink_packet_sock_diag.proofs.DumpRows.{dump_of_joined, one_dumps}
 use Rattle.netlink_packet_sock_diag.proofs.DumpRows.{equal_dumps, split_of_dump, reading_status}
 use Rattle.sock_diag_lines.specs.DumpLine.{IsDumpAnswer, dump_text}
 use Rattle.sock_diag_lines.specs.HexField.{IsHexField}
@@ -80,13 +81,11 @@ one_dump_text datagrams in_range = one_text IsWritable dump_text (IsDumpOf datag
 
 -- datagrams with the same concatenated items have the same answer
 pub answers_same_items : (datagrams others : List (List ℕ))
-    (xs ys : List (List (Result (Payload Message) DecodeError)))
-    → AllByRecursion IsBytes datagrams → AllZip (AreItemsOf (IsItemOf message_codec)) datagrams xs
-    → AllZip (AreItemsOf (IsItemOf message_codec)) others ys → concatenation xs ≡ concatenation ys
+    → AllByRecursion IsBytes datagrams → HaveSameItems (IsItemOf message_codec) datagrams others
     → (text : List ℕ) → IsDumpAnswer datagrams text → IsDumpAnswer others text
-answers_same_items datagrams others xs ys in_range each also same text =
+answers_same_items datagrams others in_range same text =
     answers_more IsWritable dump_text (λ d. equal_dumps (IsItemOf message_codec) one_items datagrams
-    others xs ys in_range each also same [] d.0 d.1) (λ fault never. never)
+    others in_range same [] d.0 d.1) (λ fault never. never)
 
 -- another split of the same bytes has the same answer
 pub answers_split : (datagrams others : List (List ℕ)) → AllByRecursion IsBytes others

@@ -4,12 +4,10 @@ ghost use Rattle.sock_diag_lines.specs.declared.answers.Name.{Name};
 ghost use Rattle.sock_diag_lines.specs.declared.answers.Name.TheVariants.{NetlinkMessage, UnixView};
 ghost use Rattle.std.specs.Prelude.{◌≡◌, ◌≢◌, ◌↔◌, ◌++◌, ◌∷◌, [], ℕ, List, codes, decimal, Result};
 ghost use Rattle.std.specs.Prelude.{IfOk, OnOk, MatchOption};
-ghost use Rattle.std.specs.List.{AllZip, concat, flat_map};
-ghost use Rattle.netlink_core.specs.Envelope.{Payload};
-ghost use Rattle.netlink_core.specs.Items.{IsItemOf, AreItemsOf};
+ghost use Rattle.std.specs.List.{concat};
+ghost use Rattle.netlink_core.specs.Items.{IsItemOf};
 ghost use Rattle.netlink_core.specs.declared.message.NetlinkPayload.TheVariants.{InnerMessage};
-ghost use Rattle.netlink_core.specs.declared.fault.DecodeError.{DecodeError};
-ghost use Rattle.netlink_packet_sock_diag.specs.Dump.{AreCompleteExceptLast};
+ghost use Rattle.netlink_packet_sock_diag.specs.Dump.{AreCompleteExceptLast, HaveSameItems};
 ghost use Rattle.netlink_packet_sock_diag.specs.Message.{Message, message_codec};
 ghost use Rattle.netlink_packet_sock_diag.specs.Message.{netlink_message_codec};
 ghost use Rattle.netlink_packet_sock_diag.specs.MessageViewModel.{message_view_model};
@@ -102,15 +100,12 @@ pub fn answer(alloc: Global, line: &[u8]) -> Result<Vec<u8>, AllocError>
         → C.reads bytes param value → C.fits value
         → C.reads bytes' param value' → C.fits value'
         → IsAnswerOf other text' → C.idle param bytes bytes' → text.items ≡ text') }
-    // Two dumps have the same answer if the concatenated items of their datagrams are equal:
-    // `items` has a list for each datagram, with the payload or the error of each message.
+    // Two dumps have the same answer if their datagrams have the same items: the payload or the
+    // error of each message, of all datagrams in order.
     ensures dumps { IfOk result
         (λ text. (other text' : List ℕ) (datagrams datagrams' : List (List ℕ))
-        (items items' : List (List (Result (Payload Message) DecodeError)))
         → IsDumpRequest line.now datagrams → IsDumpRequest other datagrams'
-        → AllZip (AreItemsOf (IsItemOf message_codec)) datagrams items
-        → AllZip (AreItemsOf (IsItemOf message_codec)) datagrams' items'
-        → flat_map (λ one. one) items ≡ flat_map (λ one. one) items'
+        → HaveSameItems (IsItemOf message_codec) datagrams datagrams'
         → IsAnswerOf other text' → text.items ≡ text') }
     // Two dumps of the same concatenated bytes have the same answer, if each of their datagrams
     // except the last consists of complete messages with all their padding.

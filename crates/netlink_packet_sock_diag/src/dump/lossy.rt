@@ -95,9 +95,9 @@ impl LossyDump {
         self.dump.standing.1
     }
 
-    /// Returns whether the dump was interrupted: a message up to and including its end, valid or
-    /// not, had `NLM_F_DUMP_INTR`. See
-    /// [`DumpReader::is_interrupted`](crate::DumpReader::is_interrupted).
+    /// Returns whether the dump was interrupted: whether a message up to and including the one that
+    /// ended it had the flag `NLM_F_DUMP_INTR`. The header of a message counts even if its payload
+    /// is rejected. See [`DumpReader::is_interrupted`](crate::DumpReader::is_interrupted).
     pub fn is_interrupted(&self) -> bool
         ensures { result ≡ (lossy_progress self.now).is_interrupted }
     {

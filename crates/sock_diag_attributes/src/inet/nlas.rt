@@ -125,10 +125,11 @@ impl Nla {
     /// may need an allocation.
     pub fn clone(&self, alloc: Global) -> Result<Self, AllocError>
         ensures equal { IfOk result (λ copy. inet_nla_model copy ≡ inet_nla_model self.now) }
-        // `spare`: no allocation for the types that need no memory: any variant except `Congestion`
-        // and `Other`.
+        // `spare`: cloning does not fail for types whose values need no memory: any variant except
+        // `Congestion` and `Other`.
         ensures spare { NeedsNoMemoryIn inet_attribute_set (inet_nla_model self.now) → IsOk result }
-        // `empty`: no allocation if the value serializes to no bytes: an `Other` without bytes.
+        // `empty`: cloning does not fail if the value serializes to no bytes: an `Other` without
+        // bytes.
         ensures empty { (encode_attribute inet_attribute_set (inet_nla_model self.now)).value ≡ []
             → IsOk result }
     {
@@ -251,11 +252,12 @@ impl<'a> NlaView<'a> {
     #[inline(always)]
     pub fn to_owned(&self, alloc: Global) -> Result<Nla, AllocError>
         ensures equal { IfOk result (λ nla. inet_nla_model nla ≡ inet_nla_view_model self.now) }
-        // `spare`: no allocation for the types that need no memory: any variant except `Congestion`
-        // and `Other`.
+        // `spare`: cloning does not fail for types whose values need no memory: any variant except
+        // `Congestion` and `Other`.
         ensures spare { NeedsNoMemoryIn inet_attribute_set (inet_nla_view_model self.now)
             → IsOk result }
-        // `empty`: no allocation if the value serializes to no bytes: an `Other` without bytes.
+        // `empty`: cloning does not fail if the value serializes to no bytes: an `Other` without
+        // bytes.
         ensures empty { (encode_attribute inet_attribute_set (inet_nla_view_model self.now)).value
             ≡ [] → IsOk result }
     {

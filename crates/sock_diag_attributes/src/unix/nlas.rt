@@ -109,11 +109,11 @@ impl Nla {
     /// whose value is not empty, may need an allocation.
     pub fn clone(&self, alloc: Global) -> Result<Self, AllocError>
         ensures equal { IfOk result (λ copy. unix_nla_model copy ≡ unix_nla_model self.now) }
-        // `spare`: no allocation for the types that need no memory: any variant except `Name`,
-        // `PendingConnections` and `Other`.
+        // `spare`: cloning does not fail for types whose values need no memory: any variant except
+        // `Name`, `PendingConnections` and `Other`.
         ensures spare { NeedsNoMemoryIn unix_attribute_set (unix_nla_model self.now) → IsOk result }
-        // `empty`: no allocation if the value serializes to no bytes: a `PendingConnections` or an
-        // `Other` without bytes.
+        // `empty`: cloning does not fail if the value serializes to no bytes: a
+        // `PendingConnections` or an `Other` without bytes.
         ensures empty { (encode_attribute unix_attribute_set (unix_nla_model self.now)).value ≡ []
             → IsOk result }
     {
@@ -235,12 +235,12 @@ impl<'a> NlaView<'a> {
     #[inline(always)]
     pub fn to_owned(&self, alloc: Global) -> Result<Nla, AllocError>
         ensures equal { IfOk result (λ nla. unix_nla_model nla ≡ unix_nla_view_model self.now) }
-        // `spare`: no allocation for the types that need no memory: any variant except `Name`,
-        // `PendingConnections` and `Other`.
+        // `spare`: cloning does not fail for types whose values need no memory: any variant except
+        // `Name`, `PendingConnections` and `Other`.
         ensures spare { NeedsNoMemoryIn unix_attribute_set (unix_nla_view_model self.now)
             → IsOk result }
-        // `empty`: no allocation if the value serializes to no bytes: a `PendingConnections` or an
-        // `Other` without bytes.
+        // `empty`: cloning does not fail if the value serializes to no bytes: a
+        // `PendingConnections` or an `Other` without bytes.
         ensures empty { (encode_attribute unix_attribute_set (unix_nla_view_model self.now)).value
             ≡ [] → IsOk result }
     {

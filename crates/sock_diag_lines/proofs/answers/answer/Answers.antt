@@ -31,11 +31,11 @@ returns-clause-alike c = λ name other bytes bytes' text' v w asked asked' r f s
     )).1
 
 pub returns-clause-dumps : goal.returns-clause-dumps
-returns-clause-dumps c = λ other text' datagrams datagrams' xs ys asked asked' each also same is'.
+returns-clause-dumps c = λ other text' datagrams datagrams' asked asked' same is'.
     let is = whole c.args.line.now _ _ c.new-text.ensures.items c.in_ok-push_answer.ensures in
     one_dump_text datagrams' (datagrams_in_range other datagrams' asked') _ text'
-    (answers_same_items datagrams datagrams' xs ys
-    (datagrams_in_range c.args.line.now datagrams asked) each also same _
+    (answers_same_items datagrams datagrams'
+    (datagrams_in_range c.args.line.now datagrams asked) same _
     (is.dumped datagrams asked))
     (is'.dumped datagrams' asked')
 
