@@ -63,8 +63,8 @@ inet_variant (inr (inr (inr (inr (inr (inr (inr (inr (inr (inr (inl class)))))))
 inet_variant (inr (inr (inr (inr (inr (inr (inr (inr (inr (inr (inr other))))))))))) =
     nla.Other other
 
--- the model of an owned attribute, which contracts compare: the decoded value of its variant, a text
--- as its bytes, and a raw attribute as its type field and value
+-- the model of an owned attribute, which contracts compare: the decoded value of its variant, a
+-- text as its bytes, and a raw attribute as its type field and value
 abbrev pub inet_nla_model : InetNla (String Global) DefaultNla → AttributeValue inet_attribute_set
 inet_nla_model a = inet_nla_value string_bytes raw_attribute a
 

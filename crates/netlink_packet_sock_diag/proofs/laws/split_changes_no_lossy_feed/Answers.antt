@@ -7,8 +7,8 @@ use Rattle.netlink_packet_sock_diag.proofs.laws.split_changes_no_lossy_feed.Goal
 
 pub returns : goal.returns
 returns c = record {
-  same = equal_feeds_of_splits (HasLossyEntry message_codec) (some_entries message_codec message_laws)
-      (one_list_of_entries message_codec message_laws);
+  same = equal_feeds_of_splits (HasLossyEntry message_codec)
+      (some_entries message_codec message_laws) (one_list_of_entries message_codec message_laws);
   whole = feeding_whole (HasLossyEntry message_codec) (some_entries message_codec message_laws)
       (one_list_of_entries message_codec message_laws);
 }
