@@ -57,9 +57,8 @@ InterruptsDump bytes (item ∷ items) = (message rest : List ℕ) × StartsWithM
 
 -- `is` relates a message to its item. It is the first argument of each definition of this module.
 module _ {A : Type 0} (is : List ℕ → Item A → Type 0) where
--- `is` relates a message to its item. It is the first argument of each definition of this
--- module.
-  -- those of `new`, and lead to this end. The dump is interrupted if it was before, or if the
+  -- `ReadsDatagram is old datagram new end`: the items of the datagram extend the messages of `old`
+  -- to those of `new`, and lead to this end. The dump is interrupted if it was before, or if the
   -- datagram interrupts it. The state and the error number of `old` and `new` are not considered.
   abbrev pub ReadsDatagram : DumpProgress A → List ℕ → DumpProgress A
       → Result DumpStatus DecodeError → Type 0
