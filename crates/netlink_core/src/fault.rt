@@ -79,8 +79,9 @@ pub enum DecodeError {
     UnknownMessageType {
         message_type: u16,
     },
-    /// At the start of an attribute only `left` bytes are left, fewer than the 4 bytes of its
-    /// header.
+    /// Fewer bytes are left than the 4 of an attribute's header.
+    ///
+    /// `left` is their number.
     #[error("attribute header cut: {left} bytes left")]
     AttributeHeaderCut {
         left: usize,
@@ -97,8 +98,9 @@ pub enum DecodeError {
         length: u16,
         left: usize,
     },
-    /// A value does not have the length that its kind requires. The kind is `None` if the value was
-    /// parsed by itself.
+    /// A value does not have the length that its kind requires.
+    ///
+    /// The kind is `None` if the value was parsed by itself.
     #[error("value of {got} bytes, {need} needed")]
     WrongLength {
         kind: Option<u16>,
@@ -116,7 +118,9 @@ pub enum DecodeError {
     /// A socket's name has no bytes.
     #[error("name is empty")]
     NameEmpty,
-    /// A pathname contains a NUL before its last byte. `index` is the index of the first NUL.
+    /// A pathname contains a NUL before its last byte.
+    ///
+    /// `index` is the index of the first NUL.
     #[error("pathname holds a zero at {index}")]
     NameInnerZero {
         index: usize,

@@ -15,8 +15,9 @@ use netlink_packet_sock_diag::unix::UnixResponseView;
 /// Return value of a check that accepts the bytes.
 pub(crate) const OK: u32 = 0;
 
-/// Checks a whole reply about a UNIX socket, and returns its header. The bytes are the payload of
-/// the netlink message. Returns 0, or the code of the first error; then the header is unchanged.
+/// Checks a whole reply about a UNIX socket, with its attributes, and returns its header. The bytes
+/// are the payload of the netlink message. Returns 0, or the code of the first error; then the
+/// header is unchanged.
 #[unsafe(no_mangle)]
 pub extern "C" fn sockdiag_check_unix_reply(payload: &[u8], header: &mut UnixHeader) -> u32
     ensures { IsCheckResult ((response_codec unix_response_spec).reads payload.now tt)
@@ -32,9 +33,9 @@ pub extern "C" fn sockdiag_check_unix_reply(payload: &[u8], header: &mut UnixHea
     }
 }
 
-/// Checks a whole reply about an IPv4 or IPv6 socket, and returns its header. The bytes are the
-/// payload of the netlink message. Returns 0, or the code of the first error; then the header is
-/// unchanged.
+/// Checks a whole reply about an IPv4 or IPv6 socket, with its attributes, and returns its header.
+/// The bytes are the payload of the netlink message. Returns 0, or the code of the first error;
+/// then the header is unchanged.
 #[unsafe(no_mangle)]
 pub extern "C" fn sockdiag_check_inet_reply(payload: &[u8], header: &mut InetHeader) -> u32
     ensures { IsCheckResult ((response_codec inet_response_spec).reads payload.now tt)
@@ -50,9 +51,10 @@ pub extern "C" fn sockdiag_check_inet_reply(payload: &[u8], header: &mut InetHea
     }
 }
 
-/// Checks the whole payload of a message of this type, and stores the kind of the reply (1 UNIX, 2
-/// IPv4 or IPv6) and its header. The header of the other kind is unchanged. Returns 0, or the code
-/// of the first error; then the reply is unchanged.
+/// Checks the whole payload of a message of this type, and stores the kind of the reply and its
+/// header. The first byte is the family: `AF_UNIX` for a reply about a UNIX socket, `AF_INET` or
+/// `AF_INET6` for one about an internet socket. The header of the other kind is unchanged. Returns
+/// 0, or the code of the first error; then the reply is unchanged.
 #[unsafe(no_mangle)]
 pub extern "C" fn sockdiag_check_message(
     payload: &[u8],

@@ -19,7 +19,7 @@ use crate::inet_details::InetDetails;
 use crate::unix_details::UnixDetails;
 use netlink_core::{DecodeError, NlaBuffer, NlasIterator};
 
-/// A number that a reply may contain: `struct sockdiag_number` of `include/sockdiag.h`.
+/// A number that a reply may contain.
 #[repr(C)]
 #[derive(Clone, Copy)]
 pub struct Number {
@@ -29,14 +29,16 @@ pub struct Number {
     pub value: u32,
 }
 
-/// A text that a reply may contain: `struct sockdiag_text` of `include/sockdiag.h`.
+/// A text that a reply may contain, as a pointer into the bytes of the reply.
 #[repr(C)]
 #[derive(Clone, Copy)]
 pub struct Text<'a> {
-    /// Kind of the text. 0: the reply contains no such text. 1: a pathname, or the name of a
-    /// congestion control algorithm. 2: an abstract name. 3: bytes that are not text.
+    /// Kind of the text. `SOCKDIAG_TEXT`: a pathname, or the name of a congestion control
+    /// algorithm. `SOCKDIAG_ABSTRACT`: an abstract name. `SOCKDIAG_BYTES`: bytes that are not text.
+    /// 0: the reply contains no such text.
     pub kind: u32,
-    /// The text, without the NUL that ends a text or precedes an abstract name.
+    /// The text, without the NUL that ends a text or precedes an abstract name. In the reply, a
+    /// pathname is followed by its NUL; other texts may have none.
     pub bytes: &'a [u8],
 }
 
@@ -117,9 +119,11 @@ pub(crate) trait KeepsDetails<'a>: Copy {
             decode_attribute reply.attribute_set (buffered_attribute nla.now) ≡ Err e) };
 }
 
-/// Checks a whole reply about a UNIX socket, and returns its contents, in one pass. The bytes are
-/// the payload of the netlink message. Returns 0, or the code of the first error; then the details
-/// are unchanged. If the reply has several attributes of a kind, the first one counts.
+/// Checks a whole reply about a UNIX socket, as `sockdiag_check_unix_reply` does, and returns its
+/// contents, in one pass over the attributes. The bytes are the payload of the netlink message.
+/// Returns 0, or the code of the first error; then the details are unchanged. The previous contents
+/// of the details are not read. If the reply has several attributes of a kind, the first one
+/// counts. Texts point into the payload, and are valid as long as it is.
 #[unsafe(no_mangle)]
 pub extern "C" fn sockdiag_unix_get_details<'a>(
     payload: &'a [u8],
@@ -133,11 +137,13 @@ pub extern "C" fn sockdiag_unix_get_details<'a>(
     tell_reply(payload, details)
 }
 
-/// Checks a whole reply about an IPv4 or IPv6 socket, and returns its header and the attributes
-/// that are a text or a number, in one pass. Memory and `struct tcp_info` are checked, and not
-/// returned. The bytes are the payload of the netlink message. Returns 0, or the code of the first
-/// error; then the details are unchanged. If the reply has several attributes of a kind, the first
-/// one counts.
+/// Checks a whole reply about an IPv4 or IPv6 socket, as `sockdiag_check_inet_reply` does, and
+/// returns its header and the attributes that are a text or a number, in one pass over the
+/// attributes. Memory and `struct tcp_info` are checked, and not returned. The bytes are the
+/// payload of the netlink message. Returns 0, or the code of the first error; then the details are
+/// unchanged. The previous contents of the details are not read. If the reply has several
+/// attributes of a kind, the first one counts. Texts point into the payload, and are valid as long
+/// as it is.
 #[unsafe(no_mangle)]
 pub extern "C" fn sockdiag_inet_get_details<'a>(
     payload: &'a [u8],

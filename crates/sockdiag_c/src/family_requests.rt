@@ -10,44 +10,44 @@ use netlink_packet_sock_diag::{AF_NETLINK, AF_PACKET};
 use sock_diag_families::vsock;
 use sock_diag_families::xdp::AF_XDP;
 
-/// A request for netlink, packet or XDP sockets: `struct sockdiag_show_request` of
-/// `include/sockdiag.h`.
+/// A request for netlink, packet or XDP sockets: `struct netlink_diag_req`, `packet_diag_req` or
+/// `xdp_diag_req` of `linux/netlink_diag.h`, `linux/packet_diag.h` or `linux/xdp_diag.h`.
 #[repr(C)]
 #[derive(Clone, Copy)]
 pub struct ShowRequest {
     /// Fields of the netlink header.
     pub header: RequestHeader,
-    /// `AF_NETLINK`, `AF_PACKET` or `AF_XDP` (`sdiag_family`).
+    /// `AF_NETLINK`, `AF_PACKET` or `AF_XDP` (`sdiag_family`, at 0).
     pub family: u8,
-    /// Protocol of netlink sockets (`sdiag_protocol`), one of `NETLINK_..` or `NDIAG_PROTO_ALL`. 0
-    /// for other families.
+    /// Protocol of netlink sockets (`sdiag_protocol`, at 1), one of `NETLINK_..` or
+    /// `NDIAG_PROTO_ALL`. 0 for other families.
     pub protocol: u8,
-    /// Inode, to request a single socket (`ndiag_ino`, `pdiag_ino`, `xdiag_ino`). Linux only lists
-    /// these sockets, and ignores it.
+    /// Inode, to request a single socket (`ndiag_ino`, `pdiag_ino`, `xdiag_ino`, at 4). Linux only
+    /// lists these sockets, and ignores it.
     pub inode: u32,
     /// Attributes that the replies shall have, a set of `NDIAG_SHOW_..`, `PACKET_SHOW_..` or
-    /// `XDP_SHOW_..` (`ndiag_show`, `pdiag_show`, `xdiag_show`).
+    /// `XDP_SHOW_..` (`ndiag_show`, `pdiag_show`, `xdiag_show`, at 8).
     pub show: u32,
     /// Cookie that distinguishes sockets with the same inode (`ndiag_cookie`, `pdiag_cookie`,
-    /// `xdiag_cookie`), to request a single socket. Linux ignores it.
+    /// `xdiag_cookie`, at 12), to request a single socket. Linux ignores it.
     pub cookie: u64,
 }
 
-/// A request for vsock sockets: `struct sockdiag_vsock_request` of `include/sockdiag.h`.
+/// A request for vsock sockets: `struct vsock_diag_req` of `linux/vm_sockets_diag.h`.
 #[repr(C)]
 #[derive(Clone, Copy)]
 pub struct VsockRequest {
     /// Fields of the netlink header.
     pub header: RequestHeader,
-    /// States to include, with the bit `1 << TCP_LISTEN` for `TCP_LISTEN` (`vdiag_states`).
+    /// States to include, with the bit `1 << TCP_LISTEN` for `TCP_LISTEN` (`vdiag_states`, at 4).
     pub states: u32,
-    /// Cookie that distinguishes sockets (`vdiag_cookie`). Linux ignores it.
+    /// Cookie that distinguishes sockets (`vdiag_cookie`, at 16). Linux ignores it.
     pub cookie: u64,
 }
 
 /// Writes a request for netlink, packet or XDP sockets, a netlink message of 36 bytes, at the start
-/// of the buffer. Returns 36. Returns 0 if the buffer is shorter, or if the family is none of
-/// `AF_NETLINK`, `AF_PACKET` and `AF_XDP`; then nothing is written.
+/// of the buffer; bytes after it are unchanged. Returns 36. Returns 0 if the buffer is shorter, or
+/// if the family is none of `AF_NETLINK`, `AF_PACKET` and `AF_XDP`; then nothing is written.
 #[unsafe(no_mangle)]
 pub extern "C" fn sockdiag_write_show_request(request: &ShowRequest, buffer: &mut [u8]) -> usize
     ensures written { (request.now.family ≡ 16) ⊎ ((request.now.family ≡ 17)
@@ -64,8 +64,9 @@ pub extern "C" fn sockdiag_write_show_request(request: &ShowRequest, buffer: &mu
     }
 }
 
-/// Writes a request for vsock sockets, a netlink message of 40 bytes, at the start of the buffer.
-/// Returns 40, or 0 if the buffer is shorter; then nothing is written.
+/// Writes a request for vsock sockets, a netlink message of 40 bytes, at the start of the buffer;
+/// bytes after it are unchanged. Returns 40, or 0 if the buffer is shorter; then nothing is
+/// written.
 #[unsafe(no_mangle)]
 pub extern "C" fn sockdiag_write_vsock_request(request: &VsockRequest, buffer: &mut [u8]) -> usize
     ensures { WritesMessage 40 (vsock_message request.now) buffer.old buffer.new result }

@@ -12,7 +12,8 @@ use crate::walks::{END, ITEM};
 use netlink_core::DecodeError;
 use sock_diag_values::inet::MemInfo;
 
-/// Memory of a netlink, packet or XDP socket: `struct sockdiag_memory` of `include/sockdiag.h`.
+/// Memory of a netlink, packet or XDP socket: the fields `SK_MEMINFO_..` of `linux/sock_diag.h`. A
+/// reply contains the first seven fields together, or none of them.
 #[repr(C)]
 #[derive(Clone, Copy)]
 pub struct Memory {
@@ -32,9 +33,9 @@ pub struct Memory {
     /// Memory of the socket options, in bytes (`SK_MEMINFO_OPTMEM`, at 24).
     pub options: Number,
     /// Memory of packets that wait while the socket is locked, in bytes (`SK_MEMINFO_BACKLOG`, at
-    /// 28).
+    /// 28). Older kernels do not send it.
     pub backlog_queue_length: Number,
-    /// Number of dropped packets (`SK_MEMINFO_DROPS`, at 32).
+    /// Number of dropped packets (`SK_MEMINFO_DROPS`, at 32). Older kernels do not send it.
     pub drops: Number,
 }
 

@@ -21,16 +21,20 @@ use netlink_packet_sock_diag::inet::INET_REQUEST_LEN;
 /// Writes a request for IPv4 or IPv6 sockets at the start of the buffer; bytes after it are
 /// unchanged. It is a netlink message of 72 bytes, or of 80 if the protocol is above 255, followed
 /// by the attributes and zeros up to a multiple of 4, all of which its length field counts. Such an
-/// attribute is the bytecode of a filter, `INET_DIAG_REQ_BYTECODE`. The framing of the attributes
-/// is checked, and their values are not.
+/// attribute is the bytecode of a filter, `INET_DIAG_REQ_BYTECODE` of `linux/inet_diag.h`, which
+/// the kernel runs on each socket. The bytes have to be a sequence of complete attributes. Their
+/// values are not checked.
 ///
 /// Returns the number of bytes that were written, which is also stored in `outcome.needed`. Returns
 /// 0 if nothing was written, for the first of these reasons that applies:
-/// - The framing of the attributes is invalid. `outcome.fault` is the code of the first error; in
-///   all other cases it is 0. `outcome.needed` is 0.
+/// - The framing of the attributes is invalid. `outcome.fault` is the code of the first error, 7 to
+///   9; in all other cases it is 0. `outcome.needed` is 0.
 /// - The family is neither `AF_INET` nor `AF_INET6`, or the whole has more than 4,294,967,295
-///   bytes. `outcome.needed` is 0.
-/// - The buffer is shorter than needed. `outcome.needed` is the number of bytes.
+///   bytes, too many for a length field. `outcome.needed` is 0.
+/// - The buffer is shorter than needed. `outcome.needed` is the number of bytes that it has to
+///   have.
+///
+/// `outcome` is set in any case.
 #[unsafe(no_mangle)]
 pub extern "C" fn sockdiag_write_inet_request_with_attributes(
     request: &InetRequest,

@@ -10,7 +10,7 @@ use netlink_packet_sock_diag::unix::UnixResponseHeader;
 use std::net::IpAddr;
 use std::time::Duration;
 
-/// Header of a reply about a UNIX socket: `struct sockdiag_unix_header` of `include/sockdiag.h`.
+/// Header of a reply about a UNIX socket: `struct unix_diag_msg` of sock_diag(7).
 #[repr(C)]
 #[derive(Clone, Copy)]
 pub struct UnixHeader {
@@ -25,8 +25,7 @@ pub struct UnixHeader {
     pub cookie: [u8; 8],
 }
 
-/// Header of a reply about an IPv4 or IPv6 socket: `struct sockdiag_inet_header` of
-/// `include/sockdiag.h`.
+/// Header of a reply about an IPv4 or IPv6 socket: `struct inet_diag_msg` of sock_diag(7).
 #[repr(C)]
 #[derive(Clone, Copy)]
 pub struct InetHeader {
@@ -67,11 +66,11 @@ pub struct InetHeader {
     pub inode: u32,
 }
 
-/// A reply about a UNIX, IPv4 or IPv6 socket: `struct sockdiag_reply` of `include/sockdiag.h`.
+/// A reply about a UNIX, IPv4 or IPv6 socket.
 #[repr(C)]
 #[derive(Clone, Copy)]
 pub struct Reply {
-    /// Which of the two headers is set: 1 for a UNIX socket, 2 for an IPv4 or IPv6 socket.
+    /// `SOCKDIAG_UNIX` or `SOCKDIAG_INET`: which of the two headers is set.
     pub kind: u32,
     /// Header of a reply about a UNIX socket.
     pub unix_header: UnixHeader,

@@ -16,8 +16,8 @@ use netlink_core::{DecodeError, NlaBuffer};
 use netlink_packet_sock_diag::inet::nlas::NlaView;
 use netlink_packet_sock_diag::inet::{INET_RESPONSE_HEADER_LEN, InetResponseHeader};
 
-/// The contents of a reply about an IPv4 or IPv6 socket: `struct sockdiag_inet_details` of
-/// `include/sockdiag.h`.
+/// Everything that a reply contains about an IPv4 or IPv6 socket, except its TCP connection and its
+/// memory, which have separate calls.
 #[repr(C)]
 #[derive(Clone, Copy)]
 pub struct InetDetails<'a> {

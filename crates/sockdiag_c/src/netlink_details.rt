@@ -15,8 +15,8 @@ use netlink_core::DecodeError;
 use sock_diag_any::netlink::{self, NetlinkResponseView};
 use sock_diag_families::netlink::NetlinkResponseHeader;
 
-/// The contents of a reply about a netlink socket: `struct sockdiag_netlink_details` of
-/// `include/sockdiag.h`.
+/// Everything that a reply contains about a netlink socket, by the attributes of
+/// `linux/netlink_diag.h`.
 #[repr(C)]
 #[derive(Clone, Copy)]
 pub struct NetlinkDetails<'a> {
@@ -25,7 +25,7 @@ pub struct NetlinkDetails<'a> {
     /// Socket memory (`NETLINK_DIAG_MEMINFO`, type 0).
     pub memory: Memory,
     /// Groups that the socket is a member of, one bit each; group 1 is the lowest bit of the first
-    /// byte (`NETLINK_DIAG_GROUPS`, type 1).
+    /// byte (`NETLINK_DIAG_GROUPS`, type 1). The kind of the text is `SOCKDIAG_BYTES`.
     pub groups: Text<'a>,
     /// The bits `NDIAG_FLAG_..` (`NETLINK_DIAG_FLAGS`, type 4).
     pub flags: Number,
@@ -35,7 +35,7 @@ pub struct NetlinkDetails<'a> {
 /// of the netlink message. Returns 0, or the code of the first error; then the details are
 /// unchanged. If the reply has several attributes of a kind, the first one counts. The framing of
 /// all attributes is checked before their values, and values are checked in the order of their
-/// kinds.
+/// kinds. Texts point into the payload, and are valid as long as it is.
 #[unsafe(no_mangle)]
 pub extern "C" fn sockdiag_netlink_get_details<'a>(
     payload: &'a [u8],

@@ -15,8 +15,8 @@ use netlink_core::DecodeError;
 use sock_diag_any::packet::{self, PacketResponseView};
 use sock_diag_families::packet::{PacketInfo, PacketResponseHeader, PacketRing};
 
-/// The contents of a reply about a packet socket: `struct sockdiag_packet_details` of
-/// `include/sockdiag.h`.
+/// Everything that a reply contains about a packet socket, by the attributes of
+/// `linux/packet_diag.h`.
 #[repr(C)]
 #[derive(Clone, Copy)]
 pub struct PacketDetails<'a> {
@@ -26,8 +26,9 @@ pub struct PacketDetails<'a> {
     pub has_info: u32,
     /// Settings of the socket (`PACKET_DIAG_INFO`, type 0).
     pub info: PacketInfo,
-    /// Addresses that the socket receives in addition to its interface's, 44 bytes each,
-    /// `struct packet_diag_mclist` (`PACKET_DIAG_MCLIST`, type 1).
+    /// Addresses that the socket receives in addition to its interface's, 44 bytes each, `struct
+    /// packet_diag_mclist` (`PACKET_DIAG_MCLIST`, type 1). The kind of the text is
+    /// `SOCKDIAG_BYTES`.
     pub addresses: Text<'a>,
     /// 1 if `receive_ring` is set, else 0.
     pub has_receive_ring: u32,
@@ -45,15 +46,16 @@ pub struct PacketDetails<'a> {
     /// Socket memory (`PACKET_DIAG_MEMINFO`, type 6).
     pub memory: Memory,
     /// Instructions of the socket filter, 8 bytes each, `struct sock_filter` (`PACKET_DIAG_FILTER`,
-    /// type 7).
+    /// type 7). The kind of the text is `SOCKDIAG_BYTES`.
     pub filter: Text<'a>,
 }
 
-/// Checks a whole reply about a packet socket, and stores its contents. The bytes are the payload
+/// Checks a whole reply about a packet socket, and returns its contents. The bytes are the payload
 /// of the netlink message. Returns 0, or the code of the first error; then the details are
 /// unchanged. If the reply has several attributes of a kind, the first one counts. The framing of
 /// all attributes is checked before their values, and values are checked in the order of their
-/// kinds. A record that the reply does not contain is unchanged, and its field `has_..` is 0.
+/// kinds. A record that the reply does not contain is unchanged, and its field `has_..` is 0. Texts
+/// point into the payload, and are valid as long as it is.
 #[unsafe(no_mangle)]
 pub extern "C" fn sockdiag_packet_get_details<'a>(
     payload: &'a [u8],

@@ -10,9 +10,10 @@ ghost use Rattle.sockdiag_c.specs.UnixDetails.{pending_inodes};
 use crate::walks::{END, ITEM};
 use netlink_packet_sock_diag::unix::UnixResponseView;
 
-/// Stores the inode of the connection at this index of the first `UNIX_DIAG_ICONS` of a reply,
-/// which is the payload of a netlink message. The first connection has index 0. Returns 1. Returns
-/// 0 if the reply is rejected, or has no connection at this index; then the inode is unchanged.
+/// Stores the inode of a connection that waits to be accepted on a UNIX socket: the one at this
+/// index of the first `UNIX_DIAG_ICONS` of a reply, which is the payload of a netlink message. The
+/// first connection has index 0. Returns 1. Returns 0 if the reply is rejected, or has no
+/// connection at this index; then the inode is unchanged.
 #[unsafe(no_mangle)]
 pub extern "C" fn sockdiag_unix_get_pending(payload: &[u8], index: usize, inode: &mut u32) -> u32
     // Either the reply is accepted, and the inode at the index is stored, if there is one. Or it is

@@ -18,8 +18,8 @@ use netlink_packet_sock_diag::inet::{self, ExtensionFlags, SocketId};
 use netlink_packet_sock_diag::unix::{self, ShowFlags};
 use std::net::{IpAddr, Ipv4Addr, Ipv6Addr};
 
-/// Fields of the netlink header of a request, without its length and type:
-/// `struct sockdiag_request_header` of `include/sockdiag.h`.
+/// Fields of the netlink header of a request. The call that writes the request sets the length and
+/// the type.
 #[repr(C)]
 #[derive(Clone, Copy)]
 pub struct RequestHeader {
@@ -31,7 +31,7 @@ pub struct RequestHeader {
     pub port_number: u32,
 }
 
-/// A request for UNIX sockets: `struct sockdiag_unix_request` of `include/sockdiag.h`.
+/// A request for UNIX sockets: `struct unix_diag_req` of sock_diag(7).
 #[repr(C)]
 #[derive(Clone, Copy)]
 pub struct UnixRequest {
@@ -48,7 +48,7 @@ pub struct UnixRequest {
     pub cookie: [u8; 8],
 }
 
-/// A request for IPv4 or IPv6 sockets: `struct sockdiag_inet_request` of `include/sockdiag.h`.
+/// A request for IPv4 or IPv6 sockets: `struct inet_diag_req_v2` of sock_diag(7).
 #[repr(C)]
 #[derive(Clone, Copy)]
 pub struct InetRequest {
@@ -61,7 +61,8 @@ pub struct InetRequest {
     pub extensions: u8,
     /// Protocol, one of `IPPROTO_..`. The low byte is written to the record (`sdiag_protocol`). A
     /// protocol above 255, such as `IPPROTO_MPTCP`, is also written as an attribute
-    /// `INET_DIAG_REQ_PROTOCOL`. The low byte of `IPPROTO_MPTCP` is `IPPROTO_TCP`.
+    /// `INET_DIAG_REQ_PROTOCOL`. The low byte of `IPPROTO_MPTCP` is `IPPROTO_TCP`, which a kernel
+    /// without MPTCP uses.
     pub protocol: u32,
     /// States to include, with the bit `1 << TCP_LISTEN` for `TCP_LISTEN` (`idiag_states`).
     pub states: u32,
@@ -83,8 +84,9 @@ pub struct InetRequest {
 /// Type of the attribute that contains a protocol, `INET_DIAG_REQ_PROTOCOL`.
 const PROTOCOL: u8 = 3;
 
-/// Writes a request for UNIX sockets, a netlink message of 40 bytes, at the start of the buffer.
-/// Returns 40, or 0 if the buffer is shorter; then nothing is written.
+/// Writes a request for UNIX sockets, a netlink message of 40 bytes, at the start of the buffer;
+/// bytes after it are unchanged. Returns 40, or 0 if the buffer is shorter; then nothing is
+/// written.
 #[unsafe(no_mangle)]
 pub extern "C" fn sockdiag_write_unix_request(request: &UnixRequest, buffer: &mut [u8]) -> usize
     ensures { WritesMessage 40 (unix_message 20 request.now) buffer.old buffer.new result }
@@ -95,8 +97,7 @@ pub extern "C" fn sockdiag_write_unix_request(request: &UnixRequest, buffer: &mu
 /// Writes a request for the kernel to close the UNIX socket with the inode and the cookie, at the
 /// start of the buffer. It is a netlink message of 40 bytes, of type `SOCK_DESTROY` (21), and else
 /// equal to the one of `sockdiag_write_unix_request`. Returns 40, or 0 if the buffer is shorter;
-/// then
-/// nothing is written. Linux answers it with `EOPNOTSUPP`.
+/// then nothing is written. Linux answers it with `EOPNOTSUPP`.
 #[unsafe(no_mangle)]
 pub extern "C" fn sockdiag_write_unix_destroy(request: &UnixRequest, buffer: &mut [u8]) -> usize
     ensures { WritesMessage 40 (unix_message 21 request.now) buffer.old buffer.new result }
@@ -104,10 +105,10 @@ pub extern "C" fn sockdiag_write_unix_destroy(request: &UnixRequest, buffer: &mu
     write_unix(SOCK_DESTROY, request, buffer)
 }
 
-/// Writes a request for IPv4 or IPv6 sockets at the start of the buffer. It is a netlink message of
-/// 72 bytes, or of 80 if the protocol is above 255. Returns the number of bytes that were written.
-/// Returns 0 if the buffer is shorter, or if the family is neither `AF_INET` nor `AF_INET6`; then
-/// nothing is written.
+/// Writes a request for IPv4 or IPv6 sockets at the start of the buffer; bytes after it are
+/// unchanged. It is a netlink message of 72 bytes, or of 80 if the protocol is above 255. Returns
+/// the number of bytes that were written. Returns 0 if the buffer is shorter, or if the family is
+/// neither `AF_INET` nor `AF_INET6`; then nothing is written.
 #[unsafe(no_mangle)]
 pub extern "C" fn sockdiag_write_inet_request(request: &InetRequest, buffer: &mut [u8]) -> usize
     // protocol_attribute: 8 bytes if the protocol is above 255, else none. 20: SOCK_DIAG_BY_FAMILY.
@@ -124,8 +125,10 @@ pub extern "C" fn sockdiag_write_inet_request(request: &InetRequest, buffer: &mu
 /// buffer. It is a netlink message of type `SOCK_DESTROY` (21), and else equal to the one of
 /// `sockdiag_write_inet_request`: it has 72 bytes, or 80 if the protocol is above 255. Returns the
 /// number of bytes that were written. Returns 0 if the buffer is shorter, or if the family is
-/// neither
-/// `AF_INET` nor `AF_INET6`; then nothing is written.
+/// neither `AF_INET` nor `AF_INET6`; then nothing is written.
+///
+/// The flags are `NLM_F_REQUEST`, and `NLM_F_ACK` to have success acknowledged. Linux closes TCP,
+/// UDP and raw sockets if the caller has `CAP_NET_ADMIN`.
 #[unsafe(no_mangle)]
 pub extern "C" fn sockdiag_write_inet_destroy(request: &InetRequest, buffer: &mut [u8]) -> usize
     // protocol_attribute: 8 bytes if the protocol is above 255, else none. 21: SOCK_DESTROY.

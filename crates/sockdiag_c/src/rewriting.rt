@@ -14,7 +14,7 @@ use netlink_packet_sock_diag::inet::InetResponseHeader;
 use netlink_packet_sock_diag::unix::UnixResponseHeader;
 use netlink_packet_sock_diag::{ReplyHeader, ReplyView};
 
-/// Outcome of a call that writes bytes: `struct sockdiag_outcome` of `include/sockdiag.h`.
+/// Outcome of a call that writes bytes derived from the caller's bytes.
 #[repr(C)]
 #[derive(Clone, Copy)]
 pub struct Outcome {
@@ -25,13 +25,18 @@ pub struct Outcome {
 }
 
 /// Writes the canonical form of a reply about a UNIX socket at the start of the buffer; bytes after
-/// it are unchanged. The reply is the payload of a netlink message. Returns the number of bytes
-/// that were written. Returns 0 if the reply is rejected, if it cannot be serialized, or if the
-/// buffer is shorter than needed; then nothing is written.
+/// it are unchanged. The reply is the payload of a netlink message.
 ///
-/// Stores the code of the first error in `outcome.fault`, or 0 if the reply is accepted; and the
-/// number of bytes to write in `outcome.needed`, or 0 if the reply is rejected or cannot be
-/// serialized.
+/// Returns the number of bytes that were written, which is also stored in `outcome.needed`. Returns
+/// 0 if nothing was written, for one of these reasons:
+/// - The reply is rejected. `outcome.fault` is the code of the first error; in all other cases it
+///   is 0. `outcome.needed` is 0.
+/// - The reply cannot be serialized, because a value is longer than it was in the reply, and too
+///   long for its length field. `outcome.needed` is 0.
+/// - The buffer is shorter than needed. `outcome.needed` is the number of bytes that it has to
+///   have.
+///
+/// `outcome` is set in any case.
 #[unsafe(no_mangle)]
 pub extern "C" fn sockdiag_rewrite_unix_reply(
     payload: &[u8],
@@ -51,13 +56,18 @@ pub extern "C" fn sockdiag_rewrite_unix_reply(
 }
 
 /// Writes the canonical form of a reply about an IPv4 or IPv6 socket at the start of the buffer;
-/// bytes after it are unchanged. The reply is the payload of a netlink message. Returns the number
-/// of bytes that were written. Returns 0 if the reply is rejected, if it cannot be serialized, or
-/// if the buffer is shorter than needed; then nothing is written.
+/// bytes after it are unchanged. The reply is the payload of a netlink message.
 ///
-/// Stores the code of the first error in `outcome.fault`, or 0 if the reply is accepted; and the
-/// number of bytes to write in `outcome.needed`, or 0 if the reply is rejected or cannot be
-/// serialized.
+/// Returns the number of bytes that were written, which is also stored in `outcome.needed`. Returns
+/// 0 if nothing was written, for one of these reasons:
+/// - The reply is rejected. `outcome.fault` is the code of the first error; in all other cases it
+///   is 0. `outcome.needed` is 0.
+/// - The reply cannot be serialized, because a value is longer than it was in the reply, and too
+///   long for its length field. `outcome.needed` is 0.
+/// - The buffer is shorter than needed. `outcome.needed` is the number of bytes that it has to
+///   have.
+///
+/// `outcome` is set in any case.
 #[unsafe(no_mangle)]
 pub extern "C" fn sockdiag_rewrite_inet_reply(
     payload: &[u8],

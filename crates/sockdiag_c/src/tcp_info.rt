@@ -11,12 +11,13 @@ use netlink_packet_sock_diag::constants::{INET_DIAG_INFO, INET_DIAG_SKMEMINFO};
 use netlink_packet_sock_diag::inet::INET_RESPONSE_HEADER_LEN;
 use netlink_packet_sock_diag::inet::nlas::{MEM_INFO_LEN, TCP_INFO_LEN};
 
-/// Copies the value of the first `INET_DIAG_INFO` (2) after the header of 72 bytes, at most 232
-/// bytes (`struct tcp_info`). The remaining bytes are set to 0. Returns the length of the value in
-/// bytes, or 0 if there is none.
+/// Copies the value of the first `INET_DIAG_INFO` (2) after the header of a reply about an IPv4 or
+/// IPv6 socket, which has 72 bytes: at most the 232 bytes of `info`. The remaining bytes of `info`
+/// are set to 0. Returns the length of the value in bytes, or 0 if there is none. Older kernels
+/// send fewer than 232 bytes, and newer kernels more.
 ///
-/// The values of attributes are not checked, so a value that is shorter or longer than 232 bytes is
-/// returned too. Attributes after a framing error are not found.
+/// The values of attributes are not checked. So this call also works for a reply that is rejected
+/// because a value is too short. Attributes after a framing error are not found.
 #[unsafe(no_mangle)]
 pub extern "C" fn sockdiag_inet_get_tcp_info(payload: &[u8], info: &mut [u8; TCP_INFO_LEN]) -> usize
     // attributes: those after the header, up to the end or to a framing error.
@@ -29,12 +30,13 @@ pub extern "C" fn sockdiag_inet_get_tcp_info(payload: &[u8], info: &mut [u8; TCP
     value.len()
 }
 
-/// Copies the value of the first `INET_DIAG_SKMEMINFO` (7) after the header of 72 bytes, at most 36
-/// bytes: nine `u32` fields `SK_MEMINFO_..`, of which older kernels send seven or eight. The
-/// remaining bytes are set to 0. Returns the length of the value in bytes, or 0 if there is none.
+/// Copies the value of the first `INET_DIAG_SKMEMINFO` (7) after the header of a reply about an
+/// IPv4 or IPv6 socket, which has 72 bytes: at most the 36 bytes of `memory`. The remaining bytes
+/// of `memory` are set to 0. Returns the length of the value in bytes, or 0 if there is none. Older
+/// kernels send 28 or 32 bytes.
 ///
-/// The values of attributes are not checked, so a value that is shorter or longer than 36 bytes is
-/// returned too. Attributes after a framing error are not found.
+/// The values of attributes are not checked. So this call also works for a reply that is rejected
+/// because a value is too short. Attributes after a framing error are not found.
 #[unsafe(no_mangle)]
 pub extern "C" fn sockdiag_inet_get_memory(payload: &[u8], memory: &mut [u8; MEM_INFO_LEN]) -> usize
     // attributes: those after the header, up to the end or to a framing error.

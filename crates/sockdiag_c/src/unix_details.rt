@@ -15,8 +15,8 @@ use netlink_core::{DecodeError, NlaBuffer};
 use netlink_packet_sock_diag::unix::nlas::{NameView, NlaView};
 use netlink_packet_sock_diag::unix::{UNIX_RESPONSE_HEADER_LEN, UnixResponseHeader};
 
-/// The contents of a reply about a UNIX socket: `struct sockdiag_unix_details` of
-/// `include/sockdiag.h`.
+/// Everything that a reply contains about a UNIX socket, except the connections that wait to be
+/// accepted.
 #[repr(C)]
 #[derive(Clone, Copy)]
 pub struct UnixDetails<'a> {

@@ -14,14 +14,14 @@ use netlink_core::{
 };
 use netlink_packet_sock_diag::SockDiagView;
 
-/// Return value of an iteration at its end.
+/// Return value of an iteration at its end, and of a getter that finds no value.
 pub(crate) const END: u32 = 0;
 
-/// Return value of an iteration that returns an item. It is not the code of an error here: code 1
-/// is an allocation failure, which cannot happen.
+/// Return value of an iteration that returns an item, and of a getter that returns a value. It is
+/// not the code of an error here: code 1 is an allocation failure, which cannot happen.
 pub(crate) const ITEM: u32 = 1;
 
-/// State of an iteration: `struct sockdiag_cursor` of `include/sockdiag.h`.
+/// State of an iteration. An iteration over all of the bytes starts with `place` 0.
 #[repr(C)]
 #[derive(Clone, Copy)]
 pub struct Cursor {
@@ -29,7 +29,7 @@ pub struct Cursor {
     pub place: usize,
 }
 
-/// An attribute, with the offset of its value: `struct sockdiag_attribute` of `include/sockdiag.h`.
+/// An attribute, `struct nlattr`, with the offset of its value in the bytes of the iteration.
 #[repr(C)]
 #[derive(Clone, Copy)]
 pub struct AttributePart {
@@ -37,12 +37,13 @@ pub struct AttributePart {
     pub offset: usize,
     /// Length of the value in bytes, without padding.
     pub length: usize,
-    /// Type field (`nla_type`), with its two flag bits.
+    /// Type field (`nla_type`): the kind, such as `UNIX_DIAG_NAME`. The two upper bits are the
+    /// flags `NLA_F_NESTED` and `NLA_F_NET_BYTEORDER`.
     pub type_word: u16,
 }
 
-/// A message, with the offset of its payload and the fields of its header:
-/// `struct sockdiag_message` of `include/sockdiag.h`.
+/// A message of a datagram, with the offset of its payload in the datagram, and the fields of its
+/// header.
 #[repr(C)]
 #[derive(Clone, Copy)]
 pub struct MessagePart {
@@ -51,7 +52,9 @@ pub struct MessagePart {
     /// Length of the payload in bytes, without padding: the length field (`nlmsg_len`) minus the 16
     /// bytes of the header.
     pub length: usize,
-    /// Message type (`nlmsg_type`): one of `NLMSG_..`, or `SOCK_DIAG_BY_FAMILY` for a reply.
+    /// Message type (`nlmsg_type`): `NLMSG_NOOP`, `NLMSG_ERROR`, `NLMSG_DONE` or `NLMSG_OVERRUN` of
+    /// netlink(7), or `SOCK_DIAG_BY_FAMILY` for a reply. `sockdiag_next_message` rejects the
+    /// payload of any other type.
     pub message_type: u16,
     /// The flags `NLM_F_..` (`nlmsg_flags`).
     pub flags: u16,
@@ -61,9 +64,13 @@ pub struct MessagePart {
     pub port_number: u32,
 }
 
-/// Stores the attribute at the cursor, and advances the cursor past it and its padding. Returns 1;
-/// or 0 if no bytes are left, and then nothing is written; or the code of the framing error there,
-/// and then the attribute is unchanged and nothing is left. The value is not checked.
+/// Stores the attribute at the cursor, and advances the cursor past it and its padding. In a
+/// checked reply, starting at the end of its header, the return value is 1 for each attribute, in
+/// order, and then 0.
+///
+/// Returns 1; or 0 if no bytes are left, and then nothing is written; or the code of the framing
+/// error there, 7 to 9, and then the attribute is unchanged and nothing is left. The value is not
+/// checked.
 #[unsafe(no_mangle)]
 pub extern "C" fn sockdiag_next_attribute(
     bytes: &[u8],
@@ -95,11 +102,15 @@ pub extern "C" fn sockdiag_next_attribute(
 
 /// Stores the message at the cursor, and advances the cursor past it and its padding. Returns one
 /// of:
-/// - 1 if the message has one of the four `NLMSG_..` types, or its payload is accepted;
+/// - 1 if the message has one of the four `NLMSG_..` types, or is a reply that
+///   `sockdiag_check_message` accepts;
 /// - 0 if no bytes are left, and then nothing is written;
-/// - the code of the first error of the payload; the message is set, and the iteration may
-///   continue;
-/// - the code of the framing error there, and then the message is unchanged and nothing is left.
+/// - the code of the first error of the payload of a message of any other type; the message is set,
+///   and the iteration may continue;
+/// - the code of the framing error there, 16 to 18, and then the message is unchanged and nothing
+///   is left.
+///
+/// The end of a dump, `NLMSG_DONE`, does not end the iteration.
 #[unsafe(no_mangle)]
 pub extern "C" fn sockdiag_next_message(
     datagram: &[u8],
@@ -119,8 +130,11 @@ pub extern "C" fn sockdiag_next_message(
 
 /// Stores the message at the cursor, and advances the cursor past it and its padding. Returns 1,
 /// whatever the type and the payload of the message; or 0 if no bytes are left, and then nothing is
-/// written; or the code of the framing error there, and then the message is unchanged and nothing
-/// is left. The payload is not checked.
+/// written; or the code of the framing error there, 16 to 18, and then the message is unchanged and
+/// nothing is left.
+///
+/// The payload is not checked. So a reply that is passed to `sockdiag_unix_get_details` or a
+/// similar call is checked only once.
 #[unsafe(no_mangle)]
 pub extern "C" fn sockdiag_next_envelope(
     datagram: &[u8],

@@ -19,8 +19,7 @@ use sock_diag_families::xdp::{
     XdpStatistics, XdpUmem,
 };
 
-/// The contents of a reply about an XDP socket: `struct sockdiag_xdp_details` of
-/// `include/sockdiag.h`.
+/// Everything that a reply contains about an XDP socket, by the attributes of `linux/xdp_diag.h`.
 #[repr(C)]
 #[derive(Clone, Copy)]
 pub struct XdpDetails {
@@ -54,7 +53,7 @@ pub struct XdpDetails {
     pub statistics: XdpStatistics,
 }
 
-/// Checks a whole reply about an XDP socket, and stores its contents. The bytes are the payload of
+/// Checks a whole reply about an XDP socket, and returns its contents. The bytes are the payload of
 /// the netlink message. Returns 0, or the code of the first error; then the details are unchanged.
 /// If the reply has several attributes of a kind, the first one counts. The framing of all
 /// attributes is checked before their values, and values are checked in the order of their kinds. A

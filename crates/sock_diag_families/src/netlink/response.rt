@@ -13,9 +13,11 @@ use sock_diag_records::constants::AF_NETLINK;
 /// Size of `struct netlink_diag_msg` in bytes.
 pub const NETLINK_RESPONSE_HEADER_LEN: usize = 28;
 
-/// The header of a reply about a netlink socket: `struct netlink_diag_msg`, 28 bytes,
-/// little-endian. The byte at offset 0 (`ndiag_family`) is ignored, and serialized as AF_NETLINK
-/// (16).
+/// The header of a reply about a netlink socket: `struct netlink_diag_msg` of
+/// `linux/netlink_diag.h`.
+///
+/// It has 28 bytes, little-endian. The byte at offset 0 (`ndiag_family`) is ignored, and serialized
+/// as AF_NETLINK (16).
 #[repr(C)]
 #[derive(Clone, Copy, Debug, PartialEq, Eq)]
 pub struct NetlinkResponseHeader {

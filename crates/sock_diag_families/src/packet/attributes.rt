@@ -10,8 +10,10 @@ use netlink_core::fields::words_at;
 use netlink_core::{DecodeError, Exact};
 use sock_diag_records::constants::AF_PACKET;
 
-/// Settings of a packet socket: `struct packet_diag_info`, the first 24 bytes of the value of
-/// `PACKET_DIAG_INFO`: six `u32`, little-endian. `linux/if_packet.h` has the socket options.
+/// Settings of a packet socket: `struct packet_diag_info` of `linux/packet_diag.h`.
+/// `linux/if_packet.h` has the socket options.
+///
+/// It is the first 24 bytes of the value of `PACKET_DIAG_INFO`: six `u32`, little-endian.
 #[repr(C)]
 #[derive(Clone, Copy, Debug, PartialEq, Eq)]
 pub struct PacketInfo {
@@ -62,9 +64,11 @@ impl PacketInfo {
     }
 }
 
-/// A ring that a packet socket shares with its program: `struct packet_diag_ring`, the first 28
-/// bytes of the value of `PACKET_DIAG_RX_RING` or `PACKET_DIAG_TX_RING`: seven `u32`,
-/// little-endian.
+/// A ring that a packet socket shares with its program: `struct packet_diag_ring` of
+/// `linux/packet_diag.h`.
+///
+/// It is the first 28 bytes of the value of `PACKET_DIAG_RX_RING` or `PACKET_DIAG_TX_RING`: seven
+/// `u32`, little-endian.
 #[repr(C)]
 #[derive(Clone, Copy, Debug, PartialEq, Eq)]
 pub struct PacketRing {

@@ -13,8 +13,10 @@ use sock_diag_records::constants::AF_PACKET;
 /// Size of `struct packet_diag_msg` in bytes.
 pub const PACKET_RESPONSE_HEADER_LEN: usize = 16;
 
-/// The header of a reply about a packet socket: `struct packet_diag_msg`, 16 bytes, little-endian.
-/// The byte at offset 0 (`pdiag_family`) is ignored, and serialized as AF_PACKET (17).
+/// The header of a reply about a packet socket: `struct packet_diag_msg` of `linux/packet_diag.h`.
+///
+/// It has 16 bytes, little-endian. The byte at offset 0 (`pdiag_family`) is ignored, and serialized
+/// as AF_PACKET (17).
 #[repr(C)]
 #[derive(Clone, Copy, Debug, PartialEq, Eq)]
 pub struct PacketResponseHeader {

@@ -13,9 +13,11 @@ use netlink_core::{DecodeError, Exact, Record, RecordName};
 /// Size of `struct vsock_diag_msg` in bytes.
 pub const VSOCK_RESPONSE_HEADER_LEN: usize = 32;
 
-/// The header of a reply about a vsock socket: `struct vsock_diag_msg`, 32 bytes, little-endian.
-/// The byte at offset 0 (`vdiag_family`) is ignored, and serialized as AF_VSOCK (40). No attributes
-/// follow the header.
+/// The header of a reply about a vsock socket: `struct vsock_diag_msg` of
+/// `linux/vm_sockets_diag.h`. No attributes follow the header.
+///
+/// It has 32 bytes, little-endian. The byte at offset 0 (`vdiag_family`) is ignored, and serialized
+/// as AF_VSOCK (40).
 #[repr(C)]
 #[derive(Clone, Copy, Debug, PartialEq, Eq)]
 pub struct VsockResponseHeader {

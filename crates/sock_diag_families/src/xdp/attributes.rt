@@ -10,8 +10,10 @@ use crate::values::enough_in;
 use netlink_core::fields::{long_words_at, words_at};
 use netlink_core::{DecodeError, Exact};
 
-/// The interface and the queue that an XDP socket is bound to: `struct xdp_diag_info`, the first 8
-/// bytes of the value of `XDP_DIAG_INFO`, little-endian.
+/// The interface and the queue that an XDP socket is bound to: `struct xdp_diag_info` of
+/// `linux/xdp_diag.h`.
+///
+/// It is the first 8 bytes of the value of `XDP_DIAG_INFO`, little-endian.
 #[repr(C)]
 #[derive(Clone, Copy, Debug, PartialEq, Eq)]
 pub struct XdpInfo {
@@ -37,8 +39,10 @@ impl XdpInfo {
     }
 }
 
-/// The memory that an XDP socket shares with its program (UMEM): `struct xdp_diag_umem`, the first
-/// 40 bytes of the value of `XDP_DIAG_UMEM`, little-endian.
+/// The memory that an XDP socket shares with its program (UMEM): `struct xdp_diag_umem` of
+/// `linux/xdp_diag.h`.
+///
+/// It is the first 40 bytes of the value of `XDP_DIAG_UMEM`, little-endian.
 #[repr(C)]
 #[derive(Clone, Copy, Debug, PartialEq, Eq)]
 pub struct XdpUmem {
@@ -77,8 +81,9 @@ impl XdpUmem {
     }
 }
 
-/// The counters of an XDP socket: `struct xdp_diag_stats`, the first 48 bytes of the value of
-/// `XDP_DIAG_STATS`: six `u64`, little-endian.
+/// The counters of an XDP socket: `struct xdp_diag_stats` of `linux/xdp_diag.h`.
+///
+/// They are the first 48 bytes of the value of `XDP_DIAG_STATS`: six `u64`, little-endian.
 #[repr(C)]
 #[derive(Clone, Copy, Debug, PartialEq, Eq)]
 pub struct XdpStatistics {

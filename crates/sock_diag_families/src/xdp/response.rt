@@ -13,9 +13,10 @@ use netlink_core::{DecodeError, Exact, Record, RecordName};
 /// Size of `struct xdp_diag_msg` in bytes.
 pub const XDP_RESPONSE_HEADER_LEN: usize = 16;
 
-/// The header of a reply about an XDP socket: `struct xdp_diag_msg`, 16 bytes, little-endian. The
-/// bytes at offsets 0 (`xdiag_family`), 2 and 3 (`pad`) are ignored, and serialized as AF_XDP (44)
-/// and 0.
+/// The header of a reply about an XDP socket: `struct xdp_diag_msg` of `linux/xdp_diag.h`.
+///
+/// It has 16 bytes, little-endian. The bytes at offsets 0 (`xdiag_family`), 2 and 3 (`pad`) are
+/// ignored, and serialized as AF_XDP (44) and 0.
 #[repr(C)]
 #[derive(Clone, Copy, Debug, PartialEq, Eq)]
 pub struct XdpResponseHeader {

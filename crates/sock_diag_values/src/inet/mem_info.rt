@@ -28,8 +28,10 @@ pub const MEM_INFO_EIGHT_LEN: usize = 32;
 /// accepted: neither backlog nor drops.
 pub const MEM_INFO_SEVEN_LEN: usize = 28;
 
-/// The memory of a socket, the value of the attribute `INET_DIAG_SKMEMINFO`: an array of `u32`,
-/// little-endian, indexed by `SK_MEMINFO_*` (linux/sock_diag.h). It has nine elements, 36 bytes.
+/// The memory of an IPv4 or IPv6 socket (`INET_DIAG_SKMEMINFO`): the fields `SK_MEMINFO_*` of
+/// `linux/sock_diag.h`.
+///
+/// The value of the attribute is an array of `u32`, little-endian. It has nine elements, 36 bytes.
 /// Older kernels send seven (28 bytes) or eight (32 bytes).
 #[derive(Clone, Debug, Drop, PartialEq, Eq)]
 pub struct MemInfo {

@@ -25,9 +25,10 @@ use std::alloc::AllocError;
 /// fields.
 pub const TCP_INFO_LEN: usize = 232;
 
-/// The state of a TCP connection: `struct tcp_info` (linux/tcp.h), the value of the attribute
-/// `INET_DIAG_INFO`. It has 232 bytes: `u8`, `u32` and `u64` fields, little-endian. Newer kernels
-/// append fields, which are ignored.
+/// The state of a TCP connection: `struct tcp_info` of `linux/tcp.h`, without the prefix `tcpi_`.
+///
+/// It is the value of the attribute `INET_DIAG_INFO`. It has 232 bytes: `u8`, `u32` and `u64`
+/// fields, little-endian. Newer kernels append fields, which are ignored.
 #[derive(Debug, Drop, PartialEq, Eq)]
 pub struct TcpInfo {
     /// TCP state (`tcpi_state`), `TCP_ESTABLISHED` to `TCP_CLOSING`, at offset 0.
