@@ -22,7 +22,9 @@
  * Numbers in structs are in the byte order of the host, ports included. Addresses are in network
  * byte order, as inet_ntop expects them. A cookie of eight bytes is a copy of the bytes in the
  * message. The cookie of a netlink, packet, vsock or XDP socket is a number, which is little-endian
- * in the message.
+ * in the message. Offsets in comments are those in the kernel's structs.
+ *
+ * tools/bindings writes this file from the source of the library.
  */
 #ifndef SOCKDIAG_H
 #define SOCKDIAG_H
@@ -37,49 +39,50 @@
 extern "C" {
 #endif
 
-/* Return value of a check that accepts the bytes. */
-#define SOCKDIAG_OK 0
+#define SOCKDIAG_OK 0   /* Return value of a check that accepts the bytes. */
+#define SOCKDIAG_END 0  /* Return value of an iteration at its end, and of a getter that finds no
+                           value. */
+#define SOCKDIAG_ITEM 1 /* Return value of an iteration that returns an item, and of a getter
+                           that returns a value. It is not the code of an error here: code 1 is
+                           an allocation failure, which cannot happen. */
 
-/* Return value of an iteration (sockdiag_next_..) at its end, and of a getter that finds no
- * value. */
-#define SOCKDIAG_END 0
-
-/* Return value of an iteration that returns an item, and of a getter that returns a value. */
-#define SOCKDIAG_ITEM 1
-
-/*
- * Decode errors: why bytes are rejected. If the bytes have several errors, a call returns the
- * first. Code 1 means that an allocation failed, which cannot happen here. So SOCKDIAG_ITEM is not
- * the code of an error.
- */
+/* Decode errors: why bytes are rejected. If bytes have several errors, a call returns the first. */
 enum sockdiag_fault {
-    SOCKDIAG_BUFFER_TOO_SMALL = 2,          /* fewer bytes than a record has */
-    SOCKDIAG_UNSUPPORTED_FAMILY = 3,        /* an internet socket's family is neither AF_INET nor
-                                               AF_INET6 */
-    SOCKDIAG_MESSAGE_TOO_SHORT = 4,         /* a payload of fewer than 2 bytes */
-    SOCKDIAG_UNKNOWN_FAMILY = 5,            /* a payload's first byte is none of AF_UNIX, AF_INET
-                                               and AF_INET6 */
-    SOCKDIAG_UNKNOWN_MESSAGE_TYPE = 6,      /* a message type other than SOCK_DIAG_BY_FAMILY */
-    SOCKDIAG_ATTRIBUTE_HEADER_CUT = 7,      /* fewer than the 4 bytes of an attribute's header */
-    SOCKDIAG_ATTRIBUTE_LENGTH_UNDER_4 = 8,  /* an attribute's length field is less than the 4 bytes
-                                               of its header */
-    SOCKDIAG_ATTRIBUTE_LENGTH_PAST = 9,     /* an attribute's length field points past the end */
-    SOCKDIAG_WRONG_LENGTH = 10,             /* a value of the wrong length for its kind */
-    SOCKDIAG_NOT_MULTIPLE_OF_FOUR = 11,     /* a list of numbers whose length is not a multiple
-                                               of 4 */
-    SOCKDIAG_NOT_UTF8 = 12,                 /* a text that is not valid UTF-8 */
-    SOCKDIAG_NAME_EMPTY = 13,               /* a socket's name of zero bytes */
-    SOCKDIAG_NAME_INNER_ZERO = 14,          /* a pathname with a NUL before its last byte */
-    SOCKDIAG_NAME_WITHOUT_END = 15,         /* a pathname without a terminating NUL */
-    SOCKDIAG_ENVELOPE_CUT = 16,             /* fewer than the 16 bytes of a netlink header */
-    SOCKDIAG_ENVELOPE_LENGTH_UNDER_16 = 17, /* a message's length field is less than the 16 bytes of
-                                               its header */
-    SOCKDIAG_ENVELOPE_LENGTH_PAST = 18      /* a message's length field points past the end */
+    SOCKDIAG_BUFFER_TOO_SMALL = 2,          /* A record has fewer bytes than it needs. */
+    SOCKDIAG_UNSUPPORTED_FAMILY = 3,        /* The family of an internet socket is neither
+                                               AF_INET nor AF_INET6. */
+    SOCKDIAG_MESSAGE_TOO_SHORT = 4,         /* A message has fewer than 2 bytes: its family, and
+                                               the byte after it. */
+    SOCKDIAG_UNKNOWN_FAMILY = 5,            /* The first byte of a message is not a family whose
+                                               replies are parsed. */
+    SOCKDIAG_UNKNOWN_MESSAGE_TYPE = 6,      /* The type of a message is not SOCK_DIAG_BY_FAMILY. */
+    SOCKDIAG_ATTRIBUTE_HEADER_CUT = 7,      /* Fewer bytes are left than the 4 of an attribute's
+                                               header. */
+    SOCKDIAG_ATTRIBUTE_LENGTH_UNDER_4 = 8,  /* The length field of an attribute is below 4, the
+                                               length of its header. */
+    SOCKDIAG_ATTRIBUTE_LENGTH_PAST = 9,     /* The length field of an attribute is above the
+                                               number of bytes from its first byte to the end. */
+    SOCKDIAG_WRONG_LENGTH = 10,             /* A value does not have the length that its kind
+                                               requires. */
+    SOCKDIAG_NOT_MULTIPLE_OF_FOUR = 11,     /* The length of a list of 32-bit numbers is not a
+                                               multiple of 4. */
+    SOCKDIAG_NOT_UTF8 = 12,                 /* A text is not valid UTF-8. */
+    SOCKDIAG_NAME_EMPTY = 13,               /* A socket's name has no bytes. */
+    SOCKDIAG_NAME_INNER_ZERO = 14,          /* A pathname contains a NUL before its last byte. */
+    SOCKDIAG_NAME_WITHOUT_END = 15,         /* A pathname contains no NUL. */
+    SOCKDIAG_ENVELOPE_CUT = 16,             /* A message has fewer bytes than the 16 of its
+                                               netlink header. */
+    SOCKDIAG_ENVELOPE_LENGTH_UNDER_16 = 17, /* The length field of a message is below 16, the
+                                               length of its netlink header. */
+    SOCKDIAG_ENVELOPE_LENGTH_PAST = 18      /* The length field of a message is above the number
+                                               of bytes. */
 };
 
-/* Returns the text of a decode error: a constant string in English, the text of `DecodeError` in
- * crates/netlink_core without the values. Any number may be passed. The text of 0 is "no error",
- * and that of a number that is not the code of an error is "unknown error code". */
+/*
+ * Returns the text of a decode error: a constant string in English, the text of DecodeError in
+ * crates/netlink_core without the values. Any number may be passed. The text of 0 is "no error".
+ * The text of a number that is not the code of an error is "unknown error code".
+ */
 static inline const char *sockdiag_fault_text(uint32_t fault)
 {
     switch (fault) {
@@ -126,73 +129,82 @@ static inline const char *sockdiag_fault_text(uint32_t fault)
 
 /* ---- replies */
 
-/* Offsets of the attributes in a reply, where an iteration over them starts: the sizes of struct
- * unix_diag_msg and of struct inet_diag_msg. */
-#define SOCKDIAG_UNIX_ATTRIBUTES 16
-#define SOCKDIAG_INET_ATTRIBUTES 72
+/* Offsets of the attributes in a reply, where an iteration over them starts. */
+#define SOCKDIAG_UNIX_ATTRIBUTES 16 /* Size of struct unix_diag_msg in bytes. */
+#define SOCKDIAG_INET_ATTRIBUTES 72 /* Size of struct inet_diag_msg in bytes. */
 
-/* Header of a reply about a UNIX socket, struct unix_diag_msg of sock_diag(7). */
+/* Header of a reply about a UNIX socket: struct unix_diag_msg of sock_diag(7). */
 struct sockdiag_unix_header {
-    uint8_t kind;      /* udiag_type, at 1: type of the socket, one of SOCK_.. */
-    uint8_t state;     /* udiag_state, at 2: TCP_ESTABLISHED, TCP_LISTEN, or TCP_CLOSE (7) if it is
-                          not connected */
-    uint32_t inode;    /* udiag_ino, at 4: inode of the socket */
-    uint8_t cookie[8]; /* udiag_cookie, at 8: distinguishes sockets with the same inode */
+    uint8_t kind;      /* Type of the socket, one of SOCK_.. (udiag_type, at 1). */
+    uint8_t state;     /* State (udiag_state, at 2): TCP_ESTABLISHED, TCP_LISTEN, or TCP_CLOSE
+                          (7) if the socket is not connected. */
+    uint32_t inode;    /* Inode of the socket (udiag_ino, at 4). */
+    uint8_t cookie[8]; /* Cookie that distinguishes sockets with the same inode (udiag_cookie, at
+                          8). */
 };
 
-/* Header of a reply about an IPv4 or IPv6 socket, struct inet_diag_msg of sock_diag(7). */
+/* Header of a reply about an IPv4 or IPv6 socket: struct inet_diag_msg of sock_diag(7). */
 struct sockdiag_inet_header {
-    uint8_t family;                  /* idiag_family, at 0: AF_INET or AF_INET6 */
-    uint8_t state;                   /* idiag_state, at 1: one of TCP_ESTABLISHED to TCP_CLOSING */
-    uint8_t timer;                   /* idiag_timer, at 2: 1 retransmission, 2 keepalive, 3
-                                        TIME_WAIT, 4 zero-window probe, 0 none; any other value in
-                                        the message is returned as 0 */
-    uint8_t retransmits;             /* idiag_retrans, at 3: number of retransmissions if timer is
-                                        1, else 0 */
-    uint32_t expires;                /* idiag_expires, at 52: milliseconds until the timer expires
-                                        if timer is 1, 2 or 4, else 0 */
-    uint16_t source_port;            /* idiag_sport, at 4: local port */
-    uint16_t destination_port;       /* idiag_dport, at 6: remote port */
-    uint8_t source_address[16];      /* idiag_src, at 8: local address; for AF_INET four bytes,
-                                        followed by zeros */
-    uint8_t destination_address[16]; /* idiag_dst, at 24: remote address, in the same format */
-    uint32_t interface_id;           /* idiag_if, at 40: index of the interface that the socket is
-                                        bound to, or 0 */
-    uint8_t cookie[8];               /* idiag_cookie, at 44: distinguishes sockets with the same
-                                        addresses and ports */
-    uint32_t recv_queue;             /* idiag_rqueue, at 56: pending connections of a listening
-                                        socket, else bytes that have not been read */
-    uint32_t send_queue;             /* idiag_wqueue, at 60: limit of pending connections of a
-                                        listening socket, else bytes in the send queue */
-    uint32_t uid;                    /* idiag_uid, at 64: user id of the owner */
-    uint32_t inode;                  /* idiag_inode, at 68: inode of the socket */
+    uint8_t family;                  /* AF_INET or AF_INET6 (idiag_family, at 0). */
+    uint8_t state;                   /* State, one of TCP_ESTABLISHED to TCP_CLOSING
+                                        (idiag_state, at 1). */
+    uint8_t timer;                   /* Timer (idiag_timer, at 2): 1 retransmission, 2 keepalive,
+                                        3 TIME_WAIT, 4 zero-window probe, 0 none. Any other value
+                                        in the message is returned as 0. */
+    uint8_t retransmits;             /* Number of retransmissions if the timer is 1, else 0
+                                        (idiag_retrans, at 3). */
+    uint32_t expires;                /* Milliseconds until the timer expires if the timer is 1, 2
+                                        or 4, else 0 (idiag_expires, at 52). */
+    uint16_t source_port;            /* Local port (idiag_sport, at 4). */
+    uint16_t destination_port;       /* Remote port (idiag_dport, at 6). */
+    uint8_t source_address[16];      /* Local address in network byte order (idiag_src, at 8).
+                                        For AF_INET, four bytes followed by twelve zeros. */
+    uint8_t destination_address[16]; /* Remote address, in the same format (idiag_dst, at 24). */
+    uint32_t interface_id;           /* Index of the interface that the socket is bound to, or 0
+                                        (idiag_if, at 40). */
+    uint8_t cookie[8];               /* Cookie that distinguishes sockets with the same addresses
+                                        and ports (idiag_cookie, at 44). */
+    uint32_t recv_queue;             /* Number of pending connections of a listening TCP socket,
+                                        else bytes that have not been read (idiag_rqueue, at 56). */
+    uint32_t send_queue;             /* Limit of pending connections (backlog) of a listening TCP
+                                        socket, else bytes in the send queue: for TCP, those that
+                                        are not yet acknowledged (idiag_wqueue, at 60). */
+    uint32_t uid;                    /* User id of the owner (idiag_uid, at 64). */
+    uint32_t inode;                  /* Inode of the socket (idiag_inode, at 68). */
 };
 
-#define SOCKDIAG_UNIX 1
-#define SOCKDIAG_INET 2
+#define SOCKDIAG_UNIX 1 /* Kind of a reply about a UNIX socket. */
+#define SOCKDIAG_INET 2 /* Kind of a reply about an IPv4 or IPv6 socket. */
 
 /* A reply about a UNIX, IPv4 or IPv6 socket. */
 struct sockdiag_reply {
-    uint32_t kind;                    /* SOCKDIAG_UNIX or SOCKDIAG_INET: which of the two headers is
-                                         set */
-    struct sockdiag_unix_header unix_header;
-    struct sockdiag_inet_header inet_header;
+    uint32_t kind;                           /* SOCKDIAG_UNIX or SOCKDIAG_INET: which of the two
+                                                headers is set. */
+    struct sockdiag_unix_header unix_header; /* Header of a reply about a UNIX socket. */
+    struct sockdiag_inet_header inet_header; /* Header of a reply about an IPv4 or IPv6 socket. */
 };
 
 /*
- * Checks a whole reply, with its attributes, and returns its header. The bytes are the payload of a
- * message, after the netlink header. Returns 0, or the code of the first error; then *header is
- * unchanged.
+ * Checks a whole reply about a UNIX socket, with its attributes, and returns its header. The bytes
+ * are the payload of the netlink message. Returns 0, or the code of the first error; then the
+ * header is unchanged.
  */
 uint32_t sockdiag_check_unix_reply(const uint8_t *payload, size_t length,
                                    struct sockdiag_unix_header *header);
+
+/*
+ * Checks a whole reply about an IPv4 or IPv6 socket, with its attributes, and returns its header.
+ * The bytes are the payload of the netlink message. Returns 0, or the code of the first error; then
+ * the header is unchanged.
+ */
 uint32_t sockdiag_check_inet_reply(const uint8_t *payload, size_t length,
                                    struct sockdiag_inet_header *header);
 
 /*
- * Checks the payload of a message whose type is message_type, in the same way. The first byte is
- * the family: AF_UNIX for a reply about a UNIX socket, AF_INET or AF_INET6 for one about an
- * internet socket. The header of the other kind is unchanged.
+ * Checks the whole payload of a message of this type, and stores the kind of the reply and its
+ * header. The first byte is the family: AF_UNIX for a reply about a UNIX socket, AF_INET or
+ * AF_INET6 for one about an internet socket. The header of the other kind is unchanged. Returns 0,
+ * or the code of the first error; then the reply is unchanged.
  */
 uint32_t sockdiag_check_message(const uint8_t *payload, size_t length, uint16_t message_type,
                                 struct sockdiag_reply *reply);
@@ -201,167 +213,235 @@ uint32_t sockdiag_check_message(const uint8_t *payload, size_t length, uint16_t 
 
 /* A number that a reply may contain. */
 struct sockdiag_number {
-    uint32_t is_told; /* 1 if the reply contains the number, else 0 */
-    uint32_t value;   /* the number, or 0 */
+    uint32_t is_told; /* 1 if the reply contains the number, else 0. */
+    uint32_t value;   /* The number, or 0. */
 };
 
-#define SOCKDIAG_TEXT 1
-#define SOCKDIAG_ABSTRACT 2
-#define SOCKDIAG_BYTES 3
+#define SOCKDIAG_TEXT 1     /* Kind of a pathname, and of the name of a congestion control
+                               algorithm. */
+#define SOCKDIAG_ABSTRACT 2 /* Kind of an abstract name. */
+#define SOCKDIAG_BYTES 3    /* Kind of bytes that are not text. */
 
 /* A text that a reply may contain, as a pointer into the bytes of the reply. */
 struct sockdiag_text {
-    uint32_t kind;        /* SOCKDIAG_TEXT: a text; of a name, a pathname. SOCKDIAG_ABSTRACT: an
-                             abstract name. SOCKDIAG_BYTES: bytes that are not text. 0: the reply
-                             contains no such text */
-    const uint8_t *bytes; /* the text, without the NUL that ends a text or begins an abstract name;
-                             the NUL of a pathname follows it in the reply, other texts may have
-                             none */
-    size_t length;        /* length in bytes */
-};
-
-/* Everything that a reply says of a UNIX socket, except the connections that wait to be
- * accepted. */
-struct sockdiag_unix_details {
-    struct sockdiag_unix_header header;
-    struct sockdiag_text name;             /* UNIX_DIAG_NAME: name that the socket is bound to */
-    struct sockdiag_number file_inode;     /* UNIX_DIAG_VFS: inode of the file that the socket is
-                                              bound to */
-    struct sockdiag_number file_device;    /* device of that file, the major and minor number
-                                              combined */
-    struct sockdiag_number peer;           /* UNIX_DIAG_PEER: inode of the peer */
-    struct sockdiag_number recv_queue;     /* UNIX_DIAG_RQLEN: number of connections that wait to be
-                                              accepted, in state TCP_LISTEN; else number of bytes
-                                              that have not been read */
-    struct sockdiag_number send_queue;     /* limit of these connections, in state TCP_LISTEN; else
-                                              bytes of memory in use by data that was sent and has
-                                              not been read */
-    struct sockdiag_number receive_buffer; /* UNIX_DIAG_MEMINFO: size of the receive buffer in
-                                              bytes */
-    struct sockdiag_number send_buffer;    /* size of the send buffer in bytes, the limit of a
-                                              datagram */
-    struct sockdiag_number queued;         /* memory of data queued for sending, in bytes; Linux
-                                              sends 0 */
-    struct sockdiag_number shutdown;       /* UNIX_DIAG_SHUTDOWN: directions that are shut down, 1
-                                              for receiving, 2 for sending, 3 for both */
-};
-
-/* What a reply says of an IPv4 or IPv6 socket, except its TCP connection and its memory, which have
- * separate calls. */
-struct sockdiag_inet_details {
-    struct sockdiag_inet_header header;
-    struct sockdiag_text congestion; /* INET_DIAG_CONG: name of the congestion control algorithm */
-    struct sockdiag_number tos;      /* INET_DIAG_TOS: type of service */
-    struct sockdiag_number tclass;   /* INET_DIAG_TCLASS: traffic class of an IPv6 socket */
-    struct sockdiag_number shutdown; /* INET_DIAG_SHUTDOWN: directions that are shut down */
-    struct sockdiag_number protocol; /* INET_DIAG_PROTOCOL: one of IPPROTO_.. */
-    struct sockdiag_number v6only;   /* INET_DIAG_SKV6ONLY: 1 if the socket is for IPv6 only,
-                                        else 0 */
-    struct sockdiag_number mark;     /* INET_DIAG_MARK: mark of the socket */
-    struct sockdiag_number class_id; /* INET_DIAG_CLASS_ID: traffic control class of its packets */
+    uint32_t kind;        /* Kind of the text. SOCKDIAG_TEXT: a pathname, or the name of a
+                             congestion control algorithm. SOCKDIAG_ABSTRACT: an abstract name.
+                             SOCKDIAG_BYTES: bytes that are not text. 0: the reply contains no
+                             such text. */
+    const uint8_t *bytes; /* The text, without the NUL that ends a text or precedes an abstract
+                             name. In the reply, a pathname is followed by its NUL; other texts
+                             may have none. */
+    size_t length;        /* Length in bytes. */
 };
 
 /*
- * Checks a whole reply, as sockdiag_check_unix_reply and sockdiag_check_inet_reply do, and returns
- * its contents, in one pass over the attributes. Returns 0, or the code of the first error; then
- * *details is unchanged. The previous contents of *details are not read. If the reply has several
- * attributes of a kind, the first one counts. Texts point into the payload, and are valid as long
- * as it is.
+ * Everything that a reply contains about a UNIX socket, except the connections that wait to be
+ * accepted.
+ */
+struct sockdiag_unix_details {
+    struct sockdiag_unix_header header;    /* The header. */
+    struct sockdiag_text name;             /* Name that the socket is bound to (UNIX_DIAG_NAME). */
+    struct sockdiag_number file_inode;     /* Inode of the file that the socket is bound to
+                                              (udiag_vfs_ino of UNIX_DIAG_VFS). */
+    struct sockdiag_number file_device;    /* Device of that file, the major and minor number
+                                              combined (udiag_vfs_dev of UNIX_DIAG_VFS). */
+    struct sockdiag_number peer;           /* Inode of the peer (UNIX_DIAG_PEER). */
+    struct sockdiag_number recv_queue;     /* Number of connections that wait to be accepted on a
+                                              listening socket, else number of bytes that have
+                                              not been read (udiag_rqueue of UNIX_DIAG_RQLEN). */
+    struct sockdiag_number send_queue;     /* Limit of these connections for a listening socket,
+                                              else bytes of memory in use by data that was sent
+                                              and has not been read (udiag_wqueue of
+                                              UNIX_DIAG_RQLEN). */
+    struct sockdiag_number receive_buffer; /* Size of the receive buffer in bytes
+                                              (SK_MEMINFO_RCVBUF of UNIX_DIAG_MEMINFO). */
+    struct sockdiag_number send_buffer;    /* Size of the send buffer in bytes, the limit of a
+                                              datagram (SK_MEMINFO_SNDBUF of UNIX_DIAG_MEMINFO). */
+    struct sockdiag_number queued;         /* Memory of data queued for sending, in bytes
+                                              (SK_MEMINFO_WMEM_QUEUED of UNIX_DIAG_MEMINFO).
+                                              Linux sends 0. */
+    struct sockdiag_number shutdown;       /* Directions that are shut down: 1 for receiving, 2
+                                              for sending, 3 for both (UNIX_DIAG_SHUTDOWN). */
+};
+
+/*
+ * Everything that a reply contains about an IPv4 or IPv6 socket, except its TCP connection and its
+ * memory, which have separate calls.
+ */
+struct sockdiag_inet_details {
+    struct sockdiag_inet_header header; /* The header. */
+    struct sockdiag_text congestion;    /* Name of the congestion control algorithm
+                                           (INET_DIAG_CONG). */
+    struct sockdiag_number tos;         /* Type of service (INET_DIAG_TOS). */
+    struct sockdiag_number tclass;      /* Traffic class of an IPv6 socket (INET_DIAG_TCLASS). */
+    struct sockdiag_number shutdown;    /* Directions that are shut down: 1 for receiving, 2 for
+                                           sending, 3 for both (INET_DIAG_SHUTDOWN). */
+    struct sockdiag_number protocol;    /* Protocol, one of IPPROTO_.. (INET_DIAG_PROTOCOL). */
+    struct sockdiag_number v6only;      /* 1 if the socket is for IPv6 only, else 0
+                                           (INET_DIAG_SKV6ONLY). */
+    struct sockdiag_number mark;        /* Mark of the socket, SO_MARK (INET_DIAG_MARK). */
+    struct sockdiag_number class_id;    /* Traffic control class of the socket's packets
+                                           (INET_DIAG_CLASS_ID). */
+};
+
+/*
+ * Checks a whole reply about a UNIX socket, as sockdiag_check_unix_reply does, and returns its
+ * contents, in one pass over the attributes. The bytes are the payload of the netlink message.
+ * Returns 0, or the code of the first error; then the details are unchanged. The previous contents
+ * of the details are not read. If the reply has several attributes of a kind, the first one counts.
+ * Texts point into the payload, and are valid as long as it is.
  */
 uint32_t sockdiag_unix_get_details(const uint8_t *payload, size_t length,
                                    struct sockdiag_unix_details *details);
+
+/*
+ * Checks a whole reply about an IPv4 or IPv6 socket, as sockdiag_check_inet_reply does, and returns
+ * its header and the attributes that are a text or a number, in one pass over the attributes.
+ * Memory and struct tcp_info are checked, and not returned. The bytes are the payload of the
+ * netlink message. Returns 0, or the code of the first error; then the details are unchanged. The
+ * previous contents of the details are not read. If the reply has several attributes of a kind, the
+ * first one counts. Texts point into the payload, and are valid as long as it is.
+ */
 uint32_t sockdiag_inet_get_details(const uint8_t *payload, size_t length,
                                    struct sockdiag_inet_details *details);
 
 /*
- * Stores in *inode the inode of a connection that waits to be accepted on a UNIX socket,
- * UNIX_DIAG_ICONS. The first connection has index 0. Returns 1; or 0 if there is no such connection
- * or the reply is rejected, and then *inode is unchanged.
+ * Stores the inode of a connection that waits to be accepted on a UNIX socket: the one at this
+ * index of the first UNIX_DIAG_ICONS of a reply, which is the payload of a netlink message. The
+ * first connection has index 0. Returns 1. Returns 0 if the reply is rejected, or has no connection
+ * at this index; then the inode is unchanged.
  */
 uint32_t sockdiag_unix_get_pending(const uint8_t *payload, size_t length, size_t index,
                                    uint32_t *inode);
 
-/* A TCP connection: the fields of struct tcp_info of linux/tcp.h, without the prefix tcpi_. */
+/* The state of a TCP connection: struct tcp_info of linux/tcp.h, without the prefix tcpi_. */
 struct sockdiag_tcp_info {
-    uint8_t state;                     /* one of TCP_ESTABLISHED to TCP_CLOSING */
-    uint8_t ca_state;                  /* state of congestion control, one of TCP_CA_OPEN to
-                                          TCP_CA_LOSS */
-    uint8_t retransmits;               /* number of times that the timer has retransmitted the
-                                          oldest segment */
-    uint8_t probes;                    /* number of unanswered zero-window and keepalive probes */
-    uint8_t backoff;                   /* number of times that the timer was doubled (exponential
-                                          backoff) */
-    uint8_t options;                   /* options that both ends agreed on, bits TCPI_OPT_.. */
-    uint8_t wscale;                    /* window scales: tcpi_snd_wscale in the lower four bits,
-                                          tcpi_rcv_wscale in the upper four */
-    uint8_t delivery_rate_app_limited; /* bit 0 is set if the application limits delivery_rate */
-    uint32_t rto;                      /* retransmission timeout, in microseconds */
-    uint32_t ato;                      /* timeout of delayed acknowledgements, in microseconds */
-    uint32_t snd_mss;                  /* maximum segment size for sending, in bytes */
-    uint32_t rcv_mss;                  /* estimated maximum segment size of the peer, in bytes */
-    uint32_t unacked;                  /* segments sent and not acknowledged; in TCP_LISTEN, pending
-                                          connections */
-    uint32_t sacked;                   /* segments acknowledged out of order; in TCP_LISTEN, limit
-                                          of pending connections */
-    uint32_t lost;                     /* segments that are considered lost */
-    uint32_t retrans;                  /* retransmitted segments in flight */
-    uint32_t fackets;                  /* segments up to the highest acknowledged one; newer kernels
-                                          write 0 */
-    uint32_t last_data_sent;           /* time since data was last sent, in milliseconds */
-    uint32_t last_ack_sent;            /* time since an acknowledgement was last sent; the kernel
-                                          writes 0 */
-    uint32_t last_data_recv;           /* time since data was last received, in milliseconds */
-    uint32_t last_ack_recv;            /* time since an acknowledgement was last received, in
-                                          milliseconds */
-    uint32_t pmtu;                     /* path MTU, in bytes */
-    uint32_t rcv_ssthresh;             /* current limit of the receive window, in bytes */
-    uint32_t rtt;                      /* smoothed round-trip time, in microseconds */
-    uint32_t rttvar;                   /* variation of the round-trip time, in microseconds */
-    uint32_t snd_ssthresh;             /* slow start threshold, in segments */
-    uint32_t snd_cwnd;                 /* congestion window, in segments */
-    uint32_t advmss;                   /* maximum segment size that was advertised to the peer, in
-                                          bytes */
-    uint32_t reordering;               /* reordering distance beyond which a segment is considered
-                                          lost, in segments */
-    uint32_t rcv_rtt;                  /* round-trip time that the receiver measures, in
-                                          microseconds */
-    uint32_t rcv_space;                /* size that the receive buffer is tuned for, in bytes */
-    uint32_t total_retrans;            /* retransmitted segments in total */
-    uint64_t pacing_rate;              /* pacing rate, in bytes per second */
-    uint64_t max_pacing_rate;          /* maximum pacing rate, in bytes per second */
-    uint64_t bytes_acked;              /* bytes that were acknowledged */
-    uint64_t bytes_received;           /* bytes that were received in order */
-    uint32_t segs_out;                 /* segments sent */
-    uint32_t segs_in;                  /* segments received */
-    uint32_t notsent_bytes;            /* queued bytes that have not been sent */
-    uint32_t min_rtt;                  /* minimum round-trip time, in microseconds */
-    uint32_t data_segs_in;             /* segments received with data */
-    uint32_t data_segs_out;            /* segments sent with data */
-    uint64_t delivery_rate;            /* most recent rate of delivery to the peer, in bytes per
-                                          second */
-    uint64_t busy_time;                /* time with data to send, in microseconds */
-    uint64_t rwnd_limited;             /* part of busy_time that was limited by the peer's receive
-                                          window, in microseconds */
-    uint64_t sndbuf_limited;           /* part of busy_time that was limited by the send buffer, in
-                                          microseconds */
-    uint32_t delivered;                /* segments delivered to the peer, including retransmitted
-                                          ones */
-    uint32_t delivered_ce;             /* delivered segments that the peer reported as marked for
-                                          congestion */
-    uint64_t bytes_sent;               /* bytes of data sent, including retransmitted ones */
-    uint64_t bytes_retrans;            /* bytes of data retransmitted */
-    uint32_t dsack_dups;               /* segments that the peer reported as received twice
-                                          (DSACK) */
-    uint32_t reord_seen;               /* reordering events that were seen */
-    uint32_t rcv_ooopack;              /* segments received out of order */
-    uint32_t snd_wnd;                  /* the peer's receive window after scaling, in bytes */
+    uint8_t state;                     /* TCP state (tcpi_state), TCP_ESTABLISHED to TCP_CLOSING,
+                                          at offset 0. */
+    uint8_t ca_state;                  /* State of congestion control (tcpi_ca_state),
+                                          TCP_CA_OPEN to TCP_CA_LOSS, at offset 1. */
+    uint8_t retransmits;               /* Number of times that the retransmission timer has
+                                          retransmitted the oldest segment (tcpi_retransmits), at
+                                          offset 2. */
+    uint8_t probes;                    /* Number of unanswered zero-window or keepalive probes
+                                          (tcpi_probes), at offset 3. */
+    uint8_t backoff;                   /* Number of times that the timer was doubled, by
+                                          exponential backoff (tcpi_backoff), at offset 4. */
+    uint8_t options;                   /* Options of the connection (tcpi_options), bits
+                                          TCPI_OPT_*, at offset 5. */
+    uint8_t wscale;                    /* Window scale shifts, at offset 6: tcpi_snd_wscale in
+                                          bits 0 to 3, tcpi_rcv_wscale in bits 4 to 7. */
+    uint8_t delivery_rate_app_limited; /* Bit fields at offset 7. Bit 0 is set if the sending
+                                          program limits delivery_rate
+                                          (tcpi_delivery_rate_app_limited). Bits 1 and 2 are
+                                          tcpi_fastopen_client_fail. */
+    uint32_t rto;                      /* Retransmission timeout in microseconds (tcpi_rto), at
+                                          offset 8. */
+    uint32_t ato;                      /* Timeout of delayed acknowledgements in microseconds
+                                          (tcpi_ato), at offset 12. */
+    uint32_t snd_mss;                  /* Maximum size of sent segments in bytes (tcpi_snd_mss),
+                                          at offset 16. */
+    uint32_t rcv_mss;                  /* Estimated maximum size of received segments in bytes
+                                          (tcpi_rcv_mss), at offset 20. */
+    uint32_t unacked;                  /* Number of segments that are sent and not acknowledged
+                                          (tcpi_unacked), at offset 24. For a listening socket,
+                                          the number of pending connections. */
+    uint32_t sacked;                   /* Number of segments that are selectively acknowledged
+                                          (tcpi_sacked), at offset 28. For a listening socket,
+                                          the backlog limit. */
+    uint32_t lost;                     /* Number of segments that are considered lost
+                                          (tcpi_lost), at offset 32. */
+    uint32_t retrans;                  /* Number of retransmitted segments in flight
+                                          (tcpi_retrans), at offset 36. */
+    uint32_t fackets;                  /* Number of segments up to the highest one that is
+                                          selectively acknowledged (tcpi_fackets), at offset 40.
+                                          Newer kernels write 0. */
+    uint32_t last_data_sent;           /* Time since data was last sent, in milliseconds
+                                          (tcpi_last_data_sent), at offset 44. */
+    uint32_t last_ack_sent;            /* Time since an acknowledgement was last sent
+                                          (tcpi_last_ack_sent), at offset 48. The kernel does not
+                                          record it, and writes 0. */
+    uint32_t last_data_recv;           /* Time since data was last received, in milliseconds
+                                          (tcpi_last_data_recv), at offset 52. */
+    uint32_t last_ack_recv;            /* Time since an acknowledgement was last received, in
+                                          milliseconds (tcpi_last_ack_recv), at offset 56. */
+    uint32_t pmtu;                     /* Path MTU in bytes (tcpi_pmtu), at offset 60. */
+    uint32_t rcv_ssthresh;             /* Current limit on the growth of the receive window, in
+                                          bytes (tcpi_rcv_ssthresh), at offset 64. */
+    uint32_t rtt;                      /* Smoothed round-trip time in microseconds (tcpi_rtt), at
+                                          offset 68. */
+    uint32_t rttvar;                   /* Mean deviation of the round-trip time in microseconds
+                                          (tcpi_rttvar), at offset 72. */
+    uint32_t snd_ssthresh;             /* Slow start threshold in segments (tcpi_snd_ssthresh),
+                                          at offset 76. */
+    uint32_t snd_cwnd;                 /* Congestion window in segments (tcpi_snd_cwnd), at
+                                          offset 80. */
+    uint32_t advmss;                   /* Maximum segment size that was advertised to the peer,
+                                          in bytes (tcpi_advmss), at offset 84. */
+    uint32_t reordering;               /* Reordering metric in segments (tcpi_reordering), at
+                                          offset 88: how far segments may be out of order before
+                                          one is considered lost. */
+    uint32_t rcv_rtt;                  /* Round-trip time that the receiver estimates, in
+                                          microseconds (tcpi_rcv_rtt), at offset 92. */
+    uint32_t rcv_space;                /* Space that receive buffer auto-tuning provides for, in
+                                          bytes (tcpi_rcv_space), at offset 96. */
+    uint32_t total_retrans;            /* Total number of retransmitted segments
+                                          (tcpi_total_retrans), at offset 100. */
+    uint64_t pacing_rate;              /* Pacing rate in bytes per second (tcpi_pacing_rate), at
+                                          offset 104. */
+    uint64_t max_pacing_rate;          /* Limit on the pacing rate in bytes per second
+                                          (tcpi_max_pacing_rate), at offset 112. */
+    uint64_t bytes_acked;              /* Number of acknowledged bytes (tcpi_bytes_acked), at
+                                          offset 120. */
+    uint64_t bytes_received;           /* Number of bytes that were received in order
+                                          (tcpi_bytes_received), at offset 128. */
+    uint32_t segs_out;                 /* Number of sent segments (tcpi_segs_out), at offset 136. */
+    uint32_t segs_in;                  /* Number of received segments (tcpi_segs_in), at offset
+                                          140. */
+    uint32_t notsent_bytes;            /* Number of bytes in the send queue that are not yet sent
+                                          (tcpi_notsent_bytes), at offset 144. */
+    uint32_t min_rtt;                  /* Minimum round-trip time in microseconds (tcpi_min_rtt),
+                                          at offset 148. */
+    uint32_t data_segs_in;             /* Number of received segments with data
+                                          (tcpi_data_segs_in), at offset 152. */
+    uint32_t data_segs_out;            /* Number of sent segments with data (tcpi_data_segs_out),
+                                          at offset 156. */
+    uint64_t delivery_rate;            /* Most recent rate at which data was delivered to the
+                                          peer, in bytes per second (tcpi_delivery_rate), at
+                                          offset 160. */
+    uint64_t busy_time;                /* Time with data to send, in microseconds
+                                          (tcpi_busy_time), at offset 168. */
+    uint64_t rwnd_limited;             /* Part of the busy time in which the peer's receive
+                                          window was the limit, in microseconds
+                                          (tcpi_rwnd_limited), at offset 176. */
+    uint64_t sndbuf_limited;           /* Part of the busy time in which the send buffer was the
+                                          limit, in microseconds (tcpi_sndbuf_limited), at offset
+                                          184. */
+    uint32_t delivered;                /* Number of segments that were delivered to the peer,
+                                          including retransmitted ones (tcpi_delivered), at
+                                          offset 192. */
+    uint32_t delivered_ce;             /* Number of delivered segments that the peer reported as
+                                          marked for congestion, by ECN (tcpi_delivered_ce), at
+                                          offset 196. */
+    uint64_t bytes_sent;               /* Number of sent bytes of data, including retransmitted
+                                          ones (tcpi_bytes_sent), at offset 200. */
+    uint64_t bytes_retrans;            /* Number of retransmitted bytes of data
+                                          (tcpi_bytes_retrans), at offset 208. */
+    uint32_t dsack_dups;               /* Number of segments that the peer reported as received
+                                          twice, by DSACK (tcpi_dsack_dups), at offset 216. */
+    uint32_t reord_seen;               /* Number of times that reordering was observed
+                                          (tcpi_reord_seen), at offset 220. */
+    uint32_t rcv_ooopack;              /* Number of segments that were received out of order
+                                          (tcpi_rcv_ooopack), at offset 224. */
+    uint32_t snd_wnd;                  /* Receive window that the peer advertises, after scaling,
+                                          in bytes (tcpi_snd_wnd), at offset 228. */
 };
 
 /*
- * Copies the value of the first INET_DIAG_INFO after the header of a reply about an IPv4 or IPv6
- * socket to *info: at most as many bytes as *info has. The remaining bytes of *info are set to 0.
- * Returns the length of the value in bytes, or 0 if there is none. Older kernels send fewer bytes
- * than *info has, and newer kernels more.
+ * Copies the value of the first INET_DIAG_INFO (2) after the header of a reply about an IPv4 or
+ * IPv6 socket, which has 72 bytes: at most the 232 bytes of info. The remaining bytes of info are
+ * set to 0. Returns the length of the value in bytes, or 0 if there is none. Older kernels send
+ * fewer than 232 bytes, and newer kernels more.
  *
  * The values of attributes are not checked. So this call also works for a reply that is rejected
  * because a value is too short. Attributes after a framing error are not found.
@@ -369,233 +449,328 @@ struct sockdiag_tcp_info {
 size_t sockdiag_inet_get_tcp_info(const uint8_t *payload, size_t length,
                                   struct sockdiag_tcp_info *info);
 
-/* Memory of an IPv4 or IPv6 socket: the fields SK_MEMINFO_.. of linux/sock_diag.h, in bytes except
- * for the last. */
+/*
+ * The memory of an IPv4 or IPv6 socket (INET_DIAG_SKMEMINFO): the fields SK_MEMINFO_* of
+ * linux/sock_diag.h.
+ */
 struct sockdiag_inet_memory {
-    uint32_t receive_queue;        /* SK_MEMINFO_RMEM_ALLOC: memory in use by the receive queue */
-    uint32_t receive_queue_max;    /* SK_MEMINFO_RCVBUF: receive buffer limit */
-    uint32_t bottom_send_queues;   /* SK_MEMINFO_WMEM_ALLOC: packets committed to the device
-                                      queue */
-    uint32_t send_queue_max;       /* SK_MEMINFO_SNDBUF: send buffer limit */
-    uint32_t cache;                /* SK_MEMINFO_FWD_ALLOC: memory that is allocated to the socket
-                                      and not in use */
-    uint32_t send_queue;           /* SK_MEMINFO_WMEM_QUEUED: memory in use by the send queue */
-    uint32_t options;              /* SK_MEMINFO_OPTMEM: socket options */
-    uint32_t backlog_queue_length; /* SK_MEMINFO_BACKLOG: packets that wait while the socket is
-                                      locked; not sent by older kernels */
-    uint32_t drops;                /* SK_MEMINFO_DROPS: number of dropped packets; not sent by older
-                                      kernels */
-};
-
-/* Copies the value of the first INET_DIAG_SKMEMINFO to *memory in the same way. */
-size_t sockdiag_inet_get_memory(const uint8_t *payload, size_t length,
-                                struct sockdiag_inet_memory *memory);
-
-/* ---- netlink, packet, vsock and XDP sockets */
-
-/* Offsets of the attributes: the sizes of struct netlink_diag_msg, packet_diag_msg and
- * xdp_diag_msg. */
-#define SOCKDIAG_NETLINK_ATTRIBUTES 28
-#define SOCKDIAG_PACKET_ATTRIBUTES 16
-#define SOCKDIAG_XDP_ATTRIBUTES 16
-
-/* Memory of such a socket: the fields SK_MEMINFO_.. of linux/sock_diag.h, in bytes except for
- * the last. A reply contains the first seven fields together, or none of them. */
-struct sockdiag_memory {
-    struct sockdiag_number receive_queue;        /* SK_MEMINFO_RMEM_ALLOC, at 0: memory in use by
-                                                    the receive queue */
-    struct sockdiag_number receive_queue_max;    /* SK_MEMINFO_RCVBUF, at 4: receive buffer limit */
-    struct sockdiag_number bottom_send_queues;   /* SK_MEMINFO_WMEM_ALLOC, at 8: packets committed
-                                                    to the device queue */
-    struct sockdiag_number send_queue_max;       /* SK_MEMINFO_SNDBUF, at 12: send buffer limit */
-    struct sockdiag_number cache;                /* SK_MEMINFO_FWD_ALLOC, at 16: allocated to the
-                                                    socket and not in use */
-    struct sockdiag_number send_queue;           /* SK_MEMINFO_WMEM_QUEUED, at 20: memory in use by
-                                                    the send queue */
-    struct sockdiag_number options;              /* SK_MEMINFO_OPTMEM, at 24: socket options */
-    struct sockdiag_number backlog_queue_length; /* SK_MEMINFO_BACKLOG, at 28: packets that wait
-                                                    while it is locked */
-    struct sockdiag_number drops;                /* SK_MEMINFO_DROPS, at 32: number of dropped
-                                                    packets */
-};
-
-/* Header of a reply about a netlink socket, struct netlink_diag_msg of linux/netlink_diag.h. */
-struct sockdiag_netlink_header {
-    uint8_t kind;               /* ndiag_type, at 1: SOCK_RAW or SOCK_DGRAM */
-    uint8_t protocol;           /* ndiag_protocol, at 2: one of NETLINK_.. of linux/netlink.h */
-    uint8_t state;              /* ndiag_state, at 3: 1 if the socket is connected to another */
-    uint32_t port;              /* ndiag_portid, at 4: port id of the socket, 0 for the kernel */
-    uint32_t destination_port;  /* ndiag_dst_portid, at 8: port id of the socket that it is
-                                   connected to */
-    uint32_t destination_group; /* ndiag_dst_group, at 12: number of the multicast group that it
-                                   sends to */
-    uint32_t inode;             /* ndiag_ino, at 16: inode of the socket */
-    uint64_t cookie;            /* ndiag_cookie, at 20: distinguishes sockets with the same inode */
-};
-
-/* Everything that a reply says of a netlink socket, by the attributes of linux/netlink_diag.h. */
-struct sockdiag_netlink_details {
-    struct sockdiag_netlink_header header;
-    struct sockdiag_memory memory; /* NETLINK_DIAG_MEMINFO */
-    struct sockdiag_text groups;   /* NETLINK_DIAG_GROUPS, SOCKDIAG_BYTES: groups that the socket is
-                                      a member of, one bit each; group 1 is the lowest bit of the
-                                      first byte */
-    struct sockdiag_number flags;  /* NETLINK_DIAG_FLAGS: bits NDIAG_FLAG_.. */
-};
-
-/* Header of a reply about a packet socket, struct packet_diag_msg of linux/packet_diag.h. */
-struct sockdiag_packet_header {
-    uint8_t kind;      /* pdiag_type, at 1: SOCK_RAW or SOCK_DGRAM */
-    uint16_t protocol; /* pdiag_num, at 2: one of ETH_P_.. of linux/if_ether.h */
-    uint32_t inode;    /* pdiag_ino, at 4: inode of the socket */
-    uint64_t cookie;   /* pdiag_cookie, at 8: distinguishes sockets with the same inode */
-};
-
-/* Settings of a packet socket, struct packet_diag_info of linux/packet_diag.h. */
-struct sockdiag_packet_info {
-    uint32_t interface;      /* pdi_index, at 0: index of the interface that the socket is bound to,
-                                or 0 */
-    uint32_t version;        /* pdi_version, at 4: frame format of the rings, one of TPACKET_V.. */
-    uint32_t reserve;        /* pdi_reserve, at 8: bytes of each frame that are reserved for the
-                                application */
-    uint32_t copy_threshold; /* pdi_copy_thresh, at 12: length from which a packet is also copied to
-                                the queue, in bytes */
-    uint32_t timestamp;      /* pdi_tstamp, at 16: clocks that packets are timestamped with */
-    uint32_t flags;          /* pdi_flags, at 20: bits PDI_.. */
-};
-
-/* A ring that a packet socket shares with the application, struct packet_diag_ring of
- * linux/packet_diag.h. */
-struct sockdiag_packet_ring {
-    uint32_t block_size;     /* pdr_block_size, at 0: size of a block in bytes */
-    uint32_t blocks;         /* pdr_block_nr, at 4: number of blocks */
-    uint32_t frame_size;     /* pdr_frame_size, at 8: size of a frame in bytes */
-    uint32_t frames;         /* pdr_frame_nr, at 12: number of frames */
-    uint32_t retire_timeout; /* pdr_retire_tmo, at 16: milliseconds after which a block that is not
-                                full is handed over */
-    uint32_t private_size;   /* pdr_sizeof_priv, at 20: bytes of each block that belong to the
-                                application */
-    uint32_t features;       /* pdr_features, at 24: bits TP_FT_.. */
-};
-
-/* Everything that a reply says of a packet socket, by the attributes of linux/packet_diag.h. */
-struct sockdiag_packet_details {
-    struct sockdiag_packet_header header;
-    uint32_t has_info;                        /* 1 if info is set, else 0 */
-    struct sockdiag_packet_info info;         /* PACKET_DIAG_INFO */
-    struct sockdiag_text addresses;           /* PACKET_DIAG_MCLIST, SOCKDIAG_BYTES: addresses that
-                                                 the socket receives in addition to its interface's,
-                                                 44 bytes each, struct packet_diag_mclist */
-    uint32_t has_receive_ring;                /* 1 if receive_ring is set, else 0 */
-    struct sockdiag_packet_ring receive_ring; /* PACKET_DIAG_RX_RING */
-    uint32_t has_send_ring;                   /* 1 if send_ring is set, else 0 */
-    struct sockdiag_packet_ring send_ring;    /* PACKET_DIAG_TX_RING */
-    struct sockdiag_number fanout;            /* PACKET_DIAG_FANOUT: id of the fanout group in the
-                                                 low 16 bits, mode in the high 16 bits */
-    struct sockdiag_number owner;             /* PACKET_DIAG_UID: user id of the owner */
-    struct sockdiag_memory memory;            /* PACKET_DIAG_MEMINFO */
-    struct sockdiag_text filter;              /* PACKET_DIAG_FILTER, SOCKDIAG_BYTES: instructions
-                                                 of the socket filter, 8 bytes each, struct
-                                                 sock_filter */
-};
-
-/* Header of a reply about a vsock socket, struct vsock_diag_msg of linux/vm_sockets_diag.h. No
- * attributes follow. */
-struct sockdiag_vsock_header {
-    uint8_t kind;                 /* vdiag_type, at 1: one of SOCK_.. */
-    uint8_t state;                /* vdiag_state, at 2: one of TCP_.. */
-    uint8_t shutdown;             /* vdiag_shutdown, at 3: directions that are shut down, 1 for
-                                     receiving, 2 for sending, 3 for both */
-    uint32_t source_context;      /* vdiag_src_cid, at 4: context id of the socket, 2 for the
-                                     host */
-    uint32_t source_port;         /* vdiag_src_port, at 8: port of the socket */
-    uint32_t destination_context; /* vdiag_dst_cid, at 12: context id of the peer */
-    uint32_t destination_port;    /* vdiag_dst_port, at 16: port of the peer */
-    uint32_t inode;               /* vdiag_ino, at 20: inode of the socket */
-    uint64_t cookie;              /* vdiag_cookie, at 24: distinguishes sockets with the same
-                                     inode */
-};
-
-/* Header of a reply about an XDP socket, struct xdp_diag_msg of linux/xdp_diag.h. */
-struct sockdiag_xdp_header {
-    uint8_t kind;    /* xdiag_type, at 1: SOCK_RAW */
-    uint32_t inode;  /* xdiag_ino, at 4: inode of the socket */
-    uint64_t cookie; /* xdiag_cookie, at 8: distinguishes sockets with the same inode */
-};
-
-/* What an XDP socket is bound to, struct xdp_diag_info of linux/xdp_diag.h. */
-struct sockdiag_xdp_info {
-    uint32_t interface; /* ifindex, at 0: index of the interface */
-    uint32_t queue;     /* queue_id, at 4: queue of the interface */
-};
-
-/* Memory that an XDP socket shares with the application (UMEM), struct xdp_diag_umem of
- * linux/xdp_diag.h. */
-struct sockdiag_xdp_umem {
-    uint64_t size;       /* size, at 0: size in bytes */
-    uint32_t id;         /* id, at 8: id of the memory */
-    uint32_t pages;      /* num_pages, at 12: number of pages */
-    uint32_t chunk_size; /* chunk_size, at 16: size of a chunk in bytes */
-    uint32_t headroom;   /* headroom, at 20: bytes of each chunk that belong to the application */
-    uint32_t interface;  /* ifindex, at 24: index of the interface that it is bound to */
-    uint32_t queue;      /* queue_id, at 28: queue of the interface */
-    uint32_t flags;      /* flags, at 32: bit XDP_DU_F_ZEROCOPY */
-    uint32_t references; /* refs, at 36: number of sockets that share it */
-};
-
-/* Counters of an XDP socket, struct xdp_diag_stats of linux/xdp_diag.h. */
-struct sockdiag_xdp_statistics {
-    uint64_t received_dropped; /* n_rx_dropped, at 0: packets dropped for reasons other than the
-                                  next two */
-    uint64_t received_invalid; /* n_rx_invalid, at 8: packets with an invalid frame address */
-    uint64_t received_full;    /* n_rx_full, at 16: packets dropped because the ring was full */
-    uint64_t fill_ring_empty;  /* n_fill_ring_empty, at 24: packets for which the fill ring had no
-                                  frame */
-    uint64_t sent_invalid;     /* n_tx_invalid, at 32: invalid addresses of frames to send */
-    uint64_t send_ring_empty;  /* n_tx_ring_empty, at 40: number of times that the ring had nothing
-                                  to send */
-};
-
-/* Everything that a reply says of an XDP socket, by the attributes of linux/xdp_diag.h. The
- * value of a ring is its number of entries. */
-struct sockdiag_xdp_details {
-    struct sockdiag_xdp_header header;
-    uint32_t has_info;                         /* 1 if info is set, else 0 */
-    struct sockdiag_xdp_info info;             /* XDP_DIAG_INFO */
-    struct sockdiag_number owner;              /* XDP_DIAG_UID: user id of the owner */
-    struct sockdiag_number receive_ring;       /* XDP_DIAG_RX_RING: receive ring */
-    struct sockdiag_number send_ring;          /* XDP_DIAG_TX_RING: transmit ring */
-    uint32_t has_umem;                         /* 1 if umem is set, else 0 */
-    struct sockdiag_xdp_umem umem;             /* XDP_DIAG_UMEM */
-    struct sockdiag_number fill_ring;          /* XDP_DIAG_UMEM_FILL_RING: ring that passes frames
-                                                  to the kernel */
-    struct sockdiag_number completion_ring;    /* XDP_DIAG_UMEM_COMPLETION_RING: ring that returns
-                                                  them */
-    struct sockdiag_memory memory;             /* XDP_DIAG_MEMINFO */
-    uint32_t has_statistics;                   /* 1 if statistics is set, else 0 */
-    struct sockdiag_xdp_statistics statistics; /* XDP_DIAG_STATS */
+    uint32_t receive_queue;        /* Memory in use by the receive queue, in bytes
+                                      (SK_MEMINFO_RMEM_ALLOC, at 0). */
+    uint32_t receive_queue_max;    /* Receive buffer limit in bytes (SK_MEMINFO_RCVBUF, at 4). */
+    uint32_t bottom_send_queues;   /* Memory of packets committed to the device queue, in bytes
+                                      (SK_MEMINFO_WMEM_ALLOC, at 8). */
+    uint32_t send_queue_max;       /* Send buffer limit in bytes (SK_MEMINFO_SNDBUF, at 12). */
+    uint32_t cache;                /* Memory that is allocated to the socket and not in use, in
+                                      bytes (SK_MEMINFO_FWD_ALLOC, at 16). */
+    uint32_t send_queue;           /* Memory in use by the send queue, in bytes
+                                      (SK_MEMINFO_WMEM_QUEUED, at 20). */
+    uint32_t options;              /* Memory of the socket options, in bytes (SK_MEMINFO_OPTMEM,
+                                      at 24). */
+    uint32_t backlog_queue_length; /* Memory of packets that wait while the socket is locked, in
+                                      bytes (SK_MEMINFO_BACKLOG, at 28). Older kernels do not
+                                      send it. */
+    uint32_t drops;                /* Number of dropped packets (SK_MEMINFO_DROPS, at 32). Older
+                                      kernels do not send it. */
 };
 
 /*
- * Checks a whole reply, and returns everything that it says. The family, which is the first byte of
- * the payload, is not checked: use it to choose the call. Returns 0, or the code of the first
- * error; then *details is unchanged. If the reply has several attributes of a kind, the first one
- * counts. An attribute of another kind is not an error; sockdiag_next_attribute returns it. Bytes
- * after the last field of a record are ignored, since newer kernels send more. A record that the
- * reply does not contain is left unchanged. Texts point into the payload. Iterate over a dump by
- * sockdiag_next_envelope: sockdiag_next_message rejects these replies.
+ * Copies the value of the first INET_DIAG_SKMEMINFO (7) after the header of a reply about an IPv4
+ * or IPv6 socket, which has 72 bytes: at most the 36 bytes of memory. The remaining bytes of memory
+ * are set to 0. Returns the length of the value in bytes, or 0 if there is none. Older kernels send
+ * 28 or 32 bytes.
+ *
+ * The values of attributes are not checked. So this call also works for a reply that is rejected
+ * because a value is too short. Attributes after a framing error are not found.
+ */
+size_t sockdiag_inet_get_memory(const uint8_t *payload, size_t length,
+                                struct sockdiag_inet_memory *memory);
+
+/* ---- netlink, packet, vsock and XDP sockets
+ *
+ * The calls of this section do not check the family, which is the first byte of the payload: use it
+ * to choose the call. Iterate over a dump by sockdiag_next_envelope: sockdiag_next_message rejects
+ * these replies.
  *
  * A payload that is shorter than the header is rejected with SOCKDIAG_BUFFER_TOO_SMALL. Then the
  * framing of all attributes is checked, with errors 7 to 9. Then values are checked in the order of
  * their kinds. A value that is shorter than its record is SOCKDIAG_BUFFER_TOO_SMALL, and a number
- * that does not have 4 bytes is SOCKDIAG_WRONG_LENGTH.
+ * that does not have 4 bytes is SOCKDIAG_WRONG_LENGTH. Bytes after the last field of a record are
+ * ignored, since newer kernels send more. An attribute of another kind is not an error;
+ * sockdiag_next_attribute returns it.
+ */
+
+/* Offsets of the attributes. */
+#define SOCKDIAG_NETLINK_ATTRIBUTES 28 /* Size of struct netlink_diag_msg in bytes. */
+#define SOCKDIAG_PACKET_ATTRIBUTES 16  /* Size of struct packet_diag_msg in bytes. */
+#define SOCKDIAG_XDP_ATTRIBUTES 16     /* Size of struct xdp_diag_msg in bytes. */
+
+/*
+ * Memory of a netlink, packet or XDP socket: the fields SK_MEMINFO_.. of linux/sock_diag.h. A reply
+ * contains the first seven fields together, or none of them.
+ */
+struct sockdiag_memory {
+    struct sockdiag_number receive_queue;        /* Memory in use by the receive queue, in bytes
+                                                    (SK_MEMINFO_RMEM_ALLOC, at 0). */
+    struct sockdiag_number receive_queue_max;    /* Receive buffer limit in bytes
+                                                    (SK_MEMINFO_RCVBUF, at 4). */
+    struct sockdiag_number bottom_send_queues;   /* Memory of packets committed to the device
+                                                    queue, in bytes (SK_MEMINFO_WMEM_ALLOC, at
+                                                    8). */
+    struct sockdiag_number send_queue_max;       /* Send buffer limit in bytes
+                                                    (SK_MEMINFO_SNDBUF, at 12). */
+    struct sockdiag_number cache;                /* Memory that is allocated to the socket and
+                                                    not in use, in bytes (SK_MEMINFO_FWD_ALLOC,
+                                                    at 16). */
+    struct sockdiag_number send_queue;           /* Memory in use by the send queue, in bytes
+                                                    (SK_MEMINFO_WMEM_QUEUED, at 20). */
+    struct sockdiag_number options;              /* Memory of the socket options, in bytes
+                                                    (SK_MEMINFO_OPTMEM, at 24). */
+    struct sockdiag_number backlog_queue_length; /* Memory of packets that wait while the socket
+                                                    is locked, in bytes (SK_MEMINFO_BACKLOG, at
+                                                    28). Older kernels do not send it. */
+    struct sockdiag_number drops;                /* Number of dropped packets (SK_MEMINFO_DROPS,
+                                                    at 32). Older kernels do not send it. */
+};
+
+/* The header of a reply about a netlink socket: struct netlink_diag_msg of linux/netlink_diag.h. */
+struct sockdiag_netlink_header {
+    uint8_t kind;               /* Socket type (ndiag_type), SOCK_RAW (3) or SOCK_DGRAM (2), at
+                                   offset 1. */
+    uint8_t protocol;           /* Protocol (ndiag_protocol), NETLINK_* of linux/netlink.h, at
+                                   offset 2. */
+    uint8_t state;              /* State (ndiag_state), 1 if the socket is connected to another
+                                   one, at offset 3. */
+    uint32_t port;              /* Port id of the socket (ndiag_portid), at offset 4. The kernel
+                                   has port id 0. */
+    uint32_t destination_port;  /* Port id of the socket that this one is connected to
+                                   (ndiag_dst_portid), at offset 8. */
+    uint32_t destination_group; /* Number of the multicast group that the socket is connected to
+                                   (ndiag_dst_group), at offset 12. It is one group's number, not
+                                   a mask; 0 means none. */
+    uint32_t inode;             /* Inode number of the socket (ndiag_ino), at offset 16. */
+    uint64_t cookie;            /* Cookie that distinguishes sockets with the same inode number
+                                   (ndiag_cookie), at offset 20. */
+};
+
+/*
+ * Everything that a reply contains about a netlink socket, by the attributes of
+ * linux/netlink_diag.h.
+ */
+struct sockdiag_netlink_details {
+    struct sockdiag_netlink_header header; /* The header. */
+    struct sockdiag_memory memory;         /* Socket memory (NETLINK_DIAG_MEMINFO, type 0). */
+    struct sockdiag_text groups;           /* Groups that the socket is a member of, one bit
+                                              each; group 1 is the lowest bit of the first byte
+                                              (NETLINK_DIAG_GROUPS, type 1). The kind of the text
+                                              is SOCKDIAG_BYTES. */
+    struct sockdiag_number flags;          /* The bits NDIAG_FLAG_.. (NETLINK_DIAG_FLAGS, type
+                                              4). */
+};
+
+/* The header of a reply about a packet socket: struct packet_diag_msg of linux/packet_diag.h. */
+struct sockdiag_packet_header {
+    uint8_t kind;      /* Socket type (pdiag_type), SOCK_*, at offset 1. */
+    uint16_t protocol; /* Protocol (pdiag_num), ETH_P_* of linux/if_ether.h, at offset 2. It is
+                          not in network byte order. */
+    uint32_t inode;    /* Inode number of the socket (pdiag_ino), at offset 4. */
+    uint64_t cookie;   /* Cookie that distinguishes sockets with the same inode number
+                          (pdiag_cookie), at offset 8. */
+};
+
+/*
+ * Settings of a packet socket: struct packet_diag_info of linux/packet_diag.h. linux/if_packet.h
+ * has the socket options.
+ */
+struct sockdiag_packet_info {
+    uint32_t interface;      /* Index of the interface that the socket is bound to (pdi_index),
+                                at offset 0. 0 means all interfaces. */
+    uint32_t version;        /* Version of the ring's frame format (pdi_version), TPACKET_V*, at
+                                offset 4. */
+    uint32_t reserve;        /* Headroom that is reserved in a frame of the ring, in bytes
+                                (pdi_reserve, option PACKET_RESERVE), at offset 8. */
+    uint32_t copy_threshold; /* Copy threshold (pdi_copy_thresh, option PACKET_COPY_THRESH), at
+                                offset 12. If it is not 0, a packet that is longer than a frame
+                                of the ring is also copied to the receive queue. */
+    uint32_t timestamp;      /* Type of the timestamps (pdi_tstamp, option PACKET_TIMESTAMP), at
+                                offset 16. */
+    uint32_t flags;          /* Flags (pdi_flags), bits PDI_*, at offset 20. */
+};
+
+/*
+ * A ring that a packet socket shares with its program: struct packet_diag_ring of
+ * linux/packet_diag.h.
+ */
+struct sockdiag_packet_ring {
+    uint32_t block_size;     /* Size of a block in bytes (pdr_block_size), at offset 0. */
+    uint32_t blocks;         /* Number of blocks (pdr_block_nr), at offset 4. */
+    uint32_t frame_size;     /* Size of a frame in bytes (pdr_frame_size), at offset 8. */
+    uint32_t frames;         /* Number of frames (pdr_frame_nr), at offset 12. */
+    uint32_t retire_timeout; /* Time after which a block that is not full is passed to the
+                                program, in milliseconds (pdr_retire_tmo), at offset 16. */
+    uint32_t private_size;   /* Size of the program's private area in a block, in bytes
+                                (pdr_sizeof_priv), at offset 20. */
+    uint32_t features;       /* Features (pdr_features), bits TP_FT_*, at offset 24. */
+};
+
+/*
+ * Everything that a reply contains about a packet socket, by the attributes of linux/packet_diag.h.
+ */
+struct sockdiag_packet_details {
+    struct sockdiag_packet_header header;     /* The header. */
+    uint32_t has_info;                        /* 1 if info is set, else 0. */
+    struct sockdiag_packet_info info;         /* Settings of the socket (PACKET_DIAG_INFO, type
+                                                 0). */
+    struct sockdiag_text addresses;           /* Addresses that the socket receives in addition
+                                                 to its interface's, 44 bytes each, struct
+                                                 packet_diag_mclist (PACKET_DIAG_MCLIST, type 1).
+                                                 The kind of the text is SOCKDIAG_BYTES. */
+    uint32_t has_receive_ring;                /* 1 if receive_ring is set, else 0. */
+    struct sockdiag_packet_ring receive_ring; /* Receive ring (PACKET_DIAG_RX_RING, type 2). */
+    uint32_t has_send_ring;                   /* 1 if send_ring is set, else 0. */
+    struct sockdiag_packet_ring send_ring;    /* Transmit ring (PACKET_DIAG_TX_RING, type 3). */
+    struct sockdiag_number fanout;            /* Id of the fanout group in the low 16 bits, mode
+                                                 in the high 16 bits (PACKET_DIAG_FANOUT, type
+                                                 4). */
+    struct sockdiag_number owner;             /* User id of the owner (PACKET_DIAG_UID, type 5). */
+    struct sockdiag_memory memory;            /* Socket memory (PACKET_DIAG_MEMINFO, type 6). */
+    struct sockdiag_text filter;              /* Instructions of the socket filter, 8 bytes each,
+                                                 struct sock_filter (PACKET_DIAG_FILTER, type 7).
+                                                 The kind of the text is SOCKDIAG_BYTES. */
+};
+
+/*
+ * The header of a reply about a vsock socket: struct vsock_diag_msg of linux/vm_sockets_diag.h. No
+ * attributes follow the header.
+ */
+struct sockdiag_vsock_header {
+    uint8_t kind;                 /* Socket type (vdiag_type), SOCK_*, at offset 1. */
+    uint8_t state;                /* State (vdiag_state), TCP_*, at offset 2. */
+    uint8_t shutdown;             /* Directions that the socket has shut down (vdiag_shutdown),
+                                     at offset 3: 1 (RCV_SHUTDOWN) for receiving, 2
+                                     (SEND_SHUTDOWN) for sending, 3 for both. */
+    uint32_t source_context;      /* Context id of the socket (vdiag_src_cid), at offset 4. The
+                                     host has context id 2. */
+    uint32_t source_port;         /* Port of the socket (vdiag_src_port), at offset 8. */
+    uint32_t destination_context; /* Context id of the peer (vdiag_dst_cid), at offset 12. */
+    uint32_t destination_port;    /* Port of the peer (vdiag_dst_port), at offset 16. */
+    uint32_t inode;               /* Inode number of the socket (vdiag_ino), at offset 20. */
+    uint64_t cookie;              /* Cookie that distinguishes sockets with the same inode number
+                                     (vdiag_cookie), at offset 24. */
+};
+
+/* The header of a reply about an XDP socket: struct xdp_diag_msg of linux/xdp_diag.h. */
+struct sockdiag_xdp_header {
+    uint8_t kind;    /* Socket type (xdiag_type), SOCK_RAW (3), at offset 1. */
+    uint32_t inode;  /* Inode number of the socket (xdiag_ino), at offset 4. */
+    uint64_t cookie; /* Cookie that distinguishes sockets with the same inode number
+                        (xdiag_cookie), at offset 8. */
+};
+
+/*
+ * The interface and the queue that an XDP socket is bound to: struct xdp_diag_info of
+ * linux/xdp_diag.h.
+ */
+struct sockdiag_xdp_info {
+    uint32_t interface; /* Index of the interface (ifindex), at offset 0. */
+    uint32_t queue;     /* Index of the interface's queue (queue_id), at offset 4. */
+};
+
+/*
+ * The memory that an XDP socket shares with its program (UMEM): struct xdp_diag_umem of
+ * linux/xdp_diag.h.
+ */
+struct sockdiag_xdp_umem {
+    uint64_t size;       /* Size of the memory in bytes (size), at offset 0. */
+    uint32_t id;         /* Id of the memory (id), at offset 8. */
+    uint32_t pages;      /* Number of pages (num_pages), at offset 12. */
+    uint32_t chunk_size; /* Size of a chunk in bytes (chunk_size), at offset 16. */
+    uint32_t headroom;   /* Headroom of a chunk that the program reserves, in bytes (headroom),
+                            at offset 20. */
+    uint32_t interface;  /* Index of the interface that the memory is bound to (ifindex), at
+                            offset 24. */
+    uint32_t queue;      /* Index of the interface's queue (queue_id), at offset 28. */
+    uint32_t flags;      /* Flags (flags), the bit XDP_DU_F_ZEROCOPY (1), at offset 32. */
+    uint32_t references; /* Number of sockets that share the memory (refs), at offset 36. */
+};
+
+/* The counters of an XDP socket: struct xdp_diag_stats of linux/xdp_diag.h. */
+struct sockdiag_xdp_statistics {
+    uint64_t received_dropped; /* Number of received packets that were dropped for reasons other
+                                  than the following (n_rx_dropped), at offset 0. */
+    uint64_t received_invalid; /* Number of received packets that were dropped because of an
+                                  invalid descriptor (n_rx_invalid), at offset 8. */
+    uint64_t received_full;    /* Number of received packets that were dropped because the
+                                  receive ring was full (n_rx_full), at offset 16. */
+    uint64_t fill_ring_empty;  /* Number of times that a frame was needed and the fill ring was
+                                  empty (n_fill_ring_empty), at offset 24. */
+    uint64_t sent_invalid;     /* Number of packets that were not sent because of an invalid
+                                  descriptor (n_tx_invalid), at offset 32. */
+    uint64_t send_ring_empty;  /* Number of times that the transmit ring was found empty
+                                  (n_tx_ring_empty), at offset 40. */
+};
+
+/* Everything that a reply contains about an XDP socket, by the attributes of linux/xdp_diag.h. */
+struct sockdiag_xdp_details {
+    struct sockdiag_xdp_header header;         /* The header. */
+    uint32_t has_info;                         /* 1 if info is set, else 0. */
+    struct sockdiag_xdp_info info;             /* Interface and queue that the socket is bound to
+                                                  (XDP_DIAG_INFO, type 1). */
+    struct sockdiag_number owner;              /* User id of the owner (XDP_DIAG_UID, type 2). */
+    struct sockdiag_number receive_ring;       /* Number of entries of the receive ring
+                                                  (XDP_DIAG_RX_RING, type 3). */
+    struct sockdiag_number send_ring;          /* Number of entries of the transmit ring
+                                                  (XDP_DIAG_TX_RING, type 4). */
+    uint32_t has_umem;                         /* 1 if umem is set, else 0. */
+    struct sockdiag_xdp_umem umem;             /* Memory that the socket shares with the
+                                                  application (XDP_DIAG_UMEM, type 5). */
+    struct sockdiag_number fill_ring;          /* Number of entries of the ring that passes
+                                                  frames to the kernel (XDP_DIAG_UMEM_FILL_RING,
+                                                  type 6). */
+    struct sockdiag_number completion_ring;    /* Number of entries of the ring that returns
+                                                  frames from the kernel
+                                                  (XDP_DIAG_UMEM_COMPLETION_RING, type 7). */
+    struct sockdiag_memory memory;             /* Socket memory (XDP_DIAG_MEMINFO, type 8). */
+    uint32_t has_statistics;                   /* 1 if statistics is set, else 0. */
+    struct sockdiag_xdp_statistics statistics; /* Counters of the socket (XDP_DIAG_STATS, type
+                                                  9). */
+};
+
+/*
+ * Checks a whole reply about a netlink socket, and returns its contents. The bytes are the payload
+ * of the netlink message. Returns 0, or the code of the first error; then the details are
+ * unchanged. If the reply has several attributes of a kind, the first one counts. The framing of
+ * all attributes is checked before their values, and values are checked in the order of their
+ * kinds. Texts point into the payload, and are valid as long as it is.
  */
 uint32_t sockdiag_netlink_get_details(const uint8_t *payload, size_t length,
                                       struct sockdiag_netlink_details *details);
+
+/*
+ * Checks a whole reply about a packet socket, and returns its contents. The bytes are the payload
+ * of the netlink message. Returns 0, or the code of the first error; then the details are
+ * unchanged. If the reply has several attributes of a kind, the first one counts. The framing of
+ * all attributes is checked before their values, and values are checked in the order of their
+ * kinds. A record that the reply does not contain is unchanged, and its field has_.. is 0. Texts
+ * point into the payload, and are valid as long as it is.
+ */
 uint32_t sockdiag_packet_get_details(const uint8_t *payload, size_t length,
                                      struct sockdiag_packet_details *details);
+
+/*
+ * Checks a whole reply about a vsock socket, and returns its header. Linux sends no attributes; if
+ * there are any, only their framing is checked. The bytes are the payload of the netlink message.
+ * Returns 0, or the code of the first error; then the header is unchanged.
+ */
 uint32_t sockdiag_vsock_get_details(const uint8_t *payload, size_t length,
                                     struct sockdiag_vsock_header *details);
+
+/*
+ * Checks a whole reply about an XDP socket, and returns its contents. The bytes are the payload of
+ * the netlink message. Returns 0, or the code of the first error; then the details are unchanged.
+ * If the reply has several attributes of a kind, the first one counts. The framing of all
+ * attributes is checked before their values, and values are checked in the order of their kinds. A
+ * record that the reply does not contain is unchanged, and its field has_.. is 0.
+ */
 uint32_t sockdiag_xdp_get_details(const uint8_t *payload, size_t length,
                                   struct sockdiag_xdp_details *details);
 
@@ -603,55 +778,58 @@ uint32_t sockdiag_xdp_get_details(const uint8_t *payload, size_t length,
 
 /* State of an iteration. An iteration over all of the bytes starts with place 0. */
 struct sockdiag_cursor {
-    size_t place; /* offset of the next item; no items are left if it is at or after the end of the
-                     bytes */
+    size_t place; /* Offset of the next item. No items are left if it is at or after the end of
+                     the bytes. */
 };
 
 /* An attribute, struct nlattr, with the offset of its value in the bytes of the iteration. */
 struct sockdiag_attribute {
-    size_t offset;      /* offset of the value */
-    size_t length;      /* length of the value in bytes, without padding */
-    uint16_t type_word; /* type field (nla_type): the kind, such as UNIX_DIAG_NAME; the two upper
-                           bits are the flags NLA_F_NESTED and NLA_F_NET_BYTEORDER */
+    size_t offset;      /* Offset of the value. */
+    size_t length;      /* Length of the value in bytes, without padding. */
+    uint16_t type_word; /* Type field (nla_type): the kind, such as UNIX_DIAG_NAME. The two upper
+                           bits are the flags NLA_F_NESTED and NLA_F_NET_BYTEORDER. */
 };
 
 /*
- * Stores the attribute at the cursor in *attribute, and advances the cursor past it and its
- * padding. In a checked reply, starting at the end of its header, the return value is 1 for each
- * attribute, in order, and then 0.
+ * Stores the attribute at the cursor, and advances the cursor past it and its padding. In a checked
+ * reply, starting at the end of its header, the return value is 1 for each attribute, in order, and
+ * then 0.
  *
  * Returns 1; or 0 if no bytes are left, and then nothing is written; or the code of the framing
- * error there, 7 to 9, and then *attribute is unchanged, and nothing is left. The value is not
+ * error there, 7 to 9, and then the attribute is unchanged and nothing is left. The value is not
  * checked.
  */
 uint32_t sockdiag_next_attribute(const uint8_t *bytes, size_t length,
                                  struct sockdiag_cursor *cursor,
                                  struct sockdiag_attribute *attribute);
 
-/* A message of a datagram, with the offset of its payload in the datagram, and the fields of its
- * header. */
+/*
+ * A message of a datagram, with the offset of its payload in the datagram, and the fields of its
+ * header.
+ */
 struct sockdiag_message {
-    size_t offset;            /* offset of the payload */
-    size_t length;            /* length of the payload in bytes, without padding: the length field
-                                 (nlmsg_len) minus 16 */
-    uint16_t message_type;    /* NLMSG_NOOP, NLMSG_ERROR, NLMSG_DONE or NLMSG_OVERRUN of netlink(7),
-                                 or SOCK_DIAG_BY_FAMILY for a reply; sockdiag_next_message rejects
-                                 the payload of any other type */
-    uint16_t flags;           /* flags NLM_F_.. */
-    uint32_t sequence_number; /* sequence number; a reply repeats the number of its request */
-    uint32_t port_number;     /* port id of the sender, 0 for the kernel */
+    size_t offset;            /* Offset of the payload. */
+    size_t length;            /* Length of the payload in bytes, without padding: the length
+                                 field (nlmsg_len) minus the 16 bytes of the header. */
+    uint16_t message_type;    /* Message type (nlmsg_type): NLMSG_NOOP, NLMSG_ERROR, NLMSG_DONE
+                                 or NLMSG_OVERRUN of netlink(7), or SOCK_DIAG_BY_FAMILY for a
+                                 reply. sockdiag_next_message rejects the payload of any other
+                                 type. */
+    uint16_t flags;           /* The flags NLM_F_.. (nlmsg_flags). */
+    uint32_t sequence_number; /* Sequence number; a reply repeats the number of its request
+                                 (nlmsg_seq). */
+    uint32_t port_number;     /* Port id of the sender, 0 for the kernel (nlmsg_pid). */
 };
 
 /*
- * Stores the message at the cursor in *message, and advances the cursor past it and its padding.
- *
- * Returns one of:
- * - 1 if the message has one of the four NLMSG_ types, or is a reply that sockdiag_check_message
+ * Stores the message at the cursor, and advances the cursor past it and its padding. Returns one
+ * of:
+ * - 1 if the message has one of the four NLMSG_.. types, or is a reply that sockdiag_check_message
  *   accepts;
  * - 0 if no bytes are left, and then nothing is written;
- * - the code of the first error of the payload of a message of any other type; *message is set
- *   nevertheless, and the iteration may continue;
- * - the code of the framing error there, 16 to 18, and then *message is unchanged, and nothing is
+ * - the code of the first error of the payload of a message of any other type; the message is set,
+ *   and the iteration may continue;
+ * - the code of the framing error there, 16 to 18, and then the message is unchanged and nothing is
  *   left.
  *
  * The end of a dump, NLMSG_DONE, does not end the iteration.
@@ -660,170 +838,241 @@ uint32_t sockdiag_next_message(const uint8_t *datagram, size_t length,
                                struct sockdiag_cursor *cursor, struct sockdiag_message *message);
 
 /*
- * Does the same without a check of the payload: returns 1 for a message of any type. If the replies
- * of a dump are passed to sockdiag_unix_get_details and similar calls, each is checked only once in
- * this way.
+ * Stores the message at the cursor, and advances the cursor past it and its padding. Returns 1,
+ * whatever the type and the payload of the message; or 0 if no bytes are left, and then nothing is
+ * written; or the code of the framing error there, 16 to 18, and then the message is unchanged and
+ * nothing is left.
+ *
+ * The payload is not checked. So a reply that is passed to sockdiag_unix_get_details or a similar
+ * call is checked only once.
  */
 uint32_t sockdiag_next_envelope(const uint8_t *datagram, size_t length,
                                 struct sockdiag_cursor *cursor, struct sockdiag_message *message);
 
 /*
- * Stores in *number the number that the payload of NLMSG_ERROR or NLMSG_DONE begins with: 0 for
- * success, else -errno. Returns 1; or 0 if the payload has fewer than four bytes, and then *number
- * is unchanged.
+ * Stores the error number at the start of the payload of an NLMSG_ERROR or NLMSG_DONE: 0 for
+ * success, else -errno. Returns 1; or 0 if the payload has fewer than four bytes, and then the
+ * number is unchanged.
  */
 uint32_t sockdiag_get_error_number(const uint8_t *payload, size_t length, int32_t *number);
 
-/* ---- requests */
+/* ---- requests
+ *
+ * All bits of flags and of bit sets are written unchanged.
+ */
 
-/* Fields of the netlink header of a request. The length and the type, SOCK_DIAG_BY_FAMILY, are
- * set by the call that writes the request. */
+/*
+ * Fields of the netlink header of a request. The call that writes the request sets the length and
+ * the type.
+ */
 struct sockdiag_request_header {
-    uint16_t flags;           /* NLM_F_REQUEST, and NLM_F_DUMP to request all sockets */
-    uint32_t sequence_number; /* sequence number of the sender, which the replies repeat */
-    uint32_t port_number;     /* port id of the sender, or 0 */
+    uint16_t flags;           /* NLM_F_REQUEST, and NLM_F_DUMP to request all sockets
+                                 (nlmsg_flags). */
+    uint32_t sequence_number; /* Sequence number of the sender, which the replies repeat
+                                 (nlmsg_seq). */
+    uint32_t port_number;     /* Port id of the sender, or 0 (nlmsg_pid). */
 };
 
-/* Request for UNIX sockets, struct unix_diag_req of sock_diag(7). */
+/* A request for UNIX sockets: struct unix_diag_req of sock_diag(7). */
 struct sockdiag_unix_request {
-    struct sockdiag_request_header header;
-    uint32_t states;   /* udiag_states: states to include, bit 1 << TCP_LISTEN for TCP_LISTEN */
-    uint32_t inode;    /* udiag_ino: inode, to request a single socket */
-    uint32_t show;     /* udiag_show: attributes that the replies shall have, UDIAG_SHOW_.. */
-    uint8_t cookie[8]; /* udiag_cookie: to request a single socket, distinguishes sockets with the
-                          same inode */
+    struct sockdiag_request_header header; /* Fields of the netlink header. */
+    uint32_t states;                       /* States to include, with the bit 1 << TCP_LISTEN for
+                                              TCP_LISTEN (udiag_states). */
+    uint32_t inode;                        /* Inode, to request a single socket (udiag_ino). */
+    uint32_t show;                         /* Attributes that the replies shall have, a set of
+                                              UDIAG_SHOW_.. (udiag_show). */
+    uint8_t cookie[8];                     /* Cookie that distinguishes sockets with the same
+                                              inode, to request a single socket (udiag_cookie). */
 };
 
-/* Request for IPv4 or IPv6 sockets, struct inet_diag_req_v2 of sock_diag(7). */
+/* A request for IPv4 or IPv6 sockets: struct inet_diag_req_v2 of sock_diag(7). */
 struct sockdiag_inet_request {
-    struct sockdiag_request_header header;
-    uint8_t family;                  /* AF_INET or AF_INET6 */
-    uint8_t extensions;              /* idiag_ext: attributes that the replies shall have, bit 1 <<
-                                        (kind - 1) for each kind */
-    uint32_t protocol;               /* one of IPPROTO_... A protocol above 255, such as
-                                        IPPROTO_MPTCP, is written as an attribute
-                                        INET_DIAG_REQ_PROTOCOL, and its low byte in the record. For
-                                        IPPROTO_MPTCP the low byte is IPPROTO_TCP, which a kernel
-                                        without MPTCP uses */
-    uint32_t states;                 /* idiag_states: states to include, bit 1 << TCP_LISTEN for
-                                        TCP_LISTEN */
-    uint16_t source_port;            /* local port */
-    uint16_t destination_port;       /* remote port */
-    uint8_t source_address[16];      /* local address; for AF_INET the first four bytes */
-    uint8_t destination_address[16]; /* remote address, in the same format */
-    uint32_t interface_id;           /* index of the interface that the socket is bound to, or 0 */
-    uint8_t cookie[8];               /* distinguishes sockets with the same addresses and ports;
-                                        eight bytes 0xff are INET_DIAG_NOCOOKIE */
+    struct sockdiag_request_header header; /* Fields of the netlink header. */
+    uint8_t family;                        /* AF_INET or AF_INET6 (sdiag_family). */
+    uint8_t extensions;                    /* Attributes that the replies shall have, with the
+                                              bit 1 << (kind - 1) for each kind (idiag_ext). */
+    uint32_t protocol;                     /* Protocol, one of IPPROTO_... The low byte is
+                                              written to the record (sdiag_protocol). A protocol
+                                              above 255, such as IPPROTO_MPTCP, is also written
+                                              as an attribute INET_DIAG_REQ_PROTOCOL. The low
+                                              byte of IPPROTO_MPTCP is IPPROTO_TCP, which a
+                                              kernel without MPTCP uses. */
+    uint32_t states;                       /* States to include, with the bit 1 << TCP_LISTEN for
+                                              TCP_LISTEN (idiag_states). */
+    uint16_t source_port;                  /* Local port (idiag_sport). */
+    uint16_t destination_port;             /* Remote port (idiag_dport). */
+    uint8_t source_address[16];            /* Local address in network byte order (idiag_src).
+                                              For AF_INET, the first four bytes. */
+    uint8_t destination_address[16];       /* Remote address, in the same format (idiag_dst). */
+    uint32_t interface_id;                 /* Index of the interface that the socket is bound to,
+                                              or 0 (idiag_if). */
+    uint8_t cookie[8];                     /* Cookie that distinguishes sockets with the same
+                                              addresses and ports (idiag_cookie). Eight bytes
+                                              0xff are INET_DIAG_NOCOOKIE. */
 };
 
-/* Length of a UNIX request, and maximum length of an internet request without attributes of the
- * caller, in bytes. The latter has 72 bytes if its protocol is below 256. */
+/*
+ * Length of a UNIX request, and maximum length of an internet request without attributes of the
+ * caller, in bytes. The latter has 72 bytes if its protocol is below 256.
+ */
 #define SOCKDIAG_UNIX_REQUEST_LENGTH 40
 #define SOCKDIAG_INET_REQUEST_LENGTH 80
 
 /*
- * Writes a request, a whole netlink message, at the start of the buffer. The rest of the buffer is
- * unchanged. All bits of flags and of bit sets are written unchanged. Returns the number of bytes
- * that were written; or 0 if the buffer is shorter than the request, or if the family is neither
- * AF_INET nor AF_INET6, and then nothing is written.
+ * Writes a request for UNIX sockets, a netlink message of 40 bytes, at the start of the buffer;
+ * bytes after it are unchanged. Returns 40, or 0 if the buffer is shorter; then nothing is written.
  */
 size_t sockdiag_write_unix_request(const struct sockdiag_unix_request *request, uint8_t *buffer,
                                    size_t length);
+
+/*
+ * Writes a request for IPv4 or IPv6 sockets at the start of the buffer; bytes after it are
+ * unchanged. It is a netlink message of 72 bytes, or of 80 if the protocol is above 255. Returns
+ * the number of bytes that were written. Returns 0 if the buffer is shorter, or if the family is
+ * neither AF_INET nor AF_INET6; then nothing is written.
+ */
 size_t sockdiag_write_inet_request(const struct sockdiag_inet_request *request, uint8_t *buffer,
                                    size_t length);
 
 /*
- * Writes the same request with the type SOCK_DESTROY, which requests the kernel to close the
- * selected socket or sockets. The flags are NLM_F_REQUEST, and NLM_F_ACK to have success
- * acknowledged. The kernel closes TCP, UDP and raw sockets if the caller has CAP_NET_ADMIN. For
- * UNIX sockets it returns EOPNOTSUPP.
+ * Writes a request for the kernel to close the UNIX socket with the inode and the cookie, at the
+ * start of the buffer. It is a netlink message of 40 bytes, of type SOCK_DESTROY (21), and else
+ * equal to the one of sockdiag_write_unix_request. Returns 40, or 0 if the buffer is shorter; then
+ * nothing is written. Linux answers it with EOPNOTSUPP.
  */
 size_t sockdiag_write_unix_destroy(const struct sockdiag_unix_request *request, uint8_t *buffer,
                                    size_t length);
+
+/*
+ * Writes a request for the kernel to close the selected IPv4 or IPv6 sockets, at the start of the
+ * buffer. It is a netlink message of type SOCK_DESTROY (21), and else equal to the one of
+ * sockdiag_write_inet_request: it has 72 bytes, or 80 if the protocol is above 255. Returns the
+ * number of bytes that were written. Returns 0 if the buffer is shorter, or if the family is
+ * neither AF_INET nor AF_INET6; then nothing is written.
+ *
+ * The flags are NLM_F_REQUEST, and NLM_F_ACK to have success acknowledged. Linux closes TCP, UDP
+ * and raw sockets if the caller has CAP_NET_ADMIN.
+ */
 size_t sockdiag_write_inet_destroy(const struct sockdiag_inet_request *request, uint8_t *buffer,
                                    size_t length);
 
-/* Request for netlink, packet or XDP sockets: struct netlink_diag_req, packet_diag_req or
- * xdp_diag_req of linux/netlink_diag.h, linux/packet_diag.h or linux/xdp_diag.h. The kernel can
- * only list these sockets: it ignores the inode and the cookie. */
+/*
+ * A request for netlink, packet or XDP sockets: struct netlink_diag_req, packet_diag_req or
+ * xdp_diag_req of linux/netlink_diag.h, linux/packet_diag.h or linux/xdp_diag.h.
+ */
 struct sockdiag_show_request {
-    struct sockdiag_request_header header;
-    uint8_t family;   /* sdiag_family, at 0: AF_NETLINK, AF_PACKET or AF_XDP */
-    uint8_t protocol; /* sdiag_protocol, at 1: for AF_NETLINK one of NETLINK_.. or NDIAG_PROTO_ALL,
-                         else 0 */
-    uint32_t inode;   /* .._ino, at 4: inode, to request a single socket */
-    uint32_t show;    /* .._show, at 8: attributes that the replies shall have, NDIAG_SHOW_..,
-                         PACKET_SHOW_.. or XDP_SHOW_.. */
-    uint64_t cookie;  /* .._cookie, at 12: to request a single socket, distinguishes sockets with
-                         the same inode */
+    struct sockdiag_request_header header; /* Fields of the netlink header. */
+    uint8_t family;                        /* AF_NETLINK, AF_PACKET or AF_XDP (sdiag_family, at
+                                              0). */
+    uint8_t protocol;                      /* Protocol of netlink sockets (sdiag_protocol, at 1),
+                                              one of NETLINK_.. or NDIAG_PROTO_ALL. 0 for other
+                                              families. */
+    uint32_t inode;                        /* Inode, to request a single socket (ndiag_ino,
+                                              pdiag_ino, xdiag_ino, at 4). Linux only lists these
+                                              sockets, and ignores it. */
+    uint32_t show;                         /* Attributes that the replies shall have, a set of
+                                              NDIAG_SHOW_.., PACKET_SHOW_.. or XDP_SHOW_..
+                                              (ndiag_show, pdiag_show, xdiag_show, at 8). */
+    uint64_t cookie;                       /* Cookie that distinguishes sockets with the same
+                                              inode (ndiag_cookie, pdiag_cookie, xdiag_cookie, at
+                                              12), to request a single socket. Linux ignores it. */
 };
 
-/* Request for vsock sockets, struct vsock_diag_req of linux/vm_sockets_diag.h. The kernel ignores
- * the cookie. */
+/* A request for vsock sockets: struct vsock_diag_req of linux/vm_sockets_diag.h. */
 struct sockdiag_vsock_request {
-    struct sockdiag_request_header header;
-    uint32_t states; /* vdiag_states, at 4: states to include, bit 1 << TCP_LISTEN for TCP_LISTEN */
-    uint64_t cookie; /* vdiag_cookie, at 16: distinguishes sockets */
+    struct sockdiag_request_header header; /* Fields of the netlink header. */
+    uint32_t states;                       /* States to include, with the bit 1 << TCP_LISTEN for
+                                              TCP_LISTEN (vdiag_states, at 4). */
+    uint64_t cookie;                       /* Cookie that distinguishes sockets (vdiag_cookie, at
+                                              16). Linux ignores it. */
 };
 
+/* Lengths of these requests in bytes. */
 #define SOCKDIAG_SHOW_REQUEST_LENGTH 36
 #define SOCKDIAG_VSOCK_REQUEST_LENGTH 40
 
 /*
- * Writes such a request, as sockdiag_write_unix_request does. Returns the number of bytes that were
- * written; or 0 if the buffer is shorter than the request, or if the family is none of AF_NETLINK,
- * AF_PACKET and AF_XDP, and then nothing is written.
+ * Writes a request for netlink, packet or XDP sockets, a netlink message of 36 bytes, at the start
+ * of the buffer; bytes after it are unchanged. Returns 36. Returns 0 if the buffer is shorter, or
+ * if the family is none of AF_NETLINK, AF_PACKET and AF_XDP; then nothing is written.
  */
 size_t sockdiag_write_show_request(const struct sockdiag_show_request *request, uint8_t *buffer,
                                    size_t length);
+
+/*
+ * Writes a request for vsock sockets, a netlink message of 40 bytes, at the start of the buffer;
+ * bytes after it are unchanged. Returns 40, or 0 if the buffer is shorter; then nothing is written.
+ */
 size_t sockdiag_write_vsock_request(const struct sockdiag_vsock_request *request, uint8_t *buffer,
                                     size_t length);
 
 /* Outcome of a call that writes bytes derived from the caller's bytes. */
 struct sockdiag_outcome {
-    uint32_t fault; /* code of the first error if the caller's bytes are rejected, else 0 */
-    size_t needed;  /* number of bytes to write; 0 if the caller's bytes are rejected, or cannot be
-                       serialized */
+    uint32_t fault; /* Code of the first error if the caller's bytes are rejected, else 0. */
+    size_t needed;  /* Number of bytes to write; 0 if the caller's bytes are rejected, or cannot
+                       be serialized. */
 };
 
 /*
- * Writes the request for internet sockets, followed by attributes of the caller, and zeros up to a
- * multiple of 4. Such an attribute is the bytecode of a filter, INET_DIAG_REQ_BYTECODE of
- * linux/inet_diag.h, which the kernel runs on each socket. The bytes have to be a sequence of
- * complete attributes. Their values are not checked.
+ * Writes a request for IPv4 or IPv6 sockets at the start of the buffer; bytes after it are
+ * unchanged. It is a netlink message of 72 bytes, or of 80 if the protocol is above 255, followed
+ * by the attributes and zeros up to a multiple of 4, all of which its length field counts. Such an
+ * attribute is the bytecode of a filter, INET_DIAG_REQ_BYTECODE of linux/inet_diag.h, which the
+ * kernel runs on each socket. The bytes have to be a sequence of complete attributes. Their values
+ * are not checked.
  *
- * Returns the number of bytes that were written. Returns 0 if nothing was written, for one of three
- * reasons:
- * - The attributes are rejected. fault is the code of the error, 7 to 9.
- * - The family is neither AF_INET nor AF_INET6, or the whole is too long for a length field. fault
- *   and needed are 0.
- * - The buffer is shorter than needed, which is the number of bytes that it has to have.
+ * Returns the number of bytes that were written, which is also stored in outcome.needed. Returns 0
+ * if nothing was written, for the first of these reasons that applies:
+ * - The framing of the attributes is invalid. outcome.fault is the code of the first error, 7 to 9;
+ *   in all other cases it is 0. outcome.needed is 0.
+ * - The family is neither AF_INET nor AF_INET6, or the whole has more than 4,294,967,295 bytes, too
+ *   many for a length field. outcome.needed is 0.
+ * - The buffer is shorter than needed. outcome.needed is the number of bytes that it has to have.
  *
- * *outcome is set in any case.
+ * outcome is set in any case.
  */
 size_t sockdiag_write_inet_request_with_attributes(const struct sockdiag_inet_request *request,
                                                    const uint8_t *attributes, size_t length,
                                                    uint8_t *buffer, size_t buffer_length,
                                                    struct sockdiag_outcome *outcome);
 
-/* ---- the canonical form */
+/* ---- the canonical form
+ *
+ * All replies that differ only in ignored bits have the same canonical form. Ignored bits are
+ * undefined flags, pad fields, padding, and bytes that no parser reads, for example.
+ */
 
 /*
- * Writes the canonical form of a reply at the start of the buffer. The rest of the buffer is
- * unchanged. All replies that differ only in ignored bits have the same canonical form. Ignored
- * bits are undefined flags, pad fields, padding, and bytes that no parser reads, for example.
+ * Writes the canonical form of a reply about a UNIX socket at the start of the buffer; bytes after
+ * it are unchanged. The reply is the payload of a netlink message.
  *
- * Returns the number of bytes that were written. Returns 0 if nothing was written, for one of three
- * reasons:
- * - The reply is rejected. fault is the code of the error.
+ * Returns the number of bytes that were written, which is also stored in outcome.needed. Returns 0
+ * if nothing was written, for one of these reasons:
+ * - The reply is rejected. outcome.fault is the code of the first error; in all other cases it is
+ *   0. outcome.needed is 0.
  * - The reply cannot be serialized, because a value is longer than it was in the reply, and too
- *   long for its length field. fault and needed are 0.
- * - The buffer is shorter than needed, which is the number of bytes that it has to have.
+ *   long for its length field. outcome.needed is 0.
+ * - The buffer is shorter than needed. outcome.needed is the number of bytes that it has to have.
  *
- * *outcome is set in any case.
+ * outcome is set in any case.
  */
 size_t sockdiag_rewrite_unix_reply(const uint8_t *payload, size_t length, uint8_t *buffer,
                                    size_t buffer_length, struct sockdiag_outcome *outcome);
+
+/*
+ * Writes the canonical form of a reply about an IPv4 or IPv6 socket at the start of the buffer;
+ * bytes after it are unchanged. The reply is the payload of a netlink message.
+ *
+ * Returns the number of bytes that were written, which is also stored in outcome.needed. Returns 0
+ * if nothing was written, for one of these reasons:
+ * - The reply is rejected. outcome.fault is the code of the first error; in all other cases it is
+ *   0. outcome.needed is 0.
+ * - The reply cannot be serialized, because a value is longer than it was in the reply, and too
+ *   long for its length field. outcome.needed is 0.
+ * - The buffer is shorter than needed. outcome.needed is the number of bytes that it has to have.
+ *
+ * outcome is set in any case.
+ */
 size_t sockdiag_rewrite_inet_reply(const uint8_t *payload, size_t length, uint8_t *buffer,
                                    size_t buffer_length, struct sockdiag_outcome *outcome);
 

@@ -2,7 +2,7 @@
 # Builds the static library of include/sockdiag.h, and calls it from C: tests/c_face.c compares what
 # the calls return. Then installs the library, and lists the sockets of this machine by
 # examples/list_sockets.c, if the kernel permits it. Needs the kit's rt and a C compiler.
-# tools/release runs this script. So does tests/c_header.py, which the gate runs, if the library
+# tools/release runs this script. So does tests/bindings.py, which the gate runs, if the library
 # takes only seconds to build.
 set -eu
 top=$(CDPATH='' cd -- "$(dirname -- "$0")/.." && pwd)

@@ -1,7 +1,7 @@
 #!/bin/sh
 # Tests rust/sockdiag with the C library, offline, and also under valgrind if it is installed. Then
 # lists the sockets of this machine by its example. Builds the C library first if it is missing.
-# Needs cargo. tools/release runs this script. So does tests/c_header.py, which the gate runs, if
+# Needs cargo. tools/release runs this script. So does tests/bindings.py, which the gate runs, if
 # the library takes only seconds to build.
 set -eu
 top=$(CDPATH='' cd -- "$(dirname -- "$0")/.." && pwd)

@@ -1,6 +1,7 @@
 //! Attributes of a reply.
 
-use crate::sys;
+use crate::calls;
+use crate::sys::Cursor;
 use crate::DecodeError;
 use core::marker::PhantomData;
 
@@ -35,7 +36,7 @@ impl Attribute<'_> {
 #[derive(Clone, Debug)]
 pub struct Attributes<'a> {
     bytes: &'a [u8],
-    place: usize,
+    cursor: Cursor,
 }
 
 impl<'a> Attributes<'a> {
@@ -46,7 +47,10 @@ impl<'a> Attributes<'a> {
 
     /// Returns an iterator over the attributes after a header of `place` bytes.
     pub(crate) fn behind(bytes: &'a [u8], place: usize) -> Self {
-        Attributes { bytes, place }
+        Attributes {
+            bytes,
+            cursor: Cursor { place },
+        }
     }
 }
 
@@ -54,7 +58,7 @@ impl<'a> Iterator for Attributes<'a> {
     type Item = Result<Attribute<'a>, DecodeError>;
 
     fn next(&mut self) -> Option<Self::Item> {
-        match sys::next_attribute(self.bytes, &mut self.place) {
+        match calls::next_attribute(self.bytes, &mut self.cursor) {
             Ok(part) => Some(Ok(Attribute {
                 type_word: part.type_word,
                 value: self.bytes.get(part.offset..part.offset + part.length)?,

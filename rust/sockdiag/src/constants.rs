@@ -1,17 +1,19 @@
 //! Constants of sock_diag(7) and of the man pages that it refers to, with the kernel's names.
+//
+// tools/bindings writes this file from the Rattle source.
 
 // ---- Message types, netlink(7) and sock_diag(7).
 
-/// A message without content, to be ignored.
+/// Message type without any content, see netlink(7).
 pub const NLMSG_NOOP: u16 = 1;
 
-/// An error, or an acknowledgement.
+/// Message type of an error, or of the acknowledgement of a request.
 pub const NLMSG_ERROR: u16 = 2;
 
-/// The end of a dump.
+/// Message type that ends a dump.
 pub const NLMSG_DONE: u16 = 3;
 
-/// Data was lost.
+/// Message type that reports that data was lost.
 pub const NLMSG_OVERRUN: u16 = 4;
 
 /// A request for sockets, or a reply about one.
@@ -22,39 +24,36 @@ pub const SOCK_DESTROY: u16 = 21;
 
 // ---- Flags of a message header, netlink(7).
 
-/// Set in every request.
+/// Header flag of every request.
 pub const NLM_F_REQUEST: u16 = 1;
 
-/// Requests an acknowledgement of success.
-pub const NLM_F_ACK: u16 = 4;
-
-/// Requests all entries.
+/// Header flags that request all entries of a table: `NLM_F_ROOT | NLM_F_MATCH`.
 pub const NLM_F_DUMP: u16 = 0x300;
+
+/// In a request: requests an acknowledgement.
+pub const NLM_F_ACK: u16 = 4;
 
 // ---- Address families.
 
-/// Local sockets, unix(7).
+/// No family.
+pub const AF_UNSPEC: u8 = 0;
+
+/// UNIX domain sockets: sockets on one machine, unix(7).
 pub const AF_UNIX: u8 = 1;
 
 /// IPv4, ip(7).
 pub const AF_INET: u8 = 2;
 
-/// IPv6, ipv6(7).
-pub const AF_INET6: u8 = 10;
-
-/// Unspecified family.
-pub const AF_UNSPEC: u8 = 0;
-
-/// Amateur radio AX.25.
+/// AX.25 (amateur radio).
 pub const AF_AX25: u8 = 3;
 
-/// Novell IPX.
+/// IPX (Novell).
 pub const AF_IPX: u8 = 4;
 
 /// AppleTalk, ddp(7).
 pub const AF_APPLETALK: u8 = 5;
 
-/// Amateur radio NET/ROM.
+/// NET/ROM (amateur radio).
 pub const AF_NETROM: u8 = 6;
 
 /// Multiprotocol bridges.
@@ -66,169 +65,169 @@ pub const AF_ATMPVC: u8 = 8;
 /// X.25, x25(7).
 pub const AF_X25: u8 = 9;
 
-/// Amateur radio ROSE.
+/// IPv6, ipv6(7).
+pub const AF_INET6: u8 = 10;
+
+/// ROSE (amateur radio X.25).
 pub const AF_ROSE: u8 = 11;
 
 /// DECnet.
 pub const AF_DECNET: u8 = 12;
 
-/// 802.2 LLC, reserved for NetBEUI.
+/// Reserved for IEEE 802.2 LLC (NetBEUI).
 pub const AF_NETBEUI: u8 = 13;
 
-/// Callbacks of security modules.
+/// Pseudo family of security callbacks.
 pub const AF_SECURITY: u8 = 14;
 
-/// IPsec key management.
+/// PF_KEY, the key management of IPsec.
 pub const AF_KEY: u8 = 15;
 
-/// Messages to and from the kernel, netlink(7).
+/// Netlink, netlink(7).
 pub const AF_NETLINK: u8 = 16;
 
-/// Packets of a device, packet(7).
+/// Packets of network devices, packet(7).
 pub const AF_PACKET: u8 = 17;
 
 /// Ash.
 pub const AF_ASH: u8 = 18;
 
-/// Acorn Econet.
+/// Econet (Acorn).
 pub const AF_ECONET: u8 = 19;
 
 /// ATM switched virtual circuits.
 pub const AF_ATMSVC: u8 = 20;
 
-/// Reliable datagram sockets.
+/// Reliable Datagram Sockets (RDS).
 pub const AF_RDS: u8 = 21;
 
-/// Linux SNA.
+/// SNA (Systems Network Architecture).
 pub const AF_SNA: u8 = 22;
 
-/// Infrared (IrDA).
+/// IrDA (infrared).
 pub const AF_IRDA: u8 = 23;
 
-/// PPP over other protocols, such as PPPoE.
+/// PPP over other protocols (PPPoX).
 pub const AF_PPPOX: u8 = 24;
 
 /// Wanpipe.
 pub const AF_WANPIPE: u8 = 25;
 
-/// 802.2 logical link control.
+/// IEEE 802.2 LLC.
 pub const AF_LLC: u8 = 26;
 
-/// Controller area network (CAN).
+/// Controller Area Network (CAN).
 pub const AF_CAN: u8 = 29;
 
-/// Communication between the nodes of a cluster (TIPC).
+/// TIPC, communication between the nodes of a cluster.
 pub const AF_TIPC: u8 = 30;
 
 /// Bluetooth.
 pub const AF_BLUETOOTH: u8 = 31;
 
-/// Communication between the guests of z/VM (IUCV).
+/// IUCV, communication between the guests of z/VM.
 pub const AF_IUCV: u8 = 32;
 
-/// Remote procedure calls of AFS (RxRPC).
+/// RxRPC, the remote procedure calls of AFS.
 pub const AF_RXRPC: u8 = 33;
 
-/// ISDN.
+/// ISDN (mISDN).
 pub const AF_ISDN: u8 = 34;
 
-/// Phonet, for Nokia modems.
+/// Phonet (Nokia modems).
 pub const AF_PHONET: u8 = 35;
 
 /// IEEE 802.15.4 radios.
 pub const AF_IEEE802154: u8 = 36;
 
-/// CAIF, for Ericsson modems.
+/// CAIF (Ericsson modems).
 pub const AF_CAIF: u8 = 37;
 
-/// The kernel's crypto API.
+/// Cryptographic algorithms of the kernel.
 pub const AF_ALG: u8 = 38;
 
-/// Communication between virtual machines and their host, vsock(7).
+/// The address family of vsock sockets, `AF_VSOCK` of `linux/socket.h`.
 pub const AF_VSOCK: u8 = 40;
 
-/// Packets of one queue of an interface, bypassing the network stack.
+/// The address family of XDP sockets, `AF_XDP` of `linux/socket.h`.
 pub const AF_XDP: u8 = 44;
 
 // ---- Protocols.
 
-/// tcp(7).
-pub const IPPROTO_TCP: u32 = 6;
-
-/// udp(7).
-pub const IPPROTO_UDP: u32 = 17;
-
-/// SCTP.
-pub const IPPROTO_SCTP: u32 = 132;
-
-/// udplite(7).
-pub const IPPROTO_UDPLITE: u32 = 136;
-
-/// raw(7).
-pub const IPPROTO_RAW: u32 = 255;
-
-/// Multipath TCP.
-pub const IPPROTO_MPTCP: u32 = 262;
-
-/// IPv4; for a socket, the default protocol.
+/// The default protocol of a socket type.
 pub const IPPROTO_IP: u32 = 0;
 
 /// ICMP, icmp(7).
 pub const IPPROTO_ICMP: u32 = 1;
 
-/// Internet group management (IGMP).
+/// IGMP, management of multicast groups.
 pub const IPPROTO_IGMP: u32 = 2;
 
-/// IPv4 in IP.
+/// IPv4 in IP (tunnels).
 pub const IPPROTO_IPIP: u32 = 4;
 
-/// Exterior gateway protocol.
+/// TCP, tcp(7).
+pub const IPPROTO_TCP: u32 = 6;
+
+/// Exterior Gateway Protocol.
 pub const IPPROTO_EGP: u32 = 8;
 
-/// Xerox PUP.
+/// PUP (Xerox).
 pub const IPPROTO_PUP: u32 = 12;
 
-/// Xerox IDP.
+/// UDP, udp(7).
+pub const IPPROTO_UDP: u32 = 17;
+
+/// XNS IDP (Xerox).
 pub const IPPROTO_IDP: u32 = 22;
 
 /// ISO transport protocol, class 4.
 pub const IPPROTO_TP: u32 = 29;
 
-/// Datagram congestion control protocol.
+/// DCCP, datagrams with congestion control.
 pub const IPPROTO_DCCP: u32 = 33;
 
-/// IPv6 in IP.
+/// IPv6 in IPv4 (tunnels).
 pub const IPPROTO_IPV6: u32 = 41;
 
-/// Resource reservation protocol (RSVP).
+/// RSVP, reservation of resources.
 pub const IPPROTO_RSVP: u32 = 46;
 
-/// Generic routing encapsulation.
+/// Generic Routing Encapsulation.
 pub const IPPROTO_GRE: u32 = 47;
 
-/// IPsec encapsulating security payload.
+/// Encapsulating Security Payload (IPsec).
 pub const IPPROTO_ESP: u32 = 50;
 
-/// IPsec authentication header.
+/// Authentication Header (IPsec).
 pub const IPPROTO_AH: u32 = 51;
 
-/// Multicast transport protocol.
+/// Multicast Transport Protocol.
 pub const IPPROTO_MTP: u32 = 92;
 
-/// Pseudo header of the IPsec BEET mode.
+/// Pseudo header of the IPsec mode BEET.
 pub const IPPROTO_BEETPH: u32 = 94;
 
-/// Encapsulation header.
+/// Encapsulation Header.
 pub const IPPROTO_ENCAP: u32 = 98;
 
-/// Protocol-independent multicast (PIM).
+/// Protocol Independent Multicast.
 pub const IPPROTO_PIM: u32 = 103;
 
-/// IP payload compression.
+/// IP Payload Compression.
 pub const IPPROTO_COMP: u32 = 108;
+
+/// SCTP, sctp(7).
+pub const IPPROTO_SCTP: u32 = 132;
+
+/// UDP-Lite: UDP with partial checksums, udplite(7).
+pub const IPPROTO_UDPLITE: u32 = 136;
 
 /// MPLS in IP.
 pub const IPPROTO_MPLS: u32 = 137;
+
+/// Raw IP packets, raw(7).
+pub const IPPROTO_RAW: u32 = 255;
 
 /// IPv6 hop-by-hop options.
 pub const IPPROTO_HOPOPTS: u32 = 0;
@@ -242,7 +241,7 @@ pub const IPPROTO_FRAGMENT: u32 = 44;
 /// ICMPv6.
 pub const IPPROTO_ICMPV6: u32 = 58;
 
-/// IPv6 no next header.
+/// IPv6: no next header.
 pub const IPPROTO_NONE: u32 = 59;
 
 /// IPv6 destination options.
@@ -251,9 +250,76 @@ pub const IPPROTO_DSTOPTS: u32 = 60;
 /// IPv6 mobility header.
 pub const IPPROTO_MH: u32 = 135;
 
+/// Multipath TCP.
+pub const IPPROTO_MPTCP: u32 = 262;
+
+// ---- Attribute kinds of requests for IPv4 and IPv6 sockets.
+
+/// Kind of a filter: operations `INET_DIAG_BC_..`.
+pub const INET_DIAG_REQ_BYTECODE: u16 = 1;
+
+// ---- Attribute kinds of replies about IPv4 and IPv6 sockets.
+
+/// No attribute.
+pub const INET_DIAG_NONE: u16 = 0;
+
+/// Memory of the socket in the format of old kernels: `LegacyMemInfo`.
+pub const INET_DIAG_MEMINFO: u16 = 1;
+
+/// State of the TCP connection: `TcpInfo`.
+pub const INET_DIAG_INFO: u16 = 2;
+
+/// Measurements of TCP Vegas: `struct tcpvegas_info`.
+pub const INET_DIAG_VEGASINFO: u16 = 3;
+
+/// Name of the congestion control algorithm.
+pub const INET_DIAG_CONG: u16 = 4;
+
+/// Type of service, a `u8`.
+pub const INET_DIAG_TOS: u16 = 5;
+
+/// IPv6 traffic class, a `u8`.
+pub const INET_DIAG_TCLASS: u16 = 6;
+
+/// Memory of the socket: `MemInfo` of `inet::nlas`.
+pub const INET_DIAG_SKMEMINFO: u16 = 7;
+
+/// Directions that are shut down, a `u8`: bit 0 for receiving, bit 1 for sending. See shutdown(2).
+pub const INET_DIAG_SHUTDOWN: u16 = 8;
+
+/// Measurements of DCTCP: `struct tcp_dctcp_info`.
+pub const INET_DIAG_DCTCPINFO: u16 = 9;
+
+/// Protocol of a raw socket, `IPPROTO_*`.
+pub const INET_DIAG_PROTOCOL: u16 = 10;
+
+/// Whether the socket is IPv6-only.
+pub const INET_DIAG_SKV6ONLY: u16 = 11;
+
+/// Local addresses of an SCTP socket.
+pub const INET_DIAG_LOCALS: u16 = 12;
+
+/// Remote addresses of an SCTP socket.
+pub const INET_DIAG_PEERS: u16 = 13;
+
+/// Padding.
+pub const INET_DIAG_PAD: u16 = 14;
+
+/// Mark of the socket, `SO_MARK` of socket(7).
+pub const INET_DIAG_MARK: u16 = 15;
+
+/// Measurements of BBR: `struct tcp_bbr_info`.
+pub const INET_DIAG_BBRINFO: u16 = 16;
+
+/// Traffic class id (net_cls) of the socket's control group.
+pub const INET_DIAG_CLASS_ID: u16 = 17;
+
+/// Keys of TCP MD5 signatures.
+pub const INET_DIAG_MD5SIG: u16 = 18;
+
 // ---- Socket states.
 
-/// The connection is established.
+/// The connection is open.
 pub const TCP_ESTABLISHED: u8 = 1;
 
 /// A SYN was sent.
@@ -262,28 +328,28 @@ pub const TCP_SYN_SENT: u8 = 2;
 /// A SYN was received and answered.
 pub const TCP_SYN_RECV: u8 = 3;
 
-/// The local end has closed, and waits for the acknowledgement of its FIN.
+/// The local side has sent a FIN, and waits for its acknowledgement.
 pub const TCP_FIN_WAIT1: u8 = 4;
 
-/// The local end has closed, and waits for the remote end to close.
+/// The local side has closed, and waits for a FIN.
 pub const TCP_FIN_WAIT2: u8 = 5;
 
-/// Both ends have closed; the socket waits for late segments.
+/// Both sides have closed; late segments are waited for.
 pub const TCP_TIME_WAIT: u8 = 6;
 
 /// There is no connection.
 pub const TCP_CLOSE: u8 = 7;
 
-/// The remote end has closed, and the local end has not.
+/// The remote side has sent a FIN, and the local side has not.
 pub const TCP_CLOSE_WAIT: u8 = 8;
 
-/// Both ends have closed, the remote end first; the local end waits for the last acknowledgement.
+/// Both sides have closed, the remote side first; the last acknowledgement is waited for.
 pub const TCP_LAST_ACK: u8 = 9;
 
 /// The socket listens for connections.
 pub const TCP_LISTEN: u8 = 10;
 
-/// Both ends have closed at the same time, and wait for the acknowledgement.
+/// Both sides have closed at the same time, and wait for the acknowledgement.
 pub const TCP_CLOSING: u8 = 11;
 
 // ---- Attributes requested in replies about UNIX sockets.
@@ -314,120 +380,56 @@ pub const UNIX_DIAG_NAME: u16 = 0;
 /// File that the socket is bound to: `Vfs`.
 pub const UNIX_DIAG_VFS: u16 = 1;
 
-/// Inode of the peer.
+/// Inode number of the peer.
 pub const UNIX_DIAG_PEER: u16 = 2;
 
-/// Inodes of pending connections.
+/// Inode numbers of pending connections.
 pub const UNIX_DIAG_ICONS: u16 = 3;
 
 /// Lengths of the queues.
 pub const UNIX_DIAG_RQLEN: u16 = 4;
 
-/// Socket memory: `MemInfo` of `unix::nlas`.
+/// Memory of the socket: `MemInfo` of `unix::nlas`.
 pub const UNIX_DIAG_MEMINFO: u16 = 5;
 
-/// Directions that are shut down, shutdown(2).
+/// Directions that are shut down, a `u8`: bit 0 for receiving, bit 1 for sending. See shutdown(2).
 pub const UNIX_DIAG_SHUTDOWN: u16 = 6;
-
-// ---- An attribute kind of requests for IPv4 and IPv6 sockets.
-
-/// Bytecode of a filter, by which the kernel selects sockets.
-pub const INET_DIAG_REQ_BYTECODE: u16 = 1;
-
-// ---- Attribute kinds of replies about IPv4 and IPv6 sockets.
-
-/// No attribute.
-pub const INET_DIAG_NONE: u16 = 0;
-
-/// Socket memory in the format of older kernels: `LegacyMemInfo`.
-pub const INET_DIAG_MEMINFO: u16 = 1;
-
-/// TCP connection: `TcpInfo`.
-pub const INET_DIAG_INFO: u16 = 2;
-
-/// Measurements of TCP Vegas.
-pub const INET_DIAG_VEGASINFO: u16 = 3;
-
-/// Name of the congestion control algorithm.
-pub const INET_DIAG_CONG: u16 = 4;
-
-/// Type of service.
-pub const INET_DIAG_TOS: u16 = 5;
-
-/// IPv6 traffic class.
-pub const INET_DIAG_TCLASS: u16 = 6;
-
-/// Socket memory: `MemInfo` of `inet::nlas`.
-pub const INET_DIAG_SKMEMINFO: u16 = 7;
-
-/// Directions that are shut down, shutdown(2).
-pub const INET_DIAG_SHUTDOWN: u16 = 8;
-
-/// Measurements of DCTCP.
-pub const INET_DIAG_DCTCPINFO: u16 = 9;
-
-/// Protocol of a raw socket, one of `IPPROTO_..`.
-pub const INET_DIAG_PROTOCOL: u16 = 10;
-
-/// Whether the socket is for IPv6 only.
-pub const INET_DIAG_SKV6ONLY: u16 = 11;
-
-/// Local addresses of an SCTP socket.
-pub const INET_DIAG_LOCALS: u16 = 12;
-
-/// Peer addresses of an SCTP socket.
-pub const INET_DIAG_PEERS: u16 = 13;
-
-/// Padding.
-pub const INET_DIAG_PAD: u16 = 14;
-
-/// Mark, `SO_MARK` of socket(7).
-pub const INET_DIAG_MARK: u16 = 15;
-
-/// Measurements of BBR.
-pub const INET_DIAG_BBRINFO: u16 = 16;
-
-/// Class of the socket's control group.
-pub const INET_DIAG_CLASS_ID: u16 = 17;
-
-/// Keys of TCP MD5 signatures.
-pub const INET_DIAG_MD5SIG: u16 = 18;
 
 // ---- Socket types.
 
-/// Byte streams, in order.
+/// Byte streams: in order, reliable.
 pub const SOCK_STREAM: u8 = 1;
 
-/// Datagrams, which may be lost.
+/// Datagrams: not reliable.
 pub const SOCK_DGRAM: u8 = 2;
 
-/// Raw packets of a protocol.
+/// Raw access to a network protocol.
 pub const SOCK_RAW: u8 = 3;
 
-/// Reliable datagrams, without order.
+/// Reliable datagrams, in any order.
 pub const SOCK_RDM: u8 = 4;
 
 /// Reliable datagrams, in order.
 pub const SOCK_SEQPACKET: u8 = 5;
 
-/// Packets of a device, obsolete.
+/// Packets of network devices, packet(7). Obsolete.
 pub const SOCK_PACKET: u8 = 10;
 
 // ---- Congestion control states, and their bits.
 
-/// No problem was noticed.
+/// The normal state: no sign of loss or congestion.
 pub const TCP_CA_OPEN: u8 = 0;
 
 /// Duplicate or selective acknowledgements were received.
 pub const TCP_CA_DISORDER: u8 = 1;
 
-/// The congestion window is being reduced.
+/// The congestion window is being reduced, after a congestion notification.
 pub const TCP_CA_CWR: u8 = 2;
 
-/// Fast retransmit of lost segments.
+/// Lost segments are retransmitted, by fast retransmit.
 pub const TCP_CA_RECOVERY: u8 = 3;
 
-/// Retransmission of lost segments after a timeout.
+/// Lost segments are retransmitted, after the retransmission timeout.
 pub const TCP_CA_LOSS: u8 = 4;
 
 /// The bit of `TCP_CA_OPEN`.
@@ -456,10 +458,10 @@ pub const TCPI_OPT_SACK: u8 = 2;
 /// Window scaling.
 pub const TCPI_OPT_WSCALE: u8 = 4;
 
-/// Explicit congestion notification (ECN).
+/// Explicit congestion notification (ECN) was negotiated.
 pub const TCPI_OPT_ECN: u8 = 8;
 
-/// A packet with ECT was received.
+/// A packet of an ECN-capable transport was received.
 pub const TCPI_OPT_ECN_SEEN: u8 = 16;
 
 /// Data in the SYN was acknowledged (TCP Fast Open).
@@ -467,11 +469,11 @@ pub const TCPI_OPT_SYN_DATA: u8 = 32;
 
 // ---- Directions of shutdown(2).
 
-/// Shuts down receiving.
+/// Disables receiving.
 pub const SHUT_RD: u8 = 0;
 
-/// Shuts down sending.
+/// Disables sending.
 pub const SHUT_WR: u8 = 1;
 
-/// Shuts down both.
+/// Disables receiving and sending.
 pub const SHUT_RDWR: u8 = 2;

@@ -1,11 +1,12 @@
 //! Netlink messages, and iterators over the messages of a datagram.
 
+use crate::calls;
 use crate::constants::{AF_NETLINK, AF_PACKET, AF_VSOCK, AF_XDP};
 use crate::constants::{NLMSG_DONE, NLMSG_ERROR, NLMSG_NOOP, NLMSG_OVERRUN, SOCK_DIAG_BY_FAMILY};
 use crate::inet::{InetReply, InetRequest, RequestBytes};
 use crate::netlink::NetlinkReply;
 use crate::packet::PacketReply;
-use crate::sys;
+use crate::sys::Cursor;
 use crate::unix::{UnixReply, UnixRequest};
 use crate::vsock::VsockReply;
 use crate::xdp::XdpReply;
@@ -221,13 +222,16 @@ impl<'a> AnySockDiagMessage<'a> {
 #[derive(Clone, Debug)]
 pub struct Dump<'a> {
     datagram: &'a [u8],
-    place: usize,
+    cursor: Cursor,
 }
 
 impl<'a> Dump<'a> {
     /// Returns an iterator over the messages of a datagram.
     pub fn new(datagram: &'a [u8]) -> Self {
-        Dump { datagram, place: 0 }
+        Dump {
+            datagram,
+            cursor: Cursor::default(),
+        }
     }
 }
 
@@ -235,7 +239,7 @@ impl<'a> Iterator for Dump<'a> {
     type Item = Result<Message<'a>, DecodeError>;
 
     fn next(&mut self) -> Option<Self::Item> {
-        next_message(self.datagram, &mut self.place, SockDiagMessage::parse)
+        next_message(self.datagram, &mut self.cursor, SockDiagMessage::parse)
     }
 }
 
@@ -260,13 +264,16 @@ impl core::iter::FusedIterator for Dump<'_> {}
 #[derive(Clone, Debug)]
 pub struct AnyDump<'a> {
     datagram: &'a [u8],
-    place: usize,
+    cursor: Cursor,
 }
 
 impl<'a> AnyDump<'a> {
     /// Returns an iterator over the messages of a datagram.
     pub fn new(datagram: &'a [u8]) -> Self {
-        AnyDump { datagram, place: 0 }
+        AnyDump {
+            datagram,
+            cursor: Cursor::default(),
+        }
     }
 }
 
@@ -274,20 +281,20 @@ impl<'a> Iterator for AnyDump<'a> {
     type Item = Result<NetlinkMessage<AnySockDiagMessage<'a>>, DecodeError>;
 
     fn next(&mut self) -> Option<Self::Item> {
-        next_message(self.datagram, &mut self.place, AnySockDiagMessage::parse)
+        next_message(self.datagram, &mut self.cursor, AnySockDiagMessage::parse)
     }
 }
 
 impl core::iter::FusedIterator for AnyDump<'_> {}
 
-/// Returns the message at offset `place`, and advances `place`. Parses the payload by `parse`,
+/// Returns the message at the cursor, and advances the cursor. Parses the payload by `parse`,
 /// unless the type is a control type.
 fn next_message<'a, I>(
     datagram: &'a [u8],
-    place: &mut usize,
+    cursor: &mut Cursor,
     parse: fn(&'a [u8], u16) -> Result<I, DecodeError>,
 ) -> Option<Result<NetlinkMessage<I>, DecodeError>> {
-    let part = match sys::next_envelope(datagram, place) {
+    let part = match calls::next_envelope(datagram, cursor) {
         Ok(part) => part,
         Err(0) => return None,
         Err(fault) => return Some(Err(DecodeError::from_number(fault))),
@@ -295,8 +302,8 @@ fn next_message<'a, I>(
     let payload = datagram.get(part.offset..part.offset + part.length)?;
     let payload = match part.message_type {
         NLMSG_NOOP => NetlinkPayload::Noop,
-        NLMSG_ERROR => NetlinkPayload::Error(sys::error_number(payload)),
-        NLMSG_DONE => NetlinkPayload::Done(sys::error_number(payload)),
+        NLMSG_ERROR => NetlinkPayload::Error(calls::error_number(payload)),
+        NLMSG_DONE => NetlinkPayload::Done(calls::error_number(payload)),
         NLMSG_OVERRUN => NetlinkPayload::Overrun,
         message_type => match parse(payload, message_type) {
             Ok(message) => NetlinkPayload::InnerMessage(message),

@@ -1,4 +1,6 @@
 //! Decode errors.
+//
+// tools/bindings writes this file from the source of the C library.
 
 use core::fmt;
 
@@ -7,39 +9,40 @@ use core::fmt;
 #[derive(Clone, Copy, Debug, PartialEq, Eq, Hash)]
 #[non_exhaustive]
 pub enum DecodeError {
-    /// Fewer bytes than a record has.
+    /// A record has fewer bytes than it needs.
     BufferTooSmall,
-    /// An internet socket whose family is neither `AF_INET` nor `AF_INET6`.
+    /// The family of an internet socket is neither `AF_INET` nor `AF_INET6`.
     UnsupportedFamily,
-    /// A payload of fewer than 2 bytes.
+    /// A message has fewer than 2 bytes: its family, and the byte after it.
     MessageTooShort,
-    /// A payload whose first byte is none of `AF_UNIX`, `AF_INET` and `AF_INET6`.
+    /// The first byte of a message is not a family whose replies are parsed.
     UnknownFamily,
-    /// A message whose type is not `SOCK_DIAG_BY_FAMILY`.
+    /// The type of a message is not `SOCK_DIAG_BY_FAMILY`.
     UnknownMessageType,
-    /// Fewer than the 4 bytes of an attribute's header.
+    /// Fewer bytes are left than the 4 of an attribute's header.
     AttributeHeaderCut,
-    /// A length field of an attribute that is less than the 4 bytes of its header.
+    /// The length field of an attribute is below 4, the length of its header.
     AttributeLengthUnder4,
-    /// A length field of an attribute that points past the end.
+    /// The length field of an attribute is above the number of bytes from its first byte to the
+    /// end.
     AttributeLengthPast,
-    /// A value of the wrong length for its kind.
+    /// A value does not have the length that its kind requires.
     WrongLength,
-    /// A list of numbers whose length is not a multiple of 4.
+    /// The length of a list of 32-bit numbers is not a multiple of 4.
     NotMultipleOfFour,
-    /// A text that is not valid UTF-8.
+    /// A text is not valid UTF-8.
     NotUtf8,
-    /// A socket's name of zero bytes.
+    /// A socket's name has no bytes.
     NameEmpty,
-    /// A pathname with a NUL before its last byte.
+    /// A pathname contains a NUL before its last byte.
     NameInnerZero,
-    /// A pathname without a terminating NUL.
+    /// A pathname contains no NUL.
     NameWithoutEnd,
-    /// Fewer than the 16 bytes of a netlink header.
+    /// A message has fewer bytes than the 16 of its netlink header.
     EnvelopeCut,
-    /// A length field of a message that is less than the 16 bytes of its header.
+    /// The length field of a message is below 16, the length of its netlink header.
     EnvelopeLengthUnder16,
-    /// A length field of a message that points past the end.
+    /// The length field of a message is above the number of bytes.
     EnvelopeLengthPast,
     /// An error of a later version of the library, by its code.
     Other(u32),

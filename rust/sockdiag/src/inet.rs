@@ -1,5 +1,6 @@
 //! Requests and replies about IPv4 and IPv6 sockets.
 
+use crate::calls;
 use crate::constants::*;
 use crate::dump::NetlinkHeader;
 use crate::sys;
@@ -7,6 +8,8 @@ use crate::unix::request_header;
 use crate::{Attributes, DecodeError, Nlas};
 use core::net::{IpAddr, Ipv4Addr, Ipv6Addr};
 use core::time::Duration;
+
+pub use crate::sys::TcpInfo;
 
 pub mod nlas;
 
@@ -229,7 +232,7 @@ impl InetRequest {
         buffer: &'b mut [u8],
     ) -> Result<Option<&'b [u8]>, DecodeError> {
         let request = self.told(header);
-        let (written, outcome) = sys::write_inet_with_attributes(&request, attributes, buffer);
+        let (written, outcome) = calls::write_inet_with_attributes(&request, attributes, buffer);
         match outcome.fault {
             0 => Ok((written != 0).then_some(&buffer[..written])),
             fault => Err(DecodeError::from_number(fault)),
@@ -238,7 +241,7 @@ impl InetRequest {
 
     fn message(&self, header: &NetlinkHeader, destroy: bool) -> RequestBytes {
         let mut bytes = [0; 80];
-        let len = sys::write_inet(&self.told(header), destroy, &mut bytes);
+        let len = calls::write_inet(&self.told(header), destroy, &mut bytes);
         RequestBytes { bytes, len }
     }
 
@@ -347,122 +350,6 @@ impl InetResponseHeader {
     }
 }
 
-/// A TCP connection: the fields of `struct tcp_info` of `linux/tcp.h`, without the prefix `tcpi_`.
-#[repr(C)]
-#[derive(Clone, Copy, Debug, Default, PartialEq, Eq)]
-pub struct TcpInfo {
-    /// State of the connection, one of `TCP_ESTABLISHED` to `TCP_CLOSING`.
-    pub state: u8,
-    /// State of congestion control, one of `TCP_CA_OPEN` to `TCP_CA_LOSS`.
-    pub ca_state: u8,
-    /// Number of times that the timer has retransmitted the oldest segment.
-    pub retransmits: u8,
-    /// Number of unanswered zero-window and keepalive probes.
-    pub probes: u8,
-    /// Number of times that the timer was doubled (exponential backoff).
-    pub backoff: u8,
-    /// Options that both ends agreed on, bits `TCPI_OPT_..`.
-    pub options: u8,
-    /// Window scales, four bits each: `tcpi_snd_wscale` in the lower bits, `tcpi_rcv_wscale` in the
-    /// upper.
-    pub wscale: u8,
-    /// Bit 0 is set if the sending application limits `delivery_rate`.
-    pub delivery_rate_app_limited: u8,
-    /// Retransmission timeout, in microseconds.
-    pub rto: u32,
-    /// Timeout of delayed acknowledgements, in microseconds.
-    pub ato: u32,
-    /// Maximum segment size for sending, in bytes.
-    pub snd_mss: u32,
-    /// Estimated maximum segment size of the peer, in bytes.
-    pub rcv_mss: u32,
-    /// Segments sent and not acknowledged. For a listening socket, pending connections.
-    pub unacked: u32,
-    /// Segments acknowledged out of order. For a listening socket, the limit of pending
-    /// connections.
-    pub sacked: u32,
-    /// Segments that are considered lost.
-    pub lost: u32,
-    /// Retransmitted segments in flight.
-    pub retrans: u32,
-    /// Segments up to the highest acknowledged one. Newer kernels write 0.
-    pub fackets: u32,
-    /// Time since data was last sent, in milliseconds.
-    pub last_data_sent: u32,
-    /// Time since an acknowledgement was last sent. The kernel writes 0.
-    pub last_ack_sent: u32,
-    /// Time since data was last received, in milliseconds.
-    pub last_data_recv: u32,
-    /// Time since an acknowledgement was last received, in milliseconds.
-    pub last_ack_recv: u32,
-    /// Path MTU, in bytes.
-    pub pmtu: u32,
-    /// Current limit of the receive window, in bytes.
-    pub rcv_ssthresh: u32,
-    /// Smoothed round-trip time, in microseconds.
-    pub rtt: u32,
-    /// Variation of the round-trip time, in microseconds.
-    pub rttvar: u32,
-    /// Slow start threshold, in segments.
-    pub snd_ssthresh: u32,
-    /// Congestion window, in segments.
-    pub snd_cwnd: u32,
-    /// Maximum segment size that was advertised to the peer, in bytes.
-    pub advmss: u32,
-    /// Reordering distance beyond which a segment is considered lost, in segments.
-    pub reordering: u32,
-    /// Round-trip time that the receiver measures, in microseconds.
-    pub rcv_rtt: u32,
-    /// Size that the receive buffer is tuned for, in bytes.
-    pub rcv_space: u32,
-    /// Retransmitted segments in total.
-    pub total_retrans: u32,
-    /// Pacing rate, in bytes per second.
-    pub pacing_rate: u64,
-    /// Maximum pacing rate, in bytes per second.
-    pub max_pacing_rate: u64,
-    /// Bytes that were acknowledged.
-    pub bytes_acked: u64,
-    /// Bytes that were received in order.
-    pub bytes_received: u64,
-    /// Segments sent.
-    pub segs_out: u32,
-    /// Segments received.
-    pub segs_in: u32,
-    /// Queued bytes that have not been sent.
-    pub notsent_bytes: u32,
-    /// Minimum round-trip time, in microseconds.
-    pub min_rtt: u32,
-    /// Segments received with data.
-    pub data_segs_in: u32,
-    /// Segments sent with data.
-    pub data_segs_out: u32,
-    /// Most recent rate of delivery to the peer, in bytes per second.
-    pub delivery_rate: u64,
-    /// Time with data to send, in microseconds.
-    pub busy_time: u64,
-    /// Part of `busy_time` that was limited by the peer's receive window, in microseconds.
-    pub rwnd_limited: u64,
-    /// Part of `busy_time` that was limited by the send buffer, in microseconds.
-    pub sndbuf_limited: u64,
-    /// Segments delivered to the peer, including retransmitted ones.
-    pub delivered: u32,
-    /// Delivered segments that the peer reported as marked for congestion.
-    pub delivered_ce: u32,
-    /// Bytes of data sent, including retransmitted ones.
-    pub bytes_sent: u64,
-    /// Bytes of data retransmitted.
-    pub bytes_retrans: u64,
-    /// Segments that the peer reported as received twice (DSACK).
-    pub dsack_dups: u32,
-    /// Reordering events that were seen.
-    pub reord_seen: u32,
-    /// Segments received out of order.
-    pub rcv_ooopack: u32,
-    /// The peer's receive window after scaling, in bytes.
-    pub snd_wnd: u32,
-}
-
 /// Returns the TCP connection that a reply describes, and the length of its value in bytes.
 ///
 /// This also works for a payload that is rejected because the value is too short, as older kernels
@@ -479,7 +366,7 @@ pub struct TcpInfo {
 /// ```
 pub fn tcp_info(payload: &[u8]) -> Option<(TcpInfo, usize)> {
     let mut info = TcpInfo::default();
-    let told = sys::tcp_info(payload, &mut info);
+    let told = calls::tcp_info(payload, &mut info);
     (told != 0).then_some((info, told))
 }
 
@@ -490,8 +377,7 @@ pub struct InetReply<'a> {
     pub header: InetResponseHeader,
     /// All decoded attributes, in order.
     pub nlas: Nlas<'a, nlas::Nla<'a>>,
-    congestion: Option<&'a [u8]>,
-    numbers: sys::InetNumbers,
+    details: sys::InetDetails<'a>,
     payload: &'a [u8],
 }
 
@@ -502,20 +388,18 @@ impl<'a> InetReply<'a> {
     /// Checks the whole reply, which is the payload of its message, and parses it. Does not
     /// allocate.
     pub fn parse(payload: &'a [u8]) -> Result<Self, DecodeError> {
-        let (header, congestion, numbers) =
-            sys::inet_details(payload).map_err(DecodeError::from_number)?;
+        let details = calls::inet_details(payload).map_err(DecodeError::from_number)?;
         Ok(InetReply {
-            header: InetResponseHeader::told(header),
-            congestion: congestion.map(|(_, text)| text),
-            numbers,
-            nlas: Nlas::behind(payload, 72),
+            header: InetResponseHeader::told(details.header),
+            details,
+            nlas: Nlas::behind(payload, sys::INET_ATTRIBUTES),
             payload,
         })
     }
 
     /// Returns an iterator over all attributes, in order.
     pub fn attributes(&self) -> Attributes<'a> {
-        Attributes::behind(self.payload, 72)
+        Attributes::behind(self.payload, sys::INET_ATTRIBUTES)
     }
 
     /// Returns an iterator over all decoded attributes, as `nlas.iter()` does. These include the
@@ -547,49 +431,49 @@ impl<'a> InetReply<'a> {
 
     /// Returns the name of the congestion control algorithm.
     pub fn congestion(&self) -> Option<&'a str> {
-        core::str::from_utf8(self.congestion?).ok()
+        core::str::from_utf8(self.details.congestion.get()?).ok()
     }
 
     /// Returns the type of service.
     pub fn tos(&self) -> Option<u8> {
-        self.numbers.tos.get().map(|number| number as u8)
+        self.details.tos.get().map(|number| number as u8)
     }
 
     /// Returns the traffic class of an IPv6 socket.
     pub fn tc(&self) -> Option<u8> {
-        self.numbers.tclass.get().map(|number| number as u8)
+        self.details.tclass.get().map(|number| number as u8)
     }
 
     /// Returns the directions that are shut down: 1 for receiving, 2 for sending, 3 for both.
     pub fn shutdown_state(&self) -> Option<u8> {
-        self.numbers.shutdown.get().map(|number| number as u8)
+        self.details.shutdown.get().map(|number| number as u8)
     }
 
     /// Returns the protocol, one of `IPPROTO_..`.
     pub fn protocol(&self) -> Option<u8> {
-        self.numbers.protocol.get().map(|number| number as u8)
+        self.details.protocol.get().map(|number| number as u8)
     }
 
     /// Returns whether the socket is for IPv6 only.
     pub fn v6only(&self) -> Option<bool> {
-        self.numbers.v6only.get().map(|number| number != 0)
+        self.details.v6only.get().map(|number| number != 0)
     }
 
     /// Returns the mark of the socket.
     pub fn mark(&self) -> Option<u32> {
-        self.numbers.mark.get()
+        self.details.mark.get()
     }
 
     /// Returns the traffic control class of the socket's packets.
     pub fn class_id(&self) -> Option<u32> {
-        self.numbers.class_id.get()
+        self.details.class_id.get()
     }
 
     /// Writes the canonical form of the reply to the start of the buffer, and returns its length in
     /// bytes. If the buffer is shorter, nothing is written. All replies that differ only in ignored
     /// bits have the same canonical form. Returns `None` if the reply cannot be serialized.
     pub fn canonical(&self, buffer: &mut [u8]) -> Option<usize> {
-        let (_, outcome) = sys::rewrite(self.payload, false, buffer);
+        let (_, outcome) = calls::rewrite(self.payload, false, buffer);
         (outcome.needed != 0).then_some(outcome.needed)
     }
 }

@@ -115,6 +115,7 @@
 #![no_std]
 
 mod attribute;
+mod calls;
 pub mod constants;
 mod dump;
 mod fault;

@@ -1,10 +1,13 @@
 //! Requests and replies about netlink sockets, by `linux/netlink_diag.h`.
 
+use crate::calls;
 use crate::constants::AF_NETLINK;
 use crate::inet::nlas::MemInfo;
 use crate::show::ShowRequest;
 use crate::sys;
 use crate::{Attributes, DecodeError};
+
+pub use crate::sys::NetlinkResponseHeader;
 
 /// The request for netlink sockets: `struct netlink_diag_req`. `protocol` is one of
 /// `linux/netlink.h`, or [`NDIAG_PROTO_ALL`]. `show` has the bits `NDIAG_SHOW_..`.
@@ -19,28 +22,6 @@ pub const NDIAG_SHOW_MEMINFO: u32 = 0x1;
 pub const NDIAG_SHOW_GROUPS: u32 = 0x2;
 /// Requests `NETLINK_DIAG_FLAGS`.
 pub const NDIAG_SHOW_FLAGS: u32 = 0x8;
-
-/// The header of a reply about a netlink socket: `struct netlink_diag_msg`.
-#[repr(C)]
-#[derive(Clone, Copy, Debug, Default, PartialEq, Eq)]
-pub struct NetlinkResponseHeader {
-    /// Type of the socket (`ndiag_type`): `SOCK_RAW` (3) or `SOCK_DGRAM` (2).
-    pub kind: u8,
-    /// Protocol (`ndiag_protocol`), one of `linux/netlink.h`.
-    pub protocol: u8,
-    /// State (`ndiag_state`): 1 if the socket is connected to another.
-    pub state: u8,
-    /// Port id of the socket (`ndiag_portid`), 0 for the kernel.
-    pub port: u32,
-    /// Port id of the socket that it is connected to (`ndiag_dst_portid`).
-    pub destination_port: u32,
-    /// Number of the multicast group that it sends to (`ndiag_dst_group`).
-    pub destination_group: u32,
-    /// Inode of the socket (`ndiag_ino`).
-    pub inode: u32,
-    /// Cookie that distinguishes sockets with the same inode (`ndiag_cookie`).
-    pub cookie: u64,
-}
 
 /// The reply about one netlink socket, borrowed from the bytes that were parsed.
 #[derive(Clone, Copy, Debug, PartialEq, Eq)]
@@ -64,7 +45,7 @@ impl<'a> NetlinkReply<'a> {
     /// Checks the whole reply, which is the payload of its message, and parses it. Does not
     /// allocate.
     pub fn parse(payload: &'a [u8]) -> Result<Self, DecodeError> {
-        let told = sys::netlink_details(payload).map_err(DecodeError::from_number)?;
+        let told = calls::netlink_details(payload).map_err(DecodeError::from_number)?;
         Ok(NetlinkReply {
             header: told.header,
             memory: told.memory.get(),
@@ -76,6 +57,6 @@ impl<'a> NetlinkReply<'a> {
 
     /// Returns an iterator over all attributes, in order.
     pub fn attributes(&self) -> Attributes<'a> {
-        Attributes::behind(self.payload, 28)
+        Attributes::behind(self.payload, sys::NETLINK_ATTRIBUTES)
     }
 }

@@ -1,10 +1,13 @@
 //! Requests and replies about packet sockets, by `linux/packet_diag.h`.
 
+use crate::calls;
 use crate::constants::AF_PACKET;
 use crate::inet::nlas::MemInfo;
 use crate::show::ShowRequest;
 use crate::sys;
 use crate::{Attributes, DecodeError};
+
+pub use crate::sys::{PacketInfo, PacketResponseHeader, PacketRing};
 
 /// The request for packet sockets: `struct packet_diag_req`. `protocol` is 0. `show` has the bits
 /// `PACKET_SHOW_..`.
@@ -22,58 +25,6 @@ pub const PACKET_SHOW_FANOUT: u32 = 0x8;
 pub const PACKET_SHOW_MEMINFO: u32 = 0x10;
 /// Requests `PACKET_DIAG_FILTER`.
 pub const PACKET_SHOW_FILTER: u32 = 0x20;
-
-/// The header of a reply about a packet socket: `struct packet_diag_msg`.
-#[repr(C)]
-#[derive(Clone, Copy, Debug, Default, PartialEq, Eq)]
-pub struct PacketResponseHeader {
-    /// Type of the socket (`pdiag_type`): `SOCK_RAW` (3) or `SOCK_DGRAM` (2).
-    pub kind: u8,
-    /// Protocol (`pdiag_num`), one of `ETH_P_..`.
-    pub protocol: u16,
-    /// Inode of the socket (`pdiag_ino`).
-    pub inode: u32,
-    /// Cookie that distinguishes sockets with the same inode (`pdiag_cookie`).
-    pub cookie: u64,
-}
-
-/// Settings of a packet socket: `struct packet_diag_info`.
-#[repr(C)]
-#[derive(Clone, Copy, Debug, Default, PartialEq, Eq)]
-pub struct PacketInfo {
-    /// Index of the interface that the socket is bound to (`pdi_index`), 0 for all.
-    pub interface: u32,
-    /// Frame format of the rings (`pdi_version`), one of `TPACKET_V..`.
-    pub version: u32,
-    /// Bytes of each frame that are reserved for the application (`pdi_reserve`).
-    pub reserve: u32,
-    /// Length from which a packet is also copied to the queue, in bytes (`pdi_copy_thresh`).
-    pub copy_threshold: u32,
-    /// Clocks that packets are timestamped with (`pdi_tstamp`).
-    pub timestamp: u32,
-    /// The bits `PDI_..` (`pdi_flags`).
-    pub flags: u32,
-}
-
-/// A ring that a packet socket shares with the application: `struct packet_diag_ring`.
-#[repr(C)]
-#[derive(Clone, Copy, Debug, Default, PartialEq, Eq)]
-pub struct PacketRing {
-    /// Size of a block in bytes (`pdr_block_size`).
-    pub block_size: u32,
-    /// Number of blocks (`pdr_block_nr`).
-    pub blocks: u32,
-    /// Size of a frame in bytes (`pdr_frame_size`).
-    pub frame_size: u32,
-    /// Number of frames (`pdr_frame_nr`).
-    pub frames: u32,
-    /// Milliseconds after which a block that is not full is handed over (`pdr_retire_tmo`).
-    pub retire_timeout: u32,
-    /// Bytes of each block that belong to the application (`pdr_sizeof_priv`).
-    pub private_size: u32,
-    /// The bits `TP_FT_..` (`pdr_features`).
-    pub features: u32,
-}
 
 /// The reply about one packet socket, borrowed from the bytes that were parsed.
 #[derive(Clone, Copy, Debug, PartialEq, Eq)]
@@ -108,7 +59,7 @@ impl<'a> PacketReply<'a> {
     /// Checks the whole reply, which is the payload of its message, and parses it. Does not
     /// allocate.
     pub fn parse(payload: &'a [u8]) -> Result<Self, DecodeError> {
-        let told = sys::packet_details(payload).map_err(DecodeError::from_number)?;
+        let told = calls::packet_details(payload).map_err(DecodeError::from_number)?;
         Ok(PacketReply {
             header: told.header,
             info: (told.has_info != 0).then_some(told.info),
@@ -125,6 +76,6 @@ impl<'a> PacketReply<'a> {
 
     /// Returns an iterator over all attributes, in order.
     pub fn attributes(&self) -> Attributes<'a> {
-        Attributes::behind(self.payload, 16)
+        Attributes::behind(self.payload, sys::PACKET_ATTRIBUTES)
     }
 }

@@ -1,21 +1,75 @@
-//! Safe wrappers of the functions of `sockdiag.h`.
+//! The structs and functions of the C library, which `sockdiag.h` documents.
 //!
-//! Most functions here are safe: they make one call, and a comment says why the requirements of
-//! `sockdiag.h` on the caller hold. The requirements are: a pointer to bytes is valid for the
-//! length next to it; a pointer to a struct points to an initialized struct; memory that a call
-//! writes overlaps nothing else that the call is given. A contract named here is that of the
-//! function of the same name in `crates/sockdiag_c`.
+//! The public structs are records of the kernel that users get unchanged. The modules of the
+//! families re-export them. `calls` has a safe function for each function that this crate calls.
+//
+// tools/bindings writes this file from the source of the C library.
+#![allow(dead_code)] // Everything that the library has is declared.
 
-use crate::inet::nlas::MemInfo;
-use crate::netlink::NetlinkResponseHeader;
-use crate::packet::{PacketInfo, PacketResponseHeader, PacketRing};
-use crate::vsock::VsockResponseHeader;
-use crate::xdp::{XdpInfo, XdpResponseHeader, XdpStatistics, XdpUmem};
 use core::marker::PhantomData;
-use core::mem::{offset_of, size_of};
+
+// Kind of an abstract name.
+pub(crate) const ABSTRACT: u32 = 2;
+
+// Offsets of the attributes in a reply.
+pub(crate) const UNIX_ATTRIBUTES: usize = 16;
+pub(crate) const INET_ATTRIBUTES: usize = 72;
+pub(crate) const NETLINK_ATTRIBUTES: usize = 28;
+pub(crate) const PACKET_ATTRIBUTES: usize = 16;
+pub(crate) const VSOCK_ATTRIBUTES: usize = 32;
+pub(crate) const XDP_ATTRIBUTES: usize = 16;
 
 #[repr(C)]
-#[derive(Clone, Copy, Default)]
+#[derive(Clone, Copy, Debug, Default, PartialEq, Eq)]
+pub(crate) struct Number {
+    pub(crate) is_told: u32,
+    pub(crate) value: u32,
+}
+
+#[repr(C)]
+#[derive(Clone, Copy)]
+pub(crate) struct Text<'a> {
+    pub(crate) kind: u32,
+    pub(crate) bytes: *const u8,
+    pub(crate) length: usize,
+    pub(crate) borrowed: PhantomData<&'a [u8]>,
+}
+
+#[repr(C)]
+#[derive(Clone, Copy, Debug, Default, PartialEq, Eq)]
+pub(crate) struct ShowRequest {
+    pub(crate) header: RequestHeader,
+    pub(crate) family: u8,
+    pub(crate) protocol: u8,
+    pub(crate) inode: u32,
+    pub(crate) show: u32,
+    pub(crate) cookie: u64,
+}
+
+#[repr(C)]
+#[derive(Clone, Copy, Debug, Default, PartialEq, Eq)]
+pub(crate) struct VsockRequest {
+    pub(crate) header: RequestHeader,
+    pub(crate) states: u32,
+    pub(crate) cookie: u64,
+}
+
+#[repr(C)]
+#[derive(Clone, Copy, Debug, Default, PartialEq, Eq)]
+pub(crate) struct Memory {
+    pub(crate) receive_queue: Number,
+    pub(crate) receive_queue_max: Number,
+    pub(crate) bottom_send_queues: Number,
+    pub(crate) send_queue_max: Number,
+    pub(crate) cache: Number,
+    pub(crate) send_queue: Number,
+    pub(crate) options: Number,
+    pub(crate) backlog_queue_length: Number,
+    pub(crate) drops: Number,
+}
+
+#[repr(C)]
+#[derive(Clone, Copy, Debug, Default, PartialEq, Eq)]
 pub(crate) struct UnixHeader {
     pub(crate) kind: u8,
     pub(crate) state: u8,
@@ -24,7 +78,7 @@ pub(crate) struct UnixHeader {
 }
 
 #[repr(C)]
-#[derive(Clone, Copy, Default)]
+#[derive(Clone, Copy, Debug, Default, PartialEq, Eq)]
 pub(crate) struct InetHeader {
     pub(crate) family: u8,
     pub(crate) state: u8,
@@ -45,36 +99,98 @@ pub(crate) struct InetHeader {
 
 #[repr(C)]
 #[derive(Clone, Copy, Debug, Default, PartialEq, Eq)]
-pub(crate) struct Number {
-    is_told: u32,
-    value: u32,
+pub(crate) struct Reply {
+    pub(crate) kind: u32,
+    pub(crate) unix_header: UnixHeader,
+    pub(crate) inet_header: InetHeader,
 }
 
-impl Number {
-    /// Returns the number, or `None` if the reply does not contain it.
-    pub(crate) fn get(self) -> Option<u32> {
-        (self.is_told != 0).then_some(self.value)
-    }
-}
-
-#[repr(C)]
-#[derive(Clone, Copy)]
-struct Text {
-    kind: u32,
-    bytes: *const u8,
-    length: usize,
-}
-
-const NO_TEXT: Text = Text {
-    kind: 0,
-    bytes: core::ptr::null(),
-    length: 0,
-};
-
-/// The numbers at the end of `struct sockdiag_unix_details`.
 #[repr(C)]
 #[derive(Clone, Copy, Debug, Default, PartialEq, Eq)]
-pub(crate) struct UnixNumbers {
+pub(crate) struct InetDetails<'a> {
+    pub(crate) header: InetHeader,
+    pub(crate) congestion: Text<'a>,
+    pub(crate) tos: Number,
+    pub(crate) tclass: Number,
+    pub(crate) shutdown: Number,
+    pub(crate) protocol: Number,
+    pub(crate) v6only: Number,
+    pub(crate) mark: Number,
+    pub(crate) class_id: Number,
+}
+
+#[repr(C)]
+#[derive(Clone, Copy, Debug, Default, PartialEq, Eq)]
+pub(crate) struct NetlinkDetails<'a> {
+    pub(crate) header: NetlinkResponseHeader,
+    pub(crate) memory: Memory,
+    pub(crate) groups: Text<'a>,
+    pub(crate) flags: Number,
+}
+
+#[repr(C)]
+#[derive(Clone, Copy, Debug, Default, PartialEq, Eq)]
+pub(crate) struct PacketDetails<'a> {
+    pub(crate) header: PacketResponseHeader,
+    pub(crate) has_info: u32,
+    pub(crate) info: PacketInfo,
+    pub(crate) addresses: Text<'a>,
+    pub(crate) has_receive_ring: u32,
+    pub(crate) receive_ring: PacketRing,
+    pub(crate) has_send_ring: u32,
+    pub(crate) send_ring: PacketRing,
+    pub(crate) fanout: Number,
+    pub(crate) owner: Number,
+    pub(crate) memory: Memory,
+    pub(crate) filter: Text<'a>,
+}
+
+#[repr(C)]
+#[derive(Clone, Copy, Debug, Default, PartialEq, Eq)]
+pub(crate) struct RequestHeader {
+    pub(crate) flags: u16,
+    pub(crate) sequence_number: u32,
+    pub(crate) port_number: u32,
+}
+
+#[repr(C)]
+#[derive(Clone, Copy, Debug, Default, PartialEq, Eq)]
+pub(crate) struct UnixRequest {
+    pub(crate) header: RequestHeader,
+    pub(crate) states: u32,
+    pub(crate) inode: u32,
+    pub(crate) show: u32,
+    pub(crate) cookie: [u8; 8],
+}
+
+#[repr(C)]
+#[derive(Clone, Copy, Debug, Default, PartialEq, Eq)]
+pub(crate) struct InetRequest {
+    pub(crate) header: RequestHeader,
+    pub(crate) family: u8,
+    pub(crate) extensions: u8,
+    pub(crate) protocol: u32,
+    pub(crate) states: u32,
+    pub(crate) source_port: u16,
+    pub(crate) destination_port: u16,
+    pub(crate) source_address: [u8; 16],
+    pub(crate) destination_address: [u8; 16],
+    pub(crate) interface_id: u32,
+    pub(crate) cookie: [u8; 8],
+}
+
+#[repr(C)]
+#[derive(Clone, Copy, Debug, Default, PartialEq, Eq)]
+pub(crate) struct Outcome {
+    pub(crate) fault: u32,
+    pub(crate) needed: usize,
+}
+
+#[repr(C)]
+#[derive(Clone, Copy, Debug, Default, PartialEq, Eq)]
+pub(crate) struct UnixDetails<'a> {
+    pub(crate) header: UnixHeader,
+    pub(crate) name: Text<'a>,
     pub(crate) file_inode: Number,
     pub(crate) file_device: Number,
     pub(crate) peer: Number,
@@ -87,117 +203,32 @@ pub(crate) struct UnixNumbers {
 }
 
 #[repr(C)]
-struct UnixDetails {
-    header: UnixHeader,
-    name: Text,
-    numbers: UnixNumbers,
+#[derive(Clone, Copy, Debug, Default, PartialEq, Eq)]
+pub(crate) struct Cursor {
+    pub(crate) place: usize,
 }
 
-/// The numbers at the end of `struct sockdiag_inet_details`.
 #[repr(C)]
 #[derive(Clone, Copy, Debug, Default, PartialEq, Eq)]
-pub(crate) struct InetNumbers {
-    pub(crate) tos: Number,
-    pub(crate) tclass: Number,
-    pub(crate) shutdown: Number,
-    pub(crate) protocol: Number,
-    pub(crate) v6only: Number,
-    pub(crate) mark: Number,
-    pub(crate) class_id: Number,
+pub(crate) struct AttributePart {
+    pub(crate) offset: usize,
+    pub(crate) length: usize,
+    pub(crate) type_word: u16,
 }
 
 #[repr(C)]
-struct InetDetails {
-    header: InetHeader,
-    congestion: Text,
-    numbers: InetNumbers,
-}
-
-/// A text of a reply that is borrowed for `'a`, or no text.
-#[repr(C)]
-#[derive(Clone, Copy)]
-pub(crate) struct Bytes<'a> {
-    text: Text,
-    reply: PhantomData<&'a [u8]>,
-}
-
-impl Default for Bytes<'_> {
-    fn default() -> Self {
-        Bytes {
-            text: NO_TEXT,
-            reply: PhantomData,
-        }
-    }
-}
-
-impl<'a> Bytes<'a> {
-    /// Returns the bytes, or `None` if the reply does not contain them.
-    pub(crate) fn get(self) -> Option<&'a [u8]> {
-        // SAFETY: there is no text, or it is in a result of `ask` for a payload that is
-        // borrowed for 'a. Nothing else writes a text.
-        unsafe { lent(self.text) }.map(|(_, bytes)| bytes)
-    }
+#[derive(Clone, Copy, Debug, Default, PartialEq, Eq)]
+pub(crate) struct MessagePart {
+    pub(crate) offset: usize,
+    pub(crate) length: usize,
+    pub(crate) message_type: u16,
+    pub(crate) flags: u16,
+    pub(crate) sequence_number: u32,
+    pub(crate) port_number: u32,
 }
 
 #[repr(C)]
-#[derive(Clone, Copy, Default)]
-pub(crate) struct Memory {
-    receive_queue: Number,
-    receive_queue_max: Number,
-    bottom_send_queues: Number,
-    send_queue_max: Number,
-    cache: Number,
-    send_queue: Number,
-    options: Number,
-    backlog_queue_length: Number,
-    drops: Number,
-}
-
-impl Memory {
-    /// Returns the memory, or `None` if the reply does not contain it.
-    pub(crate) fn get(self) -> Option<MemInfo> {
-        Some(MemInfo {
-            receive_queue: self.receive_queue.get()?,
-            receive_queue_max: self.receive_queue_max.get()?,
-            bottom_send_queues: self.bottom_send_queues.get()?,
-            send_queue_max: self.send_queue_max.get()?,
-            cache: self.cache.get()?,
-            send_queue: self.send_queue.get()?,
-            options: self.options.get()?,
-            backlog_queue_length: self.backlog_queue_length.get(),
-            drops: self.drops.get(),
-        })
-    }
-}
-
-#[repr(C)]
-#[derive(Clone, Copy, Default)]
-pub(crate) struct NetlinkDetails<'a> {
-    pub(crate) header: NetlinkResponseHeader,
-    pub(crate) memory: Memory,
-    pub(crate) groups: Bytes<'a>,
-    pub(crate) flags: Number,
-}
-
-#[repr(C)]
-#[derive(Clone, Copy, Default)]
-pub(crate) struct PacketDetails<'a> {
-    pub(crate) header: PacketResponseHeader,
-    pub(crate) has_info: u32,
-    pub(crate) info: PacketInfo,
-    pub(crate) addresses: Bytes<'a>,
-    pub(crate) has_receive_ring: u32,
-    pub(crate) receive_ring: PacketRing,
-    pub(crate) has_send_ring: u32,
-    pub(crate) send_ring: PacketRing,
-    pub(crate) fanout: Number,
-    pub(crate) owner: Number,
-    pub(crate) memory: Memory,
-    pub(crate) filter: Bytes<'a>,
-}
-
-#[repr(C)]
-#[derive(Clone, Copy, Default)]
+#[derive(Clone, Copy, Debug, Default, PartialEq, Eq)]
 pub(crate) struct XdpDetails {
     pub(crate) header: XdpResponseHeader,
     pub(crate) has_info: u32,
@@ -214,174 +245,407 @@ pub(crate) struct XdpDetails {
     pub(crate) statistics: XdpStatistics,
 }
 
+/// The header of a reply about a netlink socket: `struct netlink_diag_msg` of
+/// `linux/netlink_diag.h`.
 #[repr(C)]
-#[derive(Clone, Copy, Default)]
-pub(crate) struct Message {
-    pub(crate) offset: usize,
-    pub(crate) length: usize,
-    pub(crate) message_type: u16,
-    pub(crate) flags: u16,
-    pub(crate) sequence_number: u32,
-    pub(crate) port_number: u32,
+#[derive(Clone, Copy, Debug, Default, PartialEq, Eq)]
+pub struct NetlinkResponseHeader {
+    /// Socket type (`ndiag_type`), SOCK_RAW (3) or SOCK_DGRAM (2), at offset 1.
+    pub kind: u8,
+    /// Protocol (`ndiag_protocol`), `NETLINK_*` of `linux/netlink.h`, at offset 2.
+    pub protocol: u8,
+    /// State (`ndiag_state`), 1 if the socket is connected to another one, at offset 3.
+    pub state: u8,
+    /// Port id of the socket (`ndiag_portid`), at offset 4. The kernel has port id 0.
+    pub port: u32,
+    /// Port id of the socket that this one is connected to (`ndiag_dst_portid`), at offset 8.
+    pub destination_port: u32,
+    /// Number of the multicast group that the socket is connected to (`ndiag_dst_group`), at offset
+    /// 12. It is one group's number, not a mask; 0 means none.
+    pub destination_group: u32,
+    /// Inode number of the socket (`ndiag_ino`), at offset 16.
+    pub inode: u32,
+    /// Cookie that distinguishes sockets with the same inode number (`ndiag_cookie`), at offset 20.
+    pub cookie: u64,
+}
+
+/// Settings of a packet socket: `struct packet_diag_info` of `linux/packet_diag.h`.
+/// `linux/if_packet.h` has the socket options.
+#[repr(C)]
+#[derive(Clone, Copy, Debug, Default, PartialEq, Eq)]
+pub struct PacketInfo {
+    /// Index of the interface that the socket is bound to (`pdi_index`), at offset 0. 0 means all
+    /// interfaces.
+    pub interface: u32,
+    /// Version of the ring's frame format (`pdi_version`), `TPACKET_V*`, at offset 4.
+    pub version: u32,
+    /// Headroom that is reserved in a frame of the ring, in bytes (`pdi_reserve`, option
+    /// `PACKET_RESERVE`), at offset 8.
+    pub reserve: u32,
+    /// Copy threshold (`pdi_copy_thresh`, option `PACKET_COPY_THRESH`), at offset 12. If it is not
+    /// 0, a packet that is longer than a frame of the ring is also copied to the receive queue.
+    pub copy_threshold: u32,
+    /// Type of the timestamps (`pdi_tstamp`, option `PACKET_TIMESTAMP`), at offset 16.
+    pub timestamp: u32,
+    /// Flags (`pdi_flags`), bits `PDI_*`, at offset 20.
+    pub flags: u32,
+}
+
+/// A ring that a packet socket shares with its program: `struct packet_diag_ring` of
+/// `linux/packet_diag.h`.
+#[repr(C)]
+#[derive(Clone, Copy, Debug, Default, PartialEq, Eq)]
+pub struct PacketRing {
+    /// Size of a block in bytes (`pdr_block_size`), at offset 0.
+    pub block_size: u32,
+    /// Number of blocks (`pdr_block_nr`), at offset 4.
+    pub blocks: u32,
+    /// Size of a frame in bytes (`pdr_frame_size`), at offset 8.
+    pub frame_size: u32,
+    /// Number of frames (`pdr_frame_nr`), at offset 12.
+    pub frames: u32,
+    /// Time after which a block that is not full is passed to the program, in milliseconds
+    /// (`pdr_retire_tmo`), at offset 16.
+    pub retire_timeout: u32,
+    /// Size of the program's private area in a block, in bytes (`pdr_sizeof_priv`), at offset 20.
+    pub private_size: u32,
+    /// Features (`pdr_features`), bits `TP_FT_*`, at offset 24.
+    pub features: u32,
+}
+
+/// The header of a reply about a packet socket: `struct packet_diag_msg` of `linux/packet_diag.h`.
+#[repr(C)]
+#[derive(Clone, Copy, Debug, Default, PartialEq, Eq)]
+pub struct PacketResponseHeader {
+    /// Socket type (`pdiag_type`), `SOCK_*`, at offset 1.
+    pub kind: u8,
+    /// Protocol (`pdiag_num`), `ETH_P_*` of `linux/if_ether.h`, at offset 2. It is not in network
+    /// byte order.
+    pub protocol: u16,
+    /// Inode number of the socket (`pdiag_ino`), at offset 4.
+    pub inode: u32,
+    /// Cookie that distinguishes sockets with the same inode number (`pdiag_cookie`), at offset 8.
+    pub cookie: u64,
+}
+
+/// The header of a reply about a vsock socket: `struct vsock_diag_msg` of
+/// `linux/vm_sockets_diag.h`. No attributes follow the header.
+#[repr(C)]
+#[derive(Clone, Copy, Debug, Default, PartialEq, Eq)]
+pub struct VsockResponseHeader {
+    /// Socket type (`vdiag_type`), `SOCK_*`, at offset 1.
+    pub kind: u8,
+    /// State (`vdiag_state`), `TCP_*`, at offset 2.
+    pub state: u8,
+    /// Directions that the socket has shut down (`vdiag_shutdown`), at offset 3: 1 (`RCV_SHUTDOWN`)
+    /// for receiving, 2 (`SEND_SHUTDOWN`) for sending, 3 for both.
+    pub shutdown: u8,
+    /// Context id of the socket (`vdiag_src_cid`), at offset 4. The host has context id 2.
+    pub source_context: u32,
+    /// Port of the socket (`vdiag_src_port`), at offset 8.
+    pub source_port: u32,
+    /// Context id of the peer (`vdiag_dst_cid`), at offset 12.
+    pub destination_context: u32,
+    /// Port of the peer (`vdiag_dst_port`), at offset 16.
+    pub destination_port: u32,
+    /// Inode number of the socket (`vdiag_ino`), at offset 20.
+    pub inode: u32,
+    /// Cookie that distinguishes sockets with the same inode number (`vdiag_cookie`), at offset 24.
+    pub cookie: u64,
+}
+
+/// The interface and the queue that an XDP socket is bound to: `struct xdp_diag_info` of
+/// `linux/xdp_diag.h`.
+#[repr(C)]
+#[derive(Clone, Copy, Debug, Default, PartialEq, Eq)]
+pub struct XdpInfo {
+    /// Index of the interface (`ifindex`), at offset 0.
+    pub interface: u32,
+    /// Index of the interface's queue (`queue_id`), at offset 4.
+    pub queue: u32,
+}
+
+/// The memory that an XDP socket shares with its program (UMEM): `struct xdp_diag_umem` of
+/// `linux/xdp_diag.h`.
+#[repr(C)]
+#[derive(Clone, Copy, Debug, Default, PartialEq, Eq)]
+pub struct XdpUmem {
+    /// Size of the memory in bytes (`size`), at offset 0.
+    pub size: u64,
+    /// Id of the memory (`id`), at offset 8.
+    pub id: u32,
+    /// Number of pages (`num_pages`), at offset 12.
+    pub pages: u32,
+    /// Size of a chunk in bytes (`chunk_size`), at offset 16.
+    pub chunk_size: u32,
+    /// Headroom of a chunk that the program reserves, in bytes (`headroom`), at offset 20.
+    pub headroom: u32,
+    /// Index of the interface that the memory is bound to (`ifindex`), at offset 24.
+    pub interface: u32,
+    /// Index of the interface's queue (`queue_id`), at offset 28.
+    pub queue: u32,
+    /// Flags (`flags`), the bit `XDP_DU_F_ZEROCOPY` (1), at offset 32.
+    pub flags: u32,
+    /// Number of sockets that share the memory (`refs`), at offset 36.
+    pub references: u32,
+}
+
+/// The counters of an XDP socket: `struct xdp_diag_stats` of `linux/xdp_diag.h`.
+#[repr(C)]
+#[derive(Clone, Copy, Debug, Default, PartialEq, Eq)]
+pub struct XdpStatistics {
+    /// Number of received packets that were dropped for reasons other than the following
+    /// (`n_rx_dropped`), at offset 0.
+    pub received_dropped: u64,
+    /// Number of received packets that were dropped because of an invalid descriptor
+    /// (`n_rx_invalid`), at offset 8.
+    pub received_invalid: u64,
+    /// Number of received packets that were dropped because the receive ring was full
+    /// (`n_rx_full`), at offset 16.
+    pub received_full: u64,
+    /// Number of times that a frame was needed and the fill ring was empty (`n_fill_ring_empty`),
+    /// at offset 24.
+    pub fill_ring_empty: u64,
+    /// Number of packets that were not sent because of an invalid descriptor (`n_tx_invalid`), at
+    /// offset 32.
+    pub sent_invalid: u64,
+    /// Number of times that the transmit ring was found empty (`n_tx_ring_empty`), at offset 40.
+    pub send_ring_empty: u64,
+}
+
+/// The header of a reply about an XDP socket: `struct xdp_diag_msg` of `linux/xdp_diag.h`.
+#[repr(C)]
+#[derive(Clone, Copy, Debug, Default, PartialEq, Eq)]
+pub struct XdpResponseHeader {
+    /// Socket type (`xdiag_type`), SOCK_RAW (3), at offset 1.
+    pub kind: u8,
+    /// Inode number of the socket (`xdiag_ino`), at offset 4.
+    pub inode: u32,
+    /// Cookie that distinguishes sockets with the same inode number (`xdiag_cookie`), at offset 8.
+    pub cookie: u64,
+}
+
+/// The state of a TCP connection: `struct tcp_info` of `linux/tcp.h`, without the prefix `tcpi_`.
+#[repr(C)]
+#[derive(Clone, Copy, Debug, Default, PartialEq, Eq)]
+pub struct TcpInfo {
+    /// TCP state (`tcpi_state`), `TCP_ESTABLISHED` to `TCP_CLOSING`, at offset 0.
+    pub state: u8,
+    /// State of congestion control (`tcpi_ca_state`), `TCP_CA_OPEN` to `TCP_CA_LOSS`, at offset 1.
+    pub ca_state: u8,
+    /// Number of times that the retransmission timer has retransmitted the oldest segment
+    /// (`tcpi_retransmits`), at offset 2.
+    pub retransmits: u8,
+    /// Number of unanswered zero-window or keepalive probes (`tcpi_probes`), at offset 3.
+    pub probes: u8,
+    /// Number of times that the timer was doubled, by exponential backoff (`tcpi_backoff`), at
+    /// offset 4.
+    pub backoff: u8,
+    /// Options of the connection (`tcpi_options`), bits `TCPI_OPT_*`, at offset 5.
+    pub options: u8,
+    /// Window scale shifts, at offset 6: `tcpi_snd_wscale` in bits 0 to 3, `tcpi_rcv_wscale` in
+    /// bits 4 to 7.
+    pub wscale: u8,
+    /// Bit fields at offset 7. Bit 0 is set if the sending program limits `delivery_rate`
+    /// (`tcpi_delivery_rate_app_limited`). Bits 1 and 2 are `tcpi_fastopen_client_fail`.
+    pub delivery_rate_app_limited: u8,
+    /// Retransmission timeout in microseconds (`tcpi_rto`), at offset 8.
+    pub rto: u32,
+    /// Timeout of delayed acknowledgements in microseconds (`tcpi_ato`), at offset 12.
+    pub ato: u32,
+    /// Maximum size of sent segments in bytes (`tcpi_snd_mss`), at offset 16.
+    pub snd_mss: u32,
+    /// Estimated maximum size of received segments in bytes (`tcpi_rcv_mss`), at offset 20.
+    pub rcv_mss: u32,
+    /// Number of segments that are sent and not acknowledged (`tcpi_unacked`), at offset 24. For a
+    /// listening socket, the number of pending connections.
+    pub unacked: u32,
+    /// Number of segments that are selectively acknowledged (`tcpi_sacked`), at offset 28. For a
+    /// listening socket, the backlog limit.
+    pub sacked: u32,
+    /// Number of segments that are considered lost (`tcpi_lost`), at offset 32.
+    pub lost: u32,
+    /// Number of retransmitted segments in flight (`tcpi_retrans`), at offset 36.
+    pub retrans: u32,
+    /// Number of segments up to the highest one that is selectively acknowledged (`tcpi_fackets`),
+    /// at offset 40. Newer kernels write 0.
+    pub fackets: u32,
+    /// Time since data was last sent, in milliseconds (`tcpi_last_data_sent`), at offset 44.
+    pub last_data_sent: u32,
+    /// Time since an acknowledgement was last sent (`tcpi_last_ack_sent`), at offset 48. The kernel
+    /// does not record it, and writes 0.
+    pub last_ack_sent: u32,
+    /// Time since data was last received, in milliseconds (`tcpi_last_data_recv`), at offset 52.
+    pub last_data_recv: u32,
+    /// Time since an acknowledgement was last received, in milliseconds (`tcpi_last_ack_recv`), at
+    /// offset 56.
+    pub last_ack_recv: u32,
+    /// Path MTU in bytes (`tcpi_pmtu`), at offset 60.
+    pub pmtu: u32,
+    /// Current limit on the growth of the receive window, in bytes (`tcpi_rcv_ssthresh`), at offset
+    /// 64.
+    pub rcv_ssthresh: u32,
+    /// Smoothed round-trip time in microseconds (`tcpi_rtt`), at offset 68.
+    pub rtt: u32,
+    /// Mean deviation of the round-trip time in microseconds (`tcpi_rttvar`), at offset 72.
+    pub rttvar: u32,
+    /// Slow start threshold in segments (`tcpi_snd_ssthresh`), at offset 76.
+    pub snd_ssthresh: u32,
+    /// Congestion window in segments (`tcpi_snd_cwnd`), at offset 80.
+    pub snd_cwnd: u32,
+    /// Maximum segment size that was advertised to the peer, in bytes (`tcpi_advmss`), at offset
+    /// 84.
+    pub advmss: u32,
+    /// Reordering metric in segments (`tcpi_reordering`), at offset 88: how far segments may be out
+    /// of order before one is considered lost.
+    pub reordering: u32,
+    /// Round-trip time that the receiver estimates, in microseconds (`tcpi_rcv_rtt`), at offset 92.
+    pub rcv_rtt: u32,
+    /// Space that receive buffer auto-tuning provides for, in bytes (`tcpi_rcv_space`), at offset
+    /// 96.
+    pub rcv_space: u32,
+    /// Total number of retransmitted segments (`tcpi_total_retrans`), at offset 100.
+    pub total_retrans: u32,
+    /// Pacing rate in bytes per second (`tcpi_pacing_rate`), at offset 104.
+    pub pacing_rate: u64,
+    /// Limit on the pacing rate in bytes per second (`tcpi_max_pacing_rate`), at offset 112.
+    pub max_pacing_rate: u64,
+    /// Number of acknowledged bytes (`tcpi_bytes_acked`), at offset 120.
+    pub bytes_acked: u64,
+    /// Number of bytes that were received in order (`tcpi_bytes_received`), at offset 128.
+    pub bytes_received: u64,
+    /// Number of sent segments (`tcpi_segs_out`), at offset 136.
+    pub segs_out: u32,
+    /// Number of received segments (`tcpi_segs_in`), at offset 140.
+    pub segs_in: u32,
+    /// Number of bytes in the send queue that are not yet sent (`tcpi_notsent_bytes`), at offset
+    /// 144.
+    pub notsent_bytes: u32,
+    /// Minimum round-trip time in microseconds (`tcpi_min_rtt`), at offset 148.
+    pub min_rtt: u32,
+    /// Number of received segments with data (`tcpi_data_segs_in`), at offset 152.
+    pub data_segs_in: u32,
+    /// Number of sent segments with data (`tcpi_data_segs_out`), at offset 156.
+    pub data_segs_out: u32,
+    /// Most recent rate at which data was delivered to the peer, in bytes per second
+    /// (`tcpi_delivery_rate`), at offset 160.
+    pub delivery_rate: u64,
+    /// Time with data to send, in microseconds (`tcpi_busy_time`), at offset 168.
+    pub busy_time: u64,
+    /// Part of the busy time in which the peer's receive window was the limit, in microseconds
+    /// (`tcpi_rwnd_limited`), at offset 176.
+    pub rwnd_limited: u64,
+    /// Part of the busy time in which the send buffer was the limit, in microseconds
+    /// (`tcpi_sndbuf_limited`), at offset 184.
+    pub sndbuf_limited: u64,
+    /// Number of segments that were delivered to the peer, including retransmitted ones
+    /// (`tcpi_delivered`), at offset 192.
+    pub delivered: u32,
+    /// Number of delivered segments that the peer reported as marked for congestion, by ECN
+    /// (`tcpi_delivered_ce`), at offset 196.
+    pub delivered_ce: u32,
+    /// Number of sent bytes of data, including retransmitted ones (`tcpi_bytes_sent`), at offset
+    /// 200.
+    pub bytes_sent: u64,
+    /// Number of retransmitted bytes of data (`tcpi_bytes_retrans`), at offset 208.
+    pub bytes_retrans: u64,
+    /// Number of segments that the peer reported as received twice, by DSACK (`tcpi_dsack_dups`),
+    /// at offset 216.
+    pub dsack_dups: u32,
+    /// Number of times that reordering was observed (`tcpi_reord_seen`), at offset 220.
+    pub reord_seen: u32,
+    /// Number of segments that were received out of order (`tcpi_rcv_ooopack`), at offset 224.
+    pub rcv_ooopack: u32,
+    /// Receive window that the peer advertises, after scaling, in bytes (`tcpi_snd_wnd`), at offset
+    /// 228.
+    pub snd_wnd: u32,
 }
 
 #[repr(C)]
-#[derive(Clone, Copy, Default)]
-pub(crate) struct AttributePart {
-    pub(crate) offset: usize,
-    pub(crate) length: usize,
-    pub(crate) type_word: u16,
-}
-
-#[repr(C)]
-pub(crate) struct RequestHeader {
-    pub(crate) flags: u16,
-    pub(crate) sequence_number: u32,
-    pub(crate) port_number: u32,
-}
-
-#[repr(C)]
-pub(crate) struct UnixRequest {
-    pub(crate) header: RequestHeader,
-    pub(crate) states: u32,
-    pub(crate) inode: u32,
-    pub(crate) show: u32,
-    pub(crate) cookie: [u8; 8],
-}
-
-#[repr(C)]
-pub(crate) struct InetRequest {
-    pub(crate) header: RequestHeader,
-    pub(crate) family: u8,
-    pub(crate) extensions: u8,
-    pub(crate) protocol: u32,
-    pub(crate) states: u32,
-    pub(crate) source_port: u16,
-    pub(crate) destination_port: u16,
-    pub(crate) source_address: [u8; 16],
-    pub(crate) destination_address: [u8; 16],
-    pub(crate) interface_id: u32,
-    pub(crate) cookie: [u8; 8],
-}
-
-#[repr(C)]
-pub(crate) struct ShowRequest {
-    pub(crate) header: RequestHeader,
-    pub(crate) family: u8,
-    pub(crate) protocol: u8,
-    pub(crate) inode: u32,
-    pub(crate) show: u32,
-    pub(crate) cookie: u64,
-}
-
-#[repr(C)]
-pub(crate) struct VsockRequest {
-    pub(crate) header: RequestHeader,
-    pub(crate) states: u32,
-    pub(crate) cookie: u64,
+#[derive(Clone, Copy, Debug, Default, PartialEq, Eq)]
+pub(crate) struct InetMemory {
+    pub(crate) receive_queue: u32,
+    pub(crate) receive_queue_max: u32,
+    pub(crate) bottom_send_queues: u32,
+    pub(crate) send_queue_max: u32,
+    pub(crate) cache: u32,
+    pub(crate) send_queue: u32,
+    pub(crate) options: u32,
+    pub(crate) backlog_queue_length: u32,
+    pub(crate) drops: u32,
 }
 
 // The sizes that `crates/sockdiag_c/src/layout.rt` proves.
-const _: () = assert!(size_of::<UnixHeader>() == 16 && size_of::<InetHeader>() == 72);
-const _: () = assert!(size_of::<Number>() == 8 && size_of::<Text>() == 24);
-const _: () = assert!(size_of::<UnixDetails>() == 112 && offset_of!(UnixDetails, numbers) == 40);
-const _: () = assert!(size_of::<InetDetails>() == 152 && offset_of!(InetDetails, numbers) == 96);
-const _: () = assert!(size_of::<Message>() == 32 && size_of::<AttributePart>() == 24);
-const _: () = assert!(size_of::<RequestHeader>() == 12 && size_of::<UnixRequest>() == 32);
+const _: () = assert!(size_of::<Number>() == 8);
+const _: () = assert!(size_of::<Text>() == 24);
+const _: () = assert!(size_of::<ShowRequest>() == 32);
+const _: () = assert!(size_of::<VsockRequest>() == 24);
+const _: () = assert!(size_of::<Memory>() == 72);
+const _: () = assert!(size_of::<UnixHeader>() == 16);
+const _: () = assert!(size_of::<InetHeader>() == 72);
+const _: () = assert!(size_of::<Reply>() == 92);
+const _: () = assert!(size_of::<InetDetails>() == 152);
+const _: () = assert!(size_of::<NetlinkDetails>() == 136);
+const _: () = assert!(size_of::<PacketDetails>() == 248);
+const _: () = assert!(size_of::<RequestHeader>() == 12);
+const _: () = assert!(size_of::<UnixRequest>() == 32);
 const _: () = assert!(size_of::<InetRequest>() == 72);
-const _: () = assert!(size_of::<crate::inet::TcpInfo>() == 232);
-const _: () = assert!(size_of::<NetlinkResponseHeader>() == 32 && size_of::<Memory>() == 72);
-const _: () = assert!(size_of::<PacketResponseHeader>() == 16 && size_of::<PacketInfo>() == 24);
-const _: () = assert!(size_of::<PacketRing>() == 28 && size_of::<VsockResponseHeader>() == 32);
-const _: () = assert!(size_of::<XdpResponseHeader>() == 16 && size_of::<XdpInfo>() == 8);
-const _: () = assert!(size_of::<XdpUmem>() == 40 && size_of::<XdpStatistics>() == 48);
-const _: () = assert!(size_of::<NetlinkDetails>() == 136 && size_of::<PacketDetails>() == 248);
+const _: () = assert!(size_of::<Outcome>() == 16);
+const _: () = assert!(size_of::<UnixDetails>() == 112);
+const _: () = assert!(size_of::<Cursor>() == 8);
+const _: () = assert!(size_of::<AttributePart>() == 24);
+const _: () = assert!(size_of::<MessagePart>() == 32);
 const _: () = assert!(size_of::<XdpDetails>() == 240);
-const _: () = assert!(size_of::<ShowRequest>() == 32 && size_of::<VsockRequest>() == 24);
+const _: () = assert!(size_of::<NetlinkResponseHeader>() == 32);
+const _: () = assert!(size_of::<PacketInfo>() == 24);
+const _: () = assert!(size_of::<PacketRing>() == 28);
+const _: () = assert!(size_of::<PacketResponseHeader>() == 16);
+const _: () = assert!(size_of::<VsockResponseHeader>() == 32);
+const _: () = assert!(size_of::<XdpInfo>() == 8);
+const _: () = assert!(size_of::<XdpUmem>() == 40);
+const _: () = assert!(size_of::<XdpStatistics>() == 48);
+const _: () = assert!(size_of::<XdpResponseHeader>() == 16);
+const _: () = assert!(size_of::<TcpInfo>() == 232);
+const _: () = assert!(size_of::<InetMemory>() == 36);
 
 extern "C" {
-    fn sockdiag_unix_get_details(
+    pub(crate) fn sockdiag_check_unix_reply(
         payload: *const u8,
         length: usize,
-        details: *mut UnixDetails,
+        header: *mut UnixHeader,
     ) -> u32;
-    fn sockdiag_inet_get_details(
+    pub(crate) fn sockdiag_check_inet_reply(
         payload: *const u8,
         length: usize,
-        details: *mut InetDetails,
+        header: *mut InetHeader,
     ) -> u32;
-    fn sockdiag_unix_get_pending(
+    pub(crate) fn sockdiag_check_message(
         payload: *const u8,
         length: usize,
-        index: usize,
-        inode: *mut u32,
+        message_type: u16,
+        reply: *mut Reply,
     ) -> u32;
-    fn sockdiag_inet_get_tcp_info(
+    pub(crate) fn sockdiag_unix_get_details<'a>(
         payload: *const u8,
         length: usize,
-        info: *mut crate::inet::TcpInfo,
-    ) -> usize;
-    fn sockdiag_netlink_get_details<'a>(
+        details: *mut UnixDetails<'a>,
+    ) -> u32;
+    pub(crate) fn sockdiag_inet_get_details<'a>(
         payload: *const u8,
         length: usize,
-        details: *mut NetlinkDetails<'a>,
+        details: *mut InetDetails<'a>,
     ) -> u32;
-    fn sockdiag_packet_get_details<'a>(
-        payload: *const u8,
-        length: usize,
-        details: *mut PacketDetails<'a>,
-    ) -> u32;
-    fn sockdiag_vsock_get_details(
-        payload: *const u8,
-        length: usize,
-        details: *mut VsockResponseHeader,
-    ) -> u32;
-    fn sockdiag_xdp_get_details(payload: *const u8, length: usize, details: *mut XdpDetails)
-        -> u32;
-    fn sockdiag_next_attribute(
-        bytes: *const u8,
-        length: usize,
-        cursor: *mut usize,
-        attribute: *mut AttributePart,
-    ) -> u32;
-    fn sockdiag_next_envelope(
-        datagram: *const u8,
-        length: usize,
-        cursor: *mut usize,
-        message: *mut Message,
-    ) -> u32;
-    fn sockdiag_get_error_number(payload: *const u8, length: usize, number: *mut i32) -> u32;
-    fn sockdiag_write_unix_request(
-        request: *const UnixRequest,
-        buffer: *mut u8,
-        length: usize,
-    ) -> usize;
-    fn sockdiag_write_unix_destroy(
-        request: *const UnixRequest,
-        buffer: *mut u8,
-        length: usize,
-    ) -> usize;
-    fn sockdiag_write_inet_request(
-        request: *const InetRequest,
-        buffer: *mut u8,
-        length: usize,
-    ) -> usize;
-    fn sockdiag_write_inet_destroy(
-        request: *const InetRequest,
-        buffer: *mut u8,
-        length: usize,
-    ) -> usize;
-    fn sockdiag_write_show_request(
+    pub(crate) fn sockdiag_write_show_request(
         request: *const ShowRequest,
         buffer: *mut u8,
         length: usize,
     ) -> usize;
-    fn sockdiag_write_vsock_request(
+    pub(crate) fn sockdiag_write_vsock_request(
         request: *const VsockRequest,
         buffer: *mut u8,
         length: usize,
     ) -> usize;
-    fn sockdiag_write_inet_request_with_attributes(
+    pub(crate) fn sockdiag_write_inet_request_with_attributes(
         request: *const InetRequest,
         attributes: *const u8,
         length: usize,
@@ -389,278 +653,97 @@ extern "C" {
         buffer_length: usize,
         outcome: *mut Outcome,
     ) -> usize;
-    fn sockdiag_rewrite_unix_reply(
+    pub(crate) fn sockdiag_netlink_get_details<'a>(
+        payload: *const u8,
+        length: usize,
+        details: *mut NetlinkDetails<'a>,
+    ) -> u32;
+    pub(crate) fn sockdiag_packet_get_details<'a>(
+        payload: *const u8,
+        length: usize,
+        details: *mut PacketDetails<'a>,
+    ) -> u32;
+    pub(crate) fn sockdiag_unix_get_pending(
+        payload: *const u8,
+        length: usize,
+        index: usize,
+        inode: *mut u32,
+    ) -> u32;
+    pub(crate) fn sockdiag_write_unix_request(
+        request: *const UnixRequest,
+        buffer: *mut u8,
+        length: usize,
+    ) -> usize;
+    pub(crate) fn sockdiag_write_unix_destroy(
+        request: *const UnixRequest,
+        buffer: *mut u8,
+        length: usize,
+    ) -> usize;
+    pub(crate) fn sockdiag_write_inet_request(
+        request: *const InetRequest,
+        buffer: *mut u8,
+        length: usize,
+    ) -> usize;
+    pub(crate) fn sockdiag_write_inet_destroy(
+        request: *const InetRequest,
+        buffer: *mut u8,
+        length: usize,
+    ) -> usize;
+    pub(crate) fn sockdiag_rewrite_unix_reply(
         payload: *const u8,
         length: usize,
         buffer: *mut u8,
         buffer_length: usize,
         outcome: *mut Outcome,
     ) -> usize;
-    fn sockdiag_rewrite_inet_reply(
+    pub(crate) fn sockdiag_rewrite_inet_reply(
         payload: *const u8,
         length: usize,
         buffer: *mut u8,
         buffer_length: usize,
         outcome: *mut Outcome,
     ) -> usize;
-}
-
-#[repr(C)]
-#[derive(Clone, Copy, Default)]
-pub(crate) struct Outcome {
-    pub(crate) fault: u32,
-    pub(crate) needed: usize,
-}
-
-/// Returns a text and its kind, or `None` if there is no text. The text is part of the payload of a
-/// details call.
-///
-/// # Safety
-///
-/// There is no text, or it was set by a details call that returned 0, for a payload that is
-/// borrowed for `'a`.
-unsafe fn lent<'a>(text: Text) -> Option<(u32, &'a [u8])> {
-    if text.kind == 0 {
-        return None;
-    }
-    // SAFETY: by the type `Text<'a>` in the contract, the bytes are a part of the payload, and
-    // their number is `length`. The caller borrows the payload for 'a.
-    Some((text.kind, unsafe {
-        core::slice::from_raw_parts(text.bytes, text.length)
-    }))
-}
-
-/// The header, the text with its kind, and the numbers of a reply; or the code of the error.
-type Told<'a, H, N> = Result<(H, Option<(u32, &'a [u8])>, N), u32>;
-
-/// Returns the contents of a reply about a UNIX socket. The text is its name.
-pub(crate) fn unix_details(payload: &[u8]) -> Told<'_, UnixHeader, UnixNumbers> {
-    let mut details = UnixDetails {
-        header: UnixHeader::default(),
-        name: NO_TEXT,
-        numbers: UnixNumbers::default(),
-    };
-    // SAFETY: the pointer and the length are from one slice, and the struct is an initialized
-    // local. The contract of `sockdiag_unix_get_details` requires nothing else. The call writes
-    // only the struct.
-    let fault = unsafe { sockdiag_unix_get_details(payload.as_ptr(), payload.len(), &mut details) };
-    if fault != 0 {
-        return Err(fault);
-    }
-    // SAFETY: `sockdiag_unix_get_details` returned 0 for `payload`.
-    let name = unsafe { lent(details.name) };
-    Ok((details.header, name, details.numbers))
-}
-
-/// Returns the contents of a reply about an internet socket. The text is its congestion control
-/// algorithm.
-pub(crate) fn inet_details(payload: &[u8]) -> Told<'_, InetHeader, InetNumbers> {
-    let mut details = InetDetails {
-        header: InetHeader::default(),
-        congestion: NO_TEXT,
-        numbers: InetNumbers::default(),
-    };
-    // SAFETY: the pointer and the length are from one slice, and the struct is an initialized
-    // local. The contract of `sockdiag_inet_get_details` requires nothing else. The call writes
-    // only the struct.
-    let fault = unsafe { sockdiag_inet_get_details(payload.as_ptr(), payload.len(), &mut details) };
-    if fault != 0 {
-        return Err(fault);
-    }
-    // SAFETY: `sockdiag_inet_get_details` returned 0 for `payload`.
-    let congestion = unsafe { lent(details.congestion) };
-    Ok((details.header, congestion, details.numbers))
-}
-
-/// Returns the contents of a reply by a details call, or the code of the error.
-///
-/// # Safety
-///
-/// `call` is a details call of `sockdiag.h`, and texts in `D` are borrowed as long as the payload.
-unsafe fn ask<D: Default>(
-    payload: &[u8],
-    call: unsafe extern "C" fn(*const u8, usize, *mut D) -> u32,
-) -> Result<D, u32> {
-    let mut details = D::default();
-    // SAFETY: the pointer and the length are from one slice, and the struct is an initialized
-    // local. The contract of a details call requires nothing else. The call writes only the struct.
-    match unsafe { call(payload.as_ptr(), payload.len(), &mut details) } {
-        0 => Ok(details),
-        fault => Err(fault),
-    }
-}
-
-/// Returns the contents of a reply about a netlink socket.
-pub(crate) fn netlink_details(payload: &[u8]) -> Result<NetlinkDetails<'_>, u32> {
-    // SAFETY: `sockdiag_netlink_get_details` is a details call.
-    unsafe { ask(payload, sockdiag_netlink_get_details) }
-}
-
-/// Returns the contents of a reply about a packet socket.
-pub(crate) fn packet_details(payload: &[u8]) -> Result<PacketDetails<'_>, u32> {
-    // SAFETY: `sockdiag_packet_get_details` is a details call.
-    unsafe { ask(payload, sockdiag_packet_get_details) }
-}
-
-/// Returns the contents of a reply about a vsock socket.
-pub(crate) fn vsock_details(payload: &[u8]) -> Result<VsockResponseHeader, u32> {
-    // SAFETY: `sockdiag_vsock_get_details` is a details call.
-    unsafe { ask(payload, sockdiag_vsock_get_details) }
-}
-
-/// Returns the contents of a reply about an XDP socket.
-pub(crate) fn xdp_details(payload: &[u8]) -> Result<XdpDetails, u32> {
-    // SAFETY: `sockdiag_xdp_get_details` is a details call.
-    unsafe { ask(payload, sockdiag_xdp_get_details) }
-}
-
-/// Returns the inode at this index among the connections that wait to be accepted.
-pub(crate) fn pending(payload: &[u8], index: usize) -> Option<u32> {
-    let mut inode = 0;
-    // SAFETY: the pointer and the length are from one slice, and the number is a local. The
-    // contract of `sockdiag_unix_get_pending` requires nothing else, for any index.
-    let answer =
-        unsafe { sockdiag_unix_get_pending(payload.as_ptr(), payload.len(), index, &mut inode) };
-    (answer == 1).then_some(inode)
-}
-
-/// Fills the struct, and returns the length of the value in bytes.
-pub(crate) fn tcp_info(payload: &[u8], info: &mut crate::inet::TcpInfo) -> usize {
-    // SAFETY: the pointer and the length are from one slice. The struct has the 232 bytes that
-    // `sockdiag_inet_get_tcp_info` writes by its contract, and is valid for all bytes.
-    unsafe { sockdiag_inet_get_tcp_info(payload.as_ptr(), payload.len(), info) }
-}
-
-/// Returns the struct that these bytes represent.
-pub(crate) fn tcp_info_in(bytes: &[u8; 232]) -> crate::inet::TcpInfo {
-    // SAFETY: the struct has 232 bytes. It consists of integers without padding, so it is valid for
-    // all bytes. The read needs no alignment.
-    unsafe { core::ptr::read_unaligned(bytes.as_ptr().cast()) }
-}
-
-/// Returns the next attribute and advances `place`, or returns the return value of the call as an
-/// error: 0 at the end, else the code of the error.
-pub(crate) fn next_attribute(bytes: &[u8], place: &mut usize) -> Result<AttributePart, u32> {
-    let mut attribute = AttributePart::default();
-    // SAFETY: the pointer and the length are from one slice. Neither the offset, which is
-    // borrowed mutably, nor the struct, which is a local, overlaps anything else. The contract of
-    // `sockdiag_next_attribute` allows any offset.
-    let answer =
-        unsafe { sockdiag_next_attribute(bytes.as_ptr(), bytes.len(), place, &mut attribute) };
-    if answer == 1 {
-        Ok(attribute)
-    } else {
-        Err(answer)
-    }
-}
-
-/// Returns the next message and advances `place`, or returns the return value of the call as an
-/// error: 0 at the end, else the code of the error.
-pub(crate) fn next_envelope(datagram: &[u8], place: &mut usize) -> Result<Message, u32> {
-    let mut message = Message::default();
-    // SAFETY: the pointer and the length are from one slice. Neither the offset, which is
-    // borrowed mutably, nor the struct, which is a local, overlaps anything else. The contract of
-    // `sockdiag_next_envelope` allows any offset.
-    let answer =
-        unsafe { sockdiag_next_envelope(datagram.as_ptr(), datagram.len(), place, &mut message) };
-    if answer == 1 {
-        Ok(message)
-    } else {
-        Err(answer)
-    }
-}
-
-/// Returns the number that the payload of an error or of the end of a dump begins with.
-pub(crate) fn error_number(payload: &[u8]) -> Option<i32> {
-    let mut number = 0;
-    // SAFETY: the pointer and the length are from one slice, and the number is a local. The
-    // contract of `sockdiag_get_error_number` requires nothing else.
-    let answer = unsafe { sockdiag_get_error_number(payload.as_ptr(), payload.len(), &mut number) };
-    (answer == 1).then_some(number)
-}
-
-/// Writes a request for UNIX sockets, or to close one, and returns its length in bytes.
-pub(crate) fn write_unix(request: &UnixRequest, destroy: bool, buffer: &mut [u8]) -> usize {
-    let call = if destroy {
-        sockdiag_write_unix_destroy
-    } else {
-        sockdiag_write_unix_request
-    };
-    // SAFETY: the pointer and the length are from one slice that is borrowed mutably. The
-    // contracts of `sockdiag_write_unix_request` and `sockdiag_write_unix_destroy` require nothing
-    // else.
-    unsafe { call(request, buffer.as_mut_ptr(), buffer.len()) }
-}
-
-/// Writes a request for internet sockets, or to close them, and returns its length in bytes.
-pub(crate) fn write_inet(request: &InetRequest, destroy: bool, buffer: &mut [u8]) -> usize {
-    let call = if destroy {
-        sockdiag_write_inet_destroy
-    } else {
-        sockdiag_write_inet_request
-    };
-    // SAFETY: the pointer and the length are from one slice that is borrowed mutably. The
-    // contracts of `sockdiag_write_inet_request` and `sockdiag_write_inet_destroy` require nothing
-    // else.
-    unsafe { call(request, buffer.as_mut_ptr(), buffer.len()) }
-}
-
-/// Writes a request for netlink, packet or XDP sockets, and returns its length in bytes.
-pub(crate) fn write_show(request: &ShowRequest, buffer: &mut [u8]) -> usize {
-    // SAFETY: the pointer and the length are from one slice that is borrowed mutably. The
-    // contract of `sockdiag_write_show_request` requires nothing else.
-    unsafe { sockdiag_write_show_request(request, buffer.as_mut_ptr(), buffer.len()) }
-}
-
-/// Writes a request for vsock sockets, and returns its length in bytes.
-pub(crate) fn write_vsock(request: &VsockRequest, buffer: &mut [u8]) -> usize {
-    // SAFETY: the pointer and the length are from one slice that is borrowed mutably. The
-    // contract of `sockdiag_write_vsock_request` requires nothing else.
-    unsafe { sockdiag_write_vsock_request(request, buffer.as_mut_ptr(), buffer.len()) }
-}
-
-/// Writes a request for internet sockets, followed by attributes, and returns the number of bytes
-/// that were written.
-pub(crate) fn write_inet_with_attributes(
-    request: &InetRequest,
-    attributes: &[u8],
-    buffer: &mut [u8],
-) -> (usize, Outcome) {
-    let mut outcome = Outcome::default();
-    // SAFETY: the pointers and the lengths are from two slices, and the buffer is borrowed
-    // mutably. The contract of `sockdiag_write_inet_request_with_attributes` requires nothing else.
-    let written = unsafe {
-        sockdiag_write_inet_request_with_attributes(
-            request,
-            attributes.as_ptr(),
-            attributes.len(),
-            buffer.as_mut_ptr(),
-            buffer.len(),
-            &mut outcome,
-        )
-    };
-    (written, outcome)
-}
-
-/// Writes the canonical form of a reply, and returns the number of bytes that were written.
-pub(crate) fn rewrite(payload: &[u8], is_unix: bool, buffer: &mut [u8]) -> (usize, Outcome) {
-    let mut outcome = Outcome::default();
-    let call = if is_unix {
-        sockdiag_rewrite_unix_reply
-    } else {
-        sockdiag_rewrite_inet_reply
-    };
-    // SAFETY: the pointers and the lengths are from two slices, and the buffer is borrowed
-    // mutably. The contracts of `sockdiag_rewrite_unix_reply` and `sockdiag_rewrite_inet_reply`
-    // require nothing else.
-    let written = unsafe {
-        call(
-            payload.as_ptr(),
-            payload.len(),
-            buffer.as_mut_ptr(),
-            buffer.len(),
-            &mut outcome,
-        )
-    };
-    (written, outcome)
+    pub(crate) fn sockdiag_inet_get_tcp_info(
+        payload: *const u8,
+        length: usize,
+        info: *mut TcpInfo,
+    ) -> usize;
+    pub(crate) fn sockdiag_inet_get_memory(
+        payload: *const u8,
+        length: usize,
+        memory: *mut InetMemory,
+    ) -> usize;
+    pub(crate) fn sockdiag_vsock_get_details(
+        payload: *const u8,
+        length: usize,
+        details: *mut VsockResponseHeader,
+    ) -> u32;
+    pub(crate) fn sockdiag_next_attribute(
+        bytes: *const u8,
+        length: usize,
+        cursor: *mut Cursor,
+        attribute: *mut AttributePart,
+    ) -> u32;
+    pub(crate) fn sockdiag_next_message(
+        datagram: *const u8,
+        length: usize,
+        cursor: *mut Cursor,
+        message: *mut MessagePart,
+    ) -> u32;
+    pub(crate) fn sockdiag_next_envelope(
+        datagram: *const u8,
+        length: usize,
+        cursor: *mut Cursor,
+        message: *mut MessagePart,
+    ) -> u32;
+    pub(crate) fn sockdiag_get_error_number(
+        payload: *const u8,
+        length: usize,
+        number: *mut i32,
+    ) -> u32;
+    pub(crate) fn sockdiag_xdp_get_details(
+        payload: *const u8,
+        length: usize,
+        details: *mut XdpDetails,
+    ) -> u32;
 }

@@ -1,5 +1,6 @@
 //! Requests and replies about UNIX sockets.
 
+use crate::calls;
 use crate::constants::*;
 use crate::dump::NetlinkHeader;
 use crate::sys;
@@ -71,7 +72,7 @@ impl UnixRequest {
             cookie: self.cookie,
         };
         let mut bytes = [0; 40];
-        let len = sys::write_unix(&request, destroy, &mut bytes);
+        let len = calls::write_unix(&request, destroy, &mut bytes);
         debug_assert_eq!(len, 40);
         bytes
     }
@@ -151,8 +152,7 @@ pub struct UnixReply<'a> {
     pub header: UnixResponseHeader,
     /// All decoded attributes, in order.
     pub nlas: Nlas<'a, nlas::Nla<'a>>,
-    name: Option<UnixDiagName<'a>>,
-    numbers: sys::UnixNumbers,
+    details: sys::UnixDetails<'a>,
     payload: &'a [u8],
 }
 
@@ -163,8 +163,8 @@ impl<'a> UnixReply<'a> {
     /// Checks the whole reply, which is the payload of its message, and parses it. Does not
     /// allocate.
     pub fn parse(payload: &'a [u8]) -> Result<Self, DecodeError> {
-        let (header, name, numbers) =
-            sys::unix_details(payload).map_err(DecodeError::from_number)?;
+        let details = calls::unix_details(payload).map_err(DecodeError::from_number)?;
+        let header = details.header;
         Ok(UnixReply {
             header: UnixResponseHeader {
                 kind: header.kind,
@@ -172,19 +172,15 @@ impl<'a> UnixReply<'a> {
                 inode: header.inode,
                 cookie: header.cookie,
             },
-            name: name.map(|(kind, bytes)| match kind {
-                2 => UnixDiagName::Abstract(bytes),
-                _ => UnixDiagName::Pathname(bytes),
-            }),
-            numbers,
-            nlas: Nlas::behind(payload, 16),
+            details,
+            nlas: Nlas::behind(payload, sys::UNIX_ATTRIBUTES),
             payload,
         })
     }
 
     /// Returns an iterator over all attributes, in order.
     pub fn attributes(&self) -> Attributes<'a> {
-        Attributes::behind(self.payload, 16)
+        Attributes::behind(self.payload, sys::UNIX_ATTRIBUTES)
     }
 
     /// Returns an iterator over all decoded attributes, as `nlas.iter()` does.
@@ -194,74 +190,78 @@ impl<'a> UnixReply<'a> {
 
     /// Returns the name that the socket is bound to.
     pub fn name(&self) -> Option<UnixDiagName<'a>> {
-        self.name
+        let name = self.details.name;
+        Some(match (name.kind, name.get()?) {
+            (sys::ABSTRACT, address) => UnixDiagName::Abstract(address),
+            (_, path) => UnixDiagName::Pathname(path),
+        })
     }
 
     /// Returns the file that the socket is bound to.
     pub fn file(&self) -> Option<Vfs> {
         Some(Vfs {
-            inode: self.numbers.file_inode.get()?,
-            device: self.numbers.file_device.get()?,
+            inode: self.details.file_inode.get()?,
+            device: self.details.file_device.get()?,
         })
     }
 
     /// Returns the inode of the peer.
     pub fn peer(&self) -> Option<u32> {
-        self.numbers.peer.get()
+        self.details.peer.get()
     }
 
     /// Returns an iterator over the inodes of the connections that wait to be accepted.
     pub fn pending_connections(&self) -> impl Iterator<Item = u32> + 'a {
         let payload = self.payload;
-        (0..).map_while(move |index| sys::pending(payload, index))
+        (0..).map_while(move |index| calls::pending(payload, index))
     }
 
     /// Returns the directions that are shut down: 1 for receiving, 2 for sending, 3 for both.
     pub fn shutdown_state(&self) -> Option<u8> {
-        self.numbers.shutdown.get().map(|state| state as u8)
+        self.details.shutdown.get().map(|state| state as u8)
     }
 
     /// Returns the number of connections that wait to be accepted on a listening socket.
     pub fn number_of_pending_connection(&self) -> Option<u32> {
-        self.numbers.recv_queue.get().filter(|_| self.listens())
+        self.details.recv_queue.get().filter(|_| self.listens())
     }
 
     /// Returns the maximum number of connections that wait to be accepted on a listening socket.
     pub fn max_number_of_pending_connection(&self) -> Option<u32> {
-        self.numbers.send_queue.get().filter(|_| self.listens())
+        self.details.send_queue.get().filter(|_| self.listens())
     }
 
     /// Returns the number of bytes that have not been read, of a socket that does not listen.
     pub fn receive_queue_size(&self) -> Option<u32> {
-        self.numbers.recv_queue.get().filter(|_| !self.listens())
+        self.details.recv_queue.get().filter(|_| !self.listens())
     }
 
     /// Returns the memory in use by data that was sent and has not been read, in bytes, of a socket
     /// that does not listen.
     pub fn send_queue_size(&self) -> Option<u32> {
-        self.numbers.send_queue.get().filter(|_| !self.listens())
+        self.details.send_queue.get().filter(|_| !self.listens())
     }
 
     /// Returns the size of the receive buffer in bytes.
     pub fn receive_buffer_size(&self) -> Option<u32> {
-        self.numbers.receive_buffer.get()
+        self.details.receive_buffer.get()
     }
 
     /// Returns the size of the send buffer in bytes, which is the limit of a datagram.
     pub fn max_datagram_size(&self) -> Option<u32> {
-        self.numbers.send_buffer.get()
+        self.details.send_buffer.get()
     }
 
     /// Returns the memory of data queued for sending, in bytes. Linux sends 0.
     pub fn memory_used_for_outgoing_data(&self) -> Option<u32> {
-        self.numbers.queued.get()
+        self.details.queued.get()
     }
 
     /// Writes the canonical form of the reply to the start of the buffer, and returns its length in
     /// bytes. If the buffer is shorter, nothing is written. All replies that differ only in ignored
     /// bits have the same canonical form. Returns `None` if the reply cannot be serialized.
     pub fn canonical(&self, buffer: &mut [u8]) -> Option<usize> {
-        let (_, outcome) = sys::rewrite(self.payload, true, buffer);
+        let (_, outcome) = calls::rewrite(self.payload, true, buffer);
         (outcome.needed != 0).then_some(outcome.needed)
     }
 

@@ -1,10 +1,13 @@
 //! Requests and replies about XDP sockets, by `linux/xdp_diag.h`.
 
+use crate::calls;
 use crate::constants::AF_XDP;
 use crate::inet::nlas::MemInfo;
 use crate::show::ShowRequest;
 use crate::sys;
 use crate::{Attributes, DecodeError};
+
+pub use crate::sys::{XdpInfo, XdpResponseHeader, XdpStatistics, XdpUmem};
 
 /// The request for XDP sockets: `struct xdp_diag_req`. `protocol` is 0. `show` has the bits
 /// `XDP_SHOW_..`.
@@ -20,70 +23,6 @@ pub const XDP_SHOW_UMEM: u32 = 0x4;
 pub const XDP_SHOW_MEMINFO: u32 = 0x8;
 /// Requests `XDP_DIAG_STATS`.
 pub const XDP_SHOW_STATS: u32 = 0x10;
-
-/// The header of a reply about an XDP socket: `struct xdp_diag_msg`.
-#[repr(C)]
-#[derive(Clone, Copy, Debug, Default, PartialEq, Eq)]
-pub struct XdpResponseHeader {
-    /// Type of the socket (`xdiag_type`): `SOCK_RAW` (3).
-    pub kind: u8,
-    /// Inode of the socket (`xdiag_ino`).
-    pub inode: u32,
-    /// Cookie that distinguishes sockets with the same inode (`xdiag_cookie`).
-    pub cookie: u64,
-}
-
-/// What an XDP socket is bound to: `struct xdp_diag_info`.
-#[repr(C)]
-#[derive(Clone, Copy, Debug, Default, PartialEq, Eq)]
-pub struct XdpInfo {
-    /// Index of the interface (`ifindex`).
-    pub interface: u32,
-    /// Queue of the interface (`queue_id`).
-    pub queue: u32,
-}
-
-/// Memory that an XDP socket shares with the application (UMEM): `struct xdp_diag_umem`.
-#[repr(C)]
-#[derive(Clone, Copy, Debug, Default, PartialEq, Eq)]
-pub struct XdpUmem {
-    /// Size in bytes (`size`).
-    pub size: u64,
-    /// Id of the memory (`id`).
-    pub id: u32,
-    /// Number of pages (`num_pages`).
-    pub pages: u32,
-    /// Size of a chunk in bytes (`chunk_size`).
-    pub chunk_size: u32,
-    /// Bytes of each chunk that belong to the application (`headroom`).
-    pub headroom: u32,
-    /// Index of the interface that it is bound to (`ifindex`).
-    pub interface: u32,
-    /// Queue of the interface (`queue_id`).
-    pub queue: u32,
-    /// The bit `XDP_DU_F_ZEROCOPY`, 1 (`flags`).
-    pub flags: u32,
-    /// Number of sockets that share it (`refs`).
-    pub references: u32,
-}
-
-/// Counters of an XDP socket: `struct xdp_diag_stats`.
-#[repr(C)]
-#[derive(Clone, Copy, Debug, Default, PartialEq, Eq)]
-pub struct XdpStatistics {
-    /// Packets dropped for reasons other than the next two (`n_rx_dropped`).
-    pub received_dropped: u64,
-    /// Packets with an invalid frame address (`n_rx_invalid`).
-    pub received_invalid: u64,
-    /// Packets dropped because the ring was full (`n_rx_full`).
-    pub received_full: u64,
-    /// Packets for which the fill ring had no frame (`n_fill_ring_empty`).
-    pub fill_ring_empty: u64,
-    /// Invalid addresses of frames to send (`n_tx_invalid`).
-    pub sent_invalid: u64,
-    /// Number of times that the ring had nothing to send (`n_tx_ring_empty`).
-    pub send_ring_empty: u64,
-}
 
 /// The reply about one XDP socket, borrowed from the bytes that were parsed. The value of a ring is
 /// its number of entries.
@@ -119,7 +58,7 @@ impl<'a> XdpReply<'a> {
     /// Checks the whole reply, which is the payload of its message, and parses it. Does not
     /// allocate.
     pub fn parse(payload: &'a [u8]) -> Result<Self, DecodeError> {
-        let told = sys::xdp_details(payload).map_err(DecodeError::from_number)?;
+        let told = calls::xdp_details(payload).map_err(DecodeError::from_number)?;
         Ok(XdpReply {
             header: told.header,
             info: (told.has_info != 0).then_some(told.info),
@@ -137,6 +76,6 @@ impl<'a> XdpReply<'a> {
 
     /// Returns an iterator over all attributes, in order.
     pub fn attributes(&self) -> Attributes<'a> {
-        Attributes::behind(self.payload, 16)
+        Attributes::behind(self.payload, sys::XDP_ATTRIBUTES)
     }
 }

@@ -2,8 +2,8 @@
 
 pub use super::TcpInfo;
 use crate::attribute::{word, Attribute};
+use crate::calls;
 use crate::constants::*;
-use crate::sys;
 
 /// Socket memory in the format of older kernels (`INET_DIAG_MEMINFO`), in bytes.
 #[derive(Clone, Copy, Debug, PartialEq, Eq)]
@@ -92,7 +92,7 @@ impl<'a> Nla<'a> {
                 cache: word(value, 2)?,
                 send_queue: word(value, 3)?,
             }),
-            INET_DIAG_INFO => Nla::TcpInfo(sys::tcp_info_in(value.first_chunk()?)),
+            INET_DIAG_INFO => Nla::TcpInfo(calls::tcp_info_in(value.first_chunk()?)),
             INET_DIAG_CONG => {
                 let text = value.strip_suffix(&[0]).unwrap_or(value);
                 Nla::Congestion(core::str::from_utf8(text).ok()?)

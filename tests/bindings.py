@@ -1,0 +1,99 @@
+#!/usr/bin/env python3
+"""Compiles the C header and rust/sockdiag, and runs their tests if the library is soon built.
+
+- With a C compiler, `$CC` or `cc`, it compiles the header with tests/c_layout.c, which asserts the
+  offset of each field and the size of each struct, tests/c_face.c and examples/list_sockets.c. The
+  example is also compiled as C99 and as C++.
+- If the library takes only seconds to build, because its dependencies are built and its own proof
+  results are present, tests/c_face.sh builds it and runs the calls from C, and tests/rust_face.sh
+  runs the tests of rust/sockdiag. Otherwise rust/sockdiag is only compiled.
+
+It prints which of these parts it skips. tools/bindings writes the header, tests/c_layout.c and the
+declarations of rust/sockdiag.
+"""
+
+import os
+import re
+import shutil
+import subprocess
+import sys
+import tempfile
+from pathlib import Path
+
+TOP = Path(__file__).resolve().parent.parent
+RUST = TOP / "rust" / "sockdiag"
+
+
+def is_soon_built():
+    """Returns whether the library takes only seconds to build here."""
+    # Do not create tests/__pycache__.
+    sys.dont_write_bytecode = True
+    from edits import rt
+
+    crate = next(it for it in rt.rtlib.crates_below(str(TOP)) if it.name == "sockdiag_c")
+    return all(it.is_built() for it in crate.below()) and crate.has_kept()
+
+
+def compile_c(compiler):
+    """Compiles the C files against the header. Returns an exit status."""
+    strict = "-Wall -Wextra -Wpedantic -Werror -fsyntax-only -Iinclude -x".split()
+    # This fails if the compiler does not support C++.
+    plus = [compiler, "-fsyntax-only", "-x", "c++", os.devnull]
+    has_plus = subprocess.run(plus, stderr=subprocess.DEVNULL).returncode == 0
+    for language, standard, file in [
+        ("c", "c11", "tests/c_layout.c"),
+        ("c", "c11", "tests/c_face.c"),
+        ("c", "c99", "examples/list_sockets.c"),
+        ("c++", "c++11", "examples/list_sockets.c"),
+    ]:
+        if language == "c++" and not has_plus:
+            print(f"skipped: the header as C++: {compiler} does not support C++")
+            continue
+        words = [compiler, f"-std={standard}", *strict, language, file]
+        status = subprocess.run(words, cwd=TOP).returncode
+        if status != 0:
+            return status
+    return 0
+
+
+def compile_rust():
+    """Compiles rust/sockdiag with its tests and examples, over an empty library."""
+    with tempfile.TemporaryDirectory() as folder:
+        Path(folder, "libsockdiag.a").write_bytes(b"!<arch>\n")
+        folders = {"SOCKDIAG_LIB_DIR": folder, "CARGO_TARGET_DIR": f"{folder}/target"}
+        words = ["cargo", "check", "--offline", "--quiet", "--examples", "--tests"]
+        return subprocess.run(words, cwd=RUST, env=os.environ | folders).returncode
+
+
+def has_cargo():
+    """Returns whether there is a cargo that is new enough for rust/sockdiag, and a linker `cc`."""
+    least = re.search(r'rust-version = "(\d+)\.(\d+)"', (RUST / "Cargo.toml").read_text())
+    printed = ""
+    if shutil.which("cargo") and shutil.which("cc"):
+        printed = subprocess.run(["cargo", "--version"], stdout=subprocess.PIPE, text=True).stdout
+    version = re.match(r"cargo (\d+)\.(\d+)", printed)
+    if not version or tuple(map(int, version.groups())) < tuple(map(int, least.groups())):
+        print("skipped: rust/sockdiag: no cargo that is new enough, or no cc")
+        return False
+    return True
+
+
+def main():
+    compiler = os.environ.get("CC", "cc")
+    if not shutil.which(compiler):
+        print(f"skipped: the bindings: no C compiler {compiler}")
+        return 0
+    status = compile_c(compiler)
+    if status != 0:
+        return status
+    if not is_soon_built():
+        print("skipped: running the calls from C; tests/c_face.sh runs them")
+        return compile_rust() if has_cargo() else 0
+    status = subprocess.run([TOP / "tests" / "c_face.sh"]).returncode
+    if status == 0 and has_cargo():
+        status = subprocess.run([TOP / "tests" / "rust_face.sh"]).returncode
+    return status
+
+
+if __name__ == "__main__":
+    sys.exit(main())

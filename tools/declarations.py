@@ -1,0 +1,236 @@
+"""The declarations of the C library, as crates/sockdiag_c and the crates below it have them.
+
+tools/bindings writes the header and the Rust declarations from these. Doc comments are copied as
+documentation; no name, number or type is taken from a comment.
+"""
+
+import re
+import sys
+from pathlib import Path
+from typing import NamedTuple
+
+CRATES = Path(__file__).resolve().parent.parent / "crates"
+# Records that C gets as byte arrays: by the length of the array, the struct of the bindings, the
+# record with its fields, and the struct whose comments document the fields.
+RECORDS = {
+    "TCP_INFO_LEN": ("TcpInfo", "inet/tcp_info.rt", "TcpInfo"),
+    "MEM_INFO_LEN": ("InetMemory", "inet/mem_info.rt", "Memory"),
+}
+# Variants of `DecodeError` that no call returns.
+NOT_RETURNED = {"Memory"}
+# The parts of `#[error]` texts that need other words if their values are left out.
+WITHOUT_VALUES = {
+    "{which}: ": "",
+    "{got} bytes, at least {need} needed": "too few bytes",
+    "{got} bytes, {need} needed": "the wrong number of bytes",
+    "value of {got} bytes is": "value length is",
+    "length is {got} but ": "",
+    ": {left} bytes left": "",
+    ": {got} bytes": "",
+    " at {index}": "",
+}
+DOC = r"((?:^ *///[^\n]*\n)*)"
+STRUCT = re.compile(DOC + r"((?:^#\[.*\]\n)*)^pub struct (\w+)(<'a>)? \{\n((?s:.*?))^\}", re.M)
+FIELD = re.compile(DOC + r"^    pub (\w+): (.*),$", re.M)
+FUNCTION = re.compile(
+    DOC + r'((?:^#\[.*\]\n)*)^pub extern "C" fn (\w+)(<\'a>)?\(((?s:.*?))\)(?: -> (\w+))?\s*\n',
+    re.M,
+)
+CONSTANT = re.compile(DOC + r"^pub(?:\(crate\))? const (\w+): (\w+) = (\S+);$", re.M)
+VARIANT = re.compile(DOC + r'^    #\[error\("(.*)"\)\]\s+(\w+)', re.M)
+CODE = re.compile(r"DecodeError::(\w+)(?: \{ \.\. \})? => (\d+),")
+
+
+class Field(NamedTuple):
+    """A field of a struct, or a parameter of a function."""
+
+    name: str
+    kind: str
+    doc: list = []
+
+
+class Struct(NamedTuple):
+    """A struct. It is public if it is one of another crate, which users of both know."""
+
+    name: str
+    lifetime: str
+    fields: list
+    is_public: bool
+    doc: list
+
+
+class Function(NamedTuple):
+    """An exported function."""
+
+    name: str
+    lifetime: str
+    parameters: list
+    answer: str
+    doc: list
+
+
+class Constant(NamedTuple):
+    """A constant, with its value as it is written."""
+
+    name: str
+    kind: str
+    value: str
+    doc: list
+
+
+class DecodeError(NamedTuple):
+    """A decode error, with its code, and its text without values."""
+
+    name: str
+    code: str
+    text: str
+    doc: list
+
+
+def text_of(*paths):
+    return "".join(path.read_text(encoding="utf-8") for path in sorted(paths))
+
+
+def code_of(text):
+    """Returns a Rattle source without its comments."""
+    return re.sub(r"^[ \t]*//.*\n", "", text, flags=re.M)
+
+
+def doc_of(comment):
+    return [line.strip()[4:] for line in comment.splitlines()]
+
+
+def summary(doc):
+    """Returns the first paragraph of a doc comment."""
+    return doc[: doc.index("")] if "" in doc else doc
+
+
+def fields_of(body):
+    """Yields the fields of a struct. A slice is a pointer and a length."""
+    for comment, name, kind in FIELD.findall(body):
+        is_slice = kind == "&'a [u8]"
+        yield Field(name, "&u8" if is_slice else kind, doc_of(comment))
+        if is_slice:
+            yield Field("length", "usize", ["Length in bytes."])
+
+
+def parameters_of(text):
+    """Yields the parameters of a function. The length of the first slice is `length`, the length of
+    a later slice is `NAME_length`."""
+    slices = 0
+    for name, kind in re.findall(r"(\w+): ([^,]+?)(?:,|\s*$)", text):
+        part = re.fullmatch(r"&(?:'a )?(mut )?\[u8\]", kind)
+        array = re.fullmatch(r"&mut \[u8; (\w+)\]", kind)
+        if part:
+            yield Field(name, f"&{part[1] or ''}u8")
+            yield Field(f"{name}_length" if slices else "length", "usize")
+            slices += 1
+        else:
+            yield Field(name, f"&mut {RECORDS[array[1]][0]}" if array else kind)
+
+
+def structs_in(text, is_public):
+    """Yields each struct that has the layout of C."""
+    for comment, attributes, name, lifetime, body in STRUCT.findall(text):
+        if "#[repr(C)]" in attributes:
+            yield Struct(name, lifetime, [*fields_of(body)], is_public, doc_of(comment))
+
+
+def constants_in(text):
+    return {it[1]: Constant(*it[1:], doc_of(it[0])) for it in CONSTANT.findall(text)}
+
+
+def decode_errors():
+    """Yields each decode error that a call returns."""
+    text = text_of(CRATES / "netlink_core/src/fault.rt")
+    codes = dict(CODE.findall(code_of(text)))
+    for comment, shown, name in VARIANT.findall(text):
+        if name not in NOT_RETURNED:
+            doc = summary(doc_of(comment))
+            yield DecodeError(name, codes[name], without_values(shown), doc)
+
+
+def without_values(text):
+    """Returns an `#[error]` text without its values: the parts in WITHOUT_VALUES are replaced, then
+    each placeholder that is left is dropped with the space before it."""
+    for part, other in WITHOUT_VALUES.items():
+        text = text.replace(part, other)
+    return re.sub(r" \{\w+\}", "", text)
+
+
+class Library:
+    """The structs, functions and constants of the library, by their names in Rattle."""
+
+    def __init__(self):
+        own = (CRATES / "sockdiag_c/src").glob("*.rt")
+        text = text_of(*(path for path in own if path.name != "tests.rt"))
+        shared = text_of(*(CRATES / "sock_diag_families/src").rglob("*.rt"))
+        records = CRATES / "sock_diag_records/src"
+        headers = text_of(records / "inet/response.rt", records / "unix/response.rt")
+        self.code = code_of(text)
+        self.structs = {it.name: it for it in structs_in(text, False)}
+        self.structs |= {it.name: it for it in structs_in(shared, True)}
+        for name, path, documented in RECORDS.values():
+            self.structs[name] = self.record(name, path, documented)
+        self.functions = {it[2]: self.function(*it) for it in FUNCTION.findall(text)}
+        self.constants = constants_in(text + shared + headers)
+        for name, struct in self.structs.items():
+            self.check_size(name, self.layout(struct.fields)["the end"])
+
+    def record(self, name, path, documented):
+        """Returns the struct of a record that C gets as a byte array. Each byte of the array belongs
+        to a field, so a field that may be absent is a number here."""
+        text = re.sub(r"Option<(\w+)>", r"\1", text_of(CRATES / "sock_diag_values/src" / path))
+        comment, _, own, _, body = STRUCT.search(text).groups()
+        fields = [*fields_of(body)]
+        if documented != own:
+            docs = {field.name: field.doc for field in self.structs[documented].fields}
+            fields = [field._replace(doc=docs[field.name]) for field in fields]
+        return Struct(name, "", fields, documented == own, doc_of(comment))
+
+    def function(self, comment, attributes, name, lifetime, inside, answer):
+        if "#[unsafe(no_mangle)]" not in attributes:
+            sys.exit(f"{name} is not exported")
+        parameters = [*parameters_of(inside)]
+        for kind in [*(it.kind for it in parameters), *([answer] if answer else [])]:
+            self.size_and_align(re.sub(r"^&(mut )?", "", kind))
+        return Function(name, lifetime, parameters, answer, doc_of(comment))
+
+    def number(self, name):
+        """Returns the value of a constant, or the number of bytes that a function writes, or the
+        largest number that it returns, by its contract."""
+        if name in self.constants:
+            return self.constants[name].value
+        header = re.search(rf"\bfn {name}\((?s:.*?)\n\{{\n", self.code)[0]
+        return re.search(r"(?:WritesMessage|result ≤) (\d+)", header)[1]
+
+    def check_size(self, name, size):
+        proved = re.search(rf"prove!\(size_of::<{name}(?:<'static>)?>\(\) == (\d+)\)", self.code)
+        is_array = any(name == record for record, _, _ in RECORDS.values())
+        if not is_array and (not proved or int(proved[1]) != size):
+            sys.exit(f"no constant of layout.rt proves that {name} has {size} bytes")
+
+    def size_and_align(self, kind):
+        """Returns the size and the alignment of a type in bytes, by the C ABI of x86-64."""
+        kind = kind.removesuffix("<'a>")
+        array = re.fullmatch(r"\[(\w+); (\d+)\]", kind)
+        if array:
+            size, align = self.size_and_align(array[1])
+            return size * int(array[2]), align
+        if kind in self.structs:
+            offsets = self.layout(self.structs[kind].fields)
+            return offsets["the end"], offsets["the alignment"]
+        number = re.fullmatch(r"[iu](8|16|32|64)", kind)
+        if not number and kind not in ("usize", "&u8"):
+            sys.exit(f"the bindings have no type for {kind}")
+        size = int(number[1]) // 8 if number else 8
+        return size, size
+
+    def layout(self, fields):
+        """Returns the offset of each field and of the end of a struct, and its alignment."""
+        offsets, at, most = {}, 0, 1
+        for field in fields:
+            size, align = self.size_and_align(field.kind)
+            offsets[field.name] = at = (at + align - 1) // align * align
+            at, most = at + size, max(most, align)
+        return offsets | {"the end": (at + most - 1) // most * most, "the alignment": most}
