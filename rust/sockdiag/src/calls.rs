@@ -151,9 +151,9 @@ pub(crate) fn tcp_info(payload: &[u8], info: &mut TcpInfo) -> usize {
 }
 
 /// Returns the struct that these bytes represent.
-pub(crate) fn tcp_info_in(bytes: &[u8; 232]) -> TcpInfo {
-    // SAFETY: the struct has 232 bytes. It consists of integers without padding, so it is valid for
-    // all bytes. The read needs no alignment.
+pub(crate) fn tcp_info_in(bytes: &[u8; size_of::<TcpInfo>()]) -> TcpInfo {
+    // SAFETY: the array has the size of the struct. The struct consists of integers without
+    // padding, so it is valid for all bytes. The read needs no alignment.
     unsafe { core::ptr::read_unaligned(bytes.as_ptr().cast()) }
 }
 

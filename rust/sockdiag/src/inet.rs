@@ -127,16 +127,17 @@ pub struct InetRequest {
 /// above 255.
 #[derive(Clone, Copy, Debug, PartialEq, Eq)]
 pub struct RequestBytes {
-    bytes: [u8; 80],
+    bytes: [u8; sys::INET_REQUEST_LENGTH],
     len: usize,
 }
 
 impl RequestBytes {
     /// Returns the bytes of a request for UNIX sockets.
     pub(crate) fn of_unix(message: [u8; 40]) -> Self {
-        let mut bytes = [0; 80];
-        bytes[..40].copy_from_slice(&message);
-        RequestBytes { bytes, len: 40 }
+        let mut bytes = [0; sys::INET_REQUEST_LENGTH];
+        let len = message.len();
+        bytes[..len].copy_from_slice(&message);
+        RequestBytes { bytes, len }
     }
 }
 
@@ -240,7 +241,7 @@ impl InetRequest {
     }
 
     fn message(&self, header: &NetlinkHeader, destroy: bool) -> RequestBytes {
-        let mut bytes = [0; 80];
+        let mut bytes = [0; sys::INET_REQUEST_LENGTH];
         let len = calls::write_inet(&self.told(header), destroy, &mut bytes);
         RequestBytes { bytes, len }
     }

@@ -8,20 +8,11 @@ use crate::sys;
 use crate::{Attributes, DecodeError};
 
 pub use crate::sys::NetlinkResponseHeader;
+pub use crate::sys::{NDIAG_PROTO_ALL, NDIAG_SHOW_FLAGS, NDIAG_SHOW_GROUPS, NDIAG_SHOW_MEMINFO};
 
 /// The request for netlink sockets: `struct netlink_diag_req`. `protocol` is one of
 /// `linux/netlink.h`, or [`NDIAG_PROTO_ALL`]. `show` has the bits `NDIAG_SHOW_..`.
 pub type NetlinkRequest = ShowRequest<AF_NETLINK>;
-
-/// Requests sockets of all protocols.
-pub const NDIAG_PROTO_ALL: u8 = 255;
-
-/// Requests `NETLINK_DIAG_MEMINFO`.
-pub const NDIAG_SHOW_MEMINFO: u32 = 0x1;
-/// Requests `NETLINK_DIAG_GROUPS`.
-pub const NDIAG_SHOW_GROUPS: u32 = 0x2;
-/// Requests `NETLINK_DIAG_FLAGS`.
-pub const NDIAG_SHOW_FLAGS: u32 = 0x8;
 
 /// The reply about one netlink socket, borrowed from the bytes that were parsed.
 #[derive(Clone, Copy, Debug, PartialEq, Eq)]

@@ -8,23 +8,14 @@ use crate::sys;
 use crate::{Attributes, DecodeError};
 
 pub use crate::sys::{PacketInfo, PacketResponseHeader, PacketRing};
+pub use crate::sys::{
+    PACKET_SHOW_FANOUT, PACKET_SHOW_FILTER, PACKET_SHOW_INFO, PACKET_SHOW_MCLIST,
+    PACKET_SHOW_MEMINFO, PACKET_SHOW_RING_CFG,
+};
 
 /// The request for packet sockets: `struct packet_diag_req`. `protocol` is 0. `show` has the bits
 /// `PACKET_SHOW_..`.
 pub type PacketRequest = ShowRequest<AF_PACKET>;
-
-/// Requests `PACKET_DIAG_INFO` and `PACKET_DIAG_UID`.
-pub const PACKET_SHOW_INFO: u32 = 0x1;
-/// Requests `PACKET_DIAG_MCLIST`.
-pub const PACKET_SHOW_MCLIST: u32 = 0x2;
-/// Requests `PACKET_DIAG_RX_RING` and `PACKET_DIAG_TX_RING`.
-pub const PACKET_SHOW_RING_CFG: u32 = 0x4;
-/// Requests `PACKET_DIAG_FANOUT`.
-pub const PACKET_SHOW_FANOUT: u32 = 0x8;
-/// Requests `PACKET_DIAG_MEMINFO`.
-pub const PACKET_SHOW_MEMINFO: u32 = 0x10;
-/// Requests `PACKET_DIAG_FILTER`.
-pub const PACKET_SHOW_FILTER: u32 = 0x20;
 
 /// The reply about one packet socket, borrowed from the bytes that were parsed.
 #[derive(Clone, Copy, Debug, PartialEq, Eq)]

@@ -48,9 +48,9 @@ impl<const FAMILY: u8> ShowRequest<FAMILY> {
             show: self.show,
             cookie: self.cookie,
         };
-        let mut bytes = [0; 36];
+        let mut bytes = [0; sys::SHOW_REQUEST_LENGTH];
         let len = calls::write_show(&request, &mut bytes);
-        debug_assert_eq!(len, 36);
+        debug_assert_eq!(len, bytes.len());
         bytes
     }
 }

@@ -1,7 +1,8 @@
 //! The structs and functions of the C library, which `sockdiag.h` documents.
 //!
 //! The public structs are records of the kernel that users get unchanged. The modules of the
-//! families re-export them. `calls` has a safe function for each function that this crate calls.
+//! families re-export them, and the public constants. `calls` has a safe function for each function
+//! that this crate calls.
 //
 // tools/bindings writes this file from the source of the C library.
 #![allow(dead_code)] // Everything that the library has is declared.
@@ -18,6 +19,57 @@ pub(crate) const NETLINK_ATTRIBUTES: usize = 28;
 pub(crate) const PACKET_ATTRIBUTES: usize = 16;
 pub(crate) const VSOCK_ATTRIBUTES: usize = 32;
 pub(crate) const XDP_ATTRIBUTES: usize = 16;
+
+// Lengths of requests in bytes. `INET_REQUEST_LENGTH` is a maximum.
+pub(crate) const UNIX_REQUEST_LENGTH: usize = 40;
+pub(crate) const INET_REQUEST_LENGTH: usize = 80;
+pub(crate) const SHOW_REQUEST_LENGTH: usize = 36;
+pub(crate) const VSOCK_REQUEST_LENGTH: usize = 40;
+
+/// Requests sockets of all protocols.
+pub const NDIAG_PROTO_ALL: u8 = 255;
+
+/// Requests `NETLINK_DIAG_MEMINFO`.
+pub const NDIAG_SHOW_MEMINFO: u32 = 0x1;
+
+/// Requests `NETLINK_DIAG_GROUPS`.
+pub const NDIAG_SHOW_GROUPS: u32 = 0x2;
+
+/// Requests `NETLINK_DIAG_FLAGS`.
+pub const NDIAG_SHOW_FLAGS: u32 = 0x8;
+
+/// Requests `PACKET_DIAG_INFO` and `PACKET_DIAG_UID`.
+pub const PACKET_SHOW_INFO: u32 = 0x1;
+
+/// Requests `PACKET_DIAG_MCLIST`.
+pub const PACKET_SHOW_MCLIST: u32 = 0x2;
+
+/// Requests `PACKET_DIAG_RX_RING` and `PACKET_DIAG_TX_RING`.
+pub const PACKET_SHOW_RING_CFG: u32 = 0x4;
+
+/// Requests `PACKET_DIAG_FANOUT`.
+pub const PACKET_SHOW_FANOUT: u32 = 0x8;
+
+/// Requests `PACKET_DIAG_MEMINFO`.
+pub const PACKET_SHOW_MEMINFO: u32 = 0x10;
+
+/// Requests `PACKET_DIAG_FILTER`.
+pub const PACKET_SHOW_FILTER: u32 = 0x20;
+
+/// Requests `XDP_DIAG_INFO` and `XDP_DIAG_UID`.
+pub const XDP_SHOW_INFO: u32 = 0x1;
+
+/// Requests `XDP_DIAG_RX_RING` and `XDP_DIAG_TX_RING`.
+pub const XDP_SHOW_RING_CFG: u32 = 0x2;
+
+/// Requests `XDP_DIAG_UMEM`, `XDP_DIAG_UMEM_FILL_RING` and `XDP_DIAG_UMEM_COMPLETION_RING`.
+pub const XDP_SHOW_UMEM: u32 = 0x4;
+
+/// Requests `XDP_DIAG_MEMINFO`.
+pub const XDP_SHOW_MEMINFO: u32 = 0x8;
+
+/// Requests `XDP_DIAG_STATS`.
+pub const XDP_SHOW_STATS: u32 = 0x10;
 
 #[repr(C)]
 #[derive(Clone, Copy, Debug, Default, PartialEq, Eq)]

@@ -71,9 +71,9 @@ impl UnixRequest {
             show: self.show_flags.bits(),
             cookie: self.cookie,
         };
-        let mut bytes = [0; 40];
+        let mut bytes = [0; sys::UNIX_REQUEST_LENGTH];
         let len = calls::write_unix(&request, destroy, &mut bytes);
-        debug_assert_eq!(len, 40);
+        debug_assert_eq!(len, bytes.len());
         bytes
     }
 }

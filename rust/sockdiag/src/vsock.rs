@@ -27,9 +27,9 @@ impl VsockRequest {
             states: self.states,
             cookie: self.cookie,
         };
-        let mut bytes = [0; 40];
+        let mut bytes = [0; sys::VSOCK_REQUEST_LENGTH];
         let len = calls::write_vsock(&request, &mut bytes);
-        debug_assert_eq!(len, 40);
+        debug_assert_eq!(len, bytes.len());
         bytes
     }
 }

@@ -8,21 +8,13 @@ use crate::sys;
 use crate::{Attributes, DecodeError};
 
 pub use crate::sys::{XdpInfo, XdpResponseHeader, XdpStatistics, XdpUmem};
+pub use crate::sys::{
+    XDP_SHOW_INFO, XDP_SHOW_MEMINFO, XDP_SHOW_RING_CFG, XDP_SHOW_STATS, XDP_SHOW_UMEM,
+};
 
 /// The request for XDP sockets: `struct xdp_diag_req`. `protocol` is 0. `show` has the bits
 /// `XDP_SHOW_..`.
 pub type XdpRequest = ShowRequest<AF_XDP>;
-
-/// Requests `XDP_DIAG_INFO` and `XDP_DIAG_UID`.
-pub const XDP_SHOW_INFO: u32 = 0x1;
-/// Requests `XDP_DIAG_RX_RING` and `XDP_DIAG_TX_RING`.
-pub const XDP_SHOW_RING_CFG: u32 = 0x2;
-/// Requests `XDP_DIAG_UMEM`, `XDP_DIAG_UMEM_FILL_RING` and `XDP_DIAG_UMEM_COMPLETION_RING`.
-pub const XDP_SHOW_UMEM: u32 = 0x4;
-/// Requests `XDP_DIAG_MEMINFO`.
-pub const XDP_SHOW_MEMINFO: u32 = 0x8;
-/// Requests `XDP_DIAG_STATS`.
-pub const XDP_SHOW_STATS: u32 = 0x10;
 
 /// The reply about one XDP socket, borrowed from the bytes that were parsed. The value of a ring is
 /// its number of entries.
