@@ -38,6 +38,7 @@ FUNCTION = re.compile(
 )
 CONSTANT = re.compile(DOC + r"^pub(?:\(crate\))? const (\w+): (\w+) = (\S+);$", re.M)
 VARIANT = re.compile(DOC + r'^    #\[error\("(.*)"\)\]\s+(\w+)', re.M)
+SIZE = re.compile(r"prove!\(size_of::<(\w+)(?:<'static>)?>\(\) == (\d+)\)")
 CODE = re.compile(r"DecodeError::(\w+)(?: \{ \.\. \})? => (\d+),")
 
 
@@ -170,17 +171,21 @@ class Library:
         self.code = code_of(text)
         self.structs = {it.name: it for it in structs_in(text, False)}
         self.structs |= {it.name: it for it in structs_in(shared, True)}
-        for name, path, documented in RECORDS.values():
-            self.structs[name] = self.record(name, path, documented)
+        self.sizes = dict(SIZE.findall(self.code))
+        for length, (name, path, documented) in RECORDS.items():
+            self.structs[name] = self.record(length, name, path, documented)
         self.functions = {it[2]: self.function(*it) for it in FUNCTION.findall(text)}
         self.constants = constants_in(text + shared + headers)
         for name, struct in self.structs.items():
-            self.check_size(name, self.layout(struct.fields)["the end"])
+            size = self.layout(struct.fields)["the end"]
+            if self.sizes.get(name) != str(size):
+                sys.exit(f"the source does not state that {name} has {size} bytes")
 
-    def record(self, name, path, documented):
+    def record(self, length, name, path, documented):
         """Returns the struct of a record that C gets as a byte array. Each byte of the array belongs
         to a field, so a field that may be absent is a number here."""
         text = re.sub(r"Option<(\w+)>", r"\1", text_of(CRATES / "sock_diag_values/src" / path))
+        self.sizes[name] = constants_in(text)[length].value
         comment, _, own, _, body = STRUCT.search(text).groups()
         fields = [*fields_of(body)]
         if documented != own:
@@ -201,14 +206,9 @@ class Library:
         largest number that it returns, by its contract."""
         if name in self.constants:
             return self.constants[name].value
-        header = re.search(rf"\bfn {name}\((?s:.*?)\n\{{\n", self.code)[0]
-        return re.search(r"(?:WritesMessage|result ≤) (\d+)", header)[1]
-
-    def check_size(self, name, size):
-        proved = re.search(rf"prove!\(size_of::<{name}(?:<'static>)?>\(\) == (\d+)\)", self.code)
-        is_array = any(name == record for record, _, _ in RECORDS.values())
-        if not is_array and (not proved or int(proved[1]) != size):
-            sys.exit(f"no constant of layout.rt proves that {name} has {size} bytes")
+        header = re.search(rf"\bfn {name}\((?s:.*?)\n\{{\n", self.code)
+        found = header and re.search(r"(?:WritesMessage|result ≤) (\d+)", header[0])
+        return found[1] if found else sys.exit(f"the source has no number for {name}")
 
     def size_and_align(self, kind):
         """Returns the size and the alignment of a type in bytes, by the C ABI of x86-64."""
