@@ -11,7 +11,7 @@ push_accepted-requires g c =
     c.loop-item.invariant.clean
     start in
     let room = rw first.2 at c.loop-item.invariant.room in
-    (search rules, (rw first.1 refl, omega arith))
+    (search rules, (simp first.1 cc, omega arith))
 
 pub returns-in_err-push_accepted-clause-spare : goal.returns-in_err-push_accepted-clause-spare
 returns-in_err-push_accepted-clause-spare g c = λ few each.
