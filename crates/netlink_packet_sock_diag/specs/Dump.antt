@@ -82,7 +82,8 @@ AreCompleteExceptLast (datagram ∷ later) = ((later ≡ []) ⊎ ((messages : Li
 abbrev pub IsCompleteSplit : List (List ℕ) → Type 0
 IsCompleteSplit datagrams = AllByRecursion IsBytes datagrams × AreCompleteExceptLast datagrams
 
--- two ways to split the same bytes into datagrams, each at ends of messages
+-- two ways to split the same bytes into datagrams; in each, every datagram except the last consists
+-- of complete messages with all their padding
 abbrev pub AreSplitsOfSameBytes : List (List ℕ) → List (List ℕ) → Type 0
 AreSplitsOfSameBytes datagrams others = IsCompleteSplit datagrams × IsCompleteSplit others
     × (concat datagrams ≡ concat others)

@@ -1,4 +1,5 @@
--- The model of the readers of dumps: what contracts see of them.
+-- The model of the readers of dumps: what contracts see of them. `I` is the type of what a reader
+-- keeps of each message, and `G` are the ghost members of its `Kept`.
 use Rattle.std.specs.Prelude.{◌≤◌, List, Result, map, vec_capacity, vec_len}
 use Rattle.netlink_core.specs.Faults.{map_ok}
 use Rattle.netlink_core.specs.declared.fault.DecodeError.{DecodeError}
