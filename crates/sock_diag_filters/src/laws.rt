@@ -41,6 +41,9 @@ use std::alloc::AllocError;
 /// `RequestView::parse` does not reject them if the message type is `SOCK_DIAG_BY_FAMILY` or
 /// `SOCK_DESTROY`.
 pub fn written_request_is_read_back()
+    // `request_bytes h request attributes`: the bytes of the message. `ParsesAsRequest message
+    // view`: they parse as this view. `IsParsedRequest h request attributes view`: the view has the
+    // content that was serialized. `IsRejectedRequest message e`: they are rejected with `e`.
     ensures view { (h : NetlinkHeader) (request : InetRequest) (attributes : List RequestAttribute)
         (view : RequestView) → IsRoundTrippingRequest h request attributes
         → ParsesAsRequest (request_bytes h request (map request_attribute attributes)) view
@@ -62,6 +65,9 @@ pub fn written_request_is_read_back()
 ///   in range and in normal form, its lengths fit (`IsRoundTrippingRequest`), and its header has
 ///   the type of a request.
 pub fn any_written_request_is_read_back()
+    // `record_request_bytes family h request attributes`: the bytes of the message: the header, the
+    // record of the family, and the bytes `attributes`. `of_family`: the request that was parsed.
+    // The other definitions are as in `written_request_is_read_back`.
     ensures records { (family : RecordFamily) (h : NetlinkHeader)
         (request : (record_request_codec family).Value) (attributes : List ℕ) (other : AnyRequest)
         → IsCompleteRecordRequest family h request attributes
@@ -90,6 +96,8 @@ pub fn any_written_request_is_read_back()
 /// number of the filter fits its Rust type. For a `Filter` value, `Filter::in_range` proves it.
 #[tactic(auto, using(crate::proofs::Finding::evaluation_is_meaning))]
 pub fn filters_find_what_they_mean()
+    // `meaning met filter`: whether the filter selects a socket, if `met` says which conditions the
+    // socket meets. `code_of c` and `arguments c`: the operation of the condition `c`.
     ensures { (socket : Socket) (filter : Filter) → AreInRange filter
         → meaning (λ c. kernel_evaluates socket (code_of c) (arguments c)) filter
         ≡ meaning (meets socket) filter }
@@ -99,6 +107,8 @@ pub fn filters_find_what_they_mean()
 /// verdict.
 #[tactic(auto, using(crate::proofs::Verdicts::one_verdict))]
 pub fn one_verdict()
+    // `Runs found program verdict`: a run of the program has this verdict: whether the socket is
+    // selected. `found code arguments`: the result of the condition of an operation.
     ensures { (found : ℕ → List ℕ → Bool) (program : List ℕ) (v w : Bool)
         → Runs found program v → Runs found program w → v ≡ w }
 {}
@@ -164,7 +174,8 @@ pub fn equal_any_request_views(v: &AnyRequestView<'_>, w: &AnyRequestView<'_>) -
     v == w
 }
 
-/// States the numeric value of each constant.
+/// States the numeric value of each constant: `PairsAreEqual` states that both numbers of each pair
+/// are equal.
 pub fn filter_constants_have_their_numbers()
     ensures { PairsAreEqual ((MAX_PROGRAM, 65531) ∷ (INET_DIAG_REQ_BYTECODE, 1) ∷
         (INET_DIAG_REQ_PROTOCOL, 3) ∷ (REQUEST_FRONT, 72) ∷ []) }

@@ -39,7 +39,8 @@ pub fn listening_on(
     // There is a program that the kernel accepts, and each run of it has the verdict of the two
     // comparisons, whatever they return (`found`). The message has the type 20
     // (SOCK_DIAG_BY_FAMILY), the flags NLM_F_REQUEST and NLM_F_DUMP, the state LISTEN (bit 10), a
-    // socket id of zeros, and this program.
+    // socket id of zeros, and this program. `request_bytes header request attributes`: the bytes of
+    // the message.
     ensures asked { IfOk result (λ message. (program : List ℕ) × IsAudited program
         × ((found : ℕ → List ℕ → Bool)
         → Runs found program (found 2 (port_bytes first) && found 3 (port_bytes last)))
