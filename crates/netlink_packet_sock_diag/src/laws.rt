@@ -55,6 +55,8 @@ use std::alloc::{AllocError, Global};
 /// The length of a serialized reply, `buffer_len`, is a multiple of 4, for both families, if each
 /// number of the reply fits its field.
 pub fn reply_lengths_are_multiples_of_four()
+    // `response_codec spec`: the codec of the replies of this format. `response_bytes spec v`: the
+    // bytes that the reply `v` serializes to.
     ensures unix { (v : ReplyValue unix_response_spec)
         → (response_codec unix_response_spec).is_in_range v
         → length (response_bytes unix_response_spec v) % 4 ≡ 0 }
@@ -66,7 +68,8 @@ pub fn reply_lengths_are_multiples_of_four()
 /// Given a test for each of the four kinds, which is true if and only if a message has this kind,
 /// exactly one of the four tests is true.
 pub fn one_kind()
-    // `count_by tests kinds`: the number of kinds of the list whose test is true.
+    // `kind_of m`: the kind of the message. `count_by tests kinds`: the number of kinds of the list
+    // whose test is true.
     ensures { (m : Message) (tests : MessageKind → Bool)
         → ((kind : MessageKind) → IsTrue (tests kind) ↔ (kind_of m ≡ kind))
         → count_by tests (inet_request ∷ inet_response ∷ unix_request ∷ unix_response ∷ []) ≡ 1 }
@@ -109,11 +112,12 @@ pub fn readers_take_memory() -> (bool, bool, bool)
 /// `UnknownMessageType(21)`: the request is serialized under the type 21, and messages are parsed
 /// only under the type 20.
 pub fn finalized_destroy_is_refused()
-    // `h`: the header before `finalize`, each number of which fits its field. `finalized_header
-    // bytes type_of message`: the header of the message, with the length of the message and the
-    // type of its payload; `bytes` and `type_of` are those of an inner message. Here the type is
-    // `destroys.type_written m`, which is 21. `written` and `refuses`: the bytes that the message
-    // serializes to are rejected.
+    // `h`: the header before `finalize`, each number of which fits its field
+    // (`FitFields header_fields (header_values h)`). `netlink_message_codec`: the codec of a
+    // netlink header and the payload after it. `finalized_header bytes type_of message`: the header
+    // of the message, with the length of the message and the type of its payload; `bytes` and
+    // `type_of` are those of an inner message. Here the type is `destroys.type_written m`, which is
+    // 21. `written` and `refuses`: the bytes that the message serializes to are rejected.
     ensures { (h : NetlinkHeader) (m : Message) → FitFields header_fields (header_values h)
         → netlink_message_codec.fits (record { header = h; payload = InnerMessage m })
         → netlink_message_codec.refuses
@@ -150,8 +154,8 @@ pub fn finalized_destroy_in_hand_is_refused()
 /// Each input has one netlink message of sock_diag(7) at its start, or one decode error. It does
 /// not have both, and the error is not `Memory`.
 pub fn one_message_or_fault()
-    // `reads b tt v`: the bytes `b` start with the message `v`. `refuses b tt e`: they are rejected
-    // with the error `e`.
+    // `IsBytes b`: each number of the list `b` is below 256. `reads b tt v`: the bytes `b` start
+    // with the message `v`. `refuses b tt e`: they are rejected with the error `e`.
     ensures answered { (b : List ℕ) → IsBytes b
         → ((v : NetlinkMessageModel Message) × netlink_message_codec.reads b tt v)
         ⊎ ((e : DecodeError) × netlink_message_codec.refuses b tt e) }
@@ -256,6 +260,7 @@ pub fn same_items_have_one_dump()
 /// complete messages with all their padding. From any messages before, if the one has a dump with
 /// the messages `after` and the end `end`, the other has it too.
 pub fn split_changes_no_dump()
+    // `AreSplitsOfSameBytes datagrams others`: both are such splits of the same bytes.
     ensures { (datagrams others : List (List ℕ)) → AreSplitsOfSameBytes datagrams others
         → (before after : List Message) (end : Result DumpStatus DecodeError)
         → DumpOfDatagrams (IsItemOf message_codec) before datagrams after end
@@ -275,7 +280,8 @@ pub fn split_changes_no_dump()
 pub fn split_changes_no_feed()
     // `FeedingAllLeadsTo is old datagrams new`: feeding these datagrams in order to a reader with
     // the progress `old` leads to the progress `new`, and no allocation fails. `new_dump`: the
-    // progress of a new reader.
+    // progress of a new reader. `IsCompleteSplit datagrams`: every datagram except the last
+    // consists of complete messages with all their padding. `concat datagrams`: all bytes.
     ensures same { (datagrams others : List (List ℕ)) → AreSplitsOfSameBytes datagrams others
         → (progress other : DumpProgress Message)
         → FeedingAllLeadsTo (IsItemOf message_codec) new_dump datagrams progress
@@ -309,8 +315,9 @@ pub fn same_items_change_no_feed()
 /// - `same`: both readers have the same progress: entries, state, error number, interruption.
 /// - `whole`: feeding all bytes as one datagram leads to this progress, too.
 pub fn split_changes_no_lossy_feed()
-    // As for `split_changes_no_feed`, with the items of a `LossyDump`: `HasLossyEntry
-    // message_codec` relates a message to its item, in which an inner message is an entry.
+    // As for `split_changes_no_feed`, with the items of a `LossyDump`:
+    // `HasLossyEntry message_codec` relates a message to its item, in which an inner message is an
+    // entry.
     ensures same { (datagrams others : List (List ℕ)) → AreSplitsOfSameBytes datagrams others
         → (progress other : DumpProgress (Result Message DecodeError))
         → FeedingAllLeadsTo (HasLossyEntry message_codec) new_dump datagrams progress
@@ -343,9 +350,10 @@ pub fn same_items_change_no_lossy_feed()
 /// it is the error of bytes that are not a message.
 pub fn lossy_dump_keeps_messages()
     // `DumpOfDatagrams is before datagrams after end`: as for `same_items_have_one_dump`; with
-    // `IsItemOf message_codec` it is the dump of a `DumpReader`, and with `HasLossyEntry
-    // message_codec` the dump of a `LossyDump`. `map (λ m. Ok m)`: messages as entries of a
-    // `LossyDump`. `Ok end`: the dump has no error; `end` is its state and error number.
+    // `IsItemOf message_codec` it is the dump of a `DumpReader`, and with
+    // `HasLossyEntry message_codec` the dump of a `LossyDump`. `map (λ m. Ok m)`: messages as
+    // entries of a `LossyDump`. `Ok end`: the dump has no error; `end` is its state and error
+    // number.
     ensures kept { (datagram : List ℕ) (before after : List Message) (end : DumpStatus)
         → DumpOfDatagrams (IsItemOf message_codec) before (datagram ∷ []) after (Ok end)
         → DumpOfDatagrams (HasLossyEntry message_codec) (map (λ (m : Message). Ok m) before)
@@ -363,9 +371,9 @@ pub fn lossy_dump_keeps_messages()
 /// that are not a message, if there are such bytes.
 pub fn whole_views_are_the_datagram()
     // `Drains step walk given`: calling `next` on the iterator `walk` until it returns `None`
-    // yields the list `given`. `unread_views walk`: the bytes that were left to it. `AreItemsOf is
-    // bytes items`: these are the items of the bytes. `map_ok payload_view_model`: the model of a
-    // yielded payload, or its error.
+    // yields the list `given`. `unread_views walk`: the bytes that were left to it.
+    // `AreItemsOf is bytes items`: these are the items of the bytes. `map_ok payload_view_model`:
+    // the model of a yielded payload, or its error.
     ensures { (walk : DumpViews) (given : List (Result PayloadView DecodeError))
         → Drains YieldsPayloadView walk given
         → AreItemsOf (IsItemOf message_codec) (unread_views walk)

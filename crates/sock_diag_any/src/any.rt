@@ -38,8 +38,9 @@ impl<'a> AnySockDiagView<'a> {
     /// fewer bytes than the header has, else the first error of bytes that do not split into
     /// attributes. Otherwise [`SockDiagView::parse`] parses the bytes, and its error is returned.
     pub fn parse(payload: &'a [u8], message_type: u16) -> Result<AnySockDiagView<'a>, DecodeError>
-        // `any_view_model view`: the family and the value of the reply. `ParsesAsAnyMessage b t
-        // message`: the bytes `b` of a message of type `t` parse as this message.
+        // `any_view_model view`: the family and the value of the reply.
+        // `ParsesAsAnyMessage b t message`: the bytes `b` of a message of type `t` parse as this
+        // message.
         ensures value { IfOk result
             (λ view. ParsesAsAnyMessage payload.entry.now message_type (any_view_model view)) }
         // `IsRejectedAsAnyMessage b t e`: the codec of the family of the bytes rejects them with
@@ -87,6 +88,7 @@ impl Emitable for AnySockDiagView<'_> {
     // `any_bytes message`: the bytes that the message serializes to by the codec of its family.
     ghost bytes = { λ v. any_bytes (any_view_model v) };
 
+    // `IsAnyMessageWritable message`: the lengths of the message fit their length fields.
     ghost writable = { λ v. IsAnyMessageWritable (any_view_model v) };
 
     fn is_writable(&self) -> bool {

@@ -37,8 +37,9 @@ impl FamilyHeader for NetlinkResponseHeader {
 pub fn memory(reply: &NetlinkResponseView<'_>) -> Result<Option<MemInfo>, DecodeError>
     // `first_value_of_kind kind attributes`: the value of the first attribute of this kind, or
     // `None`. `parse_if_present parse found`: what `parse` returns for this value, or `Ok None` if
-    // there is none. `(view_model reply.now).nlas`: the attributes of the reply. `parse_record
-    // mem_info tt`: the record of the layout `mem_info` at the start of the value, or its error.
+    // there is none. `(view_model reply.now).nlas`: the attributes of the reply.
+    // `parse_record mem_info tt`: the record of the layout `mem_info` at the start of the value, or
+    // its error.
     ensures { result ≡ parse_if_present (parse_record mem_info tt)
         (first_value_of_kind NETLINK_DIAG_MEMINFO (view_model reply.now).nlas) }
 {

@@ -51,6 +51,7 @@ fn ring(reply: &PacketResponseView<'_>, kind: u16) -> Result<Option<PacketRing>,
 /// Returns the settings of the socket, from the first `PACKET_DIAG_INFO`, or `None` if the reply
 /// has none. A value of fewer than 24 bytes is `BufferTooSmall`.
 pub fn info(reply: &PacketResponseView<'_>) -> Result<Option<PacketInfo>, DecodeError>
+    // `packet_info value`: what `PacketInfo::parse` returns for the value.
     ensures { result ≡ parse_if_present packet_info
         (first_value_of_kind PACKET_DIAG_INFO (view_model reply.now).nlas) }
 {
@@ -74,6 +75,7 @@ pub fn addresses<'a>(reply: &PacketResponseView<'a>) -> Option<&'a [u8]>
 /// Returns the settings of the receive ring, from the first `PACKET_DIAG_RX_RING`, or `None` if the
 /// reply has none. A value of fewer than 28 bytes is `BufferTooSmall`.
 pub fn receive_ring(reply: &PacketResponseView<'_>) -> Result<Option<PacketRing>, DecodeError>
+    // `packet_ring kind value`: what `PacketRing::parse` returns for the value and this kind.
     ensures { result ≡ parse_if_present (packet_ring PACKET_DIAG_RX_RING)
         (first_value_of_kind PACKET_DIAG_RX_RING (view_model reply.now).nlas) }
 {

@@ -37,7 +37,8 @@ impl FamilyHeader for XdpResponseHeader {
 pub fn info(reply: &XdpResponseView<'_>) -> Result<Option<XdpInfo>, DecodeError>
     // `first_value_of_kind kind attributes`: the value of the first attribute of this kind, or
     // `None`. `parse_if_present parse found`: what `parse` returns for this value, or `Ok None` if
-    // there is none. `(view_model reply.now).nlas`: the attributes of the reply.
+    // there is none. `(view_model reply.now).nlas`: the attributes of the reply. `xdp_info value`:
+    // what `XdpInfo::parse` returns for the value.
     ensures { result ≡ parse_if_present xdp_info
         (first_value_of_kind XDP_DIAG_INFO (view_model reply.now).nlas) }
 {
@@ -81,6 +82,7 @@ pub fn send_ring(reply: &XdpResponseView<'_>) -> Result<Option<u32>, DecodeError
 /// Returns the shared memory area of the socket (UMEM), from the first `XDP_DIAG_UMEM`, or `None`
 /// if the reply has none. A value of fewer than 40 bytes is `BufferTooSmall`.
 pub fn shared_memory(reply: &XdpResponseView<'_>) -> Result<Option<XdpUmem>, DecodeError>
+    // `xdp_umem value`: what `XdpUmem::parse` returns for the value.
     ensures { result ≡ parse_if_present xdp_umem
         (first_value_of_kind XDP_DIAG_UMEM (view_model reply.now).nlas) }
 {
@@ -105,6 +107,7 @@ pub fn memory(reply: &XdpResponseView<'_>) -> Result<Option<MemInfo>, DecodeErro
 /// Returns the counters of the socket, from the first `XDP_DIAG_STATS`, or `None` if the reply has
 /// none. A value of fewer than 48 bytes is `BufferTooSmall`.
 pub fn statistics(reply: &XdpResponseView<'_>) -> Result<Option<XdpStatistics>, DecodeError>
+    // `xdp_statistics value`: what `XdpStatistics::parse` returns for the value.
     ensures { result ≡ parse_if_present xdp_statistics
         (first_value_of_kind XDP_DIAG_STATS (view_model reply.now).nlas) }
 {

@@ -55,6 +55,7 @@ impl From<AllocError> for AssembleError {
 pub fn assemble(alloc: Global, filter: &Filter) -> Result<Vec<u8>, AssembleError>
     ensures size { IfOk result (λ program. length program.items ≡ program_size filter.now) }
     ensures short { IfOk result (λ program. length program.items ≤ 65531) }
+    // `IsAudited program`: the kernel accepts the program.
     ensures audited { IfOk result (λ program. IsAudited program.items) }
     // `found code arguments`: any assumed result of the condition of an operation.
     // `Runs found program v`: a run of the program with these results has the verdict `v`.

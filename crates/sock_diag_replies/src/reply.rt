@@ -32,9 +32,10 @@ pub(crate) fn without_memory<T: Drop>(_begun: T) -> DecodeError
 pub fn same_views<'a, V: FamilyView<'a> + Drop>(left: &'a [u8], right: &'a [u8]) -> bool
     requires left { HasNoAttributeError (decode_attribute V.attribute_set) left.now }
     requires right { HasNoAttributeError (decode_attribute V.attribute_set) right.now }
-    // `test` is any function that computes `==` of two views from their models. `decoded_in decode
-    // bytes`: what the attributes in the bytes decode to by `decode`, in order. `pointwise test xs
-    // ys`: the lists have the same length, and `test` is true of the elements at each index.
+    // `test` is any function that computes `==` of two views from their models.
+    // `decoded_in decode bytes`: what the attributes in the bytes decode to by `decode`, in order.
+    // `pointwise test xs ys`: the lists have the same length, and `test` is true of the elements at
+    // each index.
     ensures { (test : AttributeValue V.attribute_set → AttributeValue V.attribute_set → Bool)
         → ((v w : V) → V.PartialEq.eq v w ≡ test (V.model v) (V.model w))
         → result ≡ pointwise test (decoded_in (decode_attribute V.attribute_set) left.entry.now)

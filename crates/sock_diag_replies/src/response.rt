@@ -94,8 +94,9 @@ impl<H: ReplyOwned> Reply<H, H::Nla> {
             ≡ response_model H.header_model H.Nla.FamilyNla.model
             self.now) }
         // `is_spare`: the reply needs no memory, that is, it has at most eight attributes, and none
-        // of them needs memory. `record (H.reply) { .. }`: the format of the replies, with the
-        // attribute set of the owned attributes.
+        // of them needs memory. `response_codec reply`: the codec of the replies of this format.
+        // `record (H.reply) { .. }`: the format of the replies, with the attribute set of the owned
+        // attributes.
         ensures spare { (response_codec
             (record (H.reply) { attribute_set = H.Nla.FamilyNla.attribute_set })).is_spare
             (response_model H.header_model H.Nla.FamilyNla.model self.now)
@@ -170,9 +171,11 @@ impl<H: ReplyOwned> ReplyView<'_, H> {
     /// attribute. Fails only if an allocation fails. Never fails for at most eight attributes that
     /// need no memory.
     pub fn to_owned(&self, alloc: Global) -> Result<Reply<H, H::Nla>, AllocError>
-        // `reply_after reply header bytes`: the reply with this header, the one of the view, and
-        // what the attributes in these bytes, those after the header, decode to. `record (H.reply)
-        // { .. }`: the format of the replies, with the attribute set of the owned attributes.
+        // `reply_after reply header bytes`: the reply with this header and what the attributes in
+        // these bytes decode to. Here they are the header of the view,
+        // `(view_model self.now).header`, and its bytes after the header,
+        // `bytes_after_header self.now`. `record (H.reply) { .. }`: the format of the replies, with
+        // the attribute set of the owned attributes.
         ensures equal { IfOk result (λ reply.
             response_model H.header_model H.Nla.FamilyNla.model reply
             ≡ reply_after (record (H.reply) { attribute_set = H.Nla.FamilyNla.attribute_set })

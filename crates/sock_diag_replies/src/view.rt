@@ -31,8 +31,9 @@ pub trait ReplyHeader: Drop + Sized {
 
     // `reply`: the format of the replies, as the codec of the header, its size, and the set of the
     // attributes after it. `header_model`: the model of a header. `test`: the comparison of two
-    // replies, which is true if and only if they are equal (`compared`, below). `reply.header.reads
-    // tt bytes`: the model of the header at the start of the bytes, or the error that rejects it.
+    // replies, which is true if and only if they are equal (`compared`, below).
+    // `reply.header.reads tt bytes`: the model of the header at the start of the bytes, or the
+    // error that rejects it.
     ghost reply: { ResponseSpec };
 
     ghost header_model: { Self → reply.header.Value };

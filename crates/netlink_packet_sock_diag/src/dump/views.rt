@@ -113,6 +113,7 @@ fn payload_of<'a>(header: &NetlinkHeader, message: &'a [u8]) -> Result<PayloadVi
     requires header { HasHeader message.now header.now }
     requires whole { header.now.length ≡ length message.now }
     // `IsItemOf codec message item`: the item is the payload of the message, or its decode error.
+    // `map_ok payload_view_model result`: the model of the payload, or the error.
     ensures { IsItemOf message_codec message.entry.now (map_ok payload_view_model result) }
 {
     read_payload(header, &message[NETLINK_HEADER_LEN..])
@@ -151,6 +152,8 @@ impl<'a> Iterator for DumpViews<'a> {
 
     type Item = Result<PayloadView<'a>, DecodeError>;
 
+    // `YieldsPayloadView old given new`: one call of `next` on the iterator `old` returns `given`,
+    // and `new` is the iterator after the call.
     ghost next_gives = { YieldsPayloadView };
 
     // At most one item for each 16 bytes, rounded up.
@@ -170,8 +173,9 @@ impl<'a> Iterator for DumpViews<'a> {
     /// Returns `(0, None)`: only iterating shows how many messages are left.
     fn size_hint(&self) -> (usize, Option<usize>)
         // `at_most n`: at most `n` items are left, one for each 16 bytes, rounded up. The first two
-        // clauses are those of the trait: the lower bound is at most this `n` (`IsWithinCount bound
-        // count`), and the upper bound, if there is one, is at least this `n` (`UpTo count bound`).
+        // clauses are those of the trait: the lower bound is at most this `n`
+        // (`IsWithinCount bound count`), and the upper bound, if there is one, is at least this `n`
+        // (`UpTo count bound`).
         ensures lower { IsWithinCount result.0
             (at_most ((length (unread_views self.now) + 15) / 16)) }
         ensures upper { IfSome result.1

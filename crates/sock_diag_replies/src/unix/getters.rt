@@ -24,8 +24,9 @@ impl UnixResponse {
     pub fn peer(&self) -> Option<u32>
         // `value_of_kind set k v`: `Some` of the value if the decoded attribute `v` is of kind `k`,
         // else `None`. `first_content_of content vs`: the first `Some` that `content` returns for
-        // the elements of the list `vs`; `None` if there is none. Here `vs` are the models of the
-        // attributes, in wire order.
+        // the elements of the list `vs`; `None` if there is none. Here `set` is the set of the
+        // attribute types of UNIX sockets, and `vs` are the models of the attributes, in wire
+        // order.
         ensures { result
             ≡ first_content_of (value_of_kind unix_attribute_set UNIX_DIAG_PEER)
             (map unix_nla_model self.now.nlas.items) }
