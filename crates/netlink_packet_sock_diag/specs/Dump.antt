@@ -62,8 +62,9 @@ module _ {A : Type 0} where
       × DumpOfItems before (concatenation items) after end
 
   -- `HaveSameItems is datagrams others`: the items of the datagrams of the one list, concatenated,
-  -- are those of the other list. The bytes may differ where no item depends on them: in sequence
-  -- numbers, in flags, and in the padding after the last message of a datagram.
+  -- are those of the other list. The number of datagrams may differ, and so may bytes that no item
+  -- depends on: sequence numbers, port ids and flags of headers, the padding of messages, the
+  -- payload of NLMSG_NOOP, and ignored bits of inner messages.
   abbrev pub HaveSameItems : (List ℕ → Item A → Type 0) → List (List ℕ) → List (List ℕ) → Type 0
   HaveSameItems is datagrams others = (xs ys : List (List (Item A)))
       × AllZip (AreItemsOf is) datagrams xs × AllZip (AreItemsOf is) others ys
