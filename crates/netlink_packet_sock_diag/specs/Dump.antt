@@ -62,8 +62,9 @@ module _ {A : Type 0} where
       × DumpOfItems before (concatenation items) after end
 
   -- `HaveSameItems is datagrams others`: the items of the datagrams of the one list, concatenated,
-  -- are those of the other list. The bytes may differ where no item depends on them: in sequence
-  -- numbers, in flags, and in the padding after the last message of a datagram.
+  -- are those of the other list. The number of datagrams may differ, and so may bytes that no item
+  -- depends on: sequence numbers, port ids and flags of headers, the padding of messages, the
+  -- payload of NLMSG_NOOP, and ignored bits of inner messages.
   abbrev pub HaveSameItems : (List ℕ → Item A → Type 0) → List (List ℕ) → List (List ℕ) → Type 0
   HaveSameItems is datagrams others = (xs ys : List (List (Item A)))
       × AllZip (AreItemsOf is) datagrams xs × AllZip (AreItemsOf is) others ys
@@ -82,7 +83,8 @@ AreCompleteExceptLast (datagram ∷ later) = ((later ≡ []) ⊎ ((messages : Li
 abbrev pub IsCompleteSplit : List (List ℕ) → Type 0
 IsCompleteSplit datagrams = AllByRecursion IsBytes datagrams × AreCompleteExceptLast datagrams
 
--- two ways to split the same bytes into datagrams, each at ends of messages
+-- two ways to split the same bytes into datagrams; in each, every datagram except the last consists
+-- of complete messages with all their padding
 abbrev pub AreSplitsOfSameBytes : List (List ℕ) → List (List ℕ) → Type 0
 AreSplitsOfSameBytes datagrams others = IsCompleteSplit datagrams × IsCompleteSplit others
     × (concat datagrams ≡ concat others)
