@@ -1,6 +1,6 @@
 #!/usr/bin/env python3
 """Fails, with status 1, if CHANGELOG.md, a program, the C header or the Rust crate has another
-version than VERSION.
+version than VERSION. The number of the version in the header is that of the library's contract.
 
 CHANGELOG.md may begin with a heading [Unreleased], for the changes since that version.
 """
@@ -26,6 +26,11 @@ def text_of(name):
 
 def main():
     version, status = text_of("VERSION").strip(), 0
+    first, second, third = map(int, version.split("."))
+    number = f"#define SOCKDIAG_VERSION_NUMBER {first * 1_000_000 + second * 1_000 + third}"
+    if number not in text_of("include/sockdiag.h").splitlines():
+        print(f"include/sockdiag.h has not the line: {number}")
+        status = 1
     for name, pattern in PATTERNS.items():
         match = re.search(pattern, text_of(name))
         found = match[1] if match else "no version"

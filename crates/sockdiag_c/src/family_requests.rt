@@ -40,6 +40,7 @@ pub struct VsockRequest {
     /// Fields of the netlink header.
     pub header: RequestHeader,
     /// States to include, with the bit `1 << TCP_LISTEN` for `TCP_LISTEN` (`vdiag_states`, at 4).
+    /// `UINT32_MAX` includes all.
     pub states: u32,
     /// Cookie that distinguishes sockets (`vdiag_cookie`, at 16). Linux ignores it.
     pub cookie: u64,

@@ -54,8 +54,9 @@ pub struct PacketDetails<'a> {
 /// of the netlink message. Returns 0, or the code of the first error; then the details are
 /// unchanged. If the reply has several attributes of a kind, the first one counts. The framing of
 /// all attributes is checked before their values, and values are checked in the order of their
-/// kinds. A record that the reply does not contain is unchanged, and its field `has_..` is 0. Texts
-/// point into the payload, and are valid as long as it is.
+/// kinds. A record that the reply does not contain is unchanged, and its field `has_..` is 0: do
+/// not use it. All other fields are set. Texts point into the payload, and are valid as long as it
+/// is.
 #[unsafe(no_mangle)]
 pub extern "C" fn sockdiag_packet_get_details<'a>(
     payload: &'a [u8],
