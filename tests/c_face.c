@@ -1,11 +1,15 @@
 /*
- * Calls the functions of include/sockdiag.h, except sockdiag_next_envelope, with input that they
- * accept, and most of them also with input that they reject. The bytes are worked out by hand from
- * the layouts of sock_diag(7), netlink(7) and the kernel's headers, or were sent by Linux.
- * tests/c_face.sh builds and runs this program.
+ * Calls the functions of include/sockdiag.h with input that they accept, and most of them also with
+ * input that they reject. The bytes are worked out by hand from the layouts of sock_diag(7),
+ * netlink(7) and the kernel's headers, or were sent by Linux. Each field of each struct is compared
+ * with bytes that no other field has. tests/c_face.sh builds and runs this program.
  */
 #include "sockdiag.h"
 
+#include <linux/inet_diag.h>
+#include <linux/netlink.h>
+#include <linux/sock_diag.h>
+#include <linux/unix_diag.h>
 #include <stdio.h>
 #include <string.h>
 
@@ -574,6 +578,408 @@ static void rewrites_inet_reply(void) {
     check(outcome.fault == SOCKDIAG_BUFFER_TOO_SMALL, "the error of a rejected internet reply");
 }
 
+/* Sets each byte to the low byte of its offset, so that fields at different offsets differ. */
+static void number_bytes(uint8_t *bytes, size_t length) {
+    size_t place;
+    for (place = 0; place < length; place++)
+        bytes[place] = (uint8_t)place;
+}
+
+/* Writes the header of an attribute at the end, and moves the end after its value and padding.
+ * Returns the offset of the value, whose bytes are unchanged. */
+static size_t begin(uint8_t *bytes, size_t *end, uint8_t kind, uint8_t length) {
+    const uint8_t header[4] = {(uint8_t)(4 + length), 0, kind, 0};
+    const size_t value = *end + 4;
+    memcpy(bytes + *end, header, 4);
+    *end += (length + 7u) / 4 * 4;
+    return value;
+}
+
+static void check_number(uint64_t found, const uint8_t *bytes, size_t size, const char *what) {
+    uint64_t number = 0;
+    while (size-- > 0)
+        number = number << 8 | bytes[size];
+    check(found == number, what);
+}
+
+/* The field has the little-endian number at these bytes. */
+#define FIELD(field, bytes) check_number(field, bytes, sizeof(field), #field)
+/* The number is present, and is the little-endian one of this size at these bytes. */
+#define TOLD(number, bytes, size) \
+    (check((number).is_told == 1, #number), check_number((number).value, bytes, size, #number))
+/* The text is the one at these bytes. */
+#define TEXT(text, a_kind, at, a_length) \
+    check((text).kind == (a_kind) && (text).bytes == (at) && (text).length == (a_length), #text)
+
+static void reads_each_field_of_unix(void) {
+    uint8_t bytes[128];
+    struct sockdiag_unix_details it;
+    size_t end = SOCKDIAG_UNIX_ATTRIBUTES, name, file, peer, queues, memory, shutdown;
+    memset(&it, 0xaa, sizeof it);
+    number_bytes(bytes, sizeof bytes);
+    name = begin(bytes, &end, SOCKDIAG_UNIX_DIAG_NAME, 4);
+    bytes[name] = 0;
+    file = begin(bytes, &end, SOCKDIAG_UNIX_DIAG_VFS, 8);
+    peer = begin(bytes, &end, SOCKDIAG_UNIX_DIAG_PEER, 4);
+    queues = begin(bytes, &end, SOCKDIAG_UNIX_DIAG_RQLEN, 8);
+    memory = begin(bytes, &end, SOCKDIAG_UNIX_DIAG_MEMINFO, 36);
+    shutdown = begin(bytes, &end, SOCKDIAG_UNIX_DIAG_SHUTDOWN, 1);
+    check(sockdiag_unix_get_details(bytes, end, &it) == SOCKDIAG_OK, "all fields of a UNIX reply");
+    FIELD(it.header.kind, bytes + 1);
+    FIELD(it.header.state, bytes + 2);
+    FIELD(it.header.inode, bytes + 4);
+    check(memcmp(it.header.cookie, bytes + 8, 8) == 0, "it.header.cookie");
+    TEXT(it.name, SOCKDIAG_ABSTRACT, bytes + name + 1, 3);
+    TOLD(it.file_inode, bytes + file, 4);
+    TOLD(it.file_device, bytes + file + 4, 4);
+    TOLD(it.peer, bytes + peer, 4);
+    TOLD(it.recv_queue, bytes + queues, 4);
+    TOLD(it.send_queue, bytes + queues + 4, 4);
+    TOLD(it.receive_buffer, bytes + memory + 4, 4);
+    TOLD(it.send_buffer, bytes + memory + 12, 4);
+    TOLD(it.queued, bytes + memory + 20, 4);
+    TOLD(it.shutdown, bytes + shutdown, 1);
+}
+
+/* Checks a header with the bytes 10, 11, timer, 3, 4, 5, .. */
+static void check_inet_header(const struct sockdiag_inet_header *it, const uint8_t *bytes) {
+    FIELD(it->family, bytes);
+    FIELD(it->state, bytes + 1);
+    FIELD(it->timer, bytes + 2);
+    check(it->source_port == 0x0405 && it->destination_port == 0x0607, "the ports of a header");
+    check(memcmp(it->source_address, bytes + 8, 16) == 0, "it->source_address");
+    check(memcmp(it->destination_address, bytes + 24, 16) == 0, "it->destination_address");
+    FIELD(it->interface_id, bytes + 40);
+    check(memcmp(it->cookie, bytes + 44, 8) == 0, "it->cookie");
+    FIELD(it->recv_queue, bytes + 56);
+    FIELD(it->send_queue, bytes + 60);
+    FIELD(it->uid, bytes + 64);
+    FIELD(it->inode, bytes + 68);
+}
+
+/* By timer: whether a header has the retransmissions and the time. */
+static void reads_each_field_of_inet_headers(void) {
+    static const int retransmits[6] = {0, 1, 0, 0, 0, 0}, expires[6] = {0, 1, 1, 0, 1, 0};
+    uint8_t bytes[SOCKDIAG_INET_ATTRIBUTES];
+    struct sockdiag_inet_header it;
+    uint8_t timer;
+    for (timer = 0; timer < 6; timer++) {
+        number_bytes(bytes, sizeof bytes);
+        bytes[0] = 10;
+        bytes[1] = 11;
+        bytes[2] = timer;
+        memset(&it, 0xaa, sizeof it);
+        check(sockdiag_check_inet_reply(bytes, sizeof bytes, &it) == SOCKDIAG_OK, "a timer");
+        check_number(it.retransmits, bytes + 3, retransmits[timer], "it.retransmits");
+        check_number(it.expires, bytes + 52, expires[timer] ? 4 : 0, "it.expires");
+        bytes[2] = timer < 5 ? timer : 0;
+        check_inet_header(&it, bytes);
+    }
+}
+
+static void reads_each_field_of_inet(void) {
+    uint8_t bytes[160];
+    struct sockdiag_inet_details it;
+    size_t end = SOCKDIAG_INET_ATTRIBUTES, name, tos, tclass, shutdown, protocol, mark, class_id;
+    memset(&it, 0xaa, sizeof it);
+    number_bytes(bytes, sizeof bytes);
+    bytes[0] = 10;
+    bytes[1] = 11;
+    bytes[2] = 0;
+    name = begin(bytes, &end, SOCKDIAG_INET_DIAG_CONG, 4);
+    bytes[name + 3] = 0;
+    tos = begin(bytes, &end, SOCKDIAG_INET_DIAG_TOS, 1);
+    tclass = begin(bytes, &end, SOCKDIAG_INET_DIAG_TCLASS, 1);
+    shutdown = begin(bytes, &end, SOCKDIAG_INET_DIAG_SHUTDOWN, 1);
+    protocol = begin(bytes, &end, SOCKDIAG_INET_DIAG_PROTOCOL, 1);
+    begin(bytes, &end, SOCKDIAG_INET_DIAG_SKV6ONLY, 1);
+    mark = begin(bytes, &end, SOCKDIAG_INET_DIAG_MARK, 4);
+    class_id = begin(bytes, &end, SOCKDIAG_INET_DIAG_CLASS_ID, 4);
+    check(sockdiag_inet_get_details(bytes, end, &it) == SOCKDIAG_OK,
+          "all fields of an internet reply");
+    check_inet_header(&it.header, bytes);
+    TEXT(it.congestion, SOCKDIAG_TEXT, bytes + name, 3);
+    TOLD(it.tos, bytes + tos, 1);
+    TOLD(it.tclass, bytes + tclass, 1);
+    TOLD(it.shutdown, bytes + shutdown, 1);
+    TOLD(it.protocol, bytes + protocol, 1);
+    check(is(it.v6only, 1), "it.v6only");
+    TOLD(it.mark, bytes + mark, 4);
+    TOLD(it.class_id, bytes + class_id, 4);
+}
+
+/* Checks the fields of 4 bytes, which are consecutive in struct tcp_info. */
+static void check_words_of_tcp_info(const struct sockdiag_tcp_info *it, const uint8_t *at) {
+    const uint32_t first[24] = {
+        it->rto, it->ato, it->snd_mss, it->rcv_mss, it->unacked, it->sacked, it->lost, it->retrans,
+        it->fackets, it->last_data_sent, it->last_ack_sent, it->last_data_recv, it->last_ack_recv,
+        it->pmtu, it->rcv_ssthresh, it->rtt, it->rttvar, it->snd_ssthresh, it->snd_cwnd, it->advmss,
+        it->reordering, it->rcv_rtt, it->rcv_space, it->total_retrans,
+    };
+    const uint32_t second[6] = {
+        it->segs_out, it->segs_in, it->notsent_bytes, it->min_rtt, it->data_segs_in,
+        it->data_segs_out,
+    };
+    const uint32_t third[2] = {it->delivered, it->delivered_ce};
+    const uint32_t fourth[4] = {it->dsack_dups, it->reord_seen, it->rcv_ooopack, it->snd_wnd};
+    check(memcmp(first, at + 8, sizeof first) == 0, "tcp_info from 8 on");
+    check(memcmp(second, at + 136, sizeof second) == 0, "tcp_info from 136 on");
+    check(memcmp(third, at + 192, sizeof third) == 0, "tcp_info from 192 on");
+    check(memcmp(fourth, at + 216, sizeof fourth) == 0, "tcp_info from 216 on");
+}
+
+/* Checks the fields of 1 and of 8 bytes, which are consecutive in struct tcp_info. */
+static void check_tcp_info(const struct sockdiag_tcp_info *it, const uint8_t *at) {
+    const uint8_t first[8] = {
+        it->state, it->ca_state, it->retransmits, it->probes, it->backoff, it->options, it->wscale,
+        it->delivery_rate_app_limited,
+    };
+    const uint64_t second[4] = {
+        it->pacing_rate, it->max_pacing_rate, it->bytes_acked, it->bytes_received,
+    };
+    const uint64_t third[4] = {
+        it->delivery_rate, it->busy_time, it->rwnd_limited, it->sndbuf_limited,
+    };
+    const uint64_t fourth[2] = {it->bytes_sent, it->bytes_retrans};
+    check(memcmp(first, at, sizeof first) == 0, "tcp_info from 0 on");
+    check(memcmp(second, at + 104, sizeof second) == 0, "tcp_info from 104 on");
+    check(memcmp(third, at + 160, sizeof third) == 0, "tcp_info from 160 on");
+    check(memcmp(fourth, at + 200, sizeof fourth) == 0, "tcp_info from 200 on");
+}
+
+static void reads_each_field_of_records(void) {
+    uint8_t bytes[400];
+    struct sockdiag_tcp_info info;
+    struct sockdiag_inet_memory it;
+    size_t end = SOCKDIAG_INET_ATTRIBUTES, place, memory;
+    memset(&info, 0xaa, sizeof info);
+    memset(&it, 0xaa, sizeof it);
+    number_bytes(bytes, sizeof bytes);
+    place = begin(bytes, &end, SOCKDIAG_INET_DIAG_INFO, 232);
+    memory = begin(bytes, &end, SOCKDIAG_INET_DIAG_SKMEMINFO, 36);
+    check(sockdiag_inet_get_tcp_info(bytes, end, &info) == 232, "all fields of a TCP connection");
+    check_tcp_info(&info, bytes + place);
+    check_words_of_tcp_info(&info, bytes + place);
+    check(sockdiag_inet_get_memory(bytes, end, &it) == 36, "all fields of memory");
+    FIELD(it.receive_queue, bytes + memory);
+    FIELD(it.receive_queue_max, bytes + memory + 4);
+    FIELD(it.bottom_send_queues, bytes + memory + 8);
+    FIELD(it.send_queue_max, bytes + memory + 12);
+    FIELD(it.cache, bytes + memory + 16);
+    FIELD(it.send_queue, bytes + memory + 20);
+    FIELD(it.options, bytes + memory + 24);
+    FIELD(it.backlog_queue_length, bytes + memory + 28);
+    FIELD(it.drops, bytes + memory + 32);
+}
+
+static void check_memory(const struct sockdiag_memory *it, const uint8_t *bytes) {
+    TOLD(it->receive_queue, bytes, 4);
+    TOLD(it->receive_queue_max, bytes + 4, 4);
+    TOLD(it->bottom_send_queues, bytes + 8, 4);
+    TOLD(it->send_queue_max, bytes + 12, 4);
+    TOLD(it->cache, bytes + 16, 4);
+    TOLD(it->send_queue, bytes + 20, 4);
+    TOLD(it->options, bytes + 24, 4);
+    TOLD(it->backlog_queue_length, bytes + 28, 4);
+    TOLD(it->drops, bytes + 32, 4);
+}
+
+static void reads_each_field_of_netlink(void) {
+    uint8_t bytes[128];
+    struct sockdiag_netlink_details it;
+    size_t end = SOCKDIAG_NETLINK_ATTRIBUTES, memory, groups, flags;
+    memset(&it, 0xaa, sizeof it);
+    number_bytes(bytes, sizeof bytes);
+    memory = begin(bytes, &end, 0, 36);
+    groups = begin(bytes, &end, 1, 8);
+    flags = begin(bytes, &end, 4, 4);
+    check(sockdiag_netlink_get_details(bytes, end, &it) == SOCKDIAG_OK,
+          "all fields of a netlink reply");
+    FIELD(it.header.kind, bytes + 1);
+    FIELD(it.header.protocol, bytes + 2);
+    FIELD(it.header.state, bytes + 3);
+    FIELD(it.header.port, bytes + 4);
+    FIELD(it.header.destination_port, bytes + 8);
+    FIELD(it.header.destination_group, bytes + 12);
+    FIELD(it.header.inode, bytes + 16);
+    FIELD(it.header.cookie, bytes + 20);
+    check_memory(&it.memory, bytes + memory);
+    TEXT(it.groups, SOCKDIAG_BYTES, bytes + groups, 8);
+    TOLD(it.flags, bytes + flags, 4);
+}
+
+static void check_ring(const struct sockdiag_packet_ring *it, const uint8_t *bytes) {
+    FIELD(it->block_size, bytes);
+    FIELD(it->blocks, bytes + 4);
+    FIELD(it->frame_size, bytes + 8);
+    FIELD(it->frames, bytes + 12);
+    FIELD(it->retire_timeout, bytes + 16);
+    FIELD(it->private_size, bytes + 20);
+    FIELD(it->features, bytes + 24);
+}
+
+static void reads_each_field_of_packet(void) {
+    uint8_t bytes[256];
+    struct sockdiag_packet_details it;
+    size_t end = SOCKDIAG_PACKET_ATTRIBUTES, info, addresses, receive, send, fanout, owner, memory;
+    size_t filter;
+    memset(&it, 0xaa, sizeof it);
+    number_bytes(bytes, sizeof bytes);
+    info = begin(bytes, &end, 0, 24);
+    addresses = begin(bytes, &end, 1, 44);
+    receive = begin(bytes, &end, 2, 28);
+    send = begin(bytes, &end, 3, 28);
+    fanout = begin(bytes, &end, 4, 4);
+    owner = begin(bytes, &end, 5, 4);
+    memory = begin(bytes, &end, 6, 36);
+    filter = begin(bytes, &end, 7, 8);
+    check(sockdiag_packet_get_details(bytes, end, &it) == SOCKDIAG_OK,
+          "all fields of a packet reply");
+    FIELD(it.header.kind, bytes + 1);
+    FIELD(it.header.protocol, bytes + 2);
+    FIELD(it.header.inode, bytes + 4);
+    FIELD(it.header.cookie, bytes + 8);
+    check(it.has_info == 1 && it.has_receive_ring == 1 && it.has_send_ring == 1, "all records");
+    FIELD(it.info.interface, bytes + info);
+    FIELD(it.info.version, bytes + info + 4);
+    FIELD(it.info.reserve, bytes + info + 8);
+    FIELD(it.info.copy_threshold, bytes + info + 12);
+    FIELD(it.info.timestamp, bytes + info + 16);
+    FIELD(it.info.flags, bytes + info + 20);
+    TEXT(it.addresses, SOCKDIAG_BYTES, bytes + addresses, 44);
+    check_ring(&it.receive_ring, bytes + receive);
+    check_ring(&it.send_ring, bytes + send);
+    TOLD(it.fanout, bytes + fanout, 4);
+    TOLD(it.owner, bytes + owner, 4);
+    check_memory(&it.memory, bytes + memory);
+    TEXT(it.filter, SOCKDIAG_BYTES, bytes + filter, 8);
+}
+
+static void reads_each_field_of_vsock(void) {
+    uint8_t bytes[36];
+    struct sockdiag_vsock_header it, before;
+    memset(&it, 0xaa, sizeof it);
+    number_bytes(bytes, sizeof bytes);
+    check(sockdiag_vsock_get_details(bytes, SOCKDIAG_VSOCK_ATTRIBUTES, &it) == SOCKDIAG_OK,
+          "all fields of a vsock reply");
+    FIELD(it.kind, bytes + 1);
+    FIELD(it.state, bytes + 2);
+    FIELD(it.shutdown, bytes + 3);
+    FIELD(it.source_context, bytes + 4);
+    FIELD(it.source_port, bytes + 8);
+    FIELD(it.destination_context, bytes + 12);
+    FIELD(it.destination_port, bytes + 16);
+    FIELD(it.inode, bytes + 20);
+    FIELD(it.cookie, bytes + 24);
+    memset(bytes, 0, sizeof bytes);
+    before = it;
+    check(sockdiag_vsock_get_details(bytes, 35, &it) == SOCKDIAG_ATTRIBUTE_HEADER_CUT,
+          "three bytes after a vsock record");
+    check(sockdiag_vsock_get_details(bytes, 36, &it) == SOCKDIAG_ATTRIBUTE_LENGTH_UNDER_4,
+          "four zero bytes after a vsock record");
+    check(memcmp(&it, &before, sizeof it) == 0, "a vsock header is written for a rejected reply");
+}
+
+static void check_xdp_records(const struct sockdiag_xdp_details *it, const uint8_t *info,
+                              const uint8_t *umem, const uint8_t *statistics) {
+    check(it->has_info == 1 && it->has_umem == 1 && it->has_statistics == 1, "all XDP records");
+    FIELD(it->info.interface, info);
+    FIELD(it->info.queue, info + 4);
+    FIELD(it->umem.size, umem);
+    FIELD(it->umem.id, umem + 8);
+    FIELD(it->umem.pages, umem + 12);
+    FIELD(it->umem.chunk_size, umem + 16);
+    FIELD(it->umem.headroom, umem + 20);
+    FIELD(it->umem.interface, umem + 24);
+    FIELD(it->umem.queue, umem + 28);
+    FIELD(it->umem.flags, umem + 32);
+    FIELD(it->umem.references, umem + 36);
+    FIELD(it->statistics.received_dropped, statistics);
+    FIELD(it->statistics.received_invalid, statistics + 8);
+    FIELD(it->statistics.received_full, statistics + 16);
+    FIELD(it->statistics.fill_ring_empty, statistics + 24);
+    FIELD(it->statistics.sent_invalid, statistics + 32);
+    FIELD(it->statistics.send_ring_empty, statistics + 40);
+}
+
+static void reads_each_field_of_xdp(void) {
+    uint8_t bytes[256];
+    struct sockdiag_xdp_details it;
+    size_t end = SOCKDIAG_XDP_ATTRIBUTES, info, owner, receive, send, umem, fill, completion;
+    size_t memory, statistics;
+    memset(&it, 0xaa, sizeof it);
+    number_bytes(bytes, sizeof bytes);
+    info = begin(bytes, &end, 1, 8);
+    owner = begin(bytes, &end, 2, 4);
+    receive = begin(bytes, &end, 3, 4);
+    send = begin(bytes, &end, 4, 4);
+    umem = begin(bytes, &end, 5, 40);
+    fill = begin(bytes, &end, 6, 4);
+    completion = begin(bytes, &end, 7, 4);
+    memory = begin(bytes, &end, 8, 36);
+    statistics = begin(bytes, &end, 9, 48);
+    check(sockdiag_xdp_get_details(bytes, end, &it) == SOCKDIAG_OK, "all fields of an XDP reply");
+    FIELD(it.header.kind, bytes + 1);
+    FIELD(it.header.inode, bytes + 4);
+    FIELD(it.header.cookie, bytes + 8);
+    TOLD(it.owner, bytes + owner, 4);
+    TOLD(it.receive_ring, bytes + receive, 4);
+    TOLD(it.send_ring, bytes + send, 4);
+    TOLD(it.fill_ring, bytes + fill, 4);
+    TOLD(it.completion_ring, bytes + completion, 4);
+    check_memory(&it.memory, bytes + memory);
+    check_xdp_records(&it, bytes + info, bytes + umem, bytes + statistics);
+}
+
+/* The messages of make_datagram: sequence number 7, port 9, flags 2. */
+static void follows_a_dump(void) {
+    uint8_t bytes[128];
+    const size_t length = make_datagram(bytes);
+    struct sockdiag_cursor cursor = {0};
+    struct sockdiag_message message;
+    int messages;
+    for (messages = 0; messages < 4; messages++) {
+        check(sockdiag_next_envelope(bytes, length, &cursor, &message) == SOCKDIAG_ITEM,
+              "a message, whatever its payload is");
+        check(sockdiag_is_answer(&message, 7, 9), "an answer");
+        check(!sockdiag_is_answer(&message, 8, 9), "a message with another sequence number");
+        check(!sockdiag_is_answer(&message, 7, 0), "a message for another socket");
+        check(!sockdiag_is_interrupted(&message), "a dump that is not interrupted");
+        check(sockdiag_ends_answer(&message) == (messages == 3), "the end of an answer");
+    }
+    check(message.message_type == SOCKDIAG_NLMSG_DONE && message.offset == 108, "the end");
+    check(sockdiag_next_envelope(bytes, length, &cursor, &message) == SOCKDIAG_ENVELOPE_CUT,
+          "two remaining bytes after messages");
+    message.flags = 0x12;
+    check(sockdiag_is_interrupted(&message), "a dump that is interrupted");
+    message.message_type = SOCKDIAG_NLMSG_ERROR;
+    check(sockdiag_ends_answer(&message), "an error");
+    message.message_type = SOCKDIAG_NLMSG_OVERRUN;
+    check(!sockdiag_ends_answer(&message), "lost data");
+}
+
+/* The version, and a constant of each enum with the number in the kernel's headers. */
+static void has_numbers(void) {
+    unsigned first, second, third;
+    check(sscanf(SOCKDIAG_VERSION, "%u.%u.%u", &first, &second, &third) == 3 &&
+          SOCKDIAG_VERSION_NUMBER == 1000000 * first + 1000 * second + third, "the version");
+    check(sockdiag_version() == SOCKDIAG_VERSION_NUMBER && sockdiag_is_compatible(),
+          "the version of the library");
+    check(SOCKDIAG_NETLINK_SOCK_DIAG == NETLINK_SOCK_DIAG &&
+          SOCKDIAG_SOCK_DIAG_BY_FAMILY == SOCK_DIAG_BY_FAMILY &&
+          SOCKDIAG_NLMSG_DONE == NLMSG_DONE && SOCKDIAG_NLM_F_DUMP_INTR == NLM_F_DUMP_INTR,
+          "constants of netlink");
+    check(SOCKDIAG_TCP_ESTABLISHED == 1 && SOCKDIAG_TCP_CLOSE == 7 && SOCKDIAG_TCP_LISTEN == 10,
+          "states");
+    check((int)SOCKDIAG_UDIAG_SHOW_ICONS == UDIAG_SHOW_ICONS &&
+          (int)SOCKDIAG_UNIX_DIAG_ICONS == UNIX_DIAG_ICONS, "constants of UNIX sockets");
+    check((int)SOCKDIAG_INET_DIAG_CONG == INET_DIAG_CONG &&
+          (int)SOCKDIAG_INET_DIAG_REQ_BYTECODE == INET_DIAG_REQ_BYTECODE,
+          "constants of internet sockets");
+    check(SOCKDIAG_TCP_CA_LOSS == 4 && SOCKDIAG_TCPI_OPT_ECN == 8, "constants of connections");
+    check(SOCKDIAG_NDIAG_SHOW_FLAGS == 8 && SOCKDIAG_XDP_SHOW_STATS == 16, "other families");
+}
+
 int main(void) {
     checks_unix();
     checks_inet();
@@ -592,6 +998,16 @@ int main(void) {
     writes_filtered_request();
     rewrites_unix_reply();
     rewrites_inet_reply();
+    reads_each_field_of_unix();
+    reads_each_field_of_inet_headers();
+    reads_each_field_of_inet();
+    reads_each_field_of_records();
+    reads_each_field_of_netlink();
+    reads_each_field_of_packet();
+    reads_each_field_of_vsock();
+    reads_each_field_of_xdp();
+    follows_a_dump();
+    has_numbers();
     if (failures == 0)
         puts("c_face: all tests pass");
     return failures != 0;
