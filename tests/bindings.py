@@ -2,8 +2,8 @@
 """Compiles the C header and rust/sockdiag, and runs their tests if the library is soon built.
 
 - With a C compiler, `$CC` or `cc`, it compiles the header with tests/c_layout.c, which asserts the
-  offset of each field and the size of each struct, tests/c_face.c and examples/list_sockets.c. The
-  example is also compiled as C99 and as C++.
+  offset of each field and the size of each struct, tests/c_face.c, tests/api/fuzz_c.c and
+  examples/list_sockets.c, as C99. Some are also compiled as C++.
 - If the library takes only seconds to build, because its dependencies are built and its own proof
   results are present, tests/c_face.sh builds it and runs the calls from C, and tests/rust_face.sh
   runs the tests of rust/sockdiag. Otherwise rust/sockdiag is only compiled.
@@ -42,7 +42,9 @@ def compile_c(compiler):
     has_plus = subprocess.run(plus, stderr=subprocess.DEVNULL).returncode == 0
     for language, standard, file in [
         ("c", "c11", "tests/c_layout.c"),
-        ("c", "c11", "tests/c_face.c"),
+        ("c", "c99", "tests/c_face.c"),
+        ("c++", "c++11", "tests/c_face.c"),
+        ("c", "c99", "tests/api/fuzz_c.c"),
         ("c", "c99", "examples/list_sockets.c"),
         ("c++", "c++11", "examples/list_sockets.c"),
     ]:

@@ -419,15 +419,25 @@ static void walks_messages(void) {
           "the end of an iteration over messages");
 }
 
+/* Fields are set by their names, not in order, so that two swapped fields are seen. */
+static void set_header(struct sockdiag_request_header *header, uint32_t sequence_number) {
+    header->flags = 0x301;
+    header->sequence_number = sequence_number;
+    header->port_number = 0x0d0c0b0a;
+}
+
 static void writes_unix_request(void) {
     static const uint8_t want[40] = {
-        40, 0, 0, 0, 20, 0, 1, 3, 5, 0, 0, 0, 0, 0, 0, 0,
-        1, 0, 0, 0, 0xff, 0xff, 0xff, 0xff, 6, 0, 0, 0, 0x3f, 0, 0, 0, 1, 2, 3, 4, 5, 6, 7, 8,
+        40, 0, 0, 0, 20, 0, 1, 3, 5, 0, 0, 0, 10, 11, 12, 13,
+        1, 0, 0, 0, 0xff, 0xfe, 0xff, 0xff, 6, 0, 0, 0, 0x3f, 0, 0, 0, 1, 2, 3, 4, 5, 6, 7, 8,
     };
-    struct sockdiag_unix_request request = {
-        {0x301, 5, 0}, 0xffffffff, 6, 0x3f, {1, 2, 3, 4, 5, 6, 7, 8},
-    };
+    struct sockdiag_unix_request request;
     uint8_t buffer[48], before[48];
+    set_header(&request.header, 5);
+    request.states = 0xfffffeff;
+    request.inode = 6;
+    request.show = 0x3f;
+    memcpy(request.cookie, want + 32, 8);
     memset(buffer, 0xaa, sizeof buffer);
     memcpy(before, buffer, sizeof buffer);
     check(sockdiag_write_unix_request(&request, buffer, 39) == 0, "a short buffer");
@@ -442,20 +452,26 @@ static void writes_unix_request(void) {
 
 static void writes_inet_request(void) {
     static const uint8_t want[72] = {
-        72, 0, 0, 0, 20, 0, 1, 3, 6, 0, 0, 0, 1, 0, 0, 0,
+        72, 0, 0, 0, 20, 0, 1, 3, 6, 0, 0, 0, 10, 11, 12, 13,
         10, 6, 0x41, 0, 0, 4, 0, 0, 0, 80, 0x1f, 0x90,
         0xfe, 0x80, 0, 0, 0, 0, 0, 0, 0, 0, 0, 0, 0, 0, 0, 1,
         0, 0, 0, 0, 0, 0, 0, 0, 0, 0, 0, 0, 0, 0, 0, 2,
         3, 0, 0, 0, 8, 7, 6, 5, 4, 3, 2, 1,
     };
-    struct sockdiag_inet_request request = {
-        {0x301, 6, 1}, 10, 0x41, 6, 0x400, 80, 8080,
-        {0xfe, 0x80, 0, 0, 0, 0, 0, 0, 0, 0, 0, 0, 0, 0, 0, 1},
-        {0, 0, 0, 0, 0, 0, 0, 0, 0, 0, 0, 0, 0, 0, 0, 2},
-        3, {8, 7, 6, 5, 4, 3, 2, 1},
-    };
     static const uint8_t attribute[8] = {8, 0, 3, 0, 6, 1, 0, 0};
+    struct sockdiag_inet_request request;
     uint8_t buffer[80];
+    set_header(&request.header, 6);
+    request.family = 10;
+    request.extensions = 0x41;
+    request.protocol = 6;
+    request.states = 0x400;
+    request.source_port = 80;
+    request.destination_port = 8080;
+    memcpy(request.source_address, want + 28, 16);
+    memcpy(request.destination_address, want + 44, 16);
+    request.interface_id = 3;
+    memcpy(request.cookie, want + 64, 8);
     check(sockdiag_write_inet_request(&request, buffer, 71) == 0,
           "a short buffer for an internet request");
     check(sockdiag_write_inet_request(&request, buffer, 72) == 72, "an internet request");
@@ -477,13 +493,22 @@ static void writes_inet_request(void) {
 
 static void writes_family_requests(void) {
     static const uint8_t want[36] = {
-        36, 0, 0, 0, 20, 0, 1, 3, 5, 0, 0, 0, 0, 0, 0, 0,
+        36, 0, 0, 0, 20, 0, 1, 3, 5, 0, 0, 0, 10, 11, 12, 13,
         16, 255, 0, 0, 6, 0, 0, 0, 0xb, 0, 0, 0, 8, 7, 6, 5, 4, 3, 2, 1,
     };
     static const uint8_t vsock[24] = {40, 0, 0, 0, 0, 4, 0, 0, 0, 0, 0, 0, 0, 0, 0, 0, 9};
-    struct sockdiag_show_request request = {{0x301, 5, 0}, 16, 255, 6, 0xb, 0x102030405060708};
-    struct sockdiag_vsock_request other = {{0x301, 5, 0}, 0x400, 9};
+    struct sockdiag_show_request request;
+    struct sockdiag_vsock_request other;
     uint8_t buffer[41];
+    set_header(&request.header, 5);
+    request.family = 16;
+    request.protocol = 255;
+    request.inode = 6;
+    request.show = 0xb;
+    request.cookie = 0x102030405060708;
+    set_header(&other.header, 5);
+    other.states = 0x400;
+    other.cookie = 9;
     memset(buffer, 0xaa, sizeof buffer);
     check(sockdiag_write_show_request(&request, buffer, 35) == 0 && buffer[0] == 0xaa,
           "a short buffer for a request");
@@ -931,6 +956,29 @@ static void reads_each_field_of_xdp(void) {
     check_xdp_records(&it, bytes + info, bytes + umem, bytes + statistics);
 }
 
+/* Each record by itself: its field has_.. is 1, and the others are 0. */
+static void has_each_record(void) {
+    uint8_t bytes[128];
+    struct sockdiag_packet_details packet;
+    struct sockdiag_xdp_details xdp;
+    uint8_t kind;
+    for (kind = 0; kind < 10; kind++) {
+        size_t end = SOCKDIAG_PACKET_ATTRIBUTES;
+        number_bytes(bytes, sizeof bytes);
+        begin(bytes, &end, kind, kind == 4 || kind == 5 ? 4 : 48);
+        if (sockdiag_packet_get_details(bytes, end, &packet) == SOCKDIAG_OK)
+            check(packet.has_info == (kind == 0) && packet.has_receive_ring == (kind == 2) &&
+                  packet.has_send_ring == (kind == 3), "a record of a packet socket");
+        else
+            check(0, "a packet reply with one attribute");
+        if (sockdiag_xdp_get_details(bytes, end, &xdp) == SOCKDIAG_OK)
+            check(xdp.has_info == (kind == 1) && xdp.has_umem == (kind == 5) &&
+                  xdp.has_statistics == (kind == 9), "a record of an XDP socket");
+        else
+            check(kind >= 2 && kind <= 7, "an XDP reply with one attribute");
+    }
+}
+
 /* The messages of make_datagram: sequence number 7, port 9, flags 2. */
 static void follows_a_dump(void) {
     uint8_t bytes[128];
@@ -1006,6 +1054,7 @@ int main(void) {
     reads_each_field_of_packet();
     reads_each_field_of_vsock();
     reads_each_field_of_xdp();
+    has_each_record();
     follows_a_dump();
     has_numbers();
     if (failures == 0)

@@ -1,6 +1,6 @@
 #!/bin/sh
 # Builds the static library of include/sockdiag.h, and calls it from C: tests/c_face.c compares what
-# the calls return. Then installs the library, and lists the sockets of this machine by
+# the calls return, and tests/api/fuzz_c.c calls them with changed replies. Then installs the library, and lists the sockets of this machine by
 # examples/list_sockets.c, if the kernel permits it. Needs the kit's rt and a C compiler.
 # tools/release runs this script. So does tests/bindings.py, which the gate runs, if the library
 # takes only seconds to build.
@@ -18,14 +18,23 @@ if nm -u "$top/crates/sockdiag_c/out/libsockdiag_c.a" | grep -E 'alloc|free'; th
     exit 1
 fi
 
-# build NAME SOURCE: builds a program with the library.
+# build NAME SOURCE FLAG..: builds a program with the library.
 build() {
-    ${CC:-cc} -std=c11 -O2 -Wall -Wextra -Wpedantic -Werror -I"$top/include" \
-        -o "$work/$1" "$2" "$top/crates/sockdiag_c/out/libsockdiag_c.a"
+    name=$1 source=$2
+    shift 2
+    ${CC:-cc} -std=c99 -O2 -Wall -Wextra -Wpedantic -Werror "$@" -I"$top/include" \
+        -o "$work/$name" "$source" "$top/crates/sockdiag_c/out/libsockdiag_c.a"
 }
 
 build c_face "$top/tests/c_face.c"
 "$work/c_face"
+
+# The sanitizers check the test itself, and what the library passes to functions like memcpy.
+set -- -fsanitize=address,undefined
+echo 'int main(void) { return 0; }' >"$work/empty.c"
+${CC:-cc} "$@" -o "$work/empty" "$work/empty.c" 2>/dev/null || shift
+build fuzz_c "$top/tests/api/fuzz_c.c" "$@"
+"$work/fuzz_c" 20000 "$top/crates/sslist/stdin"
 
 # As an author of a program does: installs the library, and builds with the shared library that
 # pkg-config finds. Without pkg-config or make, builds with the static library.
