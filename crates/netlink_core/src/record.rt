@@ -21,6 +21,8 @@ pub trait Record: Exact + Sized {
     /// The parameter of the parser.
     type Param: ReadParam;
 
+    // The type of the tag, which selects the rows of the layout. By default there is one tag, and
+    // so the rows are the same for all values.
     ghost Tag: { Type 0 } = { Unit {0} };
 
     // The layout of the record in bytes.
@@ -62,6 +64,7 @@ pub trait Record: Exact + Sized {
 /// `Memory`.
 #[inline(always)]
 pub fn read_record<T: Record>(bytes: &[u8], param: T::Param) -> Result<T, DecodeError>
+    // parse_record layout param bytes: `Ok` of the value, or `Err` of the first error.
     ensures value { result ≡ parse_record T.layout param bytes.now }
     ensures named { IfErr result (λ fault. fault ≢ Memory) }
 {

@@ -27,8 +27,8 @@ address_values address = first_numbers (address_data address).1 (address_data ad
 
 -- ---- the record
 
--- `address offset version member`: the row for an address at the offset, in C `__be32[4]`, of this
--- IP version. `member` is the member of `SocketId` that is stored there.
+-- `address offset version get`: the row for an address of this IP version at the offset, in C
+-- `__be32[4]`. `get` returns the address that is stored there from a `SocketId`.
 abbrev pub address : (offset : ℕ) → IpVersion → (SocketId → IpAddr) → Row SocketId
 address offset version get = (address_fields offset version, λ value. address_values (get value))
 

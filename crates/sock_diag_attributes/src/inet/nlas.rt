@@ -210,7 +210,9 @@ impl<'a> NlaView<'a> {
     /// number or a flag has another length, `NotUtf8` if a text is not valid UTF-8.
     #[inline(always)]
     pub fn parse(nla: &NlaBuffer<'a>) -> Result<NlaView<'a>, DecodeError>
-        // `buffered_attribute nla.now`: the type field and the value of `nla`.
+        // decode_attribute set attribute: `Ok` of what the attribute decodes to by the set, or
+        // `Err` of the error of its value. `buffered_attribute nla.now`: the type field and the
+        // value of `nla`. inet_nla_view_model: the decoded value of the variant.
         ensures { MatchResult result
             (λ view. decode_attribute inet_attribute_set (buffered_attribute nla.now)
             ≡ Ok (inet_nla_view_model view))

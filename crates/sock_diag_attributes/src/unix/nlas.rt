@@ -186,11 +186,13 @@ impl<'a> NlaView<'a> {
     /// Parses the value by the kind of the attribute, whatever its two flag bits. An attribute of
     /// an unknown kind is returned as `Other`, with its complete type field. Fails with the error
     /// of the value: `BufferTooSmall` if a record is too short, `WrongLength`, with the kind, if a
-    /// number or a pair has another length, `NotMultipleOfFour` for a list of numbers, or the error
-    /// of [`NameView::parse`].
+    /// number or a pair has another length, `NotMultipleOfFour` if the length of a list of numbers
+    /// is not a multiple of 4, or the error of [`NameView::parse`].
     #[inline(always)]
     pub fn parse(nla: &NlaBuffer<'a>) -> Result<NlaView<'a>, DecodeError>
-        // `buffered_attribute nla.now`: the type field and the value of `nla`.
+        // decode_attribute set attribute: `Ok` of what the attribute decodes to by the set, or
+        // `Err` of the error of its value. `buffered_attribute nla.now`: the type field and the
+        // value of `nla`. unix_nla_view_model: the decoded value of the variant.
         ensures { MatchResult result
             (λ view. decode_attribute unix_attribute_set (buffered_attribute nla.now)
             ≡ Ok (unix_nla_view_model view))
