@@ -47,6 +47,8 @@ impl<'a> NlaBuffer<'a> {
     /// `AttributeLengthUnder4` if the length field is below 4, then with `AttributeLengthPast` if
     /// it is above the number of bytes.
     pub fn new_checked(bytes: &'a [u8]) -> Result<NlaBuffer<'a>, DecodeError>
+        // HasAttributePrefix bytes a: the bytes begin with the attribute `a`. buffered_attribute:
+        // the type field and the value of the buffer.
         ensures { MatchResult result
             (λ buffer. HasAttributePrefix bytes.entry.now (buffered_attribute buffer))
             (IsFramingError bytes.entry.now) }

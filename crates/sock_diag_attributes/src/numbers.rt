@@ -85,6 +85,7 @@ impl<'a> NumbersView<'a> {
     /// Returns the count of numbers.
     #[tactic(auto, using(crate::specs::laws::Number::count_of_numbers_in))]
     pub fn len(&self) -> usize
+        // numbers_view_model: the numbers, as a list.
         ensures { result ≡ length (numbers_view_model self.now) }
     {
         self.bytes.len() / 4

@@ -32,9 +32,14 @@ address_values address = first_numbers (address_data address).1 (address_data ad
 abbrev pub address : (offset : ℕ) → IpVersion → (SocketId → IpAddr) → Row SocketId
 address offset version get = (address_fields offset version, λ value. address_values (get value))
 
--- `socket_id_rows offset versions`: `struct inet_diag_sockid` (linux/inet_diag.h) that starts at
--- the offset of an outer struct, with a local and a remote address of these IP versions:
--- `idiag_sport`, `idiag_dport`, `idiag_src`, `idiag_dst`, `idiag_if`, `idiag_cookie`
+-- `socket_id_rows offset versions`: a `struct inet_diag_sockid` (linux/inet_diag.h) that starts at
+-- the offset of an outer struct, with a local and a remote address of these IP versions. By offsets
+-- in the inner struct:
+--   0   `idiag_sport`, `idiag_dport`: ports, in network byte order
+--   4   `idiag_src`: the local address, of the first version
+--   20  `idiag_dst`: the remote address, of the second version
+--   36  `idiag_if`: little-endian
+--   40  `idiag_cookie`: eight bytes
 abbrev pub socket_id_rows : (offset : ℕ) → IpVersions → List (Row SocketId)
 socket_id_rows offset versions =
     be16 offset SocketId.source_port ∷
