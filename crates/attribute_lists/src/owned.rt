@@ -127,9 +127,10 @@ pub fn nlas_in_range<T: FamilyNla>(nlas: &[T])
 /// `None` if a value does not fit its length field, that is, has more than 65,531 bytes, or if the
 /// attributes have more than `limit` bytes.
 pub fn values_len_within<T: FamilyNla>(nlas: &[T], limit: usize) -> Option<usize>
-    // `attributes`: what the attributes serialize as (`encode_attribute`). AreWritableWithin
-    // attributes limit: each value fits its length field, and all attributes with headers and
-    // paddings have at most `limit` bytes.
+    // `attributes`: what the attributes serialize as (`encode_attribute`). SomeIff o p v: `o` is
+    // `Some v` if `p` holds, else `None`. AreWritableWithin attributes limit: each value fits its
+    // length field, and all attributes with headers and paddings have at most `limit` bytes.
+    // flat_map attribute_bytes: the bytes of all attributes, concatenated.
     ensures { let attributes = map (encode_attribute T.attribute_set) (map T.model nlas.now) in
         SomeIff result (AreWritableWithin attributes limit)
         (length (flat_map attribute_bytes attributes)) }

@@ -55,9 +55,11 @@ pub fn check_nlas_len<'a, V: FamilyView<'a> + Drop>(
     ensures count { IfOk result
         (λ found. found.0
         ≡ length (decoded_in (decode_attribute V.attribute_set) bytes.entry.now)) }
-    // `attributes`: what the attributes serialize as (`encode_attribute`). AreWritableWithin
-    // attributes limit: each value fits its length field, and all attributes with headers and
-    // paddings have at most `limit` bytes.
+    // `attributes`: what the attributes serialize as (`encode_attribute`). MatchOption o p Q: `p`
+    // if `o` is `None`, and `Q v` if `o` is `Some v`. SomeIff o p v: `o` is `Some v` if `p` holds,
+    // else `None`. AreWritableWithin attributes limit: each value fits its length field, and all
+    // attributes with headers and paddings have at most `limit` bytes. flat_map attribute_bytes:
+    // the bytes of all attributes, concatenated.
     ensures len { let attributes = map (encode_attribute V.attribute_set)
         (decoded_in (decode_attribute V.attribute_set) bytes.entry.now) in
         IfOk result (λ found. MatchOption limit (found.1 ≡ None) (λ limit.

@@ -76,8 +76,8 @@ pub fn one_list_of_attributes()
 /// each type field has 16 bits and each value fits its length field (`FitsLengthField`: it has at
 /// most 65,531 bytes).
 pub fn written_attributes_are_cut()
-    // attribute_bytes: the bytes of one attribute, with zeros as its padding. `rest` is what
-    // follows.
+    // AllByRecursion P xs: `P` holds of each element of `xs`. flat_map attribute_bytes xs: the
+    // bytes of all attributes, each with zeros as its padding. `rest` is what follows.
     ensures { (xs : List Attribute) → AllByRecursion
         (λ (a : Attribute). (a.type_word < 2 ^ 16) × FitsLengthField a) xs
         → (rest : List ℕ) → SplitsIntoAttributes (flat_map attribute_bytes xs ++ rest) xs rest }
@@ -87,7 +87,8 @@ pub fn written_attributes_are_cut()
 /// they have the tag and the numbers of the value, and the value is in range and in normal form. A
 /// record is parsed as no other value.
 pub fn read_where_it_stands<T: Record>()
-    // parse_record layout param bytes: `Ok` of the value, or `Err` of the error.
+    // parse_record layout param bytes: `Ok` of the value, or `Err` of the error. IsBytes: each
+    // number of the list is below 256.
     ensures { (bytes : List ℕ) (param : T.Param) (value : T) → IsBytes bytes
         → (parse_record T.layout param bytes ≡ Ok value)
         ↔ IsContainedIn T.layout bytes param value }
@@ -138,7 +139,8 @@ pub fn whole_walk_is_the_cut()
         → SplitsIntoAttributes (unread_bytes walk) (map buffered_attribute given) [] }
     // YieldsThen step walk items item last: `next` yields `items` and then `item`, here the error
     // `e`, after which the iterator is `last`. SplitsUntilError faulty bytes attributes e: the
-    // bytes are these attributes, and then at least one byte more, whose error is `e`.
+    // bytes are these attributes, and then at least one byte more, whose error is `e`, here an
+    // error of the framing (`IsFramingError`): values are not checked.
     ensures fault { (walk last : NlasIterator) (given : List NlaBuffer) (e : DecodeError)
         → YieldsThen YieldsAttribute walk (map (λ (b : NlaBuffer). Ok b) given) (Some (Err e)) last
         → SplitsUntilError IsFramingError (unread_bytes walk) (map buffered_attribute given) e

@@ -90,6 +90,7 @@ pub trait NetlinkSerializable: Coded<Param = u16> {
     fn serialize(&self, buffer: &mut [u8])
         requires writable { Self.codec.fits (Self.model self.now) }
         requires room { length (Self.codec.written (Self.model self.now)) ≤ length buffer.old }
+        // HoldsAtStart bytes old new: `new` is `bytes`, and then `old` from this offset on.
         ensures { HoldsAtStart (Self.codec.written (Self.model self.now)) buffer.old buffer.new };
 }
 
@@ -148,6 +149,7 @@ impl<I: Copy, B: Copy> Clone for NetlinkPayload<I, B> {
 /// (errno(3)). Returns `None` if the payload has fewer than 4 bytes. The bytes after these are
 /// ignored.
 pub fn error_number(payload: &[u8]) -> Option<i32>
+    // leading_error_number bytes: the signed number in the first 4 bytes, or `None`.
     ensures { result ≡ leading_error_number payload.now }
 {
     if payload.len() < 4 {
@@ -161,8 +163,9 @@ impl<I: Coded> NetlinkPayload<I> {
     /// little-endian, 0 or `-errno` (errno(3)). Returns `None` if this payload has fewer than 4
     /// bytes, and for any other payload.
     pub fn error_number(&self) -> Option<i32>
-        // payload_model bytes model payload: the model of the payload, with raw bytes as a list
-        // (here those of a `Vec`), and an inner message as its model.
+        // error_number_of payload: the number of an error or an end, and `None` for any other
+        // payload. payload_model bytes model payload: the model of the payload, with raw bytes as
+        // a list (here those of a `Vec`), and an inner message as its model.
         ensures { result ≡ error_number_of (payload_model vec_items I.model self.now) }
     {
         match self {

@@ -111,8 +111,9 @@ fn zero_padding(padding: &mut [u8])
 /// Returns the number of the attributes' bytes, with headers and paddings, or `None` if a value
 /// does not fit its length field or the attributes have more than `limit` bytes.
 pub fn nlas_len_within<T: Nla>(nlas: &[T], limit: usize) -> Option<usize>
-    // AreWritableWithin attributes limit: each value has at most 65,531 bytes, and all attributes
-    // with headers and paddings have at most `limit` bytes.
+    // SomeIff o p v: `o` is `Some v` if `p` holds, else `None`. AreWritableWithin attributes limit:
+    // each value has at most 65,531 bytes, and all attributes with headers and paddings have at
+    // most `limit` bytes. flat_map attribute_bytes: the bytes of all attributes, concatenated.
     ensures { SomeIff result (AreWritableWithin (map T.attribute nlas.now) limit)
         (length (flat_map attribute_bytes (map T.attribute nlas.now))) }
 {
@@ -182,6 +183,7 @@ impl DefaultNla {
 
     /// Returns the attribute with this type field and this value.
     pub fn new(kind: u16, value: Vec<u8>) -> DefaultNla
+        // raw_attribute: the type field and the bytes of the value.
         ensures { raw_attribute result ≡ record { type_word = kind; value = value.items } }
     {
         DefaultNla { kind, value }

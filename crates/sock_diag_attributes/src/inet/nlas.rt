@@ -124,6 +124,8 @@ impl Nla {
     /// allocation fails. Only a text, and an attribute of another kind whose value is not empty,
     /// may need an allocation.
     pub fn clone(&self, alloc: Global) -> Result<Self, AllocError>
+        // inet_nla_model: the decoded value of the variant. encode_attribute set value: the
+        // attribute that a decoded value serializes as.
         ensures equal { IfOk result (λ copy. inet_nla_model copy ≡ inet_nla_model self.now) }
         // `spare`: cloning does not fail for types whose values need no memory: any variant except
         // `Congestion` and `Other`.
@@ -253,6 +255,8 @@ impl<'a> NlaView<'a> {
     /// whose value is not empty, may need an allocation.
     #[inline(always)]
     pub fn to_owned(&self, alloc: Global) -> Result<Nla, AllocError>
+        // inet_nla_model and inet_nla_view_model: the decoded value of the variant, owned and
+        // borrowed.
         ensures equal { IfOk result (λ nla. inet_nla_model nla ≡ inet_nla_view_model self.now) }
         // `spare`: cloning does not fail for types whose values need no memory: any variant except
         // `Congestion` and `Other`.

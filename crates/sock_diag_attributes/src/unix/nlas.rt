@@ -108,6 +108,8 @@ impl Nla {
     /// allocation fails. Only a name, a list that is not empty, and an attribute of another kind
     /// whose value is not empty, may need an allocation.
     pub fn clone(&self, alloc: Global) -> Result<Self, AllocError>
+        // unix_nla_model: the decoded value of the variant. encode_attribute set value: the
+        // attribute that a decoded value serializes as.
         ensures equal { IfOk result (λ copy. unix_nla_model copy ≡ unix_nla_model self.now) }
         // `spare`: cloning does not fail for types whose values need no memory: any variant except
         // `Name`, `PendingConnections` and `Other`.
@@ -236,6 +238,8 @@ impl<'a> NlaView<'a> {
     /// empty, and an attribute of another kind whose value is not empty, may need an allocation.
     #[inline(always)]
     pub fn to_owned(&self, alloc: Global) -> Result<Nla, AllocError>
+        // unix_nla_model and unix_nla_view_model: the decoded value of the variant, owned and
+        // borrowed.
         ensures equal { IfOk result (λ nla. unix_nla_model nla ≡ unix_nla_view_model self.now) }
         // `spare`: cloning does not fail for types whose values need no memory: any variant except
         // `Name`, `PendingConnections` and `Other`.
