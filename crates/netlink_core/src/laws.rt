@@ -338,6 +338,8 @@ pub fn whole_walk_is_the_datagram()
 /// A datagram is split into at most one list of messages. The error at its end, or that there is
 /// none, is unique too.
 pub fn one_list_of_messages()
+    // SplitsIntoMessages bytes messages end: `end` is `None` if no bytes are left after the
+    // messages, else the error of the bytes that are left.
     ensures { (bytes : List ℕ) (xs ys : List (List ℕ)) (e f : Option DecodeError)
         → SplitsIntoMessages bytes xs e → SplitsIntoMessages bytes ys f → (xs ≡ ys) × (e ≡ f) }
 {}
