@@ -40,14 +40,14 @@ pub record KeepsCodecLaws {Param : Type 0} (C : Codec Param) : Type 0 where
   pub one_fault : (b : List ℕ) (p : Param) (e f : DecodeError)
       → C.refuses b p e → C.refuses b p f → e ≡ f
   pub named_fault : (b : List ℕ) (p : Param) → C.refuses b p Memory → ⊥
-  -- two accepted byte strings have equal values if and only if they are equivalent
+  -- two accepted byte strings have equal values if and only if they are equivalent (`idle`)
   pub same_value : (b c : List ℕ) (p : Param) (v w : C.Value) → IsBytes b → IsBytes c
       → C.reads b p v → C.reads c p w → ((v ≡ w) ↔ C.idle p b c)
   -- every parsed value is in range and in normal form
   pub reads_normal : (b : List ℕ) (p : Param) (v : C.Value) → IsBytes b
       → C.reads b p v → C.is_in_range v × C.is_normal p v
-  -- a value in range serializes to bytes; if it is also writable and in normal form, these bytes
-  -- parse as it
+  -- a value in range serializes to bytes (`written_bytes`); if it is also writable and in normal
+  -- form, these bytes parse as it (`reads_back`)
   pub written_bytes : (v : C.Value) → C.is_in_range v → IsBytes (C.written v)
   pub reads_back : (p : Param) (v : C.Value) → C.is_in_range v → C.is_normal p v → C.fits v
       → C.reads (C.written v) p v

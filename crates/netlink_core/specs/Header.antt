@@ -10,8 +10,9 @@ use Rattle.netlink_core.specs.declared.fault.DecodeError.TheVariants.{EnvelopeLe
 use Rattle.netlink_core.specs.declared.fault.DecodeError.TheVariants.{EnvelopeLengthPast}
 use Rattle.netlink_core.specs.declared.header.NetlinkHeader.{NetlinkHeader}
 
--- `struct nlmsghdr` (linux/netlink.h): `nlmsg_len`, `nlmsg_type`, `nlmsg_flags`, `nlmsg_seq`,
--- `nlmsg_pid`
+-- `struct nlmsghdr` (linux/netlink.h), in the order of the rows: `nlmsg_len`, `nlmsg_type`,
+-- `nlmsg_flags`, `nlmsg_seq`, `nlmsg_pid`; each number of a row is the offset, and all fields are
+-- little-endian
 abbrev pub header_rows : List (Row NetlinkHeader)
 header_rows =
     u32 0 NetlinkHeader.length ∷
