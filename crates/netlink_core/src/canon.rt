@@ -51,6 +51,8 @@ pub fn canonical<T: Wire + Drop>(
     bytes: &[u8],
     param: T::Param,
 ) -> Result<Vec<u8>, CanonError>
+    // IsBytes bytes: each number of the list is below 256. HasNoCanonicalForm codec param bytes
+    // error: no canonical form of the bytes is returned, for this reason.
     // HasCanonicalForm codec param bytes form: the bytes parse as a writable value, which
     // serializes to `form`.
     ensures written { IfOk result (λ form. HasCanonicalForm T.codec param bytes.now form.items) }

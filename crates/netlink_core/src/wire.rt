@@ -141,6 +141,9 @@ pub trait Wire: Coded + Readable + Emitable {
         // The bytes are below 256. This is so for all Rust values; it is stated for the proofs of
         // callers.
         ensures in_range { IsBytes bytes.now }
+        // HasCanonicalForm codec param bytes form: the bytes parse as a writable value, which
+        // serializes to `form`. HasNoCanonicalForm codec param bytes error: no canonical form of
+        // the bytes is returned, for this reason.
         ensures written { IfOk result (λ form.
             HasCanonicalForm Self.codec param bytes.now form.items) }
         ensures err { IfErr result (HasNoCanonicalForm Self.codec param bytes.now) };
