@@ -112,18 +112,18 @@ abbrev pub netlink_codec : Codec ℕ → Codec (Unit {0})
 netlink_codec C = record {
   Value = NetlinkMessageModel C.Value;
   -- the header's numbers fit their fields, and an inner message is in range
-  is_in_range = λ e. FitFields header_fields (header_values e.header)
-      × HoldsOfInnerMessage C.is_in_range e.payload;
+  is_in_range = λ m. FitFields header_fields (header_values m.header)
+      × HoldsOfInnerMessage C.is_in_range m.payload;
   -- the bytes start with the header, and the payload up to the header's length parses by its type
-  reads = λ b p e. HasHeader b e.header
-      × ParsesAsPayload C.reads (take (e.header.length - 16) (drop 16 b)) e.header.message_type
-      e.payload;
+  reads = λ b p m. HasHeader b m.header
+      × ParsesAsPayload C.reads (take (m.header.length - 16) (drop 16 b)) m.header.message_type
+      m.payload;
   -- the bytes do not start with a message, or they start with an inner message that is rejected
   refuses = λ b p e. IsMessageError b e ⊎ ((h : NetlinkHeader) × HasHeader b h
       × IsInnerMessageType h.message_type
       × C.refuses (take (h.length - 16) (drop 16 b)) h.message_type e);
   -- no message counts as a value that needs no memory
-  is_spare = λ e. ⊥;
+  is_spare = λ m. ⊥;
   -- equal headers, and payloads that are equivalent under their message type; the length is at
   -- offset 0 of the header, the type at offset 4
   idle = λ p b c.
@@ -132,11 +132,11 @@ netlink_codec C = record {
       × AreEquivalentPayloads C.idle (message_type_in b) (payload b) (payload c);
   -- an inner message is in normal form, and the header's type is not that of a control message; a
   -- control message always is in normal form
-  is_normal = λ p e. let t = e.header.message_type in
-      HoldsOfInnerMessage (λ m. IsInnerMessageType t × C.is_normal t m) e.payload;
+  is_normal = λ p m. let t = m.header.message_type in
+      HoldsOfInnerMessage (λ inner. IsInnerMessageType t × C.is_normal t inner) m.payload;
   -- the header unchanged, then the payload
-  written = λ e. header_bytes e.header ++ payload_bytes C.written e.payload;
+  written = λ m. header_bytes m.header ++ payload_bytes C.written m.payload;
   -- an inner message is writable, and the total length fits the 32-bit length field
-  fits = λ e. HoldsOfInnerMessage C.fits e.payload
-      × (16 + length (payload_bytes C.written e.payload) ≤ 4294967295);
+  fits = λ m. HoldsOfInnerMessage C.fits m.payload
+      × (16 + length (payload_bytes C.written m.payload) ≤ 4294967295);
 }

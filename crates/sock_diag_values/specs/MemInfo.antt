@@ -30,7 +30,7 @@ mem_info = record {
   least = 28;
   tag_at = λ param left. Ok (mem_info_u32_count (length left));
   tag_of = λ m. if is_some m.drops then 9 else if is_some m.backlog_queue_length then 8 else 7;
-  rows = λ words.
+  rows = λ count.
       u32 0 MemInfo.receive_queue ∷
       u32 4 MemInfo.receive_queue_max ∷
       u32 8 MemInfo.bottom_send_queues ∷
@@ -38,8 +38,8 @@ mem_info = record {
       u32 16 MemInfo.cache ∷
       u32 20 MemInfo.send_queue ∷
       u32 24 MemInfo.options ∷
-      when (nat_lt 7 words) (u32 28 (λ m. unwrap_or m.backlog_queue_length 0)) ∷
-      when (nat_lt 8 words) (u32 32 (λ m. unwrap_or m.drops 0)) ∷ [];
+      when (nat_lt 7 count) (u32 28 (λ m. unwrap_or m.backlog_queue_length 0)) ∷
+      when (nat_lt 8 count) (u32 32 (λ m. unwrap_or m.drops 0)) ∷ [];
   value = λ words values. mem_info_of values;
   is_shaped = λ value. ⊤;
   is_own = λ param value. IfSome value.drops (λ drops. IsSome value.backlog_queue_length);
