@@ -30,6 +30,8 @@ pub struct UlpInfo<'a>(pub NestedNlas<'a>);
 impl<'a> UlpInfo<'a> {
     /// Borrows the attributes in the value. Returns the first framing error, if there is one.
     pub fn parse(value: &'a [u8]) -> Result<UlpInfo<'a>, DecodeError>
+        // `decode_attribute []`: no attribute type is known, so every value is accepted, and only
+        // the framing can be invalid.
         ensures kept { IfOk result (λ info. nested_bytes info.0 ≡ value.entry.now) }
         ensures fault { IfErr result (HasAttributeError (decode_attribute []) value.entry.now) }
     {
