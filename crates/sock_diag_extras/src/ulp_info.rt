@@ -54,6 +54,7 @@ impl<'a> UlpInfo<'a> {
     pub fn tls(&self) -> Result<Option<TlsInfo<'a>>, DecodeError>
         ensures kept { IfOk result (λ found. option_map (λ tls. nested_bytes tls.0) found
             ≡ first_in INET_ULP_INFO_TLS (nested_bytes self.now.0)) }
+        // `value`: the value of the attribute, in which the framing error is.
         ensures fault { IfErr result (λ e. (value : List ℕ)
             × (first_in INET_ULP_INFO_TLS (nested_bytes self.now.0) ≡ Some value)
             × HasAttributeError (decode_attribute []) value e) }
@@ -70,6 +71,7 @@ impl<'a> UlpInfo<'a> {
     pub fn mptcp(&self) -> Result<Option<SubflowInfo<'a>>, DecodeError>
         ensures kept { IfOk result (λ found. option_map (λ subflow. nested_bytes subflow.0) found
             ≡ first_in INET_ULP_INFO_MPTCP (nested_bytes self.now.0)) }
+        // `value`: the value of the attribute, in which the framing error is.
         ensures fault { IfErr result (λ e. (value : List ℕ)
             × (first_in INET_ULP_INFO_MPTCP (nested_bytes self.now.0) ≡ Some value)
             × HasAttributeError (decode_attribute []) value e) }
