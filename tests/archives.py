@@ -358,10 +358,10 @@ def packs_release(room):
                  "docs/LINES.md", "docs/MIGRATING.md", "docs/RUST.md",
                  "examples/Makefile", "examples/list_sockets.c", "include/sockdiag.h",
                  "man/sockdiag.1", "man/sockdiag.3", "man/sslist.1", "rust/sockdiag/code",
-                 "crates/sockdiag_c/out/libsockdiag_c.a", "tests/version.py"):
+                 "crates/sockdiag_c/out/libsockdiag_c.a", "tests/tidy.py"):
         write(f"{top}/{file}", "")
     write(f"{top}/CHANGELOG.md", f"## [{VERSION}] - 2026-01-02\n")
-    for script in ("c_face.sh", "rust_face.sh"):
+    for script in ("api/c_api.sh", "api/rust_api.sh"):
         write(f"{top}/tests/{script}", "#!/bin/sh\n", 0o755)
     # A second name of a file, which the archive must not have as a link.
     write(f"{top}/crates/low/{PROOFS}/build/one", "one\n")

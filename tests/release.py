@@ -5,7 +5,7 @@ Needs no kit, and takes seconds.
 - Each archive and package has exactly the files listed below, with fixed owner, modes and time.
 - Two copies at different paths, with other times and modes of files, are packed to the same bytes.
 - Each file has its SHA-256 sum.
-- The pages of the archive for users have no broken link, by the rule of tests/links.py.
+- The pages of the archive for users have no broken link, by the rule of tests/tidy.py.
 - In the unpacked archive tools/install installs the listed files, and the examples in C and Rust
   can be built (skipped without a C compiler; the one in Rust also without cargo).
 - The packages can be installed into another root and removed from it (skipped without dpkg, or for
@@ -28,7 +28,7 @@ import tarfile
 import tempfile
 from pathlib import Path
 
-from links import LINK, dead_links
+from tidy import LINK, broken_links
 
 TOP = Path(__file__).resolve().parent.parent
 VERSION = (TOP / "VERSION").read_text(encoding="utf-8").strip()
@@ -203,9 +203,9 @@ def check_unpacked(folder, room):
     room.mkdir()
     expect("tar", run("tar", "-xzf", folder / f"{USERS}.tar.gz", "-C", room).stderr, "")
     top = room / USERS
-    dead, pages = dead_links(top)
-    expect("broken links", dead, [])
-    expect("pages", pages, len([it for it in IN_USERS if it.endswith(".md")]))
+    pages = {str(it.relative_to(top)): it.read_text("utf-8") for it in top.rglob("*.md")}
+    expect("broken links", list(broken_links(top, pages)), [])
+    expect("pages", len(pages), len([it for it in IN_USERS if it.endswith(".md")]))
     linked = LINK.findall((top / "INSTALL.md").read_text(encoding="utf-8"))
     expect_files("pages that INSTALL.md links", [it for it in linked if it.endswith(".md")],
                  [it for it in IN_USERS if it.endswith(".md") and it != "INSTALL.md"])

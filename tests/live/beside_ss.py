@@ -23,7 +23,7 @@ import sys
 import tempfile
 from pathlib import Path
 
-TOP = Path(__file__).resolve().parent.parent
+TOP = Path(__file__).resolve().parents[2]
 LISTER = TOP / "crates/sslist/out/sslist"
 OPTIONS = ["-tanioem", "-uanioem", "-xanem", "-anMei", "-s"]
 OPTIONS += ["-0anem", "-anemf netlink", "-anem --vsock", "-anem --xdp", "-an", "-anem"]
