@@ -6,9 +6,9 @@
                                           "-an --vsock"
 
 The script creates sockets of many kinds. A library that is preloaded into ss (record.c) records
-what ss sends and receives on AF_NETLINK as a capture, which sslist lists. sslist has to list each socket that ss
-shows, print the same value wherever both print one, and end with status 0. Differences are printed,
-and the exit status is 1 if there is one.
+what ss sends and receives on AF_NETLINK as a capture, which sslist lists. sslist has to list each
+socket that ss shows, print the same value wherever both print one, and end with status 0.
+Differences are printed, and the exit status is 1 if there is one.
 
 It is not part of the gate. It needs gcc, iproute2 and the built sslist. As root it uses a new
 network namespace.
