@@ -25,6 +25,8 @@ CRATES = ["netlink_core", "attribute_lists", "sock_diag_values", "sock_diag_reco
 # The extension crates and the programs, which are counted separately.
 OTHERS = ["sock_diag_families", "sock_diag_any", "sock_diag_extras", "sock_diag_filters",
     "sock_diag_examples", "capture_tables", "sock_diag_captures", "sockdiag_c", "sockdiag", "sslist"]
+# A module of these crates, except those that are generated from Rust.
+OURS = re.compile(rf"Rattle\.({'|'.join(CRATES + OTHERS)})\.specs\.(?!declared|contracts)")
 # Ghost members whose bodies need not be read. Most are laws, and their bodies are proofs. `eq`,
 # `test` and `tests` compute the result of `==`, which `eq_is_model`, `compared` and the functions
 # of laws.rt state without them. `asks` relates a line to what a private struct retains of it until
@@ -236,6 +238,8 @@ class Specs:
         """Marks the definition that a path refers to, and all that it depends on, as reached."""
         head, *rest = path.split(".")
         target, name = names.get(head, ("", ""))
+        if OURS.match(target) and target not in self.modules:
+            self.errors.append(f"{path}: there is no module {target}")
         module = self.modules.get(target)
         if not module or by and by.result().startswith("Layout ") and INVERSE in target:
             return

@@ -6,6 +6,8 @@
 set -eu
 top=$(CDPATH='' cd -- "$(dirname -- "$0")/.." && pwd)
 cd "$top"
+# The names of crates have no blanks.
+# shellcheck disable=SC2046
 [ $# -gt 0 ] || set -- $(ls tests/edits)
 for crate; do
     [ -d "crates/$crate" ] || { echo "tests/edits.sh: no crate $crate" >&2; exit 2; }
