@@ -114,10 +114,10 @@ def wrong_versions(files):
 def unusable_edits(files):
     """Yields the edits that cannot be applied: each `old:` text has to occur once in its file."""
     for name, text in files.items():
-        crate = re.match(r"(?:tests/edits/(\w+)|crates/(\w+)/must-fail)/\w+\.edit$", name)
+        crate = re.match(r"(?:tests/edits/(\w+)|crates/(\w+)/must-fail)/[^/]+\.edit$", name)
         if not crate:
             continue
-        path, changed = "", {}
+        path, old, changed = "", "", {"": ""}
         for word, rest in re.findall(r"(?m)^(file|old|new): ?(.*)$", text):
             if word == "file":
                 path = f"crates/{crate[1] or crate[2]}/{rest}"
@@ -128,7 +128,7 @@ def unusable_edits(files):
                 changed[path] = changed[path].replace(old, rest)
             else:
                 yield f"{name}: occurs {changed[path].count(old)} times in {path}: {old}"
-        if all(files.get(path) == text for path, text in changed.items()):
+        if all(files.get(path, "") == text for path, text in changed.items()):
             yield f"{name}: changes nothing"
 
 
