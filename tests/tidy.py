@@ -124,7 +124,7 @@ def unusable_edits(files):
                 changed.setdefault(path, files.get(path, ""))
             elif word == "old":
                 old = rest
-            elif changed[path].count(old) == 1:
+            elif old and changed[path].count(old) == 1:
                 changed[path] = changed[path].replace(old, rest)
             else:
                 yield f"{name}: occurs {changed[path].count(old)} times in {path}: {old}"
