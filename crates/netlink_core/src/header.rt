@@ -64,6 +64,7 @@ impl NetlinkHeader {
 
     /// Proof only: puts the range of each field in scope. No run-time effect.
     pub fn in_range(&self)
+        // FitFields fields numbers: each number fits the width of its field.
         ensures { FitFields header_fields (header_values self.now) }
     {
         let NetlinkHeader {

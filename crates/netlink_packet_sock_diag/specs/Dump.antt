@@ -17,6 +17,10 @@ use Rattle.netlink_packet_sock_diag.specs.declared.dump.DumpState.TheVariants.{O
 abbrev pub DumpStatus : Type 0
 DumpStatus = DumpState × Option ℤ
 
+-- the concatenation of lists
+abbrev pub concatenation : {A : Type 0} → List (List A) → List A
+concatenation lists = flat_map (λ one. one) lists
+
 -- `A` is the type of inner messages. An `Item A` is `Ok` and the payload of a message, or `Err` and
 -- its decode error. `payload.Done`, `payload.Error` and `payload.Overrun` are payloads; `Done`,
 -- `Error`, `Overrun` and `Reading` are states of a dump.
@@ -47,10 +51,6 @@ module _ {A : Type 0} where
       × (after ≡ before ++ flat_map inner_message_list passed)
       × MatchOption (slice_get later 0) (end ≡ Ok (Reading, None))
       (λ item. dump_end_at item ≡ Some end)
-
-  -- the concatenation of lists
-  abbrev pub concatenation : List (List A) → List A
-  concatenation lists = flat_map (λ one. one) lists
 
   -- `DumpOfDatagrams is before datagrams after end`: each datagram has its list of items
   -- (`AreItemsOf is`, where `is` relates a message to its item), and the concatenation of these

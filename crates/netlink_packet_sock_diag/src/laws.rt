@@ -352,8 +352,8 @@ pub fn lossy_dump_keeps_messages()
     // `DumpOfDatagrams is before datagrams after end`: as for `same_items_have_one_dump`; with
     // `IsItemOf message_codec` it is the dump of a `DumpReader`, and with
     // `HasLossyEntry message_codec` the dump of a `LossyDump`. `map (λ m. Ok m)`: messages as
-    // entries of a `LossyDump`. `Ok end`: the dump has no error; `end` is its state and error
-    // number.
+    // entries of a `LossyDump`. `Ok end`: no decode error ends the dump; `end` is its state, which
+    // is `Reading` if no message ends it, and its error number.
     ensures kept { (datagram : List ℕ) (before after : List Message) (end : DumpStatus)
         → DumpOfDatagrams (IsItemOf message_codec) before (datagram ∷ []) after (Ok end)
         → DumpOfDatagrams (HasLossyEntry message_codec) (map (λ (m : Message). Ok m) before)

@@ -27,6 +27,8 @@ pub(crate) const OK: u32 = 0;
 /// does not check their values.
 #[unsafe(no_mangle)]
 pub extern "C" fn sockdiag_check_unix_reply(payload: &[u8], header: &mut UnixHeader) -> u32
+    // In order: how the payload parses, its errors, the header that is stored, and the header
+    // before and after the call.
     ensures { IsCheckResult ((response_codec unix_response_spec).reads payload.now tt)
         ((response_codec unix_response_spec).refuses payload.now tt)
         (λ v. unix_header_of v.header) header.old header.new result }
@@ -54,6 +56,8 @@ pub extern "C" fn sockdiag_check_unix_reply(payload: &[u8], header: &mut UnixHea
 /// `sockdiag_next_attribute`, which does not check their values.
 #[unsafe(no_mangle)]
 pub extern "C" fn sockdiag_check_inet_reply(payload: &[u8], header: &mut InetHeader) -> u32
+    // In order: how the payload parses, its errors, the header that is stored, and the header
+    // before and after the call.
     ensures { IsCheckResult ((response_codec inet_response_spec).reads payload.now tt)
         ((response_codec inet_response_spec).refuses payload.now tt)
         (λ v. inet_header_of v.header) header.old header.new result }
@@ -79,6 +83,8 @@ pub extern "C" fn sockdiag_check_message(
     message_type: u16,
     reply: &mut Reply,
 ) -> u32
+    // In order: how the payload parses, its errors, the reply that is stored, and the reply before
+    // and after the call. The codec accepts only replies, of type 20 (SOCK_DIAG_BY_FAMILY).
     ensures { IsCheckResult (message_codec.reads payload.now message_type)
         (message_codec.refuses payload.now message_type)
         (reply_of reply.old) reply.old reply.new result }

@@ -135,6 +135,8 @@ pub extern "C" fn sockdiag_unix_get_details<'a>(
     payload: &'a [u8],
     details: &mut UnixDetails<'a>,
 ) -> u32
+    // In order: how the payload parses, its errors, what the struct has for a parsed reply, and the
+    // struct before and after the call.
     ensures { IsCheckResultBy ((response_codec unix_response_spec).reads payload.entry.now tt)
         ((response_codec unix_response_spec).refuses payload.entry.now tt) IsUnixDetailsOf
         details.old details.new
@@ -159,6 +161,8 @@ pub extern "C" fn sockdiag_inet_get_details<'a>(
     payload: &'a [u8],
     details: &mut InetDetails<'a>,
 ) -> u32
+    // In order: how the payload parses, its errors, what the struct has for a parsed reply, and the
+    // struct before and after the call.
     ensures { IsCheckResultBy ((response_codec inet_response_spec).reads payload.entry.now tt)
         ((response_codec inet_response_spec).refuses payload.entry.now tt) IsInetDetailsOf
         details.old details.new

@@ -44,6 +44,8 @@ pub extern "C" fn sockdiag_write_inet_request_with_attributes(
     buffer: &mut [u8],
     outcome: &mut Outcome,
 ) -> usize
+    // In order: the attributes that the bytes consist of (`given`), the framing error of the bytes,
+    // whether the message is writable, its bytes, and the buffer and the outcome.
     ensures { ParsesAndWrites (λ given. SplitsIntoAttributes attributes.now given [])
         (HasFramingError attributes.now)
         (λ _. IsWritableRequest request.now attributes.now)

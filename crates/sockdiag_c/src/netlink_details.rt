@@ -41,6 +41,8 @@ pub extern "C" fn sockdiag_netlink_get_details<'a>(
     payload: &'a [u8],
     details: &mut NetlinkDetails<'a>,
 ) -> u32
+    // In order: how the payload parses, the first error of the reply or else of its values, what
+    // the struct has for a parsed reply, and the struct before and after the call.
     ensures { IsCheckResultBy ((response_codec (raw_reply_spec netlink_header)).reads
         payload.entry.now tt)
         (RejectsReplyOrValue (raw_reply_spec netlink_header) netlink_value_errors payload.entry.now)

@@ -62,6 +62,8 @@ pub extern "C" fn sockdiag_packet_get_details<'a>(
     payload: &'a [u8],
     details: &mut PacketDetails<'a>,
 ) -> u32
+    // In order: how the payload parses, the first error of the reply or else of its values, what
+    // the struct has for a parsed reply, and the struct before and after the call.
     ensures { IsCheckResultBy ((response_codec (raw_reply_spec packet_header)).reads
         payload.entry.now tt)
         (RejectsReplyOrValue (raw_reply_spec packet_header) packet_value_errors payload.entry.now)

@@ -101,6 +101,7 @@ const PROTOCOL: u8 = 3;
 /// written.
 #[unsafe(no_mangle)]
 pub extern "C" fn sockdiag_write_unix_request(request: &UnixRequest, buffer: &mut [u8]) -> usize
+    // 20: SOCK_DIAG_BY_FAMILY.
     ensures { WritesMessage 40 (unix_message 20 request.now) buffer.old buffer.new result }
 {
     write_unix(SOCK_DIAG_BY_FAMILY, request, buffer)
@@ -112,6 +113,7 @@ pub extern "C" fn sockdiag_write_unix_request(request: &UnixRequest, buffer: &mu
 /// then nothing is written. Linux answers it with `EOPNOTSUPP`.
 #[unsafe(no_mangle)]
 pub extern "C" fn sockdiag_write_unix_destroy(request: &UnixRequest, buffer: &mut [u8]) -> usize
+    // 21: SOCK_DESTROY.
     ensures { WritesMessage 40 (unix_message 21 request.now) buffer.old buffer.new result }
 {
     write_unix(SOCK_DESTROY, request, buffer)

@@ -22,6 +22,8 @@ pub extern "C" fn sockdiag_vsock_get_details(
     payload: &[u8],
     details: &mut VsockResponseHeader,
 ) -> u32
+    // In order: how the payload parses, its errors, the header that is stored, and the header
+    // before and after the call.
     ensures { IsCheckResult ((response_codec (raw_reply_spec vsock_header)).reads payload.now tt)
         ((response_codec (raw_reply_spec vsock_header)).refuses payload.now tt)
         (λ v. v.header) details.old details.new result }

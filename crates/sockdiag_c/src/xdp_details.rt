@@ -61,6 +61,8 @@ pub struct XdpDetails {
 /// All other fields are set.
 #[unsafe(no_mangle)]
 pub extern "C" fn sockdiag_xdp_get_details(payload: &[u8], details: &mut XdpDetails) -> u32
+    // In order: how the payload parses, the first error of the reply or else of its values, what
+    // the struct has for a parsed reply, and the struct before and after the call.
     ensures { IsCheckResultBy ((response_codec (raw_reply_spec xdp_header)).reads payload.now tt)
         (RejectsReplyOrValue (raw_reply_spec xdp_header) xdp_value_errors payload.now)
         (IsXdpDetailsOf details.old)

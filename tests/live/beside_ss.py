@@ -1,14 +1,14 @@
 #!/usr/bin/env python3
 """Compares the output of sslist with the output of ss(8) for the same netlink messages.
 
-    tests/beside_ss.py                compares for each list of options in OPTIONS
-    tests/beside_ss.py OPTIONS ..     compares for these lists. A list is one argument, as in
-                                      "-an --vsock"
+    tests/live/beside_ss.py               compares for each list of options in OPTIONS
+    tests/live/beside_ss.py OPTIONS ..    compares for these lists. A list is one argument, as in
+                                          "-an --vsock"
 
-The script creates sockets of many kinds. A library that is preloaded into ss records what ss sends
-and receives on AF_NETLINK as a capture, which sslist lists. sslist has to list each socket that ss
-shows, print the same value wherever both print one, and end with status 0. Differences are printed,
-and the exit status is 1 if there is one.
+The script creates sockets of many kinds. A library that is preloaded into ss (record.c) records
+what ss sends and receives on AF_NETLINK as a capture, which sslist lists. sslist has to list each
+socket that ss shows, print the same value wherever both print one, and end with status 0.
+Differences are printed, and the exit status is 1 if there is one.
 
 It is not part of the gate. It needs gcc, iproute2 and the built sslist. As root it uses a new
 network namespace.
@@ -23,73 +23,10 @@ import sys
 import tempfile
 from pathlib import Path
 
-TOP = Path(__file__).resolve().parent.parent
+TOP = Path(__file__).resolve().parents[2]
 LISTER = TOP / "crates/sslist/out/sslist"
 OPTIONS = ["-tanioem", "-uanioem", "-xanem", "-anMei", "-s"]
 OPTIONS += ["-0anem", "-anemf netlink", "-anem --vsock", "-anem --xdp", "-an", "-anem"]
-RECORDER = r"""
-#define _GNU_SOURCE
-#include <dlfcn.h>
-#include <fcntl.h>
-#include <stdint.h>
-#include <stdlib.h>
-#include <string.h>
-#include <sys/socket.h>
-#include <sys/uio.h>
-#include <unistd.h>
-
-static void record(int fd, const struct iovec *parts, size_t count, ssize_t length)
-{
-    static const uint8_t header[24] = {0xd4, 0xc3, 0xb2, 0xa1, 2, 0, 4, 0, [18] = 4, [20] = 253};
-    static int file = -1;
-    int domain = 0, protocol = 0;
-    socklen_t size = sizeof domain;
-    if (length <= 0 || getsockopt(fd, SOL_SOCKET, SO_DOMAIN, &domain, &size)
-        || domain != AF_NETLINK)
-        return;
-    size = sizeof protocol;
-    getsockopt(fd, SOL_SOCKET, SO_PROTOCOL, &protocol, &size);
-    if (file < 0) {
-        file = open(getenv("CAPTURE"), O_WRONLY | O_CREAT | O_APPEND, 0600);
-        (void)!write(file, header, sizeof header);
-    }
-    uint32_t lengths[4] = {0, 0, length + 16, length + 16};
-    uint8_t front[16] = {0, 4, 3, 0x38, [14] = protocol >> 8, [15] = protocol};
-    (void)!write(file, lengths, sizeof lengths);
-    (void)!write(file, front, sizeof front);
-    for (size_t i = 0; i < count && length > 0; i++) {
-        size_t part = parts[i].iov_len < (size_t)length ? parts[i].iov_len : (size_t)length;
-        (void)!write(file, parts[i].iov_base, part);
-        length -= part;
-    }
-}
-
-ssize_t sendmsg(int fd, const struct msghdr *m, int flags)
-{
-    ssize_t (*real)(int, const struct msghdr *, int) = dlsym(RTLD_NEXT, "sendmsg");
-    ssize_t length = real(fd, m, flags);
-    record(fd, m->msg_iov, m->msg_iovlen, length);
-    return length;
-}
-
-ssize_t recvmsg(int fd, struct msghdr *m, int flags)
-{
-    ssize_t (*real)(int, struct msghdr *, int) = dlsym(RTLD_NEXT, "recvmsg");
-    ssize_t length = real(fd, m, flags);
-    if (!(flags & MSG_PEEK))
-        record(fd, m->msg_iov, m->msg_iovlen, length);
-    return length;
-}
-
-ssize_t send(int fd, const void *bytes, size_t count, int flags)
-{
-    ssize_t (*real)(int, const void *, size_t, int) = dlsym(RTLD_NEXT, "send");
-    struct iovec part = {(void *)bytes, count};
-    ssize_t length = real(fd, bytes, count, flags);
-    record(fd, &part, 1, length);
-    return length;
-}
-"""
 INET, INET6, UNIX = socket.AF_INET, socket.AF_INET6, socket.AF_UNIX
 STREAM, DATAGRAM, PACKETS = socket.SOCK_STREAM, socket.SOCK_DGRAM, socket.SOCK_SEQPACKET
 MPTCP = 262
@@ -322,8 +259,8 @@ def main():
         subprocess.run(["ip", "link", "set", "lo", "up"], check=True)
     with tempfile.TemporaryDirectory() as folder:
         recorder = f"{folder}/recorder.so"
-        words = ["gcc", "-shared", "-fPIC", "-x", "c", "-", "-o", recorder]
-        subprocess.run(words, input=RECORDER.encode(), check=True)
+        source = Path(__file__).with_name("record.c")
+        subprocess.run(["gcc", "-shared", "-fPIC", "-o", recorder, source], check=True)
         kept = make_sockets(folder)
         wrong = sum(compare(option, folder, recorder) for option in sys.argv[1:] or OPTIONS)
         del kept

@@ -2,7 +2,7 @@
  * Calls the functions of include/sockdiag.h with input that they accept, and most of them also with
  * input that they reject. The bytes are worked out by hand from the layouts of sock_diag(7),
  * netlink(7) and the kernel's headers, or were sent by Linux. Each field of each struct is compared
- * with bytes that no other field has. tests/c_face.sh builds and runs this program.
+ * with bytes that no other field has. tests/api/c_api.sh builds and runs this program.
  */
 #include "sockdiag.h"
 
@@ -17,7 +17,7 @@ static int failures;
 
 static void check(int holds, const char *what) {
     if (!holds) {
-        fprintf(stderr, "c_face: failed: %s\n", what);
+        fprintf(stderr, "c_api: failed: %s\n", what);
         failures++;
     }
 }
@@ -1058,6 +1058,6 @@ int main(void) {
     follows_a_dump();
     has_numbers();
     if (failures == 0)
-        puts("c_face: all tests pass");
+        puts("c_api: all tests pass");
     return failures != 0;
 }

@@ -1,20 +1,20 @@
 #!/bin/sh
-# Builds the static library of include/sockdiag.h, and calls it from C: tests/c_face.c compares what
-# the calls return, and tests/api/fuzz_c.c calls them with changed replies. Then installs the library, and lists the sockets of this machine by
-# examples/list_sockets.c, if the kernel permits it. Needs the kit's rt and a C compiler.
-# tools/release runs this script. So does tests/bindings.py, which the gate runs, if the library
-# takes only seconds to build.
+# Builds the static library of include/sockdiag.h, and calls it from C: tests/api/c_api.c compares
+# what the calls return, and tests/api/fuzz_c.c calls them with changed replies. Then installs the
+# library, and lists the sockets of this machine by examples/list_sockets.c, if the kernel permits
+# it. Needs the kit's rt and a C compiler. tools/release runs this script. So does
+# tests/bindings.py, which the gate runs, if the library takes only seconds to build.
 set -eu
-top=$(CDPATH='' cd -- "$(dirname -- "$0")/.." && pwd)
+top=$(CDPATH='' cd -- "$(dirname -- "$0")/../.." && pwd)
 work=$(mktemp -d)
 trap 'rm -rf "$work"' EXIT
 
-echo "c_face: proving and building the library"
+echo "c_api: proving and building the library"
 (cd "$top/crates/sockdiag_c" && rt lib) >"$work/log" 2>&1 || { cat "$work/log" >&2; exit 1; }
 
 # The library does not allocate, so it must not call an allocator.
 if nm -u "$top/crates/sockdiag_c/out/libsockdiag_c.a" | grep -E 'alloc|free'; then
-    echo "c_face: the library calls an allocator" >&2
+    echo "c_api: the library calls an allocator" >&2
     exit 1
 fi
 
@@ -26,8 +26,8 @@ build() {
         -o "$work/$name" "$source" "$top/crates/sockdiag_c/out/libsockdiag_c.a"
 }
 
-build c_face "$top/tests/c_face.c"
-"$work/c_face"
+build c_api "$top/tests/api/c_api.c"
+"$work/c_api"
 
 # The sanitizers check the test itself, and what the library passes to functions like memcpy.
 set -- -fsanitize=address,undefined
@@ -46,8 +46,8 @@ else
     build list_sockets "$top/examples/list_sockets.c"
 fi
 if LD_LIBRARY_PATH="$work/prefix/lib" "$work/list_sockets" >"$work/sockets" 2>"$work/errors"; then
-    echo "c_face: list_sockets: $(wc -l <"$work/sockets") sockets, beginning with:"
+    echo "c_api: list_sockets: $(wc -l <"$work/sockets") sockets, beginning with:"
     head -n 5 "$work/sockets"
 else
-    echo "c_face: list_sockets failed: $(cat "$work/errors")"
+    echo "c_api: list_sockets failed: $(cat "$work/errors")"
 fi

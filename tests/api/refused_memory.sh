@@ -12,11 +12,11 @@
 # script preloads a library that replaces malloc, so it needs a C compiler and a loader that
 # supports LD_PRELOAD.
 set -eu
-top=$(CDPATH='' cd -- "$(dirname -- "$0")/.." && pwd)
+top=$(CDPATH='' cd -- "$(dirname -- "$0")/../.." && pwd)
 work=$(mktemp -d)
 trap 'rm -rf "$work"' EXIT
 
-${CC:-cc} -shared -fPIC -O1 -o "$work/refuse.so" "$top/tests/refuse.c"
+${CC:-cc} -shared -fPIC -O1 -o "$work/refuse.so" "$top/tests/api/refuse.c"
 
 fail() {
     echo "refused_memory: $what: allocations $first to $last fail: $1" >&2

@@ -4,7 +4,7 @@
 # Needs cargo. tools/release runs this script. So does tests/bindings.py, which the gate runs, if
 # the library takes only seconds to build.
 set -eu
-top=$(CDPATH='' cd -- "$(dirname -- "$0")/.." && pwd)
+top=$(CDPATH='' cd -- "$(dirname -- "$0")/../.." && pwd)
 work=$(mktemp -d)
 trap 'rm -rf "$work"' EXIT
 
@@ -20,11 +20,11 @@ if command -v valgrind >/dev/null; then
     quiet env CARGO_TARGET_X86_64_UNKNOWN_LINUX_GNU_RUNNER='valgrind -q --error-exitcode=1' \
         cargo test --offline --test replies
 fi
-echo "rust_face: all tests pass"
+echo "rust_api: all tests pass"
 quiet cargo build --offline --example list_sockets
 if cargo run --offline --quiet --example list_sockets >"$work/sockets" 2>"$work/errors"; then
-    echo "rust_face: list_sockets: $(wc -l <"$work/sockets") sockets, beginning with:"
+    echo "rust_api: list_sockets: $(wc -l <"$work/sockets") sockets, beginning with:"
     head -n 5 "$work/sockets"
 else
-    echo "rust_face: list_sockets failed: $(cat "$work/errors")"
+    echo "rust_api: list_sockets failed: $(cat "$work/errors")"
 fi

@@ -3,7 +3,7 @@
 # must not compile. The compiler rejects it before the prover runs, so it cannot be a must-fail
 # edit. The script adds it to a copy of the crates.
 set -eu
-top=$(CDPATH='' cd -- "$(dirname -- "$0")/.." && pwd)
+top=$(CDPATH='' cd -- "$(dirname -- "$0")/../.." && pwd)
 work=$(mktemp -d)
 trap 'rm -rf "$work"' EXIT
 cp -a "$top/crates" "$top/crates.txt" "$top/HANDLES" "$work"
