@@ -15,8 +15,8 @@
  * The caller has to ensure the following, and nothing checks it:
  * - A pointer to bytes is valid for the length in bytes that the parameter next to it gives. The
  *   length is at most PTRDIFF_MAX. The pointer may be null if the length is 0.
- * - A pointer to a struct is aligned for it. All fields of a struct that a call reads are
- *   initialized: those of a const struct, and of a cursor.
+ * - A pointer to a struct is aligned for it. All fields of a const struct, and of a cursor, are
+ *   initialized.
  * - Memory that a call writes, which is a buffer or a struct that is not const, overlaps no other
  *   memory that the call is given. No other thread reads or writes it during the call. Memory that
  *   a call only reads is not written during the call.
@@ -422,7 +422,7 @@ struct sockdiag_reply {
  * An attribute with an invalid value makes the whole reply invalid. UNIX_DIAG_MEMINFO with fewer
  * than 36 bytes, which old kernels send, has SOCKDIAG_BUFFER_TOO_SMALL: do not request it with
  * UDIAG_SHOW_MEMINFO from such kernels. To parse a reply in spite of an invalid attribute, pass 16
- * (SOCKDIAG_UNIX_ATTRIBUTES) as the length if there are at least so many bytes: a header is a reply
+ * (SOCKDIAG_UNIX_ATTRIBUTES) as the length if the payload has 16 bytes or more: a header is a reply
  * without attributes. Then iterate over the attributes by sockdiag_next_attribute, which does not
  * check their values.
  */
@@ -436,12 +436,13 @@ uint32_t sockdiag_check_unix_reply(const uint8_t *payload, size_t length,
  *
  * An attribute with an invalid value makes the whole reply invalid. INET_DIAG_INFO with fewer than
  * 232 bytes has SOCKDIAG_BUFFER_TOO_SMALL. TCP sockets of kernels before Linux 5.4 have such
- * values, and MPTCP sockets of all kernels. Either do not request it: leave the bit 1 <<
- * (INET_DIAG_INFO - 1) out of the extensions. Or parse in parts: pass 72 (SOCKDIAG_INET_ATTRIBUTES)
- * as the length if there are at least so many bytes, since a header is a reply without attributes,
- * and get the connection by sockdiag_inet_get_tcp_info, which accepts any length, the memory by
- * sockdiag_inet_get_memory, and other attributes by sockdiag_next_attribute, which does not check
- * their values.
+ * values, and MPTCP sockets of all kernels. Either do not request it: leave INET_DIAG_INFO out of
+ * the extensions of the request. Or parse the reply in parts:
+ * - the header: if the payload has 72 bytes or more, pass 72 (SOCKDIAG_INET_ATTRIBUTES) as the
+ *   length, since a header is a reply without attributes;
+ * - the connection: sockdiag_inet_get_tcp_info, which accepts any length;
+ * - the memory: sockdiag_inet_get_memory, in the same way;
+ * - other attributes: sockdiag_next_attribute, which does not check their values.
  */
 uint32_t sockdiag_check_inet_reply(const uint8_t *payload, size_t length,
                                    struct sockdiag_inet_header *header);

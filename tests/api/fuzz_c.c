@@ -7,8 +7,8 @@
  * compared with what the header says: which values are possible, what is unchanged, that texts are
  * parts of the payload, that iterations end, and that a canonical form is its own canonical form.
  *
- * Build it with -fsanitize=address,undefined; tests/api/c_api.sh does, and runs it. The status is 1 if
- * a comparison fails; the seed that is printed repeats the run.
+ * Build it with -fsanitize=address,undefined, as tests/api/c_api.sh does, which runs it. The status
+ * is 1 if a comparison fails; the seed that is printed repeats the run.
  */
 #define _DEFAULT_SOURCE /* For MAP_ANONYMOUS. */
 #include "sockdiag.h"

@@ -25,8 +25,8 @@ pub struct NetlinkHeader {
     pub flags: u16,
     /// Sequence number, which a reply repeats (`nlmsg_seq`). At offset 8, 4 bytes.
     pub sequence_number: u32,
-    /// Port id (`nlmsg_pid`): in a request that of its sender or 0, in an answer of the kernel that
-    /// of the socket that sent the request. At offset 12, 4 bytes.
+    /// Port id (`nlmsg_pid`). A request has the port id of its sender, or 0. An answer of the
+    /// kernel has the port id of the socket that sent the request. At offset 12, 4 bytes.
     pub port_number: u32,
 }
 

@@ -22,7 +22,7 @@ pub(crate) const OK: u32 = 0;
 /// An attribute with an invalid value makes the whole reply invalid. `UNIX_DIAG_MEMINFO` with fewer
 /// than 36 bytes, which old kernels send, has `SOCKDIAG_BUFFER_TOO_SMALL`: do not request it with
 /// `UDIAG_SHOW_MEMINFO` from such kernels. To parse a reply in spite of an invalid attribute, pass
-/// 16 (`SOCKDIAG_UNIX_ATTRIBUTES`) as the length if there are at least so many bytes: a header is a
+/// 16 (`SOCKDIAG_UNIX_ATTRIBUTES`) as the length if the payload has 16 bytes or more: a header is a
 /// reply without attributes. Then iterate over the attributes by `sockdiag_next_attribute`, which
 /// does not check their values.
 #[unsafe(no_mangle)]
@@ -48,12 +48,13 @@ pub extern "C" fn sockdiag_check_unix_reply(payload: &[u8], header: &mut UnixHea
 ///
 /// An attribute with an invalid value makes the whole reply invalid. `INET_DIAG_INFO` with fewer
 /// than 232 bytes has `SOCKDIAG_BUFFER_TOO_SMALL`. TCP sockets of kernels before Linux 5.4 have
-/// such values, and MPTCP sockets of all kernels. Either do not request it: leave the bit `1 <<
-/// (INET_DIAG_INFO - 1)` out of the extensions. Or parse in parts: pass 72
-/// (`SOCKDIAG_INET_ATTRIBUTES`) as the length if there are at least so many bytes, since a header
-/// is a reply without attributes, and get the connection by `sockdiag_inet_get_tcp_info`, which
-/// accepts any length, the memory by `sockdiag_inet_get_memory`, and other attributes by
-/// `sockdiag_next_attribute`, which does not check their values.
+/// such values, and MPTCP sockets of all kernels. Either do not request it: leave `INET_DIAG_INFO`
+/// out of the extensions of the request. Or parse the reply in parts:
+/// - the header: if the payload has 72 bytes or more, pass 72 (`SOCKDIAG_INET_ATTRIBUTES`) as the
+///   length, since a header is a reply without attributes;
+/// - the connection: `sockdiag_inet_get_tcp_info`, which accepts any length;
+/// - the memory: `sockdiag_inet_get_memory`, in the same way;
+/// - other attributes: `sockdiag_next_attribute`, which does not check their values.
 #[unsafe(no_mangle)]
 pub extern "C" fn sockdiag_check_inet_reply(payload: &[u8], header: &mut InetHeader) -> u32
     // In order: how the payload parses, its errors, the header that is stored, and the header
