@@ -23,8 +23,9 @@
  *
  * A struct or number that a call returns need not be initialized, or set to zeros: no return value
  * depends on its contents. What the call does not set is unchanged. That is:
- * - all of it, if a check or a sockdiag_.._get_details returns the code of an error, if another
- *   getter returns 0, and if an iteration returns 0 or the code of a framing error;
+ * - all of it, if a check or a sockdiag_.._get_details returns the code of an error, if
+ *   sockdiag_unix_get_pending or sockdiag_get_error_number returns 0, and if an iteration returns 0
+ *   or the code of a framing error;
  * - if sockdiag_check_message returns 0, the header of the other kind;
  * - if sockdiag_packet_get_details or sockdiag_xdp_get_details returns 0, each record whose field
  *   has_.. is 0.

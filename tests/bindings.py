@@ -2,8 +2,8 @@
 """Compiles the C header and rust/sockdiag, and runs their tests if the library is soon built.
 
 - With a C compiler, `$CC` or `cc`, it compiles the header with tests/c_layout.c, which asserts the
-  offset of each field and the size of each struct, tests/api/c_api.c, tests/api/fuzz_c.c and
-  examples/list_sockets.c, as C99. Some are also compiled as C++.
+  offset of each field and the size of each struct, and as C99 the example and the C files in
+  tests/api that use it. Some are also compiled as C++.
 - If the library is built and is newer than the sources, tests/api/c_api.sh runs the calls from C,
   and tests/api/rust_api.sh runs the tests of rust/sockdiag. Otherwise rust/sockdiag is only
   compiled.
@@ -42,6 +42,7 @@ def compile_c(compiler):
         ("c", "c99", "tests/api/c_api.c"),
         ("c++", "c++11", "tests/api/c_api.c"),
         ("c", "c99", "tests/api/fuzz_c.c"),
+        ("c", "c99", "tests/api/fake_kernel.c"),
         ("c", "c99", "examples/list_sockets.c"),
         ("c++", "c++11", "examples/list_sockets.c"),
     ]:
