@@ -1,7 +1,7 @@
 use Rattle.std.proofs.Common.{◌≡◌, ◌++◌, flat_map, length}
 use Rattle.sock_diag_captures.specs.Details.{attribute_or_error_detail}
 use Rattle.sock_diag_captures.specs.Pieces.{attributes_or_error, attributes_or_error_left}
-use Rattle.sock_diag_captures.proofs.details.push_pieces.Given as goal
+use Rattle.sock_diag_captures.proofs.details.push_attributes.Given as goal
 
 -- the text so far, followed by the remaining details, is the text at the end
 abbrev pub invariant-loop-piece : goal.invariant-loop-piece
