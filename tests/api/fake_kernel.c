@@ -50,9 +50,9 @@ ssize_t send(int fd, const void *bytes, size_t length, int flags) {
 }
 
 /* Writes a message, and returns the number of bytes, a multiple of 4. */
-static size_t put(uint8_t *bytes, uint16_t type, uint16_t flags, uint32_t sequence_number,
+static size_t put(uint8_t *bytes, uint16_t type, uint16_t flags, uint32_t number,
                   const void *payload, size_t length) {
-    const struct nlmsghdr header = {(uint32_t)(16 + length), type, flags, sequence_number, OWN_PORT};
+    const struct nlmsghdr header = {(uint32_t)(16 + length), type, flags, number, OWN_PORT};
     memcpy(bytes, &header, 16);
     memcpy(bytes + 16, payload, length);
     return 16 + length;
