@@ -452,9 +452,9 @@ uint32_t sockdiag_check_inet_reply(const uint8_t *payload, size_t length,
  * Checks the whole payload of a message of this type, and stores the kind of the reply and its
  * header. The first byte is the family: AF_UNIX for a reply about a UNIX socket, AF_INET or
  * AF_INET6 for one about an internet socket. Any other family is rejected with
- * SOCKDIAG_UNKNOWN_FAMILY: replies about netlink, packet, vsock and XDP sockets have calls of their
- * own, sockdiag_netlink_get_details and so on. The header of the other kind is unchanged. Returns
- * 0, or the code of the first error; then the reply is unchanged.
+ * SOCKDIAG_UNKNOWN_FAMILY: replies about netlink, packet, vsock and XDP sockets have other calls,
+ * sockdiag_netlink_get_details and so on. The header of the other kind is unchanged. Returns 0, or
+ * the code of the first error; then the reply is unchanged.
  */
 uint32_t sockdiag_check_message(const uint8_t *payload, size_t length, uint16_t message_type,
                                 struct sockdiag_reply *reply);

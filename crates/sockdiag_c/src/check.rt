@@ -75,8 +75,8 @@ pub extern "C" fn sockdiag_check_inet_reply(payload: &[u8], header: &mut InetHea
 /// Checks the whole payload of a message of this type, and stores the kind of the reply and its
 /// header. The first byte is the family: `AF_UNIX` for a reply about a UNIX socket, `AF_INET` or
 /// `AF_INET6` for one about an internet socket. Any other family is rejected with
-/// `SOCKDIAG_UNKNOWN_FAMILY`: replies about netlink, packet, vsock and XDP sockets have calls of
-/// their own, `sockdiag_netlink_get_details` and so on. The header of the other kind is unchanged.
+/// `SOCKDIAG_UNKNOWN_FAMILY`: replies about netlink, packet, vsock and XDP sockets have other
+/// calls, `sockdiag_netlink_get_details` and so on. The header of the other kind is unchanged.
 /// Returns 0, or the code of the first error; then the reply is unchanged.
 #[unsafe(no_mangle)]
 pub extern "C" fn sockdiag_check_message(
