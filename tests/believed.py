@@ -20,11 +20,11 @@ from pathlib import Path
 
 ROOT = Path(__file__).resolve().parent.parent / "crates"
 CRATES = ["netlink_core", "attribute_lists", "sock_diag_values", "sock_diag_records",
-    "sock_diag_attributes", "sock_diag_replies", "netlink_packet_sock_diag", "line_server",
+    "sock_diag_attributes", "sock_diag_replies", "netlink_packet_sock_diag", "program_streams",
     "sock_diag_lines"]
 # The extension crates and the programs, which are counted separately.
 OTHERS = ["sock_diag_families", "sock_diag_any", "sock_diag_extras", "sock_diag_filters",
-    "sock_diag_examples", "capture_tables", "sock_diag_captures", "sockdiag_c", "sockdiag", "sslist"]
+    "sock_diag_examples", "sock_diag_captures", "sockdiag_c", "sockdiag", "sslist"]
 # A module of these crates, except those that are generated from Rust.
 OURS = re.compile(rf"Rattle\.({'|'.join(CRATES + OTHERS)})\.specs\.(?!declared|contracts)")
 # Ghost members whose bodies need not be read. Most are laws, and their bodies are proofs. `eq`,

@@ -53,7 +53,7 @@ for copy in one 'elsewhere/a tree'; do
     for file in rust/sockdiag/target/debug/it rust/sockdiag/Cargo.lock docs/NOTES.md; do
         echo 'not packed' >"$copy/$file"
     done
-    for crate in netlink_core line_server; do
+    for crate in netlink_core program_streams; do
         mkdir -p "$copy/crates/$crate/out/incremental/build" "$copy/crates/$crate/out/rlib"
         echo "$crate" >"$copy/crates/$crate/out/incremental/build/one"
         ln "$copy/crates/$crate/out/incremental/build/one" \
@@ -66,7 +66,7 @@ find elsewhere -type f -exec touch -d @1 {} + ! -path '*/tools/*' -exec chmod 60
 
 # pack COPY FOLDER: packs by the time 86400, if SOURCE_DATE_EPOCH is not set.
 pack() {
-    "$1/tools/pack" built "$2" netlink_core line_server >/dev/null
+    "$1/tools/pack" built "$2" netlink_core program_streams >/dev/null
 }
 
 export SOURCE_DATE_EPOCH=86400

@@ -7,19 +7,21 @@ use Rattle.std.specs.Prelude.{MatchResult}
 use Rattle.std.specs.Io.KnownBytes.{Appends, Consumes, Keeps, append_known}
 use Rattle.std.proofs.KnownBytes.{Appends-kept, Appends-trans, Consumes-nil, Consumes-trans}
 use Rattle.std.proofs.KnownBytes.{Keeps-refl}
-use Rattle.capture_tables.specs.Capture.{IsFileHeader, IsFileHeaderStop, IsPacketStop}
-use Rattle.capture_tables.specs.Capture.{IsPacketRecord, CapturedPacket}
-use Rattle.capture_tables.specs.declared.capture.CaptureError.{CaptureError}
-use Rattle.capture_tables.specs.declared.capture.CaptureError.TheVariants.{Cut, PacketTooLong}
-use Rattle.capture_tables.specs.declared.capture.CaptureError.TheVariants.{Directory, Read}
-use Rattle.capture_tables.specs.declared.capture.CaptureError.TheVariants.{Memory as NoMemory}
-use Rattle.capture_tables.specs.declared.capture.FileHeader.{FileHeader}
-use Rattle.capture_tables.specs.declared.run.RunError.{RunError}
-use Rattle.capture_tables.specs.declared.run.RunError.TheVariants.{Header, Packet, Memory}
-use Rattle.capture_tables.specs.declared.run.RunError.TheVariants.{Write, Closed}
-use Rattle.capture_tables.specs.declared.options.Options.{Options}
-use Rattle.capture_tables.specs.Reports.{closing_line}
-use Rattle.capture_tables.specs.Streams.{IsWriteFailure}
+use Rattle.program_streams.specs.Capture.{IsFileHeader, IsFileHeaderStop, IsPacketStop}
+use Rattle.program_streams.specs.Capture.{IsPacketRecord, CapturedPacket}
+use Rattle.program_streams.specs.declared.captures.CaptureError.{CaptureError}
+use Rattle.program_streams.specs.declared.captures.CaptureError.TheVariants.{Cut, PacketTooLong}
+use Rattle.program_streams.specs.declared.captures.CaptureError.TheVariants.{Read}
+use Rattle.program_streams.specs.declared.captures.CaptureError.TheVariants.{Memory as NoMemory}
+use Rattle.program_streams.specs.declared.captures.FileHeader.{FileHeader}
+use Rattle.sock_diag_captures.specs.declared.list_error.ListError.{ListError}
+use Rattle.sock_diag_captures.specs.declared.list_error.ListError.TheVariants.{Header, Packet}
+use Rattle.sock_diag_captures.specs.declared.list_error.ListError.TheVariants.{Memory}
+use Rattle.sock_diag_captures.specs.declared.list_error.ListError.TheVariants.{Write}
+use Rattle.program_streams.specs.declared.streams.ReadError.TheVariants.{Other}
+use Rattle.program_streams.specs.declared.streams.WriteError.{WriteError}
+use Rattle.sock_diag_captures.specs.declared.options.Options.{Options}
+use Rattle.sock_diag_captures.specs.Reports.{closing_line}
 use Rattle.sock_diag_captures.specs.Diagnostics.{DiagnosesPacket}
 use Rattle.sock_diag_captures.specs.Listing.{requests_after_packet}
 use Rattle.sock_diag_captures.specs.declared.requests.Asked.{Asked}
@@ -36,8 +38,7 @@ stop_weaker : (file : FileHeader) (left : Option (List ℕ)) (A B : Type 0) (par
     (fault : CaptureError)
     → IsPacketStop file left A part fault → IsPacketStop file left (A ⊎ B) part fault
 stop_weaker file left A B part Cut h = h
-stop_weaker file left A B part Read h = (h.0, inl h.1)
-stop_weaker file left A B part Directory h = (h.0, inl h.1)
+stop_weaker file left A B part (Read error) h = (h.0, inl h.1)
 stop_weaker file left A B part NoMemory h = h
 stop_weaker file left A B part (PacketTooLong listings) h = h
 stop_weaker file left A B part _ h = h
@@ -52,47 +53,34 @@ appended_known None more = tt
 appended_known (Some xs) more = refl
 
 -- The error of a packet that could not be read is not a failed write.
-pub no_write : (number : ℕ) (fault : CaptureError) (e : RunError) (P : Type 0)
-    → e ≡ Packet number fault → IsWriteFailure e → P
-no_write number fault e P is (inl write) = absurd cc
-no_write number fault e P is (inr closed) = absurd cc
+pub no_write : (number : ℕ) (fault : CaptureError) (e : ListError) (P : WriteError → Type 0)
+    → e ≡ Packet number fault → (error : WriteError) → e ≡ Write error → P error
+no_write number fault e P is error write = absurd cc
 
 -- A failed allocation is not a failed write.
-pub no_memory : (e : RunError) (P : Type 0) → e ≡ Memory → IsWriteFailure e → P
-no_memory e P is (inl write) = absurd cc
-no_memory e P is (inr closed) = absurd cc
+pub no_memory : (e : ListError) (P : WriteError → Type 0) → e ≡ Memory
+    → (error : WriteError) → e ≡ Write error → P error
+no_memory e P is error write = absurd cc
 
 -- The run failed because the file header could not be read.
 pub fails_at_header : (o : Options) (a d x : Option (List ℕ)) (heading front : List ℕ)
-    (Reported : List ℕ → Type 0) (unread : Type 0) (e : RunError) → Reported []
+    (Reported : List ℕ → Type 0) (unread : Type 0) (e : ListError) → Reported []
     → ((fault : CaptureError) × (e ≡ Header fault) × (part : List ℕ) × Consumes a d part
     × IsFileHeaderStop d unread part fault)
     → Fails o a d x x heading front Reported unread e
 fails_at_header o a d x heading front Reported unread e none (fault, is, part, read, stop) =
-    subst (λ (e : RunError). Fails o a d x x heading front Reported unread e) (sym is)
+    subst (λ (e : ListError). Fails o a d x x heading front Reported unread e) (sym is)
     (part, read, stop, Keeps-refl x, none)
 
--- The run failed because a write of the heading or of the table failed.
-pub fails_at_write : (o : Options) (a d x z : Option (List ℕ))
-    (heading front bytes lines diagnostics : List ℕ) (Reported : List ℕ → Type 0)
-    (whole : Bool) (unread : Type 0) (e : RunError)
-    → IsWriteFailure e → IsTableOfCapture o front bytes lines diagnostics whole
-    → Reported diagnostics
-    → Consumes a d bytes
-    → (sent rest : List ℕ) → heading ++ lines ≡ sent ++ rest → Appends x z sent
-    → Fails o a d x z heading front Reported unread e
-fails_at_write o a d x z heading front bytes lines diagnostics Reported whole unread e is table
-    reported read sent rest split appended =
-    let breaks : FailsAtWrite o a d x z heading front Reported =
-    (bytes, lines, diagnostics, whole, table, read, sent, rest, split, appended, reported) in
-    elim is [
-      | inl write ↦
-          subst (λ (e : RunError). Fails o a d x z heading front Reported unread e) (sym write)
-          breaks
-      | inr closed ↦
-          subst (λ (e : RunError). Fails o a d x z heading front Reported unread e) (sym closed)
-          breaks
-    ]
+-- A write of the heading or of the table failed.
+fails_at_write : (o : Options) (a d x z : Option (List ℕ))
+    (heading front bytes lines diagnostics : List ℕ) (Reported : List ℕ → Type 0) (whole : Bool)
+    → IsTableOfCapture o front bytes lines diagnostics whole → Reported diagnostics
+    → Consumes a d bytes → (sent rest : List ℕ) → heading ++ lines ≡ sent ++ rest
+    → Appends x z sent → FailsAtWrite o a d x z heading front Reported
+fails_at_write o a d x z heading front bytes lines diagnostics Reported whole table reported read
+    sent rest split appended =
+    (bytes, lines, diagnostics, whole, table, read, sent, rest, split, appended, reported)
 
 module _ (o : Options) (front : List ℕ) (file : FileHeader) (header : List ℕ)
     (long : length header ≡ 24) (is : IsFileHeader header file) where
@@ -143,14 +131,13 @@ module _ (o : Options) (front : List ℕ) (file : FileHeader) (header : List ℕ
         reported = reported;
       }
 
-  -- The run failed because the heading could not be written.
+  -- The heading could not be written.
   pub fails_at_heading : (a b x z : Option (List ℕ)) (heading : List ℕ)
-      (Reported : List ℕ → Type 0) (unread : Type 0) (e : RunError) → Reported []
-      → IsWriteFailure e
+      (Reported : List ℕ → Type 0) → Reported []
       → Consumes a b header → (sent rest : List ℕ) → heading ≡ sent ++ rest → Appends x z sent
-      → Fails o a b x z heading front Reported unread e
-  fails_at_heading a b x z heading Reported unread e none write first sent rest split appended =
-      fails_at_write o a b x z heading front (header ++ []) [] [] Reported true unread e write
+      → FailsAtWrite o a b x z heading front Reported
+  fails_at_heading a b x z heading Reported none first sent rest split appended =
+      fails_at_write o a b x z heading front (header ++ []) [] [] Reported true
       (table_of b b x x [] true 1 (progress_begins o front (IsPacketRecord file) b x)) none
       (Consumes-trans a b b header [] first (Consumes-nil b)) sent rest (append-nil heading
       ∙ split) appended
@@ -161,12 +148,12 @@ module _ (o : Options) (front : List ℕ) (file : FileHeader) (header : List ℕ
       (first : Consumes a b header) (begun : Appends x y heading) where
     module _ (Reported : List ℕ → Type 0) (reported : Reported p.diagnostics) where
       -- The run failed because a packet could not be read.
-      pub fails_at_packet : (d : Option (List ℕ)) (unread : Type 0) (e : RunError)
+      pub fails_at_packet : (d : Option (List ℕ)) (unread : Type 0) (e : ListError)
           → ((fault : CaptureError) × (e ≡ Packet number fault) × (part : List ℕ)
           × Consumes c d part × IsPacketStop file d unread part fault)
           → Fails o a d x z heading front Reported unread e
       fails_at_packet d unread e (fault, same, part, read, stop) =
-          subst (λ (e : RunError). Fails o a d x z heading front Reported unread e) (sym same) (
+          subst (λ (e : ListError). Fails o a d x z heading front Reported unread e) (sym same) (
             file,
             length p.packets,
             part,
@@ -179,7 +166,8 @@ module _ (o : Options) (front : List ℕ) (file : FileHeader) (header : List ℕ
 
       -- The run failed because the next packet has no number.
       pub fails_past_numbers : (unread : Type 0) → number ≡ 2 ^ 64 - 1
-          → Fails o a c x z heading front Reported unread (Packet (2 ^ 64 - 1) Read)
+          → Fails o a c x z heading front Reported unread
+          (Packet (2 ^ 64 - 1) (Read Other))
       fails_past_numbers unread last = (
         file,
         length p.packets,
@@ -191,12 +179,12 @@ module _ (o : Options) (front : List ℕ) (file : FileHeader) (header : List ℕ
       )
 
       -- The run failed because an allocation for the lines of a packet failed.
-      pub fails_at_memory : (d : Option (List ℕ)) (unread : Type 0) (e : RunError)
+      pub fails_at_memory : (d : Option (List ℕ)) (unread : Type 0) (e : ListError)
           (head : List ℕ) (packet : CapturedPacket) → e ≡ Memory
           → IsPacketRecord file head packet → Consumes c d (head ++ packet.bytes)
           → Fails o a d x z heading front Reported unread e
       fails_at_memory d unread e head packet memory record_of read =
-          subst (λ (e : RunError). Fails o a d x z heading front Reported unread e) (sym memory) (
+          subst (λ (e : ListError). Fails o a d x z heading front Reported unread e) (sym memory) (
             file,
             length p.packets,
             head,
@@ -207,37 +195,33 @@ module _ (o : Options) (front : List ℕ) (file : FileHeader) (header : List ℕ
                 reported first read begun,
           )
 
-      -- The run failed because the last flush failed.
-      pub fails_at_flush : (d z' : Option (List ℕ)) (unread : Type 0) (e : RunError)
-          → IsWriteFailure e
-          → Consumes c d [] → Keeps z z'
-          → Fails o a d x z' heading front Reported unread e
-      fails_at_flush d z' unread e write last kept =
+      -- The last flush failed.
+      pub fails_at_flush : (d z' : Option (List ℕ)) → Consumes c d [] → Keeps z z'
+          → FailsAtWrite o a d x z' heading front Reported
+      fails_at_flush d z' last kept =
           let lines = flat_map lines_of_packet p.listings in
           let read : Consumes a d (header ++ p.records) =
           subst (Consumes a d) (append-nil (header ++ p.records))
           (Consumes-trans a c d (header ++ p.records) []
           (Consumes-trans a b c header p.records first p.read) last) in
           fails_at_write o a d x z' heading front (header ++ p.records) lines p.diagnostics
-          Reported whole unread e write
-          (table_of b c y z asked whole number p) reported
+          Reported whole (table_of b c y z asked whole number p) reported
           read (heading ++ lines) [] (sym (append-nil (heading ++ lines)))
           (Appends-kept x z z' (heading ++ lines)
           (Appends-trans x y z heading lines begun p.appended) kept)
 
-    -- The run failed because the lines of a packet could not be written.
-    pub fails_at_lines : (Reported : List ℕ → Type 0) (d z' : Option (List ℕ)) (unread : Type 0)
-        (e : RunError)
+    -- The lines of a packet could not be written.
+    pub fails_at_lines : (Reported : List ℕ → Type 0) (d z' : Option (List ℕ))
         (head lines issues : List ℕ) (packet : CapturedPacket) (asked' : List Asked) (one : Bool)
-        → Reported (p.diagnostics ++ issues) → IsWriteFailure e
+        → Reported (p.diagnostics ++ issues)
         → IsPacketRecord file head packet → asked' ≡ requests_after_packet asked packet.bytes
         → IsListed o asked' packet (record { lines = lines; whole = one })
         → DiagnosesPacket front number packet [] issues
         → Consumes c d (head ++ packet.bytes)
         → (sent rest : List ℕ) → lines ≡ sent ++ rest → Appends z z' sent
-        → Fails o a d x z' heading front Reported unread e
-    fails_at_lines Reported d z' unread e head lines issues packet asked' one reported write
-        record_of next listed diagnosed read sent rest split appended =
+        → FailsAtWrite o a d x z' heading front Reported
+    fails_at_lines Reported d z' head lines issues packet asked' one reported record_of next
+        listed diagnosed read sent rest split appended =
         let before = flat_map lines_of_packet p.listings in
         let new : ListedPacket = record { lines = lines; whole = one } in
         let w = append_known z lines in
@@ -256,13 +240,13 @@ module _ (o : Options) (front : List ℕ) (file : FileHeader) (header : List ℕ
         Consumes-trans a b d header (p.records ++ (head ++ packet.bytes)) first
         (Consumes-trans b c d p.records (head ++ packet.bytes) p.read read) in
         elim (bool_cases whole) [
-          | inl t ↦ fails_at_write o a d x z' heading front _ _ _ Reported one unread e write
+          | inl t ↦ fails_at_write o a d x z' heading front _ _ _ Reported one
               (table_of b d y w asked' one (number + 1)
               (progress_continues_complete o front (IsPacketRecord file) b c d y z w head lines
               issues packet asked
               asked' one whole number t p record_of next listed diagnosed read wrote))
               reported bytes ((heading ++ before) ++ sent) rest joined all
-          | inr f ↦ fails_at_write o a d x z' heading front _ _ _ Reported whole unread e write
+          | inr f ↦ fails_at_write o a d x z' heading front _ _ _ Reported whole
               (table_of b d y w asked' whole (number + 1)
               (progress_continues_incomplete o front (IsPacketRecord file) b c d y z w head lines
               issues packet asked
@@ -317,7 +301,7 @@ module _ (o : Options) (left left' held held' : Option (List ℕ)) (heading fron
     implies diagnostics reported,
   )
 
-  pub fails_implies : (unread : Type 0) (e : RunError)
+  pub fails_implies : (unread : Type 0) (e : ListError)
       → Fails o left left' held held' heading front P unread e
       → Fails o left left' held held' heading front Q unread e
   fails_implies unread (Header fault) (part, read, stop, kept, reported) =
@@ -326,8 +310,7 @@ module _ (o : Options) (left left' held held' : Option (List ℕ)) (heading fron
       (file, packets, part, run_state_implies file packets part h, is, stop)
   fails_implies unread Memory (file, packets, header, packet, is, h) =
       (file, packets, header, packet, is, run_state_implies file packets (header ++ packet.bytes) h)
-  fails_implies unread Write h = fails_at_write_implies h
-  fails_implies unread Closed h = fails_at_write_implies h
+  fails_implies unread (Write error) h = fails_at_write_implies h
 
   pub finishes_implies : (whole : Bool)
       → Finishes o left left' held held' heading front P whole
@@ -345,7 +328,7 @@ module _ (o : Options) (left left' held held' : Option (List ℕ)) (heading fron
 
 -- The outcome of a run, if the line that names a failure was reported after the diagnostics.
 pub run_outcome : (o : Options) (left left' held held' : Option (List ℕ)) (heading front : List ℕ)
-    (P Q : List ℕ → Type 0) (unread : Type 0) (r : Result Bool RunError)
+    (P Q : List ℕ → Type 0) (unread : Type 0) (r : Result Bool ListError)
     → ((diagnostics : List ℕ) → P diagnostics → Q (diagnostics ++ closing_text front r))
     → IfOk r (Finishes o left left' held held' heading front P)
     → IfErr r (Fails o left left' held held' heading front P unread)
@@ -360,6 +343,6 @@ run_outcome o left left' held held' heading front P Q unread (Err e) implies fin
     (λ diagnostics. Q (diagnostics ++ closing_line front e)) implies unread e fails
 
 -- If a run listed the whole capture without errors, the clause of its success holds.
-pub complete_outcome : (P : Bool → Type 0) (Q : RunError → Type 0) (r : Result Bool RunError)
+pub complete_outcome : (P : Bool → Type 0) (Q : ListError → Type 0) (r : Result Bool ListError)
     → r ≡ Ok true → MatchResult r P Q → P true
-complete_outcome P Q r is h = subst (λ (r : Result Bool RunError). MatchResult r P Q) is h
+complete_outcome P Q r is h = subst (λ (r : Result Bool ListError). MatchResult r P Q) is h

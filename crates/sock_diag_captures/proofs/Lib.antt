@@ -6,3 +6,11 @@ pub mod Diagnosing
 pub mod Progress
 pub mod Failing
 pub mod IssueEquality
+pub mod Adding
+pub mod Filling
+pub mod Showing
+pub mod Telling
+pub mod Reporting
+pub mod Choosing
+pub mod Listed
+pub mod OptionsEquality

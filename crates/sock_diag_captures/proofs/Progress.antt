@@ -8,8 +8,8 @@ use Rattle.std.specs.List.{AllByRecursion}
 use Rattle.std.specs.Io.KnownBytes.{Appends, Consumes}
 use Rattle.std.proofs.KnownBytes.{Appends-nil, Appends-trans, Consumes-nil, Consumes-trans}
 use Rattle.std.proofs.lemmas.Grind.{flat_map-append}
-use Rattle.capture_tables.specs.Capture.{CapturedPacket}
-use Rattle.capture_tables.specs.declared.options.Options.{Options}
+use Rattle.program_streams.specs.Capture.{CapturedPacket}
+use Rattle.sock_diag_captures.specs.declared.options.Options.{Options}
 use Rattle.sock_diag_captures.specs.Diagnostics.{AreDiagnosed, DiagnosesPacket}
 use Rattle.sock_diag_captures.specs.Listing.{requests_after_packet}
 use Rattle.sock_diag_captures.specs.Run.{AreListed, ArePackets, IsListed, IsListedWithoutErrors}

@@ -6,17 +6,20 @@ use Rattle.std.specs.Prelude.{slice_index, Option, None, Some, Result, Ok, Err}
 use Rattle.std.specs.Option.{option_map_or}
 use Rattle.std.specs.Result.{result_ok}
 use Rattle.byteorder.specs.Endian.{little_number}
-use Rattle.capture_tables.specs.Parts.{cookie_if_shown, detail, directions, flag_detail, hex_detail}
-use Rattle.capture_tables.specs.Parts.{optional_part, packet_flags, pair_detail, nonzero_detail}
-use Rattle.capture_tables.specs.Parts.{timer_if_shown}
-use Rattle.capture_tables.specs.Escapes.{shown_name}
-use Rattle.capture_tables.specs.Options.{shows_detail}
-use Rattle.capture_tables.specs.declared.parts.TimerWords.{TimerWords}
-use Rattle.capture_tables.specs.declared.options.Detail.{Detail}
-use Rattle.capture_tables.specs.declared.options.Detail.TheVariants.{Extended, Memory, Connection}
-use Rattle.capture_tables.specs.declared.options.Family.{Family}
-use Rattle.capture_tables.specs.declared.options.Family.TheVariants.{Netlink, Packet, Vsock, Xdp}
-use Rattle.capture_tables.specs.declared.options.Options.{Options}
+use Rattle.sock_diag_captures.specs.Parts.{cookie_if_shown, detail, directions, flag_detail}
+use Rattle.sock_diag_captures.specs.Parts.{hex_detail}
+use Rattle.sock_diag_captures.specs.Parts.{optional_part, packet_flags, pair_detail, nonzero_detail}
+use Rattle.sock_diag_captures.specs.Parts.{timer_if_shown}
+use Rattle.sock_diag_captures.specs.Escapes.{shown_name}
+use Rattle.sock_diag_captures.specs.Options.{shows_detail}
+use Rattle.sock_diag_captures.specs.declared.parts.TimerWords.{TimerWords}
+use Rattle.sock_diag_captures.specs.declared.options.Detail.{Detail}
+use Rattle.sock_diag_captures.specs.declared.options.Detail.TheVariants.{Extended, Memory}
+use Rattle.sock_diag_captures.specs.declared.options.Detail.TheVariants.{Connection}
+use Rattle.sock_diag_captures.specs.declared.options.Family.{Family}
+use Rattle.sock_diag_captures.specs.declared.options.Family.TheVariants.{Netlink, Packet, Vsock}
+use Rattle.sock_diag_captures.specs.declared.options.Family.TheVariants.{Xdp}
+use Rattle.sock_diag_captures.specs.declared.options.Options.{Options}
 use Rattle.netlink_core.specs.Attribute.{Attribute, attribute_kind}
 use Rattle.netlink_core.specs.AttributeSet.{decode_attribute}
 use Rattle.netlink_core.specs.Layout.{parse_record}

@@ -3,8 +3,8 @@
 use Rattle.std.specs.Prelude.{◌≡◌, ℕ, ◌+◌, ◌==◌, if◌then◌else◌, nat_lt, List, [], ◌∷◌, ◌++◌, ◌⊎◌}
 use Rattle.std.specs.Prelude.{bit_and, codes, decimal, drop, length, Option, None, Some}
 use Rattle.byteorder.specs.Endian.{little_number}
-use Rattle.capture_tables.specs.Capture.{CapturedPacket}
-use Rattle.capture_tables.specs.Reports.{truncation_line, short_line}
+use Rattle.program_streams.specs.Capture.{CapturedPacket}
+use Rattle.sock_diag_captures.specs.Reports.{truncation_line, short_line}
 use Rattle.netlink_core.specs.Datagram.{SplitsIntoMessages}
 use Rattle.netlink_core.specs.declared.fault.DecodeError.{DecodeError}
 use Rattle.netlink_core.specs.declared.fault.DecodeError.TheVariants.{Memory, BufferTooSmall}

@@ -7,4 +7,14 @@ pub mod Others
 pub mod Listing
 pub mod Diagnostics
 pub mod Run
+pub mod Escapes
+pub mod Options
+pub mod Words
+pub mod Cells
+pub mod CellsModel
+pub mod Parts
+pub mod Times
+pub mod Choice
+pub mod Files
+pub mod Reports
 pub mod private

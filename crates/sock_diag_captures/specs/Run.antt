@@ -3,13 +3,14 @@ use Rattle.std.specs.Prelude.{◌≡◌, ◌↔◌, ℕ, ◌+◌, ◌-◌, ◌^�
 use Rattle.std.specs.Prelude.{flat_map, Bool, IsTrue, Option, ⊤}
 use Rattle.std.specs.Io.KnownBytes.{Appends, Consumes, IsAtEnd, Keeps}
 use Rattle.std.specs.List.{AllByRecursion}
-use Rattle.capture_tables.specs.declared.capture.FileHeader.{FileHeader}
-use Rattle.capture_tables.specs.declared.run.RunError.{RunError}
-use Rattle.capture_tables.specs.declared.run.RunError.TheVariants.{Header, Packet, Write, Closed}
-use Rattle.capture_tables.specs.declared.run.RunError.TheVariants.{Memory}
-use Rattle.capture_tables.specs.Capture.{IsFileHeader, IsFileHeaderStop, IsPacketStop}
-use Rattle.capture_tables.specs.Capture.{IsPacketRecord, CapturedPacket}
-use Rattle.capture_tables.specs.declared.options.Options.{Options}
+use Rattle.program_streams.specs.declared.captures.FileHeader.{FileHeader}
+use Rattle.sock_diag_captures.specs.declared.list_error.ListError.{ListError}
+use Rattle.sock_diag_captures.specs.declared.list_error.ListError.TheVariants.{Header, Packet}
+use Rattle.sock_diag_captures.specs.declared.list_error.ListError.TheVariants.{Write}
+use Rattle.sock_diag_captures.specs.declared.list_error.ListError.TheVariants.{Memory}
+use Rattle.program_streams.specs.Capture.{IsFileHeader, IsFileHeaderStop, IsPacketStop}
+use Rattle.program_streams.specs.Capture.{IsPacketRecord, CapturedPacket}
+use Rattle.sock_diag_captures.specs.declared.options.Options.{Options}
 use Rattle.sock_diag_captures.specs.Diagnostics.{AreDiagnosed}
 use Rattle.sock_diag_captures.specs.Listing.{ListsCapturedPacket, requests_after_packet}
 use Rattle.sock_diag_captures.specs.declared.requests.Asked.{Asked}
@@ -121,8 +122,8 @@ module _ (o : Options) (left left' held held' : Option (List ℕ)) (heading fron
   --   number 2 ^ 64 - 1 is never read: the run fails there as if a read had failed.
   -- * Memory: an allocation failed while a packet was listed, which had been read. The packets
   --   before it were listed.
-  -- * Write, Closed: a write or the last flush failed.
-  abbrev pub Fails : Type 0 → RunError → Type 0
+  -- * Write: a write or the last flush failed.
+  abbrev pub Fails : Type 0 → ListError → Type 0
   Fails unread (Header fault) =
       (part : List ℕ) × Consumes left left' part × IsFileHeaderStop left' unread part fault
       × Keeps held held' × Reported []
@@ -132,8 +133,7 @@ module _ (o : Options) (left left' held held' : Option (List ℕ)) (heading fron
   Fails unread Memory =
       (file : FileHeader) × (packets : ℕ) × (header : List ℕ) × (packet : CapturedPacket)
       × IsPacketRecord file header packet × RunState file packets (header ++ packet.bytes)
-  Fails unread Write = FailsAtWrite
-  Fails unread Closed = FailsAtWrite
+  Fails unread (Write error) = FailsAtWrite
 
   -- The state of a run that succeeded: a whole capture was read up to the end of the input, all of
   -- its table was written, and its diagnostics were reported. `is_whole` is true if and only if

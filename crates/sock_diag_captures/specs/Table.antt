@@ -2,12 +2,12 @@
 use Rattle.std.specs.Prelude.{ℕ, ◌==◌, nat_lt, if◌then◌else◌, ◌&&◌, Bool, List, [], ◌∷◌, ◌++◌}
 use Rattle.std.specs.Prelude.{length, codes, Option, None, Some, slice_index, option_map, drop}
 use Rattle.std.specs.Prelude.{◌||◌}
-use Rattle.capture_tables.specs.Cells.{endpoint, table_line, peer_cell}
-use Rattle.capture_tables.specs.Parts.{no_timer, details_after_separator}
-use Rattle.capture_tables.specs.Escapes.{byte_digits, unescaped_bytes, shown_name}
-use Rattle.capture_tables.specs.Options.{lists_protocol, lists_unix}
-use Rattle.capture_tables.specs.declared.parts.TimerWords.{TimerWords}
-use Rattle.capture_tables.specs.declared.options.Options.{Options}
+use Rattle.sock_diag_captures.specs.Cells.{endpoint, table_line, peer_cell}
+use Rattle.sock_diag_captures.specs.Parts.{no_timer, details_after_separator}
+use Rattle.sock_diag_captures.specs.Escapes.{byte_digits, unescaped_bytes, shown_name}
+use Rattle.sock_diag_captures.specs.Options.{lists_protocol, lists_unix}
+use Rattle.sock_diag_captures.specs.declared.parts.TimerWords.{TimerWords}
+use Rattle.sock_diag_captures.specs.declared.options.Options.{Options}
 use Rattle.sock_diag_records.specs.declared.inet.response.InetResponseHeader.{InetResponseHeader}
 use Rattle.sock_diag_records.specs.declared.unix.response.UnixResponseHeader.{UnixResponseHeader}
 use Rattle.sock_diag_attributes.specs.declared.unix.name.SocketName.{SocketName}

@@ -2,7 +2,7 @@
 //! invalid.
 
 ghost use Rattle.std.specs.Prelude.{◌≡◌, ◌≤◌, ◌++◌, Ok, flat_map, codes, length, OnOk};
-ghost use Rattle.capture_tables.specs.Parts.{detail, separator, details_after_separator};
+ghost use Rattle.sock_diag_captures.specs.Parts.{detail, separator, details_after_separator};
 ghost use Rattle.netlink_core.specs.Walk.{buffered_attribute};
 ghost use Rattle.sock_diag_attributes.specs.InetModel.{inet_nla_view_model as inet_view_model};
 ghost use Rattle.sock_diag_attributes.specs.InetModel.{inet_variant};
@@ -18,13 +18,15 @@ ghost use Rattle.sock_diag_captures.specs.Details.{tcp_option_flags, timer_in, u
 ghost use Rattle.sock_diag_captures.specs.Details.{unknown_attribute_text};
 ghost use Rattle.sock_diag_captures.specs.Pieces.{attributes_or_error};
 
+use crate::cells::push_number;
+use crate::names::push_shown;
+use crate::options::{Detail, Family, Options};
+use crate::parts::{
+    TimerWords, push_detail, push_directions, push_flag, push_hex_detail, push_packet_flags,
+    push_pair, push_part, push_shown_cookie, push_shown_timer, push_some, separator,
+};
 use crate::pieces::next_piece;
 use byteorder::{ByteOrder, LittleEndian};
-use capture_tables::{
-    Detail, Family, Options, TimerWords, push_detail, push_directions, push_flag, push_hex_detail,
-    push_number, push_packet_flags, push_pair, push_part, push_shown, push_shown_cookie,
-    push_shown_timer, push_some, separator,
-};
 use netlink_core::{DecodeError, NlaBuffer, NlasIterator};
 use sock_diag_attributes::inet::nlas::NlaView as InetView;
 use sock_diag_attributes::unix::nlas::{NlaView as UnixView, NumbersView};
@@ -106,7 +108,7 @@ pub(crate) fn push_details(
 
 /// Appends the timer of a socket, its cookie, and the details of each attribute, as far as the
 /// options select them.
-#[tactic(auto, using(capture_tables::proofs::Adding::appended_texts_concatenate))]
+#[tactic(auto, using(crate::proofs::Adding::appended_texts_concatenate))]
 fn push_selected(
     text: &mut Vec<u8>,
     options: Options,
@@ -281,7 +283,7 @@ fn push_other(text: &mut Vec<u8>, family: Family, nla: &NlaBuffer<'_>) -> Result
 }
 
 /// Appends the version, the copy threshold and the flags of a packet socket.
-#[tactic(auto, using(capture_tables::proofs::Adding::appended_texts_concatenate))]
+#[tactic(auto, using(crate::proofs::Adding::appended_texts_concatenate))]
 fn push_packet_info(text: &mut Vec<u8>, info: &PacketInfo) -> Result<(), AllocError>
     ensures { OnOk result (text.new.items ≡ text.old.items ++ packet_text info.now) }
 {
@@ -383,7 +385,7 @@ fn push_legacy_memory(text: &mut Vec<u8>, info: &LegacyMemInfo) -> Result<(), Al
 }
 
 /// Appends the details of a TCP connection (`INET_DIAG_INFO`).
-#[tactic(auto, using(capture_tables::proofs::Adding::appended_texts_concatenate))]
+#[tactic(auto, using(crate::proofs::Adding::appended_texts_concatenate))]
 fn push_connection(text: &mut Vec<u8>, info: &TcpInfo) -> Result<(), AllocError>
     ensures { OnOk result (text.new.items ≡ text.old.items ++ tcp_details info.now) }
 {

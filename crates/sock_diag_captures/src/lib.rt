@@ -5,31 +5,48 @@ ghost use Rattle.std.specs.Prelude.{◌≡◌, ◌↔◌, ◌++◌, Bool, true};
 ghost use Rattle.std.specs.Prelude.{MatchResult, Result, ⊤};
 ghost use Rattle.std.specs.Process.{exit_status};
 ghost use Rattle.std.specs.Io.KnownBytes.{IsAtEnd};
-ghost use Rattle.capture_tables.specs.Reports.{ReportsText, ReportsMore, WritesPrefix};
-ghost use Rattle.capture_tables.specs.Reports.{closing_line};
-ghost use Rattle.capture_tables.specs.declared.run.RunError.{RunError};
+ghost use Rattle.sock_diag_captures.specs.Reports.{ReportsText, ReportsMore, WritesPrefix};
+ghost use Rattle.sock_diag_captures.specs.Reports.{closing_line};
+ghost use Rattle.program_streams.specs.declared.streams.WriteError.{WriteError};
+ghost use Rattle.sock_diag_captures.specs.declared.list_error.ListError.{ListError};
 ghost use Rattle.sock_diag_captures.specs.Run.{Fails, Finishes};
 ghost use Rattle.sock_diag_captures.specs.private.Run.{closing_text};
 
+mod cells;
+mod choice;
 mod details;
 mod fault_text;
+mod files;
 pub mod laws;
 mod line;
 mod list;
+mod list_error;
 mod name_cells;
+mod names;
+mod notes;
+mod options;
 mod others;
+mod parts;
 mod pieces;
+mod reports;
 mod request_line;
 mod requests;
 mod stream;
+mod times;
+mod words;
 
-use capture_tables::{Sink, Source, report_failure};
-pub use capture_tables::{
-    ByteOrder, CaptureError, Choice, FileHeader, ListCapture, Options, Packet, PacketHeader,
-    RunError, TimeUnit, Written, choose, list_captures,
-};
+pub use choice::{Choice, choose};
+pub use files::{ListCapture, list_captures};
 pub use line::HEADING;
 pub use list::{Issue, list_packet};
+pub use list_error::ListError;
+pub use notes::Written;
+pub use options::{Detail, Family, Options};
+pub use program_streams::{
+    ByteOrder, CaptureError, FileHeader, Packet, PacketHeader, ReadError, TimeUnit, WriteError,
+};
+use program_streams::{Sink, Source};
+use reports::report_failure;
 pub use requests::{Asked, Requests};
 use std::alloc::Global;
 use std::io::{Read, Write};
@@ -96,7 +113,7 @@ pub fn run_to_status<R: Read, W: Write, E: Write>(
     // 1. On `errors` are the diagnostics and the line that names the failure, or a prefix of this
     // text. ⊤: a standard reader does not report whether a read failed, so `Read` is always
     // possible.
-    ensures outcome { (outcome : Result Bool RunError)
+    ensures outcome { (outcome : Result Bool ListError)
         × ((exit_status result ≡ 0) ↔ (outcome ≡ Ok true))
         × ((exit_status result ≡ 1) ↔ ¬ (outcome ≡ Ok true))
         × MatchResult outcome
@@ -121,18 +138,18 @@ fn list_to_status<R: Source, W: Sink, E: Sink>(
     errors: &mut E,
 ) -> ExitCode
     ensures ended { exit_status result ≡ 0 → IsAtEnd (R.left input.new) }
-    ensures outcome { (outcome : Result Bool RunError) × (is_open : Bool)
+    ensures outcome { (outcome : Result Bool ListError) × (is_open : Bool)
         × ((exit_status result ≡ 0) ↔ (outcome ≡ Ok true))
         × ((exit_status result ≡ 1) ↔ ¬ (outcome ≡ Ok true))
         × MatchResult outcome
         (Finishes options (R.left input.old) (R.left input.new) (W.held output.old)
         (W.held output.new) HEADING.now front.now
         (λ diagnostics. ReportsText (E.held errors.old) (E.held errors.new)
-        ((e : RunError) × E.failed errors.new e) diagnostics is_open))
+        ((e : WriteError) × E.failed errors.new e) diagnostics is_open))
         (λ e. Fails options (R.left input.old) (R.left input.new) (W.held output.old)
         (W.held output.new) HEADING.now front.now
         (λ diagnostics. ReportsText (E.held errors.old) (E.held errors.new)
-        ((e : RunError) × E.failed errors.new e)
+        ((e : WriteError) × E.failed errors.new e)
         (diagnostics ++ closing_line front.now e) is_open) (R.failed input.new) e) }
 {
     let mut is_open = true;
@@ -148,10 +165,10 @@ fn report_outcome<E: Sink>(
     errors: &mut E,
     is_open: &mut bool,
     front: &str,
-    outcome: &Result<bool, RunError>,
+    outcome: &Result<bool, ListError>,
 )
-    ensures { ReportsMore (E.held errors.old) ((e : RunError) × E.failed errors.old e) is_open.old
-        (E.held errors.new) ((e : RunError) × E.failed errors.new e) is_open.new
+    ensures { ReportsMore (E.held errors.old) ((e : WriteError) × E.failed errors.old e) is_open.old
+        (E.held errors.new) ((e : WriteError) × E.failed errors.new e) is_open.new
         (closing_text front.now outcome.now) }
 {
     match outcome {
@@ -161,7 +178,7 @@ fn report_outcome<E: Sink>(
 }
 
 /// Returns the exit status of a run: 0 if the whole capture was listed without errors, otherwise 1.
-fn exit_code(outcome: &Result<bool, RunError>) -> ExitCode
+fn exit_code(outcome: &Result<bool, ListError>) -> ExitCode
     ensures success { (exit_status result ≡ 0) ↔ (outcome.now ≡ Ok true) }
     ensures failure { (exit_status result ≡ 1) ↔ ¬ (outcome.now ≡ Ok true) }
 {

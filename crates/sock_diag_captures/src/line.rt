@@ -1,7 +1,7 @@
 //! Lines of the replies about UNIX, IPv4 and IPv6 sockets.
 
 ghost use Rattle.std.specs.Prelude.{◌≡◌, ◌++◌, None, Some, drop, IfOk, OnOk, option_map};
-ghost use Rattle.capture_tables.specs.CellsModel.{cells_model};
+ghost use Rattle.sock_diag_captures.specs.CellsModel.{cells_model};
 ghost use Rattle.netlink_core.specs.Layout.{parse_record};
 ghost use Rattle.sock_diag_records.specs.InetResponse.{inet_response_header};
 ghost use Rattle.sock_diag_records.specs.UnixResponseHeader.{unix_response_header};
@@ -15,14 +15,13 @@ ghost use Rattle.sock_diag_captures.specs.Pieces.{attributes_or_error, first_con
 ghost use Rattle.sock_diag_captures.specs.Table.{family_name, inet_kind, inet_line, inet_lines};
 ghost use Rattle.sock_diag_captures.specs.Table.{unix_kind, unix_line, unix_lines};
 
+use crate::cells::{Cells, push_endpoint, push_endpoint_column, push_first_columns, push_peer};
 use crate::details::{Sockets, push_details, timer_of};
 use crate::name_cells::push_name_column;
+use crate::options::Options;
 use crate::others::push_other;
+use crate::parts::{NO_TIMER, TimerWords};
 use crate::pieces::{find_fault, find_kind};
-use capture_tables::{
-    Cells, NO_TIMER, Options, TimerWords, push_endpoint, push_endpoint_column, push_first_columns,
-    push_peer,
-};
 use netlink_core::DecodeError;
 use sock_diag_attributes::unix::nlas::{NameView, NlaView};
 use sock_diag_records::constants::{

@@ -2,7 +2,7 @@
 
 ghost use Rattle.std.specs.Prelude.{◌≡◌, ◌↔◌, ◌≤◌, ◌<◌, ◌+◌, ◌++◌, IfOk, OnOk, IsTrue, length};
 ghost use Rattle.std.specs.Prelude.{option_map, Some};
-ghost use Rattle.capture_tables.specs.Capture.{captured_packet};
+ghost use Rattle.program_streams.specs.Capture.{captured_packet};
 ghost use Rattle.sock_diag_captures.specs.Diagnostics.{DiagnosesContent, DiagnosesDatagram};
 ghost use Rattle.sock_diag_captures.specs.Diagnostics.{DiagnosesMessages, DiagnosesPacket};
 ghost use Rattle.sock_diag_captures.specs.Diagnostics.{interrupted_diagnostic, diagnostic_line};
@@ -20,14 +20,16 @@ ghost use Rattle.sock_diag_captures.specs.declared.list.Issue.TheVariants.{Refus
 
 use crate::fault_text::FaultText;
 use crate::line::push_reply;
+use crate::notes::{Written, push_cut_note, push_short};
+use crate::options::Options;
 use crate::request_line::push_shown_request;
 use crate::requests::Requests;
 use byteorder::{ByteOrder, LittleEndian};
-use capture_tables::{Options, Packet, PacketHeader, Written, push_cut_note, push_short};
 use netlink_core::{
     DecodeError, MessageStrings, NETLINK_HEADER_LEN, NLM_F_REQUEST, NLMSG_NOOP, NLMSG_OVERRUN,
     NetlinkHeader, error_number,
 };
+use program_streams::{Packet, PacketHeader};
 use std::alloc::AllocError;
 use std::error::Error;
 use std::fmt;

@@ -1,14 +1,15 @@
 //! Cells with the names of UNIX sockets.
 
 ghost use Rattle.std.specs.Prelude.{◌≡◌, ◌++◌, [], ℕ, List, OnOk, Some, option_map};
-ghost use Rattle.capture_tables.specs.Cells.{column};
-ghost use Rattle.capture_tables.specs.Escapes.{unescaped_bytes};
+ghost use Rattle.sock_diag_captures.specs.Cells.{column};
+ghost use Rattle.sock_diag_captures.specs.Escapes.{unescaped_bytes};
 ghost use Rattle.sock_diag_attributes.specs.declared.unix.name.SocketName.TheVariants.{Abstract};
 ghost use Rattle.sock_diag_attributes.specs.declared.unix.name.SocketName.TheVariants.{Pathname};
 ghost use Rattle.sock_diag_attributes.specs.NameModel.{socket_name_model};
 ghost use Rattle.sock_diag_captures.specs.Table.{needs_escaped_first_byte, name_cell, name_of_cell};
 
-use capture_tables::{end_column, push_digits, push_shown};
+use crate::cells::{end_column, push_digits};
+use crate::names::push_shown;
 use sock_diag_attributes::unix::nlas::NameView;
 use std::alloc::AllocError;
 

@@ -1,8 +1,8 @@
 //! Lines of the replies about netlink, packet, vsock and XDP sockets.
 
 ghost use Rattle.std.specs.Prelude.{◌≡◌, ◌++◌, ◌≤◌, drop, IfOk, OnOk, List, option_map};
-ghost use Rattle.capture_tables.specs.CellsModel.{cells_model};
-ghost use Rattle.capture_tables.specs.Cells.{column};
+ghost use Rattle.sock_diag_captures.specs.CellsModel.{cells_model};
+ghost use Rattle.sock_diag_captures.specs.Cells.{column};
 ghost use Rattle.netlink_core.specs.Walk.{buffered_attribute};
 ghost use Rattle.sock_diag_captures.specs.Listing.{family_error, family_lines, other_reply_error};
 ghost use Rattle.sock_diag_captures.specs.Listing.{other_reply_lines};
@@ -16,11 +16,13 @@ ghost use Rattle.sock_diag_captures.specs.Others.{xdp_socket};
 ghost use Rattle.sock_diag_captures.specs.Pieces.{AttributeOrError, attributes_or_error};
 ghost use Rattle.sock_diag_captures.specs.declared.others.OtherSocket.{OtherSocket as SocketShown};
 
+use crate::cells::{Cells, end_column, push_first_columns, push_peer};
 use crate::details::{Sockets, memory_kind, push_details};
 use crate::line::LOCAL;
+use crate::options::{Family, Options};
+use crate::parts::NO_TIMER;
 use crate::pieces::{find_fault, find_kind};
 use byteorder::{ByteOrder, LittleEndian};
-use capture_tables::{Cells, Family, NO_TIMER, Options, end_column, push_first_columns, push_peer};
 use netlink_core::{DecodeError, NlaBuffer, Record, read_record};
 use sock_diag_families::netlink::NetlinkResponseHeader;
 use sock_diag_families::packet::{PACKET_DIAG_INFO, PACKET_DIAG_UID, PacketResponseHeader};

@@ -7,11 +7,14 @@ ghost use Rattle.sock_diag_captures.specs.RequestLine.{request_line_if_selected}
 ghost use Rattle.sock_diag_captures.specs.RequestLine.{requested_unix_states};
 
 use crate::line::name_of_protocol;
+use crate::options::{Family, Options};
 use crate::others::family_numbered;
+use crate::parts::push_hex_detail;
 use crate::requests::{Asked, find_request};
+use crate::times::push_time;
 use byteorder::{ByteOrder, LittleEndian};
-use capture_tables::{Family, Options, PacketHeader, push_hex_detail, push_time};
 use netlink_core::NETLINK_HEADER_LEN;
+use program_streams::PacketHeader;
 use sock_diag_records::constants::{AF_UNIX, SOCK_DIAG_BY_FAMILY};
 use sock_diag_records::unix::UNIX_REQUEST_LEN;
 use std::alloc::AllocError;

@@ -1,18 +1,19 @@
 //! The table of a capture. Each packet is listed before the next one is read.
 
-ghost use Rattle.std.specs.Prelude.{OnOk, IfErr, IfOk, ⊤};
+ghost use Rattle.std.specs.Prelude.{◌≡◌, OnOk, IfErr, IfOk, ⊤};
 ghost use Rattle.std.specs.Io.KnownBytes.{IsAtEnd};
-ghost use Rattle.capture_tables.specs.declared.run.RunError.{RunError};
-ghost use Rattle.capture_tables.specs.Reports.{ReportsMore, WritesPrefix};
-ghost use Rattle.capture_tables.specs.Streams.{IsWriteFailure};
+ghost use Rattle.sock_diag_captures.specs.Reports.{ReportsMore, WritesPrefix};
+ghost use Rattle.program_streams.specs.declared.streams.WriteError.{WriteError};
 ghost use Rattle.sock_diag_captures.specs.Run.{Fails, Finishes};
 
 use crate::line::HEADING;
 use crate::list::list_packet;
+use crate::list_error::{ListError, read_header, read_packet};
+use crate::notes::Written;
+use crate::options::Options;
+use crate::reports::report;
 use crate::requests::Requests;
-use capture_tables::{
-    CaptureError, Options, RunError, Sink, Source, Written, read_header, read_packet, report, send,
-};
+use program_streams::{CaptureError, ReadError, Sink, Source, send};
 use std::alloc::Global;
 use std::io::{Read, Write};
 
@@ -22,7 +23,7 @@ use std::io::{Read, Write};
 ///
 /// If it fails, nothing was written if the file header could not be read (`Header`). If a packet
 /// could not be read (`Packet`) or an allocation failed (`Memory`), the packets before it were
-/// listed. If a write or the final flush failed (`Write`, `Closed`), a prefix of the table was
+/// listed. If a write or the final flush failed (`Write`), a prefix of the table was
 /// written.
 pub fn run<R: Read, W: Write, E: Write>(
     alloc: Global,
@@ -31,7 +32,7 @@ pub fn run<R: Read, W: Write, E: Write>(
     input: &mut R,
     output: &mut W,
     errors: &mut E,
-) -> Result<bool, RunError>
+) -> Result<bool, ListError>
     // R.remaining: the bytes that remain to be read, if known.
     ensures ended { OnOk result (IsAtEnd (R.remaining input.new)) }
     // W.contents, E.contents: the bytes written, if known. A prefix of the diagnostics was written.
@@ -57,19 +58,20 @@ pub(crate) fn write_table<R: Source, W: Sink, E: Sink>(
     output: &mut W,
     errors: &mut E,
     is_open: &mut bool,
-) -> Result<bool, RunError>
+) -> Result<bool, ListError>
     ensures ended { OnOk result (IsAtEnd (R.left input.new)) }
     ensures flushed { OnOk result (W.flushed output.new) }
     ensures table { IfOk result (Finishes options (R.left input.old) (R.left input.new)
         (W.held output.old) (W.held output.new) HEADING.now front.now
-        (ReportsMore (E.held errors.old) ((e : RunError) × E.failed errors.old e) is_open.old
-        (E.held errors.new) ((e : RunError) × E.failed errors.new e) is_open.new)) }
+        (ReportsMore (E.held errors.old) ((e : WriteError) × E.failed errors.old e) is_open.old
+        (E.held errors.new) ((e : WriteError) × E.failed errors.new e) is_open.new)) }
     ensures failed { IfErr result (Fails options (R.left input.old) (R.left input.new)
         (W.held output.old) (W.held output.new) HEADING.now front.now
-        (ReportsMore (E.held errors.old) ((e : RunError) × E.failed errors.old e) is_open.old
-        (E.held errors.new) ((e : RunError) × E.failed errors.new e) is_open.new)
+        (ReportsMore (E.held errors.old) ((e : WriteError) × E.failed errors.old e) is_open.old
+        (E.held errors.new) ((e : WriteError) × E.failed errors.new e) is_open.new)
         (R.failed input.new)) }
-    ensures cause { IfErr result (λ e. IsWriteFailure e → W.failed output.new e) }
+    ensures cause { IfErr result (λ e. (error : WriteError) → e ≡ ListError.Write error
+        → W.failed output.new error) }
 {
     let file = read_header(input)?;
     send(output, HEADING)?;
@@ -83,7 +85,7 @@ pub(crate) fn write_table<R: Source, W: Sink, E: Sink>(
     let mut is_whole = true;
     'packets: for number in 1..u64::MAX {
         let Some(header) = read_packet(&file, input, number, &mut packet)? else {
-            output.flush_all()?;
+            output.flush()?;
             return Ok(is_whole);
         };
         written.lines.clear();
@@ -94,8 +96,8 @@ pub(crate) fn write_table<R: Source, W: Sink, E: Sink>(
         report(errors, is_open, written.issues.as_slice());
         send(output, written.lines.as_slice())?;
     }
-    Err(RunError::Packet {
+    Err(ListError::Packet {
         packet: u64::MAX,
-        fault: CaptureError::Read,
+        fault: CaptureError::Read(ReadError::Other),
     })
 }

@@ -7,9 +7,9 @@ ghost use Rattle.std.specs.Prelude.{ℕ, Bool, List, Result, codes, IfSome, IfEr
 ghost use Rattle.std.specs.Process.{exit_status};
 ghost use Rattle.std.specs.Io.KnownBytes.{Appends, IsAtEnd, Keeps};
 ghost use Rattle.sock_diag_lines.specs.Answer.{IsAnswerOf, is_good};
-ghost use Rattle.line_server.specs.Lines.{SplitsIntoLines, all_lines};
-ghost use Rattle.line_server.specs.Run.{AnswersInput, answer_lines};
-ghost use Rattle.line_server.specs.declared.stream.RunError.{RunError};
+ghost use Rattle.program_streams.specs.Lines.{SplitsIntoLines, all_lines};
+ghost use Rattle.program_streams.specs.LineRun.{AnswersInput, answer_lines};
+ghost use Rattle.program_streams.specs.declared.lines.RunError.{RunError};
 
 mod answers;
 mod arguments;
@@ -21,7 +21,7 @@ mod words;
 
 pub use answers::answer;
 pub use arguments::{Choice, HELP, choose};
-pub use line_server::RunError;
+pub use program_streams::RunError;
 use std::alloc::Global;
 use std::io::{Read, Write};
 use std::process::ExitCode;

@@ -2,16 +2,18 @@
 ghost use Rattle.std.specs.Prelude.{◌≡◌, ℕ, Bool, List, ◌++◌, Result, Ok, Err, OnOk, IfErr, IfSome};
 ghost use Rattle.std.specs.Prelude.{MatchResult};
 ghost use Rattle.std.specs.Io.KnownBytes.{Appends, IsAtEnd, Keeps};
-ghost use Rattle.line_server.specs.Lines.{SplitsIntoLines, all_lines};
-ghost use Rattle.line_server.specs.Run.{AnswersInput, WritesAllOrFails, answer_lines};
-ghost use Rattle.line_server.specs.declared.stream.RunError.{RunError};
+ghost use Rattle.program_streams.specs.Lines.{SplitsIntoLines, all_lines};
+ghost use Rattle.program_streams.specs.LineRun.{AnswersInput, answer_lines};
+ghost use Rattle.program_streams.specs.Streams.{WritesAllOrFails};
+ghost use Rattle.program_streams.specs.declared.lines.RunError.{RunError};
+ghost use Rattle.program_streams.specs.declared.streams.WriteError.{WriteError};
 ghost use Rattle.sock_diag_lines.specs.Answer.{IsAnswerOf, is_good};
 ghost use Rattle.sock_diag_lines.specs.private.Asked.{IsParsedAs};
 ghost use Rattle.sock_diag_lines.specs.private.Run.{failure_line};
 
 use crate::answers::{Asked, push_answer_text, read_request};
 use crate::words::OK;
-use line_server::{AnswerWrite, LineAnswers, RunError, serve, try_send};
+use program_streams::{LineAnswers, RunError, Sink, serve, try_send};
 use std::alloc::{AllocError, Global};
 use std::io::{Read, Write};
 use std::marker::Brand;
@@ -61,7 +63,7 @@ fn is_good(answer: &[u8]) -> bool
 ///
 /// The contract states what has been written for each result. It does not state the causes of
 /// `Read` and `Write`, nor that before each read the answers to all complete lines that were read
-/// have been written to `output`: for both see `line_server::serve`. A call that failed is not
+/// have been written to `output`: for both see `program_streams::serve`. A call that failed is not
 /// repeated; no contract states this.
 pub fn run<R: Read, W: Write>(alloc: Global, input: &mut R, output: &mut W) -> Result<(), RunError>
     // If the run succeeds, no bytes of the reader are left, if these are known.
@@ -115,7 +117,7 @@ fn answer_all<R: Read, W: Write>(
 }
 
 /// Does what `answer_all` does, and writes the line that names the failure, if there is one.
-pub(crate) fn answer_and_report<R: Read, W: Write, E: AnswerWrite>(
+pub(crate) fn answer_and_report<R: Read, W: Write, E: Sink>(
     alloc: Global,
     input: &mut R,
     output: &mut W,
@@ -133,7 +135,7 @@ pub(crate) fn answer_and_report<R: Read, W: Write, E: AnswerWrite>(
         (W.contents output.old) (W.contents output.new) is_good result }
     ensures silent { OnOk result (Keeps (E.held errors.old) (E.held errors.new)) }
     ensures reported { IfErr result (λ e. WritesAllOrFails (E.held errors.old) (E.held errors.new)
-        (E.failed errors.new) (failure_line e)) }
+        ((error : WriteError) × E.failed errors.new error) (failure_line e)) }
 {
     let outcome = answer_all(alloc, input, output);
     report(errors, &outcome);
@@ -142,11 +144,11 @@ pub(crate) fn answer_and_report<R: Read, W: Write, E: AnswerWrite>(
 
 /// Writes the line that names the failure, if the run failed. If a write fails, a prefix of it has
 /// been written.
-fn report<E: AnswerWrite>(errors: &mut E, outcome: &Result<bool, RunError>)
+fn report<E: Sink>(errors: &mut E, outcome: &Result<bool, RunError>)
     ensures silent { OnOk outcome.now (Keeps (E.held errors.old) (E.held errors.new)) }
     ensures reported { IfErr outcome.now
         (λ e. WritesAllOrFails (E.held errors.old) (E.held errors.new)
-        (E.failed errors.new) (failure_line e)) }
+        ((error : WriteError) × E.failed errors.new error) (failure_line e)) }
 {
     if let Err(error) = outcome {
         try_send(errors, failure_line(*error));

@@ -2,7 +2,8 @@
 
 use netlink_core::{DecodeError, RecordName};
 use sock_diag_captures::{
-    ByteOrder, CaptureError, HEADING, Issue, Options, RunError, run, run_to_status,
+    ByteOrder, CaptureError, HEADING, Issue, ListError, Options, ReadError, WriteError, run,
+    run_to_status,
 };
 use std::alloc::Global;
 use std::io::{self, ErrorKind, Write};
@@ -125,7 +126,7 @@ fn lists(
     rt: &impl Abort,
     alloc: Global,
     capture: &[u8],
-    want: Result<bool, RunError>,
+    want: Result<bool, ListError>,
     lines: Option<&[&str]>,
 ) {
     lists_by(rt, alloc, Options::default(), capture, want, lines);
@@ -137,7 +138,7 @@ fn lists_by(
     alloc: Global,
     options: Options,
     capture: &[u8],
-    want: Result<bool, RunError>,
+    want: Result<bool, ListError>,
     lines: Option<&[&str]>,
 ) {
     let mut input = capture;
@@ -297,12 +298,12 @@ fn tells_where_a_capture_is_cut(rt: HostRuntime) {
     for len in 0..capture.len() {
         let fault = CaptureError::Cut;
         let want = match len {
-            0 => Err(RunError::Header(CaptureError::Empty)),
-            1..24 => Err(RunError::Header(fault)),
+            0 => Err(ListError::Header(CaptureError::Empty)),
+            1..24 => Err(ListError::Header(fault)),
             24 => Ok(true),
-            _ if len < whole => Err(RunError::Packet { packet: 1, fault }),
+            _ if len < whole => Err(ListError::Packet { packet: 1, fault }),
             _ if len == whole => Ok(true),
-            _ => Err(RunError::Packet { packet: 2, fault }),
+            _ => Err(ListError::Packet { packet: 2, fault }),
         };
         let line = [UNIX_LINE];
         let lines: Option<&[&str]> = if len >= whole { Some(&line) } else { None };
@@ -386,13 +387,19 @@ sslist: packet 6: the capture is truncated";
 /// The texts of errors that the other tests do not cause.
 #[test]
 fn errors_of_a_run_have_words(rt: HostRuntime) {
-    let (packet, fault) = (2, CaptureError::Read);
-    let (cut, memory) = (RunError::Packet { packet, fault }, RunError::Memory);
-    let (lack, folder) = (CaptureError::Memory, CaptureError::Directory);
+    let (packet, fault) = (2, CaptureError::Read(ReadError::Other));
+    let (cut, memory) = (ListError::Packet { packet, fault }, ListError::Memory);
+    let (lack, folder) = (
+        CaptureError::Memory,
+        CaptureError::Read(ReadError::Directory),
+    );
     let text = format!(in rt.alloc(); "{cut}, {memory}, {lack}, {folder}").expect(&rt, "memory");
     let want = "packet 2: reading failed, out of memory, out of memory, the input is a directory";
     assert!(rt; text.as_str() == want);
-    let (full, closed) = (RunError::Write, RunError::Closed);
+    let (full, closed) = (
+        ListError::Write(WriteError::Other),
+        ListError::Write(WriteError::Closed),
+    );
     let (other, old) = (
         CaptureError::NoCapture(0xa0b),
         CaptureError::OtherVersion(1),
@@ -475,7 +482,7 @@ fn ends_of_a_run(rt: HostRuntime) {
     output.flush_fails = Some(ErrorKind::Other);
     let (options, mut input) = (Options::default(), capture.as_slice());
     let outcome = run(alloc, options, NAME, &mut input, &mut output, &mut errors);
-    assert!(rt; outcome == Err(RunError::Write));
+    assert!(rt; outcome == Err(ListError::Write(WriteError::Other)));
     // A closed output pipe is not reported.
     output.flush_fails = Some(ErrorKind::BrokenPipe);
     let mut input = capture.as_slice();

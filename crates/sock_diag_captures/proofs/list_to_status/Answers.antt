@@ -1,7 +1,7 @@
 use Rattle.std.proofs.Common.{true, ◌++◌}
-use Rattle.capture_tables.proofs.Reporting.{reports_from_start, reports_then}
-use Rattle.capture_tables.specs.Reports.{ReportsText, ReportsMore}
-use Rattle.capture_tables.specs.declared.run.RunError.{RunError}
+use Rattle.sock_diag_captures.proofs.Reporting.{reports_from_start, reports_then}
+use Rattle.sock_diag_captures.specs.Reports.{ReportsText, ReportsMore}
+use Rattle.program_streams.specs.declared.streams.WriteError.{WriteError}
 use Rattle.sock_diag_captures.proofs.Failing.{run_outcome}
 use Rattle.sock_diag_captures.specs.private.Run.{closing_text}
 use Rattle.sock_diag_captures.proofs.list_to_status.Goals as goal
@@ -12,9 +12,9 @@ returns-clause-outcome g c =
     let start = g.E.Sink.held c.args.errors.now in
     let before = g.E.Sink.held c.write_table-outcome.new.errors in
     let end = g.E.Sink.held c.report_outcome.new.errors in
-    let none : Type 0 = (e : RunError) × g.E.Sink.failed c.args.errors.now e in
-    let some : Type 0 = (e : RunError) × g.E.Sink.failed c.write_table-outcome.new.errors e in
-    let last : Type 0 = (e : RunError) × g.E.Sink.failed c.report_outcome.new.errors e in
+    let none : Type 0 = (e : WriteError) × g.E.Sink.failed c.args.errors.now e in
+    let some : Type 0 = (e : WriteError) × g.E.Sink.failed c.write_table-outcome.new.errors e in
+    let last : Type 0 = (e : WriteError) × g.E.Sink.failed c.report_outcome.new.errors e in
     let opened = c.write_table-outcome.new.is_open in
     let is_open = c.report_outcome.new.is_open in
     let closing = closing_text c.args.front.now outcome in (

@@ -1,9 +1,9 @@
 use Rattle.std.specs.Prelude.{⊤}
 use Rattle.std.proofs.Common.{◌++◌, true}
 use Rattle.std.proofs.lemmas.Result.{MatchResult-weaker}
-use Rattle.capture_tables.proofs.Reporting.{reports_prefix}
-use Rattle.capture_tables.specs.Reports.{ReportsText, WritesPrefix, closing_line}
-use Rattle.capture_tables.specs.declared.run.RunError.{RunError}
+use Rattle.sock_diag_captures.proofs.Reporting.{reports_prefix}
+use Rattle.sock_diag_captures.specs.Reports.{ReportsText, WritesPrefix, closing_line}
+use Rattle.program_streams.specs.declared.streams.WriteError.{WriteError}
 use Rattle.sock_diag_captures.proofs.Failing.{fails_implies, finishes_implies, complete_outcome}
 use Rattle.sock_diag_captures.proofs.run_to_status.Goals as goal
 
@@ -12,7 +12,7 @@ returns-clause-whole g c =
     let (outcome, is_open, success, failure, ends) = c.list_to_status.ensures.outcome in
     let start = g.E.Write.contents c.args.errors.now in
     let end = g.E.Write.contents c.list_to_status.new.errors in
-    let lost : Type 0 = (e : RunError) × ⊤ in
+    let lost : Type 0 = (e : WriteError) × ⊤ in
     λ zero. finishes_implies _ _ _ _ _ _ _ (λ d. ReportsText start end lost d is_open)
     (WritesPrefix start end) (reports_prefix start end lost is_open) true
     (complete_outcome _ _ outcome (success.0 zero) ends)
@@ -22,7 +22,7 @@ returns-clause-outcome g c =
     let (outcome, is_open, success, failure, ends) = c.list_to_status.ensures.outcome in
     let start = g.E.Write.contents c.args.errors.now in
     let end = g.E.Write.contents c.list_to_status.new.errors in
-    let lost : Type 0 = (e : RunError) × ⊤ in (
+    let lost : Type 0 = (e : WriteError) × ⊤ in (
       outcome,
       success,
       failure,

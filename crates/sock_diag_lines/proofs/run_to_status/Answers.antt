@@ -2,10 +2,10 @@ use Rattle.std.proofs.Common.{◌≡◌, ℕ, Bool, List, [], ◌∷◌, ◌++�
 use Rattle.std.proofs.Common.{Ok, Err, sym}
 use Rattle.std.specs.Prelude.{IfErr, codes}
 use Rattle.std.specs.Io.KnownBytes.{Appends}
-use Rattle.line_server.specs.Run.{WritesAllOrFails}
+use Rattle.program_streams.specs.Streams.{WritesAllOrFails}
 use Rattle.sock_diag_lines.specs.private.Run.{failure_line}
-use Rattle.line_server.specs.declared.stream.RunError.{RunError}
-use Rattle.line_server.specs.declared.stream.RunError.TheVariants.{Read, Write, Memory}
+use Rattle.program_streams.specs.declared.lines.RunError.{RunError}
+use Rattle.program_streams.specs.declared.lines.RunError.TheVariants.{Read, Write, Memory}
 use Rattle.sock_diag_lines.proofs.run_to_status.Goals as goal
 
 -- the line names the failure

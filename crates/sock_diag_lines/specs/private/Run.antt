@@ -1,7 +1,7 @@
 -- The line on standard error that names a failure.
 use Rattle.std.specs.Prelude.{ℕ, List, [], ◌∷◌, ◌++◌, codes}
-use Rattle.line_server.specs.declared.stream.RunError.{RunError}
-use Rattle.line_server.specs.declared.stream.RunError.TheVariants.{Read, Write, Memory}
+use Rattle.program_streams.specs.declared.lines.RunError.{RunError}
+use Rattle.program_streams.specs.declared.lines.RunError.TheVariants.{Read, Write, Memory}
 
 -- the line that names a failure, with a line feed, 10
 abbrev pub failure_line : RunError → List ℕ

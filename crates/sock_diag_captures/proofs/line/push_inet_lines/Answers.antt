@@ -1,5 +1,5 @@
 use Rattle.std.proofs.Common.{[], ◌∷◌, sym, ◌∙◌}
-use Rattle.capture_tables.proofs.Adding.{appended_texts_concatenate}
+use Rattle.sock_diag_captures.proofs.Adding.{appended_texts_concatenate}
 use Rattle.sock_diag_captures.proofs.line.push_inet_lines.Goals as goal
 
 pub returns : goal.returns

@@ -1,7 +1,7 @@
 use Rattle.std.proofs.Common.{◌++◌, ap, ◌∙◌}
 use Rattle.std.proofs.lemmas.Result.{on_ok_weaker}
-use Rattle.capture_tables.specs.Cells.{first_columns}
-use Rattle.capture_tables.proofs.Adding.{appended_texts_concatenate}
+use Rattle.sock_diag_captures.specs.Cells.{first_columns}
+use Rattle.sock_diag_captures.proofs.Adding.{appended_texts_concatenate}
 use Rattle.sock_diag_captures.proofs.others.push_other_line.Goals as goal
 
 pub returns : goal.returns

@@ -1,6 +1,6 @@
 use Rattle.std.proofs.Common.{List, ℕ, [], ◌∷◌, ◌++◌, codes}
-use Rattle.capture_tables.specs.Times.{time_text}
-use Rattle.capture_tables.proofs.Adding.{appended_texts_concatenate}
+use Rattle.sock_diag_captures.specs.Times.{time_text}
+use Rattle.sock_diag_captures.proofs.Adding.{appended_texts_concatenate}
 use Rattle.sock_diag_captures.specs.RequestLine.{requested_family, request_text}
 use Rattle.sock_diag_captures.specs.RequestLine.{requested_unix_states}
 use Rattle.sock_diag_captures.specs.Requests.{inet_request_in_datagram}

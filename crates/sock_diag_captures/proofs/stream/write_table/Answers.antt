@@ -3,9 +3,9 @@ use Rattle.std.specs.Prelude.{flat_map, MatchOption, Option, None, Some}
 use Rattle.std.proofs.KnownBytes.{Appends-kept, Appends-trans, Consumes-kept, Consumes-nil}
 use Rattle.std.proofs.KnownBytes.{Consumes-trans}
 use Rattle.std.proofs.lemmas.Result.{err_from_is_err_and}
-use Rattle.capture_tables.proofs.Reporting.{reports_nothing, reports_then}
-use Rattle.capture_tables.specs.Capture.{IsPacketRecord}
-use Rattle.capture_tables.specs.Reports.{ReportsMore}
+use Rattle.sock_diag_captures.proofs.Reporting.{reports_nothing, reports_then}
+use Rattle.program_streams.specs.Capture.{IsPacketRecord}
+use Rattle.sock_diag_captures.specs.Reports.{ReportsMore}
 use Rattle.sock_diag_captures.specs.Run.{lines_of_packet}
 use Rattle.sock_diag_captures.proofs.Failing.{fails_at_flush, fails_at_header, fails_at_heading}
 use Rattle.sock_diag_captures.proofs.Failing.{fails_at_lines, fails_at_memory, fails_at_packet}
@@ -73,7 +73,7 @@ returns-in_default-clause-table g c =
           (Consumes-kept _ _ _ _ inv.listed.read end.1);
       ended = end.0;
       appended = Appends-trans _ _ _ _ _ c.in_ok-send.ensures.written
-          (Appends-kept _ _ _ _ inv.listed.appended c.in_ok-flush_all.ensures.bytes);
+          (Appends-kept _ _ _ _ inv.listed.appended c.in_ok-flush.ensures.bytes);
       reported = inv.reported;
     }
 
@@ -87,11 +87,10 @@ pub returns-in_err-send-clause-failed : goal.returns-in_err-send-clause-failed
 returns-in_err-send-clause-failed g c =
     let p = err_from_is_err_and c.from_residual-in_err-send.result
     c.from_residual-in_err-send.ensures.1 in
-    let (write, failed, sent, rest, split, appended) = c.in_err-send.ensures.stopped in
+    let (failed, sent, rest, split, appended) = c.in_err-send.ensures.stopped in
     let (header, long, is, read) = c.in_ok-file.ensures.read in
     rw (p.1, p.2) (fails_at_heading _ _ _ header long is _ _ _ _ _
-    (ReportsMore _ _ _ _ _ _) _ _ (reports_nothing _ _ _)
-    write read sent rest split appended)
+    (ReportsMore _ _ _ _ _ _) (reports_nothing _ _ _) read sent rest split appended)
 
 pub returns-in_err-header-clause-failed : goal.returns-in_err-header-clause-failed
 returns-in_err-header-clause-failed g c =
@@ -109,17 +108,16 @@ returns-in_err-header-clause-cause g c =
     c.from_residual-in_err-header.ensures.1 in
     rw (p.1, p.2) (no_write _ _ _ _ c.in_err-header.ensures.stopped.1)
 
-pub returns-in_err-flush_all-clause-failed : goal.returns-in_err-flush_all-clause-failed
-returns-in_err-flush_all-clause-failed g c =
-    let p = err_from_is_err_and c.from_residual-in_err-flush_all.result
-    c.from_residual-in_err-flush_all.ensures.1 in
+pub returns-in_err-flush-clause-failed : goal.returns-in_err-flush-clause-failed
+returns-in_err-flush-clause-failed g c =
+    let p = err_from_is_err_and c.from_residual-in_err-flush.result
+    c.from_residual-in_err-flush.ensures.1 in
     let (header, long, is, read) = c.in_ok-file.ensures.read in
     let inv = c.packets.invariant in
     let end = none_read _ _ _ c.in_default.not-Some c.in_ok-header.ensures.read in
     rw (p.1, p.2) (fails_at_flush _ _ _ header long is _ _ _ _ _ _ _ _ _ _ inv.listed read
-    c.in_ok-send.ensures.written (ReportsMore _ _ _ _ _ _) inv.reported _ _ _ _
-    c.in_err-flush_all.ensures.cause.0 (Consumes-kept _ _ _ _ (Consumes-nil _) end.1)
-    c.in_err-flush_all.ensures.bytes)
+    c.in_ok-send.ensures.written (ReportsMore _ _ _ _ _ _) inv.reported _ _
+    (Consumes-kept _ _ _ _ (Consumes-nil _) end.1) c.in_err-flush.ensures.bytes)
 
 pub returns-in_err-is_listed-clause-failed : goal.returns-in_err-is_listed-clause-failed
 returns-in_err-is_listed-clause-failed g c =
@@ -149,10 +147,10 @@ returns-in_err-send-2-clause-failed g c =
     ) at c.in_ok-is_listed.ensures.diagnosed in
     let reported = reports_then _ _ _ _ _ _ _ _ _ _ _ inv.reported
     (rw c.as_slice.ensures.value at c.report.ensures) in
-    let (write, failed, sent, rest, split, appended) = c.in_err-send-2.ensures.stopped in
+    let (failed, sent, rest, split, appended) = c.in_err-send-2.ensures.stopped in
     rw (p.1, p.2) (fails_at_lines _ _ _ header long is _ _ _ _ _ _ _ _ _ _ inv.listed read
-    c.in_ok-send.ensures.written (ReportsMore _ _ _ _ _ _) _ _ _ _ got.0 _ _ _ _ _ reported
-    write got.1 next listed diagnosed got.2 sent rest
+    c.in_ok-send.ensures.written (ReportsMore _ _ _ _ _ _) _ _ got.0 _ _ _ _ _ reported
+    got.1 next listed diagnosed got.2 sent rest
     (sym c.as_slice-in-packets.ensures.value ∙ split)
     appended)
 
@@ -162,24 +160,6 @@ returns-clause-failed g c =
     let inv = c.packets.invariant in
     fails_past_numbers _ _ _ header long is _ _ _ _ _ _ _ _ _ _ inv.listed read
     c.in_ok-send.ensures.written (ReportsMore _ _ _ _ _ _) inv.reported _ (omega arith)
-
-pub returns-in_err-send-clause-cause : goal.returns-in_err-send-clause-cause
-returns-in_err-send-clause-cause g c =
-    let p = err_from_is_err_and c.from_residual-in_err-send.result
-    c.from_residual-in_err-send.ensures.1 in
-    rw (p.1, p.2) (λ write. c.in_err-send.ensures.stopped.1)
-
-pub returns-in_err-flush_all-clause-cause : goal.returns-in_err-flush_all-clause-cause
-returns-in_err-flush_all-clause-cause g c =
-    let p = err_from_is_err_and c.from_residual-in_err-flush_all.result
-    c.from_residual-in_err-flush_all.ensures.1 in
-    rw (p.1, p.2) (λ write. c.in_err-flush_all.ensures.cause.1)
-
-pub returns-in_err-send-2-clause-cause : goal.returns-in_err-send-2-clause-cause
-returns-in_err-send-2-clause-cause g c =
-    let p = err_from_is_err_and c.from_residual-in_err-send-2.result
-    c.from_residual-in_err-send-2.ensures.1 in
-    rw (p.1, p.2) (λ write. c.in_err-send-2.ensures.stopped.1)
 
 pub returns-in_err-is_listed-clause-cause : goal.returns-in_err-is_listed-clause-cause
 returns-in_err-is_listed-clause-cause g c =

@@ -1,7 +1,7 @@
 use Rattle.std.proofs.Common.{◌≡◌}
-use Rattle.capture_tables.specs.Capture.{IsPacketRecord}
-use Rattle.capture_tables.specs.Reports.{ReportsMore}
-use Rattle.capture_tables.specs.declared.run.RunError.{RunError}
+use Rattle.program_streams.specs.Capture.{IsPacketRecord}
+use Rattle.sock_diag_captures.specs.Reports.{ReportsMore}
+use Rattle.program_streams.specs.declared.streams.WriteError.{WriteError}
 use Rattle.sock_diag_captures.proofs.Progress.{Progress}
 use Rattle.sock_diag_captures.proofs.stream.write_table.Given as goal
 
@@ -12,8 +12,8 @@ invariant-packets g l = record {
       (g.R.Source.left l.input) (g.W.Sink.held l.initial.output) (g.W.Sink.held l.output)
       l.requests.asked.items l.is_whole l.number;
   reported : ReportsMore (g.E.Sink.held l.initial.errors)
-      ((e : RunError) × g.E.Sink.failed l.initial.errors e) l.initial.is_open
-      (g.E.Sink.held l.errors) ((e : RunError) × g.E.Sink.failed l.errors e) l.is_open
+      ((e : WriteError) × g.E.Sink.failed l.initial.errors e) l.initial.is_open
+      (g.E.Sink.held l.errors) ((e : WriteError) × g.E.Sink.failed l.errors e) l.is_open
       listed.diagnostics;
   front : l.written.front.now ≡ l.front;
 }

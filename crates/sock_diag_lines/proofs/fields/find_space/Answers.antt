@@ -4,8 +4,8 @@ use Rattle.std.specs.List.{slice_split}
 use Rattle.std.proofs.lemmas.List.Elements.{All-nil}
 use Rattle.std.proofs.lemmas.List.Splits.{slice_split_none}
 use Rattle.memchr.specs.Find.{IsFirstByte, is_byte}
-use Rattle.line_server.proofs.LinesLemmas.{split_before_line_feed, split_at_first}
-use Rattle.line_server.proofs.LinesLemmas.{no_line_feed_before_first}
+use Rattle.program_streams.proofs.LinesLemmas.{split_before_line_feed, split_at_first}
+use Rattle.program_streams.proofs.LinesLemmas.{no_line_feed_before_first}
 use Rattle.sock_diag_lines.specs.private.Text.{IsFirstSpace, is_space}
 use Rattle.sock_diag_lines.proofs.fields.find_space.Goals as goal
 

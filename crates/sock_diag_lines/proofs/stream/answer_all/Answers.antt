@@ -1,7 +1,7 @@
 use Rattle.std.proofs.Common.{refl}
 use Rattle.sock_diag_lines.proofs.AnswerLemmas.{answer_of, answer_of-is, one_function}
 use Rattle.sock_diag_lines.specs.Answer.{IsAnswerOf, is_good}
-use Rattle.line_server.proofs.RunLemmas.{run_complete}
+use Rattle.program_streams.proofs.LineRunLemmas.{run_complete}
 use Rattle.sock_diag_lines.proofs.stream.answer_all.Goals as goal
 
 pub serve-requires : goal.serve-requires

@@ -1,9 +1,0 @@
-pub mod Adding
-pub mod Filling
-pub mod Showing
-pub mod Telling
-pub mod Stops
-pub mod Reporting
-pub mod Choosing
-pub mod Listed
-pub mod OptionsEquality

@@ -1,0 +1,3 @@
+pub mod LinesLemmas
+pub mod LineRunLemmas
+pub mod Stops

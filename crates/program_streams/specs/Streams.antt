@@ -1,0 +1,26 @@
+-- Texts of failed reads and writes, and what a step that writes a text has written.
+use Rattle.std.specs.Prelude.{◌≡◌, ◌⊎◌, ℕ, List, [], ◌++◌, Option, codes}
+use Rattle.std.specs.Io.KnownBytes.{Appends}
+use Rattle.program_streams.specs.declared.streams.ReadError.{ReadError}
+use Rattle.program_streams.specs.declared.streams.ReadError.TheVariants.{Directory}
+use Rattle.program_streams.specs.declared.streams.ReadError.TheVariants.{Other as OtherRead}
+use Rattle.program_streams.specs.declared.streams.WriteError.{WriteError}
+use Rattle.program_streams.specs.declared.streams.WriteError.TheVariants.{Closed}
+use Rattle.program_streams.specs.declared.streams.WriteError.TheVariants.{Other as OtherWrite}
+
+-- the text of the error of a failed read
+abbrev pub read_error_text : ReadError → List ℕ
+read_error_text Directory = codes "the input is a directory"
+read_error_text OtherRead = codes "reading failed"
+
+-- the text of the error of a failed write or flush
+abbrev pub write_error_text : WriteError → List ℕ
+write_error_text Closed = codes "the output pipe is closed"
+write_error_text OtherWrite = codes "writing failed"
+
+-- WritesAllOrFails held held' failed text: the text was written; or a prefix of it was written, and
+-- a write failed (`failed`). `held` and `held'` are the bytes that had been written before and
+-- after. Nothing is said of them if `held` is `None`: then they are not known.
+abbrev pub WritesAllOrFails : Option (List ℕ) → Option (List ℕ) → Type 0 → List ℕ → Type 0
+WritesAllOrFails held held' failed text = (sent more : List ℕ) × (text ≡ sent ++ more)
+    × Appends held held' sent × ((more ≡ []) ⊎ failed)

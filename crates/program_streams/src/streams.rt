@@ -1,0 +1,234 @@
+//! Reading and writing: single calls, whose errors are classified, and whole texts.
+
+ghost use Rattle.std.specs.Prelude.{◌≡◌, ◌↔◌, ◌<◌, ◌≤◌, ◌==◌, ◌++◌, if◌then◌else◌, ℕ, List, Option};
+ghost use Rattle.std.specs.Prelude.{length, IfOk, IfErr, MatchResult, OnErr, OnOk, ⊤};
+ghost use Rattle.std.specs.Io.KnownBytes.{Appends, Keeps, ReadConsumes, WriteAppends};
+ghost use Rattle.std.specs.Io.{ReadsAtMost};
+ghost use Rattle.std.specs.IoError.{error_kind};
+ghost use Rattle.program_streams.specs.Streams.{WritesAllOrFails};
+ghost use Rattle.program_streams.specs.Streams.{read_error_text, write_error_text};
+ghost use Rattle.program_streams.specs.declared.streams.WriteError.{WriteError};
+
+use std::error::Error;
+use std::io::{ErrorKind, Read, Write};
+use std::{fmt, io};
+
+/// The reason why a read failed.
+#[derive(Clone, Copy, Debug, PartialEq, Eq)]
+pub enum ReadError {
+    /// The input is a directory.
+    Directory,
+    /// The read failed for any other reason.
+    Other,
+}
+
+impl ReadError {
+    /// Returns the text of the error.
+    pub fn text(&self) -> &'static str
+        ensures { result.now ≡ read_error_text self.now }
+    {
+        match self {
+            ReadError::Directory => "the input is a directory",
+            ReadError::Other => "reading failed",
+        }
+    }
+}
+
+impl fmt::Display for ReadError {
+    fn fmt<W: fmt::Write>(&self, f: &mut fmt::Formatter<W>) -> fmt::Result {
+        f.write_str(self.text())
+    }
+}
+
+impl Error for ReadError {}
+
+/// The reason why a write or a flush failed.
+#[derive(Clone, Copy, Debug, PartialEq, Eq)]
+pub enum WriteError {
+    /// The output is a pipe without a reader.
+    Closed,
+    /// The call failed for any other reason, or a write accepted no bytes.
+    Other,
+}
+
+impl WriteError {
+    /// Returns the text of the error.
+    pub fn text(&self) -> &'static str
+        ensures { result.now ≡ write_error_text self.now }
+    {
+        match self {
+            WriteError::Closed => "the output pipe is closed",
+            WriteError::Other => "writing failed",
+        }
+    }
+}
+
+impl fmt::Display for WriteError {
+    fn fmt<W: fmt::Write>(&self, f: &mut fmt::Formatter<W>) -> fmt::Result {
+        f.write_str(self.text())
+    }
+}
+
+impl Error for WriteError {}
+
+/// An input. Generic code that has no other bound on it cannot report a failed read unless one
+/// failed.
+pub trait Source {
+    // The bytes that are left to read, if they are known.
+    ghost left: { Self → Option (List ℕ) };
+
+    // A read failed.
+    ghost failed: { Self → Type 0 };
+
+    /// Reads once, to the start of `bytes`. Returns the number of bytes that were read. It is 0
+    /// only if the input is at its end or `bytes` is empty. If the read fails, nothing was
+    /// consumed.
+    fn read_some(&mut self, bytes: &mut [u8]) -> Result<usize, ReadError>
+        // A returned number is at most the length of `bytes`.
+        ensures bound { ReadsAtMost result bytes.new }
+        // If `n` is returned, the first `n` bytes of `bytes` were consumed; if it is 0 and `bytes`
+        // is not empty, none remain. If the read fails, the remaining bytes are unchanged.
+        ensures bytes { ReadConsumes (left self.old) (left self.new) result bytes.new }
+        ensures cause { OnErr result (failed self.new) };
+}
+
+impl<R: Read> Source for R {
+    ghost left = { λ r. R.remaining r };
+
+    // A reader of std does not record failures: this always holds.
+    ghost failed = { λ _. ⊤ };
+
+    fn read_some(&mut self, bytes: &mut [u8]) -> Result<usize, ReadError> {
+        read_outcome(self.read(bytes))
+    }
+}
+
+/// Returns the count of a read, or the error of a failed one.
+fn read_outcome(outcome: io::Result<usize>) -> Result<usize, ReadError>
+    ensures { MatchResult outcome (λ n. result ≡ Ok n)
+        (λ error. (e : ReadError) × (result ≡ Err e)
+        × ((e ≡ ReadError.Directory) ↔ (error_kind error ≡ ErrorKind.IsADirectory))) }
+{
+    match outcome {
+        Ok(count) => Ok(count),
+        Err(error) => Err(read_failure(error.kind())),
+    }
+}
+
+/// Returns the error of a failed read.
+fn read_failure(kind: ErrorKind) -> ReadError
+    ensures { (result ≡ ReadError.Directory) ↔ (kind ≡ ErrorKind.IsADirectory) }
+{
+    match kind {
+        ErrorKind::IsADirectory => ReadError::Directory,
+        _ => ReadError::Other,
+    }
+}
+
+/// An output. Generic code that has no other bound on it cannot report a failed write unless one
+/// failed, nor a flush unless it flushed.
+pub trait Sink {
+    // The bytes that have been written, if they are known.
+    ghost held: { Self → Option (List ℕ) };
+
+    // A write failed or accepted no bytes, or a flush failed, with this error.
+    ghost failed: { Self → WriteError → Type 0 };
+
+    // The last call flushed the output.
+    ghost flushed: { Self → Type 0 };
+
+    /// Writes once, from the start of `bytes`. Returns the number of bytes that were written, at
+    /// least one. If `bytes` is empty, the call fails. If it fails, nothing was written.
+    fn write_some(&mut self, bytes: &[u8]) -> Result<usize, WriteError>
+        ensures some { IfOk result (λ n. (0 < n) × (n ≤ length bytes.now)) }
+        // If `n` is returned, the first `n` of the bytes were written. If not, none were.
+        ensures bytes { WriteAppends (held self.old) (held self.new) result bytes.now }
+        ensures cause { IfErr result (λ e. failed self.new e) };
+
+    /// Flushes the output once.
+    fn flush(&mut self) -> Result<(), WriteError>
+        // What has been written is unchanged.
+        ensures bytes { Keeps (held self.old) (held self.new) }
+        ensures done { OnOk result (flushed self.new) }
+        ensures cause { IfErr result (λ e. failed self.new e) };
+}
+
+impl<W: Write> Sink for W {
+    ghost held = { λ w. W.contents w };
+
+    // A writer of std does not record failures and flushes: these two always hold.
+    ghost failed = { λ _ _. ⊤ };
+
+    ghost flushed = { λ _. ⊤ };
+
+    fn write_some(&mut self, bytes: &[u8]) -> Result<usize, WriteError> {
+        write_outcome(self.write(bytes))
+    }
+
+    fn flush(&mut self) -> Result<(), WriteError> {
+        flush_outcome(Write::flush(self))
+    }
+}
+
+/// Returns the count of a write, or the error of one that failed or accepted no bytes.
+fn write_outcome(outcome: io::Result<usize>) -> Result<usize, WriteError>
+    ensures { MatchResult outcome
+        (λ n. result ≡ (if n == 0 then Err WriteError.Other else Ok n))
+        (λ error. (e : WriteError) × (result ≡ Err e)
+        × ((e ≡ WriteError.Closed) ↔ (error_kind error ≡ ErrorKind.BrokenPipe))) }
+{
+    match outcome {
+        Ok(0) => Err(WriteError::Other),
+        Ok(count) => Ok(count),
+        Err(error) => Err(write_failure(error.kind())),
+    }
+}
+
+/// Returns `Ok` if a flush succeeded, or the error of a failed one.
+fn flush_outcome(outcome: io::Result<()>) -> Result<(), WriteError>
+    ensures { MatchResult outcome (λ _. result ≡ Ok tt)
+        (λ error. (e : WriteError) × (result ≡ Err e)
+        × ((e ≡ WriteError.Closed) ↔ (error_kind error ≡ ErrorKind.BrokenPipe))) }
+{
+    match outcome {
+        Ok(()) => Ok(()),
+        Err(error) => Err(write_failure(error.kind())),
+    }
+}
+
+/// Returns the error of a failed write or flush.
+fn write_failure(kind: ErrorKind) -> WriteError
+    ensures { (result ≡ WriteError.Closed) ↔ (kind ≡ ErrorKind.BrokenPipe) }
+{
+    match kind {
+        ErrorKind::BrokenPipe => WriteError::Closed,
+        _ => WriteError::Other,
+    }
+}
+
+/// Writes all of `bytes`. Does not repeat a failed write: if one fails, a prefix of `bytes` has
+/// been written.
+pub fn send<W: Sink>(output: &mut W, bytes: &[u8]) -> Result<(), WriteError>
+    ensures written { OnOk result (Appends (W.held output.old) (W.held output.new) bytes.now) }
+    // W.failed: a write failed with this error. front: the bytes that were written.
+    ensures stopped { IfErr result (λ e. W.failed output.new e
+        × (front : List ℕ) × (rest : List ℕ) × (bytes.now ≡ front ++ rest)
+        × Appends (W.held output.old) (W.held output.new) front) }
+{
+    let mut rest = bytes;
+    'writes: while !rest.is_empty() {
+        let count = output.write_some(rest)?;
+        rest = &rest[count..];
+    }
+    Ok(())
+}
+
+/// Writes the text. If a write fails, a prefix of the text has been written. The failure is not
+/// reported.
+pub fn try_send<W: Sink>(output: &mut W, text: &[u8])
+    // All of the text was written; or a prefix of it, and a write failed.
+    ensures { WritesAllOrFails (W.held output.old) (W.held output.new)
+        ((e : WriteError) × W.failed output.new e) text.now }
+{
+    let _ = send(output, text);
+}

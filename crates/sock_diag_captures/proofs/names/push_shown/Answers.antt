@@ -1,0 +1,39 @@
+use Rattle.std.proofs.Common.{arith, ◌++◌, ◌∙◌, ap, List, ℕ, chars, flat_map}
+use Rattle.std.proofs.lemmas.Result.{on_ok_weaker}
+use Rattle.sock_diag_captures.specs.Escapes.{shown_character}
+use Rattle.sock_diag_captures.proofs.Showing.{utf8_is_shown_by_character}
+use Rattle.sock_diag_captures.proofs.Showing.{other_bytes_are_shown_by_byte}
+use Rattle.sock_diag_captures.proofs.Telling.{unescaped_shown_name}
+use Rattle.sock_diag_captures.proofs.names.push_shown.Goals as goal
+
+pub returns-in-Ok-clause-shown : goal.returns-in-Ok-clause-shown
+returns-in-Ok-clause-shown c =
+    let is = c.in-Ok.ensures.cases in
+    on_ok_weaker c.push_chars.result
+    (λ added. added
+    ∙ ap (λ (t : List ℕ). c.args.text.now.items ++ flat_map shown_character (chars t)) is.0
+    ∙ ap (λ (t : List ℕ). c.args.text.now.items ++ t)
+    (utf8_is_shown_by_character c.args.utf8 c.args.bytes.now c.if-not-utf8.false is.1))
+    c.push_chars.ensures
+
+pub returns-in-Err-clause-shown : goal.returns-in-Err-clause-shown
+returns-in-Err-clause-shown c =
+    on_ok_weaker c.push_escaped-in-Err.result
+    (λ added. added ∙ ap (λ (t : List ℕ). c.args.text.now.items ++ t)
+    (other_bytes_are_shown_by_byte c.args.utf8 c.args.bytes.now c.in-Err.ensures.cases.0))
+    c.push_escaped-in-Err.ensures
+
+pub returns-then-not-utf8-clause-told : goal.returns-then-not-utf8-clause-told
+returns-then-not-utf8-clause-told c =
+    λ behind. unescaped_shown_name c.args.utf8 c.args.bytes.now behind
+    (λ i. omega (arith, c.type_inv.bytes i))
+
+pub returns-in-Ok-clause-told : goal.returns-in-Ok-clause-told
+returns-in-Ok-clause-told c =
+    λ behind. unescaped_shown_name c.args.utf8 c.args.bytes.now behind
+    (λ i. omega (arith, c.type_inv.bytes i))
+
+pub returns-in-Err-clause-told : goal.returns-in-Err-clause-told
+returns-in-Err-clause-told c =
+    λ behind. unescaped_shown_name c.args.utf8 c.args.bytes.now behind
+    (λ i. omega (arith, c.type_inv.bytes i))
