@@ -226,7 +226,7 @@ class Specs:
                 for path in sorted((ROOT / crate).glob(pattern)):
                     module = Module(path)
                     self.modules[f"Rattle.{module.name}"] = module
-        sources = [path for crate in CRATES + OTHERS for path in (ROOT / crate).rglob("src/**/*.rt")
+        sources = [path for crate in CRATES + OTHERS for path in (ROOT / crate).glob("src/**/*.rt")
                    if "/tests" not in path.relative_to(ROOT).as_posix()]
         trait = re.compile(r"^\s*(?:pub\(\w+\) )?trait (\w+)", re.M)
         private = {name for path in sources for name in trait.findall(path.read_text("utf-8"))}
