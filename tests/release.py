@@ -39,10 +39,12 @@ PACKED = [f"{USERS}.tar.gz", f"{PROOFS}.tar.gz", PROGRAMS_DEB, LIBRARY_DEB]
 KIT = "rattle-kit-1 logic 0123456789abcdef\n"
 CRATES = ["netlink_core", "line_server"]
 RUST = """
-Cargo.toml LICENSE-MIT README.md build.rs examples/list_sockets.rs src/attribute.rs src/calls.rs
-src/constants.rs src/dump.rs src/fault.rs src/inet.rs src/inet/nlas.rs src/lib.rs src/netlink.rs
-src/packet.rs src/show.rs src/sys.rs src/unix.rs src/unix/nlas.rs src/vsock.rs src/xdp.rs
-tests/ported.rs tests/replies.rs
+Cargo.toml LICENSE-MIT README.md build.rs examples/list_sockets.rs src/answer.rs src/attribute.rs
+src/calls.rs src/constants.rs src/dump.rs src/fault.rs src/inet.rs src/inet/nlas.rs src/lib.rs
+src/netlink.rs src/packet.rs src/show.rs src/sys.rs src/unix.rs src/unix/nlas.rs src/vsock.rs
+src/xdp.rs tests/beside_program.rs tests/changed_bytes.rs tests/common/mod.rs tests/dumps.rs
+tests/errors.rs tests/family_replies.rs tests/flags.rs tests/inet_replies.rs tests/ported.rs
+tests/requests.rs tests/unix_replies.rs
 """.split()
 EXECUTABLE = ["bin/sockdiag", "bin/sslist", "tools/install"]
 # The files in the archive for users.
