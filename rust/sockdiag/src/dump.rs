@@ -29,8 +29,8 @@ pub struct NetlinkHeader {
     pub flags: u16,
     /// Sequence number of the sender (`nlmsg_seq`), which a reply repeats.
     pub sequence_number: u32,
-    /// Port id (`nlmsg_pid`). In a request: of the sender, where the kernel takes 0 for the sending
-    /// socket. In a reply: of the socket that sent the request.
+    /// Port id (`nlmsg_pid`). In a request: of the sender, or 0. In a reply: of the socket that
+    /// sent the request.
     pub port_number: u32,
 }
 

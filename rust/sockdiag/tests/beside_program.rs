@@ -5,7 +5,7 @@
 mod common;
 
 use common::{attribute, counted, inet_reply, message, unix_reply};
-use sockdiag::inet::{InetReply, Timer};
+use sockdiag::inet::{InetReply, InetResponseHeader, Timer};
 use sockdiag::unix::nlas::Nla;
 use sockdiag::unix::{UnixDiagName, UnixReply};
 use sockdiag::{DecodeError, NetlinkMessage, SockDiagMessage};
@@ -194,8 +194,7 @@ fn answer(name: &str, bytes: &[u8]) -> Result<String, DecodeError> {
 
 /// Compares the header of a reply about an internet socket, as this crate decodes it, with the
 /// canonical form that the program printed.
-fn compare_header(bytes: &[u8], canonical: &[u8]) {
-    let header = InetReply::parse(bytes).unwrap().header;
+fn compare_inet_header(header: &InetResponseHeader, canonical: &[u8]) {
     let id = header.socket_id;
     let address_at = |offset: usize| match header.family {
         2 => {
@@ -227,6 +226,57 @@ fn compare_header(bytes: &[u8], canonical: &[u8]) {
     assert_eq!([id.source_port, id.destination_port], ports);
 }
 
+/// Returns the value of the first attribute of a kind in a canonical form.
+fn first_value(canonical: &[u8], header_length: usize, kind: u16) -> Option<&[u8]> {
+    let mut rest = &canonical[header_length..];
+    while let [low, high, kind_low, kind_high, ..] = *rest {
+        let length = usize::from(u16::from_le_bytes([low, high]));
+        if u16::from_le_bytes([kind_low, kind_high]) & 0x3fff == kind {
+            return Some(&rest[4..length]);
+        }
+        rest = rest.get(length.next_multiple_of(4)..).unwrap_or_default();
+    }
+    None
+}
+
+/// Compares the getters of a reply about an internet socket with the attributes of the canonical
+/// form.
+fn compare_inet(reply: &InetReply<'_>, canonical: &[u8]) {
+    compare_inet_header(&reply.header, canonical);
+    let value = |kind| first_value(canonical, 72, kind);
+    let byte = |kind| value(kind).map(|value| value[0]);
+    let number = |kind| value(kind).map(|value| common::u32_at(value, 0));
+    let name = value(4).map(|value| value.strip_suffix(&[0]).unwrap_or(value));
+    assert_eq!(reply.congestion().map(str::as_bytes), name);
+    assert_eq!((reply.tos(), reply.tc()), (byte(5), byte(6)));
+    assert_eq!(
+        (reply.shutdown_state(), reply.protocol()),
+        (byte(8), byte(10))
+    );
+    assert_eq!(reply.v6only(), byte(11).map(|byte| byte != 0));
+    assert_eq!((reply.mark(), reply.class_id()), (number(15), number(17)));
+    let info = reply
+        .tcp_info()
+        .map(|info| (info.state, info.rtt, info.snd_wnd));
+    let expected = value(2).map(|it| (it[0], common::u32_at(it, 68), common::u32_at(it, 228)));
+    assert_eq!(info, expected);
+}
+
+/// Compares the fields of a reply about a UNIX socket that `unixview` does not show with the
+/// canonical form.
+fn compare_unix(reply: &UnixReply<'_>, canonical: &[u8]) {
+    let header = reply.header;
+    assert_fields!(header, canonical, u8 => kind: 1, state: 2);
+    assert_fields!(header, canonical, u32 => inode: 4);
+    assert_eq!(header.cookie, canonical[8..16]);
+    let number =
+        |kind, offset| first_value(canonical, 16, kind).map(|it| common::u32_at(it, offset));
+    let file = reply.file();
+    assert_eq!(file.map(|file| file.inode), number(1, 0));
+    assert_eq!(file.map(|file| file.device), number(1, 4));
+    assert_eq!(reply.receive_buffer_size(), number(5, 4));
+}
+
 /// Compares the answer of the program to a line with that of this crate.
 fn compare(name: &str, bytes: &[u8], of_program: &str) {
     let of_crate = match answer(name, bytes) {
@@ -245,8 +295,15 @@ fn compare(name: &str, bytes: &[u8], of_program: &str) {
         return;
     }
     assert_eq!(of_program, of_crate, "{}", line());
-    if let ("inet", Some(canonical)) = (name, of_program.strip_prefix("ok ")) {
-        compare_header(bytes, &common::bytes_of(canonical));
+    let canonical = of_program.strip_prefix("ok ");
+    match (name, canonical) {
+        ("inet", Some(digits)) => {
+            compare_inet(&InetReply::parse(bytes).unwrap(), &common::bytes_of(digits))
+        }
+        ("unix", Some(digits)) => {
+            compare_unix(&UnixReply::parse(bytes).unwrap(), &common::bytes_of(digits))
+        }
+        _ => {}
     }
 }
 
