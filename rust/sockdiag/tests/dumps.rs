@@ -192,6 +192,16 @@ fn yields_replies_of_any_family() {
 }
 
 #[test]
+fn checks_the_message_type_of_any_family() {
+    for payload in [NETLINK, PACKET, VSOCK, XDP].map(bytes_of) {
+        let error = AnySockDiagMessage::parse(&payload, 21).unwrap_err();
+        assert_eq!(error, DecodeError::UnknownMessageType);
+        let error = AnySockDiagMessage::parse(&payload[..1], 20).unwrap_err();
+        assert_eq!(error, DecodeError::MessageTooShort);
+    }
+}
+
+#[test]
 fn checks_sequence_numbers_and_port_ids() {
     let header = |sequence_number, port_number| NetlinkHeader {
         sequence_number,
