@@ -136,10 +136,9 @@ fn view_line(reply: &UnixReply<'_>) -> String {
     let has_pending = reply
         .nlas()
         .any(|nla| matches!(nla, Nla::PendingConnections(_)));
-    let inodes: Vec<_> = reply
-        .pending_connections()
-        .map(|inode| inode.to_string())
-        .collect();
+    // The limit is for an iterator that does not end.
+    let inodes = reply.pending_connections().take(LINES);
+    let inodes: Vec<_> = inodes.map(|inode| inode.to_string()).collect();
     let pending = if inodes.is_empty() {
         "-".to_owned()
     } else {
