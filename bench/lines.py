@@ -2,6 +2,7 @@
 """Measures programs that answer lines: lines.py PROGRAM STORED [OTHER [FOLDER]], called by
 lines.sh."""
 import os
+import resource
 import subprocess
 import sys
 import tempfile
@@ -36,21 +37,12 @@ def inputs(stored):
 
 def seconds(program, given, output, work):
     """Returns the CPU time of one run, user and system, in seconds."""
-    target = {"null": os.devnull, "file": os.path.join(work, "out")}.get(output)
-    with open(given, "rb") as stdin:
-        if target:
-            with open(target, "wb") as stdout:
-                run = subprocess.Popen([program], stdin=stdin, stdout=stdout)
-        else:
-            run = subprocess.Popen([program], stdin=stdin, stdout=subprocess.PIPE)
-            while run.stdout.read(1 << 20):
-                pass
-            run.stdout.close()
-        _, status, usage = os.wait4(run.pid, 0)
-    run.returncode = status
-    if status:
-        sys.exit(f"lines.py: {program}: exit status {os.waitstatus_to_exitcode(status)}")
-    return usage.ru_utime + usage.ru_stime
+    before = resource.getrusage(resource.RUSAGE_CHILDREN)
+    with open(given, "rb") as stdin, open(os.path.join(work, "out"), "wb") as file:
+        target = {"null": subprocess.DEVNULL, "file": file, "pipe": subprocess.PIPE}[output]
+        subprocess.run([program], stdin=stdin, stdout=target, check=True)
+    after = resource.getrusage(resource.RUSAGE_CHILDREN)
+    return after.ru_utime + after.ru_stime - before.ru_utime - before.ru_stime
 
 
 def peak(program, given):
@@ -69,33 +61,34 @@ def peak(program, given):
     return kib
 
 
+def measure(programs, text, work):
+    """Returns the least CPU time of each program by output, and the peak memory of the first."""
+    given = os.path.join(work, "in")
+    with open(given, "wb") as file:
+        file.write(text)
+    times = {(program, output): [] for program in programs for output in OUTPUTS}
+    for _ in range(ROUNDS):
+        for program, output in times:
+            times[program, output].append(seconds(program, given, output, work))
+    return {key: min(values) for key, values in times.items()}, peak(programs[0], given)
+
+
 def main(program, stored, other=None, folder=None):
     cases = list(inputs(stored))
-    if folder:
-        for name in sorted(os.listdir(folder)):
-            cases.append((name, open(os.path.join(folder, name), "rb").read()))
+    for name in sorted(os.listdir(folder)) if folder else []:
+        with open(os.path.join(folder, name), "rb") as file:
+            cases.append((name, file.read()))
     heading = f"{'input':24} {'lines':>8} {'ns/line':>10} {'peak KiB':>9}  of longest"
     print(heading + ("   other's time: " + " ".join(OUTPUTS) if other else ""))
     with tempfile.TemporaryDirectory() as work:
-        given = os.path.join(work, "in")
         for name, text in cases:
-            with open(given, "wb") as file:
-                file.write(text)
-            count = text.count(b"\n")
-            longest = max(len(line) for line in text.split(b"\n"))
-            own = {output: [] for output in OUTPUTS}
-            others = {output: [] for output in OUTPUTS}
-            for _ in range(ROUNDS):
-                for output in OUTPUTS:
-                    own[output].append(seconds(program, given, output, work))
-                    if other:
-                        others[output].append(seconds(other, given, output, work))
-            kib = peak(program, given)
+            least, kib = measure([program, other] if other else [program], text, work)
+            count, longest = text.count(b"\n"), max(len(line) for line in text.split(b"\n"))
             of_longest = f"{kib * 1024 / longest:9.2f}" if longest > 10**6 else f"{'-':>9}"
-            each = min(own["null"]) / count * 1e9
+            each = least[program, "null"] / count * 1e9
             line = f"{name:24} {count:8} {each:10.0f} {kib:9}  {of_longest}"
             if other:
-                ratios = (min(own[o]) / max(min(others[o]), 1e-9) for o in OUTPUTS)
+                ratios = (least[program, it] / max(least[other, it], 1e-9) for it in OUTPUTS)
                 line += "   " + " ".join(f"{ratio:.2f}" for ratio in ratios)
             print(line, flush=True)
 

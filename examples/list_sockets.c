@@ -1,10 +1,14 @@
 /*
- * Lists the sockets of this machine: one line for each UNIX socket, and for each TCP, UDP and MPTCP
- * socket over IPv4 and IPv6. If a port is given as the argument, lists only the TCP, UDP and MPTCP
- * sockets with this local port.
+ * list_sockets [-l] [PORT]: lists the sockets of this machine, one line for each UNIX socket, and
+ * for each TCP, UDP and MPTCP socket over IPv4 and IPv6. With -l, lists only listening sockets, and
+ * UDP sockets without a peer. With a port, lists only TCP, UDP and MPTCP sockets with this local
+ * port.
  *
  * Each kind is requested from NETLINK_SOCK_DIAG by a dump request, as sock_diag(7) shows. Replies
- * are parsed in the buffer that recv(2) filled. The program is valid C99 and C++.
+ * are parsed in the buffer that recv(2) filled. A reply that is rejected is reported, and the dump
+ * continues. A dump that was interrupted is requested again; its lines are not printed. The exit
+ * status is 0 if all sockets were listed, 1 if not, and 2 for wrong arguments. The program is valid
+ * C99 and C++.
  */
 #include "sockdiag.h"
 
@@ -12,8 +16,6 @@
 #include <errno.h>
 #include <linux/inet_diag.h>
 #include <linux/netlink.h>
-#include <linux/sock_diag.h>
-#include <linux/unix_diag.h>
 #include <netinet/in.h>
 #include <stdio.h>
 #include <stdlib.h>
@@ -21,14 +23,35 @@
 #include <sys/socket.h>
 #include <unistd.h>
 
-/* Missing in older headers of the C library and the kernel. */
+/* Missing in older headers of the C library. */
 #define PROTOCOL_MPTCP 262
-#define WITH_INFO (1 << (2 - 1))
-#define WITH_CONGESTION (1 << (4 - 1))
 
-/* State of a dump. A dump ends with NLMSG_DONE. If it was interrupted or rejected, it ends with
- * another NLMSG_ type. */
+/* How often a dump is requested if it is always interrupted. */
+#define ATTEMPTS 10
+
+/* State of a dump. A dump ends with NLMSG_DONE. If it is rejected, it ends with NLMSG_ERROR. */
 enum progress { GOES_ON, COMPLETE, FAILED };
+
+/* The sockets to list. */
+struct selection {
+    int only_listening;
+    uint16_t port; /* Local port, or 0 for all. */
+};
+
+/* A socket of NETLINK_SOCK_DIAG. */
+struct kernel {
+    int fd;
+    uint32_t port_number;     /* Port id of this socket, which the kernel's answers have. */
+    uint32_t sequence_number; /* That of the last request. */
+};
+
+/* The answer to a request. */
+struct dump {
+    const char *protocol;
+    FILE *lines; /* What is to be printed. */
+    int is_interrupted;
+    int has_rejected_reply;
+};
 
 static int fail(const char *what) {
     fprintf(stderr, "list_sockets: %s: %s\n", what, strerror(errno));
@@ -37,59 +60,61 @@ static int fail(const char *what) {
 
 /* Prints a text. Bytes that are not printable are printed as dots, and an abstract name is printed
  * after an @. */
-static void print_text(const struct sockdiag_text *text) {
+static void print_text(FILE *lines, const struct sockdiag_text *text) {
     size_t place;
+    if (text->kind == 0)
+        return;
     if (text->kind == SOCKDIAG_ABSTRACT)
-        putchar('@');
-    for (place = 0; place < text->length; place++)
-        putchar(text->bytes[place] >= 0x20 && text->bytes[place] < 0x7f ? text->bytes[place] : '.');
+        putc('@', lines);
+    for (place = 0; place < text->length; place++) {
+        const uint8_t byte = text->bytes[place];
+        putc(byte >= 0x20 && byte < 0x7f ? byte : '.', lines);
+    }
 }
 
-static void print_number(const char *name, struct sockdiag_number number) {
+static void print_number(FILE *lines, const char *name, struct sockdiag_number number) {
     if (number.is_told)
-        printf(" %s %u", name, number.value);
+        fprintf(lines, " %s %u", name, number.value);
 }
 
-static uint32_t print_unix(const uint8_t *payload, size_t length) {
+static uint32_t print_unix(FILE *lines, const uint8_t *payload, size_t length) {
     struct sockdiag_unix_details it;
-    uint32_t fault, pending;
+    uint32_t pending;
     size_t place;
-    memset(&it, 0, sizeof it);
-    fault = sockdiag_unix_get_details(payload, length, &it);
+    const uint32_t fault = sockdiag_unix_get_details(payload, length, &it);
     if (fault != SOCKDIAG_OK)
         return fault;
-    printf("unix type %u state %u inode %u ", it.header.kind, it.header.state, it.header.inode);
-    print_text(&it.name);
-    print_number("peer", it.peer);
-    print_number("received", it.recv_queue);
-    print_number("sent", it.send_queue);
+    fprintf(lines, "unix type %u state %u inode %u ", it.header.kind, it.header.state,
+            it.header.inode);
+    print_text(lines, &it.name);
+    print_number(lines, "peer", it.peer);
+    print_number(lines, "received", it.recv_queue);
+    print_number(lines, "sent", it.send_queue);
     for (place = 0; sockdiag_unix_get_pending(payload, length, place, &pending) == SOCKDIAG_ITEM;
          place++)
-        printf(" pending %u", pending);
-    putchar('\n');
+        fprintf(lines, " pending %u", pending);
+    putc('\n', lines);
     return SOCKDIAG_OK;
 }
 
-static uint32_t print_inet(const char *protocol, const uint8_t *payload, size_t length) {
+static uint32_t print_inet(FILE *lines, const char *protocol, const uint8_t *payload,
+                           size_t length) {
     char source[INET6_ADDRSTRLEN] = "", destination[INET6_ADDRSTRLEN] = "";
     struct sockdiag_inet_details it;
     struct sockdiag_tcp_info info;
-    uint32_t fault;
-    memset(&it, 0, sizeof it);
-    memset(&info, 0, sizeof info);
-    fault = sockdiag_inet_get_details(payload, length, &it);
+    const uint32_t fault = sockdiag_inet_get_details(payload, length, &it);
     if (fault != SOCKDIAG_OK)
         return fault;
     inet_ntop(it.header.family, it.header.source_address, source, sizeof source);
     inet_ntop(it.header.family, it.header.destination_address, destination, sizeof destination);
-    printf("%s state %u %s %u %s %u uid %u inode %u ", protocol, it.header.state, source,
-           it.header.source_port, destination, it.header.destination_port, it.header.uid,
-           it.header.inode);
-    print_text(&it.congestion);
-    print_number("mark", it.mark);
+    fprintf(lines, "%s state %u %s %u %s %u uid %u inode %u ", protocol, it.header.state, source,
+            it.header.source_port, destination, it.header.destination_port, it.header.uid,
+            it.header.inode);
+    print_text(lines, &it.congestion);
+    print_number(lines, "mark", it.mark);
     if (sockdiag_inet_get_tcp_info(payload, length, &info) != 0)
-        printf(" rtt %u", info.rtt);
-    putchar('\n');
+        fprintf(lines, " rtt %u", info.rtt);
+    putc('\n', lines);
     return SOCKDIAG_OK;
 }
 
@@ -105,69 +130,114 @@ static enum progress end(const char *protocol, const uint8_t *payload, size_t le
     return number == -ENOENT || number == -EINVAL ? COMPLETE : FAILED;
 }
 
+/* Prints the reply in a message. Reports one that is rejected. */
+static void print_reply(struct dump *dump, const uint8_t *payload, size_t length) {
+    const uint32_t fault = length > 0 && payload[0] == AF_UNIX
+                               ? print_unix(dump->lines, payload, length)
+                               : print_inet(dump->lines, dump->protocol, payload, length);
+    if (fault == SOCKDIAG_OK)
+        return;
+    dump->has_rejected_reply = 1;
+    fprintf(stderr, "list_sockets: %s: invalid reply: %s\n", dump->protocol,
+            sockdiag_fault_text(fault));
+}
+
 /* Prints the replies of a datagram, up to the message that ends the dump. */
-static enum progress print_datagram(const char *protocol, const uint8_t *datagram, size_t length) {
+static enum progress print_datagram(struct dump *dump, const struct kernel *kernel,
+                                    const uint8_t *datagram, size_t length) {
     struct sockdiag_cursor cursor = {0};
     struct sockdiag_message message;
     uint32_t answer;
-    memset(&message, 0, sizeof message);
     while ((answer = sockdiag_next_envelope(datagram, length, &cursor, &message))
            == SOCKDIAG_ITEM) {
         const uint8_t *payload = datagram + message.offset;
-        uint32_t fault = SOCKDIAG_OK;
-        if (message.message_type == NLMSG_DONE || message.message_type == NLMSG_ERROR)
-            return end(protocol, payload, message.length);
-        if (message.message_type == NLMSG_OVERRUN)
-            return fprintf(stderr, "list_sockets: %s: the kernel lost data\n", protocol), FAILED;
-        if (message.message_type == SOCK_DIAG_BY_FAMILY && message.length > 0)
-            fault = payload[0] == AF_UNIX ? print_unix(payload, message.length)
-                                          : print_inet(protocol, payload, message.length);
-        if (fault != SOCKDIAG_OK)
-            fprintf(stderr, "list_sockets: %s: invalid reply: %s\n", protocol,
-                    sockdiag_fault_text(fault));
+        if (!sockdiag_is_answer(&message, kernel->sequence_number, kernel->port_number))
+            continue;
+        dump->is_interrupted |= sockdiag_is_interrupted(&message);
+        if (sockdiag_ends_answer(&message))
+            return end(dump->protocol, payload, message.length);
+        if (message.message_type == SOCKDIAG_NLMSG_OVERRUN)
+            return fprintf(stderr, "list_sockets: %s: data was lost\n", dump->protocol), FAILED;
+        if (message.message_type == SOCKDIAG_SOCK_DIAG_BY_FAMILY)
+            print_reply(dump, payload, message.length);
     }
     if (answer != SOCKDIAG_END)
-        return fprintf(stderr, "list_sockets: %s: invalid datagram: %s\n", protocol,
+        return fprintf(stderr, "list_sockets: %s: invalid datagram: %s\n", dump->protocol,
                        sockdiag_fault_text(answer)), FAILED;
     return GOES_ON;
 }
 
-/* Sends a request and prints its replies. */
-static int list(int fd, const char *protocol, const uint8_t *request, size_t length) {
+/* Receives datagrams and prints their replies, until the dump ends. */
+static enum progress receive(struct dump *dump, const struct kernel *kernel) {
     static union {
         struct nlmsghdr aligned;
         uint8_t bytes[1 << 16];
     } datagram;
-    struct sockaddr_nl kernel;
-    memset(&kernel, 0, sizeof kernel);
-    kernel.nl_family = AF_NETLINK;
-    if (sendto(fd, request, length, 0, (struct sockaddr *)&kernel, sizeof kernel)
-        != (ssize_t)length)
-        return fail("sendto");
-    for (;;) {
-        enum progress progress;
-        ssize_t got = recv(fd, datagram.bytes, sizeof datagram.bytes, MSG_TRUNC);
+    enum progress progress = GOES_ON;
+    while (progress == GOES_ON) {
+        const ssize_t got = recv(kernel->fd, datagram.bytes, sizeof datagram.bytes, MSG_TRUNC);
         if (got < 0 && errno == EINTR)
             continue;
         if (got < 0)
-            return fail("recv");
+            return fail("recv"), FAILED;
         if ((size_t)got > sizeof datagram.bytes)
             return fprintf(stderr, "list_sockets: %s: datagram of %ld bytes exceeds the buffer\n",
-                           protocol, (long)got), -1;
-        progress = print_datagram(protocol, datagram.bytes, (size_t)got);
-        if (progress != GOES_ON)
-            return progress == COMPLETE ? 0 : -1;
+                           dump->protocol, (long)got), FAILED;
+        progress = print_datagram(dump, kernel, datagram.bytes, (size_t)got);
     }
+    return progress;
 }
 
-static int list_unix(int fd) {
+/* Sends a request with a new sequence number, and receives its answer. */
+static enum progress request_dump(struct dump *dump, struct kernel *kernel, uint8_t *request,
+                                  size_t length) {
+    const uint32_t number = ++kernel->sequence_number;
+    memcpy(request + offsetof(struct nlmsghdr, nlmsg_seq), &number, sizeof number);
+    if (send(kernel->fd, request, length, 0) != (ssize_t)length)
+        return fail("send"), FAILED;
+    return receive(dump, kernel);
+}
+
+/* Copies the lines to standard output. */
+static void print_lines(FILE *lines) {
+    char buffer[4096];
+    size_t length;
+    rewind(lines);
+    while ((length = fread(buffer, 1, sizeof buffer, lines)) > 0)
+        fwrite(buffer, 1, length, stdout);
+}
+
+/* Requests a dump until it is not interrupted, and prints its lines. Returns 0 if all sockets were
+ * listed. */
+static int list(struct kernel *kernel, const char *protocol, uint8_t *request, size_t length) {
+    int attempt;
+    for (attempt = 1; attempt <= ATTEMPTS; attempt++) {
+        struct dump dump = {protocol, NULL, 0, 0};
+        enum progress progress;
+        dump.lines = tmpfile();
+        if (dump.lines == NULL)
+            return fail("tmpfile");
+        progress = request_dump(&dump, kernel, request, length);
+        if (progress != COMPLETE || !dump.is_interrupted || attempt == ATTEMPTS)
+            print_lines(dump.lines);
+        fclose(dump.lines);
+        if (progress != COMPLETE)
+            return -1;
+        if (!dump.is_interrupted)
+            return dump.has_rejected_reply ? -1 : 0;
+    }
+    return fprintf(stderr, "list_sockets: %s: interrupted %d times\n", protocol, ATTEMPTS), -1;
+}
+
+static int list_unix(struct kernel *kernel, const struct selection *selection) {
     uint8_t bytes[SOCKDIAG_UNIX_REQUEST_LENGTH];
     struct sockdiag_unix_request request;
     memset(&request, 0, sizeof request);
-    request.header.flags = NLM_F_REQUEST | NLM_F_DUMP;
-    request.states = UINT32_MAX;
-    request.show = UDIAG_SHOW_NAME | UDIAG_SHOW_PEER | UDIAG_SHOW_ICONS | UDIAG_SHOW_RQLEN;
-    return list(fd, "unix", bytes, sockdiag_write_unix_request(&request, bytes, sizeof bytes));
+    request.header.flags = SOCKDIAG_NLM_F_REQUEST | SOCKDIAG_NLM_F_DUMP;
+    request.states = selection->only_listening ? 1u << SOCKDIAG_TCP_LISTEN : UINT32_MAX;
+    request.show = SOCKDIAG_UDIAG_SHOW_NAME | SOCKDIAG_UDIAG_SHOW_PEER | SOCKDIAG_UDIAG_SHOW_ICONS
+                 | SOCKDIAG_UDIAG_SHOW_RQLEN;
+    return list(kernel, "unix", bytes, sockdiag_write_unix_request(&request, bytes, sizeof bytes));
 }
 
 /* A filter, INET_DIAG_REQ_BYTECODE: two operations, each followed by its operand. */
@@ -180,15 +250,15 @@ struct port_filter {
  * test holds, and the offset if not, which is past the end. */
 static struct port_filter filter_of(uint16_t port) {
     const struct port_filter filter = {
-        {sizeof(struct port_filter), INET_DIAG_REQ_BYTECODE},
+        {sizeof(struct port_filter), SOCKDIAG_INET_DIAG_REQ_BYTECODE},
         {{INET_DIAG_BC_S_GE, 8, 20}, {0, 0, port}, {INET_DIAG_BC_S_LE, 8, 12}, {0, 0, port}},
     };
     return filter;
 }
 
-/* Lists the sockets of a protocol. If the port is not 0, lists only those with this local port. */
-static int list_inet(int fd, const char *name, uint32_t protocol, uint8_t extensions,
-                     uint16_t port) {
+/* Lists the sockets of a protocol in the given states. */
+static int list_inet(struct kernel *kernel, const char *name, uint32_t protocol,
+                     uint8_t extensions, uint32_t states, uint16_t port) {
     static const uint8_t families[2] = {AF_INET, AF_INET6};
     const struct port_filter filter = filter_of(port);
     const size_t filter_length = port != 0 ? sizeof filter : 0;
@@ -197,43 +267,91 @@ static int list_inet(int fd, const char *name, uint32_t protocol, uint8_t extens
     struct sockdiag_outcome outcome;
     int place, failed = 0;
     memset(&request, 0, sizeof request);
-    memset(&outcome, 0, sizeof outcome);
-    request.header.flags = NLM_F_REQUEST | NLM_F_DUMP;
+    request.header.flags = SOCKDIAG_NLM_F_REQUEST | SOCKDIAG_NLM_F_DUMP;
     request.protocol = protocol;
     request.extensions = extensions;
-    request.states = UINT32_MAX;
+    request.states = states;
     for (place = 0; place < 2; place++) {
         size_t length;
         request.family = families[place];
         length = sockdiag_write_inet_request_with_attributes(&request, (const uint8_t *)&filter,
                                                              filter_length, bytes, sizeof bytes,
                                                              &outcome);
-        failed |= list(fd, name, bytes, length);
+        failed |= list(kernel, name, bytes, length);
     }
     return failed;
 }
 
-/* Returns the port that the argument contains, or 0 if it is not a port. */
-static uint16_t port_of(const char *argument) {
-    char *end;
-    const unsigned long port = strtoul(argument, &end, 10);
-    return *end == '\0' && port <= UINT16_MAX ? (uint16_t)port : 0;
+/* Lists the selected sockets. A listening TCP or MPTCP socket is in state TCP_LISTEN, and a UDP
+ * socket without a peer in state TCP_CLOSE. */
+static int list_selected(struct kernel *kernel, const struct selection *selection) {
+    const uint8_t with_info = 1u << (SOCKDIAG_INET_DIAG_INFO - 1);
+    const uint8_t with_congestion = 1u << (SOCKDIAG_INET_DIAG_CONG - 1);
+    uint32_t tcp = UINT32_MAX, udp = UINT32_MAX;
+    int failed = 0;
+    if (selection->only_listening) {
+        tcp = 1u << SOCKDIAG_TCP_LISTEN;
+        udp = 1u << SOCKDIAG_TCP_CLOSE;
+    }
+    if (selection->port == 0)
+        failed |= list_unix(kernel, selection);
+    failed |= list_inet(kernel, "tcp", IPPROTO_TCP, with_info | with_congestion, tcp,
+                        selection->port);
+    failed |= list_inet(kernel, "udp", IPPROTO_UDP, 0, udp, selection->port);
+    failed |= list_inet(kernel, "mptcp", PROTOCOL_MPTCP, 0, tcp, selection->port);
+    return failed;
+}
+
+/* Opens a socket to which only the kernel can send, and gets its port id. */
+static int open_kernel(struct kernel *kernel) {
+    struct sockaddr_nl address;
+    socklen_t length = sizeof address;
+    memset(&address, 0, sizeof address);
+    address.nl_family = AF_NETLINK;
+    kernel->sequence_number = 0;
+    kernel->fd = socket(AF_NETLINK, SOCK_DGRAM | SOCK_CLOEXEC, SOCKDIAG_NETLINK_SOCK_DIAG);
+    if (kernel->fd < 0)
+        return fail("socket");
+    if (connect(kernel->fd, (struct sockaddr *)&address, sizeof address) != 0
+        || getsockname(kernel->fd, (struct sockaddr *)&address, &length) != 0) {
+        fail("connect");
+        close(kernel->fd);
+        return -1;
+    }
+    kernel->port_number = address.nl_pid;
+    return 0;
+}
+
+/* Reads the arguments. Returns 0, or -1 if they are wrong. */
+static int read_arguments(int count, char **arguments, struct selection *selection) {
+    int place = 1;
+    selection->only_listening = count > 1 && strcmp(arguments[1], "-l") == 0;
+    selection->port = 0;
+    place += selection->only_listening;
+    if (place < count) {
+        char *end;
+        const unsigned long port = strtoul(arguments[place], &end, 10);
+        if (*end != '\0' || port == 0 || port > UINT16_MAX)
+            return -1;
+        selection->port = (uint16_t)port;
+        place++;
+    }
+    return place == count ? 0 : -1;
 }
 
 int main(int argc, char **argv) {
-    const uint16_t port = argc == 2 ? port_of(argv[1]) : 0;
-    int failed, fd;
-    if (argc > 2 || (argc == 2 && port == 0))
-        return fputs("usage: list_sockets [PORT]\n", stderr), 2;
-    fd = socket(AF_NETLINK, SOCK_DGRAM | SOCK_CLOEXEC, NETLINK_SOCK_DIAG);
-    if (fd < 0)
-        return fail("socket"), 1;
-    failed = port == 0 ? list_unix(fd) : 0;
-    failed |= list_inet(fd, "tcp", IPPROTO_TCP, WITH_INFO | WITH_CONGESTION, port);
-    failed |= list_inet(fd, "udp", IPPROTO_UDP, 0, port);
-    failed |= list_inet(fd, "mptcp", PROTOCOL_MPTCP, 0, port);
-    close(fd);
-    if (fflush(stdout) != 0)
+    struct selection selection;
+    struct kernel kernel;
+    int failed;
+    if (read_arguments(argc, argv, &selection) != 0)
+        return fputs("usage: list_sockets [-l] [PORT]\n", stderr), 2;
+    if (!sockdiag_is_compatible())
+        return fputs("list_sockets: the library has another version than its header\n", stderr), 1;
+    if (open_kernel(&kernel) != 0)
+        return 1;
+    failed = list_selected(&kernel, &selection);
+    close(kernel.fd);
+    if (fflush(stdout) != 0 || ferror(stdout))
         return fail("standard output"), 1;
     return failed != 0;
 }

@@ -4,8 +4,9 @@
  *
  * The library is crates/sockdiag_c. tools/install builds it and installs it under a prefix. What
  * this header says of a call is proved there, by the contract of the function of the same name and
- * by the two theorem functions about iteration in src/laws.rt. The only function that is defined
- * here is sockdiag_fault_text.
+ * by the two theorem functions about iteration in src/laws.rt. The functions that are defined here
+ * are not proved: sockdiag_is_compatible, sockdiag_fault_text, sockdiag_is_answer,
+ * sockdiag_is_interrupted and sockdiag_ends_answer.
  *
  * The library does not allocate, opens no files or sockets, and has no state between calls. So any
  * thread may call it at any time, with memory that meets the requirements below. It needs memcpy,
@@ -14,10 +15,24 @@
  * The caller has to ensure the following, and nothing checks it:
  * - A pointer to bytes is valid for the length in bytes that the parameter next to it gives. The
  *   length is at most PTRDIFF_MAX. The pointer may be null if the length is 0.
- * - A pointer to a struct is aligned for it, and all fields of the struct are initialized.
+ * - A pointer to a struct is aligned for it. All fields of a const struct, and of a cursor, are
+ *   initialized.
  * - Memory that a call writes, which is a buffer or a struct that is not const, overlaps no other
  *   memory that the call is given. No other thread reads or writes it during the call. Memory that
  *   a call only reads is not written during the call.
+ *
+ * A struct or number that a call returns need not be initialized, or set to zeros: no return value
+ * depends on its contents. What the call does not set is unchanged. That is:
+ * - all of it, if a check or a sockdiag_.._get_details returns the code of an error, if
+ *   sockdiag_unix_get_pending or sockdiag_get_error_number returns 0, and if an iteration returns 0
+ *   or the code of a framing error;
+ * - if sockdiag_check_message returns 0, the header of the other kind;
+ * - if sockdiag_packet_get_details or sockdiag_xdp_get_details returns 0, each record whose field
+ *   has_.. is 0.
+ *
+ * All other fields are set. sockdiag_inet_get_tcp_info and sockdiag_inet_get_memory set all fields
+ * in any case, and so does each call with a struct sockdiag_outcome. The padding between fields may
+ * have any contents, so do not compare structs by memcmp.
  *
  * Numbers in structs are in the byte order of the host, ports included. Addresses are in network
  * byte order, as inet_ntop expects them. A cookie of eight bytes is a copy of the bytes in the
@@ -32,12 +47,35 @@
 #include <stddef.h>
 #include <stdint.h>
 
-/* The version of this header and of the library that it is shipped with. */
+/*
+ * The version of this header and of the library that it is shipped with, as a text and as a number:
+ * 1,000,000 times the first number, plus 1,000 times the second one, plus the third one.
+ */
 #define SOCKDIAG_VERSION "0.11.0"
+#define SOCKDIAG_VERSION_NUMBER 11000
 
 #ifdef __cplusplus
 extern "C" {
 #endif
+
+/*
+ * Returns the version of the library as a number: 1,000,000 times the first number of the version,
+ * plus 1,000 times the second one, plus the third one. It is SOCKDIAG_VERSION_NUMBER of the header
+ * that the library was built with. sockdiag_is_compatible compares the two.
+ */
+uint32_t sockdiag_version(void);
+
+/*
+ * Returns 1 if the program was compiled with the header of a version that is compatible with the
+ * library that is linked, else 0. The first two numbers of both versions have to be equal. The
+ * loader of programs ensures this for the shared library, by its soname. Call this function first
+ * if the program is linked with the static library, or loads the library by itself: structs of
+ * another version may have another size.
+ */
+static inline int sockdiag_is_compatible(void)
+{
+    return sockdiag_version() / 1000 == SOCKDIAG_VERSION_NUMBER / 1000;
+}
 
 #define SOCKDIAG_OK 0   /* Return value of a check that accepts the bytes. */
 #define SOCKDIAG_END 0  /* Return value of an iteration at its end, and of a getter that finds no
@@ -127,6 +165,195 @@ static inline const char *sockdiag_fault_text(uint32_t fault)
     }
 }
 
+/* ---- constants of the kernel
+ *
+ * They have the kernel's names with the prefix SOCKDIAG_. Comments here use the kernel's names. So
+ * no header of the kernel or the C library is needed for them, and a program can be compiled with
+ * -std=c99, under which netinet/tcp.h does not declare TCP_LISTEN, for example.
+ */
+
+/* The protocol of a socket of family AF_NETLINK, for socket(2). */
+enum sockdiag_netlink_protocol {
+    SOCKDIAG_NETLINK_SOCK_DIAG = 4 /* The netlink protocol of sock_diag(7), for socket(2). */
+};
+
+/* Message types of netlink(7) and sock_diag(7). */
+enum sockdiag_message_type {
+    SOCKDIAG_NLMSG_NOOP = 1,           /* Message type without any content, see netlink(7). */
+    SOCKDIAG_NLMSG_ERROR = 2,          /* Message type of an error, or of the acknowledgement of
+                                          a request. */
+    SOCKDIAG_NLMSG_DONE = 3,           /* Message type that ends a dump. */
+    SOCKDIAG_NLMSG_OVERRUN = 4,        /* Message type that reports that data was lost. */
+    SOCKDIAG_SOCK_DIAG_BY_FAMILY = 20, /* A request for sockets, or a reply about one. */
+    SOCKDIAG_SOCK_DESTROY = 21         /* A request to close a socket. */
+};
+
+/* Flags of a message header, netlink(7). */
+enum sockdiag_message_flag {
+    SOCKDIAG_NLM_F_REQUEST = 1,          /* Header flag of every request. */
+    SOCKDIAG_NLM_F_DUMP = 0x300,         /* Header flags that request all entries of a table:
+                                            NLM_F_ROOT | NLM_F_MATCH. */
+    SOCKDIAG_NLM_F_MULTI = 2,            /* Part of a multipart message, which NLMSG_DONE
+                                            terminates. */
+    SOCKDIAG_NLM_F_ACK = 4,              /* In a request: requests an acknowledgement. */
+    SOCKDIAG_NLM_F_ECHO = 8,             /* In a request: requests the notifications that it
+                                            causes. */
+    SOCKDIAG_NLM_F_DUMP_INTR = 0x10,     /* In a reply: the dump is inconsistent, since the
+                                            sockets changed during the dump. */
+    SOCKDIAG_NLM_F_DUMP_FILTERED = 0x20, /* In a reply: the dump was filtered as requested. */
+    SOCKDIAG_NLM_F_ROOT = 0x100,         /* In a request: requests the complete table. */
+    SOCKDIAG_NLM_F_MATCH = 0x200,        /* In a request: requests all entries that match. */
+    SOCKDIAG_NLM_F_ATOMIC = 0x400,       /* In a request: requests an atomic snapshot. */
+    SOCKDIAG_NLM_F_CAPPED = 0x100,       /* In an acknowledgement: it contains only the header of
+                                            the request. */
+    SOCKDIAG_NLM_F_ACK_TLVS = 0x200      /* In an acknowledgement: attributes NLMSGERR_ATTR_..
+                                            follow. */
+};
+
+/*
+ * Socket states. A request selects a state by its bit, such as 1u << SOCKDIAG_TCP_LISTEN. UNIX,
+ * UDP and other sockets have these states too: a UNIX socket is in state 1, 7 or 10.
+ */
+enum sockdiag_state {
+    SOCKDIAG_TCP_ESTABLISHED = 1,    /* The connection is open. */
+    SOCKDIAG_TCP_SYN_SENT = 2,       /* A SYN was sent. */
+    SOCKDIAG_TCP_SYN_RECV = 3,       /* A SYN was received and answered. */
+    SOCKDIAG_TCP_FIN_WAIT1 = 4,      /* The local side has sent a FIN, and waits for its
+                                        acknowledgement. */
+    SOCKDIAG_TCP_FIN_WAIT2 = 5,      /* The local side has closed, and waits for a FIN. */
+    SOCKDIAG_TCP_TIME_WAIT = 6,      /* Both sides have closed; late segments are waited for. */
+    SOCKDIAG_TCP_CLOSE = 7,          /* There is no connection. */
+    SOCKDIAG_TCP_CLOSE_WAIT = 8,     /* The remote side has sent a FIN, and the local side has
+                                        not. */
+    SOCKDIAG_TCP_LAST_ACK = 9,       /* Both sides have closed, the remote side first; the last
+                                        acknowledgement is waited for. */
+    SOCKDIAG_TCP_LISTEN = 10,        /* The socket listens for connections. */
+    SOCKDIAG_TCP_CLOSING = 11,       /* Both sides have closed at the same time, and wait for the
+                                        acknowledgement. */
+    SOCKDIAG_TCP_BOUND_INACTIVE = 13 /* Bound and not connected. A request selects this state by
+                                        bit 13; replies have the state 7 (TCP_CLOSE). */
+};
+
+/* Attributes that a request for UNIX sockets selects. */
+enum sockdiag_unix_show {
+    SOCKDIAG_UDIAG_SHOW_NAME = 1,     /* Requests UNIX_DIAG_NAME. */
+    SOCKDIAG_UDIAG_SHOW_VFS = 2,      /* Requests UNIX_DIAG_VFS. */
+    SOCKDIAG_UDIAG_SHOW_PEER = 4,     /* Requests UNIX_DIAG_PEER. */
+    SOCKDIAG_UDIAG_SHOW_ICONS = 8,    /* Requests UNIX_DIAG_ICONS. */
+    SOCKDIAG_UDIAG_SHOW_RQLEN = 16,   /* Requests UNIX_DIAG_RQLEN. */
+    SOCKDIAG_UDIAG_SHOW_MEMINFO = 32, /* Requests UNIX_DIAG_MEMINFO. */
+    SOCKDIAG_UDIAG_SHOW_UID = 64      /* Flag of a UNIX request: requests UNIX_DIAG_UID. */
+};
+
+/* Kinds of attributes in replies about UNIX sockets. */
+enum sockdiag_unix_attribute {
+    SOCKDIAG_UNIX_DIAG_NAME = 0,     /* Name that the socket is bound to. */
+    SOCKDIAG_UNIX_DIAG_VFS = 1,      /* File that the socket is bound to: struct unix_diag_vfs. */
+    SOCKDIAG_UNIX_DIAG_PEER = 2,     /* Inode number of the peer. */
+    SOCKDIAG_UNIX_DIAG_ICONS = 3,    /* Inode numbers of pending connections. */
+    SOCKDIAG_UNIX_DIAG_RQLEN = 4,    /* Lengths of the queues. */
+    SOCKDIAG_UNIX_DIAG_MEMINFO = 5,  /* Memory of the socket: an array of u32, indexed by
+                                        SK_MEMINFO_*. */
+    SOCKDIAG_UNIX_DIAG_SHUTDOWN = 6, /* Directions that are shut down, a u8: bit 0 for receiving,
+                                        bit 1 for sending. See shutdown(2). */
+    SOCKDIAG_UNIX_DIAG_UID = 7       /* Kind of the attribute with the id of the user who created
+                                        the UNIX socket. */
+};
+
+/*
+ * Kinds of attributes in replies about IPv4 and IPv6 sockets. A request selects a kind up to 8 by
+ * its bit, such as 1u << (SOCKDIAG_INET_DIAG_INFO - 1). The kernel sends some others unasked.
+ */
+enum sockdiag_inet_attribute {
+    SOCKDIAG_INET_DIAG_NONE = 0,             /* No attribute. */
+    SOCKDIAG_INET_DIAG_MEMINFO = 1,          /* Memory of the socket in the format of old
+                                                kernels: struct inet_diag_meminfo. */
+    SOCKDIAG_INET_DIAG_INFO = 2,             /* State of the TCP connection: struct tcp_info. */
+    SOCKDIAG_INET_DIAG_VEGASINFO = 3,        /* Measurements of TCP Vegas: struct tcpvegas_info. */
+    SOCKDIAG_INET_DIAG_CONG = 4,             /* Name of the congestion control algorithm. */
+    SOCKDIAG_INET_DIAG_TOS = 5,              /* Type of service, a u8. */
+    SOCKDIAG_INET_DIAG_TCLASS = 6,           /* IPv6 traffic class, a u8. */
+    SOCKDIAG_INET_DIAG_SKMEMINFO = 7,        /* Memory of the socket: an array of u32, indexed by
+                                                SK_MEMINFO_*. */
+    SOCKDIAG_INET_DIAG_SHUTDOWN = 8,         /* Directions that are shut down, a u8: bit 0 for
+                                                receiving, bit 1 for sending. See shutdown(2). */
+    SOCKDIAG_INET_DIAG_DCTCPINFO = 9,        /* Measurements of DCTCP: struct tcp_dctcp_info. */
+    SOCKDIAG_INET_DIAG_PROTOCOL = 10,        /* Protocol of a raw socket, IPPROTO_*. */
+    SOCKDIAG_INET_DIAG_SKV6ONLY = 11,        /* Whether the socket is IPv6-only. */
+    SOCKDIAG_INET_DIAG_LOCALS = 12,          /* Local addresses of an SCTP socket. */
+    SOCKDIAG_INET_DIAG_PEERS = 13,           /* Remote addresses of an SCTP socket. */
+    SOCKDIAG_INET_DIAG_PAD = 14,             /* Padding. */
+    SOCKDIAG_INET_DIAG_MARK = 15,            /* Mark of the socket, SO_MARK of socket(7). */
+    SOCKDIAG_INET_DIAG_BBRINFO = 16,         /* Measurements of BBR: struct tcp_bbr_info. */
+    SOCKDIAG_INET_DIAG_CLASS_ID = 17,        /* Traffic class id (net_cls) of the socket's
+                                                control group. */
+    SOCKDIAG_INET_DIAG_MD5SIG = 18,          /* Keys of TCP MD5 signatures. */
+    SOCKDIAG_INET_DIAG_ULP_INFO = 19,        /* Kind of the attribute of the upper layer protocol
+                                                on TCP (ULP), such as TLS or MPTCP: nested
+                                                attributes INET_ULP_INFO_... */
+    SOCKDIAG_INET_DIAG_SK_BPF_STORAGES = 20, /* Kind of the attribute of the local storage of BPF
+                                                programs for the socket: nested attributes
+                                                SK_DIAG_BPF_STORAGE. */
+    SOCKDIAG_INET_DIAG_CGROUP_ID = 21,       /* Kind of the attribute with the id of the socket's
+                                                control group. */
+    SOCKDIAG_INET_DIAG_SOCKOPT = 22          /* Kind of the attribute with the options of the
+                                                socket. */
+};
+
+/* Kinds of attributes in requests for IPv4 and IPv6 sockets. */
+enum sockdiag_inet_request_attribute {
+    SOCKDIAG_INET_DIAG_REQ_NONE = 0,            /* Kind of no attribute. The kinds
+                                                   INET_DIAG_REQ_.. (linux/inet_diag.h) are those
+                                                   of attributes after a struct inet_diag_req_v2. */
+    SOCKDIAG_INET_DIAG_REQ_BYTECODE = 1,        /* Kind of a filter: operations INET_DIAG_BC_... */
+    SOCKDIAG_INET_DIAG_REQ_SK_BPF_STORAGES = 2, /* Kind of the maps whose BPF storages are
+                                                   requested: nested attributes
+                                                   SK_DIAG_BPF_STORAGE_REQ_MAP_FD. */
+    SOCKDIAG_INET_DIAG_REQ_PROTOCOL = 3         /* Kind of the protocol as a u32, for a protocol
+                                                   above 255 such as IPPROTO_MPTCP. */
+};
+
+/* Congestion control states of a TCP connection, and its options. */
+enum sockdiag_tcp_value {
+    SOCKDIAG_TCP_CA_OPEN = 0,         /* The normal state: no sign of loss or congestion. */
+    SOCKDIAG_TCP_CA_DISORDER = 1,     /* Duplicate or selective acknowledgements were received. */
+    SOCKDIAG_TCP_CA_CWR = 2,          /* The congestion window is being reduced, after a
+                                         congestion notification. */
+    SOCKDIAG_TCP_CA_RECOVERY = 3,     /* Lost segments are retransmitted, by fast retransmit. */
+    SOCKDIAG_TCP_CA_LOSS = 4,         /* Lost segments are retransmitted, after the
+                                         retransmission timeout. */
+    SOCKDIAG_TCPI_OPT_TIMESTAMPS = 1, /* Timestamps. */
+    SOCKDIAG_TCPI_OPT_SACK = 2,       /* Selective acknowledgements. */
+    SOCKDIAG_TCPI_OPT_WSCALE = 4,     /* Window scaling. */
+    SOCKDIAG_TCPI_OPT_ECN = 8,        /* Explicit congestion notification (ECN) was negotiated. */
+    SOCKDIAG_TCPI_OPT_ECN_SEEN = 16,  /* A packet of an ECN-capable transport was received. */
+    SOCKDIAG_TCPI_OPT_SYN_DATA = 32,  /* Data in the SYN was acknowledged (TCP Fast Open). */
+    SOCKDIAG_TCPI_OPT_USEC_TS = 64,   /* Timestamps of segments are in microseconds. Since Linux
+                                         6.7. */
+    SOCKDIAG_TCPI_OPT_TFO_CHILD = 128 /* The connection was opened by a received fast open
+                                         request. Since Linux 6.14. */
+};
+
+/* Protocols and attributes that a request for netlink, packet or XDP sockets selects. */
+enum sockdiag_show {
+    SOCKDIAG_NDIAG_PROTO_ALL = 255,      /* Requests sockets of all protocols. */
+    SOCKDIAG_NDIAG_SHOW_MEMINFO = 0x1,   /* Requests NETLINK_DIAG_MEMINFO. */
+    SOCKDIAG_NDIAG_SHOW_GROUPS = 0x2,    /* Requests NETLINK_DIAG_GROUPS. */
+    SOCKDIAG_NDIAG_SHOW_FLAGS = 0x8,     /* Requests NETLINK_DIAG_FLAGS. */
+    SOCKDIAG_PACKET_SHOW_INFO = 0x1,     /* Requests PACKET_DIAG_INFO and PACKET_DIAG_UID. */
+    SOCKDIAG_PACKET_SHOW_MCLIST = 0x2,   /* Requests PACKET_DIAG_MCLIST. */
+    SOCKDIAG_PACKET_SHOW_RING_CFG = 0x4, /* Requests PACKET_DIAG_RX_RING and PACKET_DIAG_TX_RING. */
+    SOCKDIAG_PACKET_SHOW_FANOUT = 0x8,   /* Requests PACKET_DIAG_FANOUT. */
+    SOCKDIAG_PACKET_SHOW_MEMINFO = 0x10, /* Requests PACKET_DIAG_MEMINFO. */
+    SOCKDIAG_PACKET_SHOW_FILTER = 0x20,  /* Requests PACKET_DIAG_FILTER. */
+    SOCKDIAG_XDP_SHOW_INFO = 0x1,        /* Requests XDP_DIAG_INFO and XDP_DIAG_UID. */
+    SOCKDIAG_XDP_SHOW_RING_CFG = 0x2,    /* Requests XDP_DIAG_RX_RING and XDP_DIAG_TX_RING. */
+    SOCKDIAG_XDP_SHOW_UMEM = 0x4,        /* Requests XDP_DIAG_UMEM, XDP_DIAG_UMEM_FILL_RING and
+                                            XDP_DIAG_UMEM_COMPLETION_RING. */
+    SOCKDIAG_XDP_SHOW_MEMINFO = 0x8,     /* Requests XDP_DIAG_MEMINFO. */
+    SOCKDIAG_XDP_SHOW_STATS = 0x10       /* Requests XDP_DIAG_STATS. */
+};
+
 /* ---- replies */
 
 /* Offsets of the attributes in a reply, where an iteration over them starts. */
@@ -136,8 +363,9 @@ static inline const char *sockdiag_fault_text(uint32_t fault)
 /* Header of a reply about a UNIX socket: struct unix_diag_msg of sock_diag(7). */
 struct sockdiag_unix_header {
     uint8_t kind;      /* Type of the socket, one of SOCK_.. (udiag_type, at 1). */
-    uint8_t state;     /* State (udiag_state, at 2): TCP_ESTABLISHED, TCP_LISTEN, or TCP_CLOSE
-                          (7) if the socket is not connected. */
+    uint8_t state;     /* State (udiag_state, at 2): TCP_ESTABLISHED (1) if the socket is
+                          connected, TCP_LISTEN (10) if it listens, else TCP_CLOSE (7), as of
+                          most datagram sockets. */
     uint32_t inode;    /* Inode of the socket (udiag_ino, at 4). */
     uint8_t cookie[8]; /* Cookie that distinguishes sockets with the same inode (udiag_cookie, at
                           8). */
@@ -147,14 +375,17 @@ struct sockdiag_unix_header {
 struct sockdiag_inet_header {
     uint8_t family;                  /* AF_INET or AF_INET6 (idiag_family, at 0). */
     uint8_t state;                   /* State, one of TCP_ESTABLISHED to TCP_CLOSING
-                                        (idiag_state, at 1). */
+                                        (idiag_state, at 1). A reply does not contain the
+                                        protocol: states are of TCP, UDP or another protocol, the
+                                        one that was requested. */
     uint8_t timer;                   /* Timer (idiag_timer, at 2): 1 retransmission, 2 keepalive,
                                         3 TIME_WAIT, 4 zero-window probe, 0 none. Any other value
                                         in the message is returned as 0. */
     uint8_t retransmits;             /* Number of retransmissions if the timer is 1, else 0
                                         (idiag_retrans, at 3). */
     uint32_t expires;                /* Milliseconds until the timer expires if the timer is 1, 2
-                                        or 4, else 0 (idiag_expires, at 52). */
+                                        or 4, else 0 (idiag_expires, at 52). The time of a
+                                        TIME_WAIT timer is not returned. */
     uint16_t source_port;            /* Local port (idiag_sport, at 4). */
     uint16_t destination_port;       /* Remote port (idiag_dport, at 6). */
     uint8_t source_address[16];      /* Local address in network byte order (idiag_src, at 8).
@@ -188,6 +419,13 @@ struct sockdiag_reply {
  * Checks a whole reply about a UNIX socket, with its attributes, and returns its header. The bytes
  * are the payload of the netlink message. Returns 0, or the code of the first error; then the
  * header is unchanged.
+ *
+ * An attribute with an invalid value makes the whole reply invalid. UNIX_DIAG_MEMINFO with fewer
+ * than 36 bytes, which old kernels send, has SOCKDIAG_BUFFER_TOO_SMALL: do not request it with
+ * UDIAG_SHOW_MEMINFO from such kernels. To parse a reply in spite of an invalid attribute, pass 16
+ * (SOCKDIAG_UNIX_ATTRIBUTES) as the length if the payload has 16 bytes or more: a header is a reply
+ * without attributes. Then iterate over the attributes by sockdiag_next_attribute, which does not
+ * check their values.
  */
 uint32_t sockdiag_check_unix_reply(const uint8_t *payload, size_t length,
                                    struct sockdiag_unix_header *header);
@@ -196,6 +434,16 @@ uint32_t sockdiag_check_unix_reply(const uint8_t *payload, size_t length,
  * Checks a whole reply about an IPv4 or IPv6 socket, with its attributes, and returns its header.
  * The bytes are the payload of the netlink message. Returns 0, or the code of the first error; then
  * the header is unchanged.
+ *
+ * An attribute with an invalid value makes the whole reply invalid. INET_DIAG_INFO with fewer than
+ * 232 bytes has SOCKDIAG_BUFFER_TOO_SMALL. TCP sockets of kernels before Linux 5.4 have such
+ * values, and MPTCP sockets of all kernels. Either do not request it: leave INET_DIAG_INFO out of
+ * the extensions of the request. Or parse the reply in parts:
+ * - the header: if the payload has 72 bytes or more, pass 72 (SOCKDIAG_INET_ATTRIBUTES) as the
+ *   length, since a header is a reply without attributes;
+ * - the connection: sockdiag_inet_get_tcp_info, which accepts any length;
+ * - the memory: sockdiag_inet_get_memory, in the same way;
+ * - other attributes: sockdiag_next_attribute, which does not check their values.
  */
 uint32_t sockdiag_check_inet_reply(const uint8_t *payload, size_t length,
                                    struct sockdiag_inet_header *header);
@@ -203,8 +451,10 @@ uint32_t sockdiag_check_inet_reply(const uint8_t *payload, size_t length,
 /*
  * Checks the whole payload of a message of this type, and stores the kind of the reply and its
  * header. The first byte is the family: AF_UNIX for a reply about a UNIX socket, AF_INET or
- * AF_INET6 for one about an internet socket. The header of the other kind is unchanged. Returns 0,
- * or the code of the first error; then the reply is unchanged.
+ * AF_INET6 for one about an internet socket. Any other family is rejected with
+ * SOCKDIAG_UNKNOWN_FAMILY: replies about netlink, packet, vsock and XDP sockets have other calls,
+ * sockdiag_netlink_get_details and so on. The header of the other kind is unchanged. Returns 0, or
+ * the code of the first error; then the reply is unchanged.
  */
 uint32_t sockdiag_check_message(const uint8_t *payload, size_t length, uint16_t message_type,
                                 struct sockdiag_reply *reply);
@@ -227,10 +477,11 @@ struct sockdiag_text {
     uint32_t kind;        /* Kind of the text. SOCKDIAG_TEXT: a pathname, or the name of a
                              congestion control algorithm. SOCKDIAG_ABSTRACT: an abstract name.
                              SOCKDIAG_BYTES: bytes that are not text. 0: the reply contains no
-                             such text. */
+                             such text; then do not use the other fields. */
     const uint8_t *bytes; /* The text, without the NUL that ends a text or precedes an abstract
-                             name. In the reply, a pathname is followed by its NUL; other texts
-                             may have none. */
+                             name. Do not use it as a string of C: an abstract name may contain
+                             NULs, and only a pathname is always followed by its NUL in the
+                             reply. */
     size_t length;        /* Length in bytes. */
 };
 
@@ -259,7 +510,9 @@ struct sockdiag_unix_details {
                                               datagram (SK_MEMINFO_SNDBUF of UNIX_DIAG_MEMINFO). */
     struct sockdiag_number queued;         /* Memory of data queued for sending, in bytes
                                               (SK_MEMINFO_WMEM_QUEUED of UNIX_DIAG_MEMINFO).
-                                              Linux sends 0. */
+                                              Linux sends 0, and counts data that the peer has
+                                              not read in SK_MEMINFO_WMEM_ALLOC, which has no
+                                              field here: use send_queue. */
     struct sockdiag_number shutdown;       /* Directions that are shut down: 1 for receiving, 2
                                               for sending, 3 for both (UNIX_DIAG_SHUTDOWN). */
 };
@@ -287,9 +540,13 @@ struct sockdiag_inet_details {
 /*
  * Checks a whole reply about a UNIX socket, as sockdiag_check_unix_reply does, and returns its
  * contents, in one pass over the attributes. The bytes are the payload of the netlink message.
- * Returns 0, or the code of the first error; then the details are unchanged. The previous contents
- * of the details are not read. If the reply has several attributes of a kind, the first one counts.
- * Texts point into the payload, and are valid as long as it is.
+ * Returns 0, and sets all fields; or the code of the first error, and then the details are
+ * unchanged. The previous contents of the details are not read. If the reply has several attributes
+ * of a kind, the first one counts. Texts point into the payload, and are valid as long as it is.
+ *
+ * Attributes without a field, such as UNIX_DIAG_UID, are not an error: sockdiag_next_attribute
+ * returns them. sockdiag_check_unix_reply has a remark on attributes of old kernels that are
+ * rejected.
  */
 uint32_t sockdiag_unix_get_details(const uint8_t *payload, size_t length,
                                    struct sockdiag_unix_details *details);
@@ -298,9 +555,14 @@ uint32_t sockdiag_unix_get_details(const uint8_t *payload, size_t length,
  * Checks a whole reply about an IPv4 or IPv6 socket, as sockdiag_check_inet_reply does, and returns
  * its header and the attributes that are a text or a number, in one pass over the attributes.
  * Memory and struct tcp_info are checked, and not returned. The bytes are the payload of the
- * netlink message. Returns 0, or the code of the first error; then the details are unchanged. The
- * previous contents of the details are not read. If the reply has several attributes of a kind, the
- * first one counts. Texts point into the payload, and are valid as long as it is.
+ * netlink message. Returns 0, and sets all fields; or the code of the first error, and then the
+ * details are unchanged. The previous contents of the details are not read. If the reply has
+ * several attributes of a kind, the first one counts. Texts point into the payload, and are valid
+ * as long as it is.
+ *
+ * Attributes without a field, such as INET_DIAG_MD5SIG and others that are arrays or nested, are
+ * not an error: sockdiag_next_attribute returns them. A reply with a short INET_DIAG_INFO is
+ * rejected: sockdiag_check_inet_reply has a remark on what to do.
  */
 uint32_t sockdiag_inet_get_details(const uint8_t *payload, size_t length,
                                    struct sockdiag_inet_details *details);
@@ -310,6 +572,9 @@ uint32_t sockdiag_inet_get_details(const uint8_t *payload, size_t length,
  * index of the first UNIX_DIAG_ICONS of a reply, which is the payload of a netlink message. The
  * first connection has index 0. Returns 1. Returns 0 if the reply is rejected, or has no connection
  * at this index; then the inode is unchanged.
+ *
+ * Each call checks the whole reply. For a long list, find UNIX_DIAG_ICONS once by
+ * sockdiag_next_attribute: its value has an inode every four bytes, in the byte order of the host.
  */
 uint32_t sockdiag_unix_get_pending(const uint8_t *payload, size_t length, size_t index,
                                    uint32_t *inode);
@@ -440,8 +705,12 @@ struct sockdiag_tcp_info {
 /*
  * Copies the value of the first INET_DIAG_INFO (2) after the header of a reply about an IPv4 or
  * IPv6 socket, which has 72 bytes: at most the 232 bytes of info. The remaining bytes of info are
- * set to 0. Returns the length of the value in bytes, or 0 if there is none. Older kernels send
- * fewer than 232 bytes, and newer kernels more.
+ * set to 0. Returns the length of the value in bytes, or 0 if there is none.
+ *
+ * Kernels before Linux 5.4 send fewer than 232 bytes: a field that ends after the returned length
+ * is 0, and not known. Newer kernels send more; the bytes after 232 are not copied. The value is
+ * struct tcp_info only if the protocol is TCP: MPTCP has struct mptcp_info, and SCTP has struct
+ * sctp_info, whose bytes have no meaning in info.
  *
  * The values of attributes are not checked. So this call also works for a reply that is rejected
  * because a value is too short. Attributes after a framing error are not found.
@@ -477,7 +746,7 @@ struct sockdiag_inet_memory {
  * Copies the value of the first INET_DIAG_SKMEMINFO (7) after the header of a reply about an IPv4
  * or IPv6 socket, which has 72 bytes: at most the 36 bytes of memory. The remaining bytes of memory
  * are set to 0. Returns the length of the value in bytes, or 0 if there is none. Older kernels send
- * 28 or 32 bytes.
+ * 28 or 32 bytes, without drops, or also without backlog_queue_length.
  *
  * The values of attributes are not checked. So this call also works for a reply that is rejected
  * because a value is too short. Attributes after a framing error are not found.
@@ -502,6 +771,7 @@ size_t sockdiag_inet_get_memory(const uint8_t *payload, size_t length,
 /* Offsets of the attributes. */
 #define SOCKDIAG_NETLINK_ATTRIBUTES 28 /* Size of struct netlink_diag_msg in bytes. */
 #define SOCKDIAG_PACKET_ATTRIBUTES 16  /* Size of struct packet_diag_msg in bytes. */
+#define SOCKDIAG_VSOCK_ATTRIBUTES 32   /* Size of struct vsock_diag_msg in bytes. */
 #define SOCKDIAG_XDP_ATTRIBUTES 16     /* Size of struct xdp_diag_msg in bytes. */
 
 /*
@@ -639,8 +909,8 @@ struct sockdiag_packet_details {
 };
 
 /*
- * The header of a reply about a vsock socket: struct vsock_diag_msg of linux/vm_sockets_diag.h. No
- * attributes follow the header.
+ * The header of a reply about a vsock socket: struct vsock_diag_msg of linux/vm_sockets_diag.h.
+ * Linux sends no attributes after it.
  */
 struct sockdiag_vsock_header {
     uint8_t kind;                 /* Socket type (vdiag_type), SOCK_*, at offset 1. */
@@ -737,10 +1007,10 @@ struct sockdiag_xdp_details {
 
 /*
  * Checks a whole reply about a netlink socket, and returns its contents. The bytes are the payload
- * of the netlink message. Returns 0, or the code of the first error; then the details are
- * unchanged. If the reply has several attributes of a kind, the first one counts. The framing of
- * all attributes is checked before their values, and values are checked in the order of their
- * kinds. Texts point into the payload, and are valid as long as it is.
+ * of the netlink message. Returns 0, and sets all fields; or the code of the first error, and then
+ * the details are unchanged. If the reply has several attributes of a kind, the first one counts.
+ * The framing of all attributes is checked before their values, and values are checked in the order
+ * of their kinds. Texts point into the payload, and are valid as long as it is.
  */
 uint32_t sockdiag_netlink_get_details(const uint8_t *payload, size_t length,
                                       struct sockdiag_netlink_details *details);
@@ -750,16 +1020,21 @@ uint32_t sockdiag_netlink_get_details(const uint8_t *payload, size_t length,
  * of the netlink message. Returns 0, or the code of the first error; then the details are
  * unchanged. If the reply has several attributes of a kind, the first one counts. The framing of
  * all attributes is checked before their values, and values are checked in the order of their
- * kinds. A record that the reply does not contain is unchanged, and its field has_.. is 0. Texts
- * point into the payload, and are valid as long as it is.
+ * kinds. A record that the reply does not contain is unchanged, and its field has_.. is 0: do not
+ * use it. All other fields are set. Texts point into the payload, and are valid as long as it is.
  */
 uint32_t sockdiag_packet_get_details(const uint8_t *payload, size_t length,
                                      struct sockdiag_packet_details *details);
 
 /*
- * Checks a whole reply about a vsock socket, and returns its header. Linux sends no attributes; if
- * there are any, only their framing is checked. The bytes are the payload of the netlink message.
- * Returns 0, or the code of the first error; then the header is unchanged.
+ * Checks a whole reply about a vsock socket, and returns its header. The bytes are the payload of
+ * the netlink message. Returns 0, or the code of the first error; then the header is unchanged.
+ *
+ * The record has 32 bytes, and Linux sends no others. Bytes after it are attributes: their framing
+ * is checked, and nothing else. So one to three more bytes are rejected with
+ * SOCKDIAG_ATTRIBUTE_HEADER_CUT, and four zero bytes with SOCKDIAG_ATTRIBUTE_LENGTH_UNDER_4, since
+ * they are an attribute whose length field is 0. Pass at most 32 (SOCKDIAG_VSOCK_ATTRIBUTES) as the
+ * length to ignore what follows.
  */
 uint32_t sockdiag_vsock_get_details(const uint8_t *payload, size_t length,
                                     struct sockdiag_vsock_header *details);
@@ -769,7 +1044,8 @@ uint32_t sockdiag_vsock_get_details(const uint8_t *payload, size_t length,
  * the netlink message. Returns 0, or the code of the first error; then the details are unchanged.
  * If the reply has several attributes of a kind, the first one counts. The framing of all
  * attributes is checked before their values, and values are checked in the order of their kinds. A
- * record that the reply does not contain is unchanged, and its field has_.. is 0.
+ * record that the reply does not contain is unchanged, and its field has_.. is 0: do not use it.
+ * All other fields are set.
  */
 uint32_t sockdiag_xdp_get_details(const uint8_t *payload, size_t length,
                                   struct sockdiag_xdp_details *details);
@@ -815,10 +1091,12 @@ struct sockdiag_message {
                                  or NLMSG_OVERRUN of netlink(7), or SOCK_DIAG_BY_FAMILY for a
                                  reply. sockdiag_next_message rejects the payload of any other
                                  type. */
-    uint16_t flags;           /* The flags NLM_F_.. (nlmsg_flags). */
-    uint32_t sequence_number; /* Sequence number; a reply repeats the number of its request
-                                 (nlmsg_seq). */
-    uint32_t port_number;     /* Port id of the sender, 0 for the kernel (nlmsg_pid). */
+    uint16_t flags;           /* The flags NLM_F_.. (nlmsg_flags). sockdiag_is_interrupted tests
+                                 NLM_F_DUMP_INTR. */
+    uint32_t sequence_number; /* Sequence number (nlmsg_seq); an answer repeats the number of its
+                                 request. No call compares it: see sockdiag_is_answer. */
+    uint32_t port_number;     /* Port id (nlmsg_pid); an answer of the kernel has the port id of
+                                 the socket that sent the request. */
 };
 
 /*
@@ -832,7 +1110,9 @@ struct sockdiag_message {
  * - the code of the framing error there, 16 to 18, and then the message is unchanged and nothing is
  *   left.
  *
- * The end of a dump, NLMSG_DONE, does not end the iteration.
+ * The end of a dump, NLMSG_DONE, does not end the iteration. The answer to a request without
+ * NLM_F_DUMP is one message, and has no such end. Kernels put whole messages into a datagram: a
+ * message that is split between two datagrams has a framing error in both.
  */
 uint32_t sockdiag_next_message(const uint8_t *datagram, size_t length,
                                struct sockdiag_cursor *cursor, struct sockdiag_message *message);
@@ -844,7 +1124,8 @@ uint32_t sockdiag_next_message(const uint8_t *datagram, size_t length,
  * nothing is left.
  *
  * The payload is not checked. So a reply that is passed to sockdiag_unix_get_details or a similar
- * call is checked only once.
+ * call is checked only once. A reply that such a call rejects does not end a dump: continue with
+ * the next message.
  */
 uint32_t sockdiag_next_envelope(const uint8_t *datagram, size_t length,
                                 struct sockdiag_cursor *cursor, struct sockdiag_message *message);
@@ -853,8 +1134,46 @@ uint32_t sockdiag_next_envelope(const uint8_t *datagram, size_t length,
  * Stores the error number at the start of the payload of an NLMSG_ERROR or NLMSG_DONE: 0 for
  * success, else -errno. Returns 1; or 0 if the payload has fewer than four bytes, and then the
  * number is unchanged.
+ *
+ * An NLMSG_ERROR with 0 is an acknowledgement. A dump that failed also ends with NLMSG_DONE, so
+ * look at the number there too. A kernel that lacks the protocol answers a request for it with
+ * -ENOENT or -EINVAL. What follows the number is not returned: the request, and for a socket with
+ * NETLINK_EXT_ACK more about the error.
  */
 uint32_t sockdiag_get_error_number(const uint8_t *payload, size_t length, int32_t *number);
+
+/*
+ * Returns 1 if the message answers a request, else 0: it has the sequence number of the request,
+ * and the port id of the socket that sent it, which getsockname(2) returns in nl_pid. Skip any
+ * other message. It may be a late answer to an earlier request. The message does not show who sent
+ * it: connect the socket to port id 0 by connect(2), and only the kernel can send to it.
+ */
+static inline int sockdiag_is_answer(const struct sockdiag_message *message,
+                                     uint32_t sequence_number, uint32_t port_number)
+{
+    return message->sequence_number == sequence_number && message->port_number == port_number;
+}
+
+/*
+ * Returns 1 if the message reports that sockets changed during the dump (NLM_F_DUMP_INTR), else 0.
+ * Test each message of a dump, also its end. If the dump is interrupted, it may lack sockets: read
+ * up to its end, and send the request again.
+ */
+static inline int sockdiag_is_interrupted(const struct sockdiag_message *message)
+{
+    return (message->flags & SOCKDIAG_NLM_F_DUMP_INTR) != 0;
+}
+
+/*
+ * Returns 1 if no more messages of the answer follow, else 0: the message is an NLMSG_DONE or an
+ * NLMSG_ERROR. sockdiag_get_error_number returns whether it reports success. An NLMSG_OVERRUN does
+ * not end the answer, but data was lost.
+ */
+static inline int sockdiag_ends_answer(const struct sockdiag_message *message)
+{
+    return message->message_type == SOCKDIAG_NLMSG_DONE ||
+           message->message_type == SOCKDIAG_NLMSG_ERROR;
+}
 
 /* ---- requests
  *
@@ -867,22 +1186,33 @@ uint32_t sockdiag_get_error_number(const uint8_t *payload, size_t length, int32_
  */
 struct sockdiag_request_header {
     uint16_t flags;           /* NLM_F_REQUEST, and NLM_F_DUMP to request all sockets
-                                 (nlmsg_flags). */
-    uint32_t sequence_number; /* Sequence number of the sender, which the replies repeat
-                                 (nlmsg_seq). */
-    uint32_t port_number;     /* Port id of the sender, or 0 (nlmsg_pid). */
+                                 (nlmsg_flags). Without NLM_F_DUMP the answer is one message
+                                 without an end, and inode or addresses, ports and cookie select
+                                 the socket. */
+    uint32_t sequence_number; /* Sequence number, which the answer repeats (nlmsg_seq). If each
+                                 request has another one, sockdiag_is_answer recognizes its
+                                 answer. */
+    uint32_t port_number;     /* Port id of the socket that sends the request, or 0 (nlmsg_pid).
+                                 The kernel does not use it, and answers with the socket's port
+                                 id. */
 };
 
 /* A request for UNIX sockets: struct unix_diag_req of sock_diag(7). */
 struct sockdiag_unix_request {
     struct sockdiag_request_header header; /* Fields of the netlink header. */
     uint32_t states;                       /* States to include, with the bit 1 << TCP_LISTEN for
-                                              TCP_LISTEN (udiag_states). */
+                                              TCP_LISTEN (udiag_states). UINT32_MAX includes all.
+                                              A UNIX socket is in state 1, 7 or 10: without the
+                                              bit 1 << TCP_CLOSE, sockets that have no peer and
+                                              do not listen are missing, as most datagram sockets
+                                              are. */
     uint32_t inode;                        /* Inode, to request a single socket (udiag_ino). */
     uint32_t show;                         /* Attributes that the replies shall have, a set of
                                               UDIAG_SHOW_.. (udiag_show). */
     uint8_t cookie[8];                     /* Cookie that distinguishes sockets with the same
-                                              inode, to request a single socket (udiag_cookie). */
+                                              inode, to request a single socket (udiag_cookie).
+                                              The kernel compares it, also if it is zeros. Eight
+                                              bytes 0xff match any socket. */
 };
 
 /* A request for IPv4 or IPv6 sockets: struct inet_diag_req_v2 of sock_diag(7). */
@@ -890,15 +1220,22 @@ struct sockdiag_inet_request {
     struct sockdiag_request_header header; /* Fields of the netlink header. */
     uint8_t family;                        /* AF_INET or AF_INET6 (sdiag_family). */
     uint8_t extensions;                    /* Attributes that the replies shall have, with the
-                                              bit 1 << (kind - 1) for each kind (idiag_ext). */
-    uint32_t protocol;                     /* Protocol, one of IPPROTO_... The low byte is
-                                              written to the record (sdiag_protocol). A protocol
-                                              above 255, such as IPPROTO_MPTCP, is also written
-                                              as an attribute INET_DIAG_REQ_PROTOCOL. The low
-                                              byte of IPPROTO_MPTCP is IPPROTO_TCP, which a
+                                              bit 1 << (kind - 1) for each kind (idiag_ext).
+                                              Leave out INET_DIAG_INFO for MPTCP, and for kernels
+                                              before Linux 5.4: sockdiag_inet_get_details rejects
+                                              their replies. */
+    uint32_t protocol;                     /* Protocol, one of IPPROTO_... Request one protocol
+                                              at a time, since replies do not contain it. The low
+                                              byte is written to the record (sdiag_protocol). A
+                                              protocol above 255, such as IPPROTO_MPTCP, is also
+                                              written as an attribute INET_DIAG_REQ_PROTOCOL. The
+                                              low byte of IPPROTO_MPTCP is IPPROTO_TCP, which a
                                               kernel without MPTCP uses. */
     uint32_t states;                       /* States to include, with the bit 1 << TCP_LISTEN for
-                                              TCP_LISTEN (idiag_states). */
+                                              TCP_LISTEN (idiag_states). UINT32_MAX includes all.
+                                              The bit 1 << TCP_BOUND_INACTIVE includes TCP
+                                              sockets that are only bound; replies about them
+                                              have the state TCP_CLOSE. */
     uint16_t source_port;                  /* Local port (idiag_sport). */
     uint16_t destination_port;             /* Remote port (idiag_dport). */
     uint8_t source_address[16];            /* Local address in network byte order (idiag_src).
@@ -907,8 +1244,10 @@ struct sockdiag_inet_request {
     uint32_t interface_id;                 /* Index of the interface that the socket is bound to,
                                               or 0 (idiag_if). */
     uint8_t cookie[8];                     /* Cookie that distinguishes sockets with the same
-                                              addresses and ports (idiag_cookie). Eight bytes
-                                              0xff are INET_DIAG_NOCOOKIE. */
+                                              addresses and ports (idiag_cookie), to request a
+                                              single socket. The kernel compares it, also if it
+                                              is zeros. Eight bytes 0xff (INET_DIAG_NOCOOKIE)
+                                              match any socket. */
 };
 
 /*
@@ -982,7 +1321,8 @@ struct sockdiag_show_request {
 struct sockdiag_vsock_request {
     struct sockdiag_request_header header; /* Fields of the netlink header. */
     uint32_t states;                       /* States to include, with the bit 1 << TCP_LISTEN for
-                                              TCP_LISTEN (vdiag_states, at 4). */
+                                              TCP_LISTEN (vdiag_states, at 4). UINT32_MAX
+                                              includes all. */
     uint64_t cookie;                       /* Cookie that distinguishes sockets (vdiag_cookie, at
                                               16). Linux ignores it. */
 };
@@ -1019,7 +1359,9 @@ struct sockdiag_outcome {
  * by the attributes and zeros up to a multiple of 4, all of which its length field counts. Such an
  * attribute is the bytecode of a filter, INET_DIAG_REQ_BYTECODE of linux/inet_diag.h, which the
  * kernel runs on each socket. The bytes have to be a sequence of complete attributes. Their values
- * are not checked.
+ * are not checked. A kernel answers with -EINVAL if a jump of the filter leads into the middle of
+ * an operation, or more than 4 bytes past the end, and with -EPERM if the filter has an
+ * INET_DIAG_BC_MARK_COND and the caller lacks CAP_NET_ADMIN.
  *
  * Returns the number of bytes that were written, which is also stored in outcome.needed. Returns 0
  * if nothing was written, for the first of these reasons that applies:

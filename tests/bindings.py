@@ -2,11 +2,11 @@
 """Compiles the C header and rust/sockdiag, and runs their tests if the library is soon built.
 
 - With a C compiler, `$CC` or `cc`, it compiles the header with tests/c_layout.c, which asserts the
-  offset of each field and the size of each struct, tests/c_face.c and examples/list_sockets.c. The
-  example is also compiled as C99 and as C++.
-- If the library takes only seconds to build, because its dependencies are built and its own proof
-  results are present, tests/c_face.sh builds it and runs the calls from C, and tests/rust_face.sh
-  runs the tests of rust/sockdiag. Otherwise rust/sockdiag is only compiled.
+  offset of each field and the size of each struct, and as C99 the example and the C files in
+  tests/api that use it. Some are also compiled as C++.
+- If the library is built and is newer than the sources, tests/api/c_api.sh runs the calls from C,
+  and tests/api/rust_api.sh runs the tests of rust/sockdiag. Otherwise rust/sockdiag is only
+  compiled.
 
 It prints which of these parts it skips. tools/bindings writes the header, tests/c_layout.c and the
 declarations of rust/sockdiag.
@@ -25,12 +25,9 @@ RUST = TOP / "rust" / "sockdiag"
 
 def is_soon_built():
     """Returns whether the library takes only seconds to build here."""
-    # Do not create tests/__pycache__.
-    sys.dont_write_bytecode = True
-    from edits import rt
-
-    crate = next(it for it in rt.rtlib.crates_below(str(TOP)) if it.name == "sockdiag_c")
-    return all(it.is_built() for it in crate.below()) and crate.has_kept()
+    built = TOP / "crates" / "sockdiag_c" / "out" / "libsockdiag_c.a"
+    sources = [*TOP.glob("crates/*/src/**/*.rt"), *TOP.glob("crates/*/specs/**/*.antt")]
+    return built.exists() and all(it.stat().st_mtime <= built.stat().st_mtime for it in sources)
 
 
 def compile_c(compiler):
@@ -41,7 +38,10 @@ def compile_c(compiler):
     has_plus = subprocess.run(plus, stderr=subprocess.DEVNULL).returncode == 0
     for language, standard, file in [
         ("c", "c11", "tests/c_layout.c"),
-        ("c", "c11", "tests/c_face.c"),
+        ("c", "c99", "tests/api/c_api.c"),
+        ("c++", "c++11", "tests/api/c_api.c"),
+        ("c", "c99", "tests/api/fuzz_c.c"),
+        ("c", "c99", "tests/api/fake_kernel.c"),
         ("c", "c99", "examples/list_sockets.c"),
         ("c++", "c++11", "examples/list_sockets.c"),
     ]:
@@ -81,11 +81,11 @@ def main():
     if status != 0:
         return status
     if not is_soon_built():
-        print("skipped: running the calls from C; tests/c_face.sh runs them")
+        print("skipped: running the calls from C; tests/api/c_api.sh runs them")
         return compile_rust() if has_cargo() else 0
-    status = subprocess.run([TOP / "tests" / "c_face.sh"]).returncode
+    status = subprocess.run([TOP / "tests" / "api" / "c_api.sh"]).returncode
     if status == 0 and has_cargo():
-        status = subprocess.run([TOP / "tests" / "rust_face.sh"]).returncode
+        status = subprocess.run([TOP / "tests" / "api" / "rust_api.sh"]).returncode
     return status
 
 

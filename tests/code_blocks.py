@@ -4,7 +4,7 @@
 - A `rust` or `antt` block has to occur, as consecutive whole lines, in a file under crates/*/src,
   crates/*/proofs or crates/*/specs. Indentation and blank lines are ignored.
 - In a README.md a block may omit the contracts. There a `rust` block may also occur in an example,
-  and a `c` block has to. tests/bindings.py and tests/rust_face.sh compile the examples.
+  and a `c` block has to. tests/bindings.py and tests/api/rust_api.sh compile the examples.
 - A `text` block in a CALLING.md quotes contracts below a line that names the file. Each quoted line
   has to occur in that file, in the notation of these pages.
 

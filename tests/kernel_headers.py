@@ -8,8 +8,8 @@ constants are compared in the same way. The headers of an older kernel may lack 
 last line but one of the output lists them.
 
 The exit status is 1 if anything differs, if the headers lack a struct or a member that they must
-have, if a layout of specs/ is missing from RECORDS, or if a row has a form that the script does not
-parse. Without gcc or without the headers the script prints one line and compares nothing.
+have, or if RECORDS and the layouts of specs/ do not have the same names and members. Without gcc or
+without the headers the script prints one line and compares nothing.
 """
 
 import re
@@ -41,7 +41,7 @@ SOCKET_ID = """source_port=id.idiag_sport destination_port=id.idiag_dport
     cookie=id.idiag_cookie"""
 # The layout of each record, its C struct, and for each member of the Rust struct its C members:
 # several separated by `+`, none if it is not compared. If the text is only `tcpi_`, then this is
-# the prefix of all C members.
+# the prefix of all C members. A record without a struct is an array of u32, indexed by constants.
 RECORDS = [
     ("header_rows", "nlmsghdr", """length=nlmsg_len message_type=nlmsg_type flags=nlmsg_flags
         sequence_number=nlmsg_seq port_number=nlmsg_pid"""),
@@ -101,7 +101,6 @@ RECORDS = [
     ("stored_address", "sockaddr_in6", """family=sin6_family port=sin6_port front=sin6_flowinfo
         segments=sin6_addr scope_id=sin6_scope_id rest="""),
     ("socket_options", "inet_diag_sockopt", "bits="),
-    # Arrays of u32, indexed by constants.
     ("mem_info", "", """receive_queue=RMEM_ALLOC receive_queue_max=RCVBUF
         bottom_send_queues=WMEM_ALLOC send_queue_max=SNDBUF cache=FWD_ALLOC send_queue=WMEM_QUEUED
         options=OPTMEM backlog_queue_length=BACKLOG drops=DROPS"""),
@@ -114,180 +113,71 @@ ANSWERED = re.compile(r"(?:SIZE|START|END|BIT)\((?!tcp_info,|inet_diag_sockopt,)
 # Members of `tcp_info` that are bytes of bit fields, and the first C member of each.
 BIT_FIELDS = {"wscale": "tcpi_snd_wscale"}
 BIT_FIELDS["delivery_rate_app_limited"] = "tcpi_delivery_rate_app_limited"
+CONSTANT = re.compile(r"^ *pub const ([A-Z0-9_]+): u(?:8|16|32|64) = ([0-9a-fx]+);", re.M)
 # The bits of `inet_diag_sockopt`.
 OPTIONS = """recverr is_icsk freebind hdrincl mc_loop transparent mc_all nodefrag
     bind_address_no_port recverr_rfc4884 defer_connect""".split()
-# Constants that have another name in the headers.
-STATES = """ESTABLISHED SYN_SENT SYN_RECV FIN_WAIT1 FIN_WAIT2 TIME_WAIT CLOSE CLOSE_WAIT LAST_ACK
-    LISTEN CLOSING NEW_SYN_RECV BOUND_INACTIVE""".split()
-CONTROL = "Open Disorder Recovery Loss".split()
-OTHERS = {"AF_DECNET": "AF_DECnet"} | {f"TCP_{name}": f"BPF_TCP_{name}" for name in STATES}
-for kind in ("TCP_CA", "TCPF_CA"):
-    OTHERS |= {f"{kind}_{name.upper()}": f"{kind}_{name}" for name in CONTROL}
-CONSTANT = re.compile(r"^ *pub const ([A-Z0-9_]+): u(?:8|16|32|64) = ([0-9a-fx]+);", re.M)
-# A definition of a layout, and the clauses of any definition.
+# A definition of a layout, and a definition that has one clause.
 LAYOUT = re.compile(
     r"^(?:abbrev|unfoldable) pub (\w+) : (?:\([^)]*\) → )?(?:Layout|RecordTable) "
     r"|^(\w+)[^=\n]*= fields \d", re.M
 )
-CLAUSE = re.compile(r"^([a-z]\w*)\b([^:=\n]*)=((?:.|\n(?!\S))*)", re.M)
-# The imports of modules with layouts.
-LAYS_OUT = re.compile(r"use Rattle\.netlink_core\.specs\.(?:Rows|Table)\.|\bfields, u32_at\b")
-# The forms of a layout: its length and its rows, or the members of a record that is only parsed.
-ARGUMENT = r"(?:\((?:[^()]|\((?:[^()]|\([^()]*\))*\))*\)|[\w.]+)"
-FORM = re.compile(
-    rf"plain {ARGUMENT} (\d+) ({ARGUMENT})"
-    r"|(?:least|size) = (\d+);.* rows = (?:λ (?:\w+|\([^)]*\))\. )?([^;]*);"
+CLAUSE = re.compile(r"^([a-z]\w*)\b[^:=\n]*=((?:.|\n(?!\S))*)", re.M)
+LENGTH = re.compile(
+    r"plain (?:\([^)]*\)|[\w.]+) (\d+)|(?:least|size) = (\d+);|^fields \w+ \w+ (\d+)"
 )
-ONLY_PARSED = re.compile(r"fields \d+ \w+ (\d+) (.*)")
-# The width of each kind of row that has one number.
-ROWS = CRATES / "netlink_core" / "specs" / "Rows.antt"
-WIDTH = re.compile(r"^ +(\w+) offset(?: mask)? = single \(\w+ offset(?: (\d+))?", re.M)
-WIDTHS = {name: int(width or 1) for name, width in WIDTH.findall(ROWS.read_text(encoding="utf-8"))}
-# The width of an element of an array, and that of an address of any IP version.
-ELEMENTS = {"u8s": 1, "be16s": 2}
-ADDRESS = 16
-# The member of the Rust struct in an accessor.
-MEMBER = re.compile(
-    r"\((timer)_data \w+\.timer\)(\.\d)|\b[A-Z]\w*\.([a-z]\w*)|\b[a-z]\w*\.(?!timer\b)([a-z]\w*)"
+# The width of each kind of row, or of one element of an array.
+WIDTHS = {"u8": 1, "u16": 2, "u32": 4, "u64": 8, "be16": 2, "flags32": 4, "address": 16, "u8s": 1,
+          "be16s": 2}
+# A row, with its kind, its offset, its count of elements, and its member: that of a Rust type, or
+# that of the variable of a function.
+ROW = re.compile(
+    rf"\b({'|'.join(WIDTHS)}) (\d+|offset|\(offset \+ \d+\)) (?:(\d+) |[\w.]+ )??"
+    r"(?:[A-Z]\w*\.(\w+)|\(λ (\w+)\. [^.]*?\b\5\.(\w+)\)?(\.\d)?)"
 )
+# A member of a record that is only parsed, and a reference to the rows of another definition.
 PARSED = re.compile(r"(\w+) = u(32|64)_at (\d+) bytes;")
-
-
-def fail(text):
-    sys.exit(f"kernel_headers.py: {text}")
+REFERENCE = re.compile(r"\b(\w+_(?:rows|fields))\b(?: (\d+))?")
 
 
 def definitions():
-    """Returns the clauses of the definitions in modules with layouts, and all layouts' names."""
-    clauses, layouts = {}, set()
+    """Returns the texts of the definitions in specs/, without line breaks, and the names of the
+    layouts. A layout takes precedence over another definition with its name."""
+    texts, layouts = {}, set()
     for path in CRATES.glob("*/specs/*.antt"):
         text = re.sub(r" *--.*", "", path.read_text(encoding="utf-8"))
-        layouts |= {one or other for one, other in LAYOUT.findall(text)}
-        for name, parameters, body in CLAUSE.findall(text if LAYS_OUT.search(text) else ""):
-            clauses.setdefault(name, []).append((parameters.split(), " ".join(body.split())))
-    return clauses, layouts
+        found = {one or other for one, other in LAYOUT.findall(text)}
+        layouts |= found
+        for name, body in CLAUSE.findall(text):
+            if name in found or name not in texts:
+                texts[name] = " ".join(body.split())
+    return texts, layouts
 
 
-CLAUSES, LAYOUTS = definitions()
+TEXTS, LAYOUTS = definitions()
 
 
-def body_of(name):
-    """Returns the text of a definition that has one clause."""
-    clauses = CLAUSES.get(name, [])
-    if len(clauses) != 1:
-        fail(f"{name}: {len(clauses)} definitions, expected 1")
-    return clauses[0][1]
-
-
-def number_of(text, offset=0):
+def number_of(text, offset):
     """Returns a number or a sum. `offset` is that of an embedded record."""
-    terms = re.findall(r"\w+", text)
-    return sum(offset if it == "offset" else int(it, 0) for it in terms)
+    return sum(offset if it == "offset" else int(it) for it in re.findall(r"\w+", text))
 
 
-def elements(text):
-    """Returns the elements of a list that is written by `∷` and ends with `[]`."""
-    parts, depth = [""], 0
-    for sign in text:
-        depth += (sign in "([{") - (sign in ")]}")
-        if sign == "∷" and depth == 0:
-            parts.append("")
-        else:
-            parts[-1] += sign
-    if parts.pop().strip() != "[]":
-        fail(f"{text}: not a list of rows")
-    return [part.strip() for part in parts]
+def members_of(name, offset=0):
+    """Returns the offset and the width of each member in the rows of a definition."""
+    text, members = TEXTS[name], {}
+    for kind, at, count, member, _, of_variable, part in ROW.findall(text):
+        # The timer has two rows, which take different parts of it.
+        member = member or of_variable + (part if of_variable == "timer" else "")
+        members[member] = (number_of(at, offset), WIDTHS[kind] * int(count or 1))
+    for member, bits, at in PARSED.findall(text):
+        members[member] = (int(at), int(bits) // 8)
+    for other, at in REFERENCE.findall(text):
+        if other in TEXTS and other != name:
+            members |= members_of(other, int(at or 0))
+    return members
 
 
-def inside(text):
-    """Returns a text without the parentheses around it."""
-    return inside(text[1:-1].strip()) if re.fullmatch(ARGUMENT, text) and text[0] == "(" else text
-
-
-def member_of(accessor):
-    """Returns the member of the Rust struct that an accessor reads."""
-    found = {"".join(it) for it in MEMBER.findall(accessor)}
-    if len(found) != 1:
-        fail(f"{accessor}: {len(found)} members, expected 1")
-    return found.pop()
-
-
-def rows_of(text, offset=0):
-    """Yields the offset, the width and the member of each row of a list, None if it is ignored."""
-    name, *arguments = text.split()
-    if name in CLAUSES:
-        # The rows of a record, embedded at an offset.
-        at = number_of(arguments[0], offset) if arguments else 0
-        yield from rows_of(body_of(name), at)
-    else:
-        for row in elements(inside(text)):
-            yield from parsed(inside(row), offset)
-
-
-def parsed(row, offset):
-    """Yields the offset, the width and the member of a row; both if a condition selects a row."""
-    kind, *args = row.split(" ", 1)
-    if kind == "if":
-        for one in re.split(r" (?:then|else) ", row)[1:]:
-            yield from parsed(inside(one), offset)
-        return
-    args = re.findall(ARGUMENT, "".join(args))
-    if kind == "when" and len(args) == 2:
-        yield from parsed(inside(args[1]), offset)
-    elif kind == "embed" and len(args) == 2:
-        yield from rows_of(inside(args[1]), offset)
-    elif kind == "skip" and len(args) == 2:
-        repeated = re.search(r"replicate (\d+)", args[1])
-        yield number_of(args[0], offset), int(repeated[1] if repeated else args[1].count("∷")), None
-    elif kind in ELEMENTS and len(args) == 3:
-        width = ELEMENTS[kind] * number_of(args[1])
-        yield number_of(args[0], offset), width, member_of(args[2])
-    elif kind == "address" and len(args) == 3:
-        yield number_of(args[0], offset), ADDRESS, member_of(args[2])
-    elif kind in WIDTHS and len(args) == 2 + kind.startswith("flags"):
-        yield number_of(args[0], offset), WIDTHS[kind], member_of(args[-1])
-    else:
-        fail(f"{row}: unsupported form of a row")
-
-
-def fields_of(value):
-    """Yields the offset, the width and the member of each field of a record that is only parsed."""
-    found = PARSED.findall(value)
-    if len(found) != value.count("="):
-        fail(f"{value}: unsupported form of a record")
-    yield from ((int(at), int(bits) // 8, member) for member, bits, at in found)
-
-
-def record_of(name):
-    """Returns the length of a record, that of its rows, and each member's offset and width."""
-    found, parsed_only = FORM.search(body_of(name)), ONLY_PARSED.search(body_of(name))
-    if found:
-        least, rows = (it for it in found.groups() if it)
-        rows = rows_of(rows)
-    elif parsed_only:
-        least, value = parsed_only.groups()
-        rows = fields_of(body_of(value) if value in CLAUSES else value)
-    elif name.endswith("_rows"):
-        least, rows = "0", rows_of(name)
-    else:
-        fail(f"{name}: unsupported form of a layout")
-    end, members = 0, {}
-    for at, width, member in rows:
-        if at == end:
-            end += width
-        elif at + width != end:
-            # A condition selects one of two rows.
-            fail(f"{name}: no row at offset {end}")
-        if member:
-            members[member] = (at, width)
-    return int(least), end, members
-
-
-# The rest of the script does not depend on the form of layouts.
-
-
-def members_in(struct, members, names):
+def about_members(struct, members, names):
     """Yields the questions about members of a struct, each with the answer of specs/."""
     for member, (at, width) in members.items():
         inside = names[member]
@@ -304,38 +194,48 @@ def members_in(struct, members, names):
 
 def about_record(table, struct, names):
     """Yields the questions about a record, each with the answer of specs/."""
-    least, end, members = record_of(table)
+    members, length = members_of(table), LENGTH.search(TEXTS[table])
     size = f"SIZE({struct})" if struct else "4 * SK_MEMINFO_VARS"
     yield f"{size} > 0", 1
+    least = int(next(filter(None, length.groups()))) if length else 0
     if struct not in OTHER_SIZE:
-        yield size, end
-        yield size, least if struct and least else end
+        yield size, max(least, *(at + width for at, width in members.values()))
+        if struct and least:
+            yield size, least
     known = dict(it.split("=") for it in names.split() if "=" in it)
     known = known or {member: names + member for member in members}
     differing = ", ".join(sorted(known.keys() ^ members.keys()))
     if differing:
-        fail(f"{table}: RECORDS and specs/ differ in {differing}")
-    yield from members_in(struct, members, known)
+        sys.exit(f"kernel_headers.py: {table}: RECORDS and specs/ differ in {differing}")
+    yield from about_members(struct, members, known)
+
+
+def c_name(constant):
+    """Returns the name of a constant in the headers."""
+    if constant == "AF_DECNET":
+        return "AF_DECnet"
+    start, middle, state = constant.partition("_CA_")
+    if middle and state != "CWR":
+        return start + middle + state.capitalize()
+    return re.sub(r"^TCP_(?!CA_)", "BPF_TCP_", constant)
 
 
 def questions():
     """Yields all questions, C expressions, each with the answer of the crates."""
     for record in RECORDS:
         yield from about_record(*record)
-    for (field,), body in CLAUSES["span_of"]:
-        member = re.sub(r"(?<=[a-z\d])(?=[A-Z])", "_", field.removeprefix("field.")).lower()
-        at, width = re.findall(r"\d+", body)
+    fields = (CRATES / "sock_diag_extras/specs/TcpFields.antt").read_text(encoding="utf-8")
+    for field, at, width in re.findall(r"^span_of field\.(\w+) = \((\d+), (\d+)\)", fields, re.M):
+        member = re.sub(r"(?<=[a-z\d])(?=[A-Z])", "_", field).lower()
         members = {member: (int(at), int(width))}
-        yield from members_in("tcp_info", members, {member: f"tcpi_{member}"})
-    for (option,), body in CLAUSES["bit_of"]:
-        squeezed = option.removeprefix("option.").lower()
-        (member,) = (it for it in OPTIONS if it.replace("_", "") == squeezed)
-        yield f"BIT(inet_diag_sockopt, {member})", int(body)
-    for crate in NAMING:
-        paths = CRATES.glob(f"{crate}/src/**/*.rt")
-        text = "\n".join(path.read_text(encoding="utf-8") for path in paths)
-        constants = CONSTANT.findall(text) or fail(f"{crate}: no public constants")
-        yield from ((OTHERS.get(name, name), int(value, 0)) for name, value in constants)
+        yield from about_members("tcp_info", members, {member: f"tcpi_{member}"})
+    options = (CRATES / "sock_diag_extras/specs/SocketOptions.antt").read_text(encoding="utf-8")
+    for option, bit in re.findall(r"^bit_of option\.(\w+) = (\d+)", options, re.M):
+        (member,) = (it for it in OPTIONS if it.replace("_", "") == option.lower())
+        yield f"BIT(inet_diag_sockopt, {member})", int(bit)
+    for path in (path for crate in NAMING for path in CRATES.glob(f"{crate}/src/**/*.rt")):
+        for name, value in CONSTANT.findall(path.read_text(encoding="utf-8")):
+            yield c_name(name), int(value, 0)
 
 
 def answers(asked):

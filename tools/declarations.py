@@ -203,11 +203,12 @@ class Library:
 
     def number(self, name):
         """Returns the value of a constant, or the number of bytes that a function writes, or the
-        largest number that it returns, by its contract."""
+        number that it returns at most or always, by its contract."""
         if name in self.constants:
             return self.constants[name].value
         header = re.search(rf"\bfn {name}\((?s:.*?)\n\{{\n", self.code)
-        found = header and re.search(r"(?:WritesMessage|result ≤) (\d+)", header[0])
+        states = r"(?:WritesMessage |result ≤ |result ≡ (?=\d+ }))(\d+)"
+        found = header and re.search(states, header[0])
         return found[1] if found else sys.exit(f"the source has no number for {name}")
 
     def size_and_align(self, kind):

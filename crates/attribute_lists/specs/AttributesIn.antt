@@ -24,7 +24,8 @@ attributes_after zero (byte ∷ bytes) = let word = little_number 2 (byte ∷ by
     ∷ attributes_after (word + padding_length word - 1) bytes
 
 -- HasNoAttributeError reads bytes: the bytes have no error, neither in their framing nor in a
--- value; `reads` decodes an attribute, or returns the error of its value
+-- value; `reads` decodes an attribute, or returns the error of its value. The member `none` says
+-- this of each error `e`.
 pub record HasNoAttributeError {A : Type 0} (reads : Attribute
     → Result A DecodeError) (bytes : List ℕ)
     : Type 0 where

@@ -41,8 +41,9 @@ impl<'a, V: FamilyView<'a>> Iterator for CheckedNlas<'a, V> {
 
     // YieldsPart starts faulty left given later: a step yields `given`; `left` are the bytes that
     // are not read before it, and `later` those after it. Here it yields the value of the attribute
-    // at the start of `left`, and the bytes after its padding are left then. Or it yields the first
-    // error of `left`, and no bytes are left. Or it yields `None`, and no bytes were left.
+    // at the start of `left` (`starts`), and the bytes after its padding are left then. Or it
+    // yields the first error of `left` (`faulty`), and no bytes are left. Or it yields `None`, and
+    // no bytes were left.
     ghost next_gives = { λ old given new. YieldsPart
         (λ left view later. (a : Attribute) × StartsWithAttribute left a later
         × (decode_attribute V.attribute_set a ≡ Ok (V.model view)))

@@ -19,8 +19,8 @@ pub fn found_values_are_the_attributes<T: FamilyNla>()
         → IsBytes bytes → HasNoAttributeError (decode_attribute T.attribute_set) bytes
         → ((decoded_in (decode_attribute T.attribute_set) bytes ≡ values)
         ↔ DecodeTo (decode_attribute T.attribute_set) bytes values) }
-    // decode_attribute []: the set without types, by which each attribute is its type field and its
-    // bytes.
+    // decode_attribute []: the decoder by the set without types, by which each attribute decodes to
+    // itself, and which returns no error. So only the framing can have an error here.
     ensures undecoded { (bytes : List ℕ) (attributes : List Attribute)
         → IsBytes bytes → HasNoAttributeError (decode_attribute []) bytes
         → ((decoded_in (decode_attribute []) bytes ≡ attributes)

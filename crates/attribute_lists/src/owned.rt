@@ -22,8 +22,8 @@ use std::default::MadeWith;
 #[tactic(auto, using(std::proofs::lemmas::List::map_push))]
 pub fn copy_nlas<T: FamilyNla>(alloc: Global, nlas: &[T]) -> Result<SmallVec<T, 8>, AllocError>
     ensures equal { IfOk result (λ copy. map T.model copy.items ≡ map T.model nlas.now) }
-    // NeedsNoMemoryIn: the value is of a type whose values are stored without an allocation. A raw
-    // attribute never is.
+    // T.model: what an attribute decodes to. NeedsNoMemoryIn set value: the value is of a type
+    // whose values are stored without an allocation. A raw attribute never is.
     ensures spare { length nlas.now ≤ 8
         → AllByRecursion (NeedsNoMemoryIn T.attribute_set) (map T.model nlas.now)
         → IsOk result }
@@ -50,10 +50,11 @@ pub fn own_nlas<T: FamilyNla>(
     count: usize,
     nlas: &mut SmallVec<T, 8>,
 ) -> Result<(), AllocError>
+    // HasNoAttributeError decode bytes: neither the framing nor a value has an error. decoded_in
+    // decode bytes: what the attributes in the bytes decode to, in order.
     requires clean { HasNoAttributeError (decode_attribute T.attribute_set) bytes.now }
     requires count { count ≡ length (decoded_in (decode_attribute T.attribute_set) bytes.now) }
     requires empty { nlas.old.items ≡ [] }
-    // decoded_in decode bytes: what the attributes in the bytes decode to, in order.
     ensures equal { OnOk result (map T.model nlas.new.items
         ≡ decoded_in (decode_attribute T.attribute_set) bytes.now) }
     ensures spare { count ≤ nlas.old.capacity
@@ -114,6 +115,7 @@ fn make_room<T: MadeWith<Global> + Drop>(
 
 /// Proof only: puts the range of each number of each attribute in scope. No run-time effect.
 pub fn nlas_in_range<T: FamilyNla>(nlas: &[T])
+    // IsInRangeIn set value: each number of the decoded value fits its field.
     ensures { AllByRecursion (IsInRangeIn T.attribute_set) (map T.model nlas.now) }
 {
     for nla in nlas {
@@ -125,8 +127,10 @@ pub fn nlas_in_range<T: FamilyNla>(nlas: &[T])
 /// `None` if a value does not fit its length field, that is, has more than 65,531 bytes, or if the
 /// attributes have more than `limit` bytes.
 pub fn values_len_within<T: FamilyNla>(nlas: &[T], limit: usize) -> Option<usize>
-    // `attributes`: what the attributes serialize as (`encode_attribute`). AreWritableWithin: each
-    // value fits its length field, and all have at most `limit` bytes.
+    // `attributes`: what the attributes serialize as (`encode_attribute`). SomeIff o p v: `o` is
+    // `Some v` if `p` holds, else `None`. AreWritableWithin attributes limit: each value fits its
+    // length field, and all attributes with headers and paddings have at most `limit` bytes.
+    // flat_map attribute_bytes: the bytes of all attributes, concatenated.
     ensures { let attributes = map (encode_attribute T.attribute_set) (map T.model nlas.now) in
         SomeIff result (AreWritableWithin attributes limit)
         (length (flat_map attribute_bytes attributes)) }

@@ -18,6 +18,8 @@ use netlink_core::{DecodeError, FamilyView, Nla, NlasIterator, emit_nla, nla_len
 /// returns the first error. Does not allocate.
 #[inline(always)]
 pub fn check_nlas<'a, V: FamilyView<'a> + Drop>(bytes: &'a [u8]) -> Result<usize, DecodeError>
+    // decode_attribute set: the decoder of one attribute, by the family's set of attribute types.
+    // HasNoAttributeError decode bytes: neither the framing nor a value has an error.
     ensures clean { OnOk result (HasNoAttributeError
         (decode_attribute V.attribute_set) bytes.entry.now) }
     // decoded_in decode bytes: what the attributes in the bytes decode to, in order.
@@ -37,8 +39,8 @@ pub fn check_nlas<'a, V: FamilyView<'a> + Drop>(bytes: &'a [u8]) -> Result<usize
 /// Checks the framing and the value of each attribute and returns how many attributes there are, or
 /// returns the first error. If a limit is given, it also returns the number of bytes that the
 /// attributes serialize to, with headers and paddings, or `None` if a value does not fit its length
-/// field or if this number is above the limit. If no limit is given, the second part is `None`.
-/// Does not allocate.
+/// field (it serializes to more than 65,531 bytes) or if this number is above the limit. If no
+/// limit is given, the second part is `None`. Does not allocate.
 // A caller passes a constant `None` to count only: inlined, it then measures nothing.
 #[tactic(auto, using(crate::proofs::Finding::attributes_without_error_rules))]
 #[inline(always)]
@@ -46,13 +48,18 @@ pub fn check_nlas_len<'a, V: FamilyView<'a> + Drop>(
     bytes: &'a [u8],
     limit: Option<usize>,
 ) -> Result<(usize, Option<usize>), DecodeError>
+    // `found.0` is the number of attributes, and `found.1` the number of bytes.
+    // HasNoAttributeError, decoded_in and HasAttributeError are explained at `check_nlas`.
     ensures clean { OnOk result (HasNoAttributeError
         (decode_attribute V.attribute_set) bytes.entry.now) }
     ensures count { IfOk result
         (λ found. found.0
         ≡ length (decoded_in (decode_attribute V.attribute_set) bytes.entry.now)) }
-    // `attributes`: what the attributes serialize as (`encode_attribute`). AreWritableWithin: each
-    // value fits its length field, and all have at most `limit` bytes.
+    // `attributes`: what the attributes serialize as (`encode_attribute`). MatchOption o p Q: `p`
+    // if `o` is `None`, and `Q v` if `o` is `Some v`. SomeIff o p v: `o` is `Some v` if `p` holds,
+    // else `None`. AreWritableWithin attributes limit: each value fits its length field, and all
+    // attributes with headers and paddings have at most `limit` bytes. flat_map attribute_bytes:
+    // the bytes of all attributes, concatenated.
     ensures len { let attributes = map (encode_attribute V.attribute_set)
         (decoded_in (decode_attribute V.attribute_set) bytes.entry.now) in
         IfOk result (λ found. MatchOption limit (found.1 ≡ None) (λ limit.
@@ -105,6 +112,7 @@ fn used(limit: Option<usize>, room: Option<usize>) -> Option<usize>
 #[tactic(auto, using(crate::proofs::Finding::attributes_without_error_rules))]
 #[inline(always)]
 pub fn next_view<'a, V: FamilyView<'a>>(walk: &mut NlasIterator<'a>) -> Option<V>
+    // unread_bytes: the bytes that the iterator has not read yet.
     requires { HasNoAttributeError (decode_attribute V.attribute_set) (unread_bytes walk.old) }
     // YieldsFirstBy model rest old result new: `rest old` is the model of the result and then `rest
     // new`; if the result is `None`, both are empty. `rest` is what the attributes in the bytes
@@ -129,6 +137,7 @@ pub fn views_len<'a, V: FamilyView<'a> + Drop>(header: usize, bytes: &'a [u8]) -
     requires clean { HasNoAttributeError (decode_attribute V.attribute_set) bytes.now }
     requires small { header ≤ 4294967295 }
     // `attributes`: what the attributes in the bytes serialize as (`encode_attribute`).
+    // FitsLengthField: a value has at most 65,531 bytes.
     ensures fits { let attributes = map (encode_attribute V.attribute_set)
         (decoded_in (decode_attribute V.attribute_set) bytes.entry.now) in
         IsSome result ↔ (AllByRecursion FitsLengthField attributes

@@ -44,15 +44,16 @@ abbrev pub AreWritableWithin : List Attribute → ℕ → Type 0
 AreWritableWithin all limit = AllByRecursion FitsLengthField all
     × (length (flat_map attribute_bytes all) ≤ limit)
 
--- the bytes begin with the attribute, whose type field has 16 bits and whose value has at most
--- 65,531 bytes; any bytes may follow its value, and its padding may be missing
+-- HasAttributePrefix bytes a: the bytes begin with the attribute `a`, whose type field has 16 bits
+-- and whose value has at most 65,531 bytes; any bytes may follow its value, and its padding may be
+-- missing
 abbrev pub HasAttributePrefix : List ℕ → Attribute → Type 0
 HasAttributePrefix bytes a = (tail : List ℕ) × (bytes ≡ header_and_value a ++ tail)
     × ((a.type_word < 2 ^ 16) × FitsLengthField a)
 
--- The bytes are the attribute, its padding, and `rest`. The type field has 16 bits, and the value
--- at most 65,531 bytes. The padding may have any content. It is complete, up to a multiple of four;
--- if nothing follows, it may be shorter.
+-- StartsWithAttribute bytes a rest: the bytes are the attribute `a`, its padding, and `rest`. The
+-- type field has 16 bits, and the value at most 65,531 bytes. The padding may have any content. It
+-- is complete, up to a multiple of four; if nothing follows, it may be shorter.
 pub record StartsWithAttribute (bytes : List ℕ) (a : Attribute) (rest : List ℕ) : Type 0 where
   pub padding : List ℕ
   pub parts : bytes ≡ header_and_value a ++ (padding ++ rest)
@@ -67,9 +68,10 @@ SplitsIntoAttributes bytes [] rest = bytes ≡ rest
 SplitsIntoAttributes bytes (a ∷ later) rest =
     (left : List ℕ) × StartsWithAttribute bytes a left × SplitsIntoAttributes left later rest
 
--- The first error of bytes that do not begin with an attribute: fewer than 4 bytes; else `nla_len`
--- (the first two bytes, little-endian) is below 4; else `nla_len` is above the number of bytes. The
--- error contains `nla_len` (`word`) and the number of bytes (`left`).
+-- IsFramingError bytes e: the bytes do not begin with an attribute, and `e` is their first error:
+-- fewer than 4 bytes; else `nla_len` (the first two bytes, little-endian) is below 4; else
+-- `nla_len` is above the number of bytes. In the errors, `word` is `nla_len` and `left` is the
+-- number of bytes.
 abbrev pub IsFramingError : List ℕ → DecodeError → Type 0
 IsFramingError bytes (AttributeHeaderCut left) = (left ≡ length bytes) × (length bytes < 4)
 IsFramingError bytes (AttributeLengthUnder4 word) =
@@ -79,29 +81,33 @@ IsFramingError bytes (AttributeLengthPast word left) =
     × (4 ≤ length bytes) × (4 ≤ word) × (length bytes < word)
 IsFramingError bytes _ = ⊥
 
--- SplitsUntilError faulty bytes given e: the bytes are the attributes `given` and then at least one
--- byte more, and these last bytes have the error `e`, by `faulty rest e`
+-- SplitsUntilError faulty bytes given e: the bytes are the attributes `given`, each with its
+-- padding, and then at least one byte more, and these last bytes (`rest`) have the error `e`, by
+-- `faulty rest e`
 abbrev pub SplitsUntilError : (List ℕ → DecodeError → Type 0) → List ℕ → List Attribute
     → DecodeError → Type 0
 SplitsUntilError faulty bytes given e =
     (rest : List ℕ) × SplitsIntoAttributes bytes given rest × (rest ≢ []) × faulty rest e
 
--- Given how the parser of one attribute works: `reads a` is its value, or the error that rejects
--- it.
+-- `reads` is how one attribute is parsed: `reads a` is `Ok` of the value of the attribute `a`, or
+-- `Err` of the error that rejects it. Elsewhere it is the first argument of each definition below,
+-- most often `decode_attribute set`.
 module _ {A : Type 0} (reads : Attribute → Result A DecodeError) where
-  -- the bytes are split into attributes without any bytes left, and these parse as the values, in
-  -- order
+  -- DecodeTo reads bytes values: the bytes are split into attributes without any bytes left, and
+  -- these parse as the values, in order, one value for each attribute
   abbrev pub DecodeTo : List ℕ → List A → Type 0
   DecodeTo bytes values = (attributes : List Attribute) × SplitsIntoAttributes bytes attributes []
       × AllZip (λ a value. reads a ≡ Ok value) attributes values
 
-  -- the first error at the start of the bytes: an error of the framing, or else of the first
-  -- attribute's value
+  -- IsFirstAttributeError reads b e: `e` is the first error at the start of the bytes `b`. Either
+  -- they do not begin with an attribute, and `e` is the error of the framing; or they begin with an
+  -- attribute, and `e` is the error of its value.
   abbrev pub IsFirstAttributeError : List ℕ → DecodeError → Type 0
   IsFirstAttributeError b e = IsFramingError b e
       ⊎ ((a : Attribute) × HasAttributePrefix b a × (reads a ≡ Err e))
 
-  -- the first error of the bytes: it is preceded by accepted attributes only
+  -- HasAttributeError reads bytes e: `e` is the first error of the bytes, in the framing or in the
+  -- value of an attribute; only accepted attributes, each with its padding, precede it
   abbrev pub HasAttributeError : List ℕ → DecodeError → Type 0
   HasAttributeError bytes e = (attributes : List Attribute)
       × SplitsUntilError IsFirstAttributeError bytes attributes e

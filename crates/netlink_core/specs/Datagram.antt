@@ -7,10 +7,11 @@ use Rattle.netlink_core.specs.declared.fault.DecodeError.{DecodeError}
 use Rattle.netlink_core.specs.Attribute.{padding_length}
 use Rattle.netlink_core.specs.Header.{IsMessageError}
 
--- The bytes are the message, its padding, and `rest`. The message has at least 16 bytes, and as
--- many as its length field (`nlmsg_len`, the first four bytes, little-endian) says. The padding may
--- have any content. It is complete, up to a multiple of four; if nothing follows, it may be
--- shorter. The rest of the header and the payload are not considered.
+-- StartsWithMessage bytes message rest: the bytes are the message, its padding, and `rest`. The
+-- message has at least 16 bytes, and as many as its length field (`nlmsg_len`, the first four
+-- bytes, little-endian) says. The padding may have any content. It is complete, up to a multiple of
+-- four; if nothing follows, it may be shorter. The rest of the header and the payload are not
+-- considered.
 pub record StartsWithMessage (bytes message rest : List ℕ) : Type 0 where
   pub padding : List ℕ
   pub parts : bytes ≡ message ++ (padding ++ rest)

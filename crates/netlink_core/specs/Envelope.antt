@@ -24,7 +24,8 @@ pub record NetlinkMessageModel (A : Type 0) : Type 0 where
   pub header : NetlinkHeader
   pub payload : Payload A
 
--- the message types of inner messages: 0, and all above 4; the control messages have 1 to 4
+-- `t` is the message type of an inner message: 0, or any above 4 (NLMSG_OVERRUN); the control
+-- messages have 1 to 4
 abbrev pub IsInnerMessageType : ℕ → Type 0
 IsInnerMessageType t = (t ≡ 0) ⊎ (NLMSG_OVERRUN < t)
 
@@ -67,7 +68,8 @@ payload_type type_of (Done given) = NLMSG_DONE
 payload_type type_of (Overrun given) = NLMSG_OVERRUN
 payload_type type_of (InnerMessage value) = type_of value
 
--- the predicate holds of the inner message, if any
+-- HoldsOfInnerMessage is payload: the predicate `is` holds of the inner message; it also counts as
+-- holding of a control message, which has none
 abbrev pub HoldsOfInnerMessage : {A : Type 0} → (A → Type 0) → Payload A → Type 0
 HoldsOfInnerMessage is (InnerMessage value) = is value
 HoldsOfInnerMessage is Noop = ⊤
@@ -104,33 +106,37 @@ finalized_header bytes type_of e = record e.header {
 
 -- The codec of netlink messages, given the codec of inner messages, whose parameter is the message
 -- type. It does not keep the codec law `reads_back`, since the header of a value may have any
--- length and any type: see `laws::finalized_message_reads_back`.
+-- length and any type: see `laws::finalized_message_reads_back`. `b` and `c` are byte strings, and
+-- `p` is `tt`, since there is no parameter; `e` is a netlink message, and in `refuses` the error.
 abbrev pub netlink_codec : Codec ℕ → Codec (Unit {0})
 netlink_codec C = record {
   Value = NetlinkMessageModel C.Value;
-  is_in_range = λ e. FitFields header_fields (header_values e.header)
-      × HoldsOfInnerMessage C.is_in_range e.payload;
+  -- the header's numbers fit their fields, and an inner message is in range
+  is_in_range = λ m. FitFields header_fields (header_values m.header)
+      × HoldsOfInnerMessage C.is_in_range m.payload;
   -- the bytes start with the header, and the payload up to the header's length parses by its type
-  reads = λ b p e. HasHeader b e.header
-      × ParsesAsPayload C.reads (take (e.header.length - 16) (drop 16 b)) e.header.message_type
-      e.payload;
+  reads = λ b p m. HasHeader b m.header
+      × ParsesAsPayload C.reads (take (m.header.length - 16) (drop 16 b)) m.header.message_type
+      m.payload;
   -- the bytes do not start with a message, or they start with an inner message that is rejected
   refuses = λ b p e. IsMessageError b e ⊎ ((h : NetlinkHeader) × HasHeader b h
       × IsInnerMessageType h.message_type
       × C.refuses (take (h.length - 16) (drop 16 b)) h.message_type e);
-  is_spare = λ e. ⊥;
+  -- no message counts as a value that needs no memory
+  is_spare = λ m. ⊥;
   -- equal headers, and payloads that are equivalent under their message type; the length is at
   -- offset 0 of the header, the type at offset 4
   idle = λ p b c.
       let payload : List ℕ → List ℕ = λ x. take (little_number 4 x - 16) (drop 16 x) in
       (take 16 b ≡ take 16 c)
       × AreEquivalentPayloads C.idle (message_type_in b) (payload b) (payload c);
-  -- an inner message is in normal form, and the header's type is not that of a control message
-  is_normal = λ p e. let t = e.header.message_type in
-      HoldsOfInnerMessage (λ m. IsInnerMessageType t × C.is_normal t m) e.payload;
+  -- an inner message is in normal form, and the header's type is not that of a control message; a
+  -- control message always is in normal form
+  is_normal = λ p m. let t = m.header.message_type in
+      HoldsOfInnerMessage (λ inner. IsInnerMessageType t × C.is_normal t inner) m.payload;
   -- the header unchanged, then the payload
-  written = λ e. header_bytes e.header ++ payload_bytes C.written e.payload;
+  written = λ m. header_bytes m.header ++ payload_bytes C.written m.payload;
   -- an inner message is writable, and the total length fits the 32-bit length field
-  fits = λ e. HoldsOfInnerMessage C.fits e.payload
-      × (16 + length (payload_bytes C.written e.payload) ≤ 4294967295);
+  fits = λ m. HoldsOfInnerMessage C.fits m.payload
+      × (16 + length (payload_bytes C.written m.payload) ≤ 4294967295);
 }

@@ -17,7 +17,10 @@ use Rattle.netlink_core.specs.declared.fault.DecodeError.TheVariants.{NameWithou
 use Rattle.netlink_core.specs.declared.fault.DecodeError.TheVariants.{EnvelopeLengthUnder16}
 use Rattle.netlink_core.specs.declared.fault.DecodeError.TheVariants.{EnvelopeLengthPast}
 
--- the code of an error, as in include/sockdiag.h
+-- The code of an error: its position among the variants of `DecodeError`, from 1 on. Except for
+-- `Memory`, include/sockdiag.h has the code as `SOCKDIAG_` and the name of the error. 2 to 6 are
+-- errors of records and messages; 7 to 9 of the framing of attributes; 10 to 15 of values of
+-- attributes; 16 to 18 of netlink headers.
 abbrev pub error_code : DecodeError → ℕ
 error_code Memory = 1
 error_code (BufferTooSmall which got need) = 2
@@ -38,12 +41,12 @@ error_code (EnvelopeCut got) = 16
 error_code (EnvelopeLengthUnder16 len) = 17
 error_code (EnvelopeLengthPast len got) = 18
 
--- with_missing_kind k e: the error `e`; if it is a `WrongLength` without a kind, it gets the kind
--- `k`
+-- with_missing_kind k e: the error `e`; only a `WrongLength` without a kind is changed, and gets
+-- the kind `k`
 abbrev pub with_missing_kind : ℕ → DecodeError → DecodeError
 with_missing_kind k (WrongLength None got need) = WrongLength (Some k) got need
 with_missing_kind k other = other
 
--- applies `made` to the value of an `Ok`; an error is unchanged
+-- map_ok made answer: `Ok (made v)` if `answer` is `Ok v`; an error is unchanged
 abbrev pub map_ok : {A B : Type 0} → (A → B) → Result A DecodeError → Result B DecodeError
 map_ok made answer = result_map_both made (λ fault. fault) answer

@@ -10,8 +10,9 @@ use Rattle.netlink_core.specs.declared.fault.DecodeError.TheVariants.{EnvelopeLe
 use Rattle.netlink_core.specs.declared.fault.DecodeError.TheVariants.{EnvelopeLengthPast}
 use Rattle.netlink_core.specs.declared.header.NetlinkHeader.{NetlinkHeader}
 
--- `struct nlmsghdr` (linux/netlink.h): `nlmsg_len`, `nlmsg_type`, `nlmsg_flags`, `nlmsg_seq`,
--- `nlmsg_pid`
+-- `struct nlmsghdr` (linux/netlink.h), in the order of the rows: `nlmsg_len`, `nlmsg_type`,
+-- `nlmsg_flags`, `nlmsg_seq`, `nlmsg_pid`; each number of a row is the offset, and all fields are
+-- little-endian
 abbrev pub header_rows : List (Row NetlinkHeader)
 header_rows =
     u32 0 NetlinkHeader.length ∷
@@ -32,8 +33,9 @@ header_values = numbers_of header_rows
 abbrev pub header_bytes : NetlinkHeader → List ℕ
 header_bytes h = bytes_of header_fields (header_values h)
 
--- the bytes begin with the header, each number of which fits its field, and `nlmsg_len` is at least
--- 16 and at most the number of bytes; what follows the header is not considered
+-- HasHeader bytes h: the bytes begin with the header `h`, each number of which fits its field, and
+-- its `nlmsg_len` is at least 16 and at most the number of bytes, so that the message is complete;
+-- what follows the header is not considered
 abbrev pub HasHeader : List ℕ → NetlinkHeader → Type 0
 HasHeader bytes h = (values_of header_fields bytes ≡ header_values h)
     × FitFields header_fields (header_values h) × (16 ≤ h.length) × (h.length ≤ length bytes)
@@ -42,9 +44,10 @@ HasHeader bytes h = (values_of header_fields bytes ≡ header_values h)
 abbrev pub message_type_in : List ℕ → ℕ
 message_type_in bytes = little_number 2 (drop 4 bytes)
 
--- The first error of bytes that do not begin with a message: fewer than 16 bytes; else `nlmsg_len`
--- is below 16; else `nlmsg_len` is above the number of bytes. The error contains `nlmsg_len`
--- (`word`) and the number of bytes (`got`).
+-- IsMessageError bytes e: the bytes do not begin with a complete message, and `e` is their first
+-- error: fewer than 16 bytes; else `nlmsg_len` (the first four bytes, little-endian) is below 16;
+-- else `nlmsg_len` is above the number of bytes. In the errors, `word` is `nlmsg_len` and `got` is
+-- the number of bytes.
 abbrev pub IsMessageError : List ℕ → DecodeError → Type 0
 IsMessageError bytes (EnvelopeCut got) = (got ≡ length bytes) × (length bytes < 16)
 IsMessageError bytes (EnvelopeLengthUnder16 word) =

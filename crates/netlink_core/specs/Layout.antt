@@ -46,55 +46,61 @@ plain name least rows value is_shaped = record {
   is_own = λ param value. ⊤;
 }
 
--- for a layout, the fields of a tag, and what is parsed, serialized and compared by them
+-- For a layout, the fields of a tag, and what is parsed, serialized and compared by them. Elsewhere
+-- the layout is the first argument of each definition below.
 module _ {Param Tag Value : Type 0} (layout : Layout Param Tag Value) where
-  -- the fields for a tag
+  -- tag_fields layout tag: the fields for a tag, in order
   abbrev pub tag_fields : Tag → List Field
   tag_fields tag = fields_of (layout.rows tag)
 
-  -- the numbers of a value, in the fields of its own tag that are not ignored
+  -- field_numbers layout value: the numbers of the value, in the fields of its own tag (`tag_of`)
+  -- that are not ignored
   abbrev pub field_numbers : Value → List ℕ
   field_numbers value = numbers_of (layout.rows (layout.tag_of value)) value
 
-  -- parses bytes, at least `least` of them, by the fields of their tag, or returns the tag's error
+  -- parse_fields layout param left: parses the bytes `left`, at least `least` of them, by the
+  -- fields of their tag, or returns the tag's error
   abbrev pub parse_fields : Param → List ℕ → Result Value DecodeError
   parse_fields param left =
       map_ok (λ tag. layout.value tag (values_of (tag_fields tag) left)) (layout.tag_at param left)
 
-  -- parses bytes, or returns the first error: too few bytes, else the tag's error
+  -- parse_record layout param left: parses the bytes `left`, or returns their first error: fewer
+  -- than `least` bytes, else the tag's error; bytes after the record are ignored
   abbrev pub parse_record : Param → List ℕ → Result Value DecodeError
   parse_record param left = if nat_lt (length left) layout.least
       then Err (BufferTooSmall layout.name (length left) layout.least) else parse_fields param left
 
-  -- the bytes that a value serializes to
+  -- record_bytes layout value: the bytes that the value serializes to
   abbrev pub record_bytes : Value → List ℕ
   record_bytes value = bytes_of (tag_fields (layout.tag_of value)) (field_numbers value)
 
-  -- HasTagAndNumbers param b tag numbers: there are at least `least` bytes, they have the tag, and
+  -- HasTagAndNumbers layout param b tag numbers: `b` has at least `least` bytes, this tag, and
   -- these numbers in the fields of the tag that are not ignored
   abbrev pub HasTagAndNumbers : Param → List ℕ → Tag → List ℕ → Type 0
   HasTagAndNumbers param b tag numbers =
       (layout.least ≤ length b) × (layout.tag_at param b ≡ Ok tag)
       × (values_of (tag_fields tag) b ≡ numbers)
 
-  -- both byte strings have at least `least` bytes, the same tag, and the same numbers in the fields
-  -- of this tag that are not ignored
+  -- AreEquivalent layout param b c: both byte strings have at least `least` bytes, the same tag,
+  -- and the same numbers in the fields of this tag that are not ignored
   abbrev pub AreEquivalent : Param → List ℕ → List ℕ → Type 0
   AreEquivalent param b c = (tag : Tag) × (numbers : List ℕ)
       × HasTagAndNumbers param b tag numbers × HasTagAndNumbers param c tag numbers
 
-  -- arrays of the value have their length, and each of its numbers fits its field
+  -- IsInRange layout v: arrays of the value have the length of their types, and each of its numbers
+  -- fits its field
   abbrev pub IsInRange : Value → Type 0
   IsInRange v = layout.is_shaped v × FitFields (tag_fields (layout.tag_of v)) (field_numbers v)
 
-  -- no number of flags has an undefined bit, and the value meets the layout's other conditions
-  -- (`is_own`)
+  -- IsNormal layout p v: no number of flags has an undefined bit, and the value meets the layout's
+  -- other conditions for the parameter `p` (`is_own`)
   abbrev pub IsNormal : Param → Value → Type 0
   IsNormal p v = HaveDefinedFlags (tag_fields (layout.tag_of v)) (field_numbers v)
       × layout.is_own p v
 
-  -- The bytes contain the value, said without `value`: there are at least `least`, they have its
-  -- tag and its numbers, and the value is in range and in normal form.
+  -- IsContainedIn layout b param value: the bytes `b` contain the value. There are at least
+  -- `least`, they have the value's tag and its numbers, and the value is in range and in normal
+  -- form. The member `value` of the layout is not used.
   abbrev pub IsContainedIn : List ℕ → Param → Value → Type 0
   IsContainedIn b param value = HasTagAndNumbers param b (layout.tag_of value) (field_numbers value)
       × IsInRange value × IsNormal param value

@@ -12,7 +12,8 @@ abbrev pub number_of_width : Option ℕ → ℕ → List ℕ → Result ℕ Deco
 number_of_width k width b =
     if length b == width then Ok (little_number width b) else Err (WrongLength k (length b) width)
 
--- the bytes without their last byte if this is NUL; only one is removed
+-- the bytes without their last byte if this is NUL; only one is removed; no bytes stay no bytes,
+-- since `slice_index` is 0 past the end
 abbrev pub without_terminating_nul : List ℕ → List ℕ
 without_terminating_nul b = if slice_index b (length b - 1) == 0 then take (length b - 1) b else b
 

@@ -9,7 +9,7 @@ use Rattle.netlink_core.specs.AttributeSet.{encode_attribute, IsInRangeIn, IsNor
 use Rattle.netlink_core.specs.AttributeSet.{NeedsNoMemoryIn, AreEquivalentAttributes}
 use Rattle.netlink_core.specs.Codec.{Codec}
 
--- how a reply is parsed and serialized
+-- how replies of one kind are parsed and serialized
 pub record ResponseSpec : Type 1 where
   -- the codec of its header
   pub header : ValueCodec (Unit {0})
@@ -27,15 +27,19 @@ pub record ResponseValue (H V : Type 0) : Type 0 where
 abbrev pub ReplyValue : ResponseSpec → Type 0
 ReplyValue R = ResponseValue R.header.Value (AttributeValue R.attribute_set)
 
--- the bytes that a reply serializes to: its header, and its attributes with their padding
+-- response_bytes R v: the bytes that the reply `v` serializes to: its header, and its attributes
+-- with their padding
 abbrev pub response_bytes : (R : ResponseSpec) → ReplyValue R → List ℕ
 response_bytes R v = R.header.bytes v.header
     ++ flat_map attribute_bytes (map (encode_attribute R.attribute_set) v.nlas)
 
--- the codec of a reply
+-- The codec of a reply. `v` is a reply, `b` and `c` are byte strings, and `e` is an error; `p` is
+-- `tt`, since there is no parameter. The attributes are in the bytes from offset `size` on
+-- (`drop R.size`).
 abbrev pub response_codec : ResponseSpec → Codec (Unit {0})
 response_codec R = record {
   Value = ReplyValue R;
+  -- the header and each attribute are in range
   is_in_range = λ v. R.header.is_in_range v.header
       × AllByRecursion (IsInRangeIn R.attribute_set) v.nlas;
   -- the header's value, and one decoded value for each attribute after it
@@ -52,6 +56,7 @@ response_codec R = record {
   idle = λ p b c. R.header.idle p b c × (left right : List Attribute)
       × SplitsIntoAttributes (drop R.size b) left [] × SplitsIntoAttributes (drop R.size c) right []
       × AllZip (AreEquivalentAttributes R.attribute_set) left right;
+  -- the header and each attribute are in normal form
   is_normal = λ p v. R.header.is_normal p v.header
       × AllByRecursion (IsNormalIn R.attribute_set) v.nlas;
   written = response_bytes R;

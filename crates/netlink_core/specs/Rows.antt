@@ -5,46 +5,49 @@ use Rattle.std.specs.List.{flat_map}
 use Rattle.netlink_core.specs.Table.{Field, byte, number, network, flags, unread, array}
 use Rattle.netlink_core.specs.Table.{bytes_at, first_numbers}
 
--- fields, and the numbers that a value has in those that are not ignored
+-- a row: its fields, and the function that returns the numbers of a value in those of these fields
+-- that are not ignored, in order
 abbrev pub Row : Type 0 → Type 0
 Row Value = List Field × (Value → List ℕ)
 
 -- `Value` is the Rust type of the record
 module _ {Value : Type 0} where
-  -- the fields of all rows
+  -- fields_of rows: the fields of all rows, in order
   abbrev pub fields_of : List (Row Value) → List Field
   fields_of rows = flat_map (λ one. one.0) rows
 
-  -- the numbers of a value in the fields of all rows
+  -- numbers_of rows value: the numbers of the value in the fields of all rows, in order; none for a
+  -- field that is ignored
   abbrev pub numbers_of : List (Row Value) → Value → List ℕ
   numbers_of rows value = flat_map (λ one. one.1 value) rows
 
-  -- one field, and the number of the value in it
+  -- single field get: a row of one field, which contains the number `get value`
   abbrev pub single : Field → (Value → ℕ) → Row Value
   single field get = (field ∷ [], λ value. get value ∷ [])
 
-  -- `__u8`
+  -- u8 offset get: `__u8`. In this row and in those below, `get` returns the member of the value
+  -- that is stored at the offset: `u8 2 TcpInfo.retransmits`.
   abbrev pub u8 : (offset : ℕ) → (Value → ℕ) → Row Value
   u8 offset = single (byte offset)
 
-  -- `__u16`, little-endian
+  -- u16 offset get: `__u16`, little-endian
   abbrev pub u16 : (offset : ℕ) → (Value → ℕ) → Row Value
   u16 offset = single (number offset 2)
 
-  -- `__u32`, little-endian
+  -- u32 offset get: `__u32`, little-endian
   abbrev pub u32 : (offset : ℕ) → (Value → ℕ) → Row Value
   u32 offset = single (number offset 4)
 
-  -- `__u64`, little-endian
+  -- u64 offset get: `__u64`, little-endian
   abbrev pub u64 : (offset : ℕ) → (Value → ℕ) → Row Value
   u64 offset = single (number offset 8)
 
-  -- `__be16`, in network byte order
+  -- be16 offset get: `__be16`, in network byte order
   abbrev pub be16 : (offset : ℕ) → (Value → ℕ) → Row Value
   be16 offset = single (network offset 2)
 
-  -- a little-endian `__u32` of flags; the bits that are 0 in the mask are undefined, and the parser
-  -- ignores them
+  -- flags32 offset mask get: a little-endian `__u32` of flags; the bits that are 0 in the mask are
+  -- undefined, and the parser ignores them
   abbrev pub flags32 : (offset mask : ℕ) → (Value → ℕ) → Row Value
   flags32 offset mask = single (flags offset 4 mask)
 
@@ -58,15 +61,16 @@ module _ {Value : Type 0} where
   abbrev pub be16s : (offset count : ℕ) → (Value → List ℕ) → Row Value
   be16s offset count get = (array network offset 2 count, λ value. first_numbers count (get value))
 
-  -- bytes that the parser ignores, and what the serializer writes there
+  -- skip offset written: bytes that the parser ignores, as many as `written`, which the serializer
+  -- writes there
   abbrev pub skip : (offset : ℕ) → (written : List ℕ) → Row Value
   skip offset written = (unread offset written ∷ [], λ value. [])
 
-  -- a row that is present only if the test is true; else it has no fields and no numbers
+  -- when test one: the row `one` if the test is true; else a row without fields and numbers
   abbrev pub when : Bool → Row Value → Row Value
   when test one = if test then one else ([], λ value. [])
 
--- an inner record, which `get` takes from the outer value, by its rows; the offsets in the rows are
--- already those in the outer record
+-- embed get rows: the row of an inner record with these rows; `get` returns the inner value from
+-- the outer one, and the offsets in `rows` are already those in the outer record
 abbrev pub embed : {Outer Inner : Type 0} → (Outer → Inner) → List (Row Inner) → Row Outer
 embed get rows = (fields_of rows, λ value. numbers_of rows (get value))

@@ -2,15 +2,16 @@
 -- mask is significant, a bit that is 0 is ignored.
 use Rattle.std.specs.Prelude.{◌≡◌, ℕ, List, [], ◌∷◌, bit_and, replicate}
 
--- the masks of `count` bytes of which all bits are significant
+-- significant count: the masks of `count` bytes of which all bits are significant
 abbrev pub significant : ℕ → List ℕ
 significant count = replicate count 255
 
--- the masks of `count` bytes of which all bits are ignored
+-- ignored count: the masks of `count` bytes of which all bits are ignored
 abbrev pub ignored : ℕ → List ℕ
 ignored count = replicate count 0
 
--- the bytes without the bits that are 0 in their masks, as far as both lists have elements
+-- masked masks bytes: the bytes without the bits that are 0 in their masks, as far as both lists
+-- have elements
 abbrev pub masked : List ℕ → List ℕ → List ℕ
 masked (mask ∷ masks) (one ∷ bytes) = bit_and one mask ∷ masked masks bytes
 masked _ _ = []

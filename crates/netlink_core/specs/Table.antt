@@ -20,12 +20,12 @@ array field offset width zero = []
 array field offset width (suc count) =
     field offset width ∷ array field (offset + width) width count
 
--- `count` consecutive bytes, the first at the offset
+-- bytes_at offset count: `count` consecutive bytes, the first at the offset, each a field
 abbrev pub bytes_at : (offset count : ℕ) → List Field
 bytes_at offset count = array (λ at width. byte at) offset 1 count
 
--- the numbers in the bytes, in order, one for each field that is not ignored; of flags, only the
--- defined bits
+-- values_of fields b: the numbers in the bytes `b`, in order, one for each field that is not
+-- ignored; of flags, only the defined bits
 abbrev pub values_of : List Field → List ℕ → List ℕ
 values_of [] b = []
 values_of (byte at ∷ fields) b = slice_index b at ∷ values_of fields b
@@ -35,9 +35,9 @@ values_of (flags at width mask ∷ fields) b =
     bit_and (little_number width (drop at b)) mask ∷ values_of fields b
 values_of (unread at written ∷ fields) b = values_of fields b
 
--- The bytes that the fields serialize to, given one number for each field that is not ignored. The
--- bytes of the fields are concatenated, and their offsets are not considered. Undefined flags are
--- not removed. If a number is missing, nothing more is written.
+-- bytes_of fields values: the bytes that the fields serialize to, given one number for each field
+-- that is not ignored. The bytes of the fields are concatenated, and their offsets are not
+-- considered. Undefined flags are not removed. If a number is missing, nothing more is written.
 abbrev pub bytes_of : List Field → List ℕ → List ℕ
 bytes_of (unread at written ∷ fields) values = written ++ bytes_of fields values
 bytes_of (byte at ∷ fields) (n ∷ rest) = n ∷ bytes_of fields rest
@@ -46,13 +46,13 @@ bytes_of (number at width ∷ fields) (n ∷ rest) = little_bytes width n ++ byt
 bytes_of (flags at width mask ∷ fields) (n ∷ rest) = little_bytes width n ++ bytes_of fields rest
 bytes_of _ _ = []
 
--- the first `n` numbers of a list; 0 for each number that is missing
+-- first_numbers n xs: the first `n` numbers of the list; 0 for each number that is missing
 abbrev pub first_numbers : ℕ → List ℕ → List ℕ
 first_numbers zero xs = []
 first_numbers (suc n) xs = slice_index xs 0 ∷ first_numbers n (drop 1 xs)
 
--- there is exactly one number for each field that is not ignored, and it fits the field's width;
--- masks of flags are not considered
+-- FitFields fields values: there is exactly one number for each field that is not ignored, and it
+-- fits the field's width in bytes; masks of flags are not considered
 abbrev pub FitFields : List Field → List ℕ → Type 0
 FitFields [] [] = Unit {0}
 FitFields (unread offset written ∷ fields) values = FitFields fields values
@@ -65,7 +65,8 @@ FitFields (flags offset width mask ∷ fields) (value ∷ values) =
     (value < 256 ^ width) × FitFields fields values
 FitFields _ _ = ⊥
 
--- each number of flags has only bits of its mask; the other fields are not considered
+-- HaveDefinedFlags fields values: each number of flags has only bits of its mask; the other fields
+-- are not considered
 abbrev pub HaveDefinedFlags : List Field → List ℕ → Type 0
 HaveDefinedFlags (unread offset written ∷ fields) values = HaveDefinedFlags fields values
 HaveDefinedFlags (flags at width mask ∷ fields) (n ∷ rest) =

@@ -5,21 +5,25 @@ use Rattle.netlink_core.specs.Layout.{Layout, parse_record, record_bytes, AreEqu
 use Rattle.netlink_core.specs.Layout.{IsNormal}
 
 -- How a part of a message is parsed, with a parameter, and serialized. A record may be followed by
--- other bytes, which are ignored; a text or a flag takes all bytes.
+-- other bytes, which are ignored; a text or a flag takes all bytes. In the comments `b` and `c` are
+-- byte strings, `p` is the parameter (`tt` if there is none) and `v` is a value. In `reads` the
+-- parameter is the first argument, while it is the second one in `reads` of a `Codec`.
 pub record ValueCodec (Param : Type 0) : Type 1 where
+  -- the type of the values
   pub Value : Type 0
-  -- the value of the bytes, or their first error
+  -- reads p b: `Ok` of the value of `b`, or `Err` of its first error
   pub reads : Param → List ℕ → Result Value DecodeError
-  -- the bytes that the value serializes to
+  -- bytes v: the bytes that `v` serializes to
   pub bytes : Value → List ℕ
-  -- two accepted byte strings are equivalent: they differ only in ignored bits
+  -- idle p b c: the accepted byte strings `b` and `c` are equivalent: they differ only in ignored
+  -- bits
   pub idle : Param → List ℕ → List ℕ → Type 0
-  -- each number fits its field
+  -- is_in_range v: each number of `v` fits its field
   pub is_in_range : Value → Type 0
-  -- the value is in normal form, the form of every parsed value
+  -- is_normal p v: `v` is in normal form, the form of every parsed value
   pub is_normal : Param → Value → Type 0
 
--- the codec of a record, given its layout
+-- the codec of a record, given its layout; module `Layout` defines each member
 abbrev pub value_codec : {Param Tag Value : Type 0} → Layout Param Tag Value → ValueCodec Param
 value_codec {Param} {Tag} {Value} layout = record {
   Value = Value;

@@ -47,6 +47,9 @@ impl<'a> NlaBuffer<'a> {
     /// `AttributeLengthUnder4` if the length field is below 4, then with `AttributeLengthPast` if
     /// it is above the number of bytes.
     pub fn new_checked(bytes: &'a [u8]) -> Result<NlaBuffer<'a>, DecodeError>
+        // HasAttributePrefix bytes a: the bytes begin with the attribute `a`. IsFramingError bytes
+        // e: they do not begin with an attribute, and `e` is their error. buffered_attribute: the
+        // type field and the value of the buffer.
         ensures { MatchResult result
             (λ buffer. HasAttributePrefix bytes.entry.now (buffered_attribute buffer))
             (IsFramingError bytes.entry.now) }

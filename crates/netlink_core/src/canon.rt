@@ -2,7 +2,7 @@
 
 ghost use Rattle.std.specs.Prelude.{◌≡◌, ◌≢◌, ◌↔◌, ℕ, List, IfOk, IfErr};
 ghost use Rattle.netlink_core.specs.Bytes.{IsBytes};
-ghost use Rattle.netlink_core.specs.Canonical.{HasCanonicalForm, HasNoCanonicalForm};
+ghost use Rattle.netlink_core.specs.Canonical.{HasCanonicalForm, CanonicalFormFails};
 ghost use Rattle.netlink_core.specs.declared.canon.CanonError.TheVariants.{Memory, Refused};
 ghost use Rattle.netlink_core.specs.declared.fault.DecodeError.TheVariants as faults;
 
@@ -51,6 +51,8 @@ pub fn canonical<T: Wire + Drop>(
     bytes: &[u8],
     param: T::Param,
 ) -> Result<Vec<u8>, CanonError>
+    // IsBytes bytes: each number of the list is below 256. CanonicalFormFails codec param bytes
+    // error: no canonical form of the bytes is returned, for this reason.
     // HasCanonicalForm codec param bytes form: the bytes parse as a writable value, which
     // serializes to `form`.
     ensures written { IfOk result (λ form. HasCanonicalForm T.codec param bytes.now form.items) }
@@ -61,7 +63,7 @@ pub fn canonical<T: Wire + Drop>(
     // The canonical form is its own canonical form.
     ensures again { IfOk result (λ form.
         IsBytes form.items × HasCanonicalForm T.codec param form.items form.items) }
-    ensures err { IfErr result (HasNoCanonicalForm T.codec param bytes.now) }
+    ensures err { IfErr result (CanonicalFormFails T.codec param bytes.now) }
 {
     T::rewrite(alloc, bytes, param)
 }

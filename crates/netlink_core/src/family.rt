@@ -71,6 +71,7 @@ pub trait FamilyNla: Nla + PartialEq + MadeWith<Global> + Drop + Sized {
 
     /// Proof only: puts the range of each number in scope. No run-time effect.
     fn value_in_range(&self)
+        // IsInRangeIn set value: each number of the decoded value fits its field.
         ensures { IsInRangeIn attribute_set (model self.now) };
 
     // An attribute serializes as what it decodes to, and `==` compares what it decodes to.

@@ -61,6 +61,7 @@ pub fn big_shorts_at<const N: usize>(bytes: &[u8], offset: usize) -> [u16; N]
 /// any offset. No run-time effect.
 #[tactic(auto, using(crate::proofs::FieldReads::numbers_fit_array))]
 pub fn words_in_range(_words: &[u32])
+    // FitFields fields numbers: there is one number for each field, and it fits the field's width.
     ensures { (offset : ℕ) → FitFields (array number offset 4 (length _words.now)) _words.now }
 {}
 

@@ -25,7 +25,8 @@ pub struct NetlinkHeader {
     pub flags: u16,
     /// Sequence number, which a reply repeats (`nlmsg_seq`). At offset 8, 4 bytes.
     pub sequence_number: u32,
-    /// Port of the sender, 0 for the kernel (`nlmsg_pid`). At offset 12, 4 bytes.
+    /// Port id (`nlmsg_pid`). A request has the port id of its sender, or 0. An answer of the
+    /// kernel has the port id of the socket that sent the request. At offset 12, 4 bytes.
     pub port_number: u32,
 }
 
@@ -63,6 +64,7 @@ impl NetlinkHeader {
 
     /// Proof only: puts the range of each field in scope. No run-time effect.
     pub fn in_range(&self)
+        // FitFields fields numbers: each number fits the width of its field.
         ensures { FitFields header_fields (header_values self.now) }
     {
         let NetlinkHeader {

@@ -52,9 +52,11 @@ use std::alloc::AllocError;
 /// value fits its length field. Either its padding is complete, and the remaining bytes are split
 /// into the later attributes; or its padding is short, nothing follows, and it is the last one.
 pub fn cut_is_as_stated()
+    // SplitsIntoAttributes bytes attributes rest: the bytes are these attributes, each with its
+    // padding, and then `rest`; here `rest` is empty.
     ensures none { (bytes : List ℕ) → SplitsIntoAttributes bytes [] [] ↔ (bytes ≡ []) }
-    // header_and_value: the attribute without its padding. padding_length n: the number of bytes
-    // from `n` to the next multiple of 4.
+    // header_and_value a: the bytes of the attribute without its padding. padding_length n: the
+    // number of bytes, 0 to 3, from `n` to the next multiple of 4.
     ensures some { (bytes : List ℕ) (a : Attribute) (later : List Attribute)
         → SplitsIntoAttributes bytes (a ∷ later) [] ↔ ((padding rest : List ℕ)
         × (bytes ≡ header_and_value a ++ (padding ++ rest))
@@ -71,8 +73,11 @@ pub fn one_list_of_attributes()
 {}
 
 /// The bytes that attributes serialize to are split into these attributes, whatever follows, if
-/// each type field has 16 bits and each value fits its length field.
+/// each type field has 16 bits and each value fits its length field (`FitsLengthField`: it has at
+/// most 65,531 bytes).
 pub fn written_attributes_are_cut()
+    // AllByRecursion P xs: `P` holds of each element of `xs`. flat_map attribute_bytes xs: the
+    // bytes of all attributes, each with zeros as its padding. `rest` is what follows.
     ensures { (xs : List Attribute) → AllByRecursion
         (λ (a : Attribute). (a.type_word < 2 ^ 16) × FitsLengthField a) xs
         → (rest : List ℕ) → SplitsIntoAttributes (flat_map attribute_bytes xs ++ rest) xs rest }
@@ -82,19 +87,22 @@ pub fn written_attributes_are_cut()
 /// they have the tag and the numbers of the value, and the value is in range and in normal form. A
 /// record is parsed as no other value.
 pub fn read_where_it_stands<T: Record>()
+    // parse_record layout param bytes: `Ok` of the value, or `Err` of the error. IsBytes: each
+    // number of the list is below 256.
     ensures { (bytes : List ℕ) (param : T.Param) (value : T) → IsBytes bytes
         → (parse_record T.layout param bytes ≡ Ok value)
         ↔ IsContainedIn T.layout bytes param value }
 {}
 
-/// Returns whether parsing a record can fail with `Memory`: it cannot.
+/// Returns `TAKES_MEMORY` of a record: whether parsing it can fail with `Memory`. It cannot.
 pub fn records_take_memory<T: Record>() -> bool
     ensures { result ≡ false }
 {
     T::TAKES_MEMORY
 }
 
-/// Returns whether parsing an attribute of any kind can fail with `Memory`: it can.
+/// Returns `TAKES_MEMORY` of a raw attribute ([`DefaultNla`]): whether parsing it can fail with
+/// `Memory`. It can, since its value is copied.
 pub fn attributes_take_memory() -> bool
     ensures { result ≡ true }
 {
@@ -105,9 +113,11 @@ pub fn attributes_take_memory() -> bool
 /// and no raw attribute, is found under another kind than its own. Nothing is found under a kind
 /// that is not in the set.
 pub fn content_is_of_its_type<T: FamilyNla>()
-    // value_as_decoded set k x: `x`, a value of the kind `k`, as a decoded value; a raw attribute
-    // if `k` is not in the set. value_of_kind set k v: the value of the kind `k` in the decoded
-    // value `v`, or `None`.
+    // T.attribute_set: the set of attribute types. kind_numbers set: the kinds in the set.
+    // ValueOfKind set k: the type of the values of the kind `k`; raw attributes if `k` is not in
+    // the set. value_as_decoded set k x: `x`, a value of the kind `k`, as a decoded value.
+    // value_of_kind set k v: `Some` of the value if the decoded value `v` is of the kind `k`, else
+    // `None`.
     ensures own { (k : ℕ) (x : ValueOfKind T.attribute_set k)
         → Contains (kind_numbers T.attribute_set) k
         → value_of_kind T.attribute_set k (value_as_decoded T.attribute_set k x) ≡ Some x }
@@ -121,18 +131,23 @@ pub fn content_is_of_its_type<T: FamilyNla>()
 /// into. If it yields an error, it has yielded the attributes before this error, and no bytes are
 /// left.
 pub fn whole_walk_is_the_cut()
+    // Drains step walk items: calling `next` on `walk` until it returns `None` yields `items`, here
+    // the attributes `given`, each as an `Ok`. unread_bytes walk: the bytes that the iterator has
+    // not read yet. buffered_attribute: the type field and the value of a yielded attribute.
     ensures ended { (walk : NlasIterator) (given : List NlaBuffer)
         → Drains YieldsAttribute walk (map (λ (b : NlaBuffer). Ok b) given)
         → SplitsIntoAttributes (unread_bytes walk) (map buffered_attribute given) [] }
-    // SplitsUntilError faulty bytes attributes e: the bytes are these attributes, and then at least
-    // one byte more, whose error is `e`.
+    // YieldsThen step walk items item last: `next` yields `items` and then `item`, here the error
+    // `e`, after which the iterator is `last`. SplitsUntilError faulty bytes attributes e: the
+    // bytes are these attributes, and then at least one byte more, whose error is `e`, here an
+    // error of the framing (`IsFramingError`): values are not checked.
     ensures fault { (walk last : NlasIterator) (given : List NlaBuffer) (e : DecodeError)
         → YieldsThen YieldsAttribute walk (map (λ (b : NlaBuffer). Ok b) given) (Some (Err e)) last
         → SplitsUntilError IsFramingError (unread_bytes walk) (map buffered_attribute given) e
         × (unread_bytes last ≡ []) }
 {}
 
-/// Returns `v == w`, which is true if and only if the two values are the same.
+/// Returns `v == w`, which is true if and only if the two values of an `Exact` type are the same.
 pub fn equal_where_same<T: Exact>(v: &T, w: &T) -> bool
     ensures { IsTrue result ↔ (v.now ≡ w.now) }
 {
@@ -146,7 +161,8 @@ pub fn equal_faults(v: &Fault, w: &Fault) -> bool
     v == w
 }
 
-/// Returns `v == w`, which is true if and only if the two errors of `canonical` are the same.
+/// Returns `v == w`, which is true if and only if the two errors of [`canonical`](crate::canonical)
+/// are the same.
 pub fn equal_errors(v: &CanonError, w: &CanonError) -> bool
     ensures { IsTrue result ↔ (v.now ≡ w.now) }
 {
@@ -161,7 +177,8 @@ pub fn copied_fault(v: &Fault) -> Result<Fault, AllocError>
     v.clone()
 }
 
-/// Returns a clone. Cloning an error of `canonical` succeeds, and the clone is the same error.
+/// Returns a clone. Cloning an error of [`canonical`](crate::canonical) succeeds, and the clone is
+/// the same error.
 pub fn copied_error(v: &CanonError) -> Result<CanonError, AllocError>
     ensures ok { IsOk result }
     ensures same { IfOk result (λ copy. copy ≡ v.now) }
@@ -180,6 +197,8 @@ pub fn copies_are_the_same<T: Exact>(v: &T) -> Result<T, AllocError>
 /// Returns `v == w`, which is true if and only if the headers and the models of the payloads are
 /// equal.
 pub fn equal_messages<I: Coded>(v: &NetlinkMessage<I>, w: &NetlinkMessage<I>) -> bool
+    // netlink_message_model model message: the header, and the payload with its bytes as a list, or
+    // with the model of its inner message, which `model` returns.
     ensures { IsTrue result ↔ (netlink_message_model I.model v.now
         ≡ netlink_message_model I.model w.now) }
 {
@@ -188,6 +207,8 @@ pub fn equal_messages<I: Coded>(v: &NetlinkMessage<I>, w: &NetlinkMessage<I>) ->
 
 /// Returns `v == w`, which is true if and only if the models of the payloads are equal.
 pub fn equal_payloads<I: Coded>(v: &NetlinkPayload<I>, w: &NetlinkPayload<I>) -> bool
+    // payload_model bytes model payload: the payload with its bytes as a list, which `bytes`
+    // returns (here of a `Vec`), or with the model of its inner message, which `model` returns.
     ensures { IsTrue result
         ↔ (payload_model vec_items I.model v.now ≡ payload_model vec_items I.model w.now) }
 {
@@ -197,12 +218,14 @@ pub fn equal_payloads<I: Coded>(v: &NetlinkPayload<I>, w: &NetlinkPayload<I>) ->
 /// Returns `v == w`, which is true if and only if the type fields and the values are equal.
 #[tactic(auto, using(crate::proofs::ValueTests::attribute_test_decides))]
 pub fn equal_buffers(v: &NlaBuffer<'_>, w: &NlaBuffer<'_>) -> bool
+    // buffered_attribute: the type field, with its two flag bits, and the bytes of the value.
     ensures { IsTrue result ↔ (buffered_attribute v.now ≡ buffered_attribute w.now) }
 {
     v == w
 }
 
-/// Returns a clone. Cloning a borrowed attribute succeeds, and the clone is the same attribute.
+/// Returns a clone. Cloning a borrowed attribute succeeds, and the clone has the same type field
+/// and the same value (`buffered_attribute`).
 pub fn copied_buffer<'a>(buffer: &NlaBuffer<'a>) -> Result<NlaBuffer<'a>, AllocError>
     ensures ok { IsOk result }
     ensures same { IfOk result (λ copy. buffered_attribute copy ≡ buffered_attribute buffer.now) }
@@ -210,7 +233,8 @@ pub fn copied_buffer<'a>(buffer: &NlaBuffer<'a>) -> Result<NlaBuffer<'a>, AllocE
     buffer.clone()
 }
 
-/// Returns a clone. Cloning an iterator over attributes succeeds, and the same bytes are left.
+/// Returns a clone. Cloning an iterator over attributes succeeds, and the clone has the same bytes
+/// left to read (`unread_bytes`).
 pub fn copied_walk<'a>(walk: &NlasIterator<'a>) -> Result<NlasIterator<'a>, AllocError>
     ensures ok { IsOk result }
     ensures same { IfOk result (λ copy. unread_bytes copy ≡ unread_bytes walk.now) }
@@ -218,7 +242,8 @@ pub fn copied_walk<'a>(walk: &NlasIterator<'a>) -> Result<NlasIterator<'a>, Allo
     walk.clone()
 }
 
-/// Returns a clone. Cloning an iterator over messages succeeds, and the same bytes are left.
+/// Returns a clone. Cloning an iterator over messages succeeds, and the clone has the same bytes
+/// left to read (`unread_datagram`).
 pub fn copied_messages<'a>(walk: &MessageStrings<'a>) -> Result<MessageStrings<'a>, AllocError>
     ensures ok { IsOk result }
     ensures same { IfOk result (λ copy. unread_datagram copy ≡ unread_datagram walk.now) }
@@ -239,8 +264,13 @@ pub fn default_header() -> NetlinkHeader
     NetlinkHeader::default()
 }
 
-/// Bytes start with one message or have one error, not both. The error is never `Memory`.
+/// Bytes start with one message or have one error, not both. The error is never `Memory`. In order:
+/// bytes have a message or an error; at most one message; not a message and an error; at most one
+/// error; and the error is not `Memory`.
 pub fn one_message_or_fault<I: Coded<Param = u16>>()
+    // netlink_codec I.codec: the codec of netlink messages with inner messages of the type `I`. It
+    // has no parameter, so that its parser's parameter is `tt`. NetlinkMessageModel: a header and a
+    // payload.
     ensures answered { (b : List ℕ) → IsBytes b
         → ((v : NetlinkMessageModel I.codec.Value) × (netlink_codec I.codec).reads b tt v)
         ⊎ ((e : DecodeError) × (netlink_codec I.codec).refuses b tt e) }
@@ -254,15 +284,20 @@ pub fn one_message_or_fault<I: Coded<Param = u16>>()
     ensures named_fault { (b : List ℕ) → (netlink_codec I.codec).refuses b tt Memory → ⊥ }
 {}
 
-/// Two accepted inputs have equal messages if and only if they are equivalent (`idle`).
+/// Two accepted byte strings have equal messages if and only if they are equivalent (`idle`): their
+/// netlink headers are equal, and their payloads are equivalent under the message type, up to the
+/// length in the header. What follows this length is ignored.
 pub fn equal_messages_where_idle<I: Coded<Param = u16>>()
     ensures { (b c : List ℕ) (v w : NetlinkMessageModel I.codec.Value) → IsBytes b → IsBytes c
         → (netlink_codec I.codec).reads b tt v → (netlink_codec I.codec).reads c tt w
         → ((v ≡ w) ↔ (netlink_codec I.codec).idle tt b c) }
 {}
 
-/// Two inputs with canonical forms have the same one if and only if they are equivalent (`idle`).
+/// Two byte strings with canonical forms have the same one if and only if they are equivalent
+/// (`idle`).
 pub fn messages_written_alike<I: Coded<Param = u16>>()
+    // HasCanonicalForm codec param bytes form: the bytes parse as a writable value, which
+    // serializes to `form`.
     ensures { (b c form other : List ℕ) → IsBytes b → IsBytes c
         → HasCanonicalForm (netlink_codec I.codec) tt b form
         → HasCanonicalForm (netlink_codec I.codec) tt c other
@@ -273,8 +308,8 @@ pub fn messages_written_alike<I: Coded<Param = u16>>()
 /// `finalize` sets, round-trips if and only if it is in normal form. This holds for any function
 /// `type_of` that maps inner messages to types.
 pub fn finalized_message_reads_back<I: Coded<Param = u16>>()
-    // finalized_header bytes type_of message: the header of `message` with the length and the type
-    // of its payload.
+    // finalized_header bytes type_of message: the header of `message` with the length of the
+    // message and the type of its payload. `bytes` and `type_of` are those of an inner message.
     ensures { (type_of : I.codec.Value → ℕ) (v : NetlinkMessageModel I.codec.Value)
         → (netlink_codec I.codec).is_in_range v → (netlink_codec I.codec).fits v
         → (v.header ≡ finalized_header I.codec.written type_of v)
@@ -286,6 +321,10 @@ pub fn finalized_message_reads_back<I: Coded<Param = u16>>()
 /// into. If it yields an error, it has yielded the messages before this error, and no bytes are
 /// left.
 pub fn whole_walk_is_the_datagram()
+    // SplitsIntoMessages bytes messages end: the bytes are these messages, each with its padding.
+    // `end` is `None` if no bytes are left then, else the error of the bytes that are left.
+    // unread_datagram walk: the bytes that the iterator has not read yet. `given` are the messages
+    // that it yields, as borrowed bytes: `m.now` are the bytes.
     ensures ended { (walk : MessageStrings) (given : List (Bor (List ℕ)))
         → Drains YieldsMessage walk (map (λ (m : Bor (List ℕ)). Ok m) given)
         → SplitsIntoMessages (unread_datagram walk) (map (λ (m : Bor (List ℕ)). m.now) given) None }
@@ -308,6 +347,8 @@ pub fn one_list_of_messages()
 /// Each datagram has a list of items: the payload or the error of each of its messages.
 pub fn datagram_has_items<I: Coded<Param = u16>>()
     // AreItemsOf is bytes items: the items of the datagram. `is` relates a message to its item.
+    // IsItemOf codec message item: the bytes of the message parse as this payload, or are rejected
+    // with this error; `codec` is the codec of inner messages.
     ensures { (bytes : List ℕ) → IsBytes bytes
         → (items : List (Result (Payload I.codec.Value) DecodeError))
         × AreItemsOf (IsItemOf I.codec) bytes items }
@@ -326,6 +367,8 @@ pub fn one_list_of_items<I: Coded<Param = u16>>()
 /// Complete messages with all their padding, followed by more bytes, have the items of these
 /// messages and then the items of the other bytes.
 pub fn items_of_concatenation<I: Coded<Param = u16>>()
+    // SplitsIntoMessages front messages None: `front` is these messages, and no bytes are left. Its
+    // length is a multiple of 4, so that the last message has all its padding too.
     ensures { (front back : List ℕ) (messages : List (List ℕ))
         (xs ys : List (Result (Payload I.codec.Value) DecodeError))
         → SplitsIntoMessages front messages None × (length front % 4 ≡ 0)

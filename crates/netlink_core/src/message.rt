@@ -77,6 +77,7 @@ pub trait NetlinkSerializable: Coded<Param = u16> {
 
     /// Returns the type of the message, for the type field of the header (`nlmsg_type`).
     fn message_type(&self) -> u16
+        // type_written: the type field for each message, a member of `Coded`.
         ensures { result ≡ Self.type_written (Self.model self.now) };
 
     /// Returns the number of bytes that `serialize` writes. The message must be writable.
@@ -89,6 +90,7 @@ pub trait NetlinkSerializable: Coded<Param = u16> {
     fn serialize(&self, buffer: &mut [u8])
         requires writable { Self.codec.fits (Self.model self.now) }
         requires room { length (Self.codec.written (Self.model self.now)) ≤ length buffer.old }
+        // HoldsAtStart bytes old new: `new` is `bytes`, and then `old` from this offset on.
         ensures { HoldsAtStart (Self.codec.written (Self.model self.now)) buffer.old buffer.new };
 }
 
@@ -107,7 +109,8 @@ pub trait NetlinkDeserializable: Coded<Param = u16> {
             (λ m. Self.codec.reads payload.now header.now.message_type (Self.model m)) }
         ensures fault { IfErr result (λ e. e ≢ Memory
             → Self.codec.refuses payload.now header.now.message_type e) }
-        // `Memory` only if the payload has a message, and one that needs to allocate.
+        // `Memory` only if the payload has a message, and this message needs to allocate
+        // (`is_spare` does not hold of it).
         ensures wanted { IfErr result (λ e. e ≡ Memory → (m : Self.codec.Value)
             × Self.codec.reads payload.now header.now.message_type m
             × ¬ Self.codec.is_spare m) };
@@ -146,6 +149,7 @@ impl<I: Copy, B: Copy> Clone for NetlinkPayload<I, B> {
 /// (errno(3)). Returns `None` if the payload has fewer than 4 bytes. The bytes after these are
 /// ignored.
 pub fn error_number(payload: &[u8]) -> Option<i32>
+    // leading_error_number bytes: the signed number in the first 4 bytes, or `None`.
     ensures { result ≡ leading_error_number payload.now }
 {
     if payload.len() < 4 {
@@ -159,8 +163,9 @@ impl<I: Coded> NetlinkPayload<I> {
     /// little-endian, 0 or `-errno` (errno(3)). Returns `None` if this payload has fewer than 4
     /// bytes, and for any other payload.
     pub fn error_number(&self) -> Option<i32>
-        // payload_model bytes model payload: the model of the payload, with raw bytes as a list
-        // (here those of a `Vec`), and an inner message as its model.
+        // error_number_of payload: the number of an error or an end, and `None` for any other
+        // payload. payload_model bytes model payload: the model of the payload, with raw bytes as
+        // a list (here those of a `Vec`), and an inner message as its model.
         ensures { result ≡ error_number_of (payload_model vec_items I.model self.now) }
     {
         match self {
@@ -306,6 +311,9 @@ impl<I: Coded<Param = u16>> NetlinkMessage<I> {
     /// Proof only: puts the range of each number in scope, so that the laws of messages apply. No
     /// run-time effect.
     pub fn in_range(&self)
+        // netlink_codec codec: the codec of netlink messages, given that of their inner messages.
+        // netlink_message_model model message: the header and the payload, with the raw bytes as a
+        // list, or with the model of the inner message.
         ensures { (netlink_codec I.codec).is_in_range (netlink_message_model I.model self.now) }
     {
         self.header.in_range();
@@ -324,8 +332,8 @@ impl<I: NetlinkDeserializable> NetlinkMessage<I> {
     /// `NLMSG_OVERRUN`) have no inner message. Fails with `Memory` only if the bytes have a
     /// message, and its type is not `NLMSG_NOOP`, whose payload is dropped.
     pub fn deserialize(alloc: Global, bytes: &[u8]) -> Result<Self, DecodeError>
-        // The bytes start with this header, and the payload up to the header's length parses by its
-        // type.
+        // The bytes start with this header, and the payload up to the header's length parses by the
+        // header's type.
         ensures value { IfOk result
             (λ m. (netlink_codec I.codec).reads bytes.now tt (netlink_message_model I.model m)) }
         ensures fault { IfErr result (λ e. e ≢ Memory

@@ -70,6 +70,9 @@ pub fn nla_len<T: Nla>(nla: &T) -> usize
 /// it are unchanged. Its value must have at most 65,531 bytes, and the buffer at least as many as
 /// the attribute with its padding.
 pub fn emit_nla<T: Nla>(nla: &T, buffer: &mut [u8])
+    // FitsLengthField: the value has at most 65,531 bytes. attribute_bytes: the header, the value
+    // and the padding of the attribute. HoldsAtStart bytes old new: `new` is `bytes`, and then
+    // `old` from this offset on.
     requires fits { FitsLengthField (T.attribute nla.now) }
     requires room { length (attribute_bytes (T.attribute nla.now)) ≤ length buffer.old }
     ensures { HoldsAtStart (attribute_bytes (T.attribute nla.now)) buffer.old buffer.new }
@@ -108,8 +111,9 @@ fn zero_padding(padding: &mut [u8])
 /// Returns the number of the attributes' bytes, with headers and paddings, or `None` if a value
 /// does not fit its length field or the attributes have more than `limit` bytes.
 pub fn nlas_len_within<T: Nla>(nlas: &[T], limit: usize) -> Option<usize>
-    // AreWritableWithin attributes limit: each value has at most 65,531 bytes, and all attributes
-    // with headers and paddings have at most `limit` bytes.
+    // SomeIff o p v: `o` is `Some v` if `p` holds, else `None`. AreWritableWithin attributes limit:
+    // each value has at most 65,531 bytes, and all attributes with headers and paddings have at
+    // most `limit` bytes. flat_map attribute_bytes: the bytes of all attributes, concatenated.
     ensures { SomeIff result (AreWritableWithin (map T.attribute nlas.now) limit)
         (length (flat_map attribute_bytes (map T.attribute nlas.now))) }
 {
@@ -135,8 +139,8 @@ pub fn nlas_writable<T: Nla>(nlas: &[T]) -> bool
     nlas_len_within(nlas, u32::MAX as usize).is_some()
 }
 
-/// Returns the number of the attributes' bytes, with headers and paddings. They must be writable:
-/// [`nlas_writable`] returns `true`.
+/// Returns the number of the attributes' bytes, with headers and paddings. The attributes must be
+/// writable: [`nlas_writable`] returns `true`.
 pub fn nlas_len<T: Nla>(nlas: &[T]) -> usize
     requires { AreWritableWithin (map T.attribute nlas.now) 4294967295 }
     ensures { result ≡ length (flat_map attribute_bytes (map T.attribute nlas.now)) }
@@ -179,6 +183,7 @@ impl DefaultNla {
 
     /// Returns the attribute with this type field and this value.
     pub fn new(kind: u16, value: Vec<u8>) -> DefaultNla
+        // raw_attribute: the type field and the bytes of the value.
         ensures { raw_attribute result ≡ record { type_word = kind; value = value.items } }
     {
         DefaultNla { kind, value }
@@ -313,7 +318,8 @@ impl Wire for DefaultNla {
         Ok(DefaultNla::keep(alloc, &NlaBuffer::new_checked(bytes)?)?)
     }
 
-    // The value of a parsed attribute always fits, so an error of the copy may be returned too.
+    // The value of a parsed attribute is always writable. So `Memory` may be returned if the copy
+    // cannot be allocated, before the length of the value is checked.
     fn rewrite(alloc: Global, bytes: &[u8], _param: ()) -> Result<Vec<u8>, CanonError> {
         write_new(
             alloc,

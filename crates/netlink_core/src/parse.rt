@@ -49,7 +49,8 @@ fn wrong_length(payload: &[u8], need: usize) -> DecodeError
 ///
 /// Fails with `NotUtf8` if this is not valid UTF-8, and with `Memory` only if the bytes are a text.
 pub fn parse_string(alloc: Global, payload: &[u8]) -> Result<String, DecodeError>
-    // parse_text: `Ok` of the text's bytes, or `Err NotUtf8`.
+    // parse_text: `Ok` of the text's bytes, or `Err NotUtf8`. string_bytes: the bytes of a
+    // `String`.
     ensures value { IfOk result (λ text. parse_text payload.now ≡ Ok (string_bytes text)) }
     ensures fault { IfErr result (λ e. e ≢ Memory → parse_text payload.now ≡ Err e) }
     ensures memory { IfErr result (λ e. e ≡ Memory → IsOk (parse_text payload.now)) }
@@ -85,6 +86,7 @@ fn text_bytes(payload: &[u8]) -> &[u8]
 /// Writes the number, little-endian, to the first four bytes. There must be four. The bytes after
 /// them are unchanged.
 pub fn emit_u32(buffer: &mut [u8], value: u32)
+    // little_bytes n x: the number `x` in `n` bytes, little-endian.
     requires { 4 ≤ length buffer.old }
     ensures { buffer.new ≡ little_bytes 4 value ++ drop 4 buffer.old }
 {

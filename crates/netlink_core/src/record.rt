@@ -21,6 +21,8 @@ pub trait Record: Exact + Sized {
     /// The parameter of the parser.
     type Param: ReadParam;
 
+    // The type of the tag, which selects the rows of the layout. By default there is one tag, and
+    // so the rows are the same for all values.
     ghost Tag: { Type 0 } = { Unit {0} };
 
     // The layout of the record in bytes.
@@ -32,6 +34,7 @@ pub trait Record: Exact + Sized {
 
     /// Returns the number of bytes that the value serializes to.
     fn size(&self) -> usize
+        // record_bytes layout value: the bytes that the value serializes to.
         ensures { result ≡ length (record_bytes layout self.now) };
 
     /// Parses a value, or returns the error that the layout has for these bytes, for example an
@@ -50,6 +53,7 @@ pub trait Record: Exact + Sized {
 
     /// Proof only: puts the range of each field in scope. No run-time effect.
     fn fields_in_range(&self)
+        // IsInRange layout value: arrays have their lengths, and each number fits its field.
         ensures { IsInRange layout self.now };
 
     // Bytes parse as a value if and only if they contain it, and the codec laws hold.
@@ -62,6 +66,7 @@ pub trait Record: Exact + Sized {
 /// `Memory`.
 #[inline(always)]
 pub fn read_record<T: Record>(bytes: &[u8], param: T::Param) -> Result<T, DecodeError>
+    // parse_record layout param bytes: `Ok` of the value, or `Err` of the first error.
     ensures value { result ≡ parse_record T.layout param bytes.now }
     ensures named { IfErr result (λ fault. fault ≢ Memory) }
 {
@@ -186,6 +191,7 @@ impl<T, const N: usize> Model for RecordBuffer<T, N> {
 impl<T, const N: usize> RecordBuffer<T, N> {
     /// Returns the first `N` bytes, or `None` if there are fewer.
     pub fn read_prefix(payload: &[u8]) -> Option<Self>
+        // SomeIff o p v: `o` is `Some v` if `p` holds, else `None`.
         ensures { SomeIff result (N ≤ length payload.now) (take N payload.now) }
     {
         let bytes = *payload.first_chunk()?;

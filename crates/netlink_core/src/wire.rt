@@ -4,7 +4,7 @@ ghost use Rattle.std.specs.Prelude.{◌≡◌, ◌≢◌, ◌<◌, ◌^◌, ◌�
 ghost use Rattle.std.proofs.Common.{sym, ap, ◌∙◌, subst};
 ghost use Rattle.netlink_core.specs.Bytes.{IsBytes};
 ghost use Rattle.netlink_core.specs.Canonical.{CanonicalFails, HasCanonicalForm};
-ghost use Rattle.netlink_core.specs.Canonical.{HasNoCanonicalForm};
+ghost use Rattle.netlink_core.specs.Canonical.{CanonicalFormFails};
 ghost use Rattle.netlink_core.specs.Codec.{Codec, KeepsCodecLaws};
 ghost use Rattle.netlink_core.specs.declared.fault.DecodeError.TheVariants.{Memory};
 
@@ -141,9 +141,12 @@ pub trait Wire: Coded + Readable + Emitable {
         // The bytes are below 256. This is so for all Rust values; it is stated for the proofs of
         // callers.
         ensures in_range { IsBytes bytes.now }
+        // HasCanonicalForm codec param bytes form: the bytes parse as a writable value, which
+        // serializes to `form`. CanonicalFormFails codec param bytes error: no canonical form of
+        // the bytes is returned, for this reason.
         ensures written { IfOk result (λ form.
             HasCanonicalForm Self.codec param bytes.now form.items) }
-        ensures err { IfErr result (HasNoCanonicalForm Self.codec param bytes.now) };
+        ensures err { IfErr result (CanonicalFormFails Self.codec param bytes.now) };
 
     // `Emitable` serializes to the bytes that the codec states.
     ghost written_is: { (v : Self) → Self.bytes v ≡ Self.codec.written (Self.model v) };

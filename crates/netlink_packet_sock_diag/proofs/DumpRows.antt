@@ -493,9 +493,15 @@ module _ {A : Type 0} (item_is : List ℕ → Item A → Type 0) (some : SomeIte
       → FeedingAllLeadsTo item_is new_dump (datagram ∷ []) progress
   feeding_one datagram progress (Ok status) reads is some =
       (progress, (Ok tt, (refl, rw (← is) at reads), λ e. grind arith), refl)
-  feeding_one datagram progress (Err e) reads is some =
-      (progress, (Err (Fault e), (refl, is, λ no. reads, λ m. grind (arith, some)),
-      λ same. grind (arith, some)), refl)
+  feeding_one datagram progress (Err e) reads is some = (
+    progress,
+    (
+      Err (Fault e),
+      (refl, is, λ no. reads, λ m. grind (arith, some)),
+      λ same. grind (arith, some),
+    ),
+    refl,
+  )
 
   -- feeding the concatenated bytes as one datagram leads to the same progress
   pub feeding_whole : (datagrams : List (List ℕ)) → IsCompleteSplit datagrams

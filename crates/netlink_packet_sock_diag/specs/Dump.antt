@@ -17,6 +17,10 @@ use Rattle.netlink_packet_sock_diag.specs.declared.dump.DumpState.TheVariants.{O
 abbrev pub DumpStatus : Type 0
 DumpStatus = DumpState × Option ℤ
 
+-- the concatenation of lists
+abbrev pub concatenation : {A : Type 0} → List (List A) → List A
+concatenation lists = flat_map (λ one. one) lists
+
 -- `A` is the type of inner messages. An `Item A` is `Ok` and the payload of a message, or `Err` and
 -- its decode error. `payload.Done`, `payload.Error` and `payload.Overrun` are payloads; `Done`,
 -- `Error`, `Overrun` and `Reading` are states of a dump.
@@ -48,10 +52,6 @@ module _ {A : Type 0} where
       × MatchOption (slice_get later 0) (end ≡ Ok (Reading, None))
       (λ item. dump_end_at item ≡ Some end)
 
-  -- the concatenation of lists
-  abbrev pub concatenation : List (List A) → List A
-  concatenation lists = flat_map (λ one. one) lists
-
   -- `DumpOfDatagrams is before datagrams after end`: each datagram has its list of items
   -- (`AreItemsOf is`, where `is` relates a message to its item), and the concatenation of these
   -- lists takes a dump from the messages `before` to the messages `after`, with the end `end`
@@ -62,8 +62,9 @@ module _ {A : Type 0} where
       × DumpOfItems before (concatenation items) after end
 
   -- `HaveSameItems is datagrams others`: the items of the datagrams of the one list, concatenated,
-  -- are those of the other list. The bytes may differ where no item depends on them: in sequence
-  -- numbers, in flags, and in the padding after the last message of a datagram.
+  -- are those of the other list. The number of datagrams may differ, and so may bytes that no item
+  -- depends on: sequence numbers, port ids and flags of headers, the padding of messages, the
+  -- payload of NLMSG_NOOP, and ignored bits of inner messages.
   abbrev pub HaveSameItems : (List ℕ → Item A → Type 0) → List (List ℕ) → List (List ℕ) → Type 0
   HaveSameItems is datagrams others = (xs ys : List (List (Item A)))
       × AllZip (AreItemsOf is) datagrams xs × AllZip (AreItemsOf is) others ys
@@ -82,7 +83,8 @@ AreCompleteExceptLast (datagram ∷ later) = ((later ≡ []) ⊎ ((messages : Li
 abbrev pub IsCompleteSplit : List (List ℕ) → Type 0
 IsCompleteSplit datagrams = AllByRecursion IsBytes datagrams × AreCompleteExceptLast datagrams
 
--- two ways to split the same bytes into datagrams, each at ends of messages
+-- two ways to split the same bytes into datagrams; in each, every datagram except the last consists
+-- of complete messages with all their padding
 abbrev pub AreSplitsOfSameBytes : List (List ℕ) → List (List ℕ) → Type 0
 AreSplitsOfSameBytes datagrams others = IsCompleteSplit datagrams × IsCompleteSplit others
     × (concat datagrams ≡ concat others)

@@ -1,4 +1,5 @@
--- The model of the readers of dumps: what contracts see of them.
+-- The model of the readers of dumps: what contracts see of them. `I` is the type of what a reader
+-- keeps of each message, and `G` are the ghost members of its `Kept`.
 use Rattle.std.specs.Prelude.{◌≤◌, List, Result, map, vec_capacity, vec_len}
 use Rattle.netlink_core.specs.Faults.{map_ok}
 use Rattle.netlink_core.specs.declared.fault.DecodeError.{DecodeError}
@@ -21,7 +22,7 @@ fed_dump_progress model dump = dump_with (map model dump.kept.items) dump.standi
 abbrev pub IsFull : {I : Type 0} {G : Ghosts I} → FedDump I G → Type 0
 IsFull dump = vec_capacity dump.kept ≤ vec_len dump.kept
 
--- the progress of a `DumpReader`
+-- the progress of a `DumpReader`; its messages are the models of the messages that it keeps
 abbrev pub reader_progress : DumpReader → DumpProgress Message
 reader_progress reader = fed_dump_progress message_model reader.dump
 
@@ -29,10 +30,11 @@ reader_progress reader = fed_dump_progress message_model reader.dump
 abbrev pub lossy_entries : LossyDump → List (Result SockDiagMessage DecodeError)
 lossy_entries lossy = lossy.dump.kept.items
 
--- the progress of a `LossyDump`
+-- the progress of a `LossyDump`; its messages are its entries, with the models of the messages in
+-- them
 abbrev pub lossy_progress : LossyDump → DumpProgress (Result Message DecodeError)
 lossy_progress lossy = fed_dump_progress (map_ok message_model) lossy.dump
 
--- the list of entries of a `LossyDump` has no free slot
+-- the list of entries of a `LossyDump` has no free slot, so that another entry needs memory
 abbrev pub EntriesAreFull : LossyDump → Type 0
 EntriesAreFull lossy = IsFull lossy.dump

@@ -24,8 +24,8 @@ pub record DumpProgress (A : Type 0) : Type 0 where
   pub error_number : Option ℤ
   pub is_interrupted : Bool
 
--- `dump_with messages end is_interrupted`: the progress with these messages, this state and error
--- number, and this flag
+-- `dump_with messages end is_interrupted`: the progress with these messages, with the state and the
+-- error number of `end`, and with this value for whether the dump is interrupted
 abbrev pub dump_with : {A : Type 0} → List A → DumpStatus → Bool → DumpProgress A
 dump_with messages end is_interrupted = record {
   messages = messages;
@@ -34,7 +34,8 @@ dump_with messages end is_interrupted = record {
   is_interrupted = is_interrupted;
 }
 
--- the progress of a reader that nothing was fed to
+-- the progress of a reader that nothing was fed to: no messages, the state `Reading`, no error
+-- number, not interrupted
 abbrev pub new_dump : {A : Type 0} → DumpProgress A
 new_dump = dump_with [] (Reading, None) false
 
@@ -42,7 +43,8 @@ new_dump = dump_with [] (Reading, None) false
 abbrev pub status_of_dump : {A : Type 0} → DumpProgress A → DumpStatus
 status_of_dump dump = (dump.state, dump.error_number)
 
--- neither a message nor an error has ended the dump
+-- neither a message nor an error has ended the dump: its state is `Reading`, and it has no error
+-- number
 abbrev pub IsReading : {A : Type 0} → DumpProgress A → Type 0
 IsReading dump = status_of_dump dump ≡ (Reading, None)
 

@@ -23,8 +23,8 @@ codec_of_message_kind unix_response = response_codec unix_response_spec
 pub data Message : Type 0 where
   message_of : (kind : MessageKind) → (codec_of_message_kind kind).Value → Message
 
--- `apply_by_kind tells m`: the function `tells`, applied to the kind and the request or reply of
--- `m`
+-- `apply_by_kind tells m`: the function `tells`, applied to the kind of the message `m` and to its
+-- request or reply
 abbrev pub apply_by_kind {ℓ} : {T : Type ℓ}
     → ((k : MessageKind) → (codec_of_message_kind k).Value → T) → Message → T
 apply_by_kind tells (message_of kind v) = tells kind v

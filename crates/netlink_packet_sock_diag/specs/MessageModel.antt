@@ -8,7 +8,9 @@ use Rattle.netlink_packet_sock_diag.specs.Message.{Message, message_of}
 use Rattle.sock_diag_records.specs.ResponseKind.{inet_request, inet_response, unix_request}
 use Rattle.sock_diag_records.specs.ResponseKind.{unix_response}
 
--- the kind of the message, and the model of its request or reply
+-- The kind of the message, and the model of its request or reply. A request and a header are their
+-- own models. `response_model of_header of reply` is a reply with the models of its header and of
+-- its attributes, and `reply.value` is the reply in the box.
 abbrev pub message_model : SockDiagMessage → Message
 message_model (message.InetRequest request) = message_of inet_request request
 message_model (message.InetResponse reply) =

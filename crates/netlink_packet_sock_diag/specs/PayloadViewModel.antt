@@ -14,10 +14,12 @@ use Rattle.netlink_packet_sock_diag.specs.MessageViewModel.{message_view_model}
 abbrev pub PayloadView : Type 0
 PayloadView = NetlinkPayload SockDiagView (Bor (List ℕ))
 
--- the payload, with the model of its inner message or with its bytes
+-- the payload, with the model of its inner message or with its bytes; the arguments of
+-- `payload_model` map borrowed bytes to a list, and a borrowed inner message to its model
 abbrev pub payload_view_model : PayloadView → Payload Message
 payload_view_model p = payload_model (λ (b : Bor (List ℕ)). b.now) message_view_model p
 
--- the header and the payload
+-- netlink_message_view_model v: the header of the borrowed message `v`, and the model of its
+-- payload
 abbrev pub netlink_message_view_model : MessageView → NetlinkMessageModel Message
 netlink_message_view_model v = record { header = v.header; payload = payload_view_model v.payload }

@@ -55,6 +55,8 @@ use std::alloc::{AllocError, Global};
 /// The length of a serialized reply, `buffer_len`, is a multiple of 4, for both families, if each
 /// number of the reply fits its field.
 pub fn reply_lengths_are_multiples_of_four()
+    // `response_codec spec`: the codec of the replies of this format. `response_bytes spec v`: the
+    // bytes that the reply `v` serializes to.
     ensures unix { (v : ReplyValue unix_response_spec)
         → (response_codec unix_response_spec).is_in_range v
         → length (response_bytes unix_response_spec v) % 4 ≡ 0 }
@@ -66,6 +68,8 @@ pub fn reply_lengths_are_multiples_of_four()
 /// Given a test for each of the four kinds, which is true if and only if a message has this kind,
 /// exactly one of the four tests is true.
 pub fn one_kind()
+    // `kind_of m`: the kind of the message. `count_by tests kinds`: the number of kinds of the list
+    // whose test is true.
     ensures { (m : Message) (tests : MessageKind → Bool)
         → ((kind : MessageKind) → IsTrue (tests kind) ↔ (kind_of m ≡ kind))
         → count_by tests (inet_request ∷ inet_response ∷ unix_request ∷ unix_response ∷ []) ≡ 1 }
@@ -73,6 +77,8 @@ pub fn one_kind()
 
 /// Every parsed message is a reply.
 pub fn read_messages_are_replies()
+    // `message_codec.reads b t m`: the bytes `b` parse under the message type `t` as the message
+    // `m`.
     ensures { (b : List ℕ) (t : ℕ) (m : Message) → message_codec.reads b t m
         → (kind_of m ≡ inet_response)
         ⊎ (kind_of m ≡ unix_response) }
@@ -106,8 +112,12 @@ pub fn readers_take_memory() -> (bool, bool, bool)
 /// `UnknownMessageType(21)`: the request is serialized under the type 21, and messages are parsed
 /// only under the type 20.
 pub fn finalized_destroy_is_refused()
-    // `h`: the header before `finalize`, each number of which fits its field. `finalized_header`:
-    // `h` with the length of the message and the type 21, which is `destroys.type_written m`.
+    // `h`: the header before `finalize`, each number of which fits its field
+    // (`FitFields header_fields (header_values h)`). `netlink_message_codec`: the codec of a
+    // netlink header and the payload after it. `finalized_header bytes type_of message`: the header
+    // of the message, with the length of the message and the type of its payload; `bytes` and
+    // `type_of` are those of an inner message. Here the type is `destroys.type_written m`, which is
+    // 21. `written` and `refuses`: the bytes that the message serializes to are rejected.
     ensures { (h : NetlinkHeader) (m : Message) → FitFields header_fields (header_values h)
         → netlink_message_codec.fits (record { header = h; payload = InnerMessage m })
         → netlink_message_codec.refuses
@@ -121,10 +131,14 @@ pub fn finalized_destroy_is_refused()
 
 /// The parser of requests to close sockets rejects what `serialize` writes for a
 /// `NetlinkMessage<SockDiagDestroy>` after `finalize`, with any bytes after it. The error is
-/// `UnknownMessageType(21)`. The message has an inner message and is writable.
+/// `UnknownMessageType(21)`. The message has an inner message and is writable, and each number of
+/// its header fits its field. This is about a Rust value, `message`;
+/// [`finalized_destroy_is_refused`] is about models.
 pub fn finalized_destroy_in_hand_is_refused()
     // `destroys.model`: the message that the request contains. `destroys.type_written` is 21.
-    // `finalized_header`: the header with the length of the message and this type.
+    // `netlink_message_model destroys.model message`: the header of `message`, and the model of its
+    // payload. `finalized_header`: the header with the length of the message and the type 21.
+    // `rest`: the bytes after the message.
     ensures { (message : NetlinkMessage SockDiagDestroy) (destroy : SockDiagDestroy) (rest : List ℕ)
         → message.payload ≡ InnerMessage destroy
         → FitFields header_fields (header_values message.header)
@@ -140,6 +154,8 @@ pub fn finalized_destroy_in_hand_is_refused()
 /// Each input has one netlink message of sock_diag(7) at its start, or one decode error. It does
 /// not have both, and the error is not `Memory`.
 pub fn one_message_or_fault()
+    // `IsBytes b`: each number of the list `b` is below 256. `reads b tt v`: the bytes `b` start
+    // with the message `v`. `refuses b tt e`: they are rejected with the error `e`.
     ensures answered { (b : List ℕ) → IsBytes b
         → ((v : NetlinkMessageModel Message) × netlink_message_codec.reads b tt v)
         ⊎ ((e : DecodeError) × netlink_message_codec.refuses b tt e) }
@@ -170,6 +186,8 @@ pub fn equal_messages_where_idle()
 /// An input has a canonical form if it is accepted and its value is writable. The canonical form of
 /// a netlink message has its header unchanged.
 pub fn messages_written_alike()
+    // `HasCanonicalForm codec tt b form`: the input `b` is accepted, its value is writable, and
+    // `form` are the bytes that this value serializes to.
     ensures { (b c form other : List ℕ) → IsBytes b → IsBytes c
         → HasCanonicalForm netlink_message_codec tt b form
         → HasCanonicalForm netlink_message_codec tt c other
@@ -182,6 +200,10 @@ pub fn messages_written_alike()
 /// and type that `finalize` sets, round-trips if and only if it has no inner message, or an inner
 /// message in normal form under the type 20.
 pub fn finalized_message_reads_back()
+    // `finalized_header bytes type_of v`: the header of `v`, with the length of the message and the
+    // type of its payload; `bytes` and `type_of` are those of an inner message. Here the type of an
+    // inner message is `messages.type_written`, which is 20. `HoldsOfInnerMessage is payload`: the
+    // inner message is in normal form, if there is one.
     ensures { (v : NetlinkMessageModel Message) → netlink_message_codec.is_in_range v
         → netlink_message_codec.fits v
         → (v.header ≡ finalized_header message_codec.written messages.type_written v)
@@ -194,6 +216,8 @@ pub fn finalized_message_reads_back()
 /// Each list of items has exactly one dump, given the messages before: the messages after it and
 /// its end.
 pub fn items_have_one_dump()
+    // `DumpOfItems before items after end`: a dump with the messages `before` that reads these
+    // items has the messages `after` and the end `end`.
     ensures some { (before : List Message) (items : List (Result (Payload Message) DecodeError))
         → (after : List Message) × (end : Result DumpStatus DecodeError)
         × DumpOfItems before items after end }
@@ -219,6 +243,9 @@ pub fn dump_over_concatenation()
 /// Two lists of datagrams with the same items have the same dump, from any messages before
 /// (`HaveSameItems`: the items of all datagrams of a list, concatenated in order).
 pub fn same_items_have_one_dump()
+    // `DumpOfDatagrams is before datagrams after end`: a dump with the messages `before` that reads
+    // these datagrams has the messages `after` and the end `end`. `is message item`: the item of a
+    // message; `IsItemOf message_codec` is the item of a `DumpReader`.
     ensures { (datagrams others : List (List ℕ)) → AllByRecursion IsBytes datagrams
         → HaveSameItems (IsItemOf message_codec) datagrams others
         → (before after : List Message) (end : Result DumpStatus DecodeError)
@@ -233,6 +260,7 @@ pub fn same_items_have_one_dump()
 /// complete messages with all their padding. From any messages before, if the one has a dump with
 /// the messages `after` and the end `end`, the other has it too.
 pub fn split_changes_no_dump()
+    // `AreSplitsOfSameBytes datagrams others`: both are such splits of the same bytes.
     ensures { (datagrams others : List (List ℕ)) → AreSplitsOfSameBytes datagrams others
         → (before after : List Message) (end : Result DumpStatus DecodeError)
         → DumpOfDatagrams (IsItemOf message_codec) before datagrams after end
@@ -250,6 +278,10 @@ pub fn split_changes_no_dump()
 /// - `same`: both readers have the same progress: messages, state, error number, interruption.
 /// - `whole`: feeding all bytes as one datagram leads to this progress, too.
 pub fn split_changes_no_feed()
+    // `FeedingAllLeadsTo is old datagrams new`: feeding these datagrams in order to a reader with
+    // the progress `old` leads to the progress `new`, and no allocation fails. `new_dump`: the
+    // progress of a new reader. `IsCompleteSplit datagrams`: every datagram except the last
+    // consists of complete messages with all their padding. `concat datagrams`: all bytes.
     ensures same { (datagrams others : List (List ℕ)) → AreSplitsOfSameBytes datagrams others
         → (progress other : DumpProgress Message)
         → FeedingAllLeadsTo (IsItemOf message_codec) new_dump datagrams progress
@@ -283,6 +315,9 @@ pub fn same_items_change_no_feed()
 /// - `same`: both readers have the same progress: entries, state, error number, interruption.
 /// - `whole`: feeding all bytes as one datagram leads to this progress, too.
 pub fn split_changes_no_lossy_feed()
+    // As for `split_changes_no_feed`, with the items of a `LossyDump`:
+    // `HasLossyEntry message_codec` relates a message to its item, in which an inner message is an
+    // entry.
     ensures same { (datagrams others : List (List ℕ)) → AreSplitsOfSameBytes datagrams others
         → (progress other : DumpProgress (Result Message DecodeError))
         → FeedingAllLeadsTo (HasLossyEntry message_codec) new_dump datagrams progress
@@ -314,14 +349,17 @@ pub fn same_items_change_no_lossy_feed()
 /// [`DumpReader`](crate::DumpReader) and ends in the same way. If a `LossyDump` ends with an error,
 /// it is the error of bytes that are not a message.
 pub fn lossy_dump_keeps_messages()
-    // `map (λ m. Ok m)`: messages as entries of a `LossyDump`. `Ok end`: the dump has no error;
-    // `end` is its state and error number.
+    // `DumpOfDatagrams is before datagrams after end`: as for `same_items_have_one_dump`; with
+    // `IsItemOf message_codec` it is the dump of a `DumpReader`, and with
+    // `HasLossyEntry message_codec` the dump of a `LossyDump`. `map (λ m. Ok m)`: messages as
+    // entries of a `LossyDump`. `Ok end`: no decode error ends the dump; `end` is its state, which
+    // is `Reading` if no message ends it, and its error number.
     ensures kept { (datagram : List ℕ) (before after : List Message) (end : DumpStatus)
         → DumpOfDatagrams (IsItemOf message_codec) before (datagram ∷ []) after (Ok end)
         → DumpOfDatagrams (HasLossyEntry message_codec) (map (λ (m : Message). Ok m) before)
         (datagram ∷ [])
         (map (λ (m : Message). Ok m) after) (Ok end) }
-    // `rest`: the bytes at which no message starts.
+    // `IsMessageError rest fault`: the bytes `rest` do not start with a message, with this error.
     ensures fault { (datagram : List ℕ) (before after : List (Result Message DecodeError))
         (fault : DecodeError)
         → DumpOfDatagrams (HasLossyEntry message_codec) before (datagram ∷ []) after (Err fault)
@@ -332,6 +370,10 @@ pub fn lossy_dump_keeps_messages()
 /// were left to it, in order: the payload or the error of each message, and last the error of bytes
 /// that are not a message, if there are such bytes.
 pub fn whole_views_are_the_datagram()
+    // `Drains step walk given`: calling `next` on the iterator `walk` until it returns `None`
+    // yields the list `given`. `unread_views walk`: the bytes that were left to it.
+    // `AreItemsOf is bytes items`: these are the items of the bytes. `map_ok payload_view_model`:
+    // the model of a yielded payload, or its error.
     ensures { (walk : DumpViews) (given : List (Result PayloadView DecodeError))
         → Drains YieldsPayloadView walk given
         → AreItemsOf (IsItemOf message_codec) (unread_views walk)
@@ -364,6 +406,7 @@ pub fn copied_views<'a>(walk: &Views<'a>) -> Result<Views<'a>, AllocError>
 
 /// `==` of two borrowed replies about UNIX sockets is true if and only if their models are equal.
 pub fn equal_unix_views(v: &UnixResponseView<'_>, w: &UnixResponseView<'_>) -> bool
+    // `view_model`: the header, and what each attribute decodes to, in order.
     ensures { IsTrue result ↔ (view_model v.now ≡ view_model w.now) }
 {
     v == w
@@ -380,6 +423,7 @@ pub fn equal_inet_views(v: &InetResponseView<'_>, w: &InetResponseView<'_>) -> b
 /// `==` of two borrowed payloads is true if and only if their models are equal.
 #[tactic(auto, using(crate::specs::laws::EqualMessage::view_equal))]
 pub fn equal_payload_views(v: &View<'_>, w: &View<'_>) -> bool
+    // `payload_view_model`: the payload, with the model of its inner message or with its bytes.
     ensures { IsTrue result ↔ (payload_view_model v.now ≡ payload_view_model w.now) }
 {
     v == w
@@ -388,6 +432,7 @@ pub fn equal_payload_views(v: &View<'_>, w: &View<'_>) -> bool
 /// `==` of two borrowed messages is true if and only if their models are equal.
 #[tactic(auto, using(crate::specs::laws::EqualMessage::view_equal))]
 pub fn equal_message_views(v: &SockDiagView<'_>, w: &SockDiagView<'_>) -> bool
+    // `message_view_model`: the kind of the message, and the model of its reply.
     ensures { IsTrue result ↔ (message_view_model v.now ≡ message_view_model w.now) }
 {
     v == w
@@ -432,6 +477,8 @@ pub fn owned_unix_view(
     view: &UnixResponseView<'_>,
     alloc: Global,
 ) -> Result<UnixResponse, AllocError>
+    // `⟦<UnixResponse as Emitable>⟧.bytes reply`: the bytes that the owned reply serializes to.
+    // `.writable reply`: it is writable. The right sides are those of the borrowed reply.
     ensures bytes { IfOk result (λ reply.
         ⟦<UnixResponse as Emitable>⟧.bytes reply
         ≡ response_bytes unix_response_spec (view_model view.now)) }
@@ -464,6 +511,8 @@ pub fn owned_message_view(
     view: &SockDiagView<'_>,
     alloc: Global,
 ) -> Result<SockDiagMessage, AllocError>
+    // `owned_messages` and `message_views`: the members of `Emitable` for the owned and for the
+    // borrowed message. `bytes`: the bytes that it serializes to. `writable`: it is writable.
     ensures bytes { IfOk result (λ message.
         owned_messages.bytes message ≡ message_views.bytes view.now) }
     ensures writable { IfOk result (λ message.

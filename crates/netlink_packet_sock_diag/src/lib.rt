@@ -73,8 +73,9 @@ pub use sock_diag_records::constants::{
     UNIX_DIAG_RQLEN, UNIX_DIAG_SHUTDOWN, UNIX_DIAG_VFS,
 };
 
-/// The constants that are re-exported at the root have these numeric values. Proof only: the
-/// contract states the property.
+/// The constants that are re-exported at the root have these numeric values. Each clause lists
+/// pairs of a constant and its value, and `PairsAreEqual` states that both numbers of each pair are
+/// equal. Proof only: the contract states the property.
 pub fn root_constants_have_their_numbers()
     ensures families { PairsAreEqual ((AF_ALG, 38) ∷ (AF_APPLETALK, 5) ∷ (AF_ASH, 18) ∷
         (AF_ATMPVC, 8) ∷ (AF_ATMSVC, 20) ∷ (AF_AX25, 3) ∷ (AF_BLUETOOTH, 31) ∷ (AF_BRIDGE, 7) ∷

@@ -35,6 +35,8 @@ impl SockDiagMessage {
 
     /// Returns whether the message is a request for IPv4 or IPv6 sockets.
     pub fn is_inet_request(&self) -> bool
+        // `message_model`: the kind of the message and the model of its content. `kind_of`: this
+        // kind, one of `inet_request`, `inet_response`, `unix_request` and `unix_response`.
         ensures { IsTrue result
             ↔ (kind_of (message_model self.now) ≡ inet_request) }
     {
@@ -76,6 +78,7 @@ impl SockDiagMessage {
     /// Returns an equal message. Fails only if an allocation fails. Cloning a request never fails.
     pub fn clone(&self, alloc: Global) -> Result<Self, AllocError>
         ensures equal { IfOk result (λ copy. message_model copy ≡ message_model self.now) }
+        // Never fails for a message of one of the two kinds of requests.
         ensures of_request { (kind_of (message_model self.now) ≡ inet_request)
             ⊎ (kind_of (message_model self.now) ≡ unix_request) → IsOk result }
     {
@@ -119,6 +122,8 @@ impl SockDiagMessage {
     // the first byte only.
     #[inline(always)]
     fn holds_unix_reply(payload: &[u8], message_type: u16) -> Result<bool, DecodeError>
+        // `response_kind payload t`: the kind of reply of a payload under the message type `t`, by
+        // its first byte, or the error if it has none.
         ensures kind { IfOk result (λ unix. response_kind payload.now message_type
             ≡ Ok (if unix then unix_response else inet_response)) }
         ensures fault { IfErr result (λ fault. response_kind payload.now message_type ≡ Err fault) }
@@ -161,6 +166,8 @@ impl<'a> SockDiagView<'a> {
     /// - `UnknownFamily`, if the first byte is not `AF_UNIX`, `AF_INET` or `AF_INET6`;
     /// - the error that the view of the family's replies returns.
     pub fn parse(payload: &'a [u8], message_type: u16) -> Result<SockDiagView<'a>, DecodeError>
+        // `message_codec.reads b t m`: the bytes `b` parse under the message type `t` as the
+        // message `m`. `message_codec.refuses b t e`: they are rejected with the error `e`.
         ensures value { IfOk result
             (λ view. message_codec.reads payload.entry.now message_type (message_view_model view)) }
         ensures fault { IfErr result (message_codec.refuses payload.entry.now message_type) }
@@ -291,6 +298,7 @@ impl SockDiagDestroy {
     /// `InetRequest` or a `UnixRequest`.
     pub fn clone(&self, alloc: Global) -> Result<Self, AllocError>
         ensures equal { IfOk result (λ copy. message_model copy.0 ≡ message_model self.now.0) }
+        // Never fails if it contains a message of one of the two kinds of requests.
         ensures of_request { (kind_of (message_model self.now.0) ≡ inet_request)
             ⊎ (kind_of (message_model self.now.0) ≡ unix_request) → IsOk result }
     {

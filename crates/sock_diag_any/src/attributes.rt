@@ -19,6 +19,9 @@ pub trait WholeAttributes {
     /// Returns the value of the first attribute of the kind, whatever its two flag bits, or `None`
     /// if the reply has no such attribute.
     fn value_of(&self, kind: u16) -> Option<&[u8]>
+        // `first_value_of_kind kind attributes`: the value of the first of these attributes that
+        // has this kind, or `None`. `option_map (λ value. value.now) result`: the bytes that the
+        // result borrows, as a list.
         ensures { option_map (λ value. value.now) result
             ≡ first_value_of_kind kind (attributes self.now) };
 
@@ -26,7 +29,9 @@ pub trait WholeAttributes {
     /// little-endian `u32`. Returns `None` if the reply has no such attribute. A length other than
     /// 4 is `WrongLength` without a kind.
     fn number_of(&self, kind: u16) -> Result<Option<u32>, DecodeError>
-        // `None`: the error does not contain the kind.
+        // `parse_if_present parse found`: what `parse` returns for the value, if one was found, or
+        // else `Ok None`. `number_of_width None 4`: a little-endian number of exactly 4 bytes. By
+        // `None` its error does not contain the kind.
         ensures { result ≡ parse_if_present (number_of_width None 4)
             (first_value_of_kind kind (attributes self.now)) }
     {
@@ -40,6 +45,8 @@ pub trait WholeAttributes {
     /// two flag bits. Returns `None` if the reply has no such attribute, and the error of the
     /// record's parser if it rejects the value, such as `BufferTooSmall`.
     fn record_of<T: Record<Param = ()>>(&self, kind: u16) -> Result<Option<T>, DecodeError>
+        // `parse_record layout tt`: the record of this layout at the start of the bytes, or its
+        // error. `tt` is the parameter: this record has none.
         ensures { result ≡ parse_if_present (parse_record T.layout tt)
             (first_value_of_kind kind (attributes self.now)) }
     {

@@ -20,6 +20,7 @@ pub fn equal_wholes<H: FamilyHeader>(v: &Whole<H>, w: &Whole<H>) -> bool
 /// are equal and they have equal attributes in the same order: the same type fields, with their
 /// flag bits, and the same bytes in the values. Padding is not compared.
 pub fn equal_whole_views<H: FamilyHeader>(v: &WholeView<'_, H>, w: &WholeView<'_, H>) -> bool
+    // `view_model`: the header, and the raw attributes in order.
     ensures { IsTrue result ↔ (view_model v.now ≡ view_model w.now) }
 {
     v == w
@@ -31,6 +32,7 @@ pub fn equal_whole_views<H: FamilyHeader>(v: &WholeView<'_, H>, w: &WholeView<'_
 /// their type fields and bytes for the other families.
 #[tactic(auto, using(crate::proofs::EqualAny::any_equal))]
 pub fn equal_any_views(v: &AnySockDiagView<'_>, w: &AnySockDiagView<'_>) -> bool
+    // `any_view_model`: the family, and the header and the attributes of the reply.
     ensures { IsTrue result ↔ (any_view_model v.now ≡ any_view_model w.now) }
 {
     v == w

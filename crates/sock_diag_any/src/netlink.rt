@@ -35,6 +35,11 @@ impl FamilyHeader for NetlinkResponseHeader {
 /// the reply has none: `u32` fields in the order of `SK_MEMINFO_..` (linux/sock_diag.h). A value of
 /// fewer than 28 bytes, seven fields, is `BufferTooSmall`.
 pub fn memory(reply: &NetlinkResponseView<'_>) -> Result<Option<MemInfo>, DecodeError>
+    // `first_value_of_kind kind attributes`: the value of the first attribute of this kind, or
+    // `None`. `parse_if_present parse found`: what `parse` returns for this value, or `Ok None` if
+    // there is none. `(view_model reply.now).nlas`: the attributes of the reply.
+    // `parse_record mem_info tt`: the record of the layout `mem_info` at the start of the value, or
+    // its error.
     ensures { result ≡ parse_if_present (parse_record mem_info tt)
         (first_value_of_kind NETLINK_DIAG_MEMINFO (view_model reply.now).nlas) }
 {
@@ -45,6 +50,7 @@ pub fn memory(reply: &NetlinkResponseView<'_>) -> Result<Option<MemInfo>, Decode
 /// none. They are the multicast groups that the socket is a member of, one bit for each group. The
 /// lowest bit of the first byte is group 1.
 pub fn groups<'a>(reply: &NetlinkResponseView<'a>) -> Option<&'a [u8]>
+    // `option_map (λ groups. groups.now) result`: the bytes that the result borrows, as a list.
     ensures { option_map (λ groups. groups.now) result
         ≡ first_value_of_kind NETLINK_DIAG_GROUPS (view_model reply.now).nlas }
 {
@@ -55,6 +61,8 @@ pub fn groups<'a>(reply: &NetlinkResponseView<'a>) -> Option<&'a [u8]>
 /// `NETLINK_DIAG_FLAGS`, or `None` if the reply has none. A length other than 4 is `WrongLength`,
 /// without a kind.
 pub fn flags(reply: &NetlinkResponseView<'_>) -> Result<Option<u32>, DecodeError>
+    // `number_of_width None 4`: a little-endian number of exactly 4 bytes, or `WrongLength`, which
+    // by `None` does not contain the kind.
     ensures { result ≡ parse_if_present (number_of_width None 4)
         (first_value_of_kind NETLINK_DIAG_FLAGS (view_model reply.now).nlas) }
 {

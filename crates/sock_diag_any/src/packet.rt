@@ -36,6 +36,9 @@ impl FamilyHeader for PacketResponseHeader {
 
 // Parses the first attribute of the kind as `struct packet_diag_ring`.
 fn ring(reply: &PacketResponseView<'_>, kind: u16) -> Result<Option<PacketRing>, DecodeError>
+    // `first_value_of_kind kind attributes`: the value of the first attribute of this kind, or
+    // `None`. `parse_if_present parse found`: what `parse` returns for this value, or `Ok None` if
+    // there is none. `(view_model reply.now).nlas`: the attributes of the reply.
     ensures { result ≡ parse_if_present (packet_ring kind)
         (first_value_of_kind kind (view_model reply.now).nlas) }
 {
@@ -48,6 +51,7 @@ fn ring(reply: &PacketResponseView<'_>, kind: u16) -> Result<Option<PacketRing>,
 /// Returns the settings of the socket, from the first `PACKET_DIAG_INFO`, or `None` if the reply
 /// has none. A value of fewer than 24 bytes is `BufferTooSmall`.
 pub fn info(reply: &PacketResponseView<'_>) -> Result<Option<PacketInfo>, DecodeError>
+    // `packet_info value`: what `PacketInfo::parse` returns for the value.
     ensures { result ≡ parse_if_present packet_info
         (first_value_of_kind PACKET_DIAG_INFO (view_model reply.now).nlas) }
 {
@@ -61,6 +65,7 @@ pub fn info(reply: &PacketResponseView<'_>) -> Result<Option<PacketInfo>, Decode
 /// They are the link-layer addresses that the socket receives in addition to the addresses of its
 /// interface. The kernel sends 44 bytes for each, `struct packet_diag_mclist`.
 pub fn addresses<'a>(reply: &PacketResponseView<'a>) -> Option<&'a [u8]>
+    // `option_map (λ value. value.now) result`: the bytes that the result borrows, as a list.
     ensures { option_map (λ value. value.now) result
         ≡ first_value_of_kind PACKET_DIAG_MCLIST (view_model reply.now).nlas }
 {
@@ -70,6 +75,7 @@ pub fn addresses<'a>(reply: &PacketResponseView<'a>) -> Option<&'a [u8]>
 /// Returns the settings of the receive ring, from the first `PACKET_DIAG_RX_RING`, or `None` if the
 /// reply has none. A value of fewer than 28 bytes is `BufferTooSmall`.
 pub fn receive_ring(reply: &PacketResponseView<'_>) -> Result<Option<PacketRing>, DecodeError>
+    // `packet_ring kind value`: what `PacketRing::parse` returns for the value and this kind.
     ensures { result ≡ parse_if_present (packet_ring PACKET_DIAG_RX_RING)
         (first_value_of_kind PACKET_DIAG_RX_RING (view_model reply.now).nlas) }
 {
@@ -89,6 +95,8 @@ pub fn send_ring(reply: &PacketResponseView<'_>) -> Result<Option<PacketRing>, D
 /// none: the id of the fanout group in the low 16 bits and its mode in the high 16 bits, which are
 /// not split. A length other than 4 is `WrongLength`, without a kind.
 pub fn fanout(reply: &PacketResponseView<'_>) -> Result<Option<u32>, DecodeError>
+    // `number_of_width None 4`: a little-endian number of exactly 4 bytes, or `WrongLength`, which
+    // by `None` does not contain the kind.
     ensures { result ≡ parse_if_present (number_of_width None 4)
         (first_value_of_kind PACKET_DIAG_FANOUT (view_model reply.now).nlas) }
 {
@@ -109,6 +117,8 @@ pub fn owner(reply: &PacketResponseView<'_>) -> Result<Option<u32>, DecodeError>
 /// the reply has none: `u32` fields in the order of `SK_MEMINFO_..` (linux/sock_diag.h). A value of
 /// fewer than 28 bytes, seven fields, is `BufferTooSmall`.
 pub fn memory(reply: &PacketResponseView<'_>) -> Result<Option<MemInfo>, DecodeError>
+    // `parse_record mem_info tt`: the record of the layout `mem_info` at the start of the value, or
+    // its error.
     ensures { result ≡ parse_if_present (parse_record mem_info tt)
         (first_value_of_kind PACKET_DIAG_MEMINFO (view_model reply.now).nlas) }
 {

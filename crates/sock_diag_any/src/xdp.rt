@@ -35,6 +35,10 @@ impl FamilyHeader for XdpResponseHeader {
 /// Returns the interface and the queue that the socket is bound to, from the first `XDP_DIAG_INFO`,
 /// or `None` if the reply has none. A value of fewer than 8 bytes is `BufferTooSmall`.
 pub fn info(reply: &XdpResponseView<'_>) -> Result<Option<XdpInfo>, DecodeError>
+    // `first_value_of_kind kind attributes`: the value of the first attribute of this kind, or
+    // `None`. `parse_if_present parse found`: what `parse` returns for this value, or `Ok None` if
+    // there is none. `(view_model reply.now).nlas`: the attributes of the reply. `xdp_info value`:
+    // what `XdpInfo::parse` returns for the value.
     ensures { result ≡ parse_if_present xdp_info
         (first_value_of_kind XDP_DIAG_INFO (view_model reply.now).nlas) }
 {
@@ -47,6 +51,8 @@ pub fn info(reply: &XdpResponseView<'_>) -> Result<Option<XdpInfo>, DecodeError>
 /// Returns the user id of the socket's owner: the little-endian `u32` in the first `XDP_DIAG_UID`,
 /// or `None` if the reply has none. A length other than 4 is `WrongLength`, without a kind.
 pub fn owner(reply: &XdpResponseView<'_>) -> Result<Option<u32>, DecodeError>
+    // `number_of_width None 4`: a little-endian number of exactly 4 bytes, or `WrongLength`, which
+    // by `None` does not contain the kind.
     ensures { result ≡ parse_if_present (number_of_width None 4)
         (first_value_of_kind XDP_DIAG_UID (view_model reply.now).nlas) }
 {
@@ -76,6 +82,7 @@ pub fn send_ring(reply: &XdpResponseView<'_>) -> Result<Option<u32>, DecodeError
 /// Returns the shared memory area of the socket (UMEM), from the first `XDP_DIAG_UMEM`, or `None`
 /// if the reply has none. A value of fewer than 40 bytes is `BufferTooSmall`.
 pub fn shared_memory(reply: &XdpResponseView<'_>) -> Result<Option<XdpUmem>, DecodeError>
+    // `xdp_umem value`: what `XdpUmem::parse` returns for the value.
     ensures { result ≡ parse_if_present xdp_umem
         (first_value_of_kind XDP_DIAG_UMEM (view_model reply.now).nlas) }
 {
@@ -89,6 +96,8 @@ pub fn shared_memory(reply: &XdpResponseView<'_>) -> Result<Option<XdpUmem>, Dec
 /// reply has none: `u32` fields in the order of `SK_MEMINFO_..` (linux/sock_diag.h). A value of
 /// fewer than 28 bytes, seven fields, is `BufferTooSmall`.
 pub fn memory(reply: &XdpResponseView<'_>) -> Result<Option<MemInfo>, DecodeError>
+    // `parse_record mem_info tt`: the record of the layout `mem_info` at the start of the value, or
+    // its error.
     ensures { result ≡ parse_if_present (parse_record mem_info tt)
         (first_value_of_kind XDP_DIAG_MEMINFO (view_model reply.now).nlas) }
 {
@@ -98,6 +107,7 @@ pub fn memory(reply: &XdpResponseView<'_>) -> Result<Option<MemInfo>, DecodeErro
 /// Returns the counters of the socket, from the first `XDP_DIAG_STATS`, or `None` if the reply has
 /// none. A value of fewer than 48 bytes is `BufferTooSmall`.
 pub fn statistics(reply: &XdpResponseView<'_>) -> Result<Option<XdpStatistics>, DecodeError>
+    // `xdp_statistics value`: what `XdpStatistics::parse` returns for the value.
     ensures { result ≡ parse_if_present xdp_statistics
         (first_value_of_kind XDP_DIAG_STATS (view_model reply.now).nlas) }
 {

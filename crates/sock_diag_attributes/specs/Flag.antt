@@ -1,6 +1,6 @@
--- A boolean in one byte, as the value of an attribute. The arguments of `whole_value_codec` are:
--- how a value is parsed, how it is serialized, which values are in range, and which are in normal
--- form.
+-- A boolean in one byte, as the value of an attribute. The arguments of `whole_value_codec` are, in
+-- this order: how a value is parsed, how it is serialized, which values are in range, and which are
+-- in normal form.
 use Rattle.std.specs.Prelude.{◌≡◌, ℕ, ◌==◌, ◌↔◌, not, if◌then◌else◌, [], ◌∷◌, slice_index, Some, ⊤}
 use Rattle.netlink_core.specs.ValueCodec.{ValueCodec}
 use Rattle.netlink_core.specs.AttributeSpecs.{whole_value_codec}

@@ -12,7 +12,8 @@ use Rattle.netlink_core.specs.declared.fault.DecodeError.TheVariants.{NameWithou
 use Rattle.sock_diag_attributes.specs.declared.unix.name.SocketName.{SocketName}
 use Rattle.sock_diag_attributes.specs.declared.unix.name.SocketName.TheVariants.{Pathname, Abstract}
 
--- a path is followed by one zero byte; an abstract name (unix(7)) starts with a zero byte
+-- the bytes that a name serializes to: a path is followed by one zero byte; an abstract name
+-- (unix(7)) starts with a zero byte
 abbrev pub name_bytes : SocketName (List ℕ) → List ℕ
 name_bytes (Pathname path) = path ++ 0 ∷ []
 name_bytes (Abstract address) = 0 ∷ address

@@ -11,8 +11,8 @@ use Rattle.byteorder.specs.Endian.{little_number, little_bytes}
 use Rattle.netlink_core.specs.declared.fault.DecodeError.TheVariants.{WrongLength}
 use Rattle.netlink_core.specs.declared.fault.DecodeError.TheVariants.{NotMultipleOfFour}
 
--- the consecutive little-endian numbers of four bytes each; up to three bytes at the end that are
--- not a complete number are left out
+-- the consecutive little-endian numbers of four bytes each in the bytes; up to three bytes at the
+-- end that are not a complete number are left out
 abbrev pub numbers_in : List ℕ → List ℕ
 numbers_in (a ∷ b ∷ c ∷ d ∷ rest) = little_number 4 (a ∷ b ∷ c ∷ d ∷ []) ∷ numbers_in rest
 numbers_in bytes = []
@@ -27,8 +27,9 @@ number_pair_value k = whole_value_codec {A = ℕ × ℕ}
     else Err (WrongLength (Some k) (length b) 8)) (λ ns. little_bytes 4 ns.0 ++ little_bytes 4 ns.1)
     (λ ns. (ns.0 < 2 ^ 32) × (ns.1 < 2 ^ 32)) (λ ns. ⊤)
 
--- any count of little-endian numbers of four bytes each, as the value of an attribute; a length
--- that is not a multiple of four is `NotMultipleOfFour`
+-- Any count of little-endian numbers of four bytes each, as the value of an attribute. A length
+-- that is not a multiple of four is `NotMultipleOfFour`, which contains the length. Each list is in
+-- normal form.
 abbrev pub numbers_value : ValueCodec (Unit {0})
 numbers_value = whole_value_codec
     (λ b. if length b % 4 == 0 then Ok (numbers_in b) else Err (NotMultipleOfFour (length b)))

@@ -1,5 +1,5 @@
--- A text as the value of an attribute. The arguments of `whole_value_codec` are: how a value is
--- parsed, how it is serialized, which values are in range, and which are in normal form.
+-- A text as the value of an attribute. The arguments of `whole_value_codec` are, in this order: how
+-- a value is parsed, how it is serialized, which values are in range, and which are in normal form.
 use Rattle.std.specs.Prelude.{◌≡◌, ℕ, ◌⊎◌, List, [], ◌∷◌, ◌++◌, IsUtf8, ⊤}
 use Rattle.netlink_core.specs.Bytes.{IsBytes}
 use Rattle.netlink_core.specs.Parse.{parse_text}
@@ -12,9 +12,10 @@ abbrev pub AddsTerminatingNul : List ℕ → List ℕ → Type 0
 AddsTerminatingNul left right =
     ¬ ((front : List ℕ) × (left ≡ front ++ 0 ∷ [])) × (right ≡ left ++ 0 ∷ [])
 
--- A text is the value without one terminating NUL, if it has one. It must be UTF-8, and its model
--- is its bytes. It always serializes with one terminating NUL. Two values are equivalent (`idle`)
--- if they are equal, or if one is the other, which has no terminating NUL, with one added.
+-- A text is the value without one terminating NUL, if it has one. It must be UTF-8 (else
+-- `NotUtf8`), and its model is its bytes. It always serializes with one terminating NUL. Two values
+-- are equivalent (`idle`) if they are equal, or if one is the other, which has no terminating NUL,
+-- with one added. Each text is in normal form.
 abbrev pub text_value : ValueCodec (Unit {0})
 text_value = record (whole_value_codec parse_text (λ text. text ++ 0 ∷ [])
     (λ text. IsUtf8 text × IsBytes text) (λ text. ⊤)) {

@@ -18,9 +18,9 @@ use crate::unix::nlas::{
 use netlink_core::Readable;
 use std::alloc::AllocError;
 
-/// States that `TAKES_MEMORY` is true for owned attributes of replies about UNIX sockets, for those
-/// of replies about IPv4 and IPv6 sockets, and for owned names: their parsers may allocate, and may
-/// return `Memory`.
+/// Returns `TAKES_MEMORY` of owned attributes of replies about UNIX sockets, of those of replies
+/// about IPv4 and IPv6 sockets, and of owned names. Each is true: the parsers of these types may
+/// allocate, and may return `Memory`.
 pub fn readers_take_memory() -> (bool, bool, bool)
     ensures { result ≡ (true, true, true) }
 {
@@ -33,20 +33,24 @@ pub fn readers_take_memory() -> (bool, bool, bool)
 
 /// States that each decoded value of an attribute of a reply about a UNIX socket is the model of
 /// its variant: `unix_model` (`unix_nla_value`) returns the decoded value from which `unix_variant`
-/// makes a variant. The three functions say how the parts of a variant are modelled, here as they
-/// are.
+/// makes a variant.
 #[tactic(auto, using(crate::specs::laws::Variant::same_unix_variant))]
 pub fn unix_values_are_variants()
+    // unix_model name list other variant: the decoded value of the variant. The three functions
+    // return the model of a name, of a list and of a raw attribute. Here the parts of the variant
+    // are models already, so that each function returns its argument.
     ensures { (v : AttributeValue unix_attribute_set)
         → unix_model (λ name. name) (λ list. list) (λ other. other) (unix_variant v) ≡ v }
 {}
 
 /// States that each decoded value of an attribute of a reply about an IPv4 or IPv6 socket is the
 /// model of its variant: `inet_model` (`inet_nla_value`) returns the decoded value from which
-/// `inet_variant` makes a variant. The two functions say how the parts of a variant are modelled,
-/// here as they are.
+/// `inet_variant` makes a variant.
 #[tactic(auto, using(crate::specs::laws::Variant::same_inet_variant))]
 pub fn inet_values_are_variants()
+    // inet_model text other variant: the decoded value of the variant. The two functions return the
+    // model of a text and of a raw attribute. Here the parts of the variant are models already, so
+    // that each function returns its argument.
     ensures { (v : AttributeValue inet_attribute_set)
         → inet_model (λ text. text) (λ other. other) (inet_variant v) ≡ v }
 {}
@@ -54,6 +58,8 @@ pub fn inet_values_are_variants()
 /// States that `==` of two borrowed names is true if and only if both are paths or both are
 /// abstract, with the same bytes.
 pub fn equal_name_views(v: &NameView<'_>, w: &NameView<'_>) -> bool
+    // socket_name_model bytes name: the name, with its bytes as a list, which `bytes` returns (here
+    // of a slice).
     ensures { IsTrue result ↔ (socket_name_model (λ b. b.now) v.now
         ≡ socket_name_model (λ b. b.now) w.now) }
 {
@@ -64,6 +70,7 @@ pub fn equal_name_views(v: &NameView<'_>, w: &NameView<'_>) -> bool
 /// same order.
 #[tactic(auto, using(crate::specs::laws::EqualUnix::number_views_equal))]
 pub fn equal_numbers_views(v: &NumbersView<'_>, w: &NumbersView<'_>) -> bool
+    // numbers_view_model: the numbers in the borrowed bytes, four bytes each, little-endian.
     ensures { IsTrue result ↔ (numbers_view_model v.now ≡ numbers_view_model w.now) }
 {
     v == w
@@ -73,6 +80,7 @@ pub fn equal_numbers_views(v: &NumbersView<'_>, w: &NumbersView<'_>) -> bool
 /// they have the same kind and equal values, by their models. Raw attributes are equal if they have
 /// the same type field, with its flag bits, and the same bytes.
 pub fn equal_unix_views(v: &UnixNlaView<'_>, w: &UnixNlaView<'_>) -> bool
+    // unix_view_model (`unix_nla_view_model`): the decoded value of the variant.
     ensures { IsTrue result ↔ (unix_view_model v.now ≡ unix_view_model w.now) }
 {
     v == w
@@ -82,6 +90,7 @@ pub fn equal_unix_views(v: &UnixNlaView<'_>, w: &UnixNlaView<'_>) -> bool
 /// only if they have the same kind and equal values, by their models. Raw attributes are equal if
 /// they have the same type field, with its flag bits, and the same bytes.
 pub fn equal_inet_views(v: &InetNlaView<'_>, w: &InetNlaView<'_>) -> bool
+    // inet_view_model (`inet_nla_view_model`): the decoded value of the variant.
     ensures { IsTrue result ↔ (inet_view_model v.now ≡ inet_view_model w.now) }
 {
     v == w
@@ -110,6 +119,7 @@ pub fn copied_numbers_view<'a>(view: &NumbersView<'a>) -> Result<NumbersView<'a>
 pub fn copied_numbers_walk<'a>(
     walk: &NumbersIterator<'a>,
 ) -> Result<NumbersIterator<'a>, AllocError>
+    // numbers_left: the numbers that the iterator has not yielded yet.
     ensures ok { IsOk result }
     ensures same { IfOk result (λ copy. numbers_left copy ≡ numbers_left walk.now) }
 {

@@ -85,6 +85,7 @@ impl<'a> NumbersView<'a> {
     /// Returns the count of numbers.
     #[tactic(auto, using(crate::specs::laws::Number::count_of_numbers_in))]
     pub fn len(&self) -> usize
+        // numbers_view_model: the numbers, as a list.
         ensures { result ≡ length (numbers_view_model self.now) }
     {
         self.bytes.len() / 4
@@ -93,6 +94,7 @@ impl<'a> NumbersView<'a> {
     /// Returns the number at `index`, or `None` if the index is out of bounds.
     #[tactic(auto, using(crate::specs::laws::Number::count_of_numbers_in, crate::specs::laws::Number::number_in_list_at, std::proofs::lemmas::List::take_rest, std::proofs::lemmas::Option::slice_get_past))]
     pub fn get(&self, index: usize) -> Option<u32>
+        // slice_get xs i: `Some` of the element at index `i`, or `None` if there is none.
         ensures { result ≡ slice_get (numbers_view_model self.now) index }
     {
         if index >= self.bytes.len() / 4 {

@@ -38,7 +38,8 @@ use Rattle.sock_diag_captures.specs.declared.list.Issue.TheVariants.{Invalid, In
 
 -- ---- texts
 
--- the name of a record, with its family and the type of the attribute if there are
+-- `record_text name`: the name of a record; for `FamilyRequest`, `FamilyResponseHeader` and
+-- `FamilyAttribute` also the number of the family, and for the last one the type of the attribute
 abbrev pub record_text : RecordName → List ℕ
 record_text SocketId = codes "SocketId"
 record_text InetRequest = codes "InetRequest"
@@ -112,12 +113,14 @@ message_line front packet message issue =
     front ++ codes "packet " ++ decimal packet ++ codes ", message " ++ decimal message
     ++ codes ": " ++ diagnostic_text issue ++ 10 ∷ []
 
--- the line of a diagnostic, or nothing if there is none
+-- `diagnostic_line front packet message issue`: the line of a diagnostic about this message, or
+-- nothing if there is none (None)
 abbrev pub diagnostic_line : List ℕ → ℕ → ℕ → Option Issue → List ℕ
 diagnostic_line front packet message None = []
 diagnostic_line front packet message (Some issue) = message_line front packet message issue
 
--- Interrupted for a message with the flag NLM_F_DUMP_INTR (16) in `nlmsg_flags` at 6
+-- `interrupted_diagnostic m`: Interrupted if the message `m` has the flag NLM_F_DUMP_INTR (16) in
+-- `nlmsg_flags` at 6, else None
 abbrev pub interrupted_diagnostic : List ℕ → Option Issue
 interrupted_diagnostic m =
     if bit_and (little_number 2 (drop 6 m)) 16 == 0 then None else Some Interrupted
@@ -130,7 +133,8 @@ lines_about_message front packet message m =
     diagnostic_line front packet message (interrupted_diagnostic m)
     ++ diagnostic_line front packet message (message_diagnostic m)
 
--- the lines about consecutive messages, of which the first has the number `message`
+-- `lines_about front packet message messages`: the lines about consecutive messages, of which the
+-- first has the number `message`
 abbrev pub lines_about : List ℕ → ℕ → ℕ → List (List ℕ) → List ℕ
 lines_about front packet message [] = []
 lines_about front packet message (m ∷ later) =

@@ -50,26 +50,30 @@ abbrev pub lines_after_header : {H : Type 0} → (H → List AttributeOrError �
 lines_after_header lines (Ok h) given = lines h given
 lines_after_header lines (Err e) given = []
 
--- the decode error of a reply: of its header, or else of the bytes after its last attribute
+-- `error_after_reply_header result given`: the decode error of a reply: of its header, or else of
+-- the bytes after its last attribute; None if there is none. `result` and `given` are those of
+-- `lines_after_header`.
 abbrev pub error_after_reply_header : {H : Type 0} → Result H DecodeError → List AttributeOrError
     → Option DecodeError
 error_after_reply_header (Ok h) given = framing_error_of given
 error_after_reply_header (Err e) given = Some e
 
--- The lines of a reply about a netlink, packet, vsock or XDP socket. `header` is the layout of its
--- header, which has `header.least` bytes, and `socket` returns the values that a line shows.
+-- `other_reply_lines o header socket b`: the lines of a reply about a netlink, packet, vsock or XDP
+-- socket. `header` is the layout of its header, which has `header.least` bytes, and
+-- `socket h given` are the values that a line shows.
 abbrev pub other_reply_lines : {T H : Type 0} → Options → Layout (Unit {0}) T H
     → (H → List AttributeOrError → OtherSocket) → List ℕ → List ℕ
 other_reply_lines o header socket b =
     lines_after_header (λ h given. other_lines o (socket h given) given) (parse_record header tt b)
     (attributes_or_error 0 (drop header.least b))
 
--- the decode error of a reply with this layout of its header
+-- `other_reply_error header b`: the decode error of a reply with this layout of its header, or None
 abbrev pub other_reply_error : {T H : Type 0} → Layout (Unit {0}) T H → List ℕ → Option DecodeError
 other_reply_error header b = error_after_reply_header (parse_record header tt b)
     (attributes_or_error 0 (drop header.least b))
 
--- the lines of a reply about a socket of this family, or none for an unknown family
+-- `family_lines o family b`: the lines of a reply about a socket of this family; none for an
+-- unknown family (None)
 abbrev pub family_lines : Options → Option Family → List ℕ → List ℕ
 family_lines o (Some Netlink) b = other_reply_lines o netlink_header netlink_socket b
 family_lines o (Some Packet) b = other_reply_lines o packet_header packet_socket b
@@ -77,7 +81,8 @@ family_lines o (Some Vsock) b = other_reply_lines o vsock_header vsock_socket b
 family_lines o (Some Xdp) b = other_reply_lines o xdp_header xdp_socket b
 family_lines o None b = []
 
--- the decode error of a reply about a socket of this family, or none for an unknown family
+-- `family_error family b`: the decode error of a reply about a socket of this family, if there is
+-- one; None for an unknown family
 abbrev pub family_error : Option Family → List ℕ → Option DecodeError
 family_error (Some Netlink) b = other_reply_error netlink_header b
 family_error (Some Packet) b = other_reply_error packet_header b
@@ -86,11 +91,10 @@ family_error (Some Xdp) b = other_reply_error xdp_header b
 family_error None b = None
 
 -- `payload_lines o protocol kind b`: the lines of the payload `b`. `kind` is the kind of the reply,
--- or
--- the reason why it is not one. Attributes follow a `struct unix_diag_msg` of 16 bytes, or a
--- `struct
--- inet_diag_msg` of 72 bytes. `protocol` is the protocol of the request. A payload that is not a
--- reply has no lines, except for one about a netlink, packet, vsock or XDP socket (`family_lines`).
+-- or the reason why it is not one. Attributes follow a `struct unix_diag_msg` of 16 bytes, or a
+-- `struct inet_diag_msg` of 72 bytes. `protocol` is the protocol of the request. A payload that is
+-- not a reply has no lines, except for one about a netlink, packet, vsock or XDP socket
+-- (`family_lines`).
 abbrev pub payload_lines : Options → Option ℕ → Result MessageKind DecodeError → List ℕ → List ℕ
 payload_lines o protocol (Ok unix_response) b =
     lines_after_header (unix_lines o) (parse_record unix_response_header tt b)
@@ -102,8 +106,7 @@ payload_lines o protocol (Err (UnknownFamily n)) b = family_lines o (family_numb
 payload_lines o protocol _ b = []
 
 -- `payload_error kind b`: the decode error of the payload `b`: of the reply, or the reason why it
--- is
--- not a reply. An invalid value of an attribute is not considered. A reply about a socket of an
+-- is not a reply. An invalid value of an attribute is not considered. A reply about a socket of an
 -- unknown family has no error.
 abbrev pub payload_error : Result MessageKind DecodeError → List ℕ → Option DecodeError
 payload_error (Ok unix_response) b =
@@ -118,38 +121,39 @@ payload_error _ b = None
 
 -- ---- messages
 
--- the type of a message, `nlmsg_type` at 4
+-- `type_of message`: the type of a message: `nlmsg_type`, the little-endian u16 at 4
 abbrev pub type_of : List ℕ → ℕ
 type_of message = little_number 2 (drop 4 message)
 
--- a control message, by its type: NLMSG_NOOP (1), NLMSG_ERROR (2), NLMSG_DONE (3) or NLMSG_OVERRUN
--- (4)
+-- `is_control t`: the type `t` is the one of a control message: NLMSG_NOOP (1), NLMSG_ERROR (2),
+-- NLMSG_DONE (3) or NLMSG_OVERRUN (4)
 abbrev pub is_control : ℕ → Bool
 is_control t = nat_le 1 t && nat_le t 4
 
--- The lines of a message with this type and this payload. A control message has none. `protocol` is
--- the protocol of the request.
+-- `lines_by_type o protocol t payload`: the lines of a message with the type `t` and this payload.
+-- A control message has none. `protocol` is the protocol of the request.
 abbrev pub lines_by_type : Options → Option ℕ → ℕ → List ℕ → List ℕ
 lines_by_type o protocol t payload =
     if is_control t then [] else payload_lines o protocol (response_kind payload t) payload
 
--- The protocol of the request that a message answers, by its sequence number (`nlmsg_seq` at 8) and
--- its port number (`nlmsg_pid` at 12).
+-- `protocol_for asked m`: the protocol of the request that the message `m` answers, by its sequence
+-- number (`nlmsg_seq` at 8) and its port number (`nlmsg_pid` at 12); None if it is not known
 abbrev pub protocol_for : List Asked → List ℕ → Option ℕ
 protocol_for asked m = protocol_of asked (little_number 4 (drop 8 m)) (little_number 4 (drop 12 m))
 
--- the lines of a message, whose payload is at 16
+-- `message_lines o asked m`: the lines of the message `m`, whose payload is at 16
 abbrev pub message_lines : Options → List Asked → List ℕ → List ℕ
 message_lines o asked m = lines_by_type o (protocol_for asked m) (type_of m) (drop 16 m)
 
--- the absolute value of a negative number, or else 0
+-- `negated_if_negative n`: the absolute value of a negative number; 0 for any other number, and for
+-- None. `negsuc n` is the number -(n + 1).
 abbrev pub negated_if_negative : Option ℤ → ℕ
 negated_if_negative None = 0
 negated_if_negative (Some (pos n)) = 0
 negated_if_negative (Some (negsuc n)) = n + 1
 
--- the error number of errno(3) in the payload of an NLMSG_ERROR or NLMSG_DONE, which contains it
--- negated, or 0 if there is none
+-- `errno_in payload`: the error number of errno(3) in the payload of an NLMSG_ERROR or NLMSG_DONE,
+-- whose first four bytes contain it negated; 0 if there are fewer than four bytes, or for success
 abbrev pub errno_in : List ℕ → ℕ
 errno_in payload = negated_if_negative (leading_error_number payload)
 
@@ -160,13 +164,16 @@ errno_diagnostic n =
     if n == 0 then None else if n == 2 then Some NoEntry else if n == 22 then Some Invalid
     else Some (Answered n)
 
--- The diagnostic of a control message: none for NLMSG_NOOP (1), Lost for NLMSG_OVERRUN (4), or else
--- that of the error number in its payload.
+-- `control_diagnostic t payload`: the diagnostic of a control message: none for NLMSG_NOOP (1),
+-- Lost for NLMSG_OVERRUN (4); for NLMSG_ERROR (2) and NLMSG_DONE (3) that of the error number in
+-- the payload
 abbrev pub control_diagnostic : ℕ → List ℕ → Option Issue
 control_diagnostic t payload =
     if t == 1 then None else if t == 4 then Some Lost else errno_diagnostic (errno_in payload)
 
--- the diagnostic of a message with this type and this payload, except for Interrupted
+-- `diagnostic_by_type t payload`: the diagnostic of a message with the type `t` and this payload,
+-- except for Interrupted: that of a control message, or the decode error of any other message
+-- (Refused)
 abbrev pub diagnostic_by_type : ℕ → List ℕ → Option Issue
 diagnostic_by_type t payload =
     if is_control t then control_diagnostic t payload
@@ -176,33 +183,36 @@ diagnostic_by_type t payload =
 abbrev pub message_diagnostic : List ℕ → Option Issue
 message_diagnostic m = diagnostic_by_type (type_of m) (drop 16 m)
 
--- there is no diagnostic or only a note, so that no socket is missing from the table
+-- `is_note_or_none issue`: there is no diagnostic, or it is one of the two notes, so that no socket
+-- is missing from the table
 abbrev pub is_note_or_none : Option Issue → Bool
 is_note_or_none None = true
 is_note_or_none (Some NoEntry) = true
 is_note_or_none (Some Invalid) = true
 is_note_or_none (Some issue) = false
 
--- A message without the flag NLM_F_DUMP_INTR (16) in `nlmsg_flags` at 6, and without a diagnostic
--- other than a note.
+-- `IsCleanMessage m`: the message `m` has neither the flag NLM_F_DUMP_INTR (16) in `nlmsg_flags` at
+-- 6, nor a diagnostic other than a note
 abbrev pub IsCleanMessage : List ℕ → Type 0
 IsCleanMessage m = (bit_and (little_number 2 (drop 6 m)) 16 ≡ 0)
     × IsTrue (is_note_or_none (message_diagnostic m))
 
 -- ---- datagrams and packets
 
--- the datagram begins with a netlink header whose flags have bit 1 (NLM_F_REQUEST)
+-- `IsRequestDatagram datagram`: the datagram begins with a netlink header (`HasHeader`) whose flags
+-- have bit 0 (NLM_F_REQUEST, 1)
 abbrev pub IsRequestDatagram : List ℕ → Type 0
 IsRequestDatagram datagram = (h : NetlinkHeader) × HasHeader datagram h × (bit_and h.flags 1 ≢ 0)
 
--- a packet with a cooked header of sock_diag(7)
+-- `IsSockDiag packet`: the packet has a cooked header, its first 16 bytes, which is one of
+-- sock_diag(7): the hardware type at 2 is 824, and the protocol at 14 is 4 (`IsOfSockDiag`)
 abbrev pub IsSockDiag : List ℕ → Type 0
 IsSockDiag packet = (16 ≤ length packet) × IsOfSockDiag packet
 
--- The text `after` is the text `before` and the lines of each message of a datagram, in order.
--- `end` is the error of the bytes after the last message, if there are any. `is_clean` is true if
--- and only if each message is clean (`IsCleanMessage`) and there is no such error. `asked` are the
--- requests that the messages may answer.
+-- `ListsMessages o asked datagram before after is_clean`: the text `after` is the text `before` and
+-- the lines of each message of a datagram, in order. `is_clean` is true if and only if each message
+-- is clean (`IsCleanMessage`) and there is no error of bytes after the last one (`end`). `asked`
+-- are the requests that the messages may answer.
 pub record ListsMessages (o : Options) (asked : List Asked) (datagram before after : List ℕ)
     (is_clean : Bool) : Type 0 where
   -- the messages of the datagram, without the padding between them
@@ -214,9 +224,9 @@ pub record ListsMessages (o : Options) (asked : List Asked) (datagram before aft
   pub clean : IsTrue is_clean ↔ (AllByRecursion IsCleanMessage messages × (end ≡ None))
 
 -- `ListsDatagram o asked header datagram before after is_clean`: the text `after` is the text
--- `before` and the lines of the datagram. A request has only its own line, if `--requests` is set,
--- and is always clean. `header` is the packet header, with the time of capture. Any other datagram
--- has the lines of its messages.
+-- `before` and the lines of the datagram. Either it is not a request: these are the lines of its
+-- messages. Or it is a request: it has only its own line, if `--requests` is set, and is always
+-- clean. `header` is the packet header, with the time of capture.
 abbrev pub ListsDatagram : Options → List Asked → PacketHeader → List ℕ → List ℕ → List ℕ → Bool
     → Type 0
 ListsDatagram o asked header datagram before after is_clean =
@@ -224,19 +234,19 @@ ListsDatagram o asked header datagram before after is_clean =
     ⊎ (IsRequestDatagram datagram × (after ≡ before ++ request_line_if_selected o header datagram)
     × (is_clean ≡ true))
 
--- The requests after a packet. If the packet has a cooked header of sock_diag(7) (the hardware type
--- at 2 is 824 and the protocol at 14 is 4, both big-endian), the request that its datagram begins
--- with is added. The datagram is at 16.
+-- `requests_after_packet asked packet`: the requests after a packet. If it has a cooked header of
+-- sock_diag(7) (the hardware type at 2 is 824 and the protocol at 14 is 4, both big-endian), the
+-- request that its datagram begins with is added, if there is one. The datagram is at 16.
 unfoldable pub requests_after_packet : List Asked → List ℕ → List Asked
 requests_after_packet asked packet =
     if nat_lt (length packet) 16 then asked
     else if (big_number 2 (drop 2 packet) == 824) && (big_number 2 (drop 14 packet) == 4)
     then with_request_in_datagram asked (drop 16 packet) else asked
 
--- `ListsPacket o asked packet before after is_clean`: the truncation of the packet is not
--- considered. The text `after` is the text `before` and the lines of a packet: those of its
--- datagram if it is one of sock_diag(7), or else none. A packet of another protocol is clean, and a
--- packet with fewer than 16 bytes is not.
+-- `ListsPacket o asked packet before after is_clean`: the text `after` is the text `before` and the
+-- lines of a packet: those of its datagram if it is one of sock_diag(7), or else none. A packet of
+-- another protocol is clean, and a packet with fewer than 16 bytes is not. Whether the packet was
+-- truncated is not considered.
 abbrev pub ListsPacket : Options → List Asked → CapturedPacket → List ℕ → List ℕ → Bool → Type 0
 ListsPacket o asked packet before after is_clean =
     (IsSockDiag packet.bytes

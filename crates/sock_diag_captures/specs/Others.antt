@@ -20,7 +20,8 @@ use Rattle.sock_diag_captures.specs.declared.others.OtherSocket.{OtherSocket}
 
 -- ---- families
 
--- the family by its number: AF_NETLINK (16), AF_PACKET (17), AF_VSOCK (40) or AF_XDP (44)
+-- `family_numbered n`: the family with the number `n`: AF_NETLINK (16), AF_PACKET (17), AF_VSOCK
+-- (40) or AF_XDP (44); None for any other number
 abbrev pub family_numbered : ℕ → Option Family
 family_numbered n =
     if n == 16 then Some Netlink else if n == 17 then Some Packet
@@ -28,7 +29,8 @@ family_numbered n =
 
 -- ---- values of attributes
 
--- the little-endian `u32` at an offset of an attribute's value, or None if the value is too short
+-- `u32_in_attribute place attribute`: the little-endian `u32` at the offset `place` of the
+-- attribute's value; None if there is no attribute or its value ends before
 abbrev pub u32_in_attribute : ℕ → Option Attribute → Option ℕ
 u32_in_attribute place None = None
 u32_in_attribute place (Some a) =
@@ -42,16 +44,18 @@ abbrev pub u32_of_first_attribute : Option ℕ → ℕ → List AttributeOrError
 u32_of_first_attribute None place given = None
 u32_of_first_attribute (Some kind) place given = u32_in_attribute place (first_of_kind kind given)
 
--- the number, or None if it is `none`
+-- `none_if_equal none n`: the number `n`, or None if it is `none`
 abbrev pub none_if_equal : ℕ → ℕ → Option ℕ
 none_if_equal none n = if n == none then None else Some n
 
--- the interface number: the `u32` at 0 of the first attribute of a type. None if it is 0 or absent.
+-- `interface_number kind given`: the interface number: the `u32` at 0 of the first attribute of the
+-- type `kind`. None if it is 0 or absent.
 abbrev pub interface_number : ℕ → List AttributeOrError → Option ℕ
 interface_number kind given = option_and_then (none_if_equal 0)
     (u32_of_first_attribute (Some kind) 0 given)
 
--- the type of the attribute with the user id: PACKET_DIAG_UID (5) or XDP_DIAG_UID (2)
+-- `user_kind family`: the type of the attribute with the user id of the owner: PACKET_DIAG_UID (5)
+-- or XDP_DIAG_UID (2); None for a family without one
 abbrev pub user_kind : Family → Option ℕ
 user_kind Packet = Some 5
 user_kind Xdp = Some 2
@@ -116,21 +120,24 @@ xdp_socket h given = record {
 
 -- ---- lines
 
--- the kind of a vsock socket, by its type: SOCK_STREAM (1), SOCK_DGRAM (2), SOCK_SEQPACKET (5)
+-- `vsock_kind kind`: the column Netid of a vsock socket, by its type: SOCK_STREAM (1), SOCK_DGRAM
+-- (2), SOCK_SEQPACKET (5), or any other
 abbrev pub vsock_kind : ℕ → List ℕ
 vsock_kind kind =
     if kind == 1 then codes "v_str" else if kind == 2 then codes "v_dgr"
     else if kind == 5 then codes "v_seq" else codes "vsock"
 
--- the kind of a socket, by its family and its type, of which 3 is SOCK_RAW
+-- `other_kind family kind`: the column Netid of a socket, by its family and its type, of which 3 is
+-- SOCK_RAW
 abbrev pub other_kind : Family → ℕ → List ℕ
 other_kind Netlink kind = codes "nl"
 other_kind Packet kind = if kind == 3 then codes "p_raw" else codes "p_dgr"
 other_kind Vsock kind = vsock_kind kind
 other_kind Xdp kind = codes "xdp"
 
--- The first columns. Recv-Q is at 0 of the attribute with the memory (SK_MEMINFO_RMEM_ALLOC),
--- Send-Q at 8 (SK_MEMINFO_WMEM_ALLOC).
+-- `other_columns s given`: the first columns. Recv-Q is the `u32` at 0 (SK_MEMINFO_RMEM_ALLOC) of
+-- the attribute with the memory (`memory_kind`), Send-Q the one at 8 (SK_MEMINFO_WMEM_ALLOC); None
+-- if there is no such attribute or its value ends before.
 abbrev pub other_columns : OtherSocket → List AttributeOrError → FirstColumns
 other_columns s given = record {
   kind = other_kind s.family s.kind;
@@ -141,11 +148,12 @@ other_columns s given = record {
   uid = u32_of_first_attribute (user_kind s.family) 0 given;
 }
 
--- both numbers of an address, separated by a colon (58); None is `*`
+-- `numbers_text end`: both numbers of an address, separated by a colon (58); a number that is None
+-- is shown as `*`
 abbrev pub numbers_text : Option ℕ × Option ℕ → List ℕ
 numbers_text end = peer_cell end.0 ++ 58 ∷ peer_cell end.1
 
--- an address, or `*` for None
+-- `optional_numbers_text end`: an address, or `*` if there is none (None)
 abbrev pub optional_numbers_text : Option (Option ℕ × Option ℕ) → List ℕ
 optional_numbers_text None = codes "*"
 optional_numbers_text (Some end) = numbers_text end
@@ -155,8 +163,9 @@ abbrev pub other_line : OtherSocket → List AttributeOrError → List ℕ
 other_line s given = table_line (other_columns s given) (numbers_text s.local)
     (optional_numbers_text s.peer)
 
--- The lines of a socket, if the options select its family: the columns, the details and a line feed
--- (10). The cookie is passed as eight bytes.
+-- `other_lines o s given`: the lines of a socket, if the options select its family: the columns,
+-- the details and a line feed (10). Else nothing. The cookie is passed as eight bytes,
+-- little-endian.
 abbrev pub other_lines : Options → OtherSocket → List AttributeOrError → List ℕ
 other_lines o s given =
     if lists_family o s.family

@@ -22,8 +22,9 @@ use Rattle.netlink_core.specs.declared.fault.DecodeError.TheVariants.{AttributeL
 abbrev pub AttributeOrError : Type 0
 AttributeOrError = Result Attribute DecodeError
 
--- The first attribute, or the first of these errors: fewer than four bytes, a length field (`word`)
--- below 4, a length field greater than the number of bytes.
+-- `first_attribute_or_error b`: the attribute at the start of the bytes `b`, or the first of these
+-- errors that applies: there are fewer than four bytes; the length field `nla_len` (`word`) is
+-- below 4; it is greater than the number of bytes
 abbrev pub first_attribute_or_error : List ℕ → AttributeOrError
 first_attribute_or_error b =
     let word = little_number 2 b in
@@ -32,13 +33,15 @@ first_attribute_or_error b =
     else if nat_lt (length b) word then Err (AttributeLengthPast word (length b))
     else Ok (record { type_word = little_number 2 (drop 2 b); value = take (word - 4) (drop 4 b) })
 
--- an attribute and those after it, or an error, after which nothing follows
+-- `before_error first later`: the piece `first`, and then `later` if it is an attribute; an error
+-- is the last piece
 abbrev pub before_error : AttributeOrError → List AttributeOrError → List AttributeOrError
 before_error (Ok a) later = Ok a ∷ later
 before_error (Err e) later = Err e ∷ []
 
--- The pieces after the first `n` bytes, which are skipped. The next attribute is at the next
--- multiple of 4: `padding_length word` is the length of the padding after `word` bytes.
+-- `attributes_or_error n bytes`: the pieces in the bytes after the first `n`, which are skipped.
+-- The next attribute starts at the next multiple of 4: `padding_length word` is the number of
+-- padding bytes after `word` bytes.
 unfoldable pub attributes_or_error : ℕ → List ℕ → List AttributeOrError
 attributes_or_error n [] = []
 attributes_or_error zero (byte ∷ bytes) =
@@ -47,7 +50,8 @@ attributes_or_error zero (byte ∷ bytes) =
     (attributes_or_error (word + padding_length word - 1) bytes)
 attributes_or_error (suc n) (byte ∷ bytes) = attributes_or_error n bytes
 
--- the model of an item of an attribute iterator
+-- `attribute_or_error_of item`: the model of an item that an attribute iterator yields: the type
+-- field and the value of the attribute (`map_ok` maps the value of an `Ok`), or the same error
 abbrev pub attribute_or_error_of : Result NlaBuffer DecodeError → AttributeOrError
 attribute_or_error_of item = map_ok buffered_attribute item
 
@@ -55,27 +59,29 @@ attribute_or_error_of item = map_ok buffered_attribute item
 abbrev pub attributes_or_error_left : NlasIterator → List AttributeOrError
 attributes_or_error_left walk = attributes_or_error 0 (unread_bytes walk)
 
--- the error after the last attribute, if there is one
+-- `framing_error_of pieces`: the error after the last attribute, or None if there is none
 abbrev pub framing_error_of : List AttributeOrError → Option DecodeError
 framing_error_of [] = None
 framing_error_of (Ok a ∷ later) = framing_error_of later
 framing_error_of (Err e ∷ later) = Some e
 
--- the first attribute of type `k`
+-- `first_of_kind k pieces`: the first attribute of type `k`, whatever its two flag bits, or None if
+-- there is none
 abbrev pub first_of_kind : ℕ → List AttributeOrError → Option Attribute
 first_of_kind k [] = None
 first_of_kind k (Ok a ∷ later) = if attribute_kind a == k then Some a else first_of_kind k later
 first_of_kind k (Err e ∷ later) = first_of_kind k later
 
--- `content_if_valid F k result`: the content of a decoded attribute of type `k`, or None for a
--- decode error. `F` are the known attribute types.
+-- `content_if_valid F k result`: the value of type `k` in a decoded attribute (`Ok`); None if it
+-- has another type, or for a decode error. `F` are the known attribute types.
 abbrev pub content_if_valid : (F : AttributeSet) → (k : ℕ) → Result (AttributeValue F) DecodeError
     → Option (ValueOfKind F k)
 content_if_valid F k (Ok value) = value_of_kind F k value
 content_if_valid F k (Err e) = None
 
--- `first_content F k given`: the content of the first attribute of type `k`, or None if there is
--- none or its value is invalid. Later attributes of the type are not considered.
+-- `first_content F k given`: the decoded value of the first attribute of type `k` in the pieces
+-- `given`, or None if there is no such attribute or its value is invalid. Later attributes of the
+-- type are not considered.
 abbrev pub first_content : (F : AttributeSet) → (k : ℕ) → List AttributeOrError
     → Option (ValueOfKind F k)
 first_content F k given = option_and_then (λ a. content_if_valid F k (decode_attribute F a))

@@ -13,19 +13,20 @@ use Rattle.sock_diag_captures.specs.Table.{inet_kind}
 use Rattle.sock_diag_captures.specs.Others.{family_numbered}
 use Rattle.sock_diag_captures.specs.declared.requests.Asked.{Asked}
 
--- The requested states of UNIX sockets, a bit for each, if the datagram begins with such a request:
--- a netlink header with `nlmsg_type` 20 (SOCK_DIAG_BY_FAMILY) at 4, and a `struct unix_diag_req` of
--- 24 bytes, with the family 1 (AF_UNIX) at 16 and `udiag_states` at 20. The other fields are not
--- considered.
+-- `requested_unix_states b`: the requested states of UNIX sockets, a bit for each, if the datagram
+-- `b` begins with such a request: it has at least 40 bytes, a netlink header with `nlmsg_type` 20
+-- (SOCK_DIAG_BY_FAMILY) at 4, and a `struct unix_diag_req` of 24 bytes, with the family 1 (AF_UNIX)
+-- at 16 and `udiag_states` at 20. None for any other datagram. The other fields are not considered.
 abbrev pub requested_unix_states : List ℕ → Option ℕ
 requested_unix_states b =
     if nat_lt (length b) 40 || not (little_number 2 (drop 4 b) == 20)
     || not (slice_index b 16 == 1)
     then None else Some (little_number 4 (drop 20 b))
 
--- The netlink, packet, vsock or XDP family, if the datagram begins with a request for its sockets:
--- it has at least 17 bytes, `nlmsg_type` at 4 is 20, and the family (`sdiag_family`) is at 16. The
--- other fields are not considered.
+-- `requested_family b`: the netlink, packet, vsock or XDP family, if the datagram `b` begins with a
+-- request for its sockets: it has at least 17 bytes, `nlmsg_type` at 4 is 20 (SOCK_DIAG_BY_FAMILY),
+-- and the family (`sdiag_family`) is at 16. None for any other datagram. The other fields are not
+-- considered.
 abbrev pub requested_family : List ℕ → Option Family
 requested_family b =
     if nat_lt (length b) 17 || not (little_number 2 (drop 4 b) == 20) then None

@@ -14,9 +14,10 @@ abbrev pub protocol_by : ℕ → Option Attribute → ℕ
 protocol_by byte None = byte
 protocol_by byte (Some a) = if length a.value == 4 then little_number 4 a.value else byte
 
--- The fields of a request of at least 72 bytes: `nlmsg_seq` at 8, `nlmsg_pid` at 12, `sdiag_family`
--- at 16, `sdiag_protocol` at 17, `idiag_states` at 20, and attributes from 72 on, of which type 3
--- is INET_DIAG_REQ_PROTOCOL.
+-- `inet_request_fields r`: the fields of a request in the message `r` of at least 72 bytes:
+-- `nlmsg_seq` at 8, `nlmsg_pid` at 12, `sdiag_family` at 16, `sdiag_protocol` at 17, `idiag_states`
+-- at 20, and attributes from 72 on, of which type 3 is INET_DIAG_REQ_PROTOCOL. Numbers are
+-- little-endian.
 abbrev pub inet_request_fields : List ℕ → Asked
 inet_request_fields r = record {
   sequence_number = little_number 4 (drop 8 r);
@@ -26,9 +27,10 @@ inet_request_fields r = record {
   states = little_number 4 (drop 20 r);
 }
 
--- The request in a message of at least 72 bytes, if it is one for IPv4 or IPv6 sockets:
--- `nlmsg_type` at 4 is 20 (SOCK_DIAG_BY_FAMILY), `nlmsg_flags` at 6 have bit 1 (NLM_F_REQUEST), and
--- the family at 16 is 2 (AF_INET) or 10 (AF_INET6).
+-- `inet_request_in_message r`: the request in the message `r` of at least 72 bytes, if it is one
+-- for IPv4 or IPv6 sockets: `nlmsg_type` at 4 is 20 (SOCK_DIAG_BY_FAMILY), `nlmsg_flags` at 6 have
+-- bit 0 (NLM_F_REQUEST, 1), and the family at 16 is 2 (AF_INET) or 10 (AF_INET6). None for any
+-- other message.
 abbrev pub inet_request_in_message : List ℕ → Option Asked
 inet_request_in_message r =
     if not (little_number 2 (drop 4 r) == 20) || (bit_and (little_number 2 (drop 6 r)) 1 == 0)
@@ -36,27 +38,30 @@ inet_request_in_message r =
     else if (slice_index r 16 == 2) || (slice_index r 16 == 10) then Some (inet_request_fields r)
     else None
 
--- The request in the first message of a datagram. `nlmsg_len` at 0 must be at least 72, and at most
--- the length of the datagram.
+-- `inet_request_in_datagram b`: the request in the first message of the datagram `b`, or None.
+-- `nlmsg_len` at 0 must be at least 72, and at most the length of the datagram.
 abbrev pub inet_request_in_datagram : List ℕ → Option Asked
 inet_request_in_datagram b =
     if nat_lt (length b) 72 then None
     else if nat_lt (little_number 4 b) 72 || nat_lt (length b) (little_number 4 b) then None
     else inet_request_in_message (take (little_number 4 b) b)
 
--- The requests, and a new one before them. At most 15 older ones are kept.
+-- `with_newest_request newest asked`: the requests after one more: `newest` first, if there is one,
+-- and then at most 15 of the older ones in `asked`. So at most 16 are kept, from the newest to the
+-- oldest.
 abbrev pub with_newest_request : Option Asked → List Asked → List Asked
 with_newest_request None asked = asked
 with_newest_request (Some newest) asked = newest ∷ take 15 asked
 
--- the requests, and the one that a datagram begins with, if there is one
+-- `with_request_in_datagram asked datagram`: the requests after a datagram: those in `asked`, and
+-- the one that the datagram begins with, if there is one
 abbrev pub with_request_in_datagram : List Asked → List ℕ → List Asked
 with_request_in_datagram asked datagram =
     with_newest_request (inet_request_in_datagram datagram) asked
 
--- The protocol of the newest request that a reply with this sequence number and this port number
--- may answer: its sequence number is equal, and its port number is equal or 0. None if there is no
--- such request.
+-- `protocol_of asked sequence port`: the protocol of the newest request that a reply with this
+-- sequence number (`nlmsg_seq`) and this port number (`nlmsg_pid`) may answer: its sequence number
+-- is equal, and its port number is equal or 0. None if there is no such request.
 abbrev pub protocol_of : List Asked → ℕ → ℕ → Option ℕ
 protocol_of [] sequence port = None
 protocol_of (a ∷ asked) sequence port =

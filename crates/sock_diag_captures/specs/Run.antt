@@ -44,18 +44,18 @@ AreListed o asked (packet ∷ packets) (listing ∷ later) =
     IsListed o (requests_after_packet asked packet.bytes) packet listing
     × AreListed o (requests_after_packet asked packet.bytes) packets later
 
--- The bytes are these packets, one after another, each after its packet header. `R header packet`
--- states that a packet may have this header.
+-- `ArePackets R bytes packets`: the bytes are these packets, one after another, each after its
+-- packet header. `R header packet` states that `header` may be the packet header of this packet.
 abbrev pub ArePackets : (List ℕ → CapturedPacket → Type 0) → List ℕ → List CapturedPacket → Type 0
 ArePackets R bytes [] = bytes ≡ []
 ArePackets R bytes (packet ∷ later) =
     (header rest : List ℕ) × R header packet × (bytes ≡ (header ++ packet.bytes) ++ rest)
     × ArePackets R rest later
 
--- The bytes of a capture, and the lines and diagnostics of its packets, in order. The file header
--- has 24 bytes (`header`) and is followed by packets (`records`). Each diagnostic begins with
--- `front`. Packets are numbered from 1 on. `is_whole` is true if and only if each packet was listed
--- without errors.
+-- `IsTableOfCapture o front bytes lines diagnostics is_whole`: the bytes of a capture, and the
+-- lines and diagnostics of its packets, in order. The file header has 24 bytes (`header`) and is
+-- followed by packets (`records`). Each diagnostic begins with `front`. Packets are numbered from 1
+-- on. `is_whole` is true if and only if each packet was listed without errors.
 pub record IsTableOfCapture (o : Options) (front bytes lines diagnostics : List ℕ) (is_whole : Bool)
     : Type 0 where
   -- the byte order and the unit of timestamps in the file header

@@ -19,25 +19,29 @@ use Rattle.sock_diag_captures.specs.declared.details.Sockets.TheVariants.{Inet, 
 
 -- ---- UNIX sockets
 
--- A path that begins with `@` (64), like an abstract name, or that is `*` (42), which means that
--- there is no name. Its first byte is escaped.
+-- `needs_escaped_first_byte path`: the path begins with `@` (64), like an abstract name, or is `*`
+-- (42), which means that there is no name
 abbrev pub needs_escaped_first_byte : List ℕ → Bool
 needs_escaped_first_byte path = (nat_lt 0 (length path) && (slice_index path 0 == 64))
     || ((length path == 1) && (slice_index path 0 == 42))
 
--- the text of a path
+-- `path_text utf8 path`: the text of a path, as `shown_name` shows it. The first byte of a path
+-- that `needs_escaped_first_byte` is shown as `\x` and two hex digits (`byte_digits`), since the
+-- cell would else be that of an abstract name or of no name. `utf8`: the option `--utf8`.
 abbrev pub path_text : Bool → List ℕ → List ℕ
 path_text utf8 path =
     if needs_escaped_first_byte path
     then byte_digits (slice_index path 0) ++ shown_name utf8 (drop 1 path)
     else shown_name utf8 path
 
--- the kind of a UNIX socket, by its type: SOCK_STREAM (1), SOCK_DGRAM (2), SOCK_SEQPACKET (5)
+-- `unix_kind kind`: the column Netid of a UNIX socket, by its type: SOCK_STREAM (1), SOCK_DGRAM
+-- (2), SOCK_SEQPACKET (5), or any other
 abbrev pub unix_kind : ℕ → List ℕ
 unix_kind kind = if kind == 1 then codes "u_str" else (if kind == 2 then codes "u_dgr"
     else (if kind == 5 then codes "u_seq" else codes "unix"))
 
--- the cell of a name: a path, or `@` (64) and an abstract name, or `*` for None
+-- `name_cell utf8 name`: the cell of a name: a path, or `@` (64) and an abstract name, or `*` if
+-- there is no name (None)
 abbrev pub name_cell : Bool → Option (SocketName (List ℕ)) → List ℕ
 name_cell utf8 None = codes "*"
 name_cell utf8 (Some (Pathname path)) = path_text utf8 path
@@ -57,8 +61,9 @@ name_of_cell cell =
 abbrev pub family_name : ℕ → List ℕ
 family_name family = if family == 10 then codes "inet6" else codes "inet"
 
--- The name of a protocol by its number IPPROTO_.., as ss(8) prints it. If the protocol is not known
--- or has no name here, it is the name of the family.
+-- `inet_kind protocol family`: the column Netid of an IPv4 or IPv6 socket: the name of the protocol
+-- by its number IPPROTO_.., as ss(8) prints it. If the protocol is not known (None) or has no name
+-- here, it is the name of the family.
 abbrev pub inet_kind : Option ℕ → ℕ → List ℕ
 inet_kind None family = family_name family
 inet_kind (Some protocol) family =
@@ -69,9 +74,10 @@ inet_kind (Some protocol) family =
 
 -- ---- lines
 
--- The columns of a UNIX socket. The name is in the attribute UNIX_DIAG_NAME (0), the inode of the
--- peer in UNIX_DIAG_PEER (2), and the lengths of the queues in UNIX_DIAG_RQLEN (4): first the
--- receive queue, then the send queue. The first attribute of each type counts.
+-- `unix_line o h given`: the columns of a UNIX socket, whose header is `h`. The name is in the
+-- attribute UNIX_DIAG_NAME (0), the inode of the peer in UNIX_DIAG_PEER (2), and the lengths of the
+-- queues in UNIX_DIAG_RQLEN (4): first the receive queue, then the send queue. The first attribute
+-- of each type counts.
 abbrev pub unix_line : Options → UnixResponseHeader → List AttributeOrError → List ℕ
 unix_line o h given =
     let queues = first_content unix_attribute_set 4 given in
@@ -85,8 +91,9 @@ unix_line o h given =
     }) (name_cell o.utf8 (first_content unix_attribute_set 0 given))
     (peer_cell (first_content unix_attribute_set 2 given))
 
--- The columns of an IPv4 or IPv6 socket. `protocol` is the protocol of the request. The interface
--- number is shown after the local address only, so that of the peer is 0.
+-- `inet_line protocol h`: the columns of an IPv4 or IPv6 socket, whose header is `h`. `protocol` is
+-- the protocol of the request. The interface number is shown after the local address only, so that
+-- of the peer is 0.
 abbrev pub inet_line : Option ℕ → InetResponseHeader → List ℕ
 inet_line protocol h =
     let id = h.socket_id in
@@ -100,8 +107,8 @@ inet_line protocol h =
     }) (endpoint id.source_address id.interface_id id.source_port)
     (endpoint id.destination_address 0 id.destination_port)
 
--- The lines of a UNIX socket, if the options select UNIX sockets: the columns, the details and a
--- line feed (10).
+-- `unix_lines o h given`: the lines of a UNIX socket, if the options select UNIX sockets: the
+-- columns, the details and a line feed (10). Else nothing.
 abbrev pub unix_lines : Options → UnixResponseHeader → List AttributeOrError → List ℕ
 unix_lines o h given =
     if lists_unix o
@@ -109,8 +116,9 @@ unix_lines o h given =
     ++ 10 ∷ []
     else []
 
--- The lines of an IPv4 or IPv6 socket, if the options select its protocol: the columns, the details
--- and a line feed (10).
+-- `inet_lines o protocol timer h given`: the lines of an IPv4 or IPv6 socket, if the options select
+-- its protocol: the columns, the details and a line feed (10). Else nothing. `timer` are the timer
+-- fields of the reply's header (`timer_in`).
 abbrev pub inet_lines : Options → Option ℕ → TimerWords → InetResponseHeader → List AttributeOrError
     → List ℕ
 inet_lines o protocol timer h given =

@@ -1,34 +1,21 @@
 //! Details of a socket: what a reply contains besides the columns, and the attributes that are
 //! invalid.
 
-ghost use Rattle.std.specs.Prelude.{◌≡◌, ◌≤◌, ◌++◌, codes, flat_map, length, OnOk};
+ghost use Rattle.std.specs.Prelude.{◌≡◌, ◌≤◌, ◌++◌, Ok, flat_map, codes, length, OnOk};
 ghost use Rattle.capture_tables.specs.Parts.{detail, separator, details_after_separator};
-ghost use Rattle.capture_tables.specs.Escapes.{shown_name};
-ghost use Rattle.netlink_core.specs.AttributeSet.{decode_attribute};
-ghost use Rattle.netlink_core.specs.Layout.{parse_record};
 ghost use Rattle.netlink_core.specs.Walk.{buffered_attribute};
-ghost use Rattle.sock_diag_values.specs.MemInfo.{mem_info};
-ghost use Rattle.sock_diag_attributes.specs.InetAttributes.{inet_attribute_set};
 ghost use Rattle.sock_diag_attributes.specs.InetModel.{inet_nla_view_model as inet_view_model};
+ghost use Rattle.sock_diag_attributes.specs.InetModel.{inet_variant};
 ghost use Rattle.sock_diag_attributes.specs.NumbersModel.{numbers_view_model};
 ghost use Rattle.sock_diag_attributes.specs.UnixModel.{unix_nla_view_model as unix_view_model};
-ghost use Rattle.sock_diag_attributes.specs.UnixAttributes.{unix_attribute_set};
-ghost use Rattle.sock_diag_families.specs.PacketAttributes.{packet_info};
-ghost use Rattle.sock_diag_captures.specs.Details.{tcp_ages, tcp_details, tcp_counts};
-ghost use Rattle.sock_diag_captures.specs.Details.{attribute_text, detail_of_inet, detail_of_other};
-ghost use Rattle.sock_diag_captures.specs.Details.{detail_group, details, error_reason};
-ghost use Rattle.sock_diag_captures.specs.Details.{netlink_groups_text, inet_text, legacy_memory};
-ghost use Rattle.sock_diag_captures.specs.Details.{tcp_limits, tcp_losses, memory_text};
-ghost use Rattle.sock_diag_captures.specs.Details.{memory_text_if_valid, memory_limits};
-ghost use Rattle.sock_diag_captures.specs.Details.{memory_used, memory_received, tcp_option_flags};
-ghost use Rattle.sock_diag_captures.specs.Details.{family_attribute_text, packet_text};
-ghost use Rattle.sock_diag_captures.specs.Details.{attribute_or_error_detail, tcp_rates};
-ghost use Rattle.sock_diag_captures.specs.Details.{tcp_receiver, attribute_text_if_shown};
-ghost use Rattle.sock_diag_captures.specs.Details.{tcp_sizes, timer_in, tcp_times, tcp_traffic};
-ghost use Rattle.sock_diag_captures.specs.Details.{unix_text, unknown_attribute_text};
-ghost use Rattle.sock_diag_captures.specs.Details.{invalid_attribute_text, detail_of_unix};
-ghost use Rattle.sock_diag_captures.specs.Details.{memory_kind, other_text, is_memory_kind};
-ghost use Rattle.sock_diag_captures.specs.Details.{text_or_reason};
+ghost use Rattle.sock_diag_attributes.specs.UnixModel.{unix_variant};
+ghost use Rattle.sock_diag_captures.specs.Details.{attribute_or_error_detail, detail_group};
+ghost use Rattle.sock_diag_captures.specs.Details.{details, error_reason, inet_text};
+ghost use Rattle.sock_diag_captures.specs.Details.{invalid_attribute_text, legacy_memory};
+ghost use Rattle.sock_diag_captures.specs.Details.{memory_kind, memory_text, memory_value_text};
+ghost use Rattle.sock_diag_captures.specs.Details.{other_text, packet_text, row_text, tcp_details};
+ghost use Rattle.sock_diag_captures.specs.Details.{tcp_option_flags, timer_in, unix_text};
+ghost use Rattle.sock_diag_captures.specs.Details.{unknown_attribute_text};
 ghost use Rattle.sock_diag_captures.specs.Pieces.{attributes_or_error};
 
 use crate::pieces::next_piece;
@@ -63,6 +50,24 @@ pub(crate) enum Sockets {
     Other(Family),
 }
 
+/// Format of a list of names and numbers.
+#[derive(Clone, Copy)]
+pub(crate) enum Format {
+    /// A space, the name, a colon and the number.
+    Always,
+    /// As `Always`, but nothing if the number is 0.
+    Nonzero,
+    /// The name, which includes its punctuation, and the number.
+    Part,
+}
+
+/// Appends a list of fields of a record, each with its name in the text.
+macro_rules! push_fields {
+    ($text:ident, $format:expr, $record:ident, $($name:literal: $field:ident),* $(,)?) => {
+        push_rows($text, $format, &[$(($name, $record.$field as u64)),*])
+    };
+}
+
 /// Returns the timer fields of a reply about an IPv4 or IPv6 socket.
 pub(crate) fn timer_of(payload: &[u8]) -> TimerWords
     requires { 72 ≤ length payload.now }
@@ -91,9 +96,9 @@ pub(crate) fn push_details(
 {
     let start = text.len();
     text.extend_from_slice(separator(options))?;
-    let behind = text.len();
-    push_words(text, options, sockets, timer, cookie, bytes)?;
-    if text.len() == behind {
+    let after_separator = text.len();
+    push_selected(text, options, sockets, timer, cookie, bytes)?;
+    if text.len() == after_separator {
         text.truncate(start);
     }
     Ok(())
@@ -101,7 +106,8 @@ pub(crate) fn push_details(
 
 /// Appends the timer of a socket, its cookie, and the details of each attribute, as far as the
 /// options select them.
-fn push_words(
+#[tactic(auto, using(capture_tables::proofs::Adding::appended_texts_concatenate))]
+fn push_selected(
     text: &mut Vec<u8>,
     options: Options,
     sockets: Sockets,
@@ -114,12 +120,12 @@ fn push_words(
 {
     push_shown_timer(text, options, timer)?;
     push_shown_cookie(text, options, cookie)?;
-    push_pieces(text, options, sockets, bytes)
+    push_attributes(text, options, sockets, bytes)
 }
 
 /// Appends the details of each attribute in the bytes, as far as the options select them. Bytes
 /// that are not an attribute have no details.
-fn push_pieces(
+fn push_attributes(
     text: &mut Vec<u8>,
     options: Options,
     sockets: Sockets,
@@ -131,83 +137,56 @@ fn push_pieces(
     let mut walk = NlasIterator::new(bytes);
     while let Some(piece) = next_piece(&mut walk) {
         if let Ok(nla) = piece {
-            push_shown_attribute(text, options, sockets, &nla)?;
+            push_attribute(text, options, sockets, &nla)?;
         }
     }
     Ok(())
 }
 
-/// Appends the details of an attribute, if the options select them.
-fn push_shown_attribute(
+/// Appends the details of an attribute, if the options select its group. If its value is invalid,
+/// appends the reason.
+fn push_attribute(
     text: &mut Vec<u8>,
     options: Options,
     sockets: Sockets,
     nla: &NlaBuffer<'_>,
 ) -> Result<(), AllocError>
     ensures { OnOk result (text.new.items ≡ text.old.items
-        ++ attribute_text_if_shown options sockets (buffered_attribute nla.now)) }
+        ++ attribute_or_error_detail options sockets (Ok (buffered_attribute nla.now))) }
 {
-    if !options.shows(detail_of_kind(sockets, nla.kind())) {
+    if !options.shows(detail_group(sockets, nla.kind())) {
         return Ok(());
     }
-    push_attribute(text, options, sockets, nla)
+    match sockets {
+        Sockets::Unix => match UnixView::parse(nla) {
+            Ok(view) => push_unix(text, nla, &view),
+            Err(fault) => push_invalid(text, nla, &fault),
+        },
+        Sockets::Inet => match InetView::parse(nla) {
+            Ok(view) => push_inet(text, options, nla, &view),
+            Err(fault) => push_invalid(text, nla, &fault),
+        },
+        Sockets::Other(family) => push_other(text, family, nla),
+    }
 }
 
 /// Returns the group of details that an attribute of this kind belongs to.
-fn detail_of_kind(sockets: Sockets, kind: u16) -> Detail
+fn detail_group(sockets: Sockets, kind: u16) -> Detail
     ensures { result ≡ detail_group sockets kind }
 {
-    match sockets {
-        Sockets::Unix => detail_of_unix_kind(kind),
-        Sockets::Inet => detail_of_inet_kind(kind),
-        Sockets::Other(family) => detail_of_other_kind(family, kind),
-    }
-}
-
-/// Returns the group of an attribute of a UNIX socket.
-fn detail_of_unix_kind(kind: u16) -> Detail
-    ensures { result ≡ detail_of_unix kind }
-{
-    match kind {
-        UNIX_DIAG_MEMINFO => Detail::Memory,
+    match (sockets, kind) {
+        (Sockets::Unix, UNIX_DIAG_MEMINFO)
+        | (Sockets::Inet, INET_DIAG_MEMINFO | INET_DIAG_SKMEMINFO) => Detail::Memory,
+        (Sockets::Other(family), _) if memory_kind(family) == Some(kind) => Detail::Memory,
+        (
+            Sockets::Inet,
+            INET_DIAG_INFO
+            | INET_DIAG_VEGASINFO
+            | INET_DIAG_CONG
+            | INET_DIAG_DCTCPINFO
+            | INET_DIAG_BBRINFO,
+        ) => Detail::Connection,
         _ => Detail::Extended,
-    }
-}
-
-/// Returns the group of an attribute of an IPv4 or IPv6 socket.
-fn detail_of_inet_kind(kind: u16) -> Detail
-    ensures { result ≡ detail_of_inet kind }
-{
-    match kind {
-        INET_DIAG_MEMINFO | INET_DIAG_SKMEMINFO => Detail::Memory,
-        INET_DIAG_INFO
-        | INET_DIAG_VEGASINFO
-        | INET_DIAG_CONG
-        | INET_DIAG_DCTCPINFO
-        | INET_DIAG_BBRINFO => Detail::Connection,
-        _ => Detail::Extended,
-    }
-}
-
-/// Returns the group of an attribute of a netlink, packet, vsock or XDP socket.
-fn detail_of_other_kind(family: Family, kind: u16) -> Detail
-    ensures { result ≡ detail_of_other family kind }
-{
-    if tells_memory(family, kind) {
-        Detail::Memory
-    } else {
-        Detail::Extended
-    }
-}
-
-/// Returns whether an attribute of this kind has the memory of a netlink, packet, vsock or XDP
-/// socket.
-fn tells_memory(family: Family, kind: u16) -> bool
-    ensures { result ≡ is_memory_kind family kind }
-{
-    match memory_kind(family) {
-        Some(told) => told == kind,
-        None => false,
     }
 }
 
@@ -224,202 +203,20 @@ pub(crate) fn memory_kind(family: Family) -> Option<u16>
     }
 }
 
-/// Appends the details of an attribute.
-fn push_attribute(
-    text: &mut Vec<u8>,
-    options: Options,
-    sockets: Sockets,
-    nla: &NlaBuffer<'_>,
-) -> Result<(), AllocError>
+/// Appends the details of a decoded attribute of a UNIX socket. The memory is parsed again, since
+/// its view has only three of nine fields.
+fn push_unix(text: &mut Vec<u8>, nla: &NlaBuffer<'_>, view: &UnixView<'_>) -> Result<(), AllocError>
     ensures { OnOk result (text.new.items ≡ text.old.items
-        ++ attribute_text options sockets (buffered_attribute nla.now)) }
-{
-    match sockets {
-        Sockets::Unix => push_unix_attribute(text, nla),
-        Sockets::Inet => push_inet_attribute(text, options, nla),
-        Sockets::Other(family) => push_other_attribute(text, family, nla),
-    }
-}
-
-/// Appends the details of an attribute of a UNIX socket, or the reason why its value is invalid.
-fn push_unix_attribute(text: &mut Vec<u8>, nla: &NlaBuffer<'_>) -> Result<(), AllocError>
-    ensures { OnOk result (text.new.items ≡ text.old.items
-        ++ text_or_reason unix_text (buffered_attribute nla.now)
-        (decode_attribute unix_attribute_set (buffered_attribute nla.now))) }
-{
-    match UnixView::parse(nla) {
-        Ok(view) => push_unix_value(text, nla, &view),
-        Err(fault) => push_unread(text, nla, &fault),
-    }
-}
-
-/// Appends the details of an attribute of an IPv4 or IPv6 socket, or the reason why its value is
-/// invalid.
-fn push_inet_attribute(
-    text: &mut Vec<u8>,
-    options: Options,
-    nla: &NlaBuffer<'_>,
-) -> Result<(), AllocError>
-    ensures { OnOk result (text.new.items ≡ text.old.items
-        ++ text_or_reason (inet_text options) (buffered_attribute nla.now)
-        (decode_attribute inet_attribute_set (buffered_attribute nla.now))) }
-{
-    match InetView::parse(nla) {
-        Ok(view) => push_inet_value(text, options, nla, &view),
-        Err(fault) => push_unread(text, nla, &fault),
-    }
-}
-
-/// Appends the details of an attribute of a netlink, packet, vsock or XDP socket. If the attribute
-/// has the memory, and its value is invalid, appends the reason.
-fn push_other_attribute(
-    text: &mut Vec<u8>,
-    family: Family,
-    nla: &NlaBuffer<'_>,
-) -> Result<(), AllocError>
-    ensures { OnOk result (text.new.items ≡ text.old.items
-        ++ other_text family (buffered_attribute nla.now)) }
-{
-    if !tells_memory(family, nla.kind()) {
-        return push_own_attribute(text, family, nla);
-    }
-    match MemInfo::parse(nla.value()) {
-        Ok(memory) => push_memory(text, &memory),
-        Err(fault) => push_unread(text, nla, &fault),
-    }
-}
-
-/// Appends the details of an attribute other than the memory of a netlink, packet, vsock or XDP
-/// socket.
-fn push_own_attribute(
-    text: &mut Vec<u8>,
-    family: Family,
-    nla: &NlaBuffer<'_>,
-) -> Result<(), AllocError>
-    ensures { OnOk result (text.new.items ≡ text.old.items
-        ++ family_attribute_text family (buffered_attribute nla.now)) }
-{
-    match family {
-        Family::Netlink if nla.kind() == NETLINK_DIAG_GROUPS => push_groups(text, nla),
-        Family::Packet if nla.kind() == PACKET_DIAG_INFO => push_packet_info(text, nla),
-        _ => push_unknown(text, nla),
-    }
-}
-
-/// Appends the first 32 groups of a netlink socket. A value with fewer than four bytes is shown as
-/// an unknown attribute.
-fn push_groups(text: &mut Vec<u8>, nla: &NlaBuffer<'_>) -> Result<(), AllocError>
-    ensures { OnOk result (text.new.items
-        ≡ text.old.items ++ netlink_groups_text (buffered_attribute nla.now)) }
-{
-    let value = nla.value();
-    if value.len() < 4 {
-        return push_unknown(text, nla);
-    }
-    push_hex_detail(text, b"groups", LittleEndian::read_u32(value).into())
-}
-
-/// Appends the version, the copy threshold and the flags of a packet socket. A value that is too
-/// short for the six `u32` of `packet_diag_info` is shown as an unknown attribute.
-fn push_packet_info(text: &mut Vec<u8>, nla: &NlaBuffer<'_>) -> Result<(), AllocError>
-    ensures { OnOk result (text.new.items ≡ text.old.items
-        ++ packet_text (buffered_attribute nla.now)
-        (packet_info (buffered_attribute nla.now).value)) }
-{
-    let Ok(info) = PacketInfo::parse(nla.value()) else {
-        return push_unknown(text, nla);
-    };
-    push_detail(text, b"ver", info.version.into())?;
-    push_detail(text, b"cpy_thresh", info.copy_threshold.into())?;
-    push_packet_flags(text, (info.flags % 256) as u8)
-}
-
-/// Appends the kind of an invalid attribute, the length of its value in bytes, and the reason.
-fn push_unread(
-    text: &mut Vec<u8>,
-    nla: &NlaBuffer<'_>,
-    fault: &DecodeError,
-) -> Result<(), AllocError>
-    ensures { OnOk result (text.new.items ≡ text.old.items
-        ++ invalid_attribute_text (buffered_attribute nla.now) fault.now) }
-{
-    text.extend_from_slice(b" unread:(")?;
-    push_number(text, nla.kind().into())?;
-    text.push(b',')?;
-    push_number(text, nla.value().len() as u64)?;
-    text.push(b',')?;
-    text.extend_from_slice(word_of(fault))?;
-    Ok(text.push(b')')?)
-}
-
-/// Returns the reason why a value is invalid, in one word.
-fn word_of(fault: &DecodeError) -> &'static [u8]
-    ensures { result.now ≡ error_reason fault.now }
-{
-    match fault {
-        DecodeError::BufferTooSmall { .. } => b"too-short",
-        DecodeError::WrongLength { .. } | DecodeError::NotMultipleOfFour { .. } => b"wrong-length",
-        DecodeError::NotUtf8 => b"not-utf8",
-        DecodeError::NameEmpty => b"empty",
-        DecodeError::NameInnerZero { .. } => b"inner-zero",
-        DecodeError::NameWithoutEnd => b"no-end",
-        _ => b"refused",
-    }
-}
-
-/// Appends the details of a decoded attribute of a UNIX socket. The memory is parsed again from the
-/// value, since its view has only three of nine fields.
-fn push_unix_value(
-    text: &mut Vec<u8>,
-    nla: &NlaBuffer<'_>,
-    view: &UnixView<'_>,
-) -> Result<(), AllocError>
-    ensures { OnOk result (text.new.items ≡ text.old.items
-        ++ unix_text (buffered_attribute nla.now) (unix_view_model view.now)) }
+        ++ unix_text (buffered_attribute nla.now) (unix_variant (unix_view_model view.now))) }
 {
     match view {
         UnixView::Name(_) | UnixView::Peer(_) | UnixView::ReceiveQueueLength(_, _) => Ok(()),
         UnixView::Vfs(file) => push_pair(text, b"vfs", file.inode().into(), file.device().into()),
         UnixView::PendingConnections(inodes) => push_pending(text, inodes),
-        UnixView::MemInfo(_) => push_memory_in(text, nla.value()),
+        UnixView::MemInfo(_) => push_memory_value(text, nla),
         UnixView::Shutdown(state) => push_directions(text, *state),
         UnixView::Other(_) => push_unknown(text, nla),
     }
-}
-
-/// Appends the details of a decoded attribute of an IPv4 or IPv6 socket.
-fn push_inet_value(
-    text: &mut Vec<u8>,
-    options: Options,
-    nla: &NlaBuffer<'_>,
-    view: &InetView<'_>,
-) -> Result<(), AllocError>
-    ensures { OnOk result (text.new.items ≡ text.old.items
-        ++ inet_text options (buffered_attribute nla.now) (inet_view_model view.now)) }
-{
-    match view {
-        InetView::LegacyMemInfo(memory) => push_legacy_memory(text, memory),
-        InetView::TcpInfo(info) => push_connection(text, info),
-        InetView::Congestion(name) => push_congestion(text, options, name),
-        InetView::Tos(tos) => push_hex_detail(text, b"tos", (*tos).into()),
-        InetView::Tc(class) => push_hex_detail(text, b"tclass", (*class).into()),
-        InetView::MemInfo(memory) => push_memory(text, memory),
-        InetView::Shutdown(state) => push_directions(text, *state),
-        InetView::Protocol(protocol) => push_detail(text, b"protocol", (*protocol).into()),
-        InetView::SkV6Only(only) => push_detail(text, b"v6only", u8::from(*only).into()),
-        InetView::Mark(mark) => push_hex_detail(text, b"fwmark", (*mark).into()),
-        InetView::ClassId(class) => push_hex_detail(text, b"class_id", (*class).into()),
-        InetView::Other(_) => push_unknown(text, nla),
-    }
-}
-
-/// Appends the name of a congestion control algorithm.
-fn push_congestion(text: &mut Vec<u8>, options: Options, name: &str) -> Result<(), AllocError>
-    ensures { OnOk result (text.new.items ≡ text.old.items
-        ++ codes " cong:" ++ shown_name options.utf8 name.now) }
-{
-    text.extend_from_slice(b" cong:")?;
-    push_shown(text, options.utf8, name.as_bytes())
 }
 
 /// Appends the inodes of pending connections.
@@ -433,27 +230,131 @@ fn push_pending(text: &mut Vec<u8>, inodes: &NumbersView<'_>) -> Result<(), Allo
     Ok(())
 }
 
+/// Appends the details of a decoded attribute of an IPv4 or IPv6 socket.
+fn push_inet(
+    text: &mut Vec<u8>,
+    options: Options,
+    nla: &NlaBuffer<'_>,
+    view: &InetView<'_>,
+) -> Result<(), AllocError>
+    ensures { OnOk result (text.new.items ≡ text.old.items ++ inet_text options
+        (buffered_attribute nla.now) (inet_variant (inet_view_model view.now))) }
+{
+    match view {
+        InetView::LegacyMemInfo(memory) => push_legacy_memory(text, memory),
+        InetView::TcpInfo(info) => push_connection(text, info),
+        InetView::Congestion(name) => {
+            text.extend_from_slice(b" cong:")?;
+            push_shown(text, options.utf8, name.as_bytes())
+        }
+        InetView::Tos(tos) => push_hex_detail(text, b"tos", (*tos).into()),
+        InetView::Tc(class) => push_hex_detail(text, b"tclass", (*class).into()),
+        InetView::MemInfo(memory) => push_memory(text, memory),
+        InetView::Shutdown(state) => push_directions(text, *state),
+        InetView::Protocol(protocol) => push_detail(text, b"protocol", (*protocol).into()),
+        InetView::SkV6Only(only) => push_detail(text, b"v6only", u8::from(*only).into()),
+        InetView::Mark(mark) => push_hex_detail(text, b"fwmark", (*mark).into()),
+        InetView::ClassId(class) => push_hex_detail(text, b"class_id", (*class).into()),
+        InetView::Other(_) => push_unknown(text, nla),
+    }
+}
+
+/// Appends the details of an attribute of a netlink, packet, vsock or XDP socket: of the memory,
+/// the first 32 groups of a netlink socket, or the settings of a packet socket. A value that is too
+/// short for the groups or the settings is shown as an unknown attribute.
+fn push_other(text: &mut Vec<u8>, family: Family, nla: &NlaBuffer<'_>) -> Result<(), AllocError>
+    ensures { OnOk result (text.new.items
+        ≡ text.old.items ++ other_text family (buffered_attribute nla.now)) }
+{
+    let (kind, value) = (nla.kind(), nla.value());
+    match family {
+        _ if memory_kind(family) == Some(kind) => push_memory_value(text, nla),
+        Family::Netlink if kind == NETLINK_DIAG_GROUPS && value.len() >= 4 => {
+            push_hex_detail(text, b"groups", LittleEndian::read_u32(value).into())
+        }
+        Family::Packet if kind == PACKET_DIAG_INFO => match PacketInfo::parse(value) {
+            Ok(info) => push_packet_info(text, &info),
+            Err(_) => push_unknown(text, nla),
+        },
+        _ => push_unknown(text, nla),
+    }
+}
+
+/// Appends the version, the copy threshold and the flags of a packet socket.
+#[tactic(auto, using(capture_tables::proofs::Adding::appended_texts_concatenate))]
+fn push_packet_info(text: &mut Vec<u8>, info: &PacketInfo) -> Result<(), AllocError>
+    ensures { OnOk result (text.new.items ≡ text.old.items ++ packet_text info.now) }
+{
+    push_fields!(text, Format::Always, info, b"ver": version, b"cpy_thresh": copy_threshold)?;
+    push_packet_flags(text, (info.flags % 256) as u8)
+}
+
 /// Appends the kind of an unknown attribute, and the length of its value in bytes.
 fn push_unknown(text: &mut Vec<u8>, nla: &NlaBuffer<'_>) -> Result<(), AllocError>
     ensures { OnOk result (text.new.items
         ≡ text.old.items ++ unknown_attribute_text (buffered_attribute nla.now)) }
 {
-    push_pair(
-        text,
-        b"unknown",
-        nla.kind().into(),
-        nla.value().len() as u64,
-    )
+    let length = nla.value().len() as u64;
+    push_pair(text, b"unknown", nla.kind().into(), length)
 }
 
-/// Appends the memory in a value. Appends nothing if the value is shorter than seven `u32`.
-fn push_memory_in(text: &mut Vec<u8>, value: &[u8]) -> Result<(), AllocError>
+/// Appends the kind of an invalid attribute, the length of its value in bytes, and the reason.
+fn push_invalid(
+    text: &mut Vec<u8>,
+    nla: &NlaBuffer<'_>,
+    fault: &DecodeError,
+) -> Result<(), AllocError>
     ensures { OnOk result (text.new.items ≡ text.old.items
-        ++ memory_text_if_valid (parse_record mem_info tt value.now)) }
+        ++ invalid_attribute_text (buffered_attribute nla.now) fault.now) }
 {
-    match MemInfo::parse(value) {
+    let (kind, length) = (nla.kind() as u64, nla.value().len() as u64);
+    push_rows(text, Format::Part, &[(b" unread:(", kind), (b",", length)])?;
+    text.push(b',')?;
+    text.extend_from_slice(error_reason(fault))?;
+    Ok(text.push(b')')?)
+}
+
+/// Returns the reason why a value is invalid, in one word.
+fn error_reason(fault: &DecodeError) -> &'static [u8]
+    ensures { result.now ≡ error_reason fault.now }
+{
+    match fault {
+        DecodeError::BufferTooSmall { .. } => b"too-short",
+        DecodeError::WrongLength { .. } | DecodeError::NotMultipleOfFour { .. } => b"wrong-length",
+        DecodeError::NotUtf8 => b"not-utf8",
+        DecodeError::NameEmpty => b"empty",
+        DecodeError::NameInnerZero { .. } => b"inner-zero",
+        DecodeError::NameWithoutEnd => b"no-end",
+        _ => b"refused",
+    }
+}
+
+/// Appends a list of names and numbers.
+fn push_rows(text: &mut Vec<u8>, format: Format, rows: &[(&[u8], u64)]) -> Result<(), AllocError>
+    ensures { OnOk result (text.new.items ≡ text.old.items
+        ++ flat_map (λ row. row_text format (row.0.now, row.1)) rows.now) }
+{
+    for &(name, number) in rows {
+        match format {
+            Format::Always => push_detail(text, name, number)?,
+            Format::Nonzero => push_some(text, name, number)?,
+            Format::Part => {
+                text.extend_from_slice(name)?;
+                push_number(text, number)?;
+            }
+        }
+    }
+    Ok(())
+}
+
+/// Appends the memory in the value of an attribute, or the reason why the value is invalid.
+fn push_memory_value(text: &mut Vec<u8>, nla: &NlaBuffer<'_>) -> Result<(), AllocError>
+    ensures { OnOk result (text.new.items
+        ≡ text.old.items ++ memory_value_text (buffered_attribute nla.now)) }
+{
+    match MemInfo::parse(nla.value()) {
         Ok(memory) => push_memory(text, &memory),
-        Err(_) => Ok(()),
+        Err(fault) => push_invalid(text, nla, &fault),
     }
 }
 
@@ -462,91 +363,55 @@ fn push_memory_in(text: &mut Vec<u8>, value: &[u8]) -> Result<(), AllocError>
 fn push_memory(text: &mut Vec<u8>, info: &MemInfo) -> Result<(), AllocError>
     ensures { OnOk result (text.new.items ≡ text.old.items ++ memory_text info.now) }
 {
-    push_received(text, info.receive_queue.into())?;
-    push_limits_of_memory(text, info)?;
-    push_used_memory(text, info)?;
+    push_fields!(text, Format::Part, info,
+        b" skmem:(r": receive_queue, b",rb": receive_queue_max, b",t": bottom_send_queues,
+        b",tb": send_queue_max, b",f": cache, b",w": send_queue, b",o": options,
+    )?;
     push_part(text, b"bl", info.backlog_queue_length)?;
     push_part(text, b"d", info.drops)?;
     Ok(text.push(b')')?)
-}
-
-/// Appends the allocated receive memory (`SK_MEMINFO_RMEM_ALLOC`).
-fn push_received(text: &mut Vec<u8>, number: u64) -> Result<(), AllocError>
-    ensures { OnOk result (text.new.items ≡ text.old.items ++ memory_received number) }
-{
-    text.extend_from_slice(b" skmem:(r")?;
-    push_number(text, number)
-}
-
-/// Appends the receive buffer limit, the memory committed to the device queue, and the send buffer
-/// limit (`SK_MEMINFO_RCVBUF`, `SK_MEMINFO_WMEM_ALLOC` and `SK_MEMINFO_SNDBUF`).
-fn push_limits_of_memory(text: &mut Vec<u8>, info: &MemInfo) -> Result<(), AllocError>
-    ensures { OnOk result (text.new.items ≡ text.old.items ++ memory_limits info.now) }
-{
-    push_part(text, b"rb", Some(info.receive_queue_max))?;
-    push_part(text, b"t", Some(info.bottom_send_queues))?;
-    push_part(text, b"tb", Some(info.send_queue_max))
-}
-
-/// Appends the memory allocated ahead, the queued send memory, and the memory of options
-/// (`SK_MEMINFO_FWD_ALLOC`, `SK_MEMINFO_WMEM_QUEUED` and `SK_MEMINFO_OPTMEM`).
-fn push_used_memory(text: &mut Vec<u8>, info: &MemInfo) -> Result<(), AllocError>
-    ensures { OnOk result (text.new.items ≡ text.old.items ++ memory_used info.now) }
-{
-    push_part(text, b"f", Some(info.cache))?;
-    push_part(text, b"w", Some(info.send_queue))?;
-    push_part(text, b"o", Some(info.options))
 }
 
 /// Appends the memory of a socket, in bytes, in the format of old kernels (`INET_DIAG_MEMINFO`).
 fn push_legacy_memory(text: &mut Vec<u8>, info: &LegacyMemInfo) -> Result<(), AllocError>
     ensures { OnOk result (text.new.items ≡ text.old.items ++ legacy_memory info.now) }
 {
-    text.extend_from_slice(b" mem:(r")?;
-    push_number(text, info.receive_queue.into())?;
-    push_part(text, b"w", Some(info.bottom_send_queue))?;
-    push_part(text, b"f", Some(info.cache))?;
-    push_part(text, b"t", Some(info.send_queue))?;
+    push_fields!(text, Format::Part, info,
+        b" mem:(r": receive_queue, b",w": bottom_send_queue, b",f": cache, b",t": send_queue,
+    )?;
     Ok(text.push(b')')?)
 }
 
 /// Appends the details of a TCP connection (`INET_DIAG_INFO`).
+#[tactic(auto, using(capture_tables::proofs::Adding::appended_texts_concatenate))]
 fn push_connection(text: &mut Vec<u8>, info: &TcpInfo) -> Result<(), AllocError>
     ensures { OnOk result (text.new.items ≡ text.old.items ++ tcp_details info.now) }
 {
-    push_times(text, info)?;
-    push_traffic(text, info)?;
+    push_fields!(text, Format::Always, info,
+        b"rtt": rtt, b"rttvar": rttvar, b"rto": rto, b"mss": snd_mss, b"pmtu": pmtu,
+        b"cwnd": snd_cwnd, b"unacked": unacked, b"retrans": total_retrans,
+        b"sent": bytes_sent, b"received": bytes_received,
+    )?;
     push_options(text, info)?;
-    push_sizes(text, info)?;
-    push_counts(text, info)?;
-    push_ages(text, info)?;
-    push_rates(text, info)?;
-    push_limits(text, info)?;
-    push_losses(text, info)?;
-    push_receiver(text, info)
-}
-
-/// Appends round-trip and retransmission times in microseconds, and segment sizes in bytes.
-fn push_times(text: &mut Vec<u8>, info: &TcpInfo) -> Result<(), AllocError>
-    ensures { OnOk result (text.new.items ≡ text.old.items ++ tcp_times info.now) }
-{
-    push_detail(text, b"rtt", info.rtt.into())?;
-    push_detail(text, b"rttvar", info.rttvar.into())?;
-    push_detail(text, b"rto", info.rto.into())?;
-    push_detail(text, b"mss", info.snd_mss.into())?;
-    push_detail(text, b"pmtu", info.pmtu.into())
-}
-
-/// Appends the congestion window, unacknowledged segments, retransmits, and the bytes sent and
-/// received.
-fn push_traffic(text: &mut Vec<u8>, info: &TcpInfo) -> Result<(), AllocError>
-    ensures { OnOk result (text.new.items ≡ text.old.items ++ tcp_traffic info.now) }
-{
-    push_detail(text, b"cwnd", info.snd_cwnd.into())?;
-    push_detail(text, b"unacked", info.unacked.into())?;
-    push_detail(text, b"retrans", info.total_retrans.into())?;
-    push_detail(text, b"sent", info.bytes_sent)?;
-    push_detail(text, b"received", info.bytes_received)
+    push_fields!(text, Format::Nonzero, info,
+        b"backoff": backoff, b"ato": ato, b"rcvmss": rcv_mss, b"advmss": advmss,
+        b"ssthresh": snd_ssthresh, b"snd_wnd": snd_wnd,
+        b"bytes_retrans": bytes_retrans, b"bytes_acked": bytes_acked,
+        b"segs_out": segs_out, b"segs_in": segs_in,
+        b"data_segs_out": data_segs_out, b"data_segs_in": data_segs_in,
+        b"lastsnd": last_data_sent, b"lastrcv": last_data_recv, b"lastack": last_ack_recv,
+        b"notsent": notsent_bytes,
+        b"pacing_rate": pacing_rate, b"max_pacing_rate": max_pacing_rate,
+        b"delivery_rate": delivery_rate, b"delivered": delivered, b"delivered_ce": delivered_ce,
+    )?;
+    push_flag(text, b"app_limited", 1, info.delivery_rate_app_limited)?;
+    push_fields!(text, Format::Nonzero, info,
+        b"busy": busy_time, b"rwnd_limited": rwnd_limited, b"sndbuf_limited": sndbuf_limited,
+        b"retrans_now": retrans, b"lost": lost, b"sacked": sacked, b"dsack_dups": dsack_dups,
+        b"reordering": reordering, b"reord_seen": reord_seen,
+        b"rcv_rtt": rcv_rtt, b"rcv_space": rcv_space, b"rcv_ssthresh": rcv_ssthresh,
+        b"minrtt": min_rtt, b"rcv_ooopack": rcv_ooopack,
+    )
 }
 
 /// Appends the flags of `tcpi_options`, and the window scales if they are negotiated.
@@ -563,87 +428,4 @@ fn push_options(text: &mut Vec<u8>, info: &TcpInfo) -> Result<(), AllocError>
     }
     let (sent, received) = (info.wscale % 16, info.wscale / 16);
     push_pair(text, b"wscale", sent.into(), received.into())
-}
-
-/// Appends the backoff, the delayed acknowledgement timeout, segment sizes, the slow start
-/// threshold and the send window. Those that are 0 are left out.
-fn push_sizes(text: &mut Vec<u8>, info: &TcpInfo) -> Result<(), AllocError>
-    ensures { OnOk result (text.new.items ≡ text.old.items ++ tcp_sizes info.now) }
-{
-    push_some(text, b"backoff", info.backoff.into())?;
-    push_some(text, b"ato", info.ato.into())?;
-    push_some(text, b"rcvmss", info.rcv_mss.into())?;
-    push_some(text, b"advmss", info.advmss.into())?;
-    push_some(text, b"ssthresh", info.snd_ssthresh.into())?;
-    push_some(text, b"snd_wnd", info.snd_wnd.into())
-}
-
-/// Appends counts of bytes and segments. Those that are 0 are left out.
-fn push_counts(text: &mut Vec<u8>, info: &TcpInfo) -> Result<(), AllocError>
-    ensures { OnOk result (text.new.items ≡ text.old.items ++ tcp_counts info.now) }
-{
-    push_some(text, b"bytes_retrans", info.bytes_retrans)?;
-    push_some(text, b"bytes_acked", info.bytes_acked)?;
-    push_some(text, b"segs_out", info.segs_out.into())?;
-    push_some(text, b"segs_in", info.segs_in.into())?;
-    push_some(text, b"data_segs_out", info.data_segs_out.into())?;
-    push_some(text, b"data_segs_in", info.data_segs_in.into())
-}
-
-/// Appends the times since data was sent or received or an acknowledgement was received, in
-/// milliseconds, and the bytes that are not sent yet. Those that are 0 are left out.
-fn push_ages(text: &mut Vec<u8>, info: &TcpInfo) -> Result<(), AllocError>
-    ensures { OnOk result (text.new.items ≡ text.old.items ++ tcp_ages info.now) }
-{
-    push_some(text, b"lastsnd", info.last_data_sent.into())?;
-    push_some(text, b"lastrcv", info.last_data_recv.into())?;
-    push_some(text, b"lastack", info.last_ack_recv.into())?;
-    push_some(text, b"notsent", info.notsent_bytes.into())
-}
-
-/// Appends rates in bytes per second, and the numbers of delivered segments. Those that are 0 are
-/// left out.
-fn push_rates(text: &mut Vec<u8>, info: &TcpInfo) -> Result<(), AllocError>
-    ensures { OnOk result (text.new.items ≡ text.old.items ++ tcp_rates info.now) }
-{
-    push_some(text, b"pacing_rate", info.pacing_rate)?;
-    push_some(text, b"max_pacing_rate", info.max_pacing_rate)?;
-    push_some(text, b"delivery_rate", info.delivery_rate)?;
-    push_some(text, b"delivered", info.delivered.into())?;
-    push_some(text, b"delivered_ce", info.delivered_ce.into())?;
-    push_flag(text, b"app_limited", 1, info.delivery_rate_app_limited)
-}
-
-/// Appends the time with data to send, and the parts of it that were limited by the receive window
-/// and by the send buffer, in microseconds. Those that are 0 are left out.
-fn push_limits(text: &mut Vec<u8>, info: &TcpInfo) -> Result<(), AllocError>
-    ensures { OnOk result (text.new.items ≡ text.old.items ++ tcp_limits info.now) }
-{
-    push_some(text, b"busy", info.busy_time)?;
-    push_some(text, b"rwnd_limited", info.rwnd_limited)?;
-    push_some(text, b"sndbuf_limited", info.sndbuf_limited)
-}
-
-/// Appends counts of lost, reordered and duplicate segments. Those that are 0 are left out.
-fn push_losses(text: &mut Vec<u8>, info: &TcpInfo) -> Result<(), AllocError>
-    ensures { OnOk result (text.new.items ≡ text.old.items ++ tcp_losses info.now) }
-{
-    push_some(text, b"retrans_now", info.retrans.into())?;
-    push_some(text, b"lost", info.lost.into())?;
-    push_some(text, b"sacked", info.sacked.into())?;
-    push_some(text, b"dsack_dups", info.dsack_dups.into())?;
-    push_some(text, b"reordering", info.reordering.into())?;
-    push_some(text, b"reord_seen", info.reord_seen.into())
-}
-
-/// Appends the values of the receiver, and the minimum round-trip time. Those that are 0 are left
-/// out.
-fn push_receiver(text: &mut Vec<u8>, info: &TcpInfo) -> Result<(), AllocError>
-    ensures { OnOk result (text.new.items ≡ text.old.items ++ tcp_receiver info.now) }
-{
-    push_some(text, b"rcv_rtt", info.rcv_rtt.into())?;
-    push_some(text, b"rcv_space", info.rcv_space.into())?;
-    push_some(text, b"rcv_ssthresh", info.rcv_ssthresh.into())?;
-    push_some(text, b"minrtt", info.min_rtt.into())?;
-    push_some(text, b"rcv_ooopack", info.rcv_ooopack.into())
 }

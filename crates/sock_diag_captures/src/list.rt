@@ -98,8 +98,7 @@ struct Place {
 /// messages is invalid, has an error of the kernel other than `ENOENT` and `EINVAL`, or reports
 /// lost data or a changed dump, or bytes after the last message are not a message. An invalid value
 /// of an attribute, and a reply about a socket of an unknown family, are not errors. Packets of
-/// other
-/// protocols and the content of requests are not checked.
+/// other protocols and the content of requests are not checked.
 ///
 /// Stores a request for IPv4 or IPv6 sockets in `requests`, so that the protocol of its replies is
 /// known. Appends a line for a request if `--requests` is set. If it fails, an allocation failed,

@@ -12,33 +12,36 @@ use Rattle.netlink_core.specs.Parse.{number_of_width, parse_text}
 use Rattle.sock_diag_examples.specs.declared.link.LinkError.{LinkError}
 use Rattle.sock_diag_examples.specs.declared.link.LinkError.TheVariants as errors
 
--- an attribute decodes to the name of the interface, to its MTU, or to nothing that is used
+-- what an attribute of a message about an interface decodes to: the bytes of the interface's name,
+-- its MTU, or nothing that is used
 pub data LinkAttribute : Type 0 where
   name_attribute : List ℕ → LinkAttribute
   mtu_attribute : ℕ → LinkAttribute
   other_attribute : LinkAttribute
 
--- map_decoded made r: the parsed value, wrapped by `made`, or the same error
+-- map_decoded made r: `Ok (made x)` if `r` is `Ok x`; the same error if it is an `Err`
 abbrev pub map_decoded : {A : Type 0} → (A → LinkAttribute) → Result A DecodeError
     → Result LinkAttribute DecodeError
 map_decoded made (Ok x) = Ok (made x)
 map_decoded made (Err e) = Err e
 
--- IFLA_IFNAME, 3, is a UTF-8 text, without a terminating NUL if it has one. IFLA_MTU, 4, is a
--- little-endian `__u32`; any length other than four bytes is an error.
+-- `decodes_link a`: what the attribute `a` decodes to, by its type. IFLA_IFNAME (3) is a UTF-8
+-- text, without one terminating NUL if it has one. IFLA_MTU (4) is a little-endian `__u32`; any
+-- length other than four bytes is WrongLength, without an attribute type (`None`). Any other type
+-- is not used.
 abbrev pub decodes_link : Attribute → Result LinkAttribute DecodeError
 decodes_link a =
     if attribute_kind a == 3 then map_decoded name_attribute (parse_text a.value)
     else if attribute_kind a == 4 then map_decoded mtu_attribute (number_of_width None 4 a.value)
     else Ok other_attribute
 
--- the name, if the attribute is one
+-- `name_in decoded`: the name, if the attribute decodes to one
 abbrev pub name_in : LinkAttribute → Option (List ℕ)
 name_in (name_attribute name) = Some name
 name_in (mtu_attribute mtu) = None
 name_in other_attribute = None
 
--- the MTU, if the attribute is one
+-- `mtu_in decoded`: the MTU, if the attribute decodes to one
 abbrev pub mtu_in : LinkAttribute → Option ℕ
 mtu_in (name_attribute name) = None
 mtu_in (mtu_attribute mtu) = Some mtu
@@ -52,22 +55,26 @@ string_content text = option_map string_bytes text
 abbrev pub link_error_of : DecodeError → LinkError
 link_error_of fault = errors.Attribute fault
 
--- the bytes start with an attribute that decodes to a name
+-- `IsNamePrefix bytes`: the bytes start with an attribute that decodes to a name
 abbrev pub IsNamePrefix : List ℕ → Type 0
 IsNamePrefix bytes = (a : Attribute) × HasAttributePrefix bytes a × (name : List ℕ)
     × (decodes_link a ≡ Ok (name_attribute name))
 
--- the bytes start with attributes that decode, if any, followed by one that decodes to a name.
--- `Memory` is a placeholder: `SplitsUntilError` takes an error, and this condition ignores it.
+-- `HasName bytes`: the bytes start with attributes that decode, or none, and then an attribute that
+-- decodes to a name. `SplitsUntilError P bytes attributes e`: the bytes are these attributes, and
+-- then bytes `left` with `P left e`. Here `P` ignores the error, and `Memory` is a placeholder for
+-- it.
 abbrev pub HasName : List ℕ → Type 0
 HasName bytes =
     (attributes : List Attribute) × SplitsUntilError (λ left _. IsNamePrefix left) bytes attributes
     Memory
     × AllByRecursion (λ a. IsOk (decodes_link a)) attributes
 
--- `LinkFails payload e`, why parse_link fails: the payload is shorter than the 16 bytes of
--- `struct ifinfomsg`; or its attributes have this first error; or memory ran out, and there is a
--- name to allocate.
+-- `LinkFails payload e`: why `parse_link` fails with the error `e`:
+-- - `TooShort got`: the payload has `got` bytes, fewer than the 16 of `struct ifinfomsg`.
+-- - `Attribute e`, other than `Memory`: `e` is the first error of the attributes, which follow
+--   these 16 bytes.
+-- - `Attribute Memory`: there is a name to allocate (`HasName`).
 abbrev pub LinkFails : List ℕ → LinkError → Type 0
 LinkFails payload (errors.TooShort got) = (got ≡ length payload) × (length payload < 16)
 LinkFails payload (errors.Attribute e) =

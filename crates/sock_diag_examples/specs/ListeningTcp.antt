@@ -9,19 +9,20 @@ use Rattle.sock_diag_records.specs.ResponseKind.{inet_request}
 use Rattle.sock_diag_examples.specs.declared.listening_tcp.Family.{Family}
 use Rattle.sock_diag_examples.specs.declared.listening_tcp.Family.TheVariants.{Inet, Inet6}
 
--- AF_INET is 2, and AF_INET6 is 10
+-- `family_number family`: AF_INET (2) or AF_INET6 (10)
 abbrev pub family_number : Family → ℕ
 family_number Inet = 2
 family_number Inet6 = 10
 
--- the address of all zeros
+-- `zero_address family`: the address of all zeros, IPv4 or IPv6 by the family
 abbrev pub zero_address : Family → IpAddr
 zero_address Inet = V4 record { octets = replicate 4 0 }
 zero_address Inet6 = V6 record { segments = replicate 8 0 }
 
--- A netlink message with `struct inet_diag_req_v2`: type SOCK_DIAG_BY_FAMILY (20), flags
--- NLM_F_REQUEST | NLM_F_DUMP (0x301), protocol IPPROTO_TCP (6), only the state TCP_LISTEN (bit 10).
--- The socket id is all zeros.
+-- `listening_request family sequence_number`: a netlink message of 72 bytes with this sequence
+-- number: type SOCK_DIAG_BY_FAMILY (20), flags NLM_F_REQUEST | NLM_F_DUMP (0x301), port id 0; and a
+-- `struct inet_diag_req_v2`: the family, protocol IPPROTO_TCP (6), no attributes requested, only
+-- the state TCP_LISTEN (bit 10, 0x400), and a socket id of all zeros.
 abbrev pub listening_request : Family → ℕ → NetlinkMessageModel Message
 listening_request family sequence_number = record {
   header = record {

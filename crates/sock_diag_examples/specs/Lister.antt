@@ -12,15 +12,17 @@ use Rattle.sock_diag_records.specs.ResponseKind.{unix_response}
 use Rattle.sock_diag_examples.specs.declared.lister.Line.{Line}
 use Rattle.sock_diag_examples.specs.declared.lister.Line.TheVariants.{Socket, End, Failure, Refused}
 
--- the line of a message: the state and the inode of a reply; none for a request
+-- `socket_of message`: the line of a message: the state and the inode of a reply (`idiag_state`,
+-- `idiag_inode`, or `udiag_state`, `udiag_ino`); None for a request
 abbrev pub socket_of : Message → Option Line
 socket_of (message_of inet_request v) = None
 socket_of (message_of inet_response v) = Some (Socket v.header.state v.header.inode)
 socket_of (message_of unix_request v) = None
 socket_of (message_of unix_response v) = Some (Socket v.header.state v.header.inode)
 
--- The line of an item, if it has one: the state and the inode of a reply, the end of the dump, a
--- failure that the kernel reports, or a decode error. NLMSG_NOOP has no line.
+-- `line_of item`: the line of an item, which is the payload of a message or a decode error: the
+-- state and the inode of a reply, the end of the dump, a failure that the kernel reports
+-- (NLMSG_ERROR or NLMSG_OVERRUN), or the decode error. NLMSG_NOOP has no line (None).
 abbrev pub line_of : Result (Payload Message) DecodeError → Option Line
 line_of (Ok (InnerMessage message)) = socket_of message
 line_of (Ok (Done given)) = Some End
@@ -29,9 +31,10 @@ line_of (Ok (Overrun given)) = Some Failure
 line_of (Ok Noop) = None
 line_of (Err e) = Some (Refused e)
 
--- the lines of a datagram's items, in order
+-- `AreLinesOf datagram lines`: the lines of the items of the datagram that have one, in order
 pub record AreLinesOf (datagram : List ℕ) (lines : List Line) : Type 0 where
-  -- the messages of the datagram, each with its payload or its decode error
+  -- the payload or the decode error of each message, in order; last, if bytes are left that are not
+  -- a message, their decode error
   pub items : List (Result (Payload Message) DecodeError)
   pub are : AreItemsOf (IsItemOf message_codec) datagram items
   -- the lines of the items that have one

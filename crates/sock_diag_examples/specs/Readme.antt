@@ -37,7 +37,8 @@ abbrev pub path_in : SocketName (List ℕ) → Option (List ℕ)
 path_in (Pathname path) = Some path
 path_in (Abstract address) = None
 
--- the path in the first name of a message, if it is a reply about a UNIX socket
+-- `path_of message`: the path in the first UNIX_DIAG_NAME of the message, if it is a reply about a
+-- UNIX socket. None for any other message, if there is no such attribute, and for an abstract name.
 abbrev pub path_of : Message → Option (List ℕ)
 path_of (message_of inet_request v) = None
 path_of (message_of inet_response v) = None
@@ -46,15 +47,18 @@ path_of (message_of unix_response v) =
     option_and_then path_in (first_content_of (value_of_kind unix_attribute_set UNIX_DIAG_NAME)
     v.nlas)
 
--- it is a reply about a listening UNIX socket
+-- `is_listening_reply item`: the item is a reply about a UNIX socket in the state TCP_LISTEN (10)
 abbrev pub is_listening_reply : Item Message → Bool
 is_listening_reply (Ok (InnerMessage (message_of unix_response v))) = v.header.state == TCP_LISTEN
 is_listening_reply _ = false
 
--- IsCountAtEnd count items answer: `count` listening sockets precede these items. If no items are
--- left, the answer is the count. Else the first item ends the dump: NLMSG_DONE has the answer
--- `Some(count)` if it starts with four zero bytes, else `None`; NLMSG_ERROR and NLMSG_OVERRUN have
--- `None`; and a decode error is returned.
+-- IsCountAtEnd count items answer: the answer, if `count` replies about listening sockets precede
+-- these items, and the first of them ends the dump:
+-- - No items: `Ok (Some count)`.
+-- - NLMSG_DONE: `Ok (Some count)` if its payload starts with four zero bytes, error number 0; else
+--   `Ok None`.
+-- - NLMSG_ERROR or NLMSG_OVERRUN: `Ok None`.
+-- - A decode error: this error.
 abbrev pub IsCountAtEnd : ℕ → List (Item Message) → Result (Option ℕ) DecodeError → Type 0
 IsCountAtEnd count [] answer = answer ≡ Ok (Some count)
 IsCountAtEnd count (Ok (Done status) ∷ later) answer =
@@ -64,14 +68,16 @@ IsCountAtEnd count (Ok (Overrun status) ∷ later) answer = answer ≡ Ok None
 IsCountAtEnd count (Err e ∷ later) answer = answer ≡ Err e
 IsCountAtEnd count (_ ∷ later) answer = ⊥
 
--- the number of replies about listening sockets before the first item of the datagram that ends the
--- dump
+-- `IsCounted datagram answer`: the answer for the number of replies about listening sockets before
+-- the first item of the datagram that ends the dump
 pub record IsCounted (datagram : List ℕ) (answer : Result (Option ℕ) DecodeError) : Type 0 where
   -- the items before the first one that ends the dump
   pub passed : List (Item Message)
   -- the item that ends the dump, if any, and all items after it
   pub later : List (Item Message)
+  -- both lists together are the items of the datagram, in order
   pub are : AreItemsOf (IsItemOf message_codec) datagram (passed ++ later)
+  -- each item of `passed` is an inner message or NLMSG_NOOP
   pub go_on : AllByRecursion (λ item. dump_end_at item ≡ None) passed
   -- the answer, given the number of replies about listening sockets in `passed`
   pub ends : IsCountAtEnd (count_by is_listening_reply passed) later answer

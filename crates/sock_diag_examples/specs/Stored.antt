@@ -5,8 +5,8 @@ use Rattle.netlink_core.specs.Canonical.{CanonicalFails}
 use Rattle.netlink_core.specs.declared.canon.CanonError.{CanonError}
 use Rattle.netlink_packet_sock_diag.specs.Message.{Message, message_codec}
 
--- `IsKey reply key`: the bytes of the reply parse as a message under the type 20,
--- SOCK_DIAG_BY_FAMILY, the message is writable, and the key is what it serializes to
+-- `IsKey reply key`: the bytes `reply` parse as a message under the type 20 (SOCK_DIAG_BY_FAMILY),
+-- the message is writable, and `key` are the bytes that it serializes to
 pub record IsKey (reply key : List ℕ) : Type 0 where
   -- each number is below 256
   pub in_range : IsBytes reply
@@ -15,12 +15,13 @@ pub record IsKey (reply key : List ℕ) : Type 0 where
   pub fits : message_codec.fits message
   pub written : key ≡ message_codec.written message
 
--- the reply has a key
+-- `HasKey reply`: the reply has a key: it parses as a writable message
 abbrev pub HasKey : List ℕ → Type 0
 HasKey reply = (key : List ℕ) × IsKey reply key
 
--- why no key is returned: the reply is rejected with this error, or parses as a message that can't
--- be serialized, or parses as one that can be serialized, and memory ran out
+-- `KeyFails reply e`: why no key is returned: the reply is rejected with this decode error
+-- (`Refused`); or it parses as a message that is not writable (`Unwritable`); or it parses as a
+-- writable message, and an allocation failed (`Memory`)
 abbrev pub KeyFails : List ℕ → CanonError → Type 0
 KeyFails reply = CanonicalFails (message_codec.reads reply 20) (message_codec.refuses reply 20)
     message_codec.fits

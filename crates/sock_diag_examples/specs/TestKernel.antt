@@ -25,9 +25,10 @@ use Rattle.sock_diag_examples.specs.declared.test_kernel.AnswerError.TheVariants
 use Rattle.sock_diag_examples.specs.declared.test_kernel.AnswerError.TheVariants.{Unwritable}
 use Rattle.sock_diag_examples.specs.declared.test_kernel.AnswerError.TheVariants.{Memory}
 
--- `numbered_message_bytes sequence_number payload`: the bytes of a netlink message that is one of
--- several (flags 2, NLM_F_MULTI), with its own length and type (20 for an inner message), and from
--- port id 0
+-- `numbered_message_bytes sequence_number payload`: the bytes of the netlink message with this
+-- payload and sequence number. Its length and its type are those of the payload (20,
+-- SOCK_DIAG_BY_FAMILY, for an inner message), its flags are 2 (NLM_F_MULTI: one of several
+-- messages), and its port id is 0.
 unfoldable pub numbered_message_bytes : ℕ → Payload Message → List ℕ
 numbered_message_bytes sequence_number payload = netlink_message_codec.written (record {
   header = record {
@@ -40,19 +41,21 @@ numbered_message_bytes sequence_number payload = netlink_message_codec.written (
   payload = payload;
 })
 
--- the message of a reply; its length is a multiple of 4, so it has no padding
+-- `reply_message_bytes sequence_number reply`: the message of a reply. Its length is a multiple of
+-- 4, so it has no padding.
 abbrev pub reply_message_bytes : ℕ → ReplyValue unix_response_spec → List ℕ
 reply_message_bytes sequence_number reply =
     numbered_message_bytes sequence_number (netlink.InnerMessage (message_of unix_response reply))
 
--- NLMSG_DONE with error number 0, four zero bytes
+-- `done_message_bytes sequence_number`: an NLMSG_DONE with error number 0, four zero bytes
 abbrev pub done_message_bytes : ℕ → List ℕ
 done_message_bytes sequence_number =
     numbered_message_bytes sequence_number (netlink.Done (0 ∷ 0 ∷ 0 ∷ 0 ∷ []))
 
--- The request starts with a netlink message of type 20, SOCK_DIAG_BY_FAMILY, whose payload parses
--- as a request for UNIX sockets. The datagram is the messages of the replies, in order, and then
--- the end, all with the sequence number of the request.
+-- `IsAnswer request replies datagram`: the request starts with a netlink message of type 20
+-- (SOCK_DIAG_BY_FAMILY), whose payload parses as a request for UNIX sockets. The datagram is the
+-- messages of the replies, in order, and then NLMSG_DONE, all with the sequence number of the
+-- request.
 pub record IsAnswer (request : List ℕ) (replies : List (ReplyValue unix_response_spec))
     (datagram : List ℕ) : Type 0 where
   -- the netlink header of the request
@@ -78,8 +81,8 @@ pub data RejectsUnixRequest (request : List ℕ) (e : DecodeError) : Type 0 wher
       → parse_record unix_request tt (take (h.length - 16) (drop 16 request)) ≡ Err e
       → RejectsUnixRequest request e
 
--- a message with this payload is writable: its inner message is, if any, and its length fits
--- `nlmsg_len`
+-- `IsWritableMessage payload`: a message with this payload is writable: its inner message is
+-- writable, if it has one, and its length, 16 bytes more than the payload, fits `nlmsg_len`
 abbrev pub IsWritableMessage : Payload Message → Type 0
 IsWritableMessage payload = HoldsOfInnerMessage message_codec.fits payload
     × (16 + length (payload_bytes message_codec.written payload) ≤ 4294967295)
@@ -89,23 +92,24 @@ abbrev pub IsWritableReplyMessage : ReplyValue unix_response_spec → Type 0
 IsWritableReplyMessage reply =
     IsWritableMessage (netlink.InnerMessage (message_of unix_response reply))
 
--- IsErrorFor reason e: e is not an error of a request, and it is `Unwritable` only for this reason;
--- `Memory` has no condition
+-- IsErrorFor reason e: the error of a function that appends messages: never an error of the
+-- request; `Unwritable` only if `reason` holds; `Memory` without a condition
 abbrev pub IsErrorFor : Type 0 → AnswerError → Type 0
 IsErrorFor reason (Request e) = ⊥
 IsErrorFor reason Unwritable = reason
 IsErrorFor reason Memory = ⊤
 
--- the request starts with a netlink message of type 20 whose payload parses as a request for UNIX
--- sockets
+-- `IsUnixRequestMessage request`: the request starts with a netlink message of type 20 whose
+-- payload, the bytes from offset 16 to its length, parses as a request for UNIX sockets
 abbrev pub IsUnixRequestMessage : List ℕ → Type 0
 IsUnixRequestMessage request = (h : NetlinkHeader) × (asked : UnixRequest)
     × HasHeader request h × (h.message_type ≡ 20)
     × (parse_record unix_request tt (take (h.length - 16) (drop 16 request)) ≡ Ok asked)
 
--- `AnswerFails request replies e`, why there is no answer: the request is rejected with this error;
--- or it is accepted, and the message of some reply is not writable; or it is accepted, and memory
--- ran out.
+-- `AnswerFails request replies e`: why there is no answer, by the error:
+-- - `Request e`: the request is rejected with `e`.
+-- - `Unwritable`: the request is accepted, and the message of some reply is not writable.
+-- - `Memory`: the request is accepted, and an allocation failed.
 abbrev pub AnswerFails : List ℕ → List (ReplyValue unix_response_spec) → AnswerError → Type 0
 AnswerFails request replies (Request e) = RejectsUnixRequest request e
 AnswerFails request replies Unwritable =
@@ -122,8 +126,8 @@ pub record IsWritableReply (reply : ReplyValue unix_response_spec) : Type 0 wher
   -- the message, with its header of 16 bytes, fits `nlmsg_len`
   pub short : 16 + length (response_bytes unix_response_spec reply) ≤ 4294967295
 
--- the dump over the datagram is complete (NLMSG_DONE, error number 0), and its messages are these
--- replies
+-- `IsCompleteDump datagram replies`: the dump over the datagram ends with NLMSG_DONE and error
+-- number 0 (`pos 0`), and its messages are these replies
 pub record IsCompleteDump (datagram : List ℕ) (replies : List (ReplyValue unix_response_spec))
     : Type 0 where
   pub dump : DumpOfDatagrams (IsItemOf message_codec) [] (datagram ∷ [])

@@ -8,34 +8,37 @@ use Rattle.std.specs.Prelude.{drop, bit_and, not}
 use Rattle.byteorder.specs.Endian.{little_number}
 use Rattle.netlink_core.specs.Attribute.{padding_length}
 
--- The length in bytes of the request in the payload of an NLMSG_ERROR. If the error number is not 0
--- and the flags lack NLM_F_CAPPED (256), the request is complete: its length is its length field
--- `nlmsg_len`, the u32 at offset 4. Otherwise only its header of 16 bytes is present.
+-- `acked_request_length flags payload`: the length in bytes of the request in the payload of an
+-- NLMSG_ERROR. If the error number is not 0 and the flags lack NLM_F_CAPPED (256), the request is
+-- complete: its length is its length field `nlmsg_len`, the u32 at offset 4 of the payload.
+-- Otherwise only its header of 16 bytes is present.
 abbrev pub acked_request_length : ℕ → List ℕ → ℕ
 acked_request_length flags payload =
     if (bit_and flags 256 == 0) && not (little_number 4 payload == 0)
     then little_number 4 (drop 4 payload) else 16
 
--- `HasCompleteRequest flags payload`: the payload of an NLMSG_ERROR contains the error number and
--- the request, at least the part of it that is sent. It has at least 20 bytes, the length of the
--- request is at least 16 bytes, and the request ends within the payload.
+-- `HasCompleteRequest flags payload`: the payload of an NLMSG_ERROR has at least 20 bytes, those of
+-- the error number and of the request's header; and the length of the request
+-- (`acked_request_length`) is at least 16 bytes, and ends within the payload.
 abbrev pub HasCompleteRequest : ℕ → List ℕ → Type 0
 HasCompleteRequest flags payload =
     (20 ≤ length payload) × (16 ≤ acked_request_length flags payload)
     × (4 + acked_request_length flags payload ≤ length payload)
 
--- The bytes of the request in the payload of an NLMSG_ERROR, after the error number.
+-- `acked_request_bytes flags payload`: the bytes of the request in the payload of an NLMSG_ERROR,
+-- after the four bytes of the error number
 abbrev pub acked_request_bytes : ℕ → List ℕ → List ℕ
 acked_request_bytes flags payload = take (acked_request_length flags payload) (drop 4 payload)
 
--- `ack_attribute_bytes_from flags front payload`: the bytes of the attributes. They are all bytes
--- after the first `front` bytes of the payload, or none if the flags lack NLM_F_ACK_TLVS (512).
+-- `ack_attribute_bytes_from flags front payload`: the bytes of the attributes NLMSGERR_ATTR_..: all
+-- bytes after the first `front` bytes of the payload; none if the flags lack NLM_F_ACK_TLVS (512)
 abbrev pub ack_attribute_bytes_from : ℕ → ℕ → List ℕ → List ℕ
 ack_attribute_bytes_from flags front payload =
     if bit_and flags 512 == 0 then [] else drop front payload
 
--- The bytes of the attributes of an NLMSG_ERROR. They follow the error number and the request,
--- which is padded to a multiple of 4 bytes.
+-- `error_attribute_bytes flags payload`: the bytes of the attributes in the payload of an
+-- NLMSG_ERROR. They follow the error number and the request, which is padded to a multiple of 4
+-- bytes. `padding_length n` is the number of padding bytes after `n` bytes.
 abbrev pub error_attribute_bytes : ℕ → List ℕ → List ℕ
 error_attribute_bytes flags payload =
     let sent = acked_request_length flags payload in

@@ -1,4 +1,6 @@
--- Records of the congestion control algorithms of a TCP socket.
+-- Records of the congestion control algorithms of a TCP socket. `value` makes the record of the
+-- numbers `w` in its rows, in their order. No record has an array, so `is_shaped` always holds
+-- (`⊤`).
 use Rattle.std.specs.Prelude.{⊤, [], ◌∷◌, slice_index}
 use Rattle.sock_diag_extras.specs.RecordTable.{RecordTable}
 use Rattle.sock_diag_extras.specs.declared.congestion.VegasInfo.{VegasInfo}

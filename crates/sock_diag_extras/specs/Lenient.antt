@@ -12,7 +12,8 @@ use Rattle.sock_diag_extras.specs.declared.lenient.LenientNlas.{LenientNlas}
 use Rattle.sock_diag_extras.specs.declared.lenient.Refused.{Refused}
 use Rattle.sock_diag_extras.specs.declared.lenient.Refused.TheVariants as refused
 
--- The model of a `Refused`: the rejected attribute, or `None` for a framing error, and the error.
+-- The model of a `Refused`: the rejected attribute, or None for a framing error (bytes that do not
+-- start with an attribute); and the error.
 pub record RejectionModel : Type 0 where
   pub attribute : Option Attribute
   pub fault : DecodeError
@@ -25,8 +26,9 @@ rejection_model (refused.Attribute nla e) = record {
 }
 rejection_model (refused.Framing e) = record { attribute = None; fault = e }
 
--- `lenient_item_of F a`: the item for the attribute `a`, by the set `F` of known attribute types.
--- It is the value that it decodes to, or the attribute with its error.
+-- `lenient_item_of F a`: the item for the attribute `a`, by the set `F` of known attribute types:
+-- `Ok` and the value that it decodes to, or `Err` and the attribute with its error.
+-- `result_map_both f g r`: `Ok (f v)` if `r` is `Ok v`, and `Err (g e)` if `r` is `Err e`.
 abbrev pub lenient_item_of : (F : AttributeSet) → Attribute
     → Result (AttributeValue F) RejectionModel
 lenient_item_of F a = result_map_both (λ value. value) (λ e.
@@ -39,10 +41,10 @@ abbrev pub lenient_item_model : {V : Type 0} (F : AttributeSet) → (V → Attri
     → Result (AttributeValue F) RejectionModel
 lenient_item_model F view_model item = result_map_both view_model rejection_model item
 
--- `item` is the first item of the bytes `left`, and `later` are the bytes after it. Either the
--- bytes start with an attribute: the item is the item of this attribute, and `later` follows its
--- padding. Or the bytes are not empty and start with a framing error: the item is this error, and
--- `later` is empty.
+-- `StartsWithLenientItem F left item later`: `item` is the first item of the bytes `left`, and
+-- `later` are the bytes after it. Either `left` starts with an attribute: `item` is the item of
+-- this attribute, and `later` are the bytes after its padding. Or `left` is not empty and starts
+-- with a framing error: `item` is this error, without an attribute, and `later` is empty.
 abbrev pub StartsWithLenientItem : (F : AttributeSet) → List ℕ
     → Result (AttributeValue F) RejectionModel → List ℕ
     → Type 0
@@ -51,9 +53,10 @@ StartsWithLenientItem F left item later =
     ⊎ ((e : DecodeError) × (left ≢ []) × IsFramingError left e × (later ≡ [])
     × (item ≡ Err (record { attribute = None; fault = e })))
 
--- What a call of `next` does: `old` is the iterator before, `given` what it returns, and `new` the
--- iterator after. It returns `None` if no bytes are left. Otherwise it returns the first item of
--- the bytes left, and leaves the bytes after the item.
+-- `YieldsLenientItem F view_model old given new`: what a call of `next` does: `old` is the iterator
+-- before it, `given` what it returns, and `new` the iterator after it. It returns None if no bytes
+-- are left. Otherwise it returns the first item of the bytes left, and leaves the bytes after the
+-- item.
 abbrev pub YieldsLenientItem : {V : Type 0} (F : AttributeSet) → (V → AttributeValue F)
     → LenientNlas V
     → Option (Result V Refused) → LenientNlas V → Type 0
@@ -62,9 +65,10 @@ YieldsLenientItem F view_model old given new =
     (λ item. StartsWithLenientItem F (unread_lenient_bytes old)
     (lenient_item_model F view_model item) (unread_lenient_bytes new))
 
--- `items` are all items of the bytes, in order. Either the bytes split into attributes without
--- remaining bytes: the items are the items of these attributes. Or they split into attributes and
--- then have a framing error: the items are the items of these attributes, and last the error.
+-- `HasLenientItems F bytes items`: `items` are all items of the bytes, in order. Either the bytes
+-- consist of attributes (`SplitsIntoAttributes`): `items` has one item for each. Or there are
+-- attributes, or none, and then bytes with the framing error `e` (`SplitsUntilError`): `items` has
+-- one item for each attribute, and last `e` without an attribute.
 abbrev pub HasLenientItems : (F : AttributeSet) → List ℕ
     → List (Result (AttributeValue F) RejectionModel)
     → Type 0

@@ -5,8 +5,9 @@ use Rattle.sock_diag_extras.specs.declared.md5_signature.Md5Signature.{Md5Signat
 use Rattle.netlink_core.specs.Rows.{u8, u16, u8s}
 
 -- `struct tcp_diag_md5sig` (linux/tcp.h), 100 bytes: `tcpm_family`, `tcpm_prefixlen`,
--- `tcpm_keylen`, `tcpm_addr` and `tcpm_key`. Of the numbers in the rows, 3 to 18 are the address
--- and 19 to 98 the key.
+-- `tcpm_keylen`, `tcpm_addr` and `tcpm_key`. `value` makes the record of the numbers `w` in its
+-- rows. Counted from 0, numbers 3 to 18 are the address and 19 to 98 the key, one number for each
+-- byte.
 abbrev pub md5_signature : RecordTable Md5Signature
 md5_signature = record {
   size = 100;

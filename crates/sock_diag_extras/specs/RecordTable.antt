@@ -16,17 +16,19 @@ pub record RecordTable (Value : Type 0) : Type 1 where
   -- each array of the value has the length of its Rust type
   pub is_shaped : Value → Type 0
 
--- Parses the start of bytes that are at least as long as the record: each row reads its numbers at
--- its offset, and `value` makes the value of all of them, in the order of the rows.
+-- `parse_by_table layout bytes`: the value in the first bytes, of which there are at least as many
+-- as the record has. Each row has its numbers at its offset (`values_of`), and `layout.value` makes
+-- the value of all of them, in the order of the rows.
 abbrev pub parse_by_table : {Value : Type 0} → RecordTable Value → List ℕ → Value
 parse_by_table layout bytes = layout.value (values_of (fields_of layout.rows) bytes)
 
--- Serializes a value: the numbers of its rows, in the order of the rows, each in the width and the
--- byte order of its row.
+-- `bytes_by_table layout value`: the bytes of a value: the numbers of its rows (`numbers_of`), in
+-- the order of the rows, each in the width and the byte order of its row.
 abbrev pub bytes_by_table : {Value : Type 0} → RecordTable Value → Value → List ℕ
 bytes_by_table layout value = bytes_of (fields_of layout.rows) (numbers_of layout.rows value)
 
--- The record as a `Layout` of netlink_core, under a name for errors.
+-- `layout_with_name layout name`: the record as a `Layout` of netlink_core, which has a name for
+-- errors.
 abbrev pub layout_with_name : {Value : Type 0} → RecordTable Value → RecordName
     → Layout (Unit {0}) (Unit {0}) Value
 layout_with_name layout name = plain name layout.size layout.rows layout.value layout.is_shaped

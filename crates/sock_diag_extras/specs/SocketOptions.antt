@@ -7,7 +7,7 @@ use Rattle.sock_diag_extras.specs.declared.options.SocketOptions.{SocketOptions}
 use Rattle.netlink_core.specs.Rows.{u16}
 
 -- `struct inet_diag_sockopt` (linux/inet_diag.h): two bytes of bit fields as one little-endian
--- number.
+-- number. `value` makes the record of the numbers `w` in its rows, of which there is one.
 abbrev pub socket_options : RecordTable SocketOptions
 socket_options = record {
   size = 2;
@@ -16,8 +16,9 @@ socket_options = record {
   is_shaped = λ v. ⊤;
 }
 
--- The index of an option's bit, in the order of the C struct's members. Bits 0 to 7 are the first
--- byte, from its least significant bit on, and bits 8 to 10 are in the second.
+-- `bit_of option`: the index of the option's bit in `bits`, in the order of the C struct's members.
+-- Bits 0 to 7 are the first byte, from its least significant bit on, and bits 8 to 10 are in the
+-- second.
 abbrev pub bit_of : SocketOption → ℕ
 bit_of option.RecvErr = 0
 bit_of option.IsIcsk = 1

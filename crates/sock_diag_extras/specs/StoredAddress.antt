@@ -10,8 +10,8 @@ use Rattle.netlink_core.specs.Rows.{u16, u32, be16, be16s, u8s}
 -- `struct sockaddr_storage` (linux/socket.h). By the family it starts with one of two structs:
 -- `struct sockaddr_in` (ip(7)) with `sin_port` at 2 and `sin_addr` at 4; or `struct sockaddr_in6`
 -- (ipv6(7)) with `sin6_port` at 2, `sin6_flowinfo` at 4, `sin6_addr` at 8 and `sin6_scope_id` at
--- 24. Of the numbers in the rows, 2 to 5 are `front`, 6 to 13 are `segments`, and the last 100 are
--- `rest`.
+-- 24. `value` makes the record of the numbers `w` in its rows. Counted from 0, numbers 2 to 5 are
+-- `front`, 6 to 13 are `segments`, 14 is `scope_id`, and 15 to 114 are `rest`.
 abbrev pub stored_address : RecordTable StoredAddress
 stored_address = record {
   size = 128;
@@ -33,7 +33,9 @@ stored_address = record {
   is_shaped = λ v. (length v.front ≡ 4) × (length v.segments ≡ 8) × (length v.rest ≡ 100);
 }
 
--- The IP address, if the family is 2 (AF_INET) or 10 (AF_INET6).
+-- `ip_of a`: the IP address. If the family is 2 (AF_INET), it is the IPv4 address with the octets
+-- `front`; if it is 10 (AF_INET6), the IPv6 address with the segments `segments`; None for any
+-- other family.
 abbrev pub ip_of : StoredAddress → Option IpAddr
 ip_of a =
     if a.family == 2 then Some (V4 record { octets = a.front })

@@ -6,9 +6,10 @@ use Rattle.netlink_core.specs.Table.{Field, byte, number}
 use Rattle.sock_diag_extras.specs.declared.tcp_info.TcpField.{TcpField}
 use Rattle.sock_diag_extras.specs.declared.tcp_info.TcpField.TheVariants as field
 
--- The offset of a field and its width, both in bytes. Two fields are bytes of bit fields: `Wscale`
--- contains `tcpi_snd_wscale` and `tcpi_rcv_wscale`, and `DeliveryRateAppLimited` contains
--- `tcpi_delivery_rate_app_limited` and `tcpi_fastopen_client_fail`.
+-- `span_of f`: the offset of the field `f` (`.0`) and its width (`.1`), both in bytes. Two fields
+-- are bytes of bit fields: `Wscale` contains `tcpi_snd_wscale` and `tcpi_rcv_wscale`, and
+-- `DeliveryRateAppLimited` contains `tcpi_delivery_rate_app_limited` and
+-- `tcpi_fastopen_client_fail`.
 abbrev pub span_of : TcpField → ℕ × ℕ
 span_of field.State = (0, 1)
 span_of field.CaState = (1, 1)
@@ -79,17 +80,18 @@ span_of field.ReceivedCeBytes = (272, 4)
 span_of field.AccecnFailMode = (276, 2)
 span_of field.AccecnOptSeen = (278, 2)
 
--- The offset of the end of a field: of the byte after it.
+-- `end_offset f`: the offset of the byte after the field `f`, its offset plus its width
 abbrev pub end_offset : TcpField → ℕ
 end_offset f = (span_of f).0 + (span_of f).1
 
--- The field as a field of a record's layout: a byte if it has one byte, else a little-endian
--- number.
+-- `row_of f`: the field `f` as a field of a record's layout (`Field`): `byte` if it is one byte
+-- wide, else `number`, which is little-endian.
 abbrev pub row_of : TcpField → Field
 row_of f =
     if (span_of f).1 == 1 then byte (span_of f).0 else number (span_of f).0 (span_of f).1
 
--- The value of a field in bytes that contain all of it: a little-endian number.
+-- `tcp_field_value f bytes`: the value of the field `f`, a little-endian number, in bytes that
+-- contain all of it: at least `end_offset f` bytes.
 abbrev pub tcp_field_value : TcpField → List ℕ → ℕ
 tcp_field_value f bytes = little_number (span_of f).1 (drop (span_of f).0 bytes)
 

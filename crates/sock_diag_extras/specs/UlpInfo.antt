@@ -21,14 +21,15 @@ use Rattle.sock_diag_extras.specs.declared.ulp_info.SubflowField.TheVariants as 
 use Rattle.sock_diag_extras.specs.declared.ulp_info.TlsField.{TlsField}
 use Rattle.sock_diag_extras.specs.declared.ulp_info.TlsField.TheVariants as tls
 
--- The attribute type (TLS_INFO_..) of a field and its width in bytes.
+-- `tls_row field`: the attribute type (TLS_INFO_..) of a field, and the width of its value in bytes
 abbrev pub tls_row : TlsField → ℕ × ℕ
 tls_row tls.Version = (TLS_INFO_VERSION, 2)
 tls_row tls.Cipher = (TLS_INFO_CIPHER, 2)
 tls_row tls.Sending = (TLS_INFO_TXCONF, 2)
 tls_row tls.Receiving = (TLS_INFO_RXCONF, 2)
 
--- The attribute type (MPTCP_SUBFLOW_ATTR_..) of a field and its width in bytes.
+-- `subflow_row field`: the attribute type (MPTCP_SUBFLOW_ATTR_..) of a field, and the width of its
+-- value in bytes
 abbrev pub subflow_row : SubflowField → ℕ × ℕ
 subflow_row subflow.RemoteToken = (MPTCP_SUBFLOW_ATTR_TOKEN_REM, 4)
 subflow_row subflow.LocalToken = (MPTCP_SUBFLOW_ATTR_TOKEN_LOC, 4)

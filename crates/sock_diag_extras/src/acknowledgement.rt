@@ -127,6 +127,8 @@ impl<'a> AckView<'a> {
 
     /// Returns the attributes `NLMSGERR_ATTR_..`, or their first framing error.
     pub fn attributes(&self) -> Result<AckAttributes<'a>, DecodeError>
+        // `decode_attribute []`: no attribute type is known, so every value is accepted, and only
+        // the framing can be invalid.
         ensures kept { IfOk result (λ told. nested_bytes told.0 ≡ ack_attributes self.now) }
         ensures fault { IfErr result (HasAttributeError (decode_attribute [])
             (ack_attributes self.now)) }
@@ -151,7 +153,8 @@ impl<'a> AckAttributes<'a> {
     }
 
     /// Returns the offset of the invalid attribute in bytes, from the first byte of the request's
-    /// header, `NLMSGERR_ATTR_OFFS`, little-endian. A length other than 4 is `WrongLength`.
+    /// header: the little-endian `u32` in `NLMSGERR_ATTR_OFFS`. A length other than 4 is
+    /// `WrongLength`, without the kind.
     pub fn offset(&self) -> Result<Option<u32>, DecodeError>
         ensures { result
             ≡ parse_if_present (number_of_width None 4)
@@ -160,7 +163,8 @@ impl<'a> AckAttributes<'a> {
         self.0.word_of(NLMSGERR_ATTR_OFFS)
     }
 
-    /// Returns the cookie, `NLMSGERR_ATTR_COOKIE`. Its format depends on the kernel's subsystem.
+    /// Returns the cookie: the bytes of `NLMSGERR_ATTR_COOKIE`. Their format depends on the
+    /// kernel's subsystem.
     pub fn cookie(&self) -> Option<&'a [u8]>
         ensures { option_map (λ value. value.now) result
             ≡ first_in NLMSGERR_ATTR_COOKIE (nested_bytes self.now.0) }
@@ -177,8 +181,8 @@ impl<'a> AckAttributes<'a> {
         self.0.value_of(NLMSGERR_ATTR_POLICY)
     }
 
-    /// Returns the kind of a required attribute that is missing, `NLMSGERR_ATTR_MISS_TYPE`,
-    /// little-endian. A length other than 4 is `WrongLength`.
+    /// Returns the kind of a required attribute that is missing: the little-endian `u32` in
+    /// `NLMSGERR_ATTR_MISS_TYPE`. A length other than 4 is `WrongLength`, without the kind.
     pub fn missing_kind(&self) -> Result<Option<u32>, DecodeError>
         ensures { result
             ≡ parse_if_present (number_of_width None 4)
@@ -187,9 +191,10 @@ impl<'a> AckAttributes<'a> {
         self.0.word_of(NLMSGERR_ATTR_MISS_TYPE)
     }
 
-    /// Returns the offset of the nest in which the attribute is missing, from the first byte of the
-    /// request's header, `NLMSGERR_ATTR_MISS_NEST`, little-endian. The kernel does not send it if
-    /// the attribute is missing in the message itself. A length other than 4 is `WrongLength`.
+    /// Returns the offset of the nest in which the attribute is missing, in bytes from the first
+    /// byte of the request's header: the little-endian `u32` in `NLMSGERR_ATTR_MISS_NEST`. The
+    /// kernel does not send it if the attribute is missing in the message itself. A length other
+    /// than 4 is `WrongLength`, without the kind.
     pub fn missing_nest(&self) -> Result<Option<u32>, DecodeError>
         ensures { result
             ≡ parse_if_present (number_of_width None 4)

@@ -25,13 +25,19 @@ pub const INET_DIAG_ULP_INFO: u16 = 19;
 /// `SK_DIAG_BPF_STORAGE`.
 pub const INET_DIAG_SK_BPF_STORAGES: u16 = 20;
 
-/// Kind of the attribute with the id of the socket's control group: see `parse_cgroup_id`.
+/// Kind of the attribute with the id of the socket's control group.
+///
+/// See `parse_cgroup_id`.
 pub const INET_DIAG_CGROUP_ID: u16 = 21;
 
-/// Kind of the attribute with the options of the socket: see `SocketOptions`.
+/// Kind of the attribute with the options of the socket.
+///
+/// See `SocketOptions`.
 pub const INET_DIAG_SOCKOPT: u16 = 22;
 
-/// Kind of the attribute with the id of the user who created the UNIX socket: see `parse_uid`.
+/// Kind of the attribute with the id of the user who created the UNIX socket.
+///
+/// See `parse_uid`.
 pub const UNIX_DIAG_UID: u16 = 7;
 
 /// Flag of a UNIX request: requests `UNIX_DIAG_UID`.

@@ -39,8 +39,9 @@ use sock_diag_attributes::inet::nlas::NlaView as InetNlaView;
 use sock_diag_attributes::unix::nlas::NlaView as UnixNlaView;
 use std::alloc::AllocError;
 
-/// States which items a `LenientNlas` yields until its end: for each attribute that the bytes are
-/// split into, in order, its value or its error; and last the framing error, if there is one.
+/// States which items a `LenientNlas` yields until its end: for each attribute in the bytes left,
+/// in order, its value or its error; and last the framing error, if there is one. `Drains`: `given`
+/// are all items that `next` yields until it returns `None`.
 pub fn whole_lenient_walk<'a, V: FamilyView<'a>>()
     ensures items { (walk : LenientNlas V) (given : List (Result V Refused))
         → Drains (YieldsLenientItem V.attribute_set V.model) walk given
@@ -48,9 +49,10 @@ pub fn whole_lenient_walk<'a, V: FamilyView<'a>>()
         (map (lenient_item_model V.attribute_set V.model) given) }
 {}
 
-/// States that a `LenientNlas` agrees with the strict views. If the bytes have no error, it yields
-/// the value of each attribute. If it yields no error, the bytes decode to the values that it
-/// yields.
+/// States that a `LenientNlas` agrees with the strict views. If the bytes left have neither a
+/// framing error nor an invalid value, it yields the value of each attribute, as `decoded_in` lists
+/// them (`strict`). If every item that it yields is a value (`map Ok views`), the bytes decode to
+/// these values (`accepted`).
 pub fn lenient_walk_of_good_bytes<'a, V: FamilyView<'a>>()
     ensures strict { (walk : LenientNlas V) (given : List (Result V Refused))
         → HasNoAttributeError (decode_attribute V.attribute_set) (unread_lenient_bytes walk)
@@ -63,8 +65,10 @@ pub fn lenient_walk_of_good_bytes<'a, V: FamilyView<'a>>()
         (map V.model views) }
 {}
 
-/// States that the first fields are the fields of the port's `TcpInfo`, in order, and that the
-/// later fields follow them without gaps, from offset 232 to the end at 280.
+/// States that the first fields are the fields of the port's `TcpInfo`, in order and with the same
+/// offsets and widths (`first`); and that the later fields follow them without gaps (`later`): the
+/// first starts at offset 232, each other one where the one before it ends, and the last ends at
+/// 280.
 pub fn tcp_fields_are_rows()
     ensures first { map row_of first_fields ≡ tag_fields tcp_info tt }
     ensures later { map (λ f. (span_of f).0) later_fields ++ 280 ∷ []
@@ -84,8 +88,10 @@ pub fn lenient_inet_header<'a>(bytes: &'a [u8]) -> Result<LenientInetReply<'a>, 
     LenientReply::parse(bytes)
 }
 
-/// States that the first attribute of a lenient reply about an IPv4 or IPv6 socket is decoded
-/// by the kinds of these replies. The others are of the same type, so they are too.
+/// States that the first item of a lenient reply about an IPv4 or IPv6 socket is that of its first
+/// attribute: its value, decoded by the attribute types of these replies, or its error. It is the
+/// framing error if the bytes after the header do not start with an attribute, and `None` if there
+/// are none. The iterator yields the other attributes by the same rule.
 pub fn lenient_inet_attribute<'a>(
     reply: &LenientInetReply<'a>,
 ) -> Option<Result<InetNlaView<'a>, Refused<'a>>>
@@ -108,8 +114,10 @@ pub fn lenient_unix_header<'a>(bytes: &'a [u8]) -> Result<LenientUnixReply<'a>, 
     LenientReply::parse(bytes)
 }
 
-/// States that the first attribute of a lenient reply about a UNIX socket is decoded
-/// by the kinds of these replies. The others are of the same type, so they are too.
+/// States that the first item of a lenient reply about a UNIX socket is that of its first
+/// attribute: its value, decoded by the attribute types of these replies, or its error. It is the
+/// framing error if the bytes after the header do not start with an attribute, and `None` if there
+/// are none. The iterator yields the other attributes by the same rule.
 pub fn lenient_unix_attribute<'a>(
     reply: &LenientUnixReply<'a>,
 ) -> Option<Result<UnixNlaView<'a>, Refused<'a>>>
@@ -129,7 +137,7 @@ pub fn copied_refused<'a>(refused: &Refused<'a>) -> Result<Refused<'a>, AllocErr
 }
 
 /// States that `==` holds if and only if two values have the same bytes, that a copy has the same
-/// bytes, and that `clone` never fails.
+/// bytes, and that `clone` never fails. The result is `v == w`, and the clone of `v`.
 pub fn compared_tcp_info_bytes<'a>(
     v: &TcpInfoBytes<'a>,
     w: &TcpInfoBytes<'_>,
@@ -142,7 +150,7 @@ pub fn compared_tcp_info_bytes<'a>(
 }
 
 /// States that `==` holds if and only if two values have the same bytes, that a copy has the same
-/// bytes, and that `clone` never fails.
+/// bytes, and that `clone` never fails. The result is `v == w`, and the clone of `v`.
 pub fn compared_nested_nlas<'a>(
     v: &NestedNlas<'a>,
     w: &NestedNlas<'_>,
@@ -155,7 +163,7 @@ pub fn compared_nested_nlas<'a>(
 }
 
 /// States that `==` holds if and only if two values have the same bytes, that a copy has the same
-/// bytes, and that `clone` never fails.
+/// bytes, and that `clone` never fails. The result is `v == w`, and the clone of `v`.
 pub fn compared_ack_attributes<'a>(
     v: &AckAttributes<'a>,
     w: &AckAttributes<'_>,
@@ -168,7 +176,7 @@ pub fn compared_ack_attributes<'a>(
 }
 
 /// States that `==` holds if and only if two values have the same bytes, that a copy has the same
-/// bytes, and that `clone` never fails.
+/// bytes, and that `clone` never fails. The result is `v == w`, and the clone of `v`.
 pub fn compared_bpf_storages<'a>(
     v: &BpfStorage<'a>,
     w: &BpfStorage<'_>,
@@ -181,7 +189,7 @@ pub fn compared_bpf_storages<'a>(
 }
 
 /// States that `==` holds if and only if two values have the same bytes, that a copy has the same
-/// bytes, and that `clone` never fails.
+/// bytes, and that `clone` never fails. The result is `v == w`, and the clone of `v`.
 pub fn compared_ulp_infos<'a>(
     v: &UlpInfo<'a>,
     w: &UlpInfo<'_>,
@@ -194,7 +202,7 @@ pub fn compared_ulp_infos<'a>(
 }
 
 /// States that `==` holds if and only if two values have the same bytes, that a copy has the same
-/// bytes, and that `clone` never fails.
+/// bytes, and that `clone` never fails. The result is `v == w`, and the clone of `v`.
 pub fn compared_tls_infos<'a>(
     v: &TlsInfo<'a>,
     w: &TlsInfo<'_>,
@@ -207,7 +215,7 @@ pub fn compared_tls_infos<'a>(
 }
 
 /// States that `==` holds if and only if two values have the same bytes, that a copy has the same
-/// bytes, and that `clone` never fails.
+/// bytes, and that `clone` never fails. The result is `v == w`, and the clone of `v`.
 pub fn compared_subflow_infos<'a>(
     v: &SubflowInfo<'a>,
     w: &SubflowInfo<'_>,

@@ -110,6 +110,7 @@ impl<'a> NestedNlas<'a> {
     pub fn nested_of(&self, kind: u16) -> Result<Option<NestedNlas<'a>>, DecodeError>
         ensures kept { IfOk result (λ found. option_map (λ nested. nested_bytes nested) found
             ≡ first_in kind (nested_bytes self.now)) }
+        // `value`: the value of the attribute, in which the framing error is.
         ensures fault { IfErr result (λ e. (value : List ℕ)
             × (first_in kind (nested_bytes self.now) ≡ Some value)
             × HasAttributeError (decode_attribute []) value e) }

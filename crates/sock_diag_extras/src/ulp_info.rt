@@ -30,6 +30,8 @@ pub struct UlpInfo<'a>(pub NestedNlas<'a>);
 impl<'a> UlpInfo<'a> {
     /// Borrows the attributes in the value. Returns the first framing error, if there is one.
     pub fn parse(value: &'a [u8]) -> Result<UlpInfo<'a>, DecodeError>
+        // `decode_attribute []`: no attribute type is known, so every value is accepted, and only
+        // the framing can be invalid.
         ensures kept { IfOk result (λ info. nested_bytes info.0 ≡ value.entry.now) }
         ensures fault { IfErr result (HasAttributeError (decode_attribute []) value.entry.now) }
     {
@@ -52,6 +54,7 @@ impl<'a> UlpInfo<'a> {
     pub fn tls(&self) -> Result<Option<TlsInfo<'a>>, DecodeError>
         ensures kept { IfOk result (λ found. option_map (λ tls. nested_bytes tls.0) found
             ≡ first_in INET_ULP_INFO_TLS (nested_bytes self.now.0)) }
+        // `value`: the value of the attribute, in which the framing error is.
         ensures fault { IfErr result (λ e. (value : List ℕ)
             × (first_in INET_ULP_INFO_TLS (nested_bytes self.now.0) ≡ Some value)
             × HasAttributeError (decode_attribute []) value e) }
@@ -68,6 +71,7 @@ impl<'a> UlpInfo<'a> {
     pub fn mptcp(&self) -> Result<Option<SubflowInfo<'a>>, DecodeError>
         ensures kept { IfOk result (λ found. option_map (λ subflow. nested_bytes subflow.0) found
             ≡ first_in INET_ULP_INFO_MPTCP (nested_bytes self.now.0)) }
+        // `value`: the value of the attribute, in which the framing error is.
         ensures fault { IfErr result (λ e. (value : List ℕ)
             × (first_in INET_ULP_INFO_MPTCP (nested_bytes self.now.0) ≡ Some value)
             × HasAttributeError (decode_attribute []) value e) }

@@ -37,6 +37,7 @@ use std::alloc::AllocError;
 /// with its two flag bits, and the same bytes in their values.
 #[tactic(auto, using(netlink_core::proofs::ValueTests::attribute_test_decides))]
 pub fn equal_whole_nlas(v: &WholeNla<'_>, w: &WholeNla<'_>) -> bool
+    // `buffered_attribute`: the type field and the bytes of the value.
     ensures { IsTrue result ↔ (buffered_attribute v.now.0 ≡ buffered_attribute w.now.0) }
 {
     v == w

@@ -14,6 +14,7 @@ pub(crate) fn enough_in(
     kind: u16,
     need: usize,
 ) -> Result<&[u8], DecodeError>
+    // `map_ok (λ value. value.now) result`: the bytes of the value as a list, or the error.
     ensures { map_ok (λ value. value.now) result
         ≡ with_length_at_least family kind need value.entry.now }
 {

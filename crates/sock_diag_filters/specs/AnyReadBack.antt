@@ -34,7 +34,8 @@ pub record IsCompleteRecordRequest (family : RecordFamily) (h : NetlinkHeader)
   pub normal : (record_request_codec family).is_normal tt request
 
 -- `IsParsedInetRequest h request attributes parsed`: the parsed request is a request for IPv4 or
--- IPv6 sockets with the content that was serialized (`IsParsedRequest`).
+-- IPv6 sockets, with the content of the request that was serialized from `h`, `request` and
+-- `attributes` (`IsParsedRequest`). It is not a request for sockets of another family.
 abbrev pub IsParsedInetRequest : NetlinkHeader → InetRequest → List RequestAttribute → AnyRequest
     → Type 0
 IsParsedInetRequest h request attributes (of_inet view) = IsParsedRequest h request attributes view

@@ -55,9 +55,10 @@ family_by_byte first =
     else if first == 44 then Ok (of_record xdp)
     else Err (UnknownFamily first)
 
--- The family of a payload of a message of type `t`, or the first error of one that is not a
--- request: fewer than 2 bytes are MessageTooShort; a type other than 20 (SOCK_DIAG_BY_FAMILY) and
--- 21 (SOCK_DESTROY) is UnknownMessageType; then UnknownFamily by the first byte.
+-- `family_of_request_payload payload t`: the family of the payload of a message of type `t`, or the
+-- first error of one that is not a request: fewer than 2 bytes are MessageTooShort; a type other
+-- than 20 (SOCK_DIAG_BY_FAMILY) and 21 (SOCK_DESTROY) is UnknownMessageType; then UnknownFamily by
+-- the first byte.
 abbrev pub family_of_request_payload : List ℕ → ℕ → Result RequestedFamily DecodeError
 family_of_request_payload payload t =
     if nat_lt (length payload) 2 then Err (MessageTooShort (length payload))
@@ -108,8 +109,8 @@ IsRejectedByRequestFamily (Ok inet) message h e = IsRejectedRequest message e
 IsRejectedByRequestFamily (Ok (of_record family)) message h e =
     (record_request_codec family).reads tt (message_payload message h) ≡ Err e
 
--- The message is rejected with `e`, its first error: the bytes do not start with a netlink message,
--- or the message that they start with is rejected.
+-- `IsRejectedAnyRequest message e`: the message is rejected with `e`, its first error: the bytes do
+-- not start with a netlink message, or the message that they start with is rejected.
 abbrev pub IsRejectedAnyRequest : List ℕ → DecodeError → Type 0
 IsRejectedAnyRequest message e = IsMessageError message e
     ⊎ ((h : NetlinkHeader) × HasHeader message h

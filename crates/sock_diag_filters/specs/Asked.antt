@@ -57,8 +57,8 @@ pub record HasLastContents (found : Found) (decoded : List RequestContent) : Typ
       ≡ last_or None (filter_map program_in decoded)
   pub protocol : found.protocol ≡ last_or None (filter_map protocol_in decoded)
 
--- The payload of the message: the bytes after the 16 bytes of the netlink header, up to the length
--- in the header.
+-- `message_payload message h`: the payload of the message with the netlink header `h`: the bytes
+-- after the 16 bytes of the header, up to the length in the header.
 abbrev pub message_payload : List ℕ → NetlinkHeader → List ℕ
 message_payload message h = take (h.length - 16) (drop 16 message)
 
@@ -76,6 +76,7 @@ pub record ParsesAsRequest (message : List ℕ) (view : RequestView) : Type 0 wh
   -- the payload starts with the record of the view, `struct inet_diag_req_v2` of 56 bytes
   pub asked : parse_record inet_request tt (message_payload message view.header) ≡ Ok view.request
   -- the bytes of the payload after the record split into attributes with this content, in order
+  -- (`DecodeTo decode bytes values`)
   pub decoded : List RequestContent
   pub means : DecodeTo decode_request_attribute (drop 56 (message_payload message view.header))
       decoded
@@ -87,8 +88,8 @@ pub record ParsesAsRequest (message : List ℕ) (view : RequestView) : Type 0 wh
   pub protocol : view.protocol
       ≡ unwrap_or (last_or None (filter_map protocol_in decoded)) view.request.protocol
 
--- The message is rejected with `e`, the first error in it. Each case states that there is no error
--- of the cases before it.
+-- `IsRejectedRequest message e`: the message is rejected with `e`, the first error in it. Each case
+-- states that there is no error of the cases before it.
 pub data IsRejectedRequest (message : List ℕ) (e : DecodeError) : Type 0 where
   -- the bytes do not start with a netlink message
   no_message : IsMessageError message e → IsRejectedRequest message e

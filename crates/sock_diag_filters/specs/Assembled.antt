@@ -5,9 +5,9 @@ use Rattle.sock_diag_filters.specs.declared.assembly.AssembleError.TheVariants.{
 use Rattle.sock_diag_filters.specs.declared.filter.Filter.{Filter}
 use Rattle.sock_diag_filters.specs.Filters.{program_size}
 
--- The error of a filter. It is `TooLong` only if the program has more than 65,531 bytes, so that
--- its length does not fit the length field of an attribute. It is `Memory` only if the program is
--- not too long.
+-- `IsAssembleError filter error`: the error of assembling the filter. It is `TooLong` only if the
+-- program would have more than 65,531 bytes, so that its length does not fit the length field of an
+-- attribute. It is `Memory` only if the program is not too long.
 abbrev pub IsAssembleError : Filter → AssembleError → Type 0
 IsAssembleError filter TooLong = 65531 < program_size filter
 IsAssembleError filter Memory = program_size filter ≤ 65531

@@ -44,20 +44,21 @@ min_operation_length left =
     else if code_at left == 8 then option_map (λ n. 12 + n) (address_length (slice_index left 4))
     else slice_get (4 ∷ 4 ∷ 8 ∷ 8 ∷ 8 ∷ 8 ∷ 4 ∷ 0 ∷ 0 ∷ 8 ∷ 12 ∷ 8 ∷ 8 ∷ 12 ∷ []) (code_at left)
 
--- Stepping over operations by their `yes` leads from `left` to `later`, as in the kernel's
--- `valid_cc`. The `yes` of each operation is at least 4, is a multiple of 4, and does not lead past
--- the end.
+-- `Steps left later`: stepping over operations by their `yes` leads from `left` to `later`, as in
+-- the kernel's `valid_cc`. The `yes` of each operation is at least 4, is a multiple of 4, and does
+-- not lead past the end.
 pub data Steps : List ℕ → List ℕ → Type 0 where
   there : (left : List ℕ) → Steps left left
   over : (left later : List ℕ) → 4 ≤ yes_at left → yes_at left % 4 ≡ 0
       → yes_at left ≤ length left → Steps (drop (yes_at left) left) later → Steps left later
 
--- Stepping over operations from the start of the program leads to the position where `n` bytes are
--- left.
+-- `IsReachable program n`: stepping over operations from the start of the program leads to the
+-- position where `n` bytes are left.
 abbrev pub IsReachable : List ℕ → ℕ → Type 0
 IsReachable program n = (later : List ℕ) × Steps program later × (length later ≡ n)
 
--- The operation at the start of `left` passes the checks of the kernel.
+-- `IsOperationAudited program left`: the operation at the start of `left` passes the checks of the
+-- kernel. `left` are the bytes of the program from this operation on.
 pub record IsOperationAudited (program left : List ℕ) : Type 0 where
   -- the kernel knows its code, and `left` has at least its minimum length
   pub least : ℕ
@@ -77,7 +78,8 @@ pub record IsOperationAudited (program left : List ℕ) : Type 0 where
   pub steps_within : yes_at left ≤ length left
   pub steps_in_fours : yes_at left % 4 ≡ 0
 
--- Each operation from `left` on passes the checks, stepping by their `yes` up to the end.
+-- `AllOperationsPass program left`: each operation from `left` on passes the checks, stepping by
+-- their `yes` up to the end.
 pub data AllOperationsPass (program : List ℕ) : List ℕ → Type 0 where
   at_end : AllOperationsPass program []
   on : (left : List ℕ) → IsOperationAudited program left

@@ -15,8 +15,8 @@ use Rattle.sock_diag_filters.specs.declared.view.RequestView.{RequestView}
 use Rattle.sock_diag_filters.specs.Asked.{request_attribute_content, program_in, protocol_in}
 use Rattle.sock_diag_filters.specs.Requests.{request_attribute, header_with_length}
 
--- The header that is serialized: its length is the length of the message, 72 bytes and the
--- attributes.
+-- The header that is serialized. Its length is the length of the message: 72 bytes, of the netlink
+-- header and `struct inet_diag_req_v2`, and the attributes with their padding.
 abbrev pub serialized_request_header : NetlinkHeader → List RequestAttribute → NetlinkHeader
 serialized_request_header h attributes =
     header_with_length h (72 + length (flat_map attribute_bytes (map request_attribute attributes)))

@@ -1,5 +1,6 @@
 -- The kernel's run of a program on a socket: `inet_diag_bc_run` of net/ipv4/inet_diag.c. `left` are
--- the bytes of the program from the current operation on.
+-- the bytes of the program from the current operation on. At the start of a run they are the whole
+-- program.
 use Rattle.std.specs.Prelude.{◌≡◌, ℕ, ◌-◌, ◌<◌, ◌≤◌, ◌==◌, if◌then◌else◌, Bool, true, false, List}
 use Rattle.std.specs.Prelude.{length, take, drop}
 use Rattle.sock_diag_filters.specs.Audit.{code_at, yes_at, no_at}
@@ -10,7 +11,7 @@ abbrev pub arguments_at : List ℕ → List ℕ
 arguments_at left = take (yes_at left - 4) (drop 4 left)
 
 -- `found code arguments` is whether the socket meets the condition of an operation with this code
--- and these arguments.
+-- and these arguments. It is the first argument of each definition of this module.
 module _ (found : ℕ → List ℕ → Bool) where
   -- The condition of the operation at the start is met. The condition of INET_DIAG_BC_NOP (0) is
   -- always met, and of INET_DIAG_BC_JMP (1) never.
@@ -24,9 +25,9 @@ module _ (found : ℕ → List ℕ → Bool) where
   abbrev pub step : List ℕ → ℕ
   step left = if is_met left then yes_at left else no_at left
 
-  -- `Runs left verdict`: the run from the operation at the start of `left` has a verdict: whether
-  -- the socket is selected. At most one verdict fits. A run that makes no progress has none; a
-  -- program that passes the audit always moves on.
+  -- `Runs found left verdict`: the run from the operation at the start of `left` has this verdict:
+  -- `true` if the socket is selected. A run has at most one verdict. A run in which a step has the
+  -- distance 0 has none; in a program that passes the audit, each step has at least 4 bytes.
   pub data Runs : List ℕ → Bool → Type 0 where
     -- at the end of the program, the socket is selected
     ends : (left : List ℕ) → length left ≡ 0 → Runs left true

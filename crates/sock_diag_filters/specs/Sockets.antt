@@ -86,8 +86,8 @@ kernel_matches_host family port octets args =
 -- `kernel_evaluates s code args`: whether the kernel finds that the socket `s` meets the condition
 -- of an operation with this code (INET_DIAG_BC_..) and these arguments: 2 S_GE, 3 S_LE, 4 D_GE, 5
 -- D_LE, 6 AUTO, 7 S_COND, 8 D_COND, 9 DEV_COND (a u32), 10 MARK_COND (`struct inet_diag_markcond`:
--- `mark` at 0, `mask` at 4), 11 S_EQ, 12 D_EQ, 13 CGROUP_COND (a u64). Other codes count as met;
--- `Run.antt` handles JMP before.
+-- `mark` at 0, `mask` at 4), 11 S_EQ, 12 D_EQ, 13 CGROUP_COND (a u64). Other codes count as met.
+-- NOP (0) and JMP (1) do not get here: `is_met` of `Run.antt` evaluates them.
 abbrev pub kernel_evaluates : Socket → ℕ → List ℕ → Bool
 kernel_evaluates s code args =
     if code == 2 then nat_le (compared_port args) s.source_port
@@ -142,7 +142,9 @@ abbrev pub is_host : Host → ℕ → ℕ → List ℕ → Bool
 is_host h family port octets =
     has_port h.port port && address_has_optional_prefix h.prefix family octets
 
--- A socket meets a condition. `Mark mark mask`: the bits of its mark in `mask` are `mark`.
+-- `meets socket condition`: the socket meets the condition. `Mark mark mask`: the bits of the
+-- socket's mark that are in `mask` are equal to `mark`. `AutoBound`: the kernel chose the socket's
+-- local port.
 abbrev pub meets : Socket → Condition → Bool
 meets s (SourcePort comparison port) = compares comparison s.source_port port
 meets s (DestinationPort comparison port) = compares comparison s.destination_port port
@@ -155,7 +157,7 @@ meets s AutoBound = s.is_auto_bound
 
 -- ---- ranges of the numbers of a condition, as the Rust types have them
 
--- The port, if there is one, fits 16 bits.
+-- The port of a condition, if it has one, fits 16 bits.
 abbrev pub IsPort : Option ℕ → Type 0
 IsPort None = ⊤
 IsPort (Some port) = port < 2 ^ 16

@@ -31,6 +31,8 @@ pub struct RecordRequestView<'a, R> {
 impl<'a, R: Record<Param = ()>> RecordRequestView<'a, R> {
     // Parses the record at the start of the payload, which is the bytes after the header.
     fn read(header: NetlinkHeader, payload: &'a [u8]) -> Result<Self, DecodeError>
+        // `parse_record layout tt`: the record of this layout at the start of the bytes, or its
+        // error. `layout.least`: the number of its bytes.
         ensures header { IfOk result (λ view. view.header ≡ header) }
         ensures request { IfOk result (λ view.
             parse_record R.layout tt payload.entry.now ≡ Ok view.request) }
@@ -81,7 +83,8 @@ impl<'a> AnyRequestView<'a> {
     ///    record.
     pub fn parse(message: &'a [u8]) -> Result<AnyRequestView<'a>, DecodeError>
         // `any_request_content`: the family, the header, the record and the bytes after it; or a
-        // `RequestView`.
+        // `RequestView`. `ParsesAsAnyRequest message request`: the message at the start of the
+        // bytes parses as this request. `IsRejectedAnyRequest message e`: `e` is its first error.
         ensures value { IfOk result (λ view. ParsesAsAnyRequest message.entry.now
             (any_request_content view)) }
         ensures fault { IfErr result (IsRejectedAnyRequest message.entry.now) }

@@ -55,6 +55,7 @@ impl From<AllocError> for AssembleError {
 pub fn assemble(alloc: Global, filter: &Filter) -> Result<Vec<u8>, AssembleError>
     ensures size { IfOk result (λ program. length program.items ≡ program_size filter.now) }
     ensures short { IfOk result (λ program. length program.items ≤ 65531) }
+    // `IsAudited program`: the kernel accepts the program.
     ensures audited { IfOk result (λ program. IsAudited program.items) }
     // `found code arguments`: any assumed result of the condition of an operation.
     // `Runs found program v`: a run of the program with these results has the verdict `v`.
@@ -66,6 +67,8 @@ pub fn assemble(alloc: Global, filter: &Filter) -> Result<Vec<u8>, AssembleError
     // conditions the socket meets.
     ensures wanted { IfOk result (λ program. (socket : Socket)
         → Runs (kernel_evaluates socket) program.items (meaning (meets socket) filter.now)) }
+    // `IsAssembleError filter e`: if `e` is `TooLong`, the program would have more than 65,531
+    // bytes; if it is `Memory`, at most 65,531.
     ensures refused { IfErr result (λ e. IsAssembleError filter.now e) }
 {
     filter.in_range();
@@ -82,6 +85,7 @@ pub fn assemble(alloc: Global, filter: &Filter) -> Result<Vec<u8>, AssembleError
 fn write_program(filter: &Filter, far: usize, buffer: &mut [u8])
     requires whole { length buffer.old ≡ program_size filter.now }
     requires near { program_size filter.now + far ≤ 65535 }
+    // `program_of filter far`: this program.
     ensures { buffer.new ≡ program_of filter.now far }
 {
     match filter {

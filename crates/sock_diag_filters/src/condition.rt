@@ -37,6 +37,8 @@ impl Prefix {
     /// and only if the address has fewer bits: 32 for IPv4, 128 for IPv6. The bits after the prefix
     /// are kept, but they do not affect which addresses match.
     pub fn new(address: IpAddr, bits: u8) -> Option<Prefix>
+        // `IsNewPrefix result address bits`: `Some` of the prefix with this address and this number
+        // of bits, or `None` and the address has fewer bits.
         ensures { IsNewPrefix result address bits }
     {
         let most = match address {

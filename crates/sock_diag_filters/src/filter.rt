@@ -23,6 +23,8 @@ impl Filter<'_> {
 
     /// Returns the length of the filter's program in bytes, or `None` if it is more than `most`.
     pub fn len_within(&self, most: usize) -> Option<usize>
+        // `program_size`: the length of the program. `SomeIff result p n`: the result is `Some n`
+        // if `p` holds, else `None`.
         ensures { SomeIff result (program_size self.now ≤ most) (program_size self.now) }
     {
         match self {
@@ -48,6 +50,7 @@ impl Filter<'_> {
 
     /// Proof only: puts the range of each number in scope. No run-time effect.
     pub fn in_range(&self)
+        // `AreInRange filter`: each number of each condition of the filter fits its Rust type.
         ensures { AreInRange self.now }
     {
         match self {

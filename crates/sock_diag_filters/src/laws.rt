@@ -41,6 +41,12 @@ use std::alloc::AllocError;
 /// `RequestView::parse` does not reject them if the message type is `SOCK_DIAG_BY_FAMILY` or
 /// `SOCK_DESTROY`.
 pub fn written_request_is_read_back()
+    // `request_bytes h request attributes`: the bytes of the message.
+    // `ParsesAsRequest message view`: they parse as this view.
+    // `IsParsedRequest h request attributes view`: the view has the content that was serialized.
+    // `IsRejectedRequest message e`: they are rejected with `e`. `request_attribute`: the type and
+    // the value of an attribute. `IsRequestType t`: the type is 20 (SOCK_DIAG_BY_FAMILY) or 21
+    // (SOCK_DESTROY).
     ensures view { (h : NetlinkHeader) (request : InetRequest) (attributes : List RequestAttribute)
         (view : RequestView) → IsRoundTrippingRequest h request attributes
         → ParsesAsRequest (request_bytes h request (map request_attribute attributes)) view
@@ -62,6 +68,13 @@ pub fn written_request_is_read_back()
 ///   in range and in normal form, its lengths fit (`IsRoundTrippingRequest`), and its header has
 ///   the type of a request.
 pub fn any_written_request_is_read_back()
+    // `record_request_bytes family h request attributes`: the bytes of the message: the header, the
+    // record of the family, and the bytes `attributes`. `ParsesAsAnyRequest message other`: they
+    // parse as the request `other`. `of_family family h request attributes`: the request of another
+    // family than IPv4 and IPv6, with this content.
+    // `IsParsedInetRequest h request attributes other`: a request for IPv4 or IPv6 sockets with the
+    // content that was serialized. `IsRejectedAnyRequest message e`: they are rejected with `e`.
+    // The other definitions are as in `written_request_is_read_back`.
     ensures records { (family : RecordFamily) (h : NetlinkHeader)
         (request : (record_request_codec family).Value) (attributes : List ℕ) (other : AnyRequest)
         → IsCompleteRecordRequest family h request attributes
@@ -90,6 +103,8 @@ pub fn any_written_request_is_read_back()
 /// number of the filter fits its Rust type. For a `Filter` value, `Filter::in_range` proves it.
 #[tactic(auto, using(crate::proofs::Finding::evaluation_is_meaning))]
 pub fn filters_find_what_they_mean()
+    // `meaning met filter`: whether the filter selects a socket, if `met` says which conditions the
+    // socket meets. `code_of c` and `arguments c`: the operation of the condition `c`.
     ensures { (socket : Socket) (filter : Filter) → AreInRange filter
         → meaning (λ c. kernel_evaluates socket (code_of c) (arguments c)) filter
         ≡ meaning (meets socket) filter }
@@ -99,6 +114,8 @@ pub fn filters_find_what_they_mean()
 /// verdict.
 #[tactic(auto, using(crate::proofs::Verdicts::one_verdict))]
 pub fn one_verdict()
+    // `Runs found program verdict`: a run of the program has this verdict: whether the socket is
+    // selected. `found code arguments`: the result of the condition of an operation.
     ensures { (found : ℕ → List ℕ → Bool) (program : List ℕ) (v w : Bool)
         → Runs found program v → Runs found program w → v ≡ w }
 {}
@@ -106,6 +123,7 @@ pub fn one_verdict()
 /// States that `==` holds if and only if two attributes of requests have the same kind and the same
 /// content.
 pub fn equal_request_attributes(v: &RequestAttribute<'_>, w: &RequestAttribute<'_>) -> bool
+    // `request_attribute_content`: a program as a list of bytes, or a protocol.
     ensures { IsTrue result ↔ (request_attribute_content v.now ≡ request_attribute_content w.now) }
 {
     v == w
@@ -140,6 +158,7 @@ pub fn equal_assemble_errors(v: &AssembleError, w: &AssembleError) -> bool
 /// States that `==` holds if and only if two requests have the same header, record, protocol and
 /// program.
 pub fn equal_request_views(v: &RequestView<'_>, w: &RequestView<'_>) -> bool
+    // `request_view_model`: the view with its program as a list of bytes.
     ensures { IsTrue result ↔ (request_view_model v.now ≡ request_view_model w.now) }
 {
     v == w
@@ -151,6 +170,7 @@ pub fn equal_record_request_views<R: Exact>(
     v: &RecordRequestView<'_, R>,
     w: &RecordRequestView<'_, R>,
 ) -> bool
+    // `record_request_view_model`: the view with the bytes after its record as a list.
     ensures { IsTrue result ↔ (record_request_view_model v.now ≡ record_request_view_model w.now) }
 {
     v == w
@@ -159,12 +179,14 @@ pub fn equal_record_request_views<R: Exact>(
 /// States that `==` holds if and only if two requests are of the same family and have the same
 /// content.
 pub fn equal_any_request_views(v: &AnyRequestView<'_>, w: &AnyRequestView<'_>) -> bool
+    // `any_request_view_model`: the family, and the model of the view of its request.
     ensures { IsTrue result ↔ (any_request_view_model v.now ≡ any_request_view_model w.now) }
 {
     v == w
 }
 
-/// States the numeric value of each constant.
+/// States the numeric value of each constant: `PairsAreEqual` states that both numbers of each pair
+/// are equal.
 pub fn filter_constants_have_their_numbers()
     ensures { PairsAreEqual ((MAX_PROGRAM, 65531) ∷ (INET_DIAG_REQ_BYTECODE, 1) ∷
         (INET_DIAG_REQ_PROTOCOL, 3) ∷ (REQUEST_FRONT, 72) ∷ []) }

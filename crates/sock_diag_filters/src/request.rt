@@ -73,11 +73,14 @@ pub struct RequestWithAttributes<'a> {
 }
 
 impl Emitable for RequestWithAttributes<'_> {
+    // `request_bytes header request attributes`: the header with the length of the message, the
+    // request, and the attributes with their padding.
     ghost bytes = { λ r. request_bytes r.header r.request
         (map request_attribute r.attributes.now) };
 
-    // 4,294,967,223 is 2^32 - 1 - 72: the largest length of a message, less the bytes before its
-    // attributes.
+    // `AreWritableWithin attributes limit`: each value has at most 65,531 bytes, and all attributes
+    // with headers and paddings have at most `limit` bytes. 4,294,967,223 is 2^32 - 1 - 72: the
+    // largest length of a message, less the bytes before its attributes.
     ghost writable = { λ r. AreWritableWithin (map request_attribute r.attributes.now) 4294967223 };
 
     /// Returns whether each program has at most 65,531 bytes, and the length of the message fits

@@ -36,10 +36,15 @@ pub fn listening_on(
     last: u16,
     sequence_number: u32,
 ) -> Result<Vec<u8>, AssembleError>
-    // There is a program that the kernel accepts, and each run of it has the verdict of the two
-    // comparisons, whatever they return (`found`). The message has the type 20
-    // (SOCK_DIAG_BY_FAMILY), the flags NLM_F_REQUEST and NLM_F_DUMP, the state LISTEN (bit 10), a
-    // socket id of zeros, and this program.
+    // There is a program that the kernel accepts (`IsAudited`), and each run of it has the verdict
+    // of the two comparisons, whatever they return: `found code arguments` is the result of an
+    // operation, `port_bytes` are the arguments of a comparison with a port, and
+    // `Runs found program verdict` is a run with these results.
+    //
+    // `request_bytes header request attributes`: the bytes of the message. The header has the type
+    // 20 (SOCK_DIAG_BY_FAMILY), the flags NLM_F_REQUEST and NLM_F_DUMP, and the sequence number.
+    // The request has the state LISTEN (bit 10) and a socket id of zeros. The attribute is this
+    // program.
     ensures asked { IfOk result (λ message. (program : List ℕ) × IsAudited program
         × ((found : ℕ → List ℕ → Bool)
         → Runs found program (found 2 (port_bytes first) && found 3 (port_bytes last)))

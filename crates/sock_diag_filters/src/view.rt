@@ -50,6 +50,8 @@ impl<'a> RequestView<'a> {
     /// 4. the error of the first invalid attribute: a framing error, or `WrongLength` for an
     ///    `INET_DIAG_REQ_PROTOCOL` with a length other than 4.
     pub fn parse(message: &'a [u8]) -> Result<RequestView<'a>, DecodeError>
+        // `ParsesAsRequest message view`: the message at the start of the bytes parses as the view.
+        // `IsRejectedRequest message e`: `e` is the first error in it.
         ensures value { IfOk result (ParsesAsRequest message.entry.now) }
         ensures fault { IfErr result (IsRejectedRequest message.entry.now) }
     {
@@ -106,6 +108,8 @@ impl<'a> Found<'a> {
 
 // Returns the last program and the last protocol in the attributes, or the first error.
 fn find_attributes<'a>(bytes: &'a [u8]) -> Result<Found<'a>, DecodeError>
+    // `DecodeTo decode bytes contents`: the bytes split into attributes that decode to these
+    // contents. `HasAttributeError decode bytes e`: `e` is the first error in the bytes.
     ensures value { IfOk result (λ found. (decoded : List RequestContent)
         × DecodeTo decode_request_attribute bytes.entry.now decoded
         × HasLastContents found decoded) }

@@ -21,10 +21,12 @@ use Rattle.sock_diag_lines.specs.declared.answers.Name.TheVariants.{InetRequest,
 use Rattle.sock_diag_lines.specs.declared.answers.Name.TheVariants.{SocketId4, SocketId6, Message}
 use Rattle.sock_diag_lines.specs.declared.answers.Name.TheVariants.{NetlinkMessage, UnixView}
 
--- The spelling of each name; then the codec of its bytes, the codec's parameter, and the text of a
--- value. The parameter of a socket id is the address family, AF_INET (2) or AF_INET6 (10). The
--- parameter of a message is its type, SOCK_DIAG_BY_FAMILY (20). The others have none, `tt`. The
--- text is the canonical form in hex, except for the last two names.
+-- `name_entry name`: the spelling of the name in a line, and how the bytes after it are parsed and
+-- shown (`AnswerCodec`): the parameter's type (`_`: it follows from the rest), the codec, its
+-- parameter, and the text of a value. The parameter of a socket id is the address family, AF_INET
+-- (2) or AF_INET6 (10). The parameter of a message is its type, SOCK_DIAG_BY_FAMILY (20). The
+-- others have none, `tt`. The text is the canonical form in hex (`answer_codec`), except for the
+-- last two names.
 abbrev pub name_entry : Name → List ℕ × AnswerCodec
 name_entry UnixRequest = (codes "unixreq", answer_codec (record_codec unix_request) tt)
 name_entry UnixResponse = (codes "unix", answer_codec (response_codec unix_response_spec) tt)
@@ -59,7 +61,7 @@ pub record IsAnswerOf (line text : List ℕ) : Type 0 where
   pub other : ((name : Name) (b : List ℕ) → ¬ IsRequest line name b)
       → ((datagrams : List (List ℕ)) → ¬ IsDumpRequest line datagrams) → text ≡ codes "bad line"
 
--- the answer starts with `ok `, and not with `ok failed`; only the answer to a dump can start with
--- `ok failed`
+-- `is_good text`: the answer starts with `ok `, and not with `ok failed`; only the answer to a dump
+-- can start with `ok failed`. `eqb` compares two bytes.
 abbrev pub is_good : List ℕ → Bool
 is_good text = starts_with eqb text (codes "ok ") && not (starts_with eqb text (codes "ok failed"))

@@ -16,7 +16,8 @@ IsAnswerText {Value} reads refuses fits text_of text =
     ⊎ (((value : Value) × reads value × ¬ fits value × (text ≡ codes "unwritable"))
     ⊎ ((e : DecodeError) × refuses e × (text ≡ codes "refused " ++ decimal (error_code e))))
 
--- how bytes are parsed and shown: a parameter type, a codec, a parameter, and the text of a value
+-- how bytes are parsed and shown: the type of the codec's parameter, the codec, its parameter, and
+-- the text of a value
 abbrev pub AnswerCodec : Type 1
 AnswerCodec = (Param : Type 0) × (C : Codec Param) × Param × (C.Value → List ℕ)
 

@@ -12,14 +12,16 @@ use Rattle.netlink_packet_sock_diag.specs.Message.{Message, message_codec}
 use Rattle.sock_diag_lines.specs.HexField.{IsHexField, hex_field_of}
 use Rattle.sock_diag_lines.specs.AnswerText.{IsAnswerText}
 
--- IsDumpRequest line datagrams: the line is `dump`, a space, and one or more hex fields separated
--- by one space (32), whose bytes are these datagrams
+-- IsDumpRequest line datagrams: the line is `dump`, a space (32), and one or more hex fields, each
+-- separated from the next by one space; they are the hex fields of these datagrams, in order.
+-- `slice_split` splits a list at each space, which it drops.
 abbrev pub IsDumpRequest : List ℕ → List (List ℕ) → Type 0
 IsDumpRequest line datagrams = (fields : List ℕ) × (line ≡ codes "dump" ++ 32 ∷ fields)
     × AllZip IsHexField (slice_split (λ c. c == 32) fields) datagrams
 
--- The name of the state in which a dump ended, or `failed:` and the code of the decode error in
--- decimal. The error number of the state is not shown. No dump ends with `Ok (Failed, _)`.
+-- `dump_state_text end`: the name of the state in which a dump ended, or `failed:` and the code of
+-- the decode error that ended it, in decimal. The error number of the state is not shown. No dump
+-- ends with `Ok (Failed, _)`.
 abbrev pub dump_state_text : Result DumpStatus DecodeError → List ℕ
 dump_state_text (Ok (Reading, number)) = codes "reading"
 dump_state_text (Ok (Done, number)) = codes "done"

@@ -16,22 +16,32 @@ use Rattle.sock_diag_replies.specs.UnixGetters.{nonlistening_queue_of}
 use Rattle.sock_diag_replies.specs.UnixResponseSpec.{unix_response_spec}
 use Rattle.sock_diag_lines.specs.HexField.{hex_field_of}
 
--- or_none text_of found: the text of a value, or `none` if it is absent
+-- or_none text_of found: `text_of v` if `found` is `Some v`; `none` if it is None, which means that
+-- the reply does not have the value
 abbrev pub or_none : {A : Type 0} → (A → List ℕ) → Option A → List ℕ
 or_none text_of found = unwrap_or (option_map text_of found) (codes "none")
 
--- `path:` or `abstract:`, by the kind of a name, and its bytes as a hex field
+-- `socket_name_text name`: `path:` for a pathname, `abstract:` for an abstract name; and the bytes
+-- of the name as a hex field
 abbrev pub socket_name_text : SocketName (List ℕ) → List ℕ
 socket_name_text (Pathname path) = codes "path:" ++ hex_field_of path
 socket_name_text (Abstract address) = codes "abstract:" ++ hex_field_of address
 
--- numbers in decimal, separated by commas; `-` for an empty list
+-- `comma_list ns`: the numbers in decimal, separated by commas; `-` for an empty list
 abbrev pub comma_list : List ℕ → List ℕ
 comma_list ns = if length ns == 0 then codes "-" else join_by decimal (codes ",") ns
 
--- Thirteen values separated by one space (32): `udiag_type`, `udiag_state` and `udiag_ino` of the
--- header, and ten of the attributes. `found k` is the value of the first attribute of type k, and
--- `both` are the two numbers of a pair. A value that is absent is `none`.
+-- `reply_text v`: thirteen values of the reply `v`, separated by one space (32). A value that the
+-- reply does not have is `none`.
+-- - 1 to 3: `udiag_type`, `udiag_state` and `udiag_ino` of the header
+-- - 4 to 6: UNIX_DIAG_PEER, UNIX_DIAG_NAME and UNIX_DIAG_ICONS
+-- - 7: UNIX_DIAG_SHUTDOWN
+-- - 8 and 9: the two numbers of UNIX_DIAG_RQLEN, `udiag_rqueue` and `udiag_wqueue`, if the state is
+--   TCP_LISTEN; `none` in any other state
+-- - 10 and 11: the same two numbers, if the state is not TCP_LISTEN; else `none`
+-- - 12 and 13: the numbers SK_MEMINFO_SNDBUF and SK_MEMINFO_WMEM_QUEUED of UNIX_DIAG_MEMINFO
+-- `found k` is the value of the first attribute of type k, and `both` are the two numbers of a
+-- pair.
 abbrev pub reply_text : ReplyValue unix_response_spec → List ℕ
 reply_text v = let found = λ (k : ℕ). first_content_of (value_of_kind unix_attribute_set k)
     v.nlas in
@@ -40,8 +50,7 @@ reply_text v = let found = λ (k : ℕ). first_content_of (value_of_kind unix_at
     -- UNIX_DIAG_PEER, UNIX_DIAG_NAME, UNIX_DIAG_ICONS
     ++ or_none decimal (found UNIX_DIAG_PEER) ∷ or_none socket_name_text (found UNIX_DIAG_NAME)
     ∷ or_none comma_list (found UNIX_DIAG_ICONS)
-    -- UNIX_DIAG_SHUTDOWN; then twice the two queue lengths of UNIX_DIAG_RQLEN (`udiag_rqueue`,
-    -- `udiag_wqueue`): first those of a socket that listens, then those of any other socket
+    -- UNIX_DIAG_SHUTDOWN; the queue lengths of a socket that listens, and those of any other socket
     ∷ map (or_none decimal) (found UNIX_DIAG_SHUTDOWN
     ∷ both (listening_queue_of v) ++ both (nonlistening_queue_of v)
     -- two numbers of UNIX_DIAG_MEMINFO: SK_MEMINFO_SNDBUF and SK_MEMINFO_WMEM_QUEUED

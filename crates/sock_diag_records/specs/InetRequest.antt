@@ -8,12 +8,16 @@ use Rattle.sock_diag_records.specs.SocketId.{HasArrayLengths, socket_id_rows}
 use Rattle.sock_diag_records.specs.IpVersions.{IpVersions, versions_of, versions_of_family}
 use Rattle.sock_diag_records.specs.inverse.InetRequest.{inet_request_of}
 
--- `struct inet_diag_req_v2` (linux/inet_diag.h): `sdiag_family`, `sdiag_protocol`, `idiag_ext`,
--- `pad`, `idiag_states`, `id`, in the order of the rows. The family, the first byte, has to be
--- AF_INET or AF_INET6, and selects the IP version of both addresses. All bits of `idiag_ext` are
--- defined. The mask of `idiag_states`, 0xffe, has the bits of `inet_state_flags`, 1 to 11; the
--- parser clears all others. `pad` is ignored, and serialized as 0. In normal form (`is_own`) both
--- addresses are of the family's IP version.
+-- `struct inet_diag_req_v2` (linux/inet_diag.h), by offsets:
+--   0  `sdiag_family`: has to be AF_INET or AF_INET6, and selects the IP version of both addresses
+--   1  `sdiag_protocol`
+--   2  `idiag_ext`: all bits are defined
+--   3  `pad`: ignored, and serialized as 0
+--   4  `idiag_states`: the mask 0xffe has the bits of `inet_state_flags`, 1 (`TCP_ESTABLISHED`) to
+--      11 (`TCP_CLOSING`); the parser clears all others
+--   8  `id`: a `struct inet_diag_sockid`, with addresses of these IP versions
+-- The tag is the IP versions. In normal form (`is_own`) both addresses are of the family's IP
+-- version.
 unfoldable pub inet_request : Layout (Unit {0}) IpVersions InetRequest
 inet_request = record {
   name = name.InetRequest;

@@ -12,16 +12,18 @@ use Rattle.sock_diag_records.specs.Timer.{IsWholeU32Milliseconds}
 use Rattle.sock_diag_records.specs.inverse.InetResponse.{inet_response_header_of}
 use Rattle.netlink_core.specs.Rows.{u8, u32, skip, embed}
 
--- `struct inet_diag_msg` (linux/inet_diag.h): `idiag_family`, `idiag_state`, `idiag_timer`,
--- `idiag_retrans`, `id`, `idiag_expires`, `idiag_rqueue`, `idiag_wqueue`, `idiag_uid` and
--- `idiag_inode`, in the order of the rows. The tag is the IP versions, which the family selects
--- (`idiag_family`, at 0), and the class of the timer (`idiag_timer`, at 2). The family has to be
--- AF_INET or AF_INET6. The byte at 3 (`idiag_retrans`) is ignored unless the class is 1,
--- retransmit. The `u32` at 52 (`idiag_expires`) is ignored if the class is 0, no timer, or 3,
--- time-wait. The serializer writes the class at 2, and 0 in ignored fields. `timer_data` are the
--- class, the number of retransmits and the duration. In normal form (`is_own`) both addresses are
--- of the family's IP version, and the timer's duration is a whole number of milliseconds below
--- 2^32.
+-- `struct inet_diag_msg` (linux/inet_diag.h), by offsets:
+--   0   `idiag_family`: has to be AF_INET or AF_INET6, and selects the IP version of both addresses
+--   1   `idiag_state`
+--   2   `idiag_timer`: its class (`timer_class`) is parsed and serialized
+--   3   `idiag_retrans`: parsed if the class is 1, retransmit; else ignored, and serialized as 0
+--   4   `id`: a `struct inet_diag_sockid`, with addresses of these IP versions
+--   52  `idiag_expires`, in milliseconds: parsed if the class is 1, 2 or 4; ignored, and serialized
+--       as 0, if the class is 0, no timer, or 3, time-wait
+--   56  `idiag_rqueue`, `idiag_wqueue`, `idiag_uid`, `idiag_inode`
+-- The tag is the IP versions and the class. `timer_data` are the class, the number of retransmits
+-- and the duration of a timer. In normal form (`is_own`) both addresses are of the family's IP
+-- version, and the timer's duration is a whole number of milliseconds below 2^32.
 unfoldable pub inet_response_header : Layout (Unit {0}) (IpVersions × ℕ) InetResponseHeader
 inet_response_header = record {
   name = name.InetResponseHeader;

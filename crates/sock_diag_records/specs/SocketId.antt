@@ -27,14 +27,19 @@ address_values address = first_numbers (address_data address).1 (address_data ad
 
 -- ---- the record
 
--- `address offset version member`: the row for an address at the offset, in C `__be32[4]`, of this
--- IP version. `member` is the member of `SocketId` that is stored there.
+-- `address offset version get`: the row for an address of this IP version at the offset, in C
+-- `__be32[4]`. `get` returns the address that is stored there from a `SocketId`.
 abbrev pub address : (offset : ℕ) → IpVersion → (SocketId → IpAddr) → Row SocketId
 address offset version get = (address_fields offset version, λ value. address_values (get value))
 
--- `socket_id_rows offset versions`: `struct inet_diag_sockid` (linux/inet_diag.h) that starts at
--- the offset of an outer struct, with a local and a remote address of these IP versions:
--- `idiag_sport`, `idiag_dport`, `idiag_src`, `idiag_dst`, `idiag_if`, `idiag_cookie`
+-- `socket_id_rows offset versions`: a `struct inet_diag_sockid` (linux/inet_diag.h) that starts at
+-- the offset of an outer struct, with a local and a remote address of these IP versions. By offsets
+-- in the inner struct:
+--   0   `idiag_sport`, `idiag_dport`: ports, in network byte order
+--   4   `idiag_src`: the local address, of the first version
+--   20  `idiag_dst`: the remote address, of the second version
+--   36  `idiag_if`: little-endian
+--   40  `idiag_cookie`: eight bytes
 abbrev pub socket_id_rows : (offset : ℕ) → IpVersions → List (Row SocketId)
 socket_id_rows offset versions =
     be16 offset SocketId.source_port ∷

@@ -8,7 +8,8 @@ use Rattle.sock_diag_records.specs.declared.inet.response.Timer.{Timer}
 use Rattle.sock_diag_records.specs.declared.inet.response.Timer.TheVariants.{Retransmit, KeepAlive}
 use Rattle.sock_diag_records.specs.declared.inet.response.Timer.TheVariants.{TimeWait, Probe}
 
--- the whole milliseconds of a duration, modulo 2^32
+-- the whole milliseconds of a duration, modulo 2^32: what is serialized as `idiag_expires`, which
+-- has 32 bits
 abbrev pub u32_milliseconds : Duration → ℕ
 u32_milliseconds time = as_nanos time / 1_000_000 % 2 ^ 32
 

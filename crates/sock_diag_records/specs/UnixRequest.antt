@@ -6,13 +6,18 @@ use Rattle.netlink_core.specs.declared.fault.RecordName.TheVariants as name
 use Rattle.sock_diag_records.specs.declared.unix.request.UnixRequest.{UnixRequest}
 use Rattle.sock_diag_records.specs.inverse.UnixRequest.{unix_request_of}
 
--- `struct unix_diag_req` (linux/unix_diag.h). `sdiag_family`, `sdiag_protocol` and `pad` (two
--- bytes) are ignored, and serialized as AF_UNIX (1), 0, 0, 0. Then `udiag_states`, `udiag_ino`,
--- `udiag_show` and `udiag_cookie`, in the order of the rows. The masks are the bits of
--- `unix_state_flags`, 0x402, and `unix_show_flags`, 0x3f: `TCP_ESTABLISHED` and `TCP_LISTEN`;
--- `UDIAG_SHOW_NAME` to `UDIAG_SHOW_MEMINFO`. The parser clears all other bits. Arguments of
--- `plain`: the name in errors, the length in bytes, the rows, their inverse, and the condition on
--- arrays: the cookie has eight bytes.
+-- `struct unix_diag_req` (linux/unix_diag.h), by offsets:
+--   0   `sdiag_family`, `sdiag_protocol` and `pad` (two bytes): ignored, and serialized as AF_UNIX
+--       (1), 0, 0, 0
+--   4   `udiag_states`: the mask 0x402 has the bits of `unix_state_flags`, 1 (`TCP_ESTABLISHED`)
+--       and 10 (`TCP_LISTEN`)
+--   8   `udiag_ino`
+--   12  `udiag_show`: the mask 0x3f has the bits of `unix_show_flags`, `UDIAG_SHOW_NAME` (0x1) to
+--       `UDIAG_SHOW_MEMINFO` (0x20)
+--   16  `udiag_cookie`: eight bytes
+-- The parser clears all bits that are not in these masks. Arguments of `plain`: the name in errors,
+-- the length in bytes, the rows, their inverse, and the condition on arrays: the cookie has eight
+-- bytes.
 abbrev pub unix_request : Layout (Unit {0}) (Unit {0}) UnixRequest
 unix_request = plain name.UnixRequest 24 (
     skip 0 (1 ∷ 0 ∷ 0 ∷ 0 ∷ []) ∷

@@ -6,10 +6,15 @@ use Rattle.netlink_core.specs.declared.fault.RecordName.TheVariants as name
 use Rattle.sock_diag_records.specs.declared.unix.response.UnixResponseHeader.{UnixResponseHeader}
 use Rattle.sock_diag_records.specs.inverse.UnixResponseHeader.{unix_response_header_of}
 
--- `struct unix_diag_msg` (linux/unix_diag.h): `udiag_family` and `pad` are ignored, and serialized
--- as AF_UNIX (1) and 0; `udiag_type` at 1, `udiag_state` at 2, `udiag_ino` at 4, `udiag_cookie` at
--- 8. Arguments of `plain`: the name in errors, the length in bytes, the rows, their inverse, and
--- the condition on arrays: the cookie has eight bytes.
+-- `struct unix_diag_msg` (linux/unix_diag.h), by offsets:
+--   0  `udiag_family`: ignored, and serialized as AF_UNIX (1)
+--   1  `udiag_type`
+--   2  `udiag_state`
+--   3  `pad`: ignored, and serialized as 0
+--   4  `udiag_ino`
+--   8  `udiag_cookie`: eight bytes
+-- Arguments of `plain`: the name in errors, the length in bytes, the rows, their inverse, and the
+-- condition on arrays: the cookie has eight bytes.
 abbrev pub unix_response_header : Layout (Unit {0}) (Unit {0}) UnixResponseHeader
 unix_response_header = plain name.UnixResponseHeader 16 (
     skip 0 (1 ∷ []) ∷

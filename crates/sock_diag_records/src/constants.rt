@@ -233,10 +233,10 @@ pub const IPPROTO_MH: u8 = 135;
 /// No attribute.
 pub const INET_DIAG_NONE: u16 = 0;
 
-/// Memory of the socket in the format of old kernels: `LegacyMemInfo`.
+/// Memory of the socket in the format of old kernels: `struct inet_diag_meminfo`.
 pub const INET_DIAG_MEMINFO: u16 = 1;
 
-/// State of the TCP connection: `TcpInfo`.
+/// State of the TCP connection: `struct tcp_info`.
 pub const INET_DIAG_INFO: u16 = 2;
 
 /// Measurements of TCP Vegas: `struct tcpvegas_info`.
@@ -251,7 +251,7 @@ pub const INET_DIAG_TOS: u16 = 5;
 /// IPv6 traffic class, a `u8`.
 pub const INET_DIAG_TCLASS: u16 = 6;
 
-/// Memory of the socket: `MemInfo` of `inet::nlas`.
+/// Memory of the socket: an array of `u32`, indexed by `SK_MEMINFO_*`.
 pub const INET_DIAG_SKMEMINFO: u16 = 7;
 
 /// Directions that are shut down, a `u8`: bit 0 for receiving, bit 1 for sending. See shutdown(2).
@@ -347,7 +347,7 @@ pub const UDIAG_SHOW_MEMINFO: u32 = 32;
 /// Name that the socket is bound to.
 pub const UNIX_DIAG_NAME: u16 = 0;
 
-/// File that the socket is bound to: `Vfs`.
+/// File that the socket is bound to: `struct unix_diag_vfs`.
 pub const UNIX_DIAG_VFS: u16 = 1;
 
 /// Inode number of the peer.
@@ -359,7 +359,7 @@ pub const UNIX_DIAG_ICONS: u16 = 3;
 /// Lengths of the queues.
 pub const UNIX_DIAG_RQLEN: u16 = 4;
 
-/// Memory of the socket: `MemInfo` of `unix::nlas`.
+/// Memory of the socket: an array of `u32`, indexed by `SK_MEMINFO_*`.
 pub const UNIX_DIAG_MEMINFO: u16 = 5;
 
 /// Directions that are shut down, a `u8`: bit 0 for receiving, bit 1 for sending. See shutdown(2).

@@ -4,7 +4,9 @@
 //! `EqualUnder masks b c` says that `b` and `c` have the same bits under the masks, one for each
 //! byte from the first on: a bit that is 1 in the mask is significant, a bit that is 0 is ignored.
 //! No byte after these is compared. `IsInetFamily` says that a number is `AF_INET` (2) or
-//! `AF_INET6` (10).
+//! `AF_INET6` (10), and `IsBytes` that each number of a list is below 256. The equivalence of a
+//! record is the member `idle` of its codec; its parameter is the family for a [`SocketId`], and
+//! `tt` for the other records, which have none.
 //!
 //! Proof only: the contracts state the property.
 

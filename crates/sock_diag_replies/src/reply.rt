@@ -32,9 +32,10 @@ pub(crate) fn without_memory<T: Drop>(_begun: T) -> DecodeError
 pub fn same_views<'a, V: FamilyView<'a> + Drop>(left: &'a [u8], right: &'a [u8]) -> bool
     requires left { HasNoAttributeError (decode_attribute V.attribute_set) left.now }
     requires right { HasNoAttributeError (decode_attribute V.attribute_set) right.now }
-    // `test`: `==` of two views, as a function of their models. `decoded_in`: what the attributes
-    // in the bytes decode to, in order. `pointwise`: the lists have the same length, and `test` is
-    // true at each index.
+    // `test` is any function that computes `==` of two views from their models.
+    // `decoded_in decode bytes`: what the attributes in the bytes decode to by `decode`, in order.
+    // `pointwise test xs ys`: the lists have the same length, and `test` is true of the elements at
+    // each index.
     ensures { (test : AttributeValue V.attribute_set → AttributeValue V.attribute_set → Bool)
         → ((v w : V) → V.PartialEq.eq v w ≡ test (V.model v) (V.model w))
         → result ≡ pointwise test (decoded_in (decode_attribute V.attribute_set) left.entry.now)
@@ -56,6 +57,10 @@ pub fn same_views<'a, V: FamilyView<'a> + Drop>(left: &'a [u8], right: &'a [u8])
 /// header must be writable.
 pub(crate) fn reply_len<H: Emitable, T: FamilyNla>(header: &H, nlas: &[T]) -> Option<usize>
     requires { H.writable header.now }
+    // `attributes`: what the attributes serialize as. `HasWritableLengths header attributes`: each
+    // value has at most 65,531 bytes, and the whole has at most 4,294,967,295.
+    // `header_and_attributes header attributes`: the bytes of the header, and then of each
+    // attribute with its padding. `SomeIff result p n`: `Some n` if `p` holds, else `None`.
     ensures { let attributes = map (encode_attribute T.attribute_set) (map T.model nlas.now) in
         SomeIff result (HasWritableLengths (H.bytes header.now) attributes)
         (length (header_and_attributes (H.bytes header.now) attributes)) }
@@ -105,6 +110,7 @@ pub(crate) fn check_reply_len<'a, H: Emitable, V: FamilyView<'a> + Drop>(
     requires { H.writable header.now }
     ensures clean { OnOk result (HasNoAttributeError
         (decode_attribute V.attribute_set) bytes.entry.now) }
+    // `attributes`: what the attributes in the bytes serialize as in canonical form.
     ensures len { let attributes = map (encode_attribute V.attribute_set)
         (decoded_in (decode_attribute V.attribute_set) bytes.entry.now) in
         IfOk result (λ len. SomeIff len (HasWritableLengths (H.bytes header.now) attributes)

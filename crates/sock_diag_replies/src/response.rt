@@ -87,10 +87,16 @@ impl<H: ReplyOwned> Reply<H, H::Nla> {
     /// Returns an equal reply. Fails only if an allocation fails. Cloning a reply of at most eight
     /// attributes that need no memory never fails.
     pub fn clone(&self, alloc: Global) -> Result<Self, AllocError>
+        // `response_model of_header of reply`: the reply with the model `of_header` of its header,
+        // and the model `of` of each of its attributes, in order.
         ensures equal { IfOk result (λ copy.
             response_model H.header_model H.Nla.FamilyNla.model copy
             ≡ response_model H.header_model H.Nla.FamilyNla.model
             self.now) }
+        // `is_spare`: the reply needs no memory, that is, it has at most eight attributes, and none
+        // of them needs memory. `response_codec reply`: the codec of the replies of this format.
+        // `record (H.reply) { .. }`: the format of the replies, with the attribute set of the owned
+        // attributes.
         ensures spare { (response_codec
             (record (H.reply) { attribute_set = H.Nla.FamilyNla.attribute_set })).is_spare
             (response_model H.header_model H.Nla.FamilyNla.model self.now)
@@ -145,6 +151,7 @@ impl<H: ReplyOwned> ReplyView<'_, H> {
     // room for eight, and there are at most eight attributes, none of which needs memory.
     fn own_into(&self, alloc: Global, nlas: &mut SmallVec<H::Nla, 8>) -> Result<(), AllocError>
         requires { nlas.old.items ≡ [] }
+        // `decoded_in decode bytes`: what the attributes in the bytes decode to, in order.
         ensures equal { OnOk result (map H.Nla.FamilyNla.model nlas.new.items
             ≡ decoded_in (decode_attribute H.Nla.FamilyNla.attribute_set)
             (bytes_after_header self.now)) }
@@ -164,14 +171,18 @@ impl<H: ReplyOwned> ReplyView<'_, H> {
     /// attribute. Fails only if an allocation fails. Never fails for at most eight attributes that
     /// need no memory.
     pub fn to_owned(&self, alloc: Global) -> Result<Reply<H, H::Nla>, AllocError>
-        // `reply_after`: the reply with this header and what the attributes in the bytes decode to,
-        // by the attribute set of the owned attributes.
+        // `reply_after reply header bytes`: the reply with this header and what the attributes in
+        // these bytes decode to. Here they are the header of the view,
+        // `(view_model self.now).header`, and its bytes after the header,
+        // `bytes_after_header self.now`. `record (H.reply) { .. }`: the format of the replies, with
+        // the attribute set of the owned attributes.
         ensures equal { IfOk result (λ reply.
             response_model H.header_model H.Nla.FamilyNla.model reply
             ≡ reply_after (record (H.reply) { attribute_set = H.Nla.FamilyNla.attribute_set })
             (view_model self.now).header
             (bytes_after_header self.now)) }
-        // `is_spare`: the reply needs no memory.
+        // `is_spare`: the reply needs no memory, that is, it has at most eight attributes, and none
+        // of them needs memory.
         ensures spare { (response_codec
             (record (H.reply) { attribute_set = H.Nla.FamilyNla.attribute_set })).is_spare
             (reply_after (record (H.reply) { attribute_set = H.Nla.FamilyNla.attribute_set })
@@ -191,8 +202,7 @@ impl<H: ReplyOwned> ReplyView<'_, H> {
     /// not moved there.
     #[inline(always)]
     pub fn to_boxed(&self, alloc: Global) -> Result<Box<Reply<H, H::Nla>>, AllocError>
-        // `reply_after`: the reply with this header and what the attributes in the bytes decode to,
-        // by the attribute set of the owned attributes.
+        // As for `to_owned`. `reply.value`: the reply in the box.
         ensures { IfOk result (λ reply. response_model H.header_model H.Nla.FamilyNla.model
             reply.value
             ≡ reply_after (record (H.reply) { attribute_set = H.Nla.FamilyNla.attribute_set })
@@ -212,6 +222,8 @@ impl<H: ReplyOwned> ReplyView<'_, H> {
 impl<H: ReplyOwned> Emitable for Reply<H, H::Nla> {
     ghost use Rattle.sock_diag_replies.specs.ResponseModel.{response_model};
 
+    // `response_bytes reply v`: the bytes of the reply `v`, its header and its attributes with
+    // their padding. `fits v`: it is writable.
     ghost bytes = { λ v. response_bytes
         (record (H.reply) { attribute_set = H.Nla.FamilyNla.attribute_set })
         (response_model H.header_model H.Nla.FamilyNla.model v) };
@@ -296,6 +308,7 @@ fn write_reply<H: ReplyHeader>(
     len: usize,
 ) -> Result<Vec<u8>, AllocError>
     requires clean { HasNoAttributeError (decode_attribute H.reply.attribute_set) bytes.now }
+    // `reply_after reply header bytes`: the reply with this header and the attributes in the bytes.
     requires fits { (response_codec H.reply).fits
         (reply_after H.reply (H.header_model header.now) bytes.now) }
     requires len { len ≡ length (response_bytes H.reply

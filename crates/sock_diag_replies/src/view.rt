@@ -32,6 +32,8 @@ pub trait ReplyHeader: Drop + Sized {
     // `reply`: the format of the replies, as the codec of the header, its size, and the set of the
     // attributes after it. `header_model`: the model of a header. `test`: the comparison of two
     // replies, which is true if and only if they are equal (`compared`, below).
+    // `reply.header.reads tt bytes`: the model of the header at the start of the bytes, or the
+    // error that rejects it.
     ghost reply: { ResponseSpec };
 
     ghost header_model: { Self → reply.header.Value };
@@ -51,6 +53,10 @@ pub trait ReplyHeader: Drop + Sized {
     /// Checks each attribute in `bytes`, the bytes after a header, and returns their number, or
     /// returns the first error. Does not allocate.
     fn check(bytes: &[u8]) -> Result<usize, DecodeError>
+        // `decode_attribute set`: decodes an attribute by the attribute set, or returns the error
+        // of its value. `HasNoAttributeError decode bytes`: the bytes split into attributes, and
+        // none of them has an error. `decoded_in decode bytes`: what these attributes decode to, in
+        // order. `HasAttributeError decode bytes e`: `e` is the first error in the bytes.
         ensures clean { OnOk result (HasNoAttributeError (decode_attribute reply.attribute_set)
             bytes.now) }
         ensures count { IfOk result (λ count.
@@ -63,6 +69,8 @@ pub trait ReplyHeader: Drop + Sized {
     /// the value of an attribute then has more than 65,531 bytes, or if the whole has more than
     /// 4,294,967,295 bytes. Does not allocate.
     fn check_len(&self, bytes: &[u8]) -> Result<Option<usize>, DecodeError>
+        // `reply_after reply header bytes`: the reply `v` with this header and the attributes in
+        // these bytes. `fits v`: it is writable. `response_bytes reply v`: what it serializes to.
         ensures clean { OnOk result (HasNoAttributeError (decode_attribute reply.attribute_set)
             bytes.now) }
         ensures len { let v = reply_after reply (header_model self.now) bytes.now in
@@ -97,6 +105,8 @@ pub trait ReplyHeader: Drop + Sized {
         requires room { length (response_bytes reply
             (reply_after reply (header_model self.now) bytes.now))
             ≤ length buffer.old }
+        // `HoldsAtStart written old new`: the buffer `new` is `written` and then the bytes of `old`
+        // from this offset on.
         ensures { HoldsAtStart (response_bytes reply (reply_after reply
             (header_model self.now) bytes.now)) buffer.old buffer.new };
 
@@ -131,11 +141,13 @@ pub struct ReplyView<'a, H: ReplyHeader> {
     // The number of attributes.
     count: usize,
     header: PhantomData<H>,
+    // The bytes are at least as long as a header.
     ghost long: { H.reply.size ≤ length bytes.now },
-    // The model of the header.
+    // The model of the header at the start of the bytes, and that they parse as it.
     ghost head: { (h : H.reply.header.Value)
         × (H.reply.header.reads tt bytes.now ≡ Ok h) } by { result_has_one_value
             (H.reply.header.reads tt bytes.now) },
+    // The attributes after the header have no error, and `count` is their number.
     ghost clean: { HasNoAttributeError (decode_attribute H.reply.attribute_set)
         (drop H.reply.size bytes.now) },
     ghost counted: { count
@@ -174,6 +186,8 @@ impl<'a, H: ReplyHeader> ReplyView<'a, H> {
     // Out of line, to keep the loop over the attributes out of callers that build a list.
     #[inline(never)]
     pub fn parse(bytes: &'a [u8]) -> Result<ReplyView<'a, H>, DecodeError>
+        // `response_codec reply`: the codec of the replies of this format. `view_model view`: the
+        // header and the decoded attributes of the view. `view_bytes view`: all of its bytes.
         ensures value { IfOk result (λ view.
             (response_codec H.reply).reads bytes.entry.now tt (view_model view)) }
         ensures kept { IfOk result (λ view. view_bytes view ≡ bytes.entry.now) }
@@ -211,6 +225,7 @@ impl<'a, H: ReplyHeader> ReplyView<'a, H> {
     // Returns the bytes after the header.
     pub(crate) fn attribute_bytes(&self) -> &'a [u8]
         ensures part { result.now ≡ bytes_after_header self.now }
+        // These bytes have no error, because the view was checked.
         ensures clean { HasNoAttributeError (decode_attribute H.reply.attribute_set) result.now }
     {
         &self.bytes[H::length()..]
@@ -232,12 +247,14 @@ impl<'a, H: ReplyViews<'a>> ReplyView<'a, H> {
     pub fn walk(bytes: &'a [u8]) -> Result<(H, CheckedNlas<'a, H::View>), DecodeError>
         ensures header { IfOk result (λ parts.
             H.reply.header.reads tt bytes.entry.now ≡ Ok (H.header_model parts.0)) }
-        // The iterator starts at the bytes after the header.
+        // `parts.0` is the header, and `parts.1` the iterator. It starts at the bytes after the
+        // header: these are `unchecked_bytes`, the bytes that it has neither read nor checked yet.
         ensures left { IfOk result (λ parts.
             unchecked_bytes parts.1 ≡ drop H.reply.size bytes.entry.now) }
         // If the iterator yields exactly the attributes `nlas`, without an error, and then `None`,
         // the bytes parse as the header and these attributes. `gives`: what one call of `next`
-        // does.
+        // does. `Drains gives iterator items`: calling `next` until it returns `None` yields
+        // exactly these items.
         ensures value { let reply = response_codec
             (record (H.reply) { attribute_set = H.View.FamilyView.attribute_set }) in
             let gives = ⟦<CheckedNlas<'a, H::View> as Iterator>⟧.next_gives in
@@ -248,7 +265,8 @@ impl<'a, H: ReplyViews<'a>> ReplyView<'a, H> {
               nlas = map H.View.FamilyView.model nlas;
             })) }
         // If the iterator yields the attributes `nlas`, and then the error `e`, the bytes are
-        // rejected with `e`.
+        // rejected with `e`. `YieldsThen gives iterator items item last`: `next` yields these items
+        // and then this item, after which the iterator is `last`.
         ensures refused { let reply = response_codec
             (record (H.reply) { attribute_set = H.View.FamilyView.attribute_set }) in
             let gives = ⟦<CheckedNlas<'a, H::View> as Iterator>⟧.next_gives in
@@ -264,8 +282,9 @@ impl<'a, H: ReplyViews<'a>> ReplyView<'a, H> {
 
     /// Returns an iterator over the attributes, in wire order.
     pub fn attributes(&self) -> AttributeViews<'a, H>
-        // `decoded_in`: what the attributes in the bytes decode to, in order. The iterator has all
-        // attributes of the reply left.
+        // `decoded_in reads bytes`: what the attributes in the bytes decode to by `reads`, in
+        // order. `unread_attributes result`: the bytes that the iterator has not read yet. They
+        // decode to the same values as the bytes after the header: all attributes are left.
         ensures { let reads = decode_attribute H.View.FamilyView.attribute_set in
             decoded_in reads (unread_attributes result)
             ≡ decoded_in reads (bytes_after_header self.now) }
@@ -337,6 +356,7 @@ pub struct AttributeViews<'a, H: ReplyHeader> {
     // The number of attributes that were not yielded yet.
     count: usize,
     header: PhantomData<H>,
+    // The attributes that are left have no error, and `count` is their number.
     ghost clean: { HasNoAttributeError (decode_attribute H.reply.attribute_set)
         (unread_bytes walk) },
     ghost counted: { count ≡ length
@@ -346,6 +366,7 @@ pub struct AttributeViews<'a, H: ReplyHeader> {
 impl<H: ReplyHeader> Clone for AttributeViews<'_, H> {
     ghost use Rattle.sock_diag_replies.specs.ViewModel.{unread_attributes};
 
+    // A clone has the same attributes left. Cloning never fails.
     ghost is_clone = { λ views copy. decoded_in (decode_attribute H.reply.attribute_set)
         (unread_attributes copy)
         ≡ decoded_in (decode_attribute H.reply.attribute_set) (unread_attributes views) };
@@ -366,13 +387,17 @@ impl<'a, H: ReplyViews<'a>> Iterator for AttributeViews<'a, H> {
 
     type Item = H::View;
 
-    // A call yields the first of the attributes that are left, and the ones after it remain. It
-    // returns `None` only if none were left.
+    // `YieldsFirstBy model rest old given new`: `given` is `Some` of a value whose model is the
+    // first element of the list `rest old`, and `rest new` is the list of the others; or `given` is
+    // `None`, and both lists are empty. Here the list is what the attributes that are left decode
+    // to, in order. So a call yields the first attribute that is left, and returns `None` if and
+    // only if none is left.
     ghost next_gives = { λ old given new. YieldsFirstBy H.View.FamilyView.model (λ walk.
         decoded_in (decode_attribute H.View.FamilyView.attribute_set) (unread_bytes walk)) old.walk
         given
         new.walk };
 
+    // `next` yields at most as many attributes as are left.
     ghost remaining = { λ views. at_most (length
         (decoded_in (decode_attribute H.View.FamilyView.attribute_set)
         (unread_attributes views))) };
@@ -387,8 +412,8 @@ impl<'a, H: ReplyViews<'a>> Iterator for AttributeViews<'a, H> {
     /// Returns the exact number of attributes that were not yielded yet.
     fn size_hint(&self) -> (usize, Option<usize>)
         // `left`: the attributes that were not yielded yet. The first two clauses are those of the
-        // trait: the lower bound is at most their number, and the upper bound, if there is one, is
-        // at least their number.
+        // trait: the lower bound is at most their number (`IsWithinCount bound count`), and the
+        // upper bound, if there is one, is at least their number (`UpTo count bound`).
         ensures lower { let left = decoded_in (decode_attribute H.View.FamilyView.attribute_set)
             (unread_attributes self.now) in
             IsWithinCount result.0 (at_most (length left)) }

@@ -18,19 +18,19 @@ mem_info_u32_count bytes = if nat_lt bytes 32 then 7 else if nat_lt bytes 36 the
 
 -- An array of `u32`, indexed by `SK_MEMINFO_*` (linux/sock_diag.h), of at least 28 bytes. The rows
 -- are `SK_MEMINFO_RMEM_ALLOC`, `_RCVBUF`, `_WMEM_ALLOC`, `_SNDBUF`, `_FWD_ALLOC`, `_WMEM_QUEUED`,
--- `_OPTMEM`, `_BACKLOG` and `_DROPS`. The tag is the number of elements. Bytes are parsed with as
--- many elements as they contain (`tag_at`); a missing backlog or number of drops is `None`. A value
--- is serialized (`tag_of`) with nine elements if it has drops, else with eight if it has a backlog,
--- else with seven. Drops without a backlog are serialized after a backlog of 0. In normal form
--- (`is_own`) a value with drops has a backlog. There are no arrays to check (`is_shaped`).
--- `when test row`: the row is present if the test holds.
+-- `_OPTMEM`, `_BACKLOG` and `_DROPS`. The tag is the number of elements, 7, 8 or 9 (`words`). Bytes
+-- are parsed with as many elements as they contain, at most nine (`tag_at`); a missing backlog or
+-- number of drops is `None`. A value is serialized (`tag_of`) with nine elements if it has drops,
+-- else with eight if it has a backlog, else with seven. Drops without a backlog are serialized
+-- after a backlog of 0. In normal form (`is_own`) a value with drops has a backlog. There are no
+-- arrays to check (`is_shaped`). `when test row`: the row is present if the test holds.
 abbrev pub mem_info : Layout (Unit {0}) ℕ MemInfo
 mem_info = record {
   name = name.MemInfo;
   least = 28;
   tag_at = λ param left. Ok (mem_info_u32_count (length left));
   tag_of = λ m. if is_some m.drops then 9 else if is_some m.backlog_queue_length then 8 else 7;
-  rows = λ words.
+  rows = λ count.
       u32 0 MemInfo.receive_queue ∷
       u32 4 MemInfo.receive_queue_max ∷
       u32 8 MemInfo.bottom_send_queues ∷
@@ -38,8 +38,8 @@ mem_info = record {
       u32 16 MemInfo.cache ∷
       u32 20 MemInfo.send_queue ∷
       u32 24 MemInfo.options ∷
-      when (nat_lt 7 words) (u32 28 (λ m. unwrap_or m.backlog_queue_length 0)) ∷
-      when (nat_lt 8 words) (u32 32 (λ m. unwrap_or m.drops 0)) ∷ [];
+      when (nat_lt 7 count) (u32 28 (λ m. unwrap_or m.backlog_queue_length 0)) ∷
+      when (nat_lt 8 count) (u32 32 (λ m. unwrap_or m.drops 0)) ∷ [];
   value = λ words values. mem_info_of values;
   is_shaped = λ value. ⊤;
   is_own = λ param value. IfSome value.drops (λ drops. IsSome value.backlog_queue_length);

@@ -3,7 +3,8 @@
 //! Two byte strings are equivalent if both are accepted and parse as equal values. In the contracts
 //! `EqualUnder masks b c` says that `b` and `c` have the same bits under the masks, one for each
 //! byte from the first on: 255 for a significant byte, 0 for an ignored one. No byte after these is
-//! compared.
+//! compared. `IsBytes` says that each number of a list is below 256. The equivalence of a record is
+//! the member `idle` of its codec, whose parameter is `tt`, since these records have none.
 //!
 //! Proof only: the contracts state the property.
 

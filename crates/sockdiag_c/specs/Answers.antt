@@ -14,15 +14,16 @@ IsCheckResultBy {V} {T} reads refuses describes old new answer =
     ((answer ≡ 0) × ((v : V) × reads v × describes v new))
     ⊎ ((e : DecodeError) × refuses e × (answer ≡ error_code e) × (new ≡ old))
 
--- IsCheckResultBy, if `new` is a function of the value: `found v`
+-- IsCheckResult reads refuses found old new answer: as IsCheckResultBy; if `answer` is 0, `new` is
+-- `found v`
 abbrev pub IsCheckResult : {V T : Type 0} → (V → Type 0) → (DecodeError → Type 0) → (V → T) → T → T
     → ℕ
     → Type 0
 IsCheckResult {V} {T} reads refuses found old new answer =
     IsCheckResultBy reads refuses (λ (v : V) (it : T). it ≡ found v) old new answer
 
--- IsGetterResult item old new answer: if there is an item, it is stored and the return value is 1;
--- else the return value is 0 and nothing is stored
+-- IsGetterResult item old new answer: if `item` is `Some`, it is stored (`new`) and the return
+-- value `answer` is 1; else `answer` is 0 and the target is unchanged
 abbrev pub IsGetterResult : {T : Type 0} → Option T → T → T → ℕ → Type 0
 IsGetterResult (Some item) old new answer = (answer ≡ 1) × (new ≡ item)
 IsGetterResult None old new answer = (answer ≡ 0) × (new ≡ old)

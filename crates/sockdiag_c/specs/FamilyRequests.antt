@@ -10,26 +10,29 @@ use Rattle.sockdiag_c.specs.Requests.{request_header_of}
 use Rattle.sockdiag_c.specs.declared.family_requests.ShowRequest.{ShowRequest}
 use Rattle.sockdiag_c.specs.declared.family_requests.VsockRequest.{VsockRequest}
 
--- The records `struct netlink_diag_req`, `packet_diag_req` and `xdp_diag_req`, which have one
--- layout, from `struct sockdiag_show_request`. Each field is the field with the same name.
+-- `show_request_from_c family r`: the record of the request `r` (`struct sockdiag_show_request`)
+-- for the family 16 (AF_NETLINK), 17 (AF_PACKET) or 44 (AF_XDP). The records
+-- `struct netlink_diag_req`, `packet_diag_req` and `xdp_diag_req` have one layout. Each field is
+-- the field with the same name.
 abbrev pub show_request_from_c : (family : ℕ) → ShowRequest → show.ShowRequest family
 show_request_from_c family r =
     record { protocol = r.protocol; inode = r.inode; show = r.show; cookie = r.cookie }
 
--- `struct vsock_diag_req` from `struct sockdiag_vsock_request`: each field is the field with the
--- same name
+-- `vsock_request_from_c r`: `struct vsock_diag_req` from the request `r`
+-- (`struct sockdiag_vsock_request`): each field is the field with the same name
 abbrev pub vsock_request_from_c : VsockRequest → vsock.VsockRequest
 vsock_request_from_c r = record { states = r.states; cookie = r.cookie }
 
--- a netlink message of 36 bytes with type 20, SOCK_DIAG_BY_FAMILY: a header of 16 bytes, then a
--- record of 20 bytes
+-- `show_message family r`: the netlink message of the request `r` for the family: 36 bytes, of type
+-- 20 (SOCK_DIAG_BY_FAMILY). It is a header of 16 bytes (`header_bytes`), then the record of 20
+-- bytes (`record_bytes`).
 abbrev pub show_message : ℕ → ShowRequest → List ℕ
 show_message family r =
     header_bytes (request_header_of 36 20 r.header)
     ++ record_bytes (show_request family) (show_request_from_c family r)
 
--- a netlink message of 40 bytes with type 20, SOCK_DIAG_BY_FAMILY: a header of 16 bytes, then a
--- record of 24 bytes
+-- `vsock_message r`: the netlink message of the request `r` for vsock sockets: 40 bytes, of type 20
+-- (SOCK_DIAG_BY_FAMILY). It is a header of 16 bytes, then the record of 24 bytes.
 abbrev pub vsock_message : VsockRequest → List ℕ
 vsock_message r =
     header_bytes (request_header_of 40 20 r.header)

@@ -14,28 +14,32 @@ use Rattle.sock_diag_values.specs.declared.inet.mem_info.MemInfo.{MemInfo}
 use Rattle.sockdiag_c.specs.Details.{optional_number}
 use Rattle.sockdiag_c.specs.declared.family_values.Memory.{Memory}
 
--- parse_first reads kind attributes: parses the value of the first attribute of the kind, whatever
--- its flag bits; `Ok None` if there is none
+-- parse_first reads kind attributes: `reads` parses the value of the first attribute of the type
+-- `kind`, whatever its two flag bits; `Ok None` if there is no such attribute
 abbrev pub parse_first : {A : Type 0} → (List ℕ → Result A DecodeError) → ℕ → List Attribute
     → Result (Option A) DecodeError
 parse_first reads kind attributes = parse_if_present reads (first_value_of_kind kind attributes)
 
--- a `__u32`: four bytes, little-endian; any other length is an error
+-- a `__u32`: four bytes, little-endian; any other length is WrongLength, without an attribute type
+-- (`None`)
 abbrev pub parse_u32_value : List ℕ → Result ℕ DecodeError
 parse_u32_value = number_of_width None 4
 
--- `SK_MEMINFO_..`: seven to nine `__u32`
+-- the memory counters `SK_MEMINFO_..`: seven to nine `__u32`, little-endian; fewer than 28 bytes
+-- are BufferTooSmall
 abbrev pub parse_socket_memory : List ℕ → Result MemInfo DecodeError
 parse_socket_memory = parse_record mem_info tt
 
--- first_value_as_text kind attributes: the value of the first attribute of the kind, whatever its
--- flag bits, as a text of kind 3, SOCKDIAG_BYTES; None if there is none
+-- first_value_as_text kind attributes: the bytes of the first attribute of the type `kind`,
+-- whatever its two flag bits, as a text of kind 3, SOCKDIAG_BYTES; None if there is no such
+-- attribute
 abbrev pub first_value_as_text : ℕ → List Attribute → Option (ℕ × List ℕ)
 first_value_as_text kind attributes =
     option_map (λ (b : List ℕ). (3, b)) (first_value_of_kind kind attributes)
 
--- `struct sockdiag_memory`: each number is present if there is a value and the value has it. The
--- last two may be absent from a value; all are absent if there is none (`None`).
+-- `memory_struct m`: `struct sockdiag_memory` from the memory counters of a reply. If the reply has
+-- none (`m` is None), no number is present. Otherwise the first seven are present, and each of the
+-- last two is present if the value has it.
 abbrev pub memory_struct : Option MemInfo → Memory
 memory_struct m = record {
   receive_queue = optional_number (option_map (λ (m : MemInfo). m.receive_queue) m);
@@ -50,9 +54,10 @@ memory_struct m = record {
   drops = optional_number (option_and_then (λ (m : MemInfo). m.drops) m);
 }
 
--- RejectsReplyOrValue R faults payload e: e is the error with which the reply is rejected; or the
--- reply is accepted, and e is the first error of its values. `faults` lists them in the order in
--- which they are reported, with None for each value that has no error or is absent.
+-- RejectsReplyOrValue R faults payload e: `e` is the error with which the reply in `payload` is
+-- rejected; or the reply is accepted, and `e` is the first error in `faults v`. `faults v` has, for
+-- each value of the accepted reply `v` in the order in which they are checked, its error, or None
+-- if it parses or is not present.
 abbrev pub RejectsReplyOrValue : (R : ResponseSpec) → (ReplyValue R → List (Option DecodeError))
     → List ℕ
     → DecodeError → Type 0

@@ -14,8 +14,8 @@ use Rattle.sockdiag_c.specs.declared.headers.InetHeader.{InetHeader}
 use Rattle.sockdiag_c.specs.declared.headers.Reply.{Reply}
 use Rattle.sockdiag_c.specs.declared.headers.UnixHeader.{UnixHeader}
 
--- `struct sockdiag_unix_header` from `struct unix_diag_msg`: each field is the field with the same
--- name
+-- `unix_header_of h`: `struct sockdiag_unix_header` from the parsed `struct unix_diag_msg` `h`:
+-- each field is the field with the same name
 abbrev pub unix_header_of : UnixResponseHeader → UnixHeader
 unix_header_of h = record { kind = h.kind; state = h.state; inode = h.inode; cookie = h.cookie }
 
@@ -24,9 +24,11 @@ unix_header_of h = record { kind = h.kind; state = h.state; inode = h.inode; coo
 abbrev pub address_octets_of : IpAddr → List ℕ
 address_octets_of ip = bytes_of (address_fields 0 (address_data ip).0) (address_values ip)
 
--- `struct sockdiag_inet_header` from `struct inet_diag_msg`: each field is the field with the same
--- name, except for `timer`, `retransmits` and `expires`. They are the code of the timer, its number
--- of retransmissions and its milliseconds modulo 2^32, each 0 if the timer does not have it.
+-- `inet_header_of h`: `struct sockdiag_inet_header` from the parsed `struct inet_diag_msg` `h`.
+-- Each field is the field with the same name, except for `timer`, `retransmits` and `expires`.
+-- These are the parts of `timer_data`: the code of the timer (`.0`; 0 if there is none), its number
+-- of retransmissions (`.1`), and its milliseconds modulo 2^32 (of `.2`). Each is 0 if the timer
+-- does not have it.
 abbrev pub inet_header_of : InetResponseHeader → InetHeader
 inet_header_of h = record {
   family = h.family;

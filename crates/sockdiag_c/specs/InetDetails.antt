@@ -18,14 +18,15 @@ use Rattle.sockdiag_c.specs.declared.inet_details.InetDetails.{InetDetails}
 use Rattle.sockdiag_c.specs.Details.{text_parts, first_number}
 use Rattle.sockdiag_c.specs.Headers.{inet_header_of}
 
--- the name in an INET_DIAG_CONG as a text of kind 1, SOCKDIAG_TEXT; None for attributes of other
--- types
+-- `congestion_text v`: the name as a text of kind 1, SOCKDIAG_TEXT, if the decoded attribute `v` is
+-- an INET_DIAG_CONG; None if it has another type
 abbrev pub congestion_text : AttributeValue inet_attribute_set → Option (ℕ × List ℕ)
 congestion_text v = option_map (λ (t : List ℕ). (1, t))
     (value_of_kind inet_attribute_set INET_DIAG_CONG v)
 
--- the struct with this header and this congestion text; each number is from the first attribute of
--- its type
+-- inet_details_of header congestion vs: the struct with this header and this congestion text, and
+-- with the numbers of the decoded attributes `vs`, each of the first attribute of its type.
+-- `v6only` is 1 or 0 for the value of an INET_DIAG_SKV6ONLY.
 abbrev pub inet_details_of : InetHeader → Text → List (AttributeValue inet_attribute_set)
     → InetDetails
 inet_details_of header congestion vs = record {

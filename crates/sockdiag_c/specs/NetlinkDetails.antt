@@ -11,9 +11,12 @@ use Rattle.sockdiag_c.specs.FamilyValues.{parse_first, parse_u32_value}
 use Rattle.sockdiag_c.specs.declared.netlink_details.NetlinkDetails.{NetlinkDetails}
 
 -- IsNetlinkDetailsOf v d: the struct `d` has the header of the reply `v`, and the first value of
--- each kind: NETLINK_DIAG_MEMINFO 0, NETLINK_DIAG_GROUPS 1, NETLINK_DIAG_FLAGS 4. A value of kind 0
--- or 4 parses, if there is one. `IsOkAnd r P`: r is `Ok o` with `P o`, and `o` is None if there is
--- none.
+-- each attribute type:
+-- - `memory`: type 0, NETLINK_DIAG_MEMINFO
+-- - `groups`: type 1, NETLINK_DIAG_GROUPS, the bytes unchecked
+-- - `flags`: type 4, NETLINK_DIAG_FLAGS
+-- The values of types 0 and 4 parse, if they are present. `IsOkAnd r P`: `r` is `Ok o`, and `P o`.
+-- Here `o` is None if the reply has no attribute of this type.
 abbrev pub IsNetlinkDetailsOf : ReplyValue (raw_reply_spec netlink_header) → NetlinkDetails → Type 0
 IsNetlinkDetailsOf v d =
     (d.header ≡ v.header)
@@ -21,7 +24,9 @@ IsNetlinkDetailsOf v d =
     × (text_parts d.groups ≡ first_value_as_text 1 v.nlas)
     × IsOkAnd (parse_first parse_u32_value 4 v.nlas) (λ o. d.flags ≡ optional_number o)
 
--- the errors of its values, in the order in which they are reported; None for a value without one
+-- `netlink_value_errors v`: for each value that is parsed, in the order of the attribute types, its
+-- error, or None if it parses or is not present. If the reply is accepted, the call returns the
+-- code of the first error in this list, or 0 if there is none.
 abbrev pub netlink_value_errors : ReplyValue (raw_reply_spec netlink_header)
     → List (Option DecodeError)
 netlink_value_errors v = result_err (parse_first parse_socket_memory 0 v.nlas)

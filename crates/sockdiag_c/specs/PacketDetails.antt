@@ -12,14 +12,21 @@ use Rattle.sockdiag_c.specs.FamilyValues.{first_value_as_text, parse_socket_memo
 use Rattle.sockdiag_c.specs.FamilyValues.{parse_first, parse_u32_value}
 use Rattle.sockdiag_c.specs.declared.packet_details.PacketDetails.{PacketDetails}
 
--- IsPacketDetailsOf old v d: the struct `d` describes the reply `v`; `old` is the struct before the
--- call. `IsOkAnd r P`: r is `Ok o` with `P o`, and `o` is None if there is no such attribute. `d`
--- has
--- the header, and the first value of each kind: PACKET_DIAG_INFO 0, PACKET_DIAG_MCLIST 1,
--- PACKET_DIAG_RX_RING 2, PACKET_DIAG_TX_RING 3, PACKET_DIAG_FANOUT 4, PACKET_DIAG_UID 5,
--- PACKET_DIAG_MEMINFO 6, PACKET_DIAG_FILTER 7. A value of kind 0 or 2 to 6 parses, if there is one.
--- `has_info` and the like are 1 if the record is present; else they are 0 and the record is
--- unchanged from `old`.
+-- IsPacketDetailsOf old v d: the struct `d` has the header of the reply `v`, and the first value of
+-- each attribute type; `old` is the struct before the call:
+-- - `info`: type 0, PACKET_DIAG_INFO
+-- - `addresses`: type 1, PACKET_DIAG_MCLIST, the bytes unchecked
+-- - `receive_ring`: type 2, PACKET_DIAG_RX_RING
+-- - `send_ring`: type 3, PACKET_DIAG_TX_RING
+-- - `fanout`: type 4, PACKET_DIAG_FANOUT
+-- - `owner`: type 5, PACKET_DIAG_UID
+-- - `memory`: type 6, PACKET_DIAG_MEMINFO
+-- - `filter`: type 7, PACKET_DIAG_FILTER, the bytes unchecked
+-- The values of types 0 and 2 to 6 parse, if they are present. `IsOkAnd r P`: `r` is `Ok o`, and
+-- `P o`. Here `o` is None if the reply has no attribute of this type. Then a number is not present
+-- (`optional_number`), and for a record `has_..` is 0 and the record is unchanged from `old`
+-- (`IsGetterResult`); else `has_..` is 1. `packet_ring k` parses the record of a ring, with the
+-- type k in an error.
 abbrev pub IsPacketDetailsOf : PacketDetails → ReplyValue (raw_reply_spec packet_header)
     → PacketDetails
     → Type 0
@@ -36,7 +43,9 @@ IsPacketDetailsOf old v d =
     × IsOkAnd (parse_first parse_socket_memory 6 v.nlas) (λ o. d.memory ≡ memory_struct o)
     × (text_parts d.filter ≡ first_value_as_text 7 v.nlas)
 
--- the errors of its values, in the order in which they are reported; None for a value without one
+-- `packet_value_errors v`: for each value that is parsed, in the order of the attribute types, its
+-- error, or None if it parses or is not present. If the reply is accepted, the call returns the
+-- code of the first error in this list, or 0 if there is none.
 abbrev pub packet_value_errors : ReplyValue (raw_reply_spec packet_header)
     → List (Option DecodeError)
 packet_value_errors v =

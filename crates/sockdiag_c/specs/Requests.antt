@@ -19,8 +19,9 @@ use Rattle.sockdiag_c.specs.declared.requests.InetRequest.{InetRequest}
 use Rattle.sockdiag_c.specs.declared.requests.RequestHeader.{RequestHeader}
 use Rattle.sockdiag_c.specs.declared.requests.UnixRequest.{UnixRequest}
 
--- request_header_of len t h: `struct nlmsghdr` of a message of `len` bytes, header included, and of
--- type t
+-- request_header_of len t h: `struct nlmsghdr` of a message of `len` bytes (its header of 16 bytes
+-- included) and of type `t`. `nlmsg_flags`, `nlmsg_seq` and `nlmsg_pid` are those of the caller's
+-- struct `h`.
 abbrev pub request_header_of : ℕ → ℕ → RequestHeader → NetlinkHeader
 request_header_of len t h = record {
   length = len;
@@ -30,8 +31,8 @@ request_header_of len t h = record {
   port_number = h.port_number;
 }
 
--- `struct unix_diag_req` from `struct sockdiag_unix_request`: each field is the field with the same
--- name
+-- `unix_request_from_c r`: `struct unix_diag_req` from the request `r`
+-- (`struct sockdiag_unix_request`): each field is the field with the same name
 abbrev pub unix_request_from_c : UnixRequest → unix.UnixRequest
 unix_request_from_c r = record {
   state_flags = record { 0 = r.states };
@@ -50,8 +51,10 @@ address_of_family family octets =
     }
     else V6 record { segments = segments_of octets }
 
--- `struct inet_diag_req_v2` from `struct sockdiag_inet_request`: each field is the field with the
--- same name; the addresses are of the IP version of the family, and the protocol is its low byte
+-- `inet_request_from_c r`: `struct inet_diag_req_v2` from the request `r`
+-- (`struct sockdiag_inet_request`): each field is the field with the same name, with two
+-- exceptions. The addresses are made by `address_of_family`, and `sdiag_protocol` is the low byte
+-- of the protocol.
 abbrev pub inet_request_from_c : InetRequest → inet.InetRequest
 inet_request_from_c r = record {
   family = r.family;
@@ -68,29 +71,31 @@ inet_request_from_c r = record {
   };
 }
 
--- the attribute INET_DIAG_REQ_PROTOCOL, 3, with the protocol as a little-endian `__u32`: 8 bytes;
--- no bytes if the protocol is below 256
+-- `protocol_attribute p`: no bytes if the protocol `p` is below 256; else the 8 bytes of an
+-- attribute INET_DIAG_REQ_PROTOCOL (3) whose value is `p` as a little-endian `__u32`
 abbrev pub protocol_attribute : ℕ → List ℕ
 protocol_attribute p =
     if nat_lt p 256 then [] else attribute_bytes record { type_word = 3; value = little_bytes 4 p }
 
--- the netlink message of 40 bytes with type t of a UNIX request: 20 is SOCK_DIAG_BY_FAMILY, and 21
--- is SOCK_DESTROY
+-- `unix_message t r`: the netlink message of the request `r` for UNIX sockets, with the type `t`:
+-- 20 (SOCK_DIAG_BY_FAMILY) or 21 (SOCK_DESTROY). It has 40 bytes: a header of 16 bytes
+-- (`header_bytes`), then the record of 24 bytes (`record_bytes`).
 abbrev pub unix_message : ℕ → UnixRequest → List ℕ
 unix_message t r = header_bytes (request_header_of 40 t r.header)
     ++ record_bytes unix_request (unix_request_from_c r)
 
--- the netlink message with type t of an internet request: 72 bytes, and 8 more if it has the
--- attribute
+-- `inet_message t r`: the netlink message of the request `r` for IPv4 or IPv6 sockets, with the
+-- type `t`: 20 (SOCK_DIAG_BY_FAMILY) or 21 (SOCK_DESTROY). It has 72 bytes, a header of 16 and a
+-- record of 56 bytes; and 8 bytes more, those of the attribute, if the protocol is above 255.
 abbrev pub inet_message : ℕ → InetRequest → List ℕ
 inet_message t r =
     header_bytes (request_header_of (72 + length (protocol_attribute r.protocol)) t r.header)
     ++ record_bytes inet_request (inet_request_from_c r) ++ protocol_attribute r.protocol
 
--- WritesMessage len all old new answer: `all` are `len` bytes; `old` and `new` are the buffer
--- before and after the call. If the buffer has at least `len` bytes, `all` is written at its start,
--- the rest is unchanged, and the return value is `len`. Else nothing is written, and the return
--- value is 0.
+-- WritesMessage len all old new answer: `all` are the `len` bytes of a message; `old` and `new` are
+-- the caller's buffer before and after the call; `answer` is the return value. If the buffer has at
+-- least `len` bytes, `all` is written at its start, the bytes after it are unchanged, and `answer`
+-- is `len`. Else nothing is written, and `answer` is 0.
 abbrev pub WritesMessage : ℕ → List ℕ → List ℕ → List ℕ → ℕ → Type 0
 WritesMessage len all old new answer =
     (len ≤ length old → (answer ≡ len) × (new ≡ all ++ drop len old))
@@ -98,22 +103,25 @@ WritesMessage len all old new answer =
 
 -- ---- requests with attributes of the caller
 
--- the attributes, followed by zeros up to a multiple of 4
+-- `with_padding attributes`: the bytes of the attributes, followed by zeros up to a multiple of 4
 abbrev pub with_padding : List ℕ → List ℕ
 with_padding attributes = attributes ++ replicate (padding_length (length attributes)) 0
 
--- the bytes after the record: the attribute with the protocol, if any, and the caller's attributes
+-- `bytes_after_record r attributes`: the bytes after the record of the request `r`: the attribute
+-- with the protocol if it is above 255, then the caller's attributes with their padding
 abbrev pub bytes_after_record : InetRequest → List ℕ → List ℕ
 bytes_after_record r attributes = protocol_attribute r.protocol ++ with_padding attributes
 
--- the netlink message of type 20, SOCK_DIAG_BY_FAMILY, of an internet request: its header, whose
--- length counts all of these bytes, its record, and the attributes, the caller's being last
+-- `request_with_attributes r attributes`: the netlink message, of type 20 (SOCK_DIAG_BY_FAMILY), of
+-- the request `r` for IPv4 or IPv6 sockets: its header, whose `nlmsg_len` counts all bytes of the
+-- message; its record; and `bytes_after_record`
 abbrev pub request_with_attributes : InetRequest → List ℕ → List ℕ
 request_with_attributes r attributes =
     header_bytes (request_header_of (72 + length (bytes_after_record r attributes)) 20 r.header)
     ++ record_bytes inet_request (inet_request_from_c r) ++ bytes_after_record r attributes
 
--- the family is AF_INET, 2, or AF_INET6, 10, and the length of the message fits `nlmsg_len`
+-- `IsWritableRequest r attributes`: the family is 2 (AF_INET) or 10 (AF_INET6), and the length of
+-- the message with these attributes fits `nlmsg_len`
 abbrev pub IsWritableRequest : InetRequest → List ℕ → Type 0
 IsWritableRequest r attributes =
     ((r.family ≡ 2) ⊎ (r.family ≡ 10))

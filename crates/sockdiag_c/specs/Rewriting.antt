@@ -6,23 +6,23 @@ use Rattle.netlink_core.specs.Faults.{error_code}
 use Rattle.netlink_core.specs.Response.{ResponseSpec, ReplyValue, response_bytes, response_codec}
 use Rattle.sockdiag_c.specs.declared.rewriting.Outcome.{Outcome}
 
--- `struct sockdiag_outcome`: the code of an error or 0, and the number of bytes to write
+-- `outcome_struct fault needed`: `struct sockdiag_outcome` with the code of an error, or 0, and the
+-- number of bytes to write
 abbrev pub outcome_struct : ℕ → ℕ → Outcome
 outcome_struct fault needed = record { fault = fault; needed = needed }
 
--- the return value is 0 and the buffer is unchanged
+-- `WritesNothing old new answer`: the return value `answer` is 0, and the buffer is unchanged
 abbrev pub WritesNothing : List ℕ → List ℕ → ℕ → Type 0
 WritesNothing old new answer = (answer ≡ 0) × (new ≡ old)
 
--- WritesValue fits bytes old new outcome answer: `old` and `new` are the buffer before and after
--- the call, `bytes` are the bytes of the value, and `answer` is the return value. One of three
--- holds:
--- - The value is writable (`fits`) and the buffer is long enough. The bytes are written at its
---   start, the rest is unchanged, and the return value and `outcome.needed` are their number.
--- - The value is writable and the buffer is too short. Nothing is written, the return value is 0,
--- and
+-- WritesValue fits bytes old new outcome answer: `fits` states that the value is writable, and
+-- `bytes` are the bytes that it serializes to; `old` and `new` are the buffer before and after the
+-- call; `answer` is the return value. One of three holds:
+-- - The value is writable and the buffer is long enough. The bytes are written at its start, the
+--   bytes after them are unchanged, and `answer` and `outcome.needed` are their number.
+-- - The value is writable and the buffer is too short. Nothing is written, `answer` is 0, and
 --   `outcome.needed` is the number of bytes.
--- - The value is not writable. Nothing is written, and the return value and `outcome.needed` are 0.
+-- - The value is not writable. Nothing is written, and `answer` and `outcome.needed` are 0.
 -- In each case `outcome.fault` is 0.
 abbrev pub WritesValue : Type 0 → List ℕ → List ℕ → List ℕ → Outcome → ℕ → Type 0
 WritesValue fits bytes old new outcome answer =
@@ -32,9 +32,10 @@ WritesValue fits bytes old new outcome answer =
     × WritesNothing old new answer)
     ⊎ (¬ fits × (outcome ≡ outcome_struct 0 0) × WritesNothing old new answer))
 
--- ParsesAndWrites reads refuses fits bytes old new outcome answer: either the input has a value
--- (`reads`), and WritesValue holds for it; or the input is rejected with the error e (`refuses`),
--- `outcome.fault` is its code, `outcome.needed` is 0, and nothing is written
+-- ParsesAndWrites reads refuses fits bytes old new outcome answer: either the input parses as a
+-- value `v` (`reads v`), and WritesValue holds of it: it is writable if `fits v`, and serializes to
+-- `bytes v`. Or the input is rejected with the first error `e` (`refuses e`): `outcome.fault` is
+-- its code, `outcome.needed` is 0, and nothing is written.
 abbrev pub ParsesAndWrites : {V : Type 0} → (V → Type 0) → (DecodeError → Type 0) → (V → Type 0)
     → (V → List ℕ) → List ℕ → List ℕ → Outcome → ℕ → Type 0
 ParsesAndWrites {V} reads refuses fits bytes old new outcome answer =

@@ -5,7 +5,9 @@ use Rattle.netlink_core.specs.Attribute.{Attribute, SplitsIntoAttributes, Splits
 use Rattle.netlink_core.specs.Attribute.{IsFramingError, attribute_kind}
 use Rattle.netlink_core.specs.declared.fault.DecodeError.{DecodeError}
 
--- the attributes in the bytes, in order, up to the end or to a framing error
+-- `AreAttributesIn bytes attributes`: `attributes` are the attributes at the start of the bytes, in
+-- order: all of them if the bytes consist of attributes (`SplitsIntoAttributes`), else those before
+-- the framing error `e` (`SplitsUntilError`)
 abbrev pub AreAttributesIn : List ℕ → List Attribute → Type 0
 AreAttributesIn bytes attributes =
     SplitsIntoAttributes bytes attributes []

@@ -26,16 +26,20 @@ abbrev pub name_parts : SocketName (List ℕ) → ℕ × List ℕ
 name_parts (Pathname path) = (1, path)
 name_parts (Abstract address) = (2, address)
 
--- the name in a UNIX_DIAG_NAME; None for attributes of other types
+-- `name_text v`: the kind and the bytes of the name, if the decoded attribute `v` is a
+-- UNIX_DIAG_NAME; None if it has another type
 abbrev pub name_text : AttributeValue unix_attribute_set → Option (ℕ × List ℕ)
 name_text v = option_map name_parts (value_of_kind unix_attribute_set UNIX_DIAG_NAME v)
 
--- the inodes in the first UNIX_DIAG_ICONS, or none
+-- `pending_inodes vs`: the inodes in the first UNIX_DIAG_ICONS of the decoded attributes `vs`, in
+-- order; the empty list if there is no such attribute
 abbrev pub pending_inodes : List (AttributeValue unix_attribute_set) → List ℕ
 pending_inodes vs =
     unwrap_or (first_content_of (value_of_kind unix_attribute_set UNIX_DIAG_ICONS) vs) []
 
--- the struct with this header and this name; each number is from the first attribute of its type
+-- unix_details_of header name vs: the struct with this header and this name, and with the numbers
+-- of the decoded attributes `vs`, each of the first attribute of its type. `λ (m : MemInfo). ..`:
+-- the part of the attribute's value that is the number.
 abbrev pub unix_details_of : UnixHeader → Text → List (AttributeValue unix_attribute_set)
     → UnixDetails
 unix_details_of header name vs = record {

@@ -13,18 +13,21 @@ use Rattle.sockdiag_c.specs.declared.walks.AttributePart.{AttributePart}
 use Rattle.sockdiag_c.specs.declared.walks.Cursor.{Cursor}
 use Rattle.sockdiag_c.specs.declared.walks.MessagePart.{MessagePart}
 
--- the bytes that the iteration has not passed: those from the cursor's offset `place` on
+-- `bytes_after_cursor bytes cursor`: the bytes that are left: those from the cursor's offset
+-- `place` on, none if the offset is at or after the end
 abbrev pub bytes_after_cursor : List ℕ → Cursor → List ℕ
 bytes_after_cursor bytes cursor = drop cursor.place bytes
 
--- No bytes are left. The return value is 0, and nothing is changed.
+-- `IterationEnds bytes old new was now answer`: no bytes are left. The return value is 0, and
+-- neither the cursor nor the output struct is changed.
 abbrev pub IterationEnds : {T : Type 0} → List ℕ → Cursor → Cursor → T → T → ℕ → Type 0
 IterationEnds bytes old new was now answer =
     (answer ≡ 0) × (bytes_after_cursor bytes old ≡ []) × (new ≡ old) × (now ≡ was)
 
 -- IterationFails IsFault bytes old new was now answer: bytes are left, and they do not begin with
--- an item: `IsFault bytes e` states that their error is e. The return value is its code, and the
--- output struct is unchanged. The cursor `new` is at or after the end, so that no bytes are left.
+-- an item: `IsFault left e` states that bytes `left` have the error `e`. The return value is its
+-- code, and the output struct is unchanged. The cursor `new` is at or after the end, so that no
+-- bytes are left.
 abbrev pub IterationFails : {T : Type 0} → (List ℕ → DecodeError → Type 0) → List ℕ → Cursor
     → Cursor
     → T → T → ℕ → Type 0
@@ -34,15 +37,18 @@ IterationFails IsFault bytes old new was now answer =
 
 -- ---- attributes
 
--- the attribute that the output struct `part` describes: its type field, and its value of
--- `part.length` bytes at `part.offset`
+-- `attribute_in bytes part`: the attribute that the output struct `part` describes: its type field,
+-- and its value, the `part.length` bytes of `bytes` at `part.offset`
 abbrev pub attribute_in : List ℕ → AttributePart → Attribute
 attribute_in bytes part =
     record { type_word = part.type_word; value = take part.length (drop part.offset bytes) }
 
--- The iteration ends; or the return value is 1, the attribute at the cursor is stored, its value
--- being at offset 4 of it, and the cursor is advanced past it and its padding; or there is a
--- framing error.
+-- `NextAttribute bytes old new was now answer`, by the first attribute in the bytes left, one of:
+-- - There are no bytes (`IterationEnds`).
+-- - The return value is 1, and the output struct describes this attribute: its value starts 4 bytes
+--   after the cursor. The cursor is advanced past the attribute and its padding.
+-- - The bytes do not begin with an attribute (`IterationFails`), and the return value is the code
+--   of the framing error.
 abbrev pub NextAttribute : List ℕ → Cursor → Cursor → AttributePart → AttributePart → ℕ → Type 0
 NextAttribute bytes old new was now answer =
     IterationEnds bytes old new was now answer
@@ -53,7 +59,8 @@ NextAttribute bytes old new was now answer =
 
 -- ---- messages
 
--- the netlink header of the message: its length field counts 16 bytes more than the payload
+-- `header_in part`: the netlink header of the message that the output struct `part` describes; its
+-- length field counts 16 bytes more than the payload
 abbrev pub header_in : MessagePart → NetlinkHeader
 header_in part = record {
   length = 16 + part.length;
@@ -63,13 +70,15 @@ header_in part = record {
   port_number = part.port_number;
 }
 
--- the payload: `length` bytes at `offset`
+-- `payload_in bytes part`: the payload of this message: the `part.length` bytes of `bytes` at
+-- `part.offset`
 abbrev pub payload_in : List ℕ → MessagePart → List ℕ
 payload_in bytes part = take part.length (drop part.offset bytes)
 
--- IsPayloadCheckResult payload t answer: the payload parses under the message type t, and the
--- return value is 1; or it is the payload of an inner message (t is none of the four types
--- NLMSG_..) and is rejected, and the return value is the code of its first error
+-- IsPayloadCheckResult payload t answer: either the payload parses under the message type `t`, and
+-- the return value is 1; this holds of each of the types NLMSG_NOOP, NLMSG_ERROR, NLMSG_DONE and
+-- NLMSG_OVERRUN (1 to 4). Or `t` is another type, that of an inner message, the payload is
+-- rejected, and the return value is the code of its first error.
 abbrev pub IsPayloadCheckResult : List ℕ → ℕ → ℕ → Type 0
 IsPayloadCheckResult payload t answer =
     ((answer ≡ 1) × ((carried : Payload Message)
@@ -77,31 +86,35 @@ IsPayloadCheckResult payload t answer =
     ⊎ ((e : DecodeError) × IsInnerMessageType t × message_codec.refuses payload t e
     × (answer ≡ error_code e))
 
--- The message at the cursor is stored, its payload being at offset 16 of it, and the cursor is
--- advanced past it and its padding.
+-- `StoresMessage bytes old new now`: the output struct `now` describes the message at the cursor
+-- `old`: its header, and its payload, which starts 16 bytes after the cursor. The cursor is
+-- advanced past the message and its padding.
 abbrev pub StoresMessage : List ℕ → Cursor → Cursor → MessagePart → Type 0
 StoresMessage bytes old new now =
     (message : List ℕ) × StartsWithMessage (bytes_after_cursor bytes old) message
     (bytes_after_cursor bytes new)
     × HasHeader (bytes_after_cursor bytes old) (header_in now) × (now.offset ≡ old.place + 16)
 
--- StoresMessage, and the payload is checked: the return value is 1 if it is accepted, and else the
--- code of its first error
+-- `StoresCheckedMessage bytes old new now answer`: as StoresMessage, and the return value says
+-- whether the payload is accepted: 1 if it is, else the code of its first error. A rejected payload
+-- does not change what is stored.
 abbrev pub StoresCheckedMessage : List ℕ → Cursor → Cursor → MessagePart → ℕ → Type 0
 StoresCheckedMessage bytes old new now answer =
     StoresMessage bytes old new now
     × IsPayloadCheckResult (payload_in bytes now) now.message_type answer
 
--- The iteration ends; or a message is stored, and its payload is checked; or there is a framing
--- error.
+-- `NextMessage bytes old new was now answer`, one of: no bytes are left, and the return value is 0;
+-- a message is stored, and the return value is 1 or the code of the first error of its payload; the
+-- bytes left do not begin with a message, and the return value is the code of the framing error
 abbrev pub NextMessage : List ℕ → Cursor → Cursor → MessagePart → MessagePart → ℕ → Type 0
 NextMessage bytes old new was now answer =
     IterationEnds bytes old new was now answer
     ⊎ (StoresCheckedMessage bytes old new now answer
     ⊎ IterationFails IsMessageError bytes old new was now answer)
 
--- The iteration ends; or the return value is 1 and a message is stored, whose payload is not
--- checked; or there is a framing error.
+-- `NextUncheckedMessage bytes old new was now answer`, one of: no bytes are left, and the return
+-- value is 0; a message is stored, and the return value is 1, whatever its payload; the bytes left
+-- do not begin with a message, and the return value is the code of the framing error
 abbrev pub NextUncheckedMessage : List ℕ → Cursor → Cursor → MessagePart → MessagePart → ℕ → Type 0
 NextUncheckedMessage bytes old new was now answer =
     IterationEnds bytes old new was now answer

@@ -12,14 +12,21 @@ use Rattle.sockdiag_c.specs.FamilyValues.{parse_socket_memory, memory_struct, pa
 use Rattle.sockdiag_c.specs.FamilyValues.{parse_u32_value}
 use Rattle.sockdiag_c.specs.declared.xdp_details.XdpDetails.{XdpDetails}
 
--- IsXdpDetailsOf old v d: the struct `d` describes the reply `v`; `old` is the struct before the
--- call. `IsOkAnd r P`: r is `Ok o` with `P o`, and `o` is None if there is no such attribute. `d`
--- has
--- the header, and the first value of each kind: XDP_DIAG_INFO 1, XDP_DIAG_UID 2, XDP_DIAG_RX_RING
--- 3,
--- XDP_DIAG_TX_RING 4, XDP_DIAG_UMEM 5, XDP_DIAG_UMEM_FILL_RING 6, XDP_DIAG_UMEM_COMPLETION_RING 7,
--- XDP_DIAG_MEMINFO 8, XDP_DIAG_STATS 9. Each value parses, if there is one. `has_info` and the like
--- are 1 if the record is present; else they are 0 and the record is unchanged from `old`.
+-- IsXdpDetailsOf old v d: the struct `d` has the header of the reply `v`, and the first value of
+-- each attribute type; `old` is the struct before the call:
+-- - `info`: type 1, XDP_DIAG_INFO
+-- - `owner`: type 2, XDP_DIAG_UID
+-- - `receive_ring`: type 3, XDP_DIAG_RX_RING
+-- - `send_ring`: type 4, XDP_DIAG_TX_RING
+-- - `umem`: type 5, XDP_DIAG_UMEM
+-- - `fill_ring`: type 6, XDP_DIAG_UMEM_FILL_RING
+-- - `completion_ring`: type 7, XDP_DIAG_UMEM_COMPLETION_RING
+-- - `memory`: type 8, XDP_DIAG_MEMINFO
+-- - `statistics`: type 9, XDP_DIAG_STATS
+-- Each value parses, if it is present. `IsOkAnd r P`: `r` is `Ok o`, and `P o`. Here `o` is None if
+-- the reply has no attribute of this type. Then a number is not present (`optional_number`), and
+-- for a record `has_..` is 0 and the record is unchanged from `old` (`IsGetterResult`); else
+-- `has_..` is 1.
 abbrev pub IsXdpDetailsOf : XdpDetails → ReplyValue (raw_reply_spec xdp_header) → XdpDetails
     → Type 0
 IsXdpDetailsOf old v d =
@@ -35,7 +42,9 @@ IsXdpDetailsOf old v d =
     × IsOkAnd (parse_first xdp_statistics 9 v.nlas)
     (λ o. IsGetterResult o old.statistics d.statistics d.has_statistics)
 
--- the errors of its values, in the order in which they are reported; None for a value without one
+-- `xdp_value_errors v`: for each value that is parsed, in the order of the attribute types, its
+-- error, or None if it parses or is not present. If the reply is accepted, the call returns the
+-- code of the first error in this list, or 0 if there is none.
 abbrev pub xdp_value_errors : ReplyValue (raw_reply_spec xdp_header) → List (Option DecodeError)
 xdp_value_errors v =
     result_err (parse_first xdp_info 1 v.nlas) ∷ result_err (parse_first parse_u32_value 2 v.nlas)

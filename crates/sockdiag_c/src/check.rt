@@ -18,8 +18,17 @@ pub(crate) const OK: u32 = 0;
 /// Checks a whole reply about a UNIX socket, with its attributes, and returns its header. The bytes
 /// are the payload of the netlink message. Returns 0, or the code of the first error; then the
 /// header is unchanged.
+///
+/// An attribute with an invalid value makes the whole reply invalid. `UNIX_DIAG_MEMINFO` with fewer
+/// than 36 bytes, which old kernels send, has `SOCKDIAG_BUFFER_TOO_SMALL`: do not request it with
+/// `UDIAG_SHOW_MEMINFO` from such kernels. To parse a reply in spite of an invalid attribute, pass
+/// 16 (`SOCKDIAG_UNIX_ATTRIBUTES`) as the length if the payload has 16 bytes or more: a header is a
+/// reply without attributes. Then iterate over the attributes by `sockdiag_next_attribute`, which
+/// does not check their values.
 #[unsafe(no_mangle)]
 pub extern "C" fn sockdiag_check_unix_reply(payload: &[u8], header: &mut UnixHeader) -> u32
+    // In order: how the payload parses, its errors, the header that is stored, and the header
+    // before and after the call.
     ensures { IsCheckResult ((response_codec unix_response_spec).reads payload.now tt)
         ((response_codec unix_response_spec).refuses payload.now tt)
         (λ v. unix_header_of v.header) header.old header.new result }
@@ -36,8 +45,20 @@ pub extern "C" fn sockdiag_check_unix_reply(payload: &[u8], header: &mut UnixHea
 /// Checks a whole reply about an IPv4 or IPv6 socket, with its attributes, and returns its header.
 /// The bytes are the payload of the netlink message. Returns 0, or the code of the first error;
 /// then the header is unchanged.
+///
+/// An attribute with an invalid value makes the whole reply invalid. `INET_DIAG_INFO` with fewer
+/// than 232 bytes has `SOCKDIAG_BUFFER_TOO_SMALL`. TCP sockets of kernels before Linux 5.4 have
+/// such values, and MPTCP sockets of all kernels. Either do not request it: leave `INET_DIAG_INFO`
+/// out of the extensions of the request. Or parse the reply in parts:
+/// - the header: if the payload has 72 bytes or more, pass 72 (`SOCKDIAG_INET_ATTRIBUTES`) as the
+///   length, since a header is a reply without attributes;
+/// - the connection: `sockdiag_inet_get_tcp_info`, which accepts any length;
+/// - the memory: `sockdiag_inet_get_memory`, in the same way;
+/// - other attributes: `sockdiag_next_attribute`, which does not check their values.
 #[unsafe(no_mangle)]
 pub extern "C" fn sockdiag_check_inet_reply(payload: &[u8], header: &mut InetHeader) -> u32
+    // In order: how the payload parses, its errors, the header that is stored, and the header
+    // before and after the call.
     ensures { IsCheckResult ((response_codec inet_response_spec).reads payload.now tt)
         ((response_codec inet_response_spec).refuses payload.now tt)
         (λ v. inet_header_of v.header) header.old header.new result }
@@ -53,14 +74,18 @@ pub extern "C" fn sockdiag_check_inet_reply(payload: &[u8], header: &mut InetHea
 
 /// Checks the whole payload of a message of this type, and stores the kind of the reply and its
 /// header. The first byte is the family: `AF_UNIX` for a reply about a UNIX socket, `AF_INET` or
-/// `AF_INET6` for one about an internet socket. The header of the other kind is unchanged. Returns
-/// 0, or the code of the first error; then the reply is unchanged.
+/// `AF_INET6` for one about an internet socket. Any other family is rejected with
+/// `SOCKDIAG_UNKNOWN_FAMILY`: replies about netlink, packet, vsock and XDP sockets have other
+/// calls, `sockdiag_netlink_get_details` and so on. The header of the other kind is unchanged.
+/// Returns 0, or the code of the first error; then the reply is unchanged.
 #[unsafe(no_mangle)]
 pub extern "C" fn sockdiag_check_message(
     payload: &[u8],
     message_type: u16,
     reply: &mut Reply,
 ) -> u32
+    // In order: how the payload parses, its errors, the reply that is stored, and the reply before
+    // and after the call. The codec accepts only replies, of type 20 (SOCK_DIAG_BY_FAMILY).
     ensures { IsCheckResult (message_codec.reads payload.now message_type)
         (message_codec.refuses payload.now message_type)
         (reply_of reply.old) reply.old reply.new result }

@@ -35,10 +35,11 @@ pub struct Number {
 pub struct Text<'a> {
     /// Kind of the text. `SOCKDIAG_TEXT`: a pathname, or the name of a congestion control
     /// algorithm. `SOCKDIAG_ABSTRACT`: an abstract name. `SOCKDIAG_BYTES`: bytes that are not text.
-    /// 0: the reply contains no such text.
+    /// 0: the reply contains no such text; then do not use the other fields.
     pub kind: u32,
-    /// The text, without the NUL that ends a text or precedes an abstract name. In the reply, a
-    /// pathname is followed by its NUL; other texts may have none.
+    /// The text, without the NUL that ends a text or precedes an abstract name. Do not use it as a
+    /// string of C: an abstract name may contain NULs, and only a pathname is always followed by
+    /// its NUL in the reply.
     pub bytes: &'a [u8],
 }
 
@@ -121,14 +122,21 @@ pub(crate) trait KeepsDetails<'a>: Copy {
 
 /// Checks a whole reply about a UNIX socket, as `sockdiag_check_unix_reply` does, and returns its
 /// contents, in one pass over the attributes. The bytes are the payload of the netlink message.
-/// Returns 0, or the code of the first error; then the details are unchanged. The previous contents
-/// of the details are not read. If the reply has several attributes of a kind, the first one
-/// counts. Texts point into the payload, and are valid as long as it is.
+/// Returns 0, and sets all fields; or the code of the first error, and then the details are
+/// unchanged. The previous contents of the details are not read. If the reply has several
+/// attributes of a kind, the first one counts. Texts point into the payload, and are valid as long
+/// as it is.
+///
+/// Attributes without a field, such as `UNIX_DIAG_UID`, are not an error: `sockdiag_next_attribute`
+/// returns them. `sockdiag_check_unix_reply` has a remark on attributes of old kernels that are
+/// rejected.
 #[unsafe(no_mangle)]
 pub extern "C" fn sockdiag_unix_get_details<'a>(
     payload: &'a [u8],
     details: &mut UnixDetails<'a>,
 ) -> u32
+    // In order: how the payload parses, its errors, what the struct has for a parsed reply, and the
+    // struct before and after the call.
     ensures { IsCheckResultBy ((response_codec unix_response_spec).reads payload.entry.now tt)
         ((response_codec unix_response_spec).refuses payload.entry.now tt) IsUnixDetailsOf
         details.old details.new
@@ -140,15 +148,21 @@ pub extern "C" fn sockdiag_unix_get_details<'a>(
 /// Checks a whole reply about an IPv4 or IPv6 socket, as `sockdiag_check_inet_reply` does, and
 /// returns its header and the attributes that are a text or a number, in one pass over the
 /// attributes. Memory and `struct tcp_info` are checked, and not returned. The bytes are the
-/// payload of the netlink message. Returns 0, or the code of the first error; then the details are
-/// unchanged. The previous contents of the details are not read. If the reply has several
-/// attributes of a kind, the first one counts. Texts point into the payload, and are valid as long
-/// as it is.
+/// payload of the netlink message. Returns 0, and sets all fields; or the code of the first error,
+/// and then the details are unchanged. The previous contents of the details are not read. If the
+/// reply has several attributes of a kind, the first one counts. Texts point into the payload, and
+/// are valid as long as it is.
+///
+/// Attributes without a field, such as `INET_DIAG_MD5SIG` and others that are arrays or nested, are
+/// not an error: `sockdiag_next_attribute` returns them. A reply with a short `INET_DIAG_INFO` is
+/// rejected: `sockdiag_check_inet_reply` has a remark on what to do.
 #[unsafe(no_mangle)]
 pub extern "C" fn sockdiag_inet_get_details<'a>(
     payload: &'a [u8],
     details: &mut InetDetails<'a>,
 ) -> u32
+    // In order: how the payload parses, its errors, what the struct has for a parsed reply, and the
+    // struct before and after the call.
     ensures { IsCheckResultBy ((response_codec inet_response_spec).reads payload.entry.now tt)
         ((response_codec inet_response_spec).refuses payload.entry.now tt) IsInetDetailsOf
         details.old details.new

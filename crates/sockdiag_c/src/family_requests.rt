@@ -40,6 +40,7 @@ pub struct VsockRequest {
     /// Fields of the netlink header.
     pub header: RequestHeader,
     /// States to include, with the bit `1 << TCP_LISTEN` for `TCP_LISTEN` (`vdiag_states`, at 4).
+    /// `UINT32_MAX` includes all.
     pub states: u32,
     /// Cookie that distinguishes sockets (`vdiag_cookie`, at 16). Linux ignores it.
     pub cookie: u64,
@@ -50,6 +51,7 @@ pub struct VsockRequest {
 /// if the family is none of `AF_NETLINK`, `AF_PACKET` and `AF_XDP`; then nothing is written.
 #[unsafe(no_mangle)]
 pub extern "C" fn sockdiag_write_show_request(request: &ShowRequest, buffer: &mut [u8]) -> usize
+    // 16: AF_NETLINK. 17: AF_PACKET. 44: AF_XDP.
     ensures written { (request.now.family ≡ 16) ⊎ ((request.now.family ≡ 17)
         ⊎ (request.now.family ≡ 44)) → WritesMessage 36
         (show_message request.now.family request.now) buffer.old buffer.new result }

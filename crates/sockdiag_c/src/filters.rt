@@ -23,7 +23,9 @@ use netlink_packet_sock_diag::inet::INET_REQUEST_LEN;
 /// by the attributes and zeros up to a multiple of 4, all of which its length field counts. Such an
 /// attribute is the bytecode of a filter, `INET_DIAG_REQ_BYTECODE` of `linux/inet_diag.h`, which
 /// the kernel runs on each socket. The bytes have to be a sequence of complete attributes. Their
-/// values are not checked.
+/// values are not checked. A kernel answers with `-EINVAL` if a jump of the filter leads into the
+/// middle of an operation, or more than 4 bytes past the end, and with `-EPERM` if the filter has
+/// an `INET_DIAG_BC_MARK_COND` and the caller lacks `CAP_NET_ADMIN`.
 ///
 /// Returns the number of bytes that were written, which is also stored in `outcome.needed`. Returns
 /// 0 if nothing was written, for the first of these reasons that applies:
@@ -42,6 +44,8 @@ pub extern "C" fn sockdiag_write_inet_request_with_attributes(
     buffer: &mut [u8],
     outcome: &mut Outcome,
 ) -> usize
+    // In order: the attributes that the bytes consist of (`given`), the framing error of the bytes,
+    // whether the message is writable, its bytes, and the buffer and the outcome.
     ensures { ParsesAndWrites (λ given. SplitsIntoAttributes attributes.now given [])
         (HasFramingError attributes.now)
         (λ _. IsWritableRequest request.now attributes.now)

@@ -16,8 +16,8 @@ use std::time::Duration;
 pub struct UnixHeader {
     /// Type of the socket, one of `SOCK_..` (`udiag_type`, at 1).
     pub kind: u8,
-    /// State (`udiag_state`, at 2): `TCP_ESTABLISHED`, `TCP_LISTEN`, or `TCP_CLOSE` (7) if the
-    /// socket is not connected.
+    /// State (`udiag_state`, at 2): `TCP_ESTABLISHED` (1) if the socket is connected, `TCP_LISTEN`
+    /// (10) if it listens, else `TCP_CLOSE` (7), as of most datagram sockets.
     pub state: u8,
     /// Inode of the socket (`udiag_ino`, at 4).
     pub inode: u32,
@@ -31,7 +31,9 @@ pub struct UnixHeader {
 pub struct InetHeader {
     /// `AF_INET` or `AF_INET6` (`idiag_family`, at 0).
     pub family: u8,
-    /// State, one of `TCP_ESTABLISHED` to `TCP_CLOSING` (`idiag_state`, at 1).
+    /// State, one of `TCP_ESTABLISHED` to `TCP_CLOSING` (`idiag_state`, at 1). A reply does not
+    /// contain the protocol: states are of TCP, UDP or another protocol, the one that was
+    /// requested.
     pub state: u8,
     /// Timer (`idiag_timer`, at 2): 1 retransmission, 2 keepalive, 3 TIME_WAIT, 4 zero-window
     /// probe, 0 none. Any other value in the message is returned as 0.
@@ -39,7 +41,7 @@ pub struct InetHeader {
     /// Number of retransmissions if the timer is 1, else 0 (`idiag_retrans`, at 3).
     pub retransmits: u8,
     /// Milliseconds until the timer expires if the timer is 1, 2 or 4, else 0 (`idiag_expires`, at
-    /// 52).
+    /// 52). The time of a TIME_WAIT timer is not returned.
     pub expires: u32,
     /// Local port (`idiag_sport`, at 4).
     pub source_port: u16,

@@ -12,12 +12,13 @@ ghost use Rattle.sockdiag_c.specs.declared.walks.MessagePart.{MessagePart};
 ghost use Rattle.sockdiag_c.specs.Walks.{StoresCheckedMessage, NextAttribute, NextMessage};
 ghost use Rattle.sockdiag_c.specs.Walks.{attribute_in, bytes_after_cursor};
 
-/// In each clause `old` and `new` are the cursor before and after a step, `was` and `now` the
-/// output struct, and `answer` is the return value.
+/// States that a step of an iteration over attributes returns the first attribute of the bytes
+/// left, and leaves the others; and that it returns 0 if no attribute is left. The bytes after the
+/// header of every accepted reply are a sequence of attributes, as each clause requires.
 ///
-/// If the remaining bytes are a sequence of attributes, a step returns the first attribute and
-/// leaves the others. If no attribute remains, the iteration ends. The bytes after the header of
-/// every accepted reply are such a sequence.
+/// In each clause `old` and `new` are the cursor before and after a step, `was` and `now` the
+/// output struct, and `answer` is the return value. `SplitsIntoAttributes b attributes []`: the
+/// bytes `b` consist of these attributes, and nothing remains.
 pub fn a_step_passes_the_first_attribute()
     ensures next { (bytes : List ℕ) (old new : Cursor) (was now : AttributePart) (answer : ℕ)
         (first : Attribute) (later : List Attribute)
@@ -30,8 +31,14 @@ pub fn a_step_passes_the_first_attribute()
         → NextAttribute bytes old new was now answer → answer ≡ 0 }
 {}
 
-/// If messages remain, a step returns the first message and leaves the others. If no message
-/// remains, the iteration ends, or fails with the framing error of the remaining bytes.
+/// States that a step of an iteration over messages returns the first message of the bytes left,
+/// and leaves the others (`next`); that it returns 0 if no bytes are left (`end`); and that it
+/// returns the code of the framing error if bytes are left that do not begin with a message
+/// (`fault`).
+///
+/// The variables are those of [`a_step_passes_the_first_attribute`].
+/// `SplitsIntoMessages b messages end`: the bytes `b` consist of these messages, and then nothing
+/// (`None`) or bytes with the framing error `Some e`. `IsBytes b`: each number of `b` is below 256.
 pub fn a_step_passes_the_first_message()
     ensures next { (bytes : List ℕ) (old new : Cursor) (was now : MessagePart) (answer : ℕ)
         (message : List ℕ) (later : List (List ℕ)) (end : Option DecodeError)

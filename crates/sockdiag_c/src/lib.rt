@@ -22,6 +22,7 @@ mod tcp_info;
 #[cfg(test)]
 mod tests;
 mod unix_details;
+mod version;
 mod vsock_details;
 mod walks;
 mod xdp_details;

@@ -32,15 +32,17 @@ pub struct NetlinkDetails<'a> {
 }
 
 /// Checks a whole reply about a netlink socket, and returns its contents. The bytes are the payload
-/// of the netlink message. Returns 0, or the code of the first error; then the details are
-/// unchanged. If the reply has several attributes of a kind, the first one counts. The framing of
-/// all attributes is checked before their values, and values are checked in the order of their
-/// kinds. Texts point into the payload, and are valid as long as it is.
+/// of the netlink message. Returns 0, and sets all fields; or the code of the first error, and then
+/// the details are unchanged. If the reply has several attributes of a kind, the first one counts.
+/// The framing of all attributes is checked before their values, and values are checked in the
+/// order of their kinds. Texts point into the payload, and are valid as long as it is.
 #[unsafe(no_mangle)]
 pub extern "C" fn sockdiag_netlink_get_details<'a>(
     payload: &'a [u8],
     details: &mut NetlinkDetails<'a>,
 ) -> u32
+    // In order: how the payload parses, the first error of the reply or else of its values, what
+    // the struct has for a parsed reply, and the struct before and after the call.
     ensures { IsCheckResultBy ((response_codec (raw_reply_spec netlink_header)).reads
         payload.entry.now tt)
         (RejectsReplyOrValue (raw_reply_spec netlink_header) netlink_value_errors payload.entry.now)

@@ -23,11 +23,15 @@ use std::net::{IpAddr, Ipv4Addr, Ipv6Addr};
 #[repr(C)]
 #[derive(Clone, Copy)]
 pub struct RequestHeader {
-    /// `NLM_F_REQUEST`, and `NLM_F_DUMP` to request all sockets (`nlmsg_flags`).
+    /// `NLM_F_REQUEST`, and `NLM_F_DUMP` to request all sockets (`nlmsg_flags`). Without
+    /// `NLM_F_DUMP` the answer is one message without an end, and inode or addresses, ports and
+    /// cookie select the socket.
     pub flags: u16,
-    /// Sequence number of the sender, which the replies repeat (`nlmsg_seq`).
+    /// Sequence number, which the answer repeats (`nlmsg_seq`). If each request has another one,
+    /// `sockdiag_is_answer` recognizes its answer.
     pub sequence_number: u32,
-    /// Port id of the sender, or 0 (`nlmsg_pid`).
+    /// Port id of the socket that sends the request, or 0 (`nlmsg_pid`). The kernel does not use
+    /// it, and answers with the socket's port id.
     pub port_number: u32,
 }
 
@@ -38,13 +42,17 @@ pub struct UnixRequest {
     /// Fields of the netlink header.
     pub header: RequestHeader,
     /// States to include, with the bit `1 << TCP_LISTEN` for `TCP_LISTEN` (`udiag_states`).
+    /// `UINT32_MAX` includes all. A UNIX socket is in state 1, 7 or 10: without the bit `1 <<
+    /// TCP_CLOSE`, sockets that have no peer and do not listen are missing, as most datagram
+    /// sockets are.
     pub states: u32,
     /// Inode, to request a single socket (`udiag_ino`).
     pub inode: u32,
     /// Attributes that the replies shall have, a set of `UDIAG_SHOW_..` (`udiag_show`).
     pub show: u32,
     /// Cookie that distinguishes sockets with the same inode, to request a single socket
-    /// (`udiag_cookie`).
+    /// (`udiag_cookie`). The kernel compares it, also if it is zeros. Eight bytes 0xff match any
+    /// socket.
     pub cookie: [u8; 8],
 }
 
@@ -57,14 +65,17 @@ pub struct InetRequest {
     /// `AF_INET` or `AF_INET6` (`sdiag_family`).
     pub family: u8,
     /// Attributes that the replies shall have, with the bit `1 << (kind - 1)` for each kind
-    /// (`idiag_ext`).
+    /// (`idiag_ext`). Leave out `INET_DIAG_INFO` for MPTCP, and for kernels before Linux 5.4:
+    /// `sockdiag_inet_get_details` rejects their replies.
     pub extensions: u8,
-    /// Protocol, one of `IPPROTO_..`. The low byte is written to the record (`sdiag_protocol`). A
-    /// protocol above 255, such as `IPPROTO_MPTCP`, is also written as an attribute
-    /// `INET_DIAG_REQ_PROTOCOL`. The low byte of `IPPROTO_MPTCP` is `IPPROTO_TCP`, which a kernel
-    /// without MPTCP uses.
+    /// Protocol, one of `IPPROTO_..`. Request one protocol at a time, since replies do not contain
+    /// it. The low byte is written to the record (`sdiag_protocol`). A protocol above 255, such as
+    /// `IPPROTO_MPTCP`, is also written as an attribute `INET_DIAG_REQ_PROTOCOL`. The low byte of
+    /// `IPPROTO_MPTCP` is `IPPROTO_TCP`, which a kernel without MPTCP uses.
     pub protocol: u32,
     /// States to include, with the bit `1 << TCP_LISTEN` for `TCP_LISTEN` (`idiag_states`).
+    /// `UINT32_MAX` includes all. The bit `1 << TCP_BOUND_INACTIVE` includes TCP sockets that are
+    /// only bound; replies about them have the state `TCP_CLOSE`.
     pub states: u32,
     /// Local port (`idiag_sport`).
     pub source_port: u16,
@@ -76,8 +87,9 @@ pub struct InetRequest {
     pub destination_address: [u8; 16],
     /// Index of the interface that the socket is bound to, or 0 (`idiag_if`).
     pub interface_id: u32,
-    /// Cookie that distinguishes sockets with the same addresses and ports (`idiag_cookie`). Eight
-    /// bytes 0xff are `INET_DIAG_NOCOOKIE`.
+    /// Cookie that distinguishes sockets with the same addresses and ports (`idiag_cookie`), to
+    /// request a single socket. The kernel compares it, also if it is zeros. Eight bytes 0xff
+    /// (`INET_DIAG_NOCOOKIE`) match any socket.
     pub cookie: [u8; 8],
 }
 
@@ -89,6 +101,7 @@ const PROTOCOL: u8 = 3;
 /// written.
 #[unsafe(no_mangle)]
 pub extern "C" fn sockdiag_write_unix_request(request: &UnixRequest, buffer: &mut [u8]) -> usize
+    // 20: SOCK_DIAG_BY_FAMILY.
     ensures { WritesMessage 40 (unix_message 20 request.now) buffer.old buffer.new result }
 {
     write_unix(SOCK_DIAG_BY_FAMILY, request, buffer)
@@ -100,6 +113,7 @@ pub extern "C" fn sockdiag_write_unix_request(request: &UnixRequest, buffer: &mu
 /// then nothing is written. Linux answers it with `EOPNOTSUPP`.
 #[unsafe(no_mangle)]
 pub extern "C" fn sockdiag_write_unix_destroy(request: &UnixRequest, buffer: &mut [u8]) -> usize
+    // 21: SOCK_DESTROY.
     ensures { WritesMessage 40 (unix_message 21 request.now) buffer.old buffer.new result }
 {
     write_unix(SOCK_DESTROY, request, buffer)

@@ -43,6 +43,8 @@ pub extern "C" fn sockdiag_rewrite_unix_reply(
     buffer: &mut [u8],
     outcome: &mut Outcome,
 ) -> usize
+    // In order: how the payload parses, its errors, which replies are writable, the bytes of a
+    // reply, the buffer before and after the call, the outcome, and the return value.
     ensures rewrites { ParsesAndWrites ((response_codec unix_response_spec).reads payload.now tt)
         ((response_codec unix_response_spec).refuses payload.now tt)
         (response_codec unix_response_spec).fits
@@ -74,6 +76,8 @@ pub extern "C" fn sockdiag_rewrite_inet_reply(
     buffer: &mut [u8],
     outcome: &mut Outcome,
 ) -> usize
+    // In order: how the payload parses, its errors, which replies are writable, the bytes of a
+    // reply, the buffer before and after the call, the outcome, and the return value.
     ensures rewrites { ParsesAndWrites ((response_codec inet_response_spec).reads payload.now tt)
         ((response_codec inet_response_spec).refuses payload.now tt)
         (response_codec inet_response_spec).fits

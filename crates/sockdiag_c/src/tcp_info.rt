@@ -13,8 +13,12 @@ use netlink_packet_sock_diag::inet::nlas::{MEM_INFO_LEN, TCP_INFO_LEN};
 
 /// Copies the value of the first `INET_DIAG_INFO` (2) after the header of a reply about an IPv4 or
 /// IPv6 socket, which has 72 bytes: at most the 232 bytes of `info`. The remaining bytes of `info`
-/// are set to 0. Returns the length of the value in bytes, or 0 if there is none. Older kernels
-/// send fewer than 232 bytes, and newer kernels more.
+/// are set to 0. Returns the length of the value in bytes, or 0 if there is none.
+///
+/// Kernels before Linux 5.4 send fewer than 232 bytes: a field that ends after the returned length
+/// is 0, and not known. Newer kernels send more; the bytes after 232 are not copied. The value is
+/// `struct tcp_info` only if the protocol is TCP: MPTCP has `struct mptcp_info`, and SCTP has
+/// `struct sctp_info`, whose bytes have no meaning in `info`.
 ///
 /// The values of attributes are not checked. So this call also works for a reply that is rejected
 /// because a value is too short. Attributes after a framing error are not found.
@@ -33,7 +37,7 @@ pub extern "C" fn sockdiag_inet_get_tcp_info(payload: &[u8], info: &mut [u8; TCP
 /// Copies the value of the first `INET_DIAG_SKMEMINFO` (7) after the header of a reply about an
 /// IPv4 or IPv6 socket, which has 72 bytes: at most the 36 bytes of `memory`. The remaining bytes
 /// of `memory` are set to 0. Returns the length of the value in bytes, or 0 if there is none. Older
-/// kernels send 28 or 32 bytes.
+/// kernels send 28 or 32 bytes, without `drops`, or also without `backlog_queue_length`.
 ///
 /// The values of attributes are not checked. So this call also works for a reply that is rejected
 /// because a value is too short. Attributes after a framing error are not found.

@@ -1,5 +1,5 @@
 //! Tests of the C functions from Rattle. The bytes are derived by hand from the layouts of
-//! sock_diag(7) and netlink(7). `tests/c_face.c` makes the same calls and all others from C.
+//! sock_diag(7) and netlink(7). `tests/api/c_api.c` makes the same calls and all others from C.
 
 use crate::check::sockdiag_check_message;
 use crate::details::Text;

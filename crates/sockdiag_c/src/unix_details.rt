@@ -43,7 +43,8 @@ pub struct UnixDetails<'a> {
     /// `UNIX_DIAG_MEMINFO`).
     pub send_buffer: Number,
     /// Memory of data queued for sending, in bytes (`SK_MEMINFO_WMEM_QUEUED` of
-    /// `UNIX_DIAG_MEMINFO`). Linux sends 0.
+    /// `UNIX_DIAG_MEMINFO`). Linux sends 0, and counts data that the peer has not read in
+    /// `SK_MEMINFO_WMEM_ALLOC`, which has no field here: use `send_queue`.
     pub queued: Number,
     /// Directions that are shut down: 1 for receiving, 2 for sending, 3 for both
     /// (`UNIX_DIAG_SHUTDOWN`).

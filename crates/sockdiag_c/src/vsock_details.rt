@@ -9,14 +9,21 @@ use crate::check::OK;
 use sock_diag_any::vsock::VsockResponseView;
 use sock_diag_families::vsock::VsockResponseHeader;
 
-/// Checks a whole reply about a vsock socket, and returns its header. Linux sends no attributes; if
-/// there are any, only their framing is checked. The bytes are the payload of the netlink message.
-/// Returns 0, or the code of the first error; then the header is unchanged.
+/// Checks a whole reply about a vsock socket, and returns its header. The bytes are the payload of
+/// the netlink message. Returns 0, or the code of the first error; then the header is unchanged.
+///
+/// The record has 32 bytes, and Linux sends no others. Bytes after it are attributes: their framing
+/// is checked, and nothing else. So one to three more bytes are rejected with
+/// `SOCKDIAG_ATTRIBUTE_HEADER_CUT`, and four zero bytes with `SOCKDIAG_ATTRIBUTE_LENGTH_UNDER_4`,
+/// since they are an attribute whose length field is 0. Pass at most 32
+/// (`SOCKDIAG_VSOCK_ATTRIBUTES`) as the length to ignore what follows.
 #[unsafe(no_mangle)]
 pub extern "C" fn sockdiag_vsock_get_details(
     payload: &[u8],
     details: &mut VsockResponseHeader,
 ) -> u32
+    // In order: how the payload parses, its errors, the header that is stored, and the header
+    // before and after the call.
     ensures { IsCheckResult ((response_codec (raw_reply_spec vsock_header)).reads payload.now tt)
         ((response_codec (raw_reply_spec vsock_header)).refuses payload.now tt)
         (λ v. v.header) details.old details.new result }

@@ -56,11 +56,13 @@ pub struct MessagePart {
     /// netlink(7), or `SOCK_DIAG_BY_FAMILY` for a reply. `sockdiag_next_message` rejects the
     /// payload of any other type.
     pub message_type: u16,
-    /// The flags `NLM_F_..` (`nlmsg_flags`).
+    /// The flags `NLM_F_..` (`nlmsg_flags`). `sockdiag_is_interrupted` tests `NLM_F_DUMP_INTR`.
     pub flags: u16,
-    /// Sequence number; a reply repeats the number of its request (`nlmsg_seq`).
+    /// Sequence number (`nlmsg_seq`); an answer repeats the number of its request. No call compares
+    /// it: see `sockdiag_is_answer`.
     pub sequence_number: u32,
-    /// Port id of the sender, 0 for the kernel (`nlmsg_pid`).
+    /// Port id (`nlmsg_pid`); an answer of the kernel has the port id of the socket that sent the
+    /// request.
     pub port_number: u32,
 }
 
@@ -110,7 +112,9 @@ pub extern "C" fn sockdiag_next_attribute(
 /// - the code of the framing error there, 16 to 18, and then the message is unchanged and nothing
 ///   is left.
 ///
-/// The end of a dump, `NLMSG_DONE`, does not end the iteration.
+/// The end of a dump, `NLMSG_DONE`, does not end the iteration. The answer to a request without
+/// `NLM_F_DUMP` is one message, and has no such end. Kernels put whole messages into a datagram: a
+/// message that is split between two datagrams has a framing error in both.
 #[unsafe(no_mangle)]
 pub extern "C" fn sockdiag_next_message(
     datagram: &[u8],
@@ -134,7 +138,8 @@ pub extern "C" fn sockdiag_next_message(
 /// nothing is left.
 ///
 /// The payload is not checked. So a reply that is passed to `sockdiag_unix_get_details` or a
-/// similar call is checked only once.
+/// similar call is checked only once. A reply that such a call rejects does not end a dump:
+/// continue with the next message.
 #[unsafe(no_mangle)]
 pub extern "C" fn sockdiag_next_envelope(
     datagram: &[u8],
@@ -188,6 +193,11 @@ fn take_message(datagram: &[u8], cursor: &mut Cursor, message: &mut MessagePart)
 /// Stores the error number at the start of the payload of an `NLMSG_ERROR` or `NLMSG_DONE`: 0 for
 /// success, else `-errno`. Returns 1; or 0 if the payload has fewer than four bytes, and then the
 /// number is unchanged.
+///
+/// An `NLMSG_ERROR` with 0 is an acknowledgement. A dump that failed also ends with `NLMSG_DONE`,
+/// so look at the number there too. A kernel that lacks the protocol answers a request for it with
+/// `-ENOENT` or `-EINVAL`. What follows the number is not returned: the request, and for a socket
+/// with `NETLINK_EXT_ACK` more about the error.
 #[unsafe(no_mangle)]
 pub extern "C" fn sockdiag_get_error_number(payload: &[u8], number: &mut i32) -> u32
     ensures { IsGetterResult (leading_error_number payload.now) number.old number.new result }

@@ -57,9 +57,12 @@ pub struct XdpDetails {
 /// the netlink message. Returns 0, or the code of the first error; then the details are unchanged.
 /// If the reply has several attributes of a kind, the first one counts. The framing of all
 /// attributes is checked before their values, and values are checked in the order of their kinds. A
-/// record that the reply does not contain is unchanged, and its field `has_..` is 0.
+/// record that the reply does not contain is unchanged, and its field `has_..` is 0: do not use it.
+/// All other fields are set.
 #[unsafe(no_mangle)]
 pub extern "C" fn sockdiag_xdp_get_details(payload: &[u8], details: &mut XdpDetails) -> u32
+    // In order: how the payload parses, the first error of the reply or else of its values, what
+    // the struct has for a parsed reply, and the struct before and after the call.
     ensures { IsCheckResultBy ((response_codec (raw_reply_spec xdp_header)).reads payload.now tt)
         (RejectsReplyOrValue (raw_reply_spec xdp_header) xdp_value_errors payload.now)
         (IsXdpDetailsOf details.old)

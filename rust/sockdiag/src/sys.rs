@@ -381,7 +381,7 @@ pub struct PacketResponseHeader {
 }
 
 /// The header of a reply about a vsock socket: `struct vsock_diag_msg` of
-/// `linux/vm_sockets_diag.h`. No attributes follow the header.
+/// `linux/vm_sockets_diag.h`. Linux sends no attributes after it.
 #[repr(C)]
 #[derive(Clone, Copy, Debug, Default, PartialEq, Eq)]
 pub struct VsockResponseHeader {
@@ -765,6 +765,7 @@ extern "C" {
         length: usize,
         memory: *mut InetMemory,
     ) -> usize;
+    pub(crate) fn sockdiag_version() -> u32;
     pub(crate) fn sockdiag_vsock_get_details(
         payload: *const u8,
         length: usize,

@@ -37,6 +37,11 @@ fn take_messages<I: Kept>(
     interrupted: &mut bool,
     datagram: &[u8],
 ) -> Result<(DumpState, Option<i32>), DecodeError>
+    // `ReadsDatagram is old datagram new end`: the datagram extends the messages of `old` to those
+    // of `new`, and leads to this end. `AllocationFailsAt is entry old datagram new`: the message
+    // with this entry was not kept, because an allocation failed, and `new` has the messages before
+    // it. `dump_with messages end interrupted`: a progress. The last condition is that the list has
+    // no free slot.
     ensures { MatchResult result
         (λ end. ReadsDatagram I.item_is
         (dump_with (map I.model messages.old.items) (Reading, None) interrupted.old) datagram.now
@@ -112,6 +117,8 @@ impl<I: Kept> FedDump<I> {
         ensures leaves { FeedLeadsTo I.item_is (fed_dump_progress I.model self.old) datagram.now
             (fed_dump_progress I.model self.new) result }
         // Memory runs out at an entry that may need some, or because the list has to grow.
+        // `AllocationFailsAt is entry old datagram new`: the message with this entry was not kept,
+        // and `new` has the messages before it. `IsFull`: the list has no free slot.
         ensures memory { result ≡ err (Fault Memory) → (entry : I.Entry)
             × AllocationFailsAt I.item_is entry (fed_dump_progress I.model self.old) datagram.now
             (fed_dump_progress I.model self.new) × (I.needs_memory entry ⊎ IsFull self.new) }

@@ -56,7 +56,8 @@ impl LossyDump {
             (lossy_progress self.old) datagram.now
             (lossy_progress self.new) result }
         // If an allocation failed: it failed at a valid message `m`, or the list of entries has no
-        // free slot after the call.
+        // free slot after the call. `AllocationFailsAt is entry old datagram new`: the message with
+        // this entry was not kept, and `new` has the entries before it.
         ensures memory { result ≡ Err (Fault Memory) → ((m : Message)
             × AllocationFailsAt (HasLossyEntry message_codec) (ok m)
             (lossy_progress self.old) datagram.now

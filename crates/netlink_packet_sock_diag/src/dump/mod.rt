@@ -91,6 +91,8 @@ impl DumpReader {
 
     /// Returns the messages read so far, in order.
     pub fn messages(&self) -> &[SockDiagMessage]
+        // `message_model`: the kind of a message and the model of its content. `reader_progress`:
+        // the messages, the state, the error number and the interruption of a reader.
         ensures { map message_model result.now ≡ (reader_progress self.now).messages }
     {
         self.dump.kept.as_slice()

@@ -25,6 +25,8 @@ fn read_payload<'a>(
     header: &NetlinkHeader,
     payload: &'a [u8],
 ) -> Result<PayloadView<'a>, DecodeError>
+    // `ParsesAsPayload reads bytes t payload`: the bytes parse as this payload under the message
+    // type `t`, and an inner message by `reads`.
     ensures value { IfOk result (λ view. ParsesAsPayload message_codec.reads payload.entry.now
         header.now.message_type (payload_view_model view)) }
     ensures fault { IfErr result (λ e. IsInnerMessageType header.now.message_type
@@ -42,6 +44,7 @@ fn read_payload<'a>(
 // Returns the length of the serialized payload. Returns `None` if the inner message is not
 // writable.
 fn payload_writable_len(payload: &PayloadView<'_>) -> Option<usize>
+    // `HoldsOfInnerMessage fits payload`: the inner message is writable, if there is one.
     ensures { SomeIff result (HoldsOfInnerMessage message_codec.fits
         (payload_view_model payload.now))
         (length (payload_bytes message_codec.written (payload_view_model payload.now))) }
@@ -79,6 +82,8 @@ impl<'a> MessageView<'a> {
     ///   control message: `NLMSG_NOOP`, `NLMSG_ERROR`, `NLMSG_DONE` or `NLMSG_OVERRUN`.
     #[inline(always)]
     pub fn parse(bytes: &'a [u8]) -> Result<MessageView<'a>, DecodeError>
+        // `netlink_message_view_model view`: the header, and the payload with the model of its
+        // inner message or with its bytes.
         ensures value { IfOk result (λ view.
             netlink_message_codec.reads bytes.entry.now tt (netlink_message_view_model view)) }
         ensures fault { IfErr result (netlink_message_codec.refuses bytes.entry.now tt) }
@@ -107,6 +112,8 @@ impl<'a> MessageView<'a> {
 fn payload_of<'a>(header: &NetlinkHeader, message: &'a [u8]) -> Result<PayloadView<'a>, DecodeError>
     requires header { HasHeader message.now header.now }
     requires whole { header.now.length ≡ length message.now }
+    // `IsItemOf codec message item`: the item is the payload of the message, or its decode error.
+    // `map_ok payload_view_model result`: the model of the payload, or the error.
     ensures { IsItemOf message_codec message.entry.now (map_ok payload_view_model result) }
 {
     read_payload(header, &message[NETLINK_HEADER_LEN..])
@@ -128,6 +135,7 @@ impl<'a> DumpViews<'a> {
 
     /// Returns the iterator over the messages of this datagram.
     pub fn new(datagram: &'a [u8]) -> DumpViews<'a>
+        // `unread_views result`: the bytes that the iterator has not read yet.
         ensures { unread_views result ≡ datagram.entry.now }
     {
         DumpViews {
@@ -144,6 +152,8 @@ impl<'a> Iterator for DumpViews<'a> {
 
     type Item = Result<PayloadView<'a>, DecodeError>;
 
+    // `YieldsPayloadView old given new`: one call of `next` on the iterator `old` returns `given`,
+    // and `new` is the iterator after the call.
     ghost next_gives = { YieldsPayloadView };
 
     // At most one item for each 16 bytes, rounded up.
@@ -163,8 +173,9 @@ impl<'a> Iterator for DumpViews<'a> {
     /// Returns `(0, None)`: only iterating shows how many messages are left.
     fn size_hint(&self) -> (usize, Option<usize>)
         // `at_most n`: at most `n` items are left, one for each 16 bytes, rounded up. The first two
-        // clauses are those of the trait: the lower bound is at most this `n`, and the upper bound,
-        // if there is one, is at least this `n`.
+        // clauses are those of the trait: the lower bound is at most this `n`
+        // (`IsWithinCount bound count`), and the upper bound, if there is one, is at least this `n`
+        // (`UpTo count bound`).
         ensures lower { IsWithinCount result.0
             (at_most ((length (unread_views self.now) + 15) / 16)) }
         ensures upper { IfSome result.1

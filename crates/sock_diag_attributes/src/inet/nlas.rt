@@ -124,6 +124,8 @@ impl Nla {
     /// allocation fails. Only a text, and an attribute of another kind whose value is not empty,
     /// may need an allocation.
     pub fn clone(&self, alloc: Global) -> Result<Self, AllocError>
+        // inet_nla_model: the decoded value of the variant. encode_attribute set value: the
+        // attribute that a decoded value serializes as.
         ensures equal { IfOk result (λ copy. inet_nla_model copy ≡ inet_nla_model self.now) }
         // `spare`: cloning does not fail for types whose values need no memory: any variant except
         // `Congestion` and `Other`.
@@ -210,7 +212,9 @@ impl<'a> NlaView<'a> {
     /// number or a flag has another length, `NotUtf8` if a text is not valid UTF-8.
     #[inline(always)]
     pub fn parse(nla: &NlaBuffer<'a>) -> Result<NlaView<'a>, DecodeError>
-        // `buffered_attribute nla.now`: the type field and the value of `nla`.
+        // decode_attribute set attribute: `Ok` of what the attribute decodes to by the set, or
+        // `Err` of the error of its value. `buffered_attribute nla.now`: the type field and the
+        // value of `nla`. inet_nla_view_model: the decoded value of the variant.
         ensures { MatchResult result
             (λ view. decode_attribute inet_attribute_set (buffered_attribute nla.now)
             ≡ Ok (inet_nla_view_model view))
@@ -251,6 +255,8 @@ impl<'a> NlaView<'a> {
     /// whose value is not empty, may need an allocation.
     #[inline(always)]
     pub fn to_owned(&self, alloc: Global) -> Result<Nla, AllocError>
+        // inet_nla_model and inet_nla_view_model: the decoded value of the variant, owned and
+        // borrowed.
         ensures equal { IfOk result (λ nla. inet_nla_model nla ≡ inet_nla_view_model self.now) }
         // `spare`: cloning does not fail for types whose values need no memory: any variant except
         // `Congestion` and `Other`.

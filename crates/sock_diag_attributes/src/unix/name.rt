@@ -50,6 +50,8 @@ impl UnixDiagName {
     /// same bytes. Fails only if an allocation fails. A name that serializes to one byte, its zero,
     /// needs no allocation.
     pub fn clone(&self, alloc: Global) -> Result<Self, AllocError>
+        // socket_name_model bytes name: the name with its bytes as a list, here of a `Vec`.
+        // name_bytes: the bytes that a name serializes to, including its zero.
         ensures equal { IfOk result (λ name. socket_name_model vec_items name
             ≡ socket_name_model vec_items self.now) }
         ensures spare { length (name_bytes (socket_name_model vec_items self.now)) ≤ 1
@@ -79,6 +81,8 @@ impl<'a> NameView<'a> {
     #[inline(always)]
     #[tactic(auto, using(crate::specs::laws::Name::reads_inner_zero, crate::specs::laws::Name::reads_path, crate::specs::laws::Name::reads_no_end))]
     pub fn parse(bytes: &'a [u8]) -> Result<NameView<'a>, DecodeError>
+        // read_name bytes: `Ok` of the name, with its bytes as a list, or `Err` of the error.
+        // socket_name_model bytes name: the name with its bytes as a list, here of a slice.
         ensures { MatchResult result
             (λ name. read_name bytes.entry.now ≡ Ok (socket_name_model (λ b. b.now) name))
             (λ e. read_name bytes.entry.now ≡ Err e) }

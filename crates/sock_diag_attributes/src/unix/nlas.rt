@@ -108,6 +108,8 @@ impl Nla {
     /// allocation fails. Only a name, a list that is not empty, and an attribute of another kind
     /// whose value is not empty, may need an allocation.
     pub fn clone(&self, alloc: Global) -> Result<Self, AllocError>
+        // unix_nla_model: the decoded value of the variant. encode_attribute set value: the
+        // attribute that a decoded value serializes as.
         ensures equal { IfOk result (λ copy. unix_nla_model copy ≡ unix_nla_model self.now) }
         // `spare`: cloning does not fail for types whose values need no memory: any variant except
         // `Name`, `PendingConnections` and `Other`.
@@ -186,11 +188,13 @@ impl<'a> NlaView<'a> {
     /// Parses the value by the kind of the attribute, whatever its two flag bits. An attribute of
     /// an unknown kind is returned as `Other`, with its complete type field. Fails with the error
     /// of the value: `BufferTooSmall` if a record is too short, `WrongLength`, with the kind, if a
-    /// number or a pair has another length, `NotMultipleOfFour` for a list of numbers, or the error
-    /// of [`NameView::parse`].
+    /// number or a pair has another length, `NotMultipleOfFour` if the length of a list of numbers
+    /// is not a multiple of 4, or the error of [`NameView::parse`].
     #[inline(always)]
     pub fn parse(nla: &NlaBuffer<'a>) -> Result<NlaView<'a>, DecodeError>
-        // `buffered_attribute nla.now`: the type field and the value of `nla`.
+        // decode_attribute set attribute: `Ok` of what the attribute decodes to by the set, or
+        // `Err` of the error of its value. `buffered_attribute nla.now`: the type field and the
+        // value of `nla`. unix_nla_view_model: the decoded value of the variant.
         ensures { MatchResult result
             (λ view. decode_attribute unix_attribute_set (buffered_attribute nla.now)
             ≡ Ok (unix_nla_view_model view))
@@ -234,6 +238,8 @@ impl<'a> NlaView<'a> {
     /// empty, and an attribute of another kind whose value is not empty, may need an allocation.
     #[inline(always)]
     pub fn to_owned(&self, alloc: Global) -> Result<Nla, AllocError>
+        // unix_nla_model and unix_nla_view_model: the decoded value of the variant, owned and
+        // borrowed.
         ensures equal { IfOk result (λ nla. unix_nla_model nla ≡ unix_nla_view_model self.now) }
         // `spare`: cloning does not fail for types whose values need no memory: any variant except
         // `Name`, `PendingConnections` and `Other`.

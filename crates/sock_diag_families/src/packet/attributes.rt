@@ -42,6 +42,7 @@ impl PacketInfo {
     /// Parses the first 24 bytes of the value of an attribute `PACKET_DIAG_INFO`, and ignores the
     /// bytes after them. Fewer bytes are `BufferTooSmall`.
     pub fn parse(value: &[u8]) -> Result<PacketInfo, DecodeError>
+        // `packet_info`: the record in the first 24 bytes, or `BufferTooSmall`.
         ensures { result ≡ packet_info value.now }
     {
         let value = enough_in(value, AF_PACKET, PACKET_DIAG_INFO, 24)?;
@@ -98,6 +99,7 @@ impl PacketRing {
     /// `PACKET_DIAG_TX_RING`, and ignores the bytes after them. Fewer bytes are `BufferTooSmall`,
     /// which contains `kind`, the kind of the attribute. The kind has no other effect.
     pub fn parse(value: &[u8], kind: u16) -> Result<PacketRing, DecodeError>
+        // `packet_ring kind`: the record in the first 28 bytes, or `BufferTooSmall` with this kind.
         ensures { result ≡ packet_ring kind value.now }
     {
         let value = enough_in(value, AF_PACKET, kind, 28)?;

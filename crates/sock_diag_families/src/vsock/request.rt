@@ -15,8 +15,8 @@ pub const VSOCK_REQUEST_LEN: usize = 24;
 
 /// A request for vsock sockets: `struct vsock_diag_req`, 24 bytes, little-endian. The bytes at
 /// offsets 0 to 3 (`sdiag_family`, `sdiag_protocol`, `pad`) and 8 to 15 (`vdiag_ino`, `vdiag_show`)
-/// are ignored. They are serialized as AF_VSOCK (40) and zeros, as the kernel requires. Linux only
-/// lists all sockets: a single socket cannot be requested.
+/// are ignored. They are serialized as AF_VSOCK (40) and zeros, as `linux/vm_sockets_diag.h`
+/// requires. Linux only lists all sockets: a single socket cannot be requested.
 #[derive(Clone, Copy, Debug, PartialEq, Eq)]
 pub struct VsockRequest {
     /// Requested states (`vdiag_states`), at offset 4. The bit of a state is `1 << state`, such as

@@ -14,7 +14,7 @@ use netlink_core::{DecodeError, Exact, Record, RecordName};
 pub const VSOCK_RESPONSE_HEADER_LEN: usize = 32;
 
 /// The header of a reply about a vsock socket: `struct vsock_diag_msg` of
-/// `linux/vm_sockets_diag.h`. No attributes follow the header.
+/// `linux/vm_sockets_diag.h`. Linux sends no attributes after it.
 ///
 /// It has 32 bytes, little-endian. The byte at offset 0 (`vdiag_family`) is ignored, and serialized
 /// as AF_VSOCK (40).

@@ -31,6 +31,7 @@ impl XdpInfo {
     /// Parses the first 8 bytes of the value of an attribute `XDP_DIAG_INFO`, and ignores the bytes
     /// after them. Fewer bytes are `BufferTooSmall`.
     pub fn parse(value: &[u8]) -> Result<XdpInfo, DecodeError>
+        // `xdp_info`: the record in the first 8 bytes, or `BufferTooSmall`.
         ensures { result ≡ xdp_info value.now }
     {
         let value = enough_in(value, AF_XDP, XDP_DIAG_INFO, 8)?;
@@ -74,6 +75,7 @@ impl XdpUmem {
     /// Parses the first 40 bytes of the value of an attribute `XDP_DIAG_UMEM`, and ignores the
     /// bytes after them. Fewer bytes are `BufferTooSmall`.
     pub fn parse(value: &[u8]) -> Result<XdpUmem, DecodeError>
+        // `xdp_umem`: the record in the first 40 bytes, or `BufferTooSmall`.
         ensures { result ≡ xdp_umem value.now }
     {
         let value = enough_in(value, AF_XDP, XDP_DIAG_UMEM, 40)?;
@@ -114,6 +116,7 @@ impl XdpStatistics {
     /// Parses the first 48 bytes of the value of an attribute `XDP_DIAG_STATS`, and ignores the
     /// bytes after them. Fewer bytes are `BufferTooSmall`.
     pub fn parse(value: &[u8]) -> Result<XdpStatistics, DecodeError>
+        // `xdp_statistics`: the record in the first 48 bytes, or `BufferTooSmall`.
         ensures { result ≡ xdp_statistics value.now }
     {
         let value = enough_in(value, AF_XDP, XDP_DIAG_STATS, 48)?;

@@ -6,13 +6,14 @@ use Rattle.sock_diag_filters.specs.declared.filter.Filter.TheVariants as parts
 use Rattle.sock_diag_filters.specs.Conditions.{arguments, code_of}
 use Rattle.sock_diag_filters.specs.Filters.{program_size}
 
--- The `struct inet_diag_bc_op` of an operation with `n` bytes of arguments: `code`; `yes`, its
--- length; and `no` as a little-endian u16. If its condition is not met, `no` leads to `far` bytes
--- after its end.
+-- `operation_header_bytes code n far`: the `struct inet_diag_bc_op` of an operation with `n` bytes
+-- of arguments: `code`; `yes`, its length; and `no` as a little-endian u16. If its condition is not
+-- met, `no` leads to `far` bytes after its end.
 abbrev pub operation_header_bytes : ℕ → ℕ → ℕ → List ℕ
 operation_header_bytes code n far = code ∷ (4 + n) ∷ little_bytes 2 (4 + n + far)
 
--- The bytes of an operation: its `struct inet_diag_bc_op`, and its arguments.
+-- `operation code arguments far`: the bytes of an operation: its `struct inet_diag_bc_op`, and its
+-- arguments. If its condition is not met, `no` leads to `far` bytes after its end.
 abbrev pub operation : ℕ → List ℕ → ℕ → List ℕ
 operation code arguments far = operation_header_bytes code (length arguments) far ++ arguments
 
@@ -20,11 +21,12 @@ operation code arguments far = operation_header_bytes code (length arguments) fa
 abbrev pub jump : ℕ → List ℕ
 jump far = operation 1 [] far
 
--- The program of a filter. For a socket that the filter selects, a run reaches the end of the
--- program; for any other socket, it reaches `far` bytes after the end. In the program of an `or`, a
--- jump over the second part follows the first part: a socket that the first part does not select
--- skips the 4 bytes of this jump. In the program of a `not`, a jump of `far` bytes follows the
--- part, and is skipped in the same way.
+-- `program_of filter far`: the program of the filter. For a socket that the filter selects, a run
+-- reaches the end of the program; for any other socket, it reaches `far` bytes after the end. For
+-- the program of a request `far` is 4: a step past its end rejects the socket. In the program of an
+-- `or`, a jump over the second part follows the first part: a socket that the first part does not
+-- select skips the 4 bytes of this jump. In the program of a `not`, a jump of `far` bytes follows
+-- the part, and is skipped in the same way.
 abbrev pub program_of : Filter → ℕ → List ℕ
 program_of (parts.Condition c) far = operation (code_of c) (arguments c) far
 program_of (parts.And' p first q second) far =

@@ -11,7 +11,8 @@ use Rattle.netlink_packet_sock_diag.specs.Dump.{DumpOfDatagrams, DumpStatus}
 use Rattle.netlink_packet_sock_diag.specs.Message.{Message, message_codec}
 use Rattle.sock_diag_lines.specs.HexField.{IsHexField, hex_field_of}
 
--- the parts of the text between spaces, 32, are hex fields of these datagrams
+-- `AreHexFields text datagrams`: the parts of the text between single spaces (32) are the hex
+-- fields of these datagrams, in order
 abbrev pub AreHexFields : List ℕ → List (List ℕ) → Type 0
 AreHexFields text datagrams = AllZip IsHexField (slice_split (λ c. c == 32) text) datagrams
 
@@ -19,7 +20,8 @@ AreHexFields text datagrams = AllZip IsHexField (slice_split (λ c. c == 32) tex
 abbrev pub DumpOutcome : Type 0
 DumpOutcome = List Message × Result DumpStatus DecodeError
 
--- the dump over the datagrams
+-- `IsDumpOf datagrams dump`: the dump over the datagrams, starting without messages, has the
+-- messages `dump.0` and the end `dump.1`
 abbrev pub IsDumpOf : List (List ℕ) → DumpOutcome → Type 0
 IsDumpOf datagrams dump = DumpOfDatagrams (IsItemOf message_codec) [] datagrams dump.0 dump.1
 
@@ -31,7 +33,8 @@ IsWritable dump = AllByRecursion message_codec.fits dump.0
 abbrev pub message_text : Message → List ℕ
 message_text message = 32 ∷ hex_field_of (message_codec.written message)
 
--- the error that ended the dump, or else its state
+-- `error_or_state state error`: the end of a dump: `Err` and the decode error that ended it, or
+-- `Ok` and its state if there is no such error
 abbrev pub error_or_state : DumpStatus → Option DecodeError → Result DumpStatus DecodeError
 error_or_state state None = Ok state
 error_or_state state (Some fault) = Err fault
@@ -44,13 +47,14 @@ read_dump_end dump = error_or_state (status_of_dump (reader_progress dump.reader
 abbrev pub read_dump_outcome : ReadDump → DumpOutcome
 read_dump_outcome dump = ((reader_progress dump.reader).messages, read_dump_end dump)
 
--- it is the dump over these datagrams, and it has no error while it is being read
+-- `IsReadDump datagrams dump`: the reader has the messages and the end of the dump over these
+-- datagrams, and it has no error while the dump is being read
 pub record IsReadDump (datagrams : List (List ℕ)) (dump : ReadDump) : Type 0 where
   pub is : IsDumpOf datagrams (read_dump_outcome dump)
   pub faultless : IsReading (reader_progress dump.reader) → dump.fault ≡ None
 
--- FeedsOneDatagram old datagram new: after any datagrams that were read into `old`, this one was
--- read
+-- FeedsOneDatagram old datagram new: if `old` has read some datagrams, then `new` has read these
+-- datagrams and then this one
 abbrev pub FeedsOneDatagram : ReadDump → List ℕ → ReadDump → Type 0
 FeedsOneDatagram old datagram new = (datagrams : List (List ℕ)) → IsReadDump datagrams old
     → IsReadDump (datagrams ++ datagram ∷ []) new

@@ -5,7 +5,7 @@ use Rattle.std.specs.List.{slice_split}
 use Rattle.netlink_core.specs.Faults.{error_code}
 use Rattle.netlink_core.specs.declared.fault.DecodeError.{DecodeError}
 
--- Adds old new P: bytes with the property P were appended
+-- AppendsSome old new P: the text `new` is the text `old` and then bytes `more`, with `P more`
 abbrev pub AppendsSome : List ℕ → List ℕ → (List ℕ → Type 0) → Type 0
 AppendsSome old new P = (more : List ℕ) × (new ≡ old ++ more) × P more
 
@@ -13,7 +13,7 @@ AppendsSome old new P = (more : List ℕ) × (new ≡ old ++ more) × P more
 abbrev pub is_space : ℕ → Bool
 is_space c = c == 32
 
--- the first space of the line is at offset i, and splits the line there
+-- `IsFirstSpace line i`: the first space of the line is at offset `i`, and splits the line there
 pub record IsFirstSpace (line : List ℕ) (i : ℕ) : Type 0 where
   pub within : i < length line
   pub cut : line ≡ take i line ++ 32 ∷ drop (i + 1) line

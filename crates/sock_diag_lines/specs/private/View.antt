@@ -12,7 +12,8 @@ use Rattle.sock_diag_replies.specs.UnixGetters.{nonlistening_queue_of}
 use Rattle.sock_diag_replies.specs.UnixResponseSpec.{unix_response_spec}
 use Rattle.sock_diag_lines.specs.ViewLine.{comma_list, socket_name_text, or_none}
 
--- the peer, the name, the pending connections, and the directions that are shut down
+-- `with_socket_details text v`: the text, and then the peer, the name, the inodes of the pending
+-- connections, and the directions that are shut down
 abbrev pub with_socket_details : List ℕ → ReplyValue unix_response_spec → List ℕ
 with_socket_details text v =
     let found = λ (k : ℕ). first_content_of (value_of_kind unix_attribute_set k) v.nlas in
@@ -21,7 +22,8 @@ with_socket_details text v =
     ++ 32 ∷ or_none comma_list (found UNIX_DIAG_ICONS)
     ++ 32 ∷ or_none decimal (found UNIX_DIAG_SHUTDOWN)
 
--- the queue lengths: two values of a listening socket, then two values of any other socket
+-- `with_queues text v`: the text, and then the queue lengths: two values of a socket that listens,
+-- and two values of any other socket; two of the four are always `none`
 abbrev pub with_queues : List ℕ → ReplyValue unix_response_spec → List ℕ
 with_queues text v =
     text ++ 32 ∷ or_none decimal (option_map (λ queue. queue.0) (listening_queue_of v))
@@ -29,7 +31,8 @@ with_queues text v =
     ++ 32 ∷ or_none decimal (option_map (λ queue. queue.0) (nonlistening_queue_of v))
     ++ 32 ∷ or_none decimal (option_map (λ queue. queue.1) (nonlistening_queue_of v))
 
--- the memory values
+-- `with_memory text v`: the text, and then SK_MEMINFO_SNDBUF (`max_datagram_size`) and
+-- SK_MEMINFO_WMEM_QUEUED (`alloc`) of UNIX_DIAG_MEMINFO
 abbrev pub with_memory : List ℕ → ReplyValue unix_response_spec → List ℕ
 with_memory text v = let memory =
     first_content_of (value_of_kind unix_attribute_set UNIX_DIAG_MEMINFO) v.nlas in

@@ -157,6 +157,7 @@ impl InetResponseHeader {
     /// [`DecodeError::Memory`].
     #[inline(always)]
     pub fn from_prefix(payload: &[u8]) -> Result<Self, DecodeError>
+        // parse_record layout param bytes: `Ok` of the value, or `Err` of the first error.
         ensures value { result ≡ parse_record inet_response_header tt payload.now }
         ensures named { IfErr result (λ fault. fault ≢ Memory) }
     {

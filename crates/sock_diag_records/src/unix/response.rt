@@ -86,6 +86,7 @@ impl UnixResponseHeader {
     /// not checked. It does not allocate. Fewer bytes are [`DecodeError::BufferTooSmall`], the only
     /// error.
     pub fn from_prefix(payload: &[u8]) -> Result<Self, DecodeError>
+        // parse_record layout param bytes: `Ok` of the value, or `Err` of the first error.
         ensures { result ≡ parse_record unix_response_header tt payload.now }
     {
         read_record(payload, ())

@@ -22,6 +22,11 @@ impl UnixResponse {
     /// Returns the inode of the peer: the value of the first `Peer` (`UNIX_DIAG_PEER`). Returns
     /// `None` if there is no such attribute.
     pub fn peer(&self) -> Option<u32>
+        // `value_of_kind set k v`: `Some` of the value if the decoded attribute `v` is of kind `k`,
+        // else `None`. `first_content_of content vs`: the first `Some` that `content` returns for
+        // the elements of the list `vs`; `None` if there is none. Here `set` is the set of the
+        // attribute types of UNIX sockets, and `vs` are the models of the attributes, in wire
+        // order.
         ensures { result
             ≡ first_content_of (value_of_kind unix_attribute_set UNIX_DIAG_PEER)
             (map unix_nla_model self.now.nlas.items) }
@@ -35,6 +40,8 @@ impl UnixResponse {
     /// Returns the name of the socket: the value of the first `Name` (`UNIX_DIAG_NAME`). Returns
     /// `None` if there is no such attribute.
     pub fn name(&self) -> Option<&UnixDiagName>
+        // `option_copied result`: the name that the returned reference points to.
+        // `socket_name_model vec_items`: a name with its `Vec` of bytes as a list.
         ensures { option_map (socket_name_model vec_items) (option_copied result)
             ≡ first_content_of (value_of_kind unix_attribute_set UNIX_DIAG_NAME)
             (map unix_nla_model self.now.nlas.items) }
@@ -48,6 +55,7 @@ impl UnixResponse {
     /// Returns the inodes of the connections that wait to be accepted: the value of the first
     /// `PendingConnections` (`UNIX_DIAG_ICONS`). Returns `None` if there is no such attribute.
     pub fn pending_connections(&self) -> Option<&[u32]>
+        // `option_copied result`: the numbers that the returned reference points to.
         ensures { option_copied result
             ≡ first_content_of (value_of_kind unix_attribute_set UNIX_DIAG_ICONS)
             (map unix_nla_model self.now.nlas.items) }
@@ -85,9 +93,13 @@ impl UnixResponse {
     /// If the result is a `Some`, [`receive_queue_size`](Self::receive_queue_size) and
     /// [`send_queue_size`](Self::send_queue_size) return `None`.
     pub fn number_of_pending_connection(&self) -> Option<u32>
+        // `response_model (λ h. h) unix_nla_model self.now`: the reply with its header unchanged
+        // and the models of its attributes. `listening_queue_of`: both numbers of its first
+        // `ReceiveQueueLength` if its state is `TCP_LISTEN`, else `None`.
         ensures value { result ≡ option_map (λ ns. ns.0)
             (listening_queue_of (response_model (λ h. h) unix_nla_model self.now)) }
-        // `nonlistening_queue_of`: what the getters of the other two numbers read.
+        // `nonlistening_queue_of`: both numbers if the state is not `TCP_LISTEN`, else `None`. The
+        // getters `receive_queue_size` and `send_queue_size` return its first and second number.
         ensures alone { IsSome result
             → nonlistening_queue_of (response_model (λ h. h) unix_nla_model self.now) ≡ None }
     {

@@ -26,6 +26,11 @@ impl<'a> UnixResponseView<'a> {
     /// Returns the inode of the peer: the value of the first `Peer` (`UNIX_DIAG_PEER`). Returns
     /// `None` if there is no such attribute.
     pub fn peer(&self) -> Option<u32>
+        // `value_of_kind set k v`: `Some` of the value if the decoded attribute `v` is of kind `k`,
+        // else `None`. `first_content_of content vs`: the first `Some` that `content` returns for
+        // the elements of the list `vs`; `None` if there is none. Here `set` is the set of the
+        // attribute types of UNIX sockets, and `vs` are the decoded attributes of the view, in wire
+        // order.
         ensures { result
             ≡ first_content_of (value_of_kind unix_attribute_set UNIX_DIAG_PEER)
             (unix_response_view_model self.now).nlas }
@@ -39,6 +44,7 @@ impl<'a> UnixResponseView<'a> {
     /// Returns the name of the socket: the value of the first `Name` (`UNIX_DIAG_NAME`). Returns
     /// `None` if there is no such attribute.
     pub fn name(&self) -> Option<NameView<'a>>
+        // `socket_name_model (λ b. b.now)`: a name with its borrowed bytes as a list.
         ensures { option_map (socket_name_model (λ b. b.now)) result
             ≡ first_content_of (value_of_kind unix_attribute_set UNIX_DIAG_NAME)
             (unix_response_view_model self.now).nlas }
@@ -52,6 +58,7 @@ impl<'a> UnixResponseView<'a> {
     /// Returns the inodes of the connections that wait to be accepted: the value of the first
     /// `PendingConnections` (`UNIX_DIAG_ICONS`). Returns `None` if there is no such attribute.
     pub fn pending_connections(&self) -> Option<NumbersView<'a>>
+        // `numbers_view_model`: the numbers of the borrowed list.
         ensures { option_map numbers_view_model result
             ≡ first_content_of (value_of_kind unix_attribute_set UNIX_DIAG_ICONS)
             (unix_response_view_model self.now).nlas }
@@ -92,9 +99,12 @@ impl<'a> UnixResponseView<'a> {
     /// If the result is a `Some`, [`receive_queue_size`](Self::receive_queue_size) and
     /// [`send_queue_size`](Self::send_queue_size) return `None`.
     pub fn number_of_pending_connection(&self) -> Option<u32>
+        // `listening_queue_of`: both numbers of the first `ReceiveQueueLength` of a reply if its
+        // state is `TCP_LISTEN`, else `None`.
         ensures value { result ≡ option_map (λ ns. ns.0)
             (listening_queue_of (unix_response_view_model self.now)) }
-        // `nonlistening_queue_of`: what the getters of the other two numbers read.
+        // `nonlistening_queue_of`: both numbers if the state is not `TCP_LISTEN`, else `None`. The
+        // getters `receive_queue_size` and `send_queue_size` return its first and second number.
         ensures alone { IsSome result → nonlistening_queue_of (unix_response_view_model self.now)
             ≡ None }
     {

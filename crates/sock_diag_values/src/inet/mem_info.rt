@@ -189,6 +189,7 @@ impl MemInfo {
     /// 32 bytes has no drops, and one of 28 bytes neither a backlog nor drops: these fields are
     /// `None`. Fewer than 28 bytes are [`DecodeError::BufferTooSmall`].
     pub fn parse(payload: &[u8]) -> Result<Self, DecodeError>
+        // parse_record layout param bytes: `Ok` of the value, or `Err` of the first error.
         ensures { result ≡ parse_record mem_info tt payload.now }
     {
         read_record(payload, ())

@@ -305,6 +305,7 @@ impl TcpInfo {
     /// [`DecodeError::BufferTooSmall`].
     #[inline(always)]
     pub fn parse(payload: &[u8]) -> Result<Self, DecodeError>
+        // parse_record layout param bytes: `Ok` of the value, or `Err` of the first error.
         ensures { result ≡ parse_record tcp_info tt payload.now }
     {
         read_record(payload, ())

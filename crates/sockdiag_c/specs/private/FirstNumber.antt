@@ -10,13 +10,15 @@ abbrev pub first_present : {A : Type 0} → Option A → Option A → Option A
 first_present (Some x) o = Some x
 first_present None o = o
 
--- the number after another one is offered: a number that is present is unchanged
+-- `set_number_once old offered`: `old`, if its number is present, or if no number is offered
+-- (None); else the offered number
 abbrev pub set_number_once : Number → Option ℕ → Number
 set_number_once old (Some n) = if old.is_told == 0 then optional_number (Some n) else old
 set_number_once old None = old
 
--- next F k part v old: the number after the attribute v, which offers the number that `part` takes
--- from its value if it is of type k
+-- set_attribute_number F k part v old: the number after the attribute `v` of the set `F`. If `v` is
+-- of type `k`, `part` takes the number that it offers from its value. An attribute of another type
+-- changes nothing.
 abbrev pub set_attribute_number : (F : AttributeSet) (k : ℕ) → (ValueOfKind F k → ℕ)
     → AttributeValue F → Number
     → Number

@@ -6,8 +6,10 @@ use Rattle.sockdiag_c.specs.declared.details.Text.{Text}
 use Rattle.sockdiag_c.specs.declared.inet_details.InetDetails.{InetDetails}
 use Rattle.sockdiag_c.specs.private.FirstNumber.{set_attribute_number}
 
--- inet_details_with congestion d v: each number of the attribute v is set unless it was present;
--- the congestion text is the argument
+-- inet_details_with congestion d v: the struct `d` after one more attribute `v`: each number that
+-- `v` has is set unless it is present. The field `congestion` is the argument `congestion`. The
+-- attribute types: 5 INET_DIAG_TOS, 6 INET_DIAG_TCLASS, 8 INET_DIAG_SHUTDOWN, 10
+-- INET_DIAG_PROTOCOL, 11 INET_DIAG_SKV6ONLY, 15 INET_DIAG_MARK, 17 INET_DIAG_CLASS_ID.
 abbrev pub inet_details_with : Text → InetDetails → AttributeValue inet_attribute_set → InetDetails
 inet_details_with congestion d v = record {
   header = d.header;

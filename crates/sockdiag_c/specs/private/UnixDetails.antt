@@ -8,8 +8,9 @@ use Rattle.sockdiag_c.specs.declared.details.Text.{Text}
 use Rattle.sockdiag_c.specs.declared.unix_details.UnixDetails.{UnixDetails}
 use Rattle.sockdiag_c.specs.private.FirstNumber.{set_attribute_number}
 
--- unix_details_with name d v: each number of the attribute v is set unless it was present; the name
--- is the argument
+-- unix_details_with name d v: the struct `d` after one more attribute `v`: each number that `v` has
+-- is set unless it is present. The field `name` is the argument `name`. The attribute types: 1
+-- UNIX_DIAG_VFS, 2 UNIX_DIAG_PEER, 4 UNIX_DIAG_RQLEN, 5 UNIX_DIAG_MEMINFO, 6 UNIX_DIAG_SHUTDOWN.
 abbrev pub unix_details_with : Text → UnixDetails → AttributeValue unix_attribute_set → UnixDetails
 unix_details_with name d v = record {
   header = d.header;

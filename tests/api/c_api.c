@@ -1,0 +1,1063 @@
+/*
+ * Calls the functions of include/sockdiag.h with input that they accept, and most of them also with
+ * input that they reject. The bytes are worked out by hand from the layouts of sock_diag(7),
+ * netlink(7) and the kernel's headers, or were sent by Linux. Each field of each struct is compared
+ * with bytes that no other field has. tests/api/c_api.sh builds and runs this program.
+ */
+#include "sockdiag.h"
+
+#include <linux/inet_diag.h>
+#include <linux/netlink.h>
+#include <linux/sock_diag.h>
+#include <linux/unix_diag.h>
+#include <stdio.h>
+#include <string.h>
+
+static int failures;
+
+static void check(int holds, const char *what) {
+    if (!holds) {
+        fprintf(stderr, "c_api: failed: %s\n", what);
+        failures++;
+    }
+}
+
+/* A reply about a UNIX socket: type 1, state 10, inode 0x11223344, a pathname "/a" with its NUL
+ * and one byte of padding, a peer, and an attribute of type 0x63 without a value. The padding
+ * and the byte at offset 3, which no parser reads, are not zero. */
+static const uint8_t unix_reply[36] = {
+    1, 1, 10, 0xee, 0x44, 0x33, 0x22, 0x11, 1, 2, 3, 4, 5, 6, 7, 8,
+    7, 0, 0, 0, '/', 'a', 0, 0xff,
+    8, 0, 2, 0, 0x78, 0x56, 0x34, 0x12,
+    4, 0, 0x63, 0,
+};
+
+/* The header of a reply about an IPv4 socket: state 1, timer 1 with 3 retransmissions and 200
+ * milliseconds, from 127.0.0.1 port 80 to 10.0.0.2 port 49152. Each address is followed by bytes
+ * that no parser reads. */
+static const uint8_t inet_reply[72] = {
+    2, 1, 1, 3, 0, 80, 0xc0, 0,
+    127, 0, 0, 1, 9, 9, 9, 9, 9, 9, 9, 9, 9, 9, 9, 9,
+    10, 0, 0, 2, 9, 9, 9, 9, 9, 9, 9, 9, 9, 9, 9, 9,
+    4, 0, 0, 0, 8, 7, 6, 5, 4, 3, 2, 1,
+    200, 0, 0, 0, 1, 0, 0, 0, 2, 0, 0, 0, 0xe8, 3, 0, 0, 0x39, 0x30, 0, 0,
+};
+
+static void checks_unix(void) {
+    static const uint8_t cookie[8] = {1, 2, 3, 4, 5, 6, 7, 8};
+    struct sockdiag_unix_header header, before;
+    memset(&header, 0xaa, sizeof header);
+    before = header;
+    check(sockdiag_check_unix_reply(unix_reply, 15, &header) == SOCKDIAG_BUFFER_TOO_SMALL,
+          "a truncated header");
+    check(sockdiag_check_unix_reply(unix_reply, 22, &header) == SOCKDIAG_ATTRIBUTE_LENGTH_PAST,
+          "a truncated attribute");
+    check(sockdiag_check_unix_reply(unix_reply, 34, &header) == SOCKDIAG_ATTRIBUTE_HEADER_CUT,
+          "a truncated attribute header");
+    check(memcmp(&header, &before, sizeof header) == 0, "a header of a rejected reply is written");
+    check(sockdiag_check_unix_reply(unix_reply, sizeof unix_reply, &header) == 0, "a UNIX reply");
+    check(header.kind == 1 && header.state == 10 && header.inode == 0x11223344, "a UNIX header");
+    check(memcmp(header.cookie, cookie, 8) == 0, "a UNIX cookie");
+}
+
+static void checks_inet(void) {
+    static const uint8_t source[16] = {127, 0, 0, 1}, destination[16] = {10, 0, 0, 2};
+    struct sockdiag_inet_header header;
+    uint8_t other[72];
+    memset(&header, 0, sizeof header);
+    check(sockdiag_check_inet_reply(inet_reply, 71, &header) == SOCKDIAG_BUFFER_TOO_SMALL,
+          "a truncated internet header");
+    memcpy(other, inet_reply, sizeof other);
+    other[0] = 3;
+    check(sockdiag_check_inet_reply(other, 72, &header) == SOCKDIAG_UNSUPPORTED_FAMILY,
+          "another family");
+    check(sockdiag_check_inet_reply(inet_reply, 72, &header) == 0, "an internet reply");
+    check(header.family == 2 && header.state == 1, "family and state");
+    check(header.timer == 1 && header.retransmits == 3 && header.expires == 200, "timer");
+    check(header.source_port == 80 && header.destination_port == 49152, "ports");
+    check(memcmp(header.source_address, source, 16) == 0, "source address");
+    check(memcmp(header.destination_address, destination, 16) == 0, "destination address");
+    check(header.interface_id == 4 && header.cookie[0] == 8 && header.cookie[7] == 1,
+          "interface and cookie");
+    check(header.recv_queue == 1 && header.send_queue == 2, "queues");
+    check(header.uid == 1000 && header.inode == 12345, "user and inode");
+}
+
+static void checks_messages(void) {
+    static const uint8_t packet[2] = {17, 0};
+    struct sockdiag_reply reply;
+    memset(&reply, 0, sizeof reply);
+    check(sockdiag_check_message(unix_reply, 1, 20, &reply) == SOCKDIAG_MESSAGE_TOO_SHORT,
+          "a short payload");
+    check(sockdiag_check_message(unix_reply, 36, 21, &reply) == SOCKDIAG_UNKNOWN_MESSAGE_TYPE,
+          "another type");
+    check(sockdiag_check_message(packet, 2, 20, &reply) == SOCKDIAG_UNKNOWN_FAMILY,
+          "a packet socket");
+    check(reply.kind == 0, "the reply is written for a rejected message");
+    check(sockdiag_check_message(unix_reply, 36, 20, &reply) == 0, "a message");
+    check(reply.kind == SOCKDIAG_UNIX && reply.unix_header.inode == 0x11223344,
+          "a message about a UNIX socket");
+    check(sockdiag_check_message(inet_reply, 72, 20, &reply) == 0, "an internet message");
+    check(reply.kind == SOCKDIAG_INET && reply.inet_header.inode == 12345,
+          "a message about an internet socket");
+    check(reply.unix_header.inode == 0x11223344, "the other header changes");
+}
+
+/* Writes an attribute at an offset, and returns the offset after its padding. */
+static size_t put(uint8_t *bytes, size_t at, uint8_t kind, const char *value, size_t length) {
+    memset(bytes + at, 0, length + 7);
+    bytes[at] = (uint8_t)(4 + length);
+    bytes[at + 2] = kind;
+    memcpy(bytes + at + 4, value, length);
+    return at + (length + 7) / 4 * 4;
+}
+
+static int is(struct sockdiag_number number, uint32_t value) {
+    return number.is_told == 1 && number.value == value;
+}
+
+static void tells_unix_details(void) {
+    static const char memory[36] = {0, 0, 0, 0, 9, 0, 0, 0, 0, 0, 0,
+                                    0, 10, 0, 0, 0, 0, 0, 0, 0, 11};
+    uint8_t bytes[256];
+    struct sockdiag_unix_details details, none;
+    uint32_t inode = 5;
+    size_t end;
+    memset(&details, 0, sizeof details);
+    check(sockdiag_unix_get_details(unix_reply, sizeof unix_reply, &details) == SOCKDIAG_OK,
+          "details of a UNIX reply");
+    check(details.header.kind == 1 && details.header.inode == 0x11223344, "a header in details");
+    check(details.name.kind == SOCKDIAG_TEXT && details.name.length == 2, "a pathname");
+    check(details.name.bytes == unix_reply + 20 && is(details.peer, 0x12345678),
+          "a pathname's offset, and a peer");
+    check(details.shutdown.is_told == 0 && details.shutdown.value == 0, "a number that is absent");
+    memcpy(bytes, unix_reply, 16);
+    end = put(bytes, 16, 0, "\0a\0b", 4);
+    end = put(bytes, end, 1, "\1\0\0\0\2\0\0\0", 8);
+    end = put(bytes, end, 2, "\3\0\0\0", 4);
+    end = put(bytes, end, 3, "\4\0\0\0\5\1\0\0", 8);
+    end = put(bytes, end, 4, "\6\0\0\0\7\0\0\0", 8);
+    end = put(bytes, end, 5, memory, 36);
+    end = put(bytes, end, 6, "\10", 1);
+    end = put(bytes, end, 2, "\14\0\0\0", 4);
+    check(sockdiag_unix_get_details(bytes, end, &details) == SOCKDIAG_OK,
+          "all details of a UNIX reply");
+    check(details.name.kind == SOCKDIAG_ABSTRACT && details.name.length == 3, "an abstract name");
+    check(memcmp(details.name.bytes, "a\0b", 3) == 0, "an abstract name's bytes");
+    check(is(details.file_inode, 1) && is(details.file_device, 2) && is(details.peer, 3),
+          "file and first peer");
+    check(is(details.recv_queue, 6) && is(details.send_queue, 7) && is(details.shutdown, 8),
+          "queues and shutdown");
+    check(is(details.receive_buffer, 9) && is(details.send_buffer, 10) && is(details.queued, 11),
+          "memory");
+    check(sockdiag_unix_get_pending(bytes, end, 2, &inode) == SOCKDIAG_END && inode == 5,
+          "no third connection");
+    check(sockdiag_unix_get_pending(bytes, end, 1, &inode) == SOCKDIAG_ITEM && inode == 261,
+          "a pending connection");
+    check(sockdiag_unix_get_pending(bytes, 15, 0, &inode) == SOCKDIAG_END,
+          "connections of a rejected reply");
+    none = details;
+    check(sockdiag_unix_get_details(bytes, 22, &details) == SOCKDIAG_ATTRIBUTE_LENGTH_PAST,
+          "details of a truncated reply");
+    check(memcmp(&none, &details, sizeof none) == 0, "details are written for a rejected reply");
+    check(sockdiag_unix_get_details(NULL, 0, &details) == SOCKDIAG_BUFFER_TOO_SMALL,
+          "no bytes at a null pointer");
+}
+
+static void tells_inet_details(void) {
+    uint8_t bytes[512], value[240];
+    struct sockdiag_inet_details details;
+    struct sockdiag_tcp_info info;
+    struct sockdiag_inet_memory memory;
+    size_t end, place;
+    memset(&details, 0, sizeof details);
+    memcpy(bytes, inet_reply, 72);
+    end = put(bytes, 72, 4, "cubic", 6);
+    end = put(bytes, end, 5, "\1", 1);
+    end = put(bytes, end, 6, "\2", 1);
+    end = put(bytes, end, 8, "\3", 1);
+    end = put(bytes, end, 10, "\4", 1);
+    end = put(bytes, end, 11, "\5", 1);
+    end = put(bytes, end, 15, "\6\0\0\0", 4);
+    end = put(bytes, end, 17, "\7\0\0\0", 4);
+    check(sockdiag_inet_get_details(bytes, end, &details) == SOCKDIAG_OK,
+          "details of an internet reply");
+    check(details.header.inode == 12345 && details.congestion.kind == SOCKDIAG_TEXT,
+          "header and algorithm");
+    check(details.congestion.length == 5 && memcmp(details.congestion.bytes, "cubic", 5) == 0,
+          "cubic");
+    check(is(details.tos, 1) && is(details.tclass, 2) && is(details.shutdown, 3),
+          "service, class and shutdown");
+    check(is(details.protocol, 4) && is(details.v6only, 1), "protocol and IPv6 only");
+    check(is(details.mark, 6) && is(details.class_id, 7), "mark and class");
+    check(sockdiag_inet_get_tcp_info(bytes, end, &info) == 0 && info.state == 0,
+          "no TCP connection");
+    for (place = 0; place < sizeof value; place++)
+        value[place] = (uint8_t)place;
+    end = put(bytes, end, 2, (const char *)value, sizeof value);
+    check(sockdiag_inet_get_details(bytes, end, &details) == SOCKDIAG_OK, "a TCP connection");
+    check(sockdiag_inet_get_tcp_info(bytes, end, &info) == 240 &&
+          memcmp(&info, value, sizeof info) == 0, "its bytes");
+    check(info.rtt == 0x47464544 && info.pacing_rate == 0x6f6e6d6c6b6a6968 &&
+          info.snd_wnd == 0xe7e6e5e4, "its fields");
+    check(sockdiag_inet_get_memory(bytes, end, &memory) == 0 && memory.drops == 0, "no memory");
+    end = put(bytes, end, 7, (const char *)value, 32);
+    check(sockdiag_inet_get_memory(bytes, end, &memory) == 32, "memory");
+    check(memory.receive_queue == 0x03020100 && memory.backlog_queue_length == 0x1f1e1d1c,
+          "its words");
+    check(memory.drops == 0, "a field that is absent");
+    put(bytes, 72, 2, (const char *)value, 5);
+    check(sockdiag_inet_get_details(bytes, 84, &details) == SOCKDIAG_BUFFER_TOO_SMALL,
+          "a short TCP connection");
+    check(sockdiag_inet_get_tcp_info(bytes, 84, &info) == 5 && info.backoff == 4 && info.rto == 0,
+          "its five bytes");
+    check(sockdiag_inet_get_tcp_info(NULL, 0, &info) == 0 && info.backoff == 0,
+          "nothing at a null pointer");
+}
+
+/* Converts hexadecimal digits to bytes, and returns how many bytes there are. */
+static size_t unhex(const char *digits, uint8_t *bytes) {
+    size_t length = strlen(digits) / 2, at;
+    unsigned byte = 0;
+    for (at = 0; at < length; at++) {
+        sscanf(digits + 2 * at, "%2x", &byte);
+        bytes[at] = (uint8_t)byte;
+    }
+    return length;
+}
+
+/* A reply that Linux 6.18 sent about a NETLINK_ROUTE socket that listens to the groups 1 and 5. */
+static void tells_netlink_details(void) {
+    uint8_t bytes[256];
+    struct sockdiag_netlink_details details, before;
+    size_t end = unhex(
+        "100300076a1800000000000000000000ff53010001100000000000000c00010011000000000000002800000000000000"
+        "00400300000000000040030000000000000000000000000000000000000000000800040020000000",
+        bytes);
+    memset(&details, 0xaa, sizeof details);
+    check(sockdiag_netlink_get_details(bytes, end, &details) == SOCKDIAG_OK, "a netlink reply");
+    check(details.header.kind == 3 && details.header.protocol == 0 && details.header.state == 7,
+          "a netlink header");
+    check(details.header.port == 6250 && details.header.inode == 87039 &&
+          details.header.cookie == 4097, "its numbers");
+    check(details.groups.kind == SOCKDIAG_BYTES && details.groups.length == 8, "groups");
+    check(details.groups.bytes == bytes + 32 && is(details.flags, 32),
+          "their offset, and flags");
+    check(is(details.memory.receive_queue_max, 212992) && is(details.memory.drops, 0),
+          "memory of a netlink socket");
+    before = details;
+    check(sockdiag_netlink_get_details(bytes, 27, &details) == SOCKDIAG_BUFFER_TOO_SMALL,
+          "a truncated netlink header");
+    bytes[end - 8] = 7;
+    check(sockdiag_netlink_get_details(bytes, end, &details) == SOCKDIAG_WRONG_LENGTH,
+          "flags of three bytes");
+    check(memcmp(&details, &before, sizeof before) == 0,
+          "details are written for a rejected netlink reply");
+    check(sockdiag_netlink_get_details(bytes, 28, &details) == SOCKDIAG_OK &&
+          !details.flags.is_told, "no flags");
+    check(details.groups.kind == 0 && details.memory.options.is_told == 0,
+          "neither groups nor memory");
+}
+
+/* A reply that it sent about a socket for IPv4 packets of the loopback interface, with a ring, a
+ * filter and a fanout. */
+static void tells_packet_details(void) {
+    uint8_t bytes[256];
+    struct sockdiag_packet_details details;
+    size_t end = unhex(
+        "110300080054010003100000000000001c00000001000000000000000000000000000000000000000100000008000500"
+        "000000003000010001000000010000000000060001005e0000fb00000000000000000000000000000000000000000000"
+        "000000002000020000100000020000000008000004000000000000000000000000000000080004000700000028000600"
+        "0000000000400300000000000040030000000000000000008800000000000000000000000c00070006000000ffff0000",
+        bytes);
+    memset(&details, 0, sizeof details);
+    details.send_ring.frames = 9;
+    check(sockdiag_packet_get_details(bytes, end, &details) == SOCKDIAG_OK, "a packet reply");
+    check(details.header.kind == 3 && details.header.protocol == 0x800, "a packet header");
+    check(details.header.inode == 87040 && details.header.cookie == 4099, "its numbers");
+    check(details.has_info == 1 && details.info.interface == 1 && details.info.flags == 1,
+          "its settings");
+    check(details.addresses.length == 44 && details.addresses.bytes[17] == 0xfb, "addresses");
+    check(details.has_receive_ring == 1 && details.receive_ring.block_size == 4096, "a ring");
+    check(details.receive_ring.blocks == 2 && details.receive_ring.frames == 4,
+          "its blocks and frames");
+    check(details.has_send_ring == 0 && details.send_ring.frames == 9, "a ring that is absent");
+    check(is(details.owner, 0) && is(details.fanout, 7) && is(details.memory.options, 136),
+          "owner, fanout and memory");
+    check(details.filter.kind == SOCKDIAG_BYTES && details.filter.length == 8, "a filter");
+    check(memcmp(details.filter.bytes, "\6\0\0\0\377\377\0", 8) == 0, "its step");
+    bytes[16] = 23;
+    check(sockdiag_packet_get_details(bytes, 40, &details) == SOCKDIAG_BUFFER_TOO_SMALL,
+          "a record of 19 bytes");
+}
+
+/* A reply about a listening socket of the host at port 22, and one about a socket at queue 1 of
+ * interface 3, with rings, memory and counters. */
+static void tells_vsock_and_xdp_details(void) {
+    uint8_t bytes[256];
+    struct sockdiag_vsock_header vsock;
+    struct sockdiag_xdp_details details;
+    size_t end = unhex("28010a000200000016000000ffffffffffffffff0a5000000500000000000000", bytes);
+    memset(&vsock, 0, sizeof vsock);
+    memset(&details, 0, sizeof details);
+    check(sockdiag_vsock_get_details(bytes, end - 1, &vsock) == SOCKDIAG_BUFFER_TOO_SMALL,
+          "a truncated vsock header");
+    check(sockdiag_vsock_get_details(bytes, end, &vsock) == SOCKDIAG_OK, "a vsock reply");
+    check(vsock.kind == 1 && vsock.state == 10 && vsock.shutdown == 0, "a vsock header");
+    check(vsock.source_context == 2 && vsock.source_port == 22 &&
+          vsock.destination_port == UINT32_MAX, "its ends");
+    check(vsock.inode == 20490 && vsock.cookie == 5, "its inode and cookie");
+    end = unhex(
+        "2c0300000b00000006000000000000000c000100030000000100000008000200e803000008000300000800002c000500"
+        "000040000000000002000000000400000010000000000000030000000100000001000000010000000800060000100000"
+        "340009000100000000000000020000000000000003000000000000000400000000000000050000000000000006000000"
+        "00000000",
+        bytes);
+    check(sockdiag_xdp_get_details(bytes, end, &details) == SOCKDIAG_OK, "an XDP reply");
+    check(details.header.kind == 3 && details.header.inode == 11 && details.header.cookie == 6,
+          "an XDP header");
+    check(details.has_info == 1 && details.info.interface == 3 && details.info.queue == 1,
+          "its interface and queue");
+    check(is(details.owner, 1000) && is(details.receive_ring, 2048) && !details.send_ring.is_told,
+          "owner and rings");
+    check(details.has_umem == 1 && details.umem.size == 4194304 && details.umem.references == 1,
+          "its shared memory");
+    check(is(details.fill_ring, 4096) && !details.completion_ring.is_told &&
+          !details.memory.cache.is_told, "its rings");
+    check(details.has_statistics == 1 && details.statistics.received_dropped == 1,
+          "its statistics");
+    check(details.statistics.fill_ring_empty == 4 && details.statistics.send_ring_empty == 6,
+          "its counts");
+}
+
+static void tells_numbers_in_words(void) {
+    static const uint8_t refused[5] = {0xfe, 0xff, 0xff, 0xff, 9};
+    int32_t number = 7;
+    uint32_t fault;
+    check(sockdiag_get_error_number(refused, 3, &number) == SOCKDIAG_END && number == 7,
+          "no errno");
+    check(sockdiag_get_error_number(refused, 5, &number) == SOCKDIAG_ITEM && number == -2,
+          "ENOENT");
+    for (fault = SOCKDIAG_BUFFER_TOO_SMALL; fault <= SOCKDIAG_ENVELOPE_LENGTH_PAST; fault++)
+        check(strcmp(sockdiag_fault_text(fault), sockdiag_fault_text(fault + 1)) != 0,
+              "the text of an error");
+    check(strcmp(sockdiag_fault_text(SOCKDIAG_OK), "no error") == 0, "the text of no error");
+    check(strcmp(sockdiag_fault_text(19), "unknown error code") == 0,
+          "the text of an unknown error");
+}
+
+static void walks_attributes(void) {
+    struct sockdiag_cursor cursor = {SOCKDIAG_UNIX_ATTRIBUTES};
+    struct sockdiag_attribute attribute = {0, 0, 0};
+    check(sockdiag_next_attribute(unix_reply, 36, &cursor, &attribute) == 1, "the first attribute");
+    check(attribute.type_word == 0 && attribute.offset == 20 && attribute.length == 3 &&
+          cursor.place == 24, "a name");
+    check(sockdiag_next_attribute(unix_reply, 36, &cursor, &attribute) == 1,
+          "the second attribute");
+    check(attribute.type_word == 2 && attribute.offset == 28 && attribute.length == 4 &&
+          cursor.place == 32, "a peer");
+    check(sockdiag_next_attribute(unix_reply, 36, &cursor, &attribute) == 1, "the third attribute");
+    check(attribute.type_word == 0x63 && attribute.length == 0 && cursor.place == 36,
+          "an attribute without value");
+    check(sockdiag_next_attribute(unix_reply, 36, &cursor, &attribute) == 0,
+          "the end of the attributes");
+    cursor.place = SIZE_MAX;
+    check(sockdiag_next_attribute(unix_reply, 36, &cursor, &attribute) == 0,
+          "an offset after the end");
+    cursor.place = 24;
+    check(sockdiag_next_attribute(unix_reply, 31, &cursor, &attribute)
+              == SOCKDIAG_ATTRIBUTE_LENGTH_PAST,
+          "a truncated value");
+    check(attribute.type_word == 0x63, "the attribute is written on an error");
+    check(sockdiag_next_attribute(unix_reply, 31, &cursor, &attribute) == 0,
+          "the iteration continues after an error");
+}
+
+/* Writes four messages and two more bytes: a reply, an NLMSG_NOOP, a message whose payload is
+ * rejected, and the end of a dump. */
+static size_t make_datagram(uint8_t *bytes) {
+    static const uint8_t headers[4][16] = {
+        {52, 0, 0, 0, 20, 0, 2, 0, 7, 0, 0, 0, 9, 0, 0, 0},
+        {17, 0, 0, 0, 1, 0, 0, 0, 7, 0, 0, 0, 9, 0, 0, 0},
+        {18, 0, 0, 0, 20, 0, 0, 0, 7, 0, 0, 0, 9, 0, 0, 0},
+        {20, 0, 0, 0, 3, 0, 2, 0, 7, 0, 0, 0, 9, 0, 0, 0},
+    };
+    memset(bytes, 0, 128);
+    memcpy(bytes, headers[0], 16);
+    memcpy(bytes + 16, unix_reply, 36);
+    memcpy(bytes + 52, headers[1], 16);
+    memcpy(bytes + 72, headers[2], 16);
+    memcpy(bytes + 92, headers[3], 16);
+    return 114;
+}
+
+static void walks_messages(void) {
+    uint8_t bytes[128];
+    size_t length = make_datagram(bytes);
+    struct sockdiag_cursor cursor = {0};
+    struct sockdiag_message message;
+    memset(&message, 0, sizeof message);
+    check(sockdiag_next_message(bytes, length, &cursor, &message) == 1, "a reply in a datagram");
+    check(message.message_type == 20 && message.offset == 16 && message.length == 36,
+          "the offset of a payload");
+    check(message.flags == 2 && message.sequence_number == 7 && message.port_number == 9,
+          "the fields of a header");
+    check(sockdiag_next_message(bytes, length, &cursor, &message) == 1, "NLMSG_NOOP");
+    check(message.message_type == 1 && message.offset == 68 && message.length == 1, "its payload");
+    check(sockdiag_next_message(bytes, length, &cursor, &message) == SOCKDIAG_UNKNOWN_FAMILY,
+          "a rejected payload");
+    check(message.message_type == 20 && message.offset == 88 && message.length == 2,
+          "the offset of a rejected payload");
+    check(sockdiag_next_message(bytes, length, &cursor, &message) == 1, "the end of a dump");
+    check(message.message_type == 3 && message.offset == 108 && message.length == 4,
+          "the end's payload");
+    check(cursor.place == 112, "the offset after the end of the dump");
+    check(sockdiag_next_message(bytes, length, &cursor, &message) == SOCKDIAG_ENVELOPE_CUT,
+          "two remaining bytes");
+    check(message.message_type == 3, "the message is written on an error");
+    check(sockdiag_next_message(bytes, length, &cursor, &message) == 0,
+          "the end of an iteration over messages");
+}
+
+/* Fields are set by their names, not in order, so that two swapped fields are seen. */
+static void set_header(struct sockdiag_request_header *header, uint32_t sequence_number) {
+    header->flags = 0x301;
+    header->sequence_number = sequence_number;
+    header->port_number = 0x0d0c0b0a;
+}
+
+static void writes_unix_request(void) {
+    static const uint8_t want[40] = {
+        40, 0, 0, 0, 20, 0, 1, 3, 5, 0, 0, 0, 10, 11, 12, 13,
+        1, 0, 0, 0, 0xff, 0xfe, 0xff, 0xff, 6, 0, 0, 0, 0x3f, 0, 0, 0, 1, 2, 3, 4, 5, 6, 7, 8,
+    };
+    struct sockdiag_unix_request request;
+    uint8_t buffer[48], before[48];
+    set_header(&request.header, 5);
+    request.states = 0xfffffeff;
+    request.inode = 6;
+    request.show = 0x3f;
+    memcpy(request.cookie, want + 32, 8);
+    memset(buffer, 0xaa, sizeof buffer);
+    memcpy(before, buffer, sizeof buffer);
+    check(sockdiag_write_unix_request(&request, buffer, 39) == 0, "a short buffer");
+    check(memcmp(buffer, before, sizeof buffer) == 0, "a short buffer is written to");
+    check(sockdiag_write_unix_request(&request, buffer, sizeof buffer) == 40, "a UNIX request");
+    check(memcmp(buffer, want, 40) == 0, "a UNIX request's bytes");
+    check(memcmp(buffer + 40, before + 40, 8) == 0, "the bytes after a request");
+    check(sockdiag_write_unix_destroy(&request, buffer, 40) == 40 && buffer[4] == 21,
+          "a UNIX destroy");
+    check(memcmp(buffer + 5, want + 5, 35) == 0, "a UNIX destroy's bytes");
+}
+
+static void writes_inet_request(void) {
+    static const uint8_t want[72] = {
+        72, 0, 0, 0, 20, 0, 1, 3, 6, 0, 0, 0, 10, 11, 12, 13,
+        10, 6, 0x41, 0, 0, 4, 0, 0, 0, 80, 0x1f, 0x90,
+        0xfe, 0x80, 0, 0, 0, 0, 0, 0, 0, 0, 0, 0, 0, 0, 0, 1,
+        0, 0, 0, 0, 0, 0, 0, 0, 0, 0, 0, 0, 0, 0, 0, 2,
+        3, 0, 0, 0, 8, 7, 6, 5, 4, 3, 2, 1,
+    };
+    static const uint8_t attribute[8] = {8, 0, 3, 0, 6, 1, 0, 0};
+    struct sockdiag_inet_request request;
+    uint8_t buffer[80];
+    set_header(&request.header, 6);
+    request.family = 10;
+    request.extensions = 0x41;
+    request.protocol = 6;
+    request.states = 0x400;
+    request.source_port = 80;
+    request.destination_port = 8080;
+    memcpy(request.source_address, want + 28, 16);
+    memcpy(request.destination_address, want + 44, 16);
+    request.interface_id = 3;
+    memcpy(request.cookie, want + 64, 8);
+    check(sockdiag_write_inet_request(&request, buffer, 71) == 0,
+          "a short buffer for an internet request");
+    check(sockdiag_write_inet_request(&request, buffer, 72) == 72, "an internet request");
+    check(memcmp(buffer, want, 72) == 0, "an internet request's bytes");
+    request.family = 2;
+    check(sockdiag_write_inet_request(&request, buffer, 72) == 72, "an IPv4 request");
+    check(buffer[16] == 2 && buffer[28] == 0xfe && buffer[29] == 0x80 && buffer[43] == 0,
+          "an IPv4 address and zeros");
+    check(sockdiag_write_inet_destroy(&request, buffer, 72) == 72 && buffer[4] == 21 &&
+          buffer[17] == 6, "a destroy");
+    request.protocol = 262;
+    check(sockdiag_write_inet_request(&request, buffer, 79) == 0, "a short buffer for a protocol");
+    check(sockdiag_write_inet_request(&request, buffer, 80) == 80, "a request for MPTCP");
+    check(buffer[0] == 80 && buffer[4] == 20 && buffer[17] == 6 &&
+          memcmp(buffer + 72, attribute, 8) == 0, "its protocol");
+    request.family = 1;
+    check(sockdiag_write_inet_request(&request, buffer, 72) == 0, "a request of another family");
+}
+
+static void writes_family_requests(void) {
+    static const uint8_t want[36] = {
+        36, 0, 0, 0, 20, 0, 1, 3, 5, 0, 0, 0, 10, 11, 12, 13,
+        16, 255, 0, 0, 6, 0, 0, 0, 0xb, 0, 0, 0, 8, 7, 6, 5, 4, 3, 2, 1,
+    };
+    static const uint8_t vsock[24] = {40, 0, 0, 0, 0, 4, 0, 0, 0, 0, 0, 0, 0, 0, 0, 0, 9};
+    struct sockdiag_show_request request;
+    struct sockdiag_vsock_request other;
+    uint8_t buffer[41];
+    set_header(&request.header, 5);
+    request.family = 16;
+    request.protocol = 255;
+    request.inode = 6;
+    request.show = 0xb;
+    request.cookie = 0x102030405060708;
+    set_header(&other.header, 5);
+    other.states = 0x400;
+    other.cookie = 9;
+    memset(buffer, 0xaa, sizeof buffer);
+    check(sockdiag_write_show_request(&request, buffer, 35) == 0 && buffer[0] == 0xaa,
+          "a short buffer for a request");
+    check(sockdiag_write_show_request(&request, buffer, 41) == 36, "a netlink request");
+    check(memcmp(buffer, want, 36) == 0 && buffer[36] == 0xaa,
+          "its bytes, and those after it");
+    request.family = 44;
+    check(sockdiag_write_show_request(&request, buffer, 36) == 36 && buffer[16] == 44,
+          "an XDP request");
+    check(memcmp(buffer + 17, want + 17, 19) == 0, "its other bytes");
+    request.family = 40;
+    check(sockdiag_write_show_request(&request, buffer, 36) == 0,
+          "a vsock request of another form");
+    check(sockdiag_write_vsock_request(&other, buffer, 39) == 0,
+          "a short buffer for a vsock request");
+    check(sockdiag_write_vsock_request(&other, buffer, 41) == 40 && buffer[0] == 40 &&
+          buffer[4] == 20, "a vsock request");
+    check(memcmp(buffer + 16, vsock, 24) == 0 && buffer[40] == 0xaa, "its record");
+}
+
+static void writes_filtered_request(void) {
+    static const uint8_t filter[13] = {8, 0, 1, 0, 1, 2, 3, 4, 5, 0, 2, 0, 9};
+    struct sockdiag_inet_request request;
+    struct sockdiag_outcome outcome = {9, 9};
+    uint8_t plain[80], buffer[100];
+    memset(&request, 0, sizeof request);
+    memset(buffer, 0xaa, sizeof buffer);
+    request.family = 10;
+    request.protocol = 262;
+    check(sockdiag_write_inet_request(&request, plain, sizeof plain) == 80,
+          "a request without attributes");
+    check(sockdiag_write_inet_request_with_attributes(&request, filter, 13, buffer, 95,
+                                                      &outcome) == 0,
+          "a short buffer");
+    check(outcome.fault == 0 && outcome.needed == 96 && buffer[0] == 0xaa,
+          "the length of a filtered request");
+    check(sockdiag_write_inet_request_with_attributes(&request, filter, 13, buffer, 100,
+                                                      &outcome) == 96,
+          "a filter");
+    check(buffer[0] == 96 && memcmp(buffer + 1, plain + 1, 79) == 0,
+          "the request before a filter");
+    check(memcmp(buffer + 80, filter, 13) == 0 && memcmp(buffer + 93, "\0\0\0\xaa", 4) == 0,
+          "a filter and its padding");
+    check(sockdiag_write_inet_request_with_attributes(&request, filter, 11, buffer, 100,
+                                                      &outcome) == 0,
+          "a truncated filter");
+    check(outcome.fault == SOCKDIAG_ATTRIBUTE_HEADER_CUT && outcome.needed == 0,
+          "the error of a rejected filter");
+    check(sockdiag_write_inet_request_with_attributes(&request, NULL, 0, buffer, 80,
+                                                      &outcome) == 80,
+          "no attributes");
+    check(memcmp(buffer, plain, 80) == 0, "a request with no attributes");
+    request.family = 1;
+    check(sockdiag_write_inet_request_with_attributes(&request, filter, 13, buffer, 100,
+                                                      &outcome) == 0,
+          "a family");
+    check(outcome.fault == 0 && outcome.needed == 0, "a request for another family");
+}
+
+static void rewrites_unix_reply(void) {
+    uint8_t want[36], buffer[40];
+    struct sockdiag_outcome outcome;
+    memset(&outcome, 0xaa, sizeof outcome);
+    memset(buffer, 0xaa, sizeof buffer);
+    memcpy(want, unix_reply, sizeof want);
+    want[3] = 0;
+    want[23] = 0;
+    check(sockdiag_rewrite_unix_reply(unix_reply, 36, buffer, 35, &outcome) == 0,
+          "a short buffer for a reply");
+    check(outcome.fault == 0 && outcome.needed == 36, "the length of the canonical form");
+    check(buffer[0] == 0xaa && buffer[34] == 0xaa, "a short buffer is written to in part");
+    check(sockdiag_rewrite_unix_reply(unix_reply, 36, buffer, 40, &outcome) == 36,
+          "a canonical UNIX reply");
+    check(outcome.fault == 0 && outcome.needed == 36 && memcmp(buffer, want, 36) == 0, "its bytes");
+    check(buffer[36] == 0xaa, "the bytes after the canonical form");
+    check(sockdiag_rewrite_unix_reply(unix_reply, 15, buffer, 40, &outcome) == 0,
+          "a rejected UNIX reply");
+    check(outcome.fault == SOCKDIAG_BUFFER_TOO_SMALL && outcome.needed == 0, "its error");
+}
+
+static void rewrites_inet_reply(void) {
+    uint8_t want[72], buffer[72];
+    struct sockdiag_outcome outcome = {0, 0};
+    memcpy(want, inet_reply, sizeof want);
+    memset(want + 12, 0, 12);
+    memset(want + 28, 0, 12);
+    check(sockdiag_rewrite_inet_reply(inet_reply, 72, buffer, 72, &outcome) == 72,
+          "a canonical internet reply");
+    check(memcmp(buffer, want, 72) == 0, "an internet reply's bytes");
+    check(sockdiag_rewrite_inet_reply(unix_reply, 36, buffer, 72, &outcome) == 0,
+          "a rejected internet reply");
+    check(outcome.fault == SOCKDIAG_BUFFER_TOO_SMALL, "the error of a rejected internet reply");
+}
+
+/* Sets each byte to the low byte of its offset, so that fields at different offsets differ. */
+static void number_bytes(uint8_t *bytes, size_t length) {
+    size_t place;
+    for (place = 0; place < length; place++)
+        bytes[place] = (uint8_t)place;
+}
+
+/* Writes the header of an attribute at the end, and moves the end after its value and padding.
+ * Returns the offset of the value, whose bytes are unchanged. */
+static size_t begin(uint8_t *bytes, size_t *end, uint8_t kind, uint8_t length) {
+    const uint8_t header[4] = {(uint8_t)(4 + length), 0, kind, 0};
+    const size_t value = *end + 4;
+    memcpy(bytes + *end, header, 4);
+    *end += (length + 7u) / 4 * 4;
+    return value;
+}
+
+static void check_number(uint64_t found, const uint8_t *bytes, size_t size, const char *what) {
+    uint64_t number = 0;
+    while (size-- > 0)
+        number = number << 8 | bytes[size];
+    check(found == number, what);
+}
+
+/* The field has the little-endian number at these bytes. */
+#define FIELD(field, bytes) check_number(field, bytes, sizeof(field), #field)
+/* The number is present, and is the little-endian one of this size at these bytes. */
+#define TOLD(number, bytes, size) \
+    (check((number).is_told == 1, #number), check_number((number).value, bytes, size, #number))
+/* The text is the one at these bytes. */
+#define TEXT(text, a_kind, at, a_length) \
+    check((text).kind == (a_kind) && (text).bytes == (at) && (text).length == (a_length), #text)
+
+static void reads_each_field_of_unix(void) {
+    uint8_t bytes[128];
+    struct sockdiag_unix_details it;
+    size_t end = SOCKDIAG_UNIX_ATTRIBUTES, name, file, peer, queues, memory, shutdown;
+    memset(&it, 0xaa, sizeof it);
+    number_bytes(bytes, sizeof bytes);
+    name = begin(bytes, &end, SOCKDIAG_UNIX_DIAG_NAME, 4);
+    bytes[name] = 0;
+    file = begin(bytes, &end, SOCKDIAG_UNIX_DIAG_VFS, 8);
+    peer = begin(bytes, &end, SOCKDIAG_UNIX_DIAG_PEER, 4);
+    queues = begin(bytes, &end, SOCKDIAG_UNIX_DIAG_RQLEN, 8);
+    memory = begin(bytes, &end, SOCKDIAG_UNIX_DIAG_MEMINFO, 36);
+    shutdown = begin(bytes, &end, SOCKDIAG_UNIX_DIAG_SHUTDOWN, 1);
+    check(sockdiag_unix_get_details(bytes, end, &it) == SOCKDIAG_OK, "all fields of a UNIX reply");
+    FIELD(it.header.kind, bytes + 1);
+    FIELD(it.header.state, bytes + 2);
+    FIELD(it.header.inode, bytes + 4);
+    check(memcmp(it.header.cookie, bytes + 8, 8) == 0, "it.header.cookie");
+    TEXT(it.name, SOCKDIAG_ABSTRACT, bytes + name + 1, 3);
+    TOLD(it.file_inode, bytes + file, 4);
+    TOLD(it.file_device, bytes + file + 4, 4);
+    TOLD(it.peer, bytes + peer, 4);
+    TOLD(it.recv_queue, bytes + queues, 4);
+    TOLD(it.send_queue, bytes + queues + 4, 4);
+    TOLD(it.receive_buffer, bytes + memory + 4, 4);
+    TOLD(it.send_buffer, bytes + memory + 12, 4);
+    TOLD(it.queued, bytes + memory + 20, 4);
+    TOLD(it.shutdown, bytes + shutdown, 1);
+}
+
+/* Checks a header with the bytes 10, 11, timer, 3, 4, 5, .. */
+static void check_inet_header(const struct sockdiag_inet_header *it, const uint8_t *bytes) {
+    FIELD(it->family, bytes);
+    FIELD(it->state, bytes + 1);
+    FIELD(it->timer, bytes + 2);
+    check(it->source_port == 0x0405 && it->destination_port == 0x0607, "the ports of a header");
+    check(memcmp(it->source_address, bytes + 8, 16) == 0, "it->source_address");
+    check(memcmp(it->destination_address, bytes + 24, 16) == 0, "it->destination_address");
+    FIELD(it->interface_id, bytes + 40);
+    check(memcmp(it->cookie, bytes + 44, 8) == 0, "it->cookie");
+    FIELD(it->recv_queue, bytes + 56);
+    FIELD(it->send_queue, bytes + 60);
+    FIELD(it->uid, bytes + 64);
+    FIELD(it->inode, bytes + 68);
+}
+
+/* By timer: whether a header has the retransmissions and the time. */
+static void reads_each_field_of_inet_headers(void) {
+    static const int retransmits[6] = {0, 1, 0, 0, 0, 0}, expires[6] = {0, 1, 1, 0, 1, 0};
+    uint8_t bytes[SOCKDIAG_INET_ATTRIBUTES];
+    struct sockdiag_inet_header it;
+    uint8_t timer;
+    for (timer = 0; timer < 6; timer++) {
+        number_bytes(bytes, sizeof bytes);
+        bytes[0] = 10;
+        bytes[1] = 11;
+        bytes[2] = timer;
+        memset(&it, 0xaa, sizeof it);
+        check(sockdiag_check_inet_reply(bytes, sizeof bytes, &it) == SOCKDIAG_OK, "a timer");
+        check_number(it.retransmits, bytes + 3, retransmits[timer], "it.retransmits");
+        check_number(it.expires, bytes + 52, expires[timer] ? 4 : 0, "it.expires");
+        bytes[2] = timer < 5 ? timer : 0;
+        check_inet_header(&it, bytes);
+    }
+}
+
+static void reads_each_field_of_inet(void) {
+    uint8_t bytes[160];
+    struct sockdiag_inet_details it;
+    size_t end = SOCKDIAG_INET_ATTRIBUTES, name, tos, tclass, shutdown, protocol, mark, class_id;
+    memset(&it, 0xaa, sizeof it);
+    number_bytes(bytes, sizeof bytes);
+    bytes[0] = 10;
+    bytes[1] = 11;
+    bytes[2] = 0;
+    name = begin(bytes, &end, SOCKDIAG_INET_DIAG_CONG, 4);
+    bytes[name + 3] = 0;
+    tos = begin(bytes, &end, SOCKDIAG_INET_DIAG_TOS, 1);
+    tclass = begin(bytes, &end, SOCKDIAG_INET_DIAG_TCLASS, 1);
+    shutdown = begin(bytes, &end, SOCKDIAG_INET_DIAG_SHUTDOWN, 1);
+    protocol = begin(bytes, &end, SOCKDIAG_INET_DIAG_PROTOCOL, 1);
+    begin(bytes, &end, SOCKDIAG_INET_DIAG_SKV6ONLY, 1);
+    mark = begin(bytes, &end, SOCKDIAG_INET_DIAG_MARK, 4);
+    class_id = begin(bytes, &end, SOCKDIAG_INET_DIAG_CLASS_ID, 4);
+    check(sockdiag_inet_get_details(bytes, end, &it) == SOCKDIAG_OK,
+          "all fields of an internet reply");
+    check_inet_header(&it.header, bytes);
+    TEXT(it.congestion, SOCKDIAG_TEXT, bytes + name, 3);
+    TOLD(it.tos, bytes + tos, 1);
+    TOLD(it.tclass, bytes + tclass, 1);
+    TOLD(it.shutdown, bytes + shutdown, 1);
+    TOLD(it.protocol, bytes + protocol, 1);
+    check(is(it.v6only, 1), "it.v6only");
+    TOLD(it.mark, bytes + mark, 4);
+    TOLD(it.class_id, bytes + class_id, 4);
+}
+
+/* Checks the fields of 4 bytes, which are consecutive in struct tcp_info. */
+static void check_words_of_tcp_info(const struct sockdiag_tcp_info *it, const uint8_t *at) {
+    const uint32_t first[24] = {
+        it->rto, it->ato, it->snd_mss, it->rcv_mss, it->unacked, it->sacked, it->lost, it->retrans,
+        it->fackets, it->last_data_sent, it->last_ack_sent, it->last_data_recv, it->last_ack_recv,
+        it->pmtu, it->rcv_ssthresh, it->rtt, it->rttvar, it->snd_ssthresh, it->snd_cwnd, it->advmss,
+        it->reordering, it->rcv_rtt, it->rcv_space, it->total_retrans,
+    };
+    const uint32_t second[6] = {
+        it->segs_out, it->segs_in, it->notsent_bytes, it->min_rtt, it->data_segs_in,
+        it->data_segs_out,
+    };
+    const uint32_t third[2] = {it->delivered, it->delivered_ce};
+    const uint32_t fourth[4] = {it->dsack_dups, it->reord_seen, it->rcv_ooopack, it->snd_wnd};
+    check(memcmp(first, at + 8, sizeof first) == 0, "tcp_info from 8 on");
+    check(memcmp(second, at + 136, sizeof second) == 0, "tcp_info from 136 on");
+    check(memcmp(third, at + 192, sizeof third) == 0, "tcp_info from 192 on");
+    check(memcmp(fourth, at + 216, sizeof fourth) == 0, "tcp_info from 216 on");
+}
+
+/* Checks the fields of 1 and of 8 bytes, which are consecutive in struct tcp_info. */
+static void check_tcp_info(const struct sockdiag_tcp_info *it, const uint8_t *at) {
+    const uint8_t first[8] = {
+        it->state, it->ca_state, it->retransmits, it->probes, it->backoff, it->options, it->wscale,
+        it->delivery_rate_app_limited,
+    };
+    const uint64_t second[4] = {
+        it->pacing_rate, it->max_pacing_rate, it->bytes_acked, it->bytes_received,
+    };
+    const uint64_t third[4] = {
+        it->delivery_rate, it->busy_time, it->rwnd_limited, it->sndbuf_limited,
+    };
+    const uint64_t fourth[2] = {it->bytes_sent, it->bytes_retrans};
+    check(memcmp(first, at, sizeof first) == 0, "tcp_info from 0 on");
+    check(memcmp(second, at + 104, sizeof second) == 0, "tcp_info from 104 on");
+    check(memcmp(third, at + 160, sizeof third) == 0, "tcp_info from 160 on");
+    check(memcmp(fourth, at + 200, sizeof fourth) == 0, "tcp_info from 200 on");
+}
+
+static void reads_each_field_of_records(void) {
+    uint8_t bytes[400];
+    struct sockdiag_tcp_info info;
+    struct sockdiag_inet_memory it;
+    size_t end = SOCKDIAG_INET_ATTRIBUTES, place, memory;
+    memset(&info, 0xaa, sizeof info);
+    memset(&it, 0xaa, sizeof it);
+    number_bytes(bytes, sizeof bytes);
+    place = begin(bytes, &end, SOCKDIAG_INET_DIAG_INFO, 232);
+    memory = begin(bytes, &end, SOCKDIAG_INET_DIAG_SKMEMINFO, 36);
+    check(sockdiag_inet_get_tcp_info(bytes, end, &info) == 232, "all fields of a TCP connection");
+    check_tcp_info(&info, bytes + place);
+    check_words_of_tcp_info(&info, bytes + place);
+    check(sockdiag_inet_get_memory(bytes, end, &it) == 36, "all fields of memory");
+    FIELD(it.receive_queue, bytes + memory);
+    FIELD(it.receive_queue_max, bytes + memory + 4);
+    FIELD(it.bottom_send_queues, bytes + memory + 8);
+    FIELD(it.send_queue_max, bytes + memory + 12);
+    FIELD(it.cache, bytes + memory + 16);
+    FIELD(it.send_queue, bytes + memory + 20);
+    FIELD(it.options, bytes + memory + 24);
+    FIELD(it.backlog_queue_length, bytes + memory + 28);
+    FIELD(it.drops, bytes + memory + 32);
+}
+
+static void check_memory(const struct sockdiag_memory *it, const uint8_t *bytes) {
+    TOLD(it->receive_queue, bytes, 4);
+    TOLD(it->receive_queue_max, bytes + 4, 4);
+    TOLD(it->bottom_send_queues, bytes + 8, 4);
+    TOLD(it->send_queue_max, bytes + 12, 4);
+    TOLD(it->cache, bytes + 16, 4);
+    TOLD(it->send_queue, bytes + 20, 4);
+    TOLD(it->options, bytes + 24, 4);
+    TOLD(it->backlog_queue_length, bytes + 28, 4);
+    TOLD(it->drops, bytes + 32, 4);
+}
+
+static void reads_each_field_of_netlink(void) {
+    uint8_t bytes[128];
+    struct sockdiag_netlink_details it;
+    size_t end = SOCKDIAG_NETLINK_ATTRIBUTES, memory, groups, flags;
+    memset(&it, 0xaa, sizeof it);
+    number_bytes(bytes, sizeof bytes);
+    memory = begin(bytes, &end, 0, 36);
+    groups = begin(bytes, &end, 1, 8);
+    flags = begin(bytes, &end, 4, 4);
+    check(sockdiag_netlink_get_details(bytes, end, &it) == SOCKDIAG_OK,
+          "all fields of a netlink reply");
+    FIELD(it.header.kind, bytes + 1);
+    FIELD(it.header.protocol, bytes + 2);
+    FIELD(it.header.state, bytes + 3);
+    FIELD(it.header.port, bytes + 4);
+    FIELD(it.header.destination_port, bytes + 8);
+    FIELD(it.header.destination_group, bytes + 12);
+    FIELD(it.header.inode, bytes + 16);
+    FIELD(it.header.cookie, bytes + 20);
+    check_memory(&it.memory, bytes + memory);
+    TEXT(it.groups, SOCKDIAG_BYTES, bytes + groups, 8);
+    TOLD(it.flags, bytes + flags, 4);
+}
+
+static void check_ring(const struct sockdiag_packet_ring *it, const uint8_t *bytes) {
+    FIELD(it->block_size, bytes);
+    FIELD(it->blocks, bytes + 4);
+    FIELD(it->frame_size, bytes + 8);
+    FIELD(it->frames, bytes + 12);
+    FIELD(it->retire_timeout, bytes + 16);
+    FIELD(it->private_size, bytes + 20);
+    FIELD(it->features, bytes + 24);
+}
+
+static void reads_each_field_of_packet(void) {
+    uint8_t bytes[256];
+    struct sockdiag_packet_details it;
+    size_t end = SOCKDIAG_PACKET_ATTRIBUTES, info, addresses, receive, send, fanout, owner, memory;
+    size_t filter;
+    memset(&it, 0xaa, sizeof it);
+    number_bytes(bytes, sizeof bytes);
+    info = begin(bytes, &end, 0, 24);
+    addresses = begin(bytes, &end, 1, 44);
+    receive = begin(bytes, &end, 2, 28);
+    send = begin(bytes, &end, 3, 28);
+    fanout = begin(bytes, &end, 4, 4);
+    owner = begin(bytes, &end, 5, 4);
+    memory = begin(bytes, &end, 6, 36);
+    filter = begin(bytes, &end, 7, 8);
+    check(sockdiag_packet_get_details(bytes, end, &it) == SOCKDIAG_OK,
+          "all fields of a packet reply");
+    FIELD(it.header.kind, bytes + 1);
+    FIELD(it.header.protocol, bytes + 2);
+    FIELD(it.header.inode, bytes + 4);
+    FIELD(it.header.cookie, bytes + 8);
+    check(it.has_info == 1 && it.has_receive_ring == 1 && it.has_send_ring == 1, "all records");
+    FIELD(it.info.interface, bytes + info);
+    FIELD(it.info.version, bytes + info + 4);
+    FIELD(it.info.reserve, bytes + info + 8);
+    FIELD(it.info.copy_threshold, bytes + info + 12);
+    FIELD(it.info.timestamp, bytes + info + 16);
+    FIELD(it.info.flags, bytes + info + 20);
+    TEXT(it.addresses, SOCKDIAG_BYTES, bytes + addresses, 44);
+    check_ring(&it.receive_ring, bytes + receive);
+    check_ring(&it.send_ring, bytes + send);
+    TOLD(it.fanout, bytes + fanout, 4);
+    TOLD(it.owner, bytes + owner, 4);
+    check_memory(&it.memory, bytes + memory);
+    TEXT(it.filter, SOCKDIAG_BYTES, bytes + filter, 8);
+}
+
+static void reads_each_field_of_vsock(void) {
+    uint8_t bytes[36];
+    struct sockdiag_vsock_header it, before;
+    memset(&it, 0xaa, sizeof it);
+    number_bytes(bytes, sizeof bytes);
+    check(sockdiag_vsock_get_details(bytes, SOCKDIAG_VSOCK_ATTRIBUTES, &it) == SOCKDIAG_OK,
+          "all fields of a vsock reply");
+    FIELD(it.kind, bytes + 1);
+    FIELD(it.state, bytes + 2);
+    FIELD(it.shutdown, bytes + 3);
+    FIELD(it.source_context, bytes + 4);
+    FIELD(it.source_port, bytes + 8);
+    FIELD(it.destination_context, bytes + 12);
+    FIELD(it.destination_port, bytes + 16);
+    FIELD(it.inode, bytes + 20);
+    FIELD(it.cookie, bytes + 24);
+    memset(bytes, 0, sizeof bytes);
+    before = it;
+    check(sockdiag_vsock_get_details(bytes, 35, &it) == SOCKDIAG_ATTRIBUTE_HEADER_CUT,
+          "three bytes after a vsock record");
+    check(sockdiag_vsock_get_details(bytes, 36, &it) == SOCKDIAG_ATTRIBUTE_LENGTH_UNDER_4,
+          "four zero bytes after a vsock record");
+    check(memcmp(&it, &before, sizeof it) == 0, "a vsock header is written for a rejected reply");
+}
+
+static void check_xdp_records(const struct sockdiag_xdp_details *it, const uint8_t *info,
+                              const uint8_t *umem, const uint8_t *statistics) {
+    check(it->has_info == 1 && it->has_umem == 1 && it->has_statistics == 1, "all XDP records");
+    FIELD(it->info.interface, info);
+    FIELD(it->info.queue, info + 4);
+    FIELD(it->umem.size, umem);
+    FIELD(it->umem.id, umem + 8);
+    FIELD(it->umem.pages, umem + 12);
+    FIELD(it->umem.chunk_size, umem + 16);
+    FIELD(it->umem.headroom, umem + 20);
+    FIELD(it->umem.interface, umem + 24);
+    FIELD(it->umem.queue, umem + 28);
+    FIELD(it->umem.flags, umem + 32);
+    FIELD(it->umem.references, umem + 36);
+    FIELD(it->statistics.received_dropped, statistics);
+    FIELD(it->statistics.received_invalid, statistics + 8);
+    FIELD(it->statistics.received_full, statistics + 16);
+    FIELD(it->statistics.fill_ring_empty, statistics + 24);
+    FIELD(it->statistics.sent_invalid, statistics + 32);
+    FIELD(it->statistics.send_ring_empty, statistics + 40);
+}
+
+static void reads_each_field_of_xdp(void) {
+    uint8_t bytes[256];
+    struct sockdiag_xdp_details it;
+    size_t end = SOCKDIAG_XDP_ATTRIBUTES, info, owner, receive, send, umem, fill, completion;
+    size_t memory, statistics;
+    memset(&it, 0xaa, sizeof it);
+    number_bytes(bytes, sizeof bytes);
+    info = begin(bytes, &end, 1, 8);
+    owner = begin(bytes, &end, 2, 4);
+    receive = begin(bytes, &end, 3, 4);
+    send = begin(bytes, &end, 4, 4);
+    umem = begin(bytes, &end, 5, 40);
+    fill = begin(bytes, &end, 6, 4);
+    completion = begin(bytes, &end, 7, 4);
+    memory = begin(bytes, &end, 8, 36);
+    statistics = begin(bytes, &end, 9, 48);
+    check(sockdiag_xdp_get_details(bytes, end, &it) == SOCKDIAG_OK, "all fields of an XDP reply");
+    FIELD(it.header.kind, bytes + 1);
+    FIELD(it.header.inode, bytes + 4);
+    FIELD(it.header.cookie, bytes + 8);
+    TOLD(it.owner, bytes + owner, 4);
+    TOLD(it.receive_ring, bytes + receive, 4);
+    TOLD(it.send_ring, bytes + send, 4);
+    TOLD(it.fill_ring, bytes + fill, 4);
+    TOLD(it.completion_ring, bytes + completion, 4);
+    check_memory(&it.memory, bytes + memory);
+    check_xdp_records(&it, bytes + info, bytes + umem, bytes + statistics);
+}
+
+/* Each record by itself: its field has_.. is 1, and the others are 0. */
+static void has_each_record(void) {
+    uint8_t bytes[128];
+    struct sockdiag_packet_details packet;
+    struct sockdiag_xdp_details xdp;
+    uint8_t kind;
+    for (kind = 0; kind < 10; kind++) {
+        size_t end = SOCKDIAG_PACKET_ATTRIBUTES;
+        number_bytes(bytes, sizeof bytes);
+        begin(bytes, &end, kind, kind == 4 || kind == 5 ? 4 : 48);
+        if (sockdiag_packet_get_details(bytes, end, &packet) == SOCKDIAG_OK)
+            check(packet.has_info == (kind == 0) && packet.has_receive_ring == (kind == 2) &&
+                  packet.has_send_ring == (kind == 3), "a record of a packet socket");
+        else
+            check(0, "a packet reply with one attribute");
+        if (sockdiag_xdp_get_details(bytes, end, &xdp) == SOCKDIAG_OK)
+            check(xdp.has_info == (kind == 1) && xdp.has_umem == (kind == 5) &&
+                  xdp.has_statistics == (kind == 9), "a record of an XDP socket");
+        else
+            check(kind >= 2 && kind <= 7, "an XDP reply with one attribute");
+    }
+}
+
+/* The messages of make_datagram: sequence number 7, port 9, flags 2. */
+static void follows_a_dump(void) {
+    uint8_t bytes[128];
+    const size_t length = make_datagram(bytes);
+    struct sockdiag_cursor cursor = {0};
+    struct sockdiag_message message;
+    int messages;
+    for (messages = 0; messages < 4; messages++) {
+        check(sockdiag_next_envelope(bytes, length, &cursor, &message) == SOCKDIAG_ITEM,
+              "a message, whatever its payload is");
+        check(sockdiag_is_answer(&message, 7, 9), "an answer");
+        check(!sockdiag_is_answer(&message, 8, 9), "a message with another sequence number");
+        check(!sockdiag_is_answer(&message, 7, 0), "a message for another socket");
+        check(!sockdiag_is_interrupted(&message), "a dump that is not interrupted");
+        check(sockdiag_ends_answer(&message) == (messages == 3), "the end of an answer");
+    }
+    check(message.message_type == SOCKDIAG_NLMSG_DONE && message.offset == 108, "the end");
+    check(sockdiag_next_envelope(bytes, length, &cursor, &message) == SOCKDIAG_ENVELOPE_CUT,
+          "two remaining bytes after messages");
+    message.flags = 0x12;
+    check(sockdiag_is_interrupted(&message), "a dump that is interrupted");
+    message.message_type = SOCKDIAG_NLMSG_ERROR;
+    check(sockdiag_ends_answer(&message), "an error");
+    message.message_type = SOCKDIAG_NLMSG_OVERRUN;
+    check(!sockdiag_ends_answer(&message), "lost data");
+}
+
+/* The version, and a constant of each enum with the number in the kernel's headers. */
+static void has_numbers(void) {
+    unsigned first, second, third;
+    check(sscanf(SOCKDIAG_VERSION, "%u.%u.%u", &first, &second, &third) == 3 &&
+          SOCKDIAG_VERSION_NUMBER == 1000000 * first + 1000 * second + third, "the version");
+    check(sockdiag_version() == SOCKDIAG_VERSION_NUMBER && sockdiag_is_compatible(),
+          "the version of the library");
+    check(SOCKDIAG_NETLINK_SOCK_DIAG == NETLINK_SOCK_DIAG &&
+          SOCKDIAG_SOCK_DIAG_BY_FAMILY == SOCK_DIAG_BY_FAMILY &&
+          SOCKDIAG_NLMSG_DONE == NLMSG_DONE && SOCKDIAG_NLM_F_DUMP_INTR == NLM_F_DUMP_INTR,
+          "constants of netlink");
+    check(SOCKDIAG_TCP_ESTABLISHED == 1 && SOCKDIAG_TCP_CLOSE == 7 && SOCKDIAG_TCP_LISTEN == 10,
+          "states");
+    check((int)SOCKDIAG_UDIAG_SHOW_ICONS == UDIAG_SHOW_ICONS &&
+          (int)SOCKDIAG_UNIX_DIAG_ICONS == UNIX_DIAG_ICONS, "constants of UNIX sockets");
+    check((int)SOCKDIAG_INET_DIAG_CONG == INET_DIAG_CONG &&
+          (int)SOCKDIAG_INET_DIAG_REQ_BYTECODE == INET_DIAG_REQ_BYTECODE,
+          "constants of internet sockets");
+    check(SOCKDIAG_TCP_CA_LOSS == 4 && SOCKDIAG_TCPI_OPT_ECN == 8, "constants of connections");
+    check(SOCKDIAG_NDIAG_SHOW_FLAGS == 8 && SOCKDIAG_XDP_SHOW_STATS == 16, "other families");
+}
+
+int main(void) {
+    checks_unix();
+    checks_inet();
+    checks_messages();
+    tells_unix_details();
+    tells_inet_details();
+    tells_netlink_details();
+    tells_packet_details();
+    tells_vsock_and_xdp_details();
+    tells_numbers_in_words();
+    walks_attributes();
+    walks_messages();
+    writes_unix_request();
+    writes_inet_request();
+    writes_family_requests();
+    writes_filtered_request();
+    rewrites_unix_reply();
+    rewrites_inet_reply();
+    reads_each_field_of_unix();
+    reads_each_field_of_inet_headers();
+    reads_each_field_of_inet();
+    reads_each_field_of_records();
+    reads_each_field_of_netlink();
+    reads_each_field_of_packet();
+    reads_each_field_of_vsock();
+    reads_each_field_of_xdp();
+    has_each_record();
+    follows_a_dump();
+    has_numbers();
+    if (failures == 0)
+        puts("c_api: all tests pass");
+    return failures != 0;
+}

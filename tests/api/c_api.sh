@@ -1,0 +1,68 @@
+#!/bin/sh
+# Builds the static library of include/sockdiag.h, and calls it from C: tests/api/c_api.c compares
+# what the calls return, and tests/api/fuzz_c.c calls them with changed replies. Then installs the
+# library, and lists the sockets of this machine by examples/list_sockets.c, if the kernel permits
+# it. Needs the kit's rt and a C compiler. tools/release runs this script. So does
+# tests/bindings.py, which the gate runs, if the library takes only seconds to build.
+set -eu
+top=$(CDPATH='' cd -- "$(dirname -- "$0")/../.." && pwd)
+work=$(mktemp -d)
+trap 'rm -rf "$work"' EXIT
+
+echo "c_api: proving and building the library"
+(cd "$top/crates/sockdiag_c" && rt lib) >"$work/log" 2>&1 || { cat "$work/log" >&2; exit 1; }
+
+# The library does not allocate, so it must not call an allocator.
+if nm -u "$top/crates/sockdiag_c/out/libsockdiag_c.a" | grep -E 'alloc|free'; then
+    echo "c_api: the library calls an allocator" >&2
+    exit 1
+fi
+
+# build NAME SOURCE FLAG..: builds a program with the library.
+build() {
+    name=$1 source=$2
+    shift 2
+    ${CC:-cc} -std=c99 -O2 -Wall -Wextra -Wpedantic -Werror "$@" -I"$top/include" \
+        -o "$work/$name" "$source" "$top/crates/sockdiag_c/out/libsockdiag_c.a"
+}
+
+build c_api "$top/tests/api/c_api.c"
+"$work/c_api"
+
+# The sanitizers check the test itself, and what the library passes to functions like memcpy.
+set -- -fsanitize=address,undefined
+echo 'int main(void) { return 0; }' >"$work/empty.c"
+${CC:-cc} "$@" -o "$work/empty" "$work/empty.c" 2>/dev/null || shift
+build fuzz_c "$top/tests/api/fuzz_c.c" "$@"
+"$work/fuzz_c" 20000 "$top/crates/sslist/stdin"
+
+# The example with answers that a kernel seldom sends: an interrupted dump is requested again, and a
+# rejected reply does not end a dump.
+build fake_list "$top/examples/list_sockets.c" "$top/tests/api/fake_kernel.c"
+"$work/fake_list" >"$work/found" 2>"$work/errors" && exit 1
+"$work/fake_list" -l >>"$work/found" 2>>"$work/errors" && exit 1
+sort "$work/errors" | uniq -c | sed 's/^ *//' >>"$work/found"
+sed 's/ $//' "$work/found" | diff - /dev/fd/3 3<<'END'
+unix type 1 state 7 inode 2
+unix type 1 state 10 inode 2
+4 list_sockets: mptcp: No such file or directory
+4 list_sockets: tcp: No such file or directory
+4 list_sockets: udp: No such file or directory
+2 list_sockets: unix: invalid reply: buffer of too few bytes
+END
+
+# As an author of a program does: installs the library, and builds with the shared library that
+# pkg-config finds. Without pkg-config or make, builds with the static library.
+"$top/tools/install" "$work/prefix" >/dev/null
+if command -v pkg-config >/dev/null && command -v make >/dev/null; then
+    cp "$top/examples/Makefile" "$top/examples/list_sockets.c" "$work"
+    PKG_CONFIG_PATH="$work/prefix/lib/pkgconfig" make -s -C "$work" list_sockets
+else
+    build list_sockets "$top/examples/list_sockets.c"
+fi
+if LD_LIBRARY_PATH="$work/prefix/lib" "$work/list_sockets" >"$work/sockets" 2>"$work/errors"; then
+    echo "c_api: list_sockets: $(wc -l <"$work/sockets") sockets, beginning with:"
+    head -n 5 "$work/sockets"
+else
+    echo "c_api: list_sockets failed: $(cat "$work/errors")"
+fi

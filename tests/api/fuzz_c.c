@@ -1,0 +1,372 @@
+/*
+ * fuzz_c COUNT CAPTURE [SEED]: calls every function of include/sockdiag.h COUNT times with changed
+ * copies of the messages in a capture of netlink, such as crates/sslist/stdin.
+ *
+ * Each input, buffer and struct is next to a page that cannot be accessed, at its start or at its
+ * end, so the program stops if the library accesses bytes outside of them. What the calls return is
+ * compared with what the header says: which values are possible, what is unchanged, that texts are
+ * parts of the payload, that iterations end, and that a canonical form is its own canonical form.
+ *
+ * Build it with -fsanitize=address,undefined, as tests/api/c_api.sh does, which runs it. The status
+ * is 1 if a comparison fails; the seed that is printed repeats the run.
+ */
+#define _DEFAULT_SOURCE /* For MAP_ANONYMOUS. */
+#include "sockdiag.h"
+
+#include <stdio.h>
+#include <stdlib.h>
+#include <string.h>
+#include <sys/mman.h>
+#include <unistd.h>
+
+/* Size of an area in bytes, a multiple of the page size. */
+#define AREA ((size_t)1 << 16)
+#define MOST_SAMPLES 4096
+#define UNTOUCHED 0xaa
+
+struct sample {
+    uint8_t *bytes;
+    size_t length;
+};
+
+static struct sample samples[MOST_SAMPLES];
+static size_t sample_count;
+static uint8_t *input_area, *output_area, *buffer_area;
+static uint64_t state, first_state;
+
+static uint32_t random_below(uint32_t limit) {
+    state ^= state << 13;
+    state ^= state >> 7;
+    state ^= state << 17;
+    return (uint32_t)(state >> 32) % limit;
+}
+
+static void expect(int holds, const char *what) {
+    if (holds)
+        return;
+    fprintf(stderr, "fuzz_c: failed: %s (seed %llu)\n", what, (unsigned long long)first_state);
+    exit(1);
+}
+
+/* Returns an area between two pages that cannot be accessed. */
+static uint8_t *new_area(void) {
+    const size_t page = (size_t)sysconf(_SC_PAGESIZE);
+    uint8_t *start = (uint8_t *)mmap(NULL, AREA + 2 * page, PROT_NONE, MAP_PRIVATE | MAP_ANONYMOUS,
+                                     -1, 0);
+    expect(start != MAP_FAILED && mprotect(start + page, AREA, PROT_READ | PROT_WRITE) == 0,
+           "an area");
+    return start + page;
+}
+
+/* Returns bytes at the start or at the end of an area, with one value. A length of a struct is a
+ * multiple of its alignment, so that a struct is aligned at the end, too. */
+static uint8_t *bytes_in(uint8_t *area, size_t length) {
+    uint8_t *bytes = random_below(2) ? area : area + AREA - length;
+    memset(bytes, UNTOUCHED, length);
+    return bytes;
+}
+
+static int is_untouched(const void *found, size_t length) {
+    const uint8_t *bytes = (const uint8_t *)found;
+    size_t place;
+    for (place = 0; place < length && bytes[place] == UNTOUCHED; place++)
+        ;
+    return place == length;
+}
+
+static void add_sample(const uint8_t *bytes, size_t length) {
+    struct sample *sample = &samples[sample_count];
+    if (sample_count == MOST_SAMPLES || length > AREA / 2)
+        return;
+    sample->bytes = (uint8_t *)malloc(length + 1);
+    expect(sample->bytes != NULL, "memory");
+    memcpy(sample->bytes, bytes, length);
+    sample->length = length;
+    sample_count++;
+}
+
+/* Adds a datagram and the payload of each of its messages. */
+static void add_datagram(const uint8_t *bytes, size_t length) {
+    struct sockdiag_cursor cursor = {0};
+    struct sockdiag_message message;
+    add_sample(bytes, length);
+    while (sockdiag_next_envelope(bytes, length, &cursor, &message) == SOCKDIAG_ITEM)
+        add_sample(bytes + message.offset, message.length);
+}
+
+/* Reads a capture: a header of 24 bytes; then packets, each after 16 bytes with its length at 8. A
+ * packet has a header of 16 bytes before the datagram. */
+static void read_capture(const char *path) {
+    static uint8_t bytes[1 << 20];
+    FILE *file = fopen(path, "rb");
+    size_t length, place = 24;
+    expect(file != NULL, "the capture");
+    length = fread(bytes, 1, sizeof bytes, file);
+    fclose(file);
+    while (place + 16 <= length) {
+        const size_t packet = bytes[place + 8] | (size_t)bytes[place + 9] << 8;
+        place += 16;
+        if (packet < 16 || packet > length - place)
+            break;
+        add_datagram(bytes + place + 16, packet - 16);
+        place += packet;
+    }
+    expect(sample_count > 0, "a capture with datagrams");
+}
+
+/* Changes one thing of the bytes, which have a capacity of AREA / 2. Returns their length. */
+static size_t change(uint8_t *bytes, size_t length) {
+    static const uint8_t numbers[8] = {0, 1, 2, 4, 8, 16, 0x7f, 0xff};
+    /* About the lengths of the headers of messages and replies. */
+    static const uint8_t lengths[8] = {3, 15, 16, 27, 31, 71, 72, 75};
+    const uint8_t shorter = lengths[random_below(8)];
+    const size_t place = length > 0 ? random_below((uint32_t)length) : 0;
+    const struct sample *other = &samples[random_below((uint32_t)sample_count)];
+    const size_t room = AREA / 2 - length;
+    switch (length > 0 ? random_below(6) : 5) {
+    case 0:
+        bytes[place] ^= (uint8_t)(1u << random_below(8));
+        return length;
+    case 1:
+        bytes[place] = numbers[random_below(8)];
+        return length;
+    case 2:
+        bytes[place & ~(size_t)3] = (uint8_t)random_below(40);
+        return length;
+    case 3:
+        return random_below(2) || shorter > length ? place : shorter;
+    case 4:
+        memset(bytes + place, random_below(2) ? 0 : 0xff, (length - place) % 5);
+        return length;
+    default:
+        if (other->length > room)
+            return length;
+        memcpy(bytes + length, other->bytes, other->length);
+        return length + other->length;
+    }
+}
+
+/* A text is a part of the payload. */
+static void expect_text(const struct sockdiag_text *text, const uint8_t *payload, size_t length) {
+    expect(text->kind <= SOCKDIAG_BYTES, "the kind of a text");
+    if (text->kind == 0)
+        return;
+    expect(text->bytes >= payload && text->length <= length &&
+           (size_t)(text->bytes - payload) <= length - text->length, "a text in the payload");
+}
+
+/* Calls a function that fills a struct or returns an error between 2 and 15. */
+#define CALL(it, type, call)                                                                   \
+    type *it = (type *)(void *)bytes_in(output_area, sizeof(type));                            \
+    const uint32_t it##_fault = call;                                                          \
+    expect(it##_fault == SOCKDIAG_OK || (it##_fault >= SOCKDIAG_BUFFER_TOO_SMALL &&            \
+                                         it##_fault <= SOCKDIAG_NAME_WITHOUT_END), #call);     \
+    expect(it##_fault == SOCKDIAG_OK || is_untouched(it, sizeof(type)), "a rejected " #call)
+
+static uint32_t try_unix(const uint8_t *payload, size_t length) {
+    uint32_t *inode;
+    size_t index;
+    CALL(header, struct sockdiag_unix_header, sockdiag_check_unix_reply(payload, length, header));
+    CALL(it, struct sockdiag_unix_details, sockdiag_unix_get_details(payload, length, it));
+    expect(it_fault == header_fault, "the error of the details of a UNIX reply");
+    if (it_fault == SOCKDIAG_OK)
+        expect_text(&it->name, payload, length);
+    inode = (uint32_t *)(void *)bytes_in(output_area, sizeof *inode);
+    for (index = 0; sockdiag_unix_get_pending(payload, length, index, inode) == SOCKDIAG_ITEM;
+         index++)
+        expect(it_fault == SOCKDIAG_OK && index < length / 4, "connections of a reply");
+    expect(index > 0 || is_untouched(inode, sizeof *inode), "no connection");
+    return it_fault;
+}
+
+static uint32_t try_inet(const uint8_t *payload, size_t length) {
+    struct sockdiag_tcp_info *info;
+    struct sockdiag_inet_memory *memory;
+    CALL(header, struct sockdiag_inet_header, sockdiag_check_inet_reply(payload, length, header));
+    CALL(it, struct sockdiag_inet_details, sockdiag_inet_get_details(payload, length, it));
+    expect(it_fault == header_fault, "the error of the details of an internet reply");
+    if (it_fault == SOCKDIAG_OK)
+        expect_text(&it->congestion, payload, length);
+    info = (struct sockdiag_tcp_info *)(void *)bytes_in(output_area, sizeof *info);
+    expect(sockdiag_inet_get_tcp_info(payload, length, info) <= length, "the length of tcp_info");
+    memory = (struct sockdiag_inet_memory *)(void *)bytes_in(output_area, sizeof *memory);
+    expect(sockdiag_inet_get_memory(payload, length, memory) <= length, "the length of memory");
+    return it_fault;
+}
+
+static void try_families(const uint8_t *payload, size_t length) {
+    {
+        CALL(it, struct sockdiag_netlink_details,
+             sockdiag_netlink_get_details(payload, length, it));
+        if (it_fault == SOCKDIAG_OK)
+            expect_text(&it->groups, payload, length);
+    }
+    {
+        CALL(it, struct sockdiag_packet_details, sockdiag_packet_get_details(payload, length, it));
+        if (it_fault == SOCKDIAG_OK) {
+            expect_text(&it->addresses, payload, length);
+            expect_text(&it->filter, payload, length);
+            expect(it->has_info || is_untouched(&it->info, sizeof it->info), "an absent record");
+        }
+    }
+    {
+        CALL(it, struct sockdiag_xdp_details, sockdiag_xdp_get_details(payload, length, it));
+        expect(it_fault != SOCKDIAG_OK || it->has_umem || is_untouched(&it->umem, sizeof it->umem),
+               "an absent record of an XDP socket");
+    }
+    {
+        CALL(it, struct sockdiag_vsock_header, sockdiag_vsock_get_details(payload, length, it));
+    }
+}
+
+typedef size_t rewrite(const uint8_t *, size_t, uint8_t *, size_t, struct sockdiag_outcome *);
+
+/* Writes the canonical form to a buffer of a random length. `fault` is the error of the reply. */
+static void try_rewriting(rewrite *call, const uint8_t *payload, size_t length, uint32_t fault) {
+    static uint8_t again[AREA];
+    struct sockdiag_outcome outcome;
+    const size_t capacity = random_below((uint32_t)length + 8);
+    uint8_t *buffer = bytes_in(buffer_area, capacity);
+    const size_t written = call(payload, length, buffer, capacity, &outcome);
+    expect(outcome.fault == fault, "the error of a canonical form");
+    expect(fault == SOCKDIAG_OK || outcome.needed == 0, "the length of a rejected canonical form");
+    expect(written == (outcome.needed <= capacity ? outcome.needed : 0), "the length written");
+    expect(is_untouched(buffer + written, capacity - written), "the bytes after a canonical form");
+    if (written == 0)
+        return;
+    expect(call(buffer, written, again, sizeof again, &outcome) == written &&
+           memcmp(buffer, again, written) == 0, "a canonical form is its own canonical form");
+}
+
+/* An iteration from a place ends. Its items are in the bytes. */
+static void try_attributes(const uint8_t *bytes, size_t length, size_t place) {
+    struct sockdiag_cursor cursor;
+    struct sockdiag_attribute *it;
+    uint32_t answer;
+    size_t items = 0;
+    cursor.place = place;
+    it = (struct sockdiag_attribute *)(void *)bytes_in(output_area, sizeof *it);
+    while ((answer = sockdiag_next_attribute(bytes, length, &cursor, it)) == SOCKDIAG_ITEM)
+        expect(++items <= length / 4 && it->offset <= length && it->length <= length - it->offset,
+               "an attribute in the bytes");
+    expect(answer == SOCKDIAG_END || (answer >= SOCKDIAG_ATTRIBUTE_HEADER_CUT &&
+                                      answer <= SOCKDIAG_ATTRIBUTE_LENGTH_PAST),
+           "the end of an iteration over attributes");
+    expect(items > 0 || is_untouched(it, sizeof *it), "an attribute that is not there");
+    expect(sockdiag_next_attribute(bytes, length, &cursor, it) == SOCKDIAG_END, "nothing is left");
+}
+
+/* Both iterations over messages have the same items. */
+static void try_messages(const uint8_t *bytes, size_t length) {
+    struct sockdiag_cursor cursor = {0}, checked = {0};
+    struct sockdiag_message message, *it;
+    uint32_t answer, other;
+    size_t items = 0;
+    it = (struct sockdiag_message *)(void *)bytes_in(output_area, sizeof *it);
+    while ((answer = sockdiag_next_envelope(bytes, length, &cursor, it)) == SOCKDIAG_ITEM) {
+        expect(++items <= length / 16 && it->offset <= length && it->length <= length - it->offset,
+               "a message in the bytes");
+        other = sockdiag_next_message(bytes, length, &checked, &message);
+        expect(other >= SOCKDIAG_ITEM && other <= SOCKDIAG_NAME_WITHOUT_END &&
+               message.offset == it->offset && message.length == it->length &&
+               checked.place == cursor.place, "the same message, checked");
+    }
+    expect(answer == SOCKDIAG_END || (answer >= SOCKDIAG_ENVELOPE_CUT &&
+                                      answer <= SOCKDIAG_ENVELOPE_LENGTH_PAST),
+           "the end of an iteration over messages");
+    expect(sockdiag_next_message(bytes, length, &checked, &message) == answer, "the same end");
+}
+
+/* Fills a request with the bytes, as far as there are any. */
+#define REQUEST(name, type)          \
+    type name;                       \
+    memset(&name, 0x55, sizeof name); \
+    memcpy(&name, bytes, length < sizeof name ? length : sizeof name)
+
+/* A call that writes a request returns its length or 0, and leaves what follows unchanged. */
+static void expect_request(size_t written, const uint8_t *buffer, size_t capacity) {
+    expect(written <= capacity && is_untouched(buffer + written, capacity - written),
+           "the bytes after a request");
+}
+
+static void try_requests(const uint8_t *bytes, size_t length) {
+    const size_t capacity = random_below(100);
+    uint8_t *buffer = bytes_in(buffer_area, capacity);
+    REQUEST(unix_request, struct sockdiag_unix_request);
+    REQUEST(inet, struct sockdiag_inet_request);
+    REQUEST(show, struct sockdiag_show_request);
+    REQUEST(vsock, struct sockdiag_vsock_request);
+    inet.family = random_below(4) ? 2 + 8 * (uint8_t)random_below(2) : inet.family;
+    show.family = random_below(4) ? 16 + (uint8_t)random_below(2) : show.family;
+    expect_request(sockdiag_write_unix_request(&unix_request, buffer, capacity), buffer, capacity);
+    expect_request(sockdiag_write_unix_destroy(&unix_request, buffer, capacity), buffer, capacity);
+    buffer = bytes_in(buffer_area, capacity);
+    expect_request(sockdiag_write_inet_request(&inet, buffer, capacity), buffer, capacity);
+    expect_request(sockdiag_write_inet_destroy(&inet, buffer, capacity), buffer, capacity);
+    buffer = bytes_in(buffer_area, capacity);
+    expect_request(sockdiag_write_show_request(&show, buffer, capacity), buffer, capacity);
+    buffer = bytes_in(buffer_area, capacity);
+    expect_request(sockdiag_write_vsock_request(&vsock, buffer, capacity), buffer, capacity);
+}
+
+static void try_attributes_of_request(const uint8_t *bytes, size_t length) {
+    struct sockdiag_outcome outcome;
+    const size_t capacity = random_below((uint32_t)length + 100);
+    uint8_t *buffer = bytes_in(buffer_area, capacity);
+    size_t written;
+    REQUEST(inet, struct sockdiag_inet_request);
+    inet.family = 2 + 8 * (uint8_t)random_below(2);
+    written = sockdiag_write_inet_request_with_attributes(&inet, bytes, length, buffer, capacity,
+                                                          &outcome);
+    expect(outcome.fault == SOCKDIAG_OK || (outcome.fault >= SOCKDIAG_ATTRIBUTE_HEADER_CUT &&
+           outcome.fault <= SOCKDIAG_ATTRIBUTE_LENGTH_PAST && outcome.needed == 0),
+           "the error of attributes of a request");
+    expect(written == (outcome.needed <= capacity ? outcome.needed : 0), "the length of a request");
+    expect_request(written, buffer, capacity);
+}
+
+static void try_all(const uint8_t *bytes, size_t length) {
+    int32_t *number = (int32_t *)(void *)bytes_in(output_area, sizeof *number);
+    const uint16_t type = random_below(8) ? SOCKDIAG_SOCK_DIAG_BY_FAMILY : (uint16_t)length;
+    expect(sockdiag_get_error_number(bytes, length, number) == (length >= 4), "an error number");
+    expect(length >= 4 || is_untouched(number, sizeof *number), "no error number");
+    {
+        CALL(it, struct sockdiag_reply, sockdiag_check_message(bytes, length, type, it));
+        expect(it_fault != SOCKDIAG_OK || it->kind == SOCKDIAG_UNIX || it->kind == SOCKDIAG_INET,
+               "the kind of a reply");
+    }
+    try_rewriting(sockdiag_rewrite_unix_reply, bytes, length, try_unix(bytes, length));
+    try_rewriting(sockdiag_rewrite_inet_reply, bytes, length, try_inet(bytes, length));
+    try_families(bytes, length);
+    try_attributes(bytes, length, random_below(80));
+    try_messages(bytes, length);
+    try_requests(bytes, length);
+    try_attributes_of_request(bytes, length);
+}
+
+int main(int argc, char **argv) {
+    static uint8_t copy[AREA / 2];
+    unsigned long count;
+    if (argc < 3 || argc > 4)
+        return fputs("usage: fuzz_c COUNT CAPTURE [SEED]\n", stderr), 2;
+    first_state = state = argc > 3 ? strtoull(argv[3], NULL, 10) : 1;
+    input_area = new_area();
+    output_area = new_area();
+    buffer_area = new_area();
+    read_capture(argv[2]);
+    expect(state != 0, "a seed above 0");
+    for (count = strtoul(argv[1], NULL, 10); count > 0; count--) {
+        const struct sample *sample = &samples[random_below((uint32_t)sample_count)];
+        size_t length = sample->length;
+        uint32_t changes;
+        uint8_t *input;
+        memcpy(copy, sample->bytes, length);
+        for (changes = random_below(5); changes > 0; changes--)
+            length = change(copy, length);
+        input = bytes_in(input_area, length);
+        memcpy(input, copy, length);
+        try_all(input, length);
+    }
+    printf("fuzz_c: %s inputs, seed %llu\n", argv[1], (unsigned long long)first_state);
+    return 0;
+}

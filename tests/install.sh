@@ -1,0 +1,110 @@
+#!/bin/sh
+# Tests tools/install in a copy of a release, with programs and a library that are made here: which
+# files it installs, with which modes, and that it leaves nothing if it fails. Then builds the
+# example with the installed library, as README.md describes. Takes seconds, and needs no kit.
+# Without a C compiler, make and pkg-config it is skipped.
+set -eu
+cd "$(dirname -- "$0")/.."
+for command in "${CC:=cc}" make pkg-config; do
+    command -v "$command" >/dev/null || { echo "skipped: tools/install: no $command"; exit 0; }
+done
+work=$(mktemp -d)
+trap 'rm -rf "$work"' EXIT
+tree="$work/a tree"
+install=$work/link
+version=$(cat VERSION)
+mkdir -p "$tree/bin" "$tree/lib" "$tree/tools" "$work/home" "$work/temporary"
+export TMPDIR="$work/temporary" HOME="$work/home"
+
+fail() {
+    echo "install: failed: $1" >&2
+    exit 1
+}
+
+# fails STATUS WHAT COMMAND..: runs a command, which has to fail with this status, to install
+# nothing in $work/none, and to leave no temporary file.
+fails() {
+    expected=$1 what=$2
+    shift 2
+    status=0
+    "$@" >"$work/out" 2>&1 || status=$?
+    [ "$status" = "$expected" ] || fail "$what: status $status"
+    [ ! -e "$work/none" ] || fail "$what: files are installed"
+    [ -z "$(ls -A "$TMPDIR")" ] || fail "$what: temporary files are left"
+}
+
+# installed FOLDER: prints mode and path of each file and folder, and where each link leads.
+installed() {
+    (cd "$1" && find . -mindepth 1 -printf '%m %P %l\n' | sed 's/ $//' | sort -k 2)
+}
+
+# A release: its functions return 0.
+cp VERSION README.md "$tree"
+cp -R examples include man "$tree"
+cp tools/install "$tree/tools"
+for program in sockdiag sslist; do
+    echo '#!/bin/sh' >"$tree/bin/$program"
+done
+{
+    echo '#include "sockdiag.h"'
+    tr '\n' ' ' <include/sockdiag.h | grep -oE '(size_t|uint32_t) sockdiag_[a-z_]*\([^;{]*\);' |
+        sed 's/;$/ { return 0; }/'
+} >"$work/fake.c"
+"$CC" -w -fPIC -c -Iinclude -o "$work/fake.o" "$work/fake.c"
+ar rc "$tree/lib/libsockdiag.a" "$work/fake.o"
+ln -s "$tree/tools/install" "$install"
+
+# Arguments, a compiler that fails, and signals.
+"$install" --help >"$work/out" || fail "the status of --help"
+grep -q '^usage: ' "$work/out" || fail "--help"
+fails 2 "an empty prefix" "$install" ''
+fails 2 "an unknown option" "$install" --prefix
+fails 2 "two prefixes" "$install" "$work/none" "$work/none"
+fails 2 "an absolute LIBDIR" env LIBDIR=/lib "$install" "$work/none"
+fails 1 "a compiler that fails" env CC=false "$install" "$work/none"
+for signal in INT TERM HUP; do
+    # shellcheck disable=SC2016
+    printf '#!/bin/sh\nkill -%s $PPID\nsleep 1\n' "$signal" >"$work/killer"
+    chmod +x "$work/killer"
+    fails 130 "$signal" env CC="$work/killer" "$install" "$work/none"
+done
+
+# The same files, whatever the umask is. tests/release.sh lists them.
+prefix="$work/a prefix"
+(umask 077 && "$install" "$prefix") >"$work/out"
+(umask 022 && "$tree/tools/install" "$work/plain") >/dev/null
+installed "$work/plain" >"$work/expected"
+installed "$prefix" | diff "$work/expected" - || fail "the umask or the link matters"
+[ -z "$(find "$prefix" ! -perm 644 ! -perm 755 ! -type l)" ] || fail "modes"
+grep -q "LD_LIBRARY_PATH=$prefix/lib" "$work/out" || fail "the hint for another folder"
+[ "$(tail -n 1 "$work/out")" = "tools/install: installed sockdiag $version in $prefix" ] ||
+    fail "the last line"
+
+# The loader's folders are those that ldconfig lists.
+mkdir "$work/commands"
+printf '#!/bin/sh\necho "%s/lib: (from a file)"\n' "$prefix" >"$work/commands/ldconfig"
+chmod +x "$work/commands/ldconfig"
+PATH="$work/commands:$PATH" "$install" "$prefix" | grep -q 'run ldconfig as root' ||
+    fail "the hint for a folder of the loader"
+
+"$install" --uninstall "$prefix" >/dev/null
+[ -z "$(find "$prefix" ! -type d)" ] || fail "--uninstall"
+
+# For packages: no compiler, another folder of the library.
+DESTDIR="$work/staged" LIBDIR=lib64 SHARED=no CC=false "$install" /usr >"$work/out"
+[ "$(wc -l <"$work/out")" = 1 ] || fail "a hint for a package"
+(cd "$work/staged/usr/lib64" && find . -type f | sort) >"$work/found"
+printf './libsockdiag.a\n./pkgconfig/sockdiag.pc\n' | diff - "$work/found" || fail "SHARED=no"
+# shellcheck disable=SC2016
+grep -qxF 'libdir=${prefix}/lib64' "$work/staged/usr/lib64/pkgconfig/sockdiag.pc" || fail "LIBDIR"
+DESTDIR="$work/staged" LIBDIR=lib64 "$install" --uninstall /usr >/dev/null
+[ -z "$(find "$work/staged" ! -type d)" ] || fail "--uninstall with DESTDIR"
+
+# The lines for C in README.md, but for the last one, which lists the sockets: a wrong argument
+# shows that the program starts.
+awk '/^\*\*C\*\*/ { on = 1 } /^\*\*Rust\*\*/ { exit } on && sub(/^    /, "")' README.md |
+    sed 's,^examples/list_sockets$,& wrong 2>usage || :,' >"$tree/lines"
+HOME="$work/a home"
+(cd "$tree" && sh -eu lines >"$work/out") || fail "the lines of README.md"
+grep -q '^usage: ' "$tree/usage" || fail "the program of README.md"
+echo "install: all tests pass"

@@ -1,0 +1,62 @@
+#!/usr/bin/env python3
+"""Compares the manual pages with the texts of --help and with the C header: options, functions,
+decode errors with their codes and texts. Prints what differs, with exit status 1. groff must print
+no warning about a page (skipped without groff)."""
+
+import re
+import shutil
+import subprocess
+import sys
+from pathlib import Path
+
+TOP = Path(__file__).resolve().parent.parent
+HEADER = (TOP / "include/sockdiag.h").read_text(encoding="utf-8")
+PAGE = (TOP / "man/sockdiag.3").read_text(encoding="utf-8")
+
+
+def options(program):
+    """Returns the options in the manual page, where .Fl writes the first hyphen, and in the list of
+    the usage."""
+    usage = (TOP / f"tests/help/{program}").read_text(encoding="utf-8")
+    listed = re.findall(r"(?m)^ +(-.*?)(?:  |$)", usage)
+    page = (TOP / f"man/{program}.1").read_text(encoding="utf-8")
+    tags = re.findall(r"(?m)^\.It Fl (.*)$", page)
+    named = [f"-{it}" for line in tags for it in re.findall(r"-?[\w=]+(?:-[\w]+)*", line)]
+    return named, [it for line in listed for it in re.findall(r"-+[\w=]+", line)]
+
+
+def functions():
+    """Returns the functions in the synopsis, and those that the header declares or defines."""
+    synopsis = PAGE.partition(".Sh SYNOPSIS")[2].partition(".Sh DESCRIPTION")[0]
+    text = re.sub(r"\s+", " ", re.sub(r"(?m)^\..*$", "", synopsis)).replace("( ", "(")
+    start = r"(?m)^(?:static inline )?((?:const )?\w+ \*?sockdiag_\w+\([^;{]*\))(?:;|\n\{)"
+    prototypes = [re.sub(r"\s+", " ", it) for it in re.findall(start, HEADER)]
+    return [it.strip() for it in text.split(";") if it.strip()], prototypes
+
+
+def errors():
+    """Returns the code, the name and the text of each decode error in the page and the header."""
+    codes = dict(re.findall(r"(?m)^    (SOCKDIAG_\w+) = (\d+),?", HEADER))
+    texts = re.findall(r'case (\w+):\s*return "([^"]*)"', HEADER)
+    return (re.findall(r"(?m)^\.It (\d+) Dv (\w+)\n(.*)$", PAGE),
+            [(codes[name], name, text) for name, text in texts if name in codes])
+
+
+def main():
+    wrong = []
+    for name, (found, expected) in (
+        ("sockdiag.1", options("sockdiag")), ("sslist.1", options("sslist")),
+        ("sockdiag.3", functions()), ("sockdiag.3", errors()),
+    ):
+        wrong += [f"man/{name}: {it} is missing" for it in expected if it not in found]
+        wrong += [f"man/{name}: unexpected {it}" for it in found if it not in expected]
+    for path in sorted((TOP / "man").iterdir()) if shutil.which("groff") else []:
+        words = ["groff", "-ww", "-mandoc", "-Tutf8", "-z", path]
+        ended = subprocess.run(words, stderr=subprocess.PIPE, text=True, check=False)
+        wrong += ended.stderr.splitlines()
+    print(*wrong, sep="\n", end="\n" * bool(wrong))
+    return 1 if wrong else 0
+
+
+if __name__ == "__main__":
+    sys.exit(main())

@@ -1,0 +1,162 @@
+#!/bin/sh
+# release.sh [--write]: runs tools/pack in copies of this tree, with programs, a library and proof
+# results made here. Needs no kit, and takes seconds.
+#
+# - tests/release.txt lists the members of each archive and package in order, with modes, owners and
+#   times, and the files that tools/install installs. --write writes a new list.
+# - Two copies at different paths, with other times and modes, are packed to the same bytes.
+# - The archive for users has no broken link. Its examples in C and Rust can be built.
+# - The packages can be installed into another root and removed from it (skipped without root).
+# - tools/pack fails if a file or the date of the version is missing.
+#
+# What needs a C compiler, cargo or dpkg is skipped without it.
+set -eu
+top=$(CDPATH='' cd -- "$(dirname -- "$0")/.." && pwd)
+version=$(cat "$top/VERSION")
+users=sockdiag-$version-x86_64-linux
+work=$(realpath "$(mktemp -d)")
+trap 'rm -rf "$work"' EXIT
+cd "$work"
+umask 022
+
+fail() {
+    echo "release.sh: $1" >&2
+    exit 1
+}
+
+has() {
+    command -v "$1" >/dev/null || { echo "release.sh: skipped: no $1" >&2; return 1; }
+}
+
+# The programs, and a library whose functions return 0.
+mkdir built
+printf '#!/bin/sh\n# GLIBC_2.4 GLIBC_2.34\n' | tee built/sockdiag >built/sslist
+echo 'rattle-kit-1 logic 0123456789abcdef' >built/KIT
+names=$(grep -oE '\bsockdiag_[a-z0-9_]+\(' "$top/include/sockdiag.h" | tr -d '(' | sort -u)
+{
+    for name in $names; do printf '.globl %s\n%s:\n' "$name" "$name"; done
+    printf '    xor %%eax, %%eax\n    ret\n.section .note.GNU-stack, "", @progbits\n'
+} >fake.s
+has "${CC:-cc}" || exit 0
+${CC:-cc} -c fake.s
+ar rcD built/libsockdiag_c.a fake.o
+
+# A copy of the tree with files that must not be packed, and with proof results, of which one file
+# has two names. An archive must not have the second one as a link.
+for copy in one 'elsewhere/a tree'; do
+    mkdir -p "$copy"
+    (cd "$top" && tar -c --exclude=target --exclude=Cargo.lock --exclude=__pycache__ docs examples \
+        include man rust tools CHANGELOG.md INSTALL.md LICENSE-MIT README.md SECURITY.md \
+        VERSION) |
+        tar -x -C "$copy"
+    mkdir -p "$copy/rust/sockdiag/target/debug"
+    for file in rust/sockdiag/target/debug/it rust/sockdiag/Cargo.lock docs/NOTES.md; do
+        echo 'not packed' >"$copy/$file"
+    done
+    for crate in netlink_core line_server; do
+        mkdir -p "$copy/crates/$crate/out/incremental/build" "$copy/crates/$crate/out/rlib"
+        echo "$crate" >"$copy/crates/$crate/out/incremental/build/one"
+        ln "$copy/crates/$crate/out/incremental/build/one" \
+            "$copy/crates/$crate/out/incremental/build/two"
+        touch "$copy/crates/$crate/out/rlib/stamp"
+    done
+done
+find elsewhere -type d -exec chmod 700 {} +
+find elsewhere -type f -exec touch -d @1 {} + ! -path '*/tools/*' -exec chmod 600 {} +
+
+# pack COPY FOLDER: packs by the time 86400, if SOURCE_DATE_EPOCH is not set.
+pack() {
+    "$1/tools/pack" built "$2" netlink_core line_server >/dev/null
+}
+
+export SOURCE_DATE_EPOCH=86400
+pack one first
+TZ=Asia/Tokyo pack 'elsewhere/a tree' second
+diff -r first second || fail "two trees are not packed to the same bytes"
+(cd first && cat ./*.sha256 | sha256sum -c --quiet) || fail "a sum is wrong"
+
+mkdir unpacked staged prefix
+tar -xzf "first/$users.tar.gz" -C unpacked
+unpacked=$work/unpacked/$users
+SHARED=no LIBDIR=lib64 DESTDIR=$work/staged "$unpacked/tools/install" /usr >/dev/null
+"$unpacked/tools/install" "$work/prefix" >/dev/null
+
+# members TITLE: prints the mode, the owner, the time and the name of each member of an archive.
+members() {
+    echo "== $1"
+    TZ=UTC tar -tv --numeric-owner --full-time | awk '{ print $1, $2, $4, $5, $6 }'
+}
+
+{
+    for archive in first/*.tar.gz; do gzip -dc "$archive" | members "$archive"; done
+    if has dpkg-deb; then
+        for package in first/*.deb; do
+            dpkg-deb --fsys-tarfile "$package" | members "$package"
+            dpkg-deb --ctrl-tarfile "$package" | members "control of $package"
+            dpkg-deb -f "$package" Package Version Architecture Depends
+        done
+    fi
+    for folder in staged prefix; do
+        echo "== tools/install, $folder"
+        (cd $folder && find . ! -type d -printf '%M %p %l\n' | sort -k 2)
+    done
+    sed -n '1,3p' staged/usr/lib64/pkgconfig/sockdiag.pc
+} | sed "s/$version/VERSION/g; s/\.${version%.*}\( \|$\)/.MAJOR\1/; s/ *$//" >list
+if [ "${1-}" = --write ]; then cp list "$top/tests/release.txt"; fi
+diff "$top/tests/release.txt" list || fail "run it with --write if the difference is intended"
+
+python3 "$top/tests/tidy.py" --links "$unpacked" || fail "the archive for users has broken links"
+for page in "$unpacked"/docs/*.md; do
+    grep -q "(docs/$(basename "$page")" "$unpacked/INSTALL.md" || fail "INSTALL.md lacks $page"
+done
+cd "$unpacked"
+${CC:-cc} -Iinclude -o "$work/static" examples/list_sockets.c lib/libsockdiag.a
+${CC:-cc} -I"$work/prefix/include" -L"$work/prefix/lib" -o "$work/shared" examples/list_sockets.c \
+    -lsockdiag
+if has make && has pkg-config; then
+    PKG_CONFIG_PATH=$work/prefix/lib/pkgconfig make -s -C examples
+fi
+if has cargo; then
+    (cd rust/sockdiag && unset SOCKDIAG_LIB_DIR &&
+        CARGO_TARGET_DIR=$work/target cargo build --offline --quiet --example list_sockets)
+fi
+cd "$work"
+
+if has dpkg-deb; then
+    for package in first/*.deb; do
+        dpkg-deb -R "$package" tree
+        (cd tree && md5sum -c --quiet DEBIAN/md5sums) || fail "$package: a sum is wrong"
+        [ "$(find tree/usr -type f | wc -l)" -eq "$(wc -l <tree/DEBIAN/md5sums)" ] ||
+            fail "$package: a file has no sum"
+        rm -r tree
+    done
+fi
+if [ "$(id -u)" -eq 0 ] && has dpkg; then
+    mkdir -p root/var/lib/dpkg/info root/var/lib/dpkg/updates
+    touch root/var/lib/dpkg/available root/var/lib/dpkg/status
+    # A container's configuration may leave out documentation, and log outside of the root.
+    for action in "--install $(echo first/*.deb)" --verify '--purge sockdiag libsockdiag-dev'; do
+        # shellcheck disable=SC2086
+        dpkg --root=root --log=log --force-depends '--path-include=*' $action >said 2>&1 ||
+            fail "dpkg $action: $(cat said)"
+        [ "$action" != --verify ] || [ ! -s said ] || fail "dpkg --verify: $(cat said)"
+    done
+    [ -z "$(find root -type f ! -path '*/var/*')" ] || fail "dpkg --purge leaves files"
+fi
+
+# The date of the version in CHANGELOG.md, and a date after 2106.
+SOURCE_DATE_EPOCH='' pack one dated
+day=$(sed -n "s/^## \[$version\] - //p" one/CHANGELOG.md)
+for case in "dated $day" 'future 2106-02-08'; do
+    folder=${case% *} time=$(date -u -d "${case#* }" +%s)
+    [ -d $folder ] || SOURCE_DATE_EPOCH=$time pack one $folder
+    TZ=UTC tar -tvzf "$folder/$users.tar.gz" --full-time | grep -v " ${case#* } " >wrong || continue
+    fail "$folder: $(head -n 1 wrong)"
+done
+
+mv one/docs/LINES.md one/docs/OTHER.md
+if pack one lacking 2>/dev/null; then fail "it packs without a page"; fi
+mv one/docs/OTHER.md one/docs/LINES.md
+echo '## [Unreleased]' >one/CHANGELOG.md
+if SOURCE_DATE_EPOCH='' pack one undated 2>said; then fail "it packs without a date"; fi
+grep -q "no date of $version in CHANGELOG.md" said || fail "no date: $(cat said)"

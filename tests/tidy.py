@@ -1,0 +1,166 @@
+#!/usr/bin/env python3
+"""Checks the text of the repository. Prints what is wrong; the exit status is 1 if anything is.
+
+    tests/tidy.py                  all checks
+    tests/tidy.py --links FOLDER   only the links of the pages in FOLDER, an unpacked release
+"""
+
+import re
+import subprocess
+import sys
+from pathlib import Path
+
+TOP = Path(__file__).resolve().parent.parent
+CODE = {".rt", ".antt", ".py", ".sh", ".c", ".h"}
+# Allowed number of consecutive equal lines of two files.
+MOST_EQUAL = 20
+COLUMNS = 100
+LINK = re.compile(r"\[[^\]]*\]\(([^)\s]+)\)")
+# A path from the top of the repository, or from the page's folder, in code marks. NAME, CRATE and
+# try_it are placeholders.
+PATH = re.compile(r"`((?:bench|crates|docs|examples|include|tests|tools)/[\w./]+)`")
+PLACEHOLDER = re.compile(r"NAME|CRATE|try_it")
+# The line with the version in each file; the first match counts. CHANGELOG.md may begin with a
+# heading [Unreleased], for the changes since that version.
+VERSIONS = {
+    "CHANGELOG.md": r"(?m)^## (?!\[Unreleased\])\[?([^\]\s]+)",
+    "crates/sock_diag_captures/src/lib.rt": r'(?m)^pub const VERSION: &str = "([^"]*)";$',
+    "crates/sock_diag_lines/src/lib.rt": r'(?m)^pub const VERSION: &str = "([^"]*)";$',
+    "include/sockdiag.h": r'(?m)^#define SOCKDIAG_VERSION "([^"]*)"$',
+    "rust/sockdiag/Cargo.toml": r'(?m)^version = "([^"]*)"$',
+}
+
+
+def repeated_code(files):
+    """Yields the pairs of files with more than MOST_EQUAL consecutive lines in common, except blank
+    lines and indentation. docs/DECISIONS.md lists the blocks that differ only in names."""
+    seen, found = {}, set()
+    for name, text in files.items():
+        if Path(name).suffix not in CODE | {".edit"}:
+            continue
+        numbered = [(number, line.strip()) for number, line in enumerate(text.splitlines(), 1)]
+        lines = [pair for pair in numbered if pair[1]]
+        for at in range(len(lines) - MOST_EQUAL):
+            block = tuple(line for _, line in lines[at : at + MOST_EQUAL + 1])
+            other, number = seen.setdefault(block, (name, lines[at][0]))
+            if other != name and (other, name) not in found:
+                found.add((other, name))
+                yield f"{other}:{number}: more than {MOST_EQUAL} lines as at {name}:{lines[at][0]}"
+
+
+def is_unbreakable(name, line):
+    """Returns whether a line cannot be broken: an import of one name, an attribute that names
+    lemmas, a string literal, a row of a table in a doc comment, or a crate and its dependencies."""
+    line = line.strip()
+    return (
+        re.match(r"(pub )?(ghost )?use ([^{]*\{[^,]*\}|[\w.-]+ as \w+);?$", line)
+        or line.startswith(("#[tactic", '"', "//! |", "/// |"))
+        or name == "crates.txt" and not line.startswith("#")
+    )
+
+
+def wide_lines(files):
+    """Yields the lines of code with more than COLUMNS columns. Pages, must-fail edits, which quote
+    code, and tests/surface.txt are not checked."""
+    for name, text in files.items():
+        if Path(name).suffix in {".md", ".edit", ".toml"} or name.startswith("docs/"):
+            continue
+        for number, line in enumerate(text.splitlines(), 1):
+            if len(line) > COLUMNS and not is_unbreakable(name, line):
+                yield f"{name}:{number}: {len(line)} columns"
+
+
+def anchors(page):
+    """Returns the anchors of the page's headings: lower case, hyphens for spaces, without
+    punctuation."""
+    heads = re.findall(r"^#+ (.*)$", page.read_text(encoding="utf-8"), re.MULTILINE)
+    return {re.sub(r"[^\w\- ]", "", head.lower()).replace(" ", "-") for head in heads}
+
+
+def is_broken(page, link):
+    """Returns whether the target of a link is missing, a file or a heading. Links to the web are
+    not checked."""
+    if re.match(r"\w+:", link):
+        return False
+    path, _, anchor = link.partition("#")
+    target = page.parent / path if path else page
+    return not target.exists() or (anchor != "" and anchor not in anchors(target))
+
+
+def broken_links(top, files):
+    """Yields the broken links of the pages, and the paths in code marks that do not exist."""
+    for name, text in files.items():
+        if not name.endswith(".md"):
+            continue
+        page = top / name
+        for link in LINK.findall(text):
+            if is_broken(page, link):
+                yield f"{name}: {link} does not exist"
+        for path in PATH.findall(text):
+            exists = (top / path).exists() or (page.parent / path).exists()
+            if not exists and not PLACEHOLDER.search(path):
+                yield f"{name}: {path} does not exist"
+
+
+def wrong_versions(files):
+    """Yields the files that have another version than VERSION."""
+    version = (TOP / "VERSION").read_text(encoding="utf-8").strip()
+    for name, pattern in VERSIONS.items():
+        found = re.search(pattern, files[name])
+        if not found or found[1] != version:
+            yield f"{name}: {found[1] if found else 'no version'}, expected {version}"
+
+
+def unusable_edits(files):
+    """Yields the edits that cannot be applied: each `old:` text has to occur once in its file."""
+    for name, text in files.items():
+        crate = re.match(r"(?:tests/edits/(\w+)|crates/(\w+)/must-fail)/[^/]+\.edit$", name)
+        if not crate:
+            continue
+        path, old, changed = "", "", {"": ""}
+        for word, rest in re.findall(r"(?m)^(file|old|new): ?(.*)$", text):
+            if word == "file":
+                path = f"crates/{crate[1] or crate[2]}/{rest}"
+                changed.setdefault(path, files.get(path, ""))
+            elif word == "old":
+                old = rest
+            elif old and changed[path].count(old) == 1:
+                changed[path] = changed[path].replace(old, rest)
+            else:
+                yield f"{name}: occurs {changed[path].count(old)} times in {path}: {old}"
+        if all(files.get(path, "") == text for path, text in changed.items()):
+            yield f"{name}: changes nothing"
+
+
+def text_files():
+    """Returns the texts of code, pages, edits and scripts by name. Files that git ignores and the
+    data of tests are left out."""
+    listed = subprocess.run(
+        ["git", "ls-files", "--cached", "--others", "--exclude-standard"],
+        cwd=TOP, stdout=subprocess.PIPE, text=True, check=True,
+    ).stdout.splitlines()
+    suffixes = CODE | {".md", ".edit", ".rs", ".toml", ".in"}
+    scripts = (".ci/", "tools/", "examples/")
+    others = {"sockdiag", "sslist", "crates.txt"}
+    names = [
+        name for name in sorted(listed)
+        if Path(name).suffix in suffixes or name.startswith(scripts) or name in others
+    ]
+    return {name: (TOP / name).read_text("utf-8") for name in names if (TOP / name).is_file()}
+
+
+def main():
+    if sys.argv[1:2] == ["--links"]:
+        top = Path(sys.argv[2])
+        pages = {str(page.relative_to(top)): page.read_text("utf-8") for page in top.rglob("*.md")}
+        wrong = list(broken_links(top, pages))
+    else:
+        files = text_files()
+        wrong = [*repeated_code(files), *wide_lines(files), *broken_links(TOP, files),
+                 *wrong_versions(files), *unusable_edits(files)]
+    print(*wrong, sep="\n", end="\n" * bool(wrong))
+    return 1 if wrong else 0
+
+
+if __name__ == "__main__":
+    sys.exit(main())

@@ -1,0 +1,64 @@
+#!/bin/sh
+# Runs tools/vendor in small repositories. It copies the seven libraries, refuses this repository as
+# target, and changes nothing in the target if it cannot copy all of them. Needs no kit.
+set -eu
+tools=$(CDPATH='' cd -- "$(dirname -- "$0")/../tools" && pwd)
+work=$(realpath "$(mktemp -d)")
+trap 'rm -rf "$work"' EXIT
+cd "$work"
+
+libraries='netlink_core attribute_lists sock_diag_values sock_diag_records sock_diag_attributes
+    sock_diag_replies netlink_packet_sock_diag'
+mkdir -p from/tools to/crates/mine/src to/crates/netlink_core/src linked
+cp "$tools/vendor" from/tools
+touch from/LICENSE-MIT from/VERSION
+for name in $libraries extra; do
+    echo "$name:" >>from/crates.txt
+    mkdir -p "from/crates/$name"
+    for part in src specs proofs; do
+        mkdir "from/crates/$name/$part"
+        echo "$part of $name" >"from/crates/$name/$part/file"
+    done
+done
+mkdir -p from/crates/netlink_core/out/rlib
+touch from/crates/netlink_core/out/rlib/stamp
+printf 'mine: netlink_core\nnetlink_core: old\n' >to/crates.txt
+echo mine >to/crates/mine/src/lib.rt
+echo old >to/crates/netlink_core/src/gone.rt
+ln -s "$work/from" link
+ln -s "$work/from/crates" linked/crates
+cp -R from from.before
+cp -R to to.before
+
+fail() {
+    echo "vendor.sh: $1" >&2
+    exit 1
+}
+
+for target in from from/tools/.. link from/crates/extra from/new linked; do
+    status=0
+    from/tools/vendor "$target" 2>errors || status=$?
+    [ $status -eq 2 ] && grep -q 'is in this repository$' errors ||
+        fail "$target is not refused: $status $(cat errors)"
+done
+diff -r from from.before || fail "a refused target was changed"
+
+mv from/crates/sock_diag_replies/proofs proofs
+if from/tools/vendor to 2>errors; then fail "it ended with status 0 without the proofs"; fi
+diff -r to to.before || fail "the target was changed though not all was copied"
+mv proofs from/crates/sock_diag_replies/proofs
+
+{ for name in $libraries; do echo "$name:"; done; echo 'mine: netlink_core'; } >expected
+# The last target does not exist yet.
+for target in to to new; do
+    from/tools/vendor $target 2>errors || fail "status $?"
+    if grep -v 'not proved here yet' errors; then fail "unexpected messages"; fi
+    if [ $target = new ]; then sed -i '$d' expected; fi
+    diff expected $target/crates.txt || fail "wrong crates.txt in $target"
+    ls $target/crates >listed
+    sed 's/:.*//' expected | sort | diff - listed || fail "wrong crates in $target"
+    (cd $target/crates/netlink_core && find . -type f | sort | tr '\n' ' ') >files
+    echo './.gitignore ./LICENSE-MIT ./VERSION ./out/rlib/stamp ./proofs/file ./specs/file' \
+        './src/file ' | tr -d '\n' | diff files - || fail "wrong files in $target"
+done
+diff -r to/crates/mine to.before/crates/mine || fail "a crate of the target was changed"
