@@ -140,14 +140,51 @@ impl Answer<'_> {
     }
 }
 
-/// The connection to the kernel, with the sequence number of the last request.
-struct Kernel {
-    socket: File,
-    sequence_number: u32,
+/// Lists sockets.
+pub struct Lister<K, W> {
+    /// The netlink socket.
+    pub kernel: K,
+    /// Where the lines about sockets are written.
+    pub output: W,
+    /// Sequence number of the last request.
+    pub sequence_number: u32,
 }
 
-impl Kernel {
-    /// Requests sockets, and prints their lines. Requests them again if the dump is interrupted.
+impl<K: Read + Write, W: Write> Lister<K, W> {
+    /// Writes a line for each socket of this machine.
+    pub fn list_all(&mut self) -> io::Result<()> {
+        let unix = UnixRequest {
+            state_flags: unix::StateFlags::every_state(),
+            show_flags: ShowFlags::NAME | ShowFlags::PEER | ShowFlags::ICONS,
+            ..UnixRequest::default()
+        };
+        self.list("unix", |header| unix.to_message(header).to_vec())?;
+        let v4 = (AF_INET, SocketId::new_v4());
+        let v6 = (AF_INET6, SocketId::new_v6());
+        // The `INET_DIAG_INFO` of MPTCP is another struct, and its replies would be rejected.
+        let of_tcp = ExtensionFlags::INFO | ExtensionFlags::CONG;
+        let none = ExtensionFlags::empty();
+        for (name, protocol, extensions, (family, socket_id)) in [
+            ("tcp", IPPROTO_TCP, of_tcp, v4),
+            ("tcp", IPPROTO_TCP, of_tcp, v6),
+            ("udp", IPPROTO_UDP, none, v4),
+            ("udp", IPPROTO_UDP, none, v6),
+            ("mptcp", IPPROTO_MPTCP, none, v4),
+            ("mptcp", IPPROTO_MPTCP, none, v6),
+        ] {
+            let request = InetRequest {
+                family,
+                protocol,
+                extensions,
+                states: inet::StateFlags::every_state(),
+                socket_id,
+            };
+            self.list(name, |header| request.to_message(header).to_vec())?;
+        }
+        Ok(())
+    }
+
+    /// Requests sockets, and writes their lines. Requests them again if the dump is interrupted.
     fn list(
         &mut self,
         protocol: &str,
@@ -162,7 +199,7 @@ impl Kernel {
         if answer.check.is_interrupted() {
             eprintln!("list_sockets: {protocol}: dump interrupted; sockets may be missing");
         }
-        io::stdout().write_all(answer.lines.as_bytes())
+        self.output.write_all(answer.lines.as_bytes())
     }
 
     /// Sends a request, and reads its whole answer.
@@ -177,7 +214,7 @@ impl Kernel {
             sequence_number: self.sequence_number,
             ..NetlinkHeader::default()
         };
-        self.socket.write_all(&request(&header))?;
+        self.kernel.write_all(&request(&header))?;
         let mut answer = Answer {
             protocol,
             check: AnswerCheck::new(self.sequence_number, 0),
@@ -185,7 +222,7 @@ impl Kernel {
         };
         let mut buffer = vec![0; 1 << 16];
         loop {
-            let length = self.socket.read(&mut buffer)?;
+            let length = self.kernel.read(&mut buffer)?;
             if answer.read(&buffer[..length])? {
                 return Ok(answer);
             }
@@ -194,39 +231,12 @@ impl Kernel {
 }
 
 fn list_all() -> io::Result<()> {
-    let mut kernel = Kernel {
-        socket: open()?,
+    let mut lister = Lister {
+        kernel: open()?,
+        output: io::stdout().lock(),
         sequence_number: 0,
     };
-    let unix = UnixRequest {
-        state_flags: unix::StateFlags::every_state(),
-        show_flags: ShowFlags::NAME | ShowFlags::PEER | ShowFlags::ICONS,
-        ..UnixRequest::default()
-    };
-    kernel.list("unix", |header| unix.to_message(header).to_vec())?;
-    let v4 = (AF_INET, SocketId::new_v4());
-    let v6 = (AF_INET6, SocketId::new_v6());
-    // The `INET_DIAG_INFO` of MPTCP is another struct, and its replies would be rejected.
-    let of_tcp = ExtensionFlags::INFO | ExtensionFlags::CONG;
-    let none = ExtensionFlags::empty();
-    for (name, protocol, extensions, (family, socket_id)) in [
-        ("tcp", IPPROTO_TCP, of_tcp, v4),
-        ("tcp", IPPROTO_TCP, of_tcp, v6),
-        ("udp", IPPROTO_UDP, none, v4),
-        ("udp", IPPROTO_UDP, none, v6),
-        ("mptcp", IPPROTO_MPTCP, none, v4),
-        ("mptcp", IPPROTO_MPTCP, none, v6),
-    ] {
-        let request = InetRequest {
-            family,
-            protocol,
-            extensions,
-            states: inet::StateFlags::every_state(),
-            socket_id,
-        };
-        kernel.list(name, |header| request.to_message(header).to_vec())?;
-    }
-    Ok(())
+    lister.list_all()
 }
 
 fn main() -> ExitCode {
