@@ -13,7 +13,6 @@ declarations of rust/sockdiag.
 """
 
 import os
-import re
 import shutil
 import subprocess
 import sys
@@ -66,16 +65,11 @@ def compile_rust():
 
 
 def has_cargo():
-    """Returns whether there is a cargo that is new enough for rust/sockdiag, and a linker `cc`."""
-    least = re.search(r'rust-version = "(\d+)\.(\d+)"', (RUST / "Cargo.toml").read_text())
-    printed = ""
+    """Returns whether there are cargo and a linker `cc`."""
     if shutil.which("cargo") and shutil.which("cc"):
-        printed = subprocess.run(["cargo", "--version"], stdout=subprocess.PIPE, text=True).stdout
-    version = re.match(r"cargo (\d+)\.(\d+)", printed)
-    if not version or tuple(map(int, version.groups())) < tuple(map(int, least.groups())):
-        print("skipped: rust/sockdiag: no cargo that is new enough, or no cc")
-        return False
-    return True
+        return True
+    print("skipped: rust/sockdiag: no cargo or no cc")
+    return False
 
 
 def main():

@@ -1,29 +1,76 @@
-//! Links the C library. If `SOCKDIAG_LIB_DIR` is set, links `libsockdiag.a` in this folder, where
-//! `tools/install` installs it. Else links the library in the folder `lib` of a release, or the one
-//! that `rt lib` builds in `crates/sockdiag_c` of the sources.
+//! Links the C library, `libsockdiag.a` or `libsockdiag_c.a`, by the first of these that has it:
+//!
+//! 1. the folder `SOCKDIAG_LIB_DIR`, if it is set; then no other is searched;
+//! 2. the folder `lib` of a release;
+//! 3. the folder in which `rt lib` builds the library in the sources;
+//! 4. pkg-config, if the library is installed.
+//!
+//! On docs.rs, which sets `DOCS_RS`, nothing is linked: the documentation does not need the
+//! library.
 
 use std::env;
-use std::path::PathBuf;
-use std::process;
+use std::path::{Path, PathBuf};
+use std::process::Command;
+
+/// The name that `tools/install` and a release give the library, and the one that `rt lib` gives
+/// it.
+const NAMES: [&str; 2] = ["sockdiag", "sockdiag_c"];
 
 fn main() {
-    println!("cargo:rerun-if-env-changed=SOCKDIAG_LIB_DIR");
-    let sources = PathBuf::from(env::var_os("CARGO_MANIFEST_DIR").expect("cargo sets it"));
-    let release = sources.join("../../lib");
-    let (folder, name) = match env::var_os("SOCKDIAG_LIB_DIR") {
-        Some(folder) => (PathBuf::from(folder), "sockdiag"),
-        None if release.join("libsockdiag.a").exists() => (release, "sockdiag"),
-        None => (sources.join("../../crates/sockdiag_c/out"), "sockdiag_c"),
-    };
-    let file = folder.join(format!("lib{name}.a"));
-    if !file.exists() {
-        eprintln!(
-            "sockdiag: {} not found; set SOCKDIAG_LIB_DIR, or run `rt lib` in crates/sockdiag_c",
-            file.display()
-        );
-        process::exit(1);
+    println!("cargo::rerun-if-env-changed=SOCKDIAG_LIB_DIR");
+    println!("cargo::rerun-if-env-changed=PKG_CONFIG_PATH");
+    println!("cargo::rerun-if-env-changed=DOCS_RS");
+    if env::var_os("DOCS_RS").is_some() {
+        return;
     }
-    println!("cargo:rerun-if-changed={}", file.display());
-    println!("cargo:rustc-link-search=native={}", folder.display());
-    println!("cargo:rustc-link-lib=static={name}");
+    let folders = folders();
+    let is_linked =
+        folders.iter().any(|folder| link_in(folder)) || (!is_set() && link_by_pkg_config());
+    if !is_linked {
+        let searched = folders.iter().map(|folder| folder.display().to_string());
+        println!(
+            "cargo::error=libsockdiag.a not found in {}; install it by tools/install, and set \
+             SOCKDIAG_LIB_DIR to its folder",
+            searched.collect::<Vec<_>>().join(" or ")
+        );
+    }
+}
+
+fn is_set() -> bool {
+    env::var_os("SOCKDIAG_LIB_DIR").is_some()
+}
+
+/// Returns the folders that may have the library.
+fn folders() -> Vec<PathBuf> {
+    if let Some(folder) = env::var_os("SOCKDIAG_LIB_DIR") {
+        return vec![PathBuf::from(folder)];
+    }
+    // Cargo runs a build script in the folder of its package, and sets this variable.
+    let package = env::var_os("CARGO_MANIFEST_DIR").map_or_else(PathBuf::new, PathBuf::from);
+    ["../../lib", "../../crates/sockdiag_c/out"]
+        .map(|folder| package.join(folder))
+        .to_vec()
+}
+
+/// Links the library in a folder. Returns whether the folder has it.
+fn link_in(folder: &Path) -> bool {
+    let file = |name: &&str| folder.join(format!("lib{name}.a"));
+    let Some(name) = NAMES.into_iter().find(|name| file(name).exists()) else {
+        return false;
+    };
+    println!("cargo::rerun-if-changed={}", file(&name).display());
+    println!("cargo::rustc-link-search=native={}", folder.display());
+    println!("cargo::rustc-link-lib=static={name}");
+    true
+}
+
+/// Links the library in the folder that pkg-config names. Returns whether there is one.
+fn link_by_pkg_config() -> bool {
+    Command::new("pkg-config")
+        .args(["--variable=libdir", "sockdiag"])
+        .output()
+        .is_ok_and(|output| {
+            let folder = String::from_utf8_lossy(&output.stdout);
+            output.status.success() && link_in(Path::new(folder.trim()))
+        })
 }

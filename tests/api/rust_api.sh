@@ -1,8 +1,9 @@
 #!/bin/sh
 # Tests rust/sockdiag with the C library, offline, and also under valgrind if it is installed. Then
 # lists the sockets of this machine by its example. Builds the C library first if it is missing.
-# Needs cargo. tools/release runs this script. So does tests/bindings.py, which the gate runs, if
-# the library takes only seconds to build.
+# Compares the crate with the program sockdiag if it is built. Needs cargo. tools/release runs this
+# script. So does tests/bindings.py, which the gate runs, if the library takes only seconds to
+# build.
 set -eu
 top=$(CDPATH='' cd -- "$(dirname -- "$0")/../.." && pwd)
 work=$(mktemp -d)
@@ -15,11 +16,17 @@ quiet() {
 
 [ -f "$top/crates/sockdiag_c/out/libsockdiag_c.a" ] || (cd "$top/crates/sockdiag_c" && quiet rt lib)
 cd "$top/rust/sockdiag"
-quiet cargo test --offline
 if command -v valgrind >/dev/null; then
     quiet env CARGO_TARGET_X86_64_UNKNOWN_LINUX_GNU_RUNNER='valgrind -q --error-exitcode=1' \
-        cargo test --offline --test replies
+        cargo test --offline --test changed_bytes
 fi
+program=${SOCKDIAG_PROGRAM-$top/crates/sockdiag/out/sockdiag}
+if [ -f "$program" ]; then
+    export SOCKDIAG_PROGRAM="$program"
+else
+    echo "rust_api: skipped: no program $program to compare with"
+fi
+quiet cargo test --offline
 echo "rust_api: all tests pass"
 quiet cargo build --offline --example list_sockets
 if cargo run --offline --quiet --example list_sockets >"$work/sockets" 2>"$work/errors"; then

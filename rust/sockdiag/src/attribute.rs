@@ -42,14 +42,16 @@ pub struct Attributes<'a> {
 impl<'a> Attributes<'a> {
     /// Returns an iterator over the attributes in these bytes.
     pub fn new(bytes: &'a [u8]) -> Self {
-        Attributes::behind(bytes, 0)
+        Attributes::after_header(bytes, 0)
     }
 
-    /// Returns an iterator over the attributes after a header of `place` bytes.
-    pub(crate) fn behind(bytes: &'a [u8], place: usize) -> Self {
+    /// Returns an iterator over the attributes after a header of this length.
+    pub(crate) fn after_header(bytes: &'a [u8], header_length: usize) -> Self {
         Attributes {
             bytes,
-            cursor: Cursor { place },
+            cursor: Cursor {
+                place: header_length,
+            },
         }
     }
 }
@@ -64,7 +66,7 @@ impl<'a> Iterator for Attributes<'a> {
                 value: self.bytes.get(part.offset..part.offset + part.length)?,
             })),
             Err(0) => None,
-            Err(fault) => Some(Err(DecodeError::from_number(fault))),
+            Err(code) => Some(Err(DecodeError::from_code(code))),
         }
     }
 }
@@ -75,25 +77,25 @@ impl core::iter::FusedIterator for Attributes<'_> {}
 #[derive(Clone, Copy, Debug, PartialEq, Eq)]
 pub struct Nlas<'a, N> {
     bytes: &'a [u8],
-    place: usize,
-    said: PhantomData<fn() -> N>,
+    header_length: usize,
+    decoded: PhantomData<fn() -> N>,
 }
 
 impl<'a, N: From<Attribute<'a>>> Nlas<'a, N> {
-    /// Returns the attributes after a header of `place` bytes of a checked reply.
-    pub(crate) fn behind(bytes: &'a [u8], place: usize) -> Self {
+    /// Returns the attributes after a header of this length, of a checked reply.
+    pub(crate) fn after_header(bytes: &'a [u8], header_length: usize) -> Self {
         Nlas {
             bytes,
-            place,
-            said: PhantomData,
+            header_length,
+            decoded: PhantomData,
         }
     }
 
     /// Returns an iterator over the decoded attributes.
     pub fn iter(&self) -> NlaWalk<'a, N> {
         NlaWalk {
-            attributes: Attributes::behind(self.bytes, self.place),
-            said: PhantomData,
+            attributes: Attributes::after_header(self.bytes, self.header_length),
+            decoded: PhantomData,
         }
     }
 
@@ -130,7 +132,7 @@ impl<'a, N: From<Attribute<'a>>> IntoIterator for &Nlas<'a, N> {
 #[derive(Clone, Debug)]
 pub struct NlaWalk<'a, N> {
     attributes: Attributes<'a>,
-    said: PhantomData<fn() -> N>,
+    decoded: PhantomData<fn() -> N>,
 }
 
 impl<'a, N: From<Attribute<'a>>> Iterator for NlaWalk<'a, N> {
@@ -141,9 +143,9 @@ impl<'a, N: From<Attribute<'a>>> Iterator for NlaWalk<'a, N> {
     }
 }
 
-/// Returns the little-endian `u32` at index `place` of an array of `u32`s, or `None` past its end.
-pub(crate) fn word(bytes: &[u8], place: usize) -> Option<u32> {
-    let bytes = bytes.get(4 * place..)?.first_chunk()?;
+/// Returns the little-endian `u32` at an index of an array of `u32`s, or `None` past its end.
+pub(crate) fn word(bytes: &[u8], index: usize) -> Option<u32> {
+    let bytes = bytes.get(4 * index..)?.first_chunk()?;
     Some(u32::from_le_bytes(*bytes))
 }
 

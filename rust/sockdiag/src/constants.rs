@@ -30,8 +30,35 @@ pub const NLM_F_REQUEST: u16 = 1;
 /// Header flags that request all entries of a table: `NLM_F_ROOT | NLM_F_MATCH`.
 pub const NLM_F_DUMP: u16 = 0x300;
 
+/// Part of a multipart message, which `NLMSG_DONE` terminates.
+pub const NLM_F_MULTI: u16 = 2;
+
 /// In a request: requests an acknowledgement.
 pub const NLM_F_ACK: u16 = 4;
+
+/// In a request: requests the notifications that it causes.
+pub const NLM_F_ECHO: u16 = 8;
+
+/// In a reply: the dump is inconsistent, since the sockets changed during the dump.
+pub const NLM_F_DUMP_INTR: u16 = 0x10;
+
+/// In a reply: the dump was filtered as requested.
+pub const NLM_F_DUMP_FILTERED: u16 = 0x20;
+
+/// In a request: requests the complete table.
+pub const NLM_F_ROOT: u16 = 0x100;
+
+/// In a request: requests all entries that match.
+pub const NLM_F_MATCH: u16 = 0x200;
+
+/// In a request: requests an atomic snapshot.
+pub const NLM_F_ATOMIC: u16 = 0x400;
+
+/// In an acknowledgement: it contains only the header of the request.
+pub const NLM_F_CAPPED: u16 = 0x100;
+
+/// In an acknowledgement: attributes `NLMSGERR_ATTR_..` follow.
+pub const NLM_F_ACK_TLVS: u16 = 0x200;
 
 // ---- Address families.
 

@@ -1,16 +1,17 @@
 //! Netlink messages, and iterators over the messages of a datagram.
 
 use crate::calls;
-use crate::constants::{AF_NETLINK, AF_PACKET, AF_VSOCK, AF_XDP};
+use crate::constants::{AF_INET, AF_INET6, AF_NETLINK, AF_PACKET, AF_UNIX, AF_VSOCK, AF_XDP};
 use crate::constants::{NLMSG_DONE, NLMSG_ERROR, NLMSG_NOOP, NLMSG_OVERRUN, SOCK_DIAG_BY_FAMILY};
 use crate::inet::{InetReply, InetRequest, RequestBytes};
 use crate::netlink::NetlinkReply;
 use crate::packet::PacketReply;
-use crate::sys::Cursor;
+use crate::sys::{Cursor, MessagePart};
 use crate::unix::{UnixReply, UnixRequest};
 use crate::vsock::VsockReply;
 use crate::xdp::XdpReply;
 use crate::DecodeError;
+use core::fmt;
 
 /// The header of a netlink message: `struct nlmsghdr` of netlink(7).
 ///
@@ -23,12 +24,26 @@ pub struct NetlinkHeader {
     /// Type of the payload (`nlmsg_type`): one of the `NLMSG_` types, or `SOCK_DIAG_BY_FAMILY` for
     /// a reply.
     pub message_type: u16,
-    /// The `NLM_F_` flags (`nlmsg_flags`).
+    /// The `NLM_F_` flags (`nlmsg_flags`). If a message of a dump has `NLM_F_DUMP_INTR`, the list
+    /// may have gaps ([`AnswerCheck`](crate::AnswerCheck)).
     pub flags: u16,
     /// Sequence number of the sender (`nlmsg_seq`), which a reply repeats.
     pub sequence_number: u32,
-    /// Port id of the sender (`nlmsg_pid`), 0 for the kernel.
+    /// Port id (`nlmsg_pid`). In a request: of the sender, or 0. In a reply: of the socket that
+    /// sent the request.
     pub port_number: u32,
+}
+
+impl From<MessagePart> for NetlinkHeader {
+    fn from(part: MessagePart) -> Self {
+        NetlinkHeader {
+            length: part.length as u32 + 16,
+            message_type: part.message_type,
+            flags: part.flags,
+            sequence_number: part.sequence_number,
+            port_number: part.port_number,
+        }
+    }
 }
 
 /// A netlink message. Its payload is an `I`, unless its type is a control type.
@@ -54,9 +69,10 @@ impl<'a> NetlinkMessage<SockDiagMessage<'a>> {
     /// Parses the message at the start of the bytes. The next message is at offset `header.length`,
     /// rounded up to a multiple of 4; [`Dump`] yields each message.
     pub fn deserialize(bytes: &'a [u8]) -> Result<Self, DecodeError> {
-        Dump::new(bytes)
-            .next()
-            .unwrap_or(Err(DecodeError::EnvelopeCut))
+        match Dump::new(bytes).next() {
+            Some(message) => Ok(message?),
+            None => Err(DecodeError::EnvelopeCut),
+        }
     }
 
     /// Sets the length and the type of a request in its header. Leaves another message unchanged.
@@ -100,9 +116,13 @@ pub enum NetlinkPayload<I> {
     /// `NLMSG_NOOP`: no content.
     Noop,
     /// `NLMSG_ERROR`: a request failed, with `-errno`, or is acknowledged, with 0. `None` if the
-    /// payload has fewer than four bytes.
+    /// payload has fewer than four bytes. A kernel without a protocol answers a request for it with
+    /// `ENOENT` (2) or `EINVAL` (22). After the number, a kernel sends more information to a socket
+    /// with the option `NETLINK_EXT_ACK`, which is not parsed here.
     Error(Option<i32>),
-    /// `NLMSG_DONE`: the end of a dump, with a number as in `Error`.
+    /// `NLMSG_DONE`: the end of a dump, with a number as in `Error`. A dump that failed ends so
+    /// too, with `-errno`: match `Done(Some(0))`. The answer to a request for a single socket is
+    /// one message, without a `Done`.
     Done(Option<i32>),
     /// `NLMSG_OVERRUN`: data was lost.
     Overrun,
@@ -124,7 +144,8 @@ impl<'a> From<SockDiagMessage<'a>> for NetlinkPayload<SockDiagMessage<'a>> {
 pub enum SockDiagMessage<'a> {
     /// A reply describing one UNIX socket.
     UnixResponse(UnixReply<'a>),
-    /// A reply describing one IPv4 or IPv6 socket.
+    /// A reply describing one IPv4 or IPv6 socket. It does not distinguish TCP from UDP: request
+    /// one protocol at a time.
     InetResponse(InetReply<'a>),
     /// A request for UNIX sockets.
     UnixRequest(UnixRequest),
@@ -158,7 +179,9 @@ impl<'a> SockDiagMessage<'a> {
         SOCK_DIAG_BY_FAMILY
     }
 
-    /// Checks the whole payload of a message of the given type, and parses it.
+    /// Checks the whole payload of a message of the given type, and parses it. A reply of another
+    /// family than `AF_UNIX`, `AF_INET` and `AF_INET6` is rejected with `UnknownFamily`;
+    /// [`AnySockDiagMessage::parse`] parses four more.
     pub fn parse(payload: &'a [u8], message_type: u16) -> Result<Self, DecodeError> {
         let [family, _, ..] = *payload else {
             return Err(DecodeError::MessageTooShort);
@@ -167,8 +190,8 @@ impl<'a> SockDiagMessage<'a> {
             return Err(DecodeError::UnknownMessageType);
         }
         match family {
-            1 => UnixReply::parse(payload).map(SockDiagMessage::UnixResponse),
-            2 | 10 => InetReply::parse(payload).map(SockDiagMessage::InetResponse),
+            AF_UNIX => UnixReply::parse(payload).map(SockDiagMessage::UnixResponse),
+            AF_INET | AF_INET6 => InetReply::parse(payload).map(SockDiagMessage::InetResponse),
             _ => Err(DecodeError::UnknownFamily),
         }
     }
@@ -179,7 +202,8 @@ impl<'a> SockDiagMessage<'a> {
 // The variants are not boxed, since this crate does not allocate.
 #[allow(clippy::large_enum_variant)]
 pub enum AnySockDiagMessage<'a> {
-    /// A reply describing an IPv4, IPv6 or UNIX socket.
+    /// A reply describing an IPv4, IPv6 or UNIX socket: the families of the crate that
+    /// [`SockDiagMessage`] is a port of. It is not a port number.
     Port(SockDiagMessage<'a>),
     /// A reply describing a netlink socket.
     Netlink(NetlinkReply<'a>),
@@ -215,10 +239,58 @@ impl<'a> AnySockDiagMessage<'a> {
     }
 }
 
+/// A message that was rejected. It contains everything that is known of the message, so that a
+/// program can report the message, or parse parts of it. It displays the text of the error.
+#[derive(Clone, Copy, Debug, PartialEq, Eq)]
+pub struct RejectedMessage<'a> {
+    /// The reason.
+    pub error: DecodeError,
+    /// The header of a message whose payload was rejected. `None` for a framing error: the bytes
+    /// are not a netlink message, and the iteration ends.
+    pub header: Option<NetlinkHeader>,
+    /// The payload that was rejected. For a framing error, the remaining bytes of the datagram.
+    pub payload: &'a [u8],
+}
+
+impl fmt::Display for RejectedMessage<'_> {
+    fn fmt(&self, f: &mut fmt::Formatter<'_>) -> fmt::Result {
+        self.error.fmt(f)
+    }
+}
+
+impl core::error::Error for RejectedMessage<'_> {}
+
+impl From<RejectedMessage<'_>> for DecodeError {
+    fn from(rejected: RejectedMessage<'_>) -> Self {
+        rejected.error
+    }
+}
+
 /// An iterator over the messages of a datagram, in order. It checks each reply once.
 ///
-/// If a payload is rejected, it yields the error, and continues. After a framing error it yields
-/// nothing. A message of type `NLMSG_DONE` does not end the iteration.
+/// If a payload is rejected, it yields the error with the header and the payload, and continues. So
+/// do not write `message?` in a loop: one rejected reply would end the list. After a framing error
+/// it yields nothing. Kernels put whole messages into a datagram, so a message that is split
+/// between two datagrams is a framing error.
+///
+/// A message of type `NLMSG_DONE` does not end the iteration. Sequence numbers, port ids and
+/// `NLM_F_DUMP_INTR` are not checked: [`AnswerCheck`](crate::AnswerCheck) does that.
+///
+/// ```
+/// use sockdiag::{DecodeError, Dump};
+///
+/// // A reply about a UNIX socket that is 4 bytes too short, and a message that ends a dump.
+/// let datagram = [
+///     28, 0, 0, 0, 20, 0, 2, 0, 7, 0, 0, 0, 9, 0, 0, 0, 1, 1, 10, 0, 78, 0, 0, 0, 1, 2, 3, 4,
+///     20, 0, 0, 0, 3, 0, 2, 0, 7, 0, 0, 0, 9, 0, 0, 0, 0, 0, 0, 0,
+/// ];
+/// let mut dump = Dump::new(&datagram);
+/// let rejected = dump.next().unwrap().unwrap_err();
+/// assert_eq!(rejected.error, DecodeError::BufferTooSmall);
+/// assert_eq!(rejected.header.map(|header| header.sequence_number), Some(7));
+/// assert_eq!(rejected.payload, &datagram[16..28]);
+/// assert!(dump.next().is_some_and(|message| message.is_ok()));
+/// ```
 #[derive(Clone, Debug)]
 pub struct Dump<'a> {
     datagram: &'a [u8],
@@ -236,7 +308,7 @@ impl<'a> Dump<'a> {
 }
 
 impl<'a> Iterator for Dump<'a> {
-    type Item = Result<Message<'a>, DecodeError>;
+    type Item = Result<Message<'a>, RejectedMessage<'a>>;
 
     fn next(&mut self) -> Option<Self::Item> {
         next_message(self.datagram, &mut self.cursor, SockDiagMessage::parse)
@@ -255,11 +327,14 @@ impl core::iter::FusedIterator for Dump<'_> {}
 /// #     255, 255, 255, 255, 255, 255, 255, 255, 10, 80, 0, 0, 5, 0, 0, 0, 0, 0, 0, 0,
 /// # ];
 /// for message in AnyDump::new(datagram) {
-///     if let NetlinkPayload::InnerMessage(AnySockDiagMessage::Vsock(reply)) = message?.payload {
-///         assert_eq!((reply.header.source_context, reply.header.source_port), (2, 22));
+///     match message.map(|message| message.payload) {
+///         Ok(NetlinkPayload::InnerMessage(AnySockDiagMessage::Vsock(reply))) => {
+///             assert_eq!((reply.header.source_context, reply.header.source_port), (2, 22));
+///         }
+///         Ok(other) => panic!("{other:?}"),
+///         Err(rejected) => eprintln!("invalid reply: {rejected}"),
 ///     }
 /// }
-/// # Ok::<(), sockdiag::DecodeError>(())
 /// ```
 #[derive(Clone, Debug)]
 pub struct AnyDump<'a> {
@@ -278,7 +353,7 @@ impl<'a> AnyDump<'a> {
 }
 
 impl<'a> Iterator for AnyDump<'a> {
-    type Item = Result<NetlinkMessage<AnySockDiagMessage<'a>>, DecodeError>;
+    type Item = Result<NetlinkMessage<AnySockDiagMessage<'a>>, RejectedMessage<'a>>;
 
     fn next(&mut self) -> Option<Self::Item> {
         next_message(self.datagram, &mut self.cursor, AnySockDiagMessage::parse)
@@ -293,29 +368,42 @@ fn next_message<'a, I>(
     datagram: &'a [u8],
     cursor: &mut Cursor,
     parse: fn(&'a [u8], u16) -> Result<I, DecodeError>,
-) -> Option<Result<NetlinkMessage<I>, DecodeError>> {
+) -> Option<Result<NetlinkMessage<I>, RejectedMessage<'a>>> {
+    let remaining = datagram.get(cursor.place..)?;
     let part = match calls::next_envelope(datagram, cursor) {
         Ok(part) => part,
         Err(0) => return None,
-        Err(fault) => return Some(Err(DecodeError::from_number(fault))),
+        Err(code) => {
+            return Some(Err(RejectedMessage {
+                error: DecodeError::from_code(code),
+                header: None,
+                payload: remaining,
+            }))
+        }
     };
+    let header = NetlinkHeader::from(part);
     let payload = datagram.get(part.offset..part.offset + part.length)?;
-    let payload = match part.message_type {
+    Some(match parse_payload(payload, part.message_type, parse) {
+        Ok(payload) => Ok(NetlinkMessage { header, payload }),
+        Err(error) => Err(RejectedMessage {
+            error,
+            header: Some(header),
+            payload,
+        }),
+    })
+}
+
+/// Parses the payload of a message of the given type: by `parse`, unless it is a control type.
+fn parse_payload<'a, I>(
+    payload: &'a [u8],
+    message_type: u16,
+    parse: fn(&'a [u8], u16) -> Result<I, DecodeError>,
+) -> Result<NetlinkPayload<I>, DecodeError> {
+    Ok(match message_type {
         NLMSG_NOOP => NetlinkPayload::Noop,
         NLMSG_ERROR => NetlinkPayload::Error(calls::error_number(payload)),
         NLMSG_DONE => NetlinkPayload::Done(calls::error_number(payload)),
         NLMSG_OVERRUN => NetlinkPayload::Overrun,
-        message_type => match parse(payload, message_type) {
-            Ok(message) => NetlinkPayload::InnerMessage(message),
-            Err(fault) => return Some(Err(fault)),
-        },
-    };
-    let header = NetlinkHeader {
-        length: part.length as u32 + 16,
-        message_type: part.message_type,
-        flags: part.flags,
-        sequence_number: part.sequence_number,
-        port_number: part.port_number,
-    };
-    Some(Ok(NetlinkMessage { header, payload }))
+        _ => NetlinkPayload::InnerMessage(parse(payload, message_type)?),
+    })
 }

@@ -6,6 +6,14 @@ use core::fmt;
 
 /// The reason why bytes were rejected: `enum sockdiag_fault` of `sockdiag.h`. If the bytes have
 /// several errors, this is the first one. It displays the text that `sockdiag_fault_text` returns.
+///
+/// The variants have no fields, since the C library only returns the code of an error: neither the
+/// record or the kind of the attribute, nor the lengths that were found and needed. If a message of
+/// a dump is rejected, [`RejectedMessage`](crate::RejectedMessage) has its header and payload.
+///
+/// Real kernels send replies that are rejected with `BufferTooSmall` (an `INET_DIAG_INFO` of fewer
+/// than 232 bytes, as from Linux before 5.4 or of MPTCP, and a `UNIX_DIAG_MEMINFO` of fewer than 36
+/// bytes) and with `UnknownFamily` (families that [`Dump`](crate::Dump) does not parse).
 #[derive(Clone, Copy, Debug, PartialEq, Eq, Hash)]
 #[non_exhaustive]
 pub enum DecodeError {
@@ -50,8 +58,8 @@ pub enum DecodeError {
 
 impl DecodeError {
     /// Returns the error with this code.
-    pub(crate) fn from_number(number: u32) -> Self {
-        match number {
+    pub(crate) fn from_code(code: u32) -> Self {
+        match code {
             2 => DecodeError::BufferTooSmall,
             3 => DecodeError::UnsupportedFamily,
             4 => DecodeError::MessageTooShort,
@@ -70,6 +78,30 @@ impl DecodeError {
             17 => DecodeError::EnvelopeLengthUnder16,
             18 => DecodeError::EnvelopeLengthPast,
             other => DecodeError::Other(other),
+        }
+    }
+
+    /// Returns the code of the error, which C programs and the program `sockdiag` use.
+    pub fn code(self) -> u32 {
+        match self {
+            DecodeError::BufferTooSmall => 2,
+            DecodeError::UnsupportedFamily => 3,
+            DecodeError::MessageTooShort => 4,
+            DecodeError::UnknownFamily => 5,
+            DecodeError::UnknownMessageType => 6,
+            DecodeError::AttributeHeaderCut => 7,
+            DecodeError::AttributeLengthUnder4 => 8,
+            DecodeError::AttributeLengthPast => 9,
+            DecodeError::WrongLength => 10,
+            DecodeError::NotMultipleOfFour => 11,
+            DecodeError::NotUtf8 => 12,
+            DecodeError::NameEmpty => 13,
+            DecodeError::NameInnerZero => 14,
+            DecodeError::NameWithoutEnd => 15,
+            DecodeError::EnvelopeCut => 16,
+            DecodeError::EnvelopeLengthUnder16 => 17,
+            DecodeError::EnvelopeLengthPast => 18,
+            DecodeError::Other(code) => code,
         }
     }
 }

@@ -15,6 +15,10 @@ pub mod nlas;
 
 crate::flags! {
     /// A set of states, with the bit `1 << state` for each state.
+    ///
+    /// **`all()` does not select all sockets.** It has states 1 to 11, and lacks state 13
+    /// (`TCP_BOUND_INACTIVE`), of sockets that are bound and neither connected nor listening. The
+    /// replies about such sockets have state 7. Use [`StateFlags::every_state`].
     StateFlags: u32 {
         /// `TCP_ESTABLISHED`.
         ESTABLISHED = 1 << TCP_ESTABLISHED;
@@ -46,7 +50,9 @@ crate::flags! {
     ExtensionFlags: u8 {
         /// `INET_DIAG_MEMINFO`.
         MEMINFO = 1 << (INET_DIAG_MEMINFO - 1);
-        /// `INET_DIAG_INFO`.
+        /// `INET_DIAG_INFO`. A reply is rejected with `BufferTooSmall` if this attribute has fewer
+        /// than 232 bytes, as Linux before 5.4 sends it, and any version for MPTCP. Then do not
+        /// request it, or use [`tcp_info`].
         INFO = 1 << (INET_DIAG_INFO - 1);
         /// `INET_DIAG_VEGASINFO`.
         VEGASINFO = 1 << (INET_DIAG_VEGASINFO - 1);
@@ -60,6 +66,13 @@ crate::flags! {
         SKMEMINFO = 1 << (INET_DIAG_SKMEMINFO - 1);
         /// `INET_DIAG_SHUTDOWN`.
         SHUTDOWN = 1 << (INET_DIAG_SHUTDOWN - 1);
+    }
+}
+
+impl StateFlags {
+    /// Returns the set of all states, also those without a name: all bits are set.
+    pub const fn every_state() -> Self {
+        StateFlags::from_bits_retain(u32::MAX)
     }
 }
 
@@ -77,17 +90,18 @@ pub struct SocketId {
     /// Index of the interface that the socket is bound to, or 0 (`idiag_if`).
     pub interface_id: u32,
     /// Cookie that distinguishes sockets with the same addresses and ports (`idiag_cookie`);
-    /// `[0xff; 8]` matches any.
+    /// `[0xff; 8]` matches any. The kernel compares it if a single socket is requested, and answers
+    /// with `ESTALE` (116) if it differs. It compares a cookie of zeros too.
     pub cookie: [u8; 8],
 }
 
 impl SocketId {
-    /// Returns an identity that matches any IPv4 socket.
+    /// Returns an identity that matches any IPv4 socket. Its cookie is `[0xff; 8]`.
     pub fn new_v4() -> Self {
         SocketId::any(IpAddr::V4(Ipv4Addr::UNSPECIFIED))
     }
 
-    /// Returns an identity that matches any IPv6 socket.
+    /// Returns an identity that matches any IPv6 socket. Its cookie is `[0xff; 8]`.
     pub fn new_v6() -> Self {
         SocketId::any(IpAddr::V6(Ipv6Addr::UNSPECIFIED))
     }
@@ -113,11 +127,13 @@ pub struct InetRequest {
     /// `AF_INET` or `AF_INET6`. With another family, the message of the request has zero bytes.
     pub family: u8,
     /// The protocol, one of `IPPROTO_..`. A protocol above 255, such as [`IPPROTO_MPTCP`], is
-    /// serialized as an attribute.
+    /// serialized as an attribute. Request one protocol at a time: a reply does not contain whether
+    /// it is about a TCP or a UDP socket. A kernel without the protocol answers with `ENOENT` (2)
+    /// or `EINVAL` (22).
     pub protocol: u32,
     /// The attributes that the replies shall have.
     pub extensions: ExtensionFlags,
-    /// The requested states.
+    /// The requested states. `StateFlags::all()` leaves out a state: see [`StateFlags`].
     pub states: StateFlags,
     /// The requested sockets.
     pub socket_id: SocketId,
@@ -192,7 +208,9 @@ impl InetRequest {
     ///
     /// Attributes with a framing error are rejected. The bytecode of a filter is such an attribute.
     /// The kernel uses it to select sockets, in this example those with a local port from 8000 to
-    /// 8999.
+    /// 8999. The kernel rejects a program with `EINVAL` if a jump leads into the middle of an
+    /// operation, or more than 4 bytes past the end, and a condition on the mark with `EPERM`
+    /// without `CAP_NET_ADMIN`.
     ///
     /// ```
     /// use sockdiag::constants::{AF_INET, INET_DIAG_REQ_BYTECODE, IPPROTO_TCP};
@@ -232,22 +250,22 @@ impl InetRequest {
         attributes: &[u8],
         buffer: &'b mut [u8],
     ) -> Result<Option<&'b [u8]>, DecodeError> {
-        let request = self.told(header);
+        let request = self.to_sys(header);
         let (written, outcome) = calls::write_inet_with_attributes(&request, attributes, buffer);
         match outcome.fault {
             0 => Ok((written != 0).then_some(&buffer[..written])),
-            fault => Err(DecodeError::from_number(fault)),
+            code => Err(DecodeError::from_code(code)),
         }
     }
 
     fn message(&self, header: &NetlinkHeader, destroy: bool) -> RequestBytes {
         let mut bytes = [0; sys::INET_REQUEST_LENGTH];
-        let len = calls::write_inet(&self.told(header), destroy, &mut bytes);
+        let len = calls::write_inet(&self.to_sys(header), destroy, &mut bytes);
         RequestBytes { bytes, len }
     }
 
     /// Converts the request to the struct of the C library.
-    fn told(&self, header: &NetlinkHeader) -> sys::InetRequest {
+    fn to_sys(self, header: &NetlinkHeader) -> sys::InetRequest {
         let id = &self.socket_id;
         sys::InetRequest {
             header: request_header(header),
@@ -293,7 +311,7 @@ pub enum Timer {
     Retransmit(Duration, u8),
     /// Keepalive timer: the time until it expires.
     KeepAlive(Duration),
-    /// Timer of the state `TIME_WAIT`.
+    /// Timer of the state `TIME_WAIT`. Its time is ignored, and serialized as 0.
     TimeWait,
     /// Zero-window probe timer: the time until it expires.
     Probe(Duration),
@@ -304,7 +322,8 @@ pub enum Timer {
 pub struct InetResponseHeader {
     /// `AF_INET` or `AF_INET6` (`idiag_family`).
     pub family: u8,
-    /// State (`idiag_state`), one of `TCP_ESTABLISHED` to `TCP_CLOSING`.
+    /// State (`idiag_state`), one of `TCP_ESTABLISHED` to `TCP_CLOSING`. It is 7 for a socket that
+    /// was requested by state 13.
     pub state: u8,
     /// The running timer (`idiag_timer`, `idiag_retrans`, `idiag_expires`).
     pub timer: Option<Timer>,
@@ -322,8 +341,8 @@ pub struct InetResponseHeader {
     pub inode: u32,
 }
 
-impl InetResponseHeader {
-    fn told(header: sys::InetHeader) -> Self {
+impl From<sys::InetHeader> for InetResponseHeader {
+    fn from(header: sys::InetHeader) -> Self {
         let expires = Duration::from_millis(header.expires.into());
         InetResponseHeader {
             family: header.family,
@@ -355,7 +374,9 @@ impl InetResponseHeader {
 ///
 /// This also works for a payload that is rejected because the value is too short, as older kernels
 /// and MPTCP send it. Fields after the end of the value are then 0. Newer kernels send more bytes
-/// than [`TcpInfo`] has. Returns `None` if the payload contains no such value, or an empty one.
+/// than the 232 of [`TcpInfo`], which are ignored. The value is taken for `struct tcp_info`
+/// whatever the protocol is: for MPTCP and SCTP it is another struct, and the fields are
+/// meaningless. Returns `None` if the payload contains no such value, or an empty one.
 ///
 /// ```
 /// let mut payload = [0; 84];
@@ -367,11 +388,13 @@ impl InetResponseHeader {
 /// ```
 pub fn tcp_info(payload: &[u8]) -> Option<(TcpInfo, usize)> {
     let mut info = TcpInfo::default();
-    let told = calls::tcp_info(payload, &mut info);
-    (told != 0).then_some((info, told))
+    let length = calls::tcp_info(payload, &mut info);
+    (length != 0).then_some((info, length))
 }
 
 /// The reply about one IPv4 or IPv6 socket, borrowed from the bytes that were parsed.
+///
+/// It does not distinguish TCP from UDP: request one protocol at a time.
 #[derive(Clone, Copy, Debug, PartialEq, Eq)]
 pub struct InetReply<'a> {
     /// The header, which identifies the socket.
@@ -387,20 +410,22 @@ pub type InetResponse<'a> = InetReply<'a>;
 
 impl<'a> InetReply<'a> {
     /// Checks the whole reply, which is the payload of its message, and parses it. Does not
-    /// allocate.
+    /// allocate. One rejected attribute makes the whole reply invalid, such as an `INET_DIAG_INFO`
+    /// of fewer than 232 bytes. The first 72 bytes by themselves are a reply without attributes,
+    /// [`tcp_info`] accepts a value of any length, and [`Attributes::new`] does not check values.
     pub fn parse(payload: &'a [u8]) -> Result<Self, DecodeError> {
-        let details = calls::inet_details(payload).map_err(DecodeError::from_number)?;
+        let details = calls::inet_details(payload).map_err(DecodeError::from_code)?;
         Ok(InetReply {
-            header: InetResponseHeader::told(details.header),
+            header: InetResponseHeader::from(details.header),
             details,
-            nlas: Nlas::behind(payload, sys::INET_ATTRIBUTES),
+            nlas: Nlas::after_header(payload, sys::INET_ATTRIBUTES),
             payload,
         })
     }
 
     /// Returns an iterator over all attributes, in order.
     pub fn attributes(&self) -> Attributes<'a> {
-        Attributes::behind(self.payload, sys::INET_ATTRIBUTES)
+        Attributes::after_header(self.payload, sys::INET_ATTRIBUTES)
     }
 
     /// Returns an iterator over all decoded attributes, as `nlas.iter()` does. These include the
@@ -425,7 +450,8 @@ impl<'a> InetReply<'a> {
         self.nlas.iter()
     }
 
-    /// Returns the TCP connection (`INET_DIAG_INFO`).
+    /// Returns the TCP connection (`INET_DIAG_INFO`). The value is taken for `struct tcp_info`
+    /// whatever the protocol is: for SCTP the fields are meaningless.
     pub fn tcp_info(&self) -> Option<TcpInfo> {
         tcp_info(self.payload).map(|(info, _)| info)
     }
@@ -472,7 +498,8 @@ impl<'a> InetReply<'a> {
 
     /// Writes the canonical form of the reply to the start of the buffer, and returns its length in
     /// bytes. If the buffer is shorter, nothing is written. All replies that differ only in ignored
-    /// bits have the same canonical form. Returns `None` if the reply cannot be serialized.
+    /// bits have the same canonical form. The bytes of `INET_DIAG_INFO` after its first 232 and the
+    /// time of a TIME_WAIT timer are ignored. Returns `None` if the reply cannot be serialized.
     pub fn canonical(&self, buffer: &mut [u8]) -> Option<usize> {
         let (_, outcome) = calls::rewrite(self.payload, false, buffer);
         (outcome.needed != 0).then_some(outcome.needed)

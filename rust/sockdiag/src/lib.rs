@@ -5,49 +5,56 @@
 //! opens no socket. It has no dependencies and no features. Replies are borrowed from the bytes
 //! that were parsed.
 //!
-//! # A request
+//! # A dump
+//!
+//! A program sends a request on a netlink socket, and reads datagrams until a message ends the
+//! answer. A loop over the messages continues after a reply that is rejected. After the end, repeat
+//! the request if the dump was interrupted. `examples/list_sockets.rs` is a complete program.
 //!
 //! ```
-//! use sockdiag::constants::{NLM_F_DUMP, NLM_F_REQUEST};
+//! use sockdiag::constants::{NLM_F_DUMP, NLM_F_REQUEST, TCP_LISTEN};
 //! use sockdiag::unix::{ShowFlags, StateFlags, UnixRequest};
-//! use sockdiag::NetlinkHeader;
+//! use sockdiag::{AnswerCheck, Dump, NetlinkHeader, NetlinkPayload, SockDiagMessage};
 //!
 //! let request = UnixRequest {
-//!     state_flags: StateFlags::LISTEN,
+//!     state_flags: StateFlags::every_state(),
 //!     show_flags: ShowFlags::NAME | ShowFlags::PEER,
 //!     ..UnixRequest::default()
 //! };
-//! let header = NetlinkHeader { flags: NLM_F_REQUEST | NLM_F_DUMP, ..NetlinkHeader::default() };
+//! let flags = NLM_F_REQUEST | NLM_F_DUMP;
+//! let header = NetlinkHeader { flags, sequence_number: 7, ..NetlinkHeader::default() };
 //! let bytes = request.to_message(&header);
 //! assert_eq!(bytes[..8], [40, 0, 0, 0, 20, 0, 1, 3]);
-//! ```
-//!
-//! # A datagram of replies
-//!
-//! ```
-//! use sockdiag::{Dump, NetlinkPayload, SockDiagMessage};
 //!
 //! # let datagram: &[u8] = &[
+//! #     28, 0, 0, 0, 20, 0, 2, 0, 7, 0, 0, 0, 9, 0, 0, 0, 1, 1, 10, 0, 78, 0, 0, 0, 1, 2, 3, 4,
 //! #     44, 0, 0, 0, 20, 0, 2, 0, 7, 0, 0, 0, 9, 0, 0, 0, 1, 1, 10, 0, 0x4e, 0, 0, 0, 1, 2, 3,
 //! #     4, 5, 6, 7, 8, 11, 0, 0, 0, b'/', b't', b'm', b'p', b'/', b'a', 0, 0, 20, 0, 0, 0, 3, 0,
 //! #     2, 0, 7, 0, 0, 0, 9, 0, 0, 0, 0, 0, 0, 0,
 //! # ];
+//! // This datagram has a reply that is too short, another reply, and the end of the dump.
+//! let mut answer = AnswerCheck::new(header.sequence_number, 0);
 //! let mut listening = 0;
 //! for message in Dump::new(datagram) {
-//!     match message?.payload {
-//!         NetlinkPayload::InnerMessage(SockDiagMessage::UnixResponse(reply)) => {
+//!     if let Err(reason) = answer.check_message(&message) {
+//!         eprintln!("{reason}");
+//!         continue;
+//!     }
+//!     match message.map(|message| message.payload) {
+//!         Ok(NetlinkPayload::InnerMessage(SockDiagMessage::UnixResponse(reply))) => {
 //!             assert_eq!(reply.header.inode, 78);
-//!             listening += usize::from(reply.header.state == sockdiag::constants::TCP_LISTEN);
+//!             listening += usize::from(reply.header.state == TCP_LISTEN);
 //!         }
-//!         NetlinkPayload::InnerMessage(_) => {}
-//!         NetlinkPayload::Done(Some(0)) => break,
-//!         NetlinkPayload::Done(number) | NetlinkPayload::Error(number) => panic!("{number:?}"),
-//!         NetlinkPayload::Overrun => panic!("the kernel lost data"),
-//!         NetlinkPayload::Noop => {}
+//!         Ok(NetlinkPayload::InnerMessage(_) | NetlinkPayload::Noop) => {}
+//!         Ok(NetlinkPayload::Done(Some(0))) => break,
+//!         Ok(NetlinkPayload::Done(number) | NetlinkPayload::Error(number)) => {
+//!             panic!("the request failed: {number:?}")
+//!         }
+//!         Ok(NetlinkPayload::Overrun) => panic!("the kernel lost data"),
+//!         Err(rejected) => eprintln!("invalid reply: {rejected}"),
 //!     }
 //! }
-//! assert_eq!(listening, 1);
-//! # Ok::<(), sockdiag::DecodeError>(())
+//! assert_eq!((listening, answer.is_interrupted()), (1, false));
 //! ```
 //!
 //! # From `netlink-packet-sock-diag`
@@ -91,13 +98,15 @@
 //! | `emit`, and `parse` of a single attribute or of a value | none |
 //! | `InetRequest::protocol` has 8 bits | it has 32 bits, as have the constants `IPPROTO_..` |
 //! | an `InetRequest` with a family other than `AF_INET` and `AF_INET6` is serialized | such a request has a message of zero bytes |
-//! | `SocketId::new_v4()` has a cookie of zeros | its cookie is `[0xff; 8]`, which matches any. The kernel compares it if a single socket is requested |
+//! | `SocketId::new_v4()` has a cookie of zeros | its cookie is `[0xff; 8]`, which matches any, as is that of `UnixRequest::default()`. The kernel compares it if a single socket is requested |
 //! | flags have the methods of `bitflags` | flags have `empty`, `all`, `from_bits`, `from_bits_retain`, `from_bits_truncate`, `bits`, `is_empty`, `contains`, `insert`, `remove`, `\|` and `\|=` |
-//! | `DecodeError` contains texts | [`DecodeError`] is an enum of the errors; both implement `Display`. The texts here are those of `sockdiag_fault_text`, without values |
+//! | `DecodeError` contains texts | [`DecodeError`] is an enum of the errors; both implement `Display`. The texts here are those of `sockdiag_fault_text`, without values, and the variants have no fields |
 //! | panics on some input | does not panic |
 //!
-//! In addition, [`Dump`] iterates over a whole datagram, and [`Attributes`] over attributes as
-//! kinds and bytes. `to_message` and `to_destroy` serialize a request in one call.
+//! In addition, [`Dump`] iterates over a whole datagram, [`AnswerCheck`] checks that its messages
+//! belong to the answer, and [`Attributes`] iterates over attributes as kinds and bytes.
+//! `to_message` and `to_destroy` serialize a request in one call. `StateFlags::every_state()`
+//! selects all states, which `StateFlags::all()` does not do in either crate.
 //!
 //! # Sockets of four more families
 //!
@@ -114,6 +123,7 @@
 //! | `AF_XDP` | [`xdp::XdpRequest`] | [`xdp::XdpReply`] | `struct xdp_diag_msg` |
 #![no_std]
 
+mod answer;
 mod attribute;
 mod calls;
 pub mod constants;
@@ -128,10 +138,11 @@ pub mod unix;
 pub mod vsock;
 pub mod xdp;
 
+pub use answer::{AnswerCheck, UnrelatedMessage};
 pub use attribute::{Attribute, Attributes, NlaWalk, Nlas, Numbers};
 pub use constants::*;
-pub use dump::{AnyDump, AnySockDiagMessage};
-pub use dump::{Dump, Message, NetlinkHeader, NetlinkMessage, NetlinkPayload, SockDiagMessage};
+pub use dump::{AnyDump, AnySockDiagMessage, Dump, Message, RejectedMessage, SockDiagMessage};
+pub use dump::{NetlinkHeader, NetlinkMessage, NetlinkPayload};
 pub use fault::DecodeError;
 pub use show::ShowRequest;
 
@@ -152,7 +163,7 @@ macro_rules! flags {
                 Self(0)
             }
 
-            /// Returns the set of all flags that have a name here.
+            /// Returns the set of all flags that have a name here. The kernel may use more bits.
             pub const fn all() -> Self {
                 Self(0 $(| $number)*)
             }

@@ -36,18 +36,18 @@ impl<'a> NetlinkReply<'a> {
     /// Checks the whole reply, which is the payload of its message, and parses it. Does not
     /// allocate.
     pub fn parse(payload: &'a [u8]) -> Result<Self, DecodeError> {
-        let told = calls::netlink_details(payload).map_err(DecodeError::from_number)?;
+        let details = calls::netlink_details(payload).map_err(DecodeError::from_code)?;
         Ok(NetlinkReply {
-            header: told.header,
-            memory: told.memory.get(),
-            groups: told.groups.get(),
-            flags: told.flags.get(),
+            header: details.header,
+            memory: details.memory.get(),
+            groups: details.groups.get(),
+            flags: details.flags.get(),
             payload,
         })
     }
 
     /// Returns an iterator over all attributes, in order.
     pub fn attributes(&self) -> Attributes<'a> {
-        Attributes::behind(self.payload, sys::NETLINK_ATTRIBUTES)
+        Attributes::after_header(self.payload, sys::NETLINK_ATTRIBUTES)
     }
 }

@@ -50,23 +50,23 @@ impl<'a> PacketReply<'a> {
     /// Checks the whole reply, which is the payload of its message, and parses it. Does not
     /// allocate.
     pub fn parse(payload: &'a [u8]) -> Result<Self, DecodeError> {
-        let told = calls::packet_details(payload).map_err(DecodeError::from_number)?;
+        let details = calls::packet_details(payload).map_err(DecodeError::from_code)?;
         Ok(PacketReply {
-            header: told.header,
-            info: (told.has_info != 0).then_some(told.info),
-            addresses: told.addresses.get(),
-            receive_ring: (told.has_receive_ring != 0).then_some(told.receive_ring),
-            send_ring: (told.has_send_ring != 0).then_some(told.send_ring),
-            fanout: told.fanout.get(),
-            owner: told.owner.get(),
-            memory: told.memory.get(),
-            filter: told.filter.get(),
+            header: details.header,
+            info: (details.has_info != 0).then_some(details.info),
+            addresses: details.addresses.get(),
+            receive_ring: (details.has_receive_ring != 0).then_some(details.receive_ring),
+            send_ring: (details.has_send_ring != 0).then_some(details.send_ring),
+            fanout: details.fanout.get(),
+            owner: details.owner.get(),
+            memory: details.memory.get(),
+            filter: details.filter.get(),
             payload,
         })
     }
 
     /// Returns an iterator over all attributes, in order.
     pub fn attributes(&self) -> Attributes<'a> {
-        Attributes::behind(self.payload, sys::PACKET_ATTRIBUTES)
+        Attributes::after_header(self.payload, sys::PACKET_ATTRIBUTES)
     }
 }

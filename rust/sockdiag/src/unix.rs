@@ -10,17 +10,24 @@ pub mod nlas;
 
 crate::flags! {
     /// A set of states, with the bit `1 << state` for each state.
+    ///
+    /// **`all()` does not select all sockets.** A UNIX socket has one of three states: 1
+    /// (`TCP_ESTABLISHED`), 7 (`TCP_CLOSE`) or 10 (`TCP_LISTEN`). A socket that has no peer and
+    /// does not listen is in state 7, as most datagram sockets are. `all()` has the states with a
+    /// name here, 1 and 10. Use [`StateFlags::every_state`].
     StateFlags: u32 {
-        /// Connected sockets. Sockets that are neither connected nor listening have the state
-        /// `TCP_CLOSE` (7), which has no name here.
+        /// Sockets with a peer: state 1.
         ESTABLISHED = 1 << TCP_ESTABLISHED;
-        /// Listening sockets.
+        /// Listening sockets: state 10.
         LISTEN = 1 << TCP_LISTEN;
     }
 }
 
 crate::flags! {
     /// The attributes that the replies shall have.
+    ///
+    /// Bit 6 of the kernel, `UDIAG_SHOW_UID`, has no name here. `from_bits_retain(0x7f)` sets it.
+    /// The reply then has the attribute `UNIX_DIAG_UID`, of kind 7, as [`nlas::Nla::Other`].
     ShowFlags: u32 {
         /// `UDIAG_SHOW_NAME`.
         NAME = UDIAG_SHOW_NAME;
@@ -32,24 +39,48 @@ crate::flags! {
         ICONS = UDIAG_SHOW_ICONS;
         /// `UDIAG_SHOW_RQLEN`.
         RQLEN = UDIAG_SHOW_RQLEN;
-        /// `UDIAG_SHOW_MEMINFO`.
+        /// `UDIAG_SHOW_MEMINFO`. A reply is rejected with `BufferTooSmall` if this attribute has
+        /// fewer than 36 bytes, as old kernels send it.
         MEMINFO = UDIAG_SHOW_MEMINFO;
+    }
+}
+
+impl StateFlags {
+    /// Returns the set of all states, also those without a name: all bits are set.
+    pub const fn every_state() -> Self {
+        StateFlags::from_bits_retain(u32::MAX)
     }
 }
 
 /// The request for UNIX sockets: `struct unix_diag_req` of sock_diag(7).
 ///
-/// The default request selects no socket.
-#[derive(Clone, Copy, Debug, Default, PartialEq, Eq)]
+/// The default request selects no socket: it has no states and the inode 0. Its cookie is
+/// `[0xff; 8]`.
+#[derive(Clone, Copy, Debug, PartialEq, Eq)]
 pub struct UnixRequest {
-    /// The requested states.
+    /// The requested states. `StateFlags::all()` leaves out most datagram sockets: see
+    /// [`StateFlags`].
     pub state_flags: StateFlags,
-    /// The inode, to request a single socket.
+    /// The inode, to request a single socket. Such a request has no flag `NLM_F_DUMP`. Its answer
+    /// is one message, without an `NLMSG_DONE`.
     pub inode: u32,
     /// The attributes that the replies shall have.
     pub show_flags: ShowFlags,
-    /// Cookie that distinguishes sockets with the same inode; `[0xff; 8]` matches any.
+    /// Cookie that distinguishes sockets with the same inode; `[0xff; 8]` matches any. The kernel
+    /// compares it if a single socket is requested, and answers with `ESTALE` (116) if it differs.
+    /// It compares a cookie of zeros too.
     pub cookie: [u8; 8],
+}
+
+impl Default for UnixRequest {
+    fn default() -> Self {
+        UnixRequest {
+            state_flags: StateFlags::empty(),
+            inode: 0,
+            show_flags: ShowFlags::empty(),
+            cookie: [0xff; 8],
+        }
+    }
 }
 
 impl UnixRequest {
@@ -92,8 +123,8 @@ pub(crate) fn request_header(header: &NetlinkHeader) -> sys::RequestHeader {
 pub struct UnixResponseHeader {
     /// Type of the socket (`udiag_type`), one of `SOCK_..`.
     pub kind: u8,
-    /// State (`udiag_state`): `TCP_ESTABLISHED`, `TCP_LISTEN`, or `TCP_CLOSE` (7) if it is not
-    /// connected.
+    /// State (`udiag_state`): 1 (`TCP_ESTABLISHED`) with a peer, 10 (`TCP_LISTEN`) if it listens,
+    /// or 7 (`TCP_CLOSE`) without a peer, as most datagram sockets are.
     pub state: u8,
     /// Inode of the socket.
     pub inode: u32,
@@ -161,9 +192,10 @@ pub type UnixResponse<'a> = UnixReply<'a>;
 
 impl<'a> UnixReply<'a> {
     /// Checks the whole reply, which is the payload of its message, and parses it. Does not
-    /// allocate.
+    /// allocate. One rejected attribute makes the whole reply invalid. The first 16 bytes by
+    /// themselves are a reply without attributes, and [`Attributes::new`] does not check values.
     pub fn parse(payload: &'a [u8]) -> Result<Self, DecodeError> {
-        let details = calls::unix_details(payload).map_err(DecodeError::from_number)?;
+        let details = calls::unix_details(payload).map_err(DecodeError::from_code)?;
         let header = details.header;
         Ok(UnixReply {
             header: UnixResponseHeader {
@@ -173,14 +205,14 @@ impl<'a> UnixReply<'a> {
                 cookie: header.cookie,
             },
             details,
-            nlas: Nlas::behind(payload, sys::UNIX_ATTRIBUTES),
+            nlas: Nlas::after_header(payload, sys::UNIX_ATTRIBUTES),
             payload,
         })
     }
 
     /// Returns an iterator over all attributes, in order.
     pub fn attributes(&self) -> Attributes<'a> {
-        Attributes::behind(self.payload, sys::UNIX_ATTRIBUTES)
+        Attributes::after_header(self.payload, sys::UNIX_ATTRIBUTES)
     }
 
     /// Returns an iterator over all decoded attributes, as `nlas.iter()` does.
@@ -252,7 +284,9 @@ impl<'a> UnixReply<'a> {
         self.details.send_buffer.get()
     }
 
-    /// Returns the memory of data queued for sending, in bytes. Linux sends 0.
+    /// Returns the memory of data queued for sending, in bytes (`SK_MEMINFO_WMEM_QUEUED`). It is 0
+    /// while data is in flight: a UNIX socket counts what its peer has not yet read in another
+    /// field of this attribute, at offset 8 (`SK_MEMINFO_WMEM_ALLOC`), which is not parsed.
     pub fn memory_used_for_outgoing_data(&self) -> Option<u32> {
         self.details.queued.get()
     }

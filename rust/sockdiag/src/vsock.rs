@@ -13,7 +13,8 @@ pub use crate::sys::VsockResponseHeader;
 /// The default request selects no socket.
 #[derive(Clone, Copy, Debug, Default, PartialEq, Eq)]
 pub struct VsockRequest {
-    /// Requested states: the bit `1 << TCP_LISTEN` for the state `TCP_LISTEN`.
+    /// Requested states: the bit `1 << TCP_LISTEN` for the state `TCP_LISTEN`. `u32::MAX` requests
+    /// all states.
     pub states: u32,
     /// Cookie that distinguishes sockets. Linux ignores it.
     pub cookie: u64,
@@ -49,12 +50,12 @@ impl<'a> VsockReply<'a> {
     /// Checks the whole reply, which is the payload of its message, and parses it. Does not
     /// allocate.
     pub fn parse(payload: &'a [u8]) -> Result<Self, DecodeError> {
-        let header = calls::vsock_details(payload).map_err(DecodeError::from_number)?;
+        let header = calls::vsock_details(payload).map_err(DecodeError::from_code)?;
         Ok(VsockReply { header, payload })
     }
 
     /// Returns an iterator over all attributes, in order. Linux sends none.
     pub fn attributes(&self) -> Attributes<'a> {
-        Attributes::behind(self.payload, sys::VSOCK_ATTRIBUTES)
+        Attributes::after_header(self.payload, sys::VSOCK_ATTRIBUTES)
     }
 }

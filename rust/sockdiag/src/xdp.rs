@@ -50,24 +50,24 @@ impl<'a> XdpReply<'a> {
     /// Checks the whole reply, which is the payload of its message, and parses it. Does not
     /// allocate.
     pub fn parse(payload: &'a [u8]) -> Result<Self, DecodeError> {
-        let told = calls::xdp_details(payload).map_err(DecodeError::from_number)?;
+        let details = calls::xdp_details(payload).map_err(DecodeError::from_code)?;
         Ok(XdpReply {
-            header: told.header,
-            info: (told.has_info != 0).then_some(told.info),
-            owner: told.owner.get(),
-            receive_ring: told.receive_ring.get(),
-            send_ring: told.send_ring.get(),
-            umem: (told.has_umem != 0).then_some(told.umem),
-            fill_ring: told.fill_ring.get(),
-            completion_ring: told.completion_ring.get(),
-            memory: told.memory.get(),
-            statistics: (told.has_statistics != 0).then_some(told.statistics),
+            header: details.header,
+            info: (details.has_info != 0).then_some(details.info),
+            owner: details.owner.get(),
+            receive_ring: details.receive_ring.get(),
+            send_ring: details.send_ring.get(),
+            umem: (details.has_umem != 0).then_some(details.umem),
+            fill_ring: details.fill_ring.get(),
+            completion_ring: details.completion_ring.get(),
+            memory: details.memory.get(),
+            statistics: (details.has_statistics != 0).then_some(details.statistics),
             payload,
         })
     }
 
     /// Returns an iterator over all attributes, in order.
     pub fn attributes(&self) -> Attributes<'a> {
-        Attributes::behind(self.payload, sys::XDP_ATTRIBUTES)
+        Attributes::after_header(self.payload, sys::XDP_ATTRIBUTES)
     }
 }

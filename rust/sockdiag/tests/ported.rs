@@ -1,21 +1,24 @@
-//! A lister as one writes it for `netlink-packet-sock-diag`, over a kernel that answers by rule.
+//! A lister as one writes it for `netlink-packet-sock-diag`, over a stand-in for the kernel.
 //! Only its imports and the lines marked `here` are specific to this crate.
 
+mod common;
+
+use common::message;
 // There: `netlink_packet_core::{..}` and `netlink_packet_sock_diag::{..}`.
 use sockdiag::inet::{nlas::Nla, ExtensionFlags, InetRequest, InetResponse, SocketId, StateFlags};
 use sockdiag::unix::{ShowFlags, UnixDiagName, UnixRequest, UnixResponse};
 use sockdiag::{constants::*, unix};
 use sockdiag::{NetlinkHeader, NetlinkMessage, NetlinkPayload, SockDiagMessage};
 
-/// A kernel that takes one request and answers by one datagram.
+/// A stand-in for the kernel, which answers a request by one datagram.
 struct Kernel {
-    asked: Vec<u8>,
+    request: Vec<u8>,
     answer: Vec<u8>,
 }
 
 impl Kernel {
     fn send(&mut self, bytes: &[u8]) -> std::io::Result<usize> {
-        self.asked = bytes.to_vec();
+        self.request = bytes.to_vec();
         Ok(bytes.len())
     }
 
@@ -38,20 +41,20 @@ fn request(payload: SockDiagMessage) -> Vec<u8> {
     buffer
 }
 
-fn tell_unix(response: &UnixResponse, told: &mut Vec<String>) {
+fn add_unix(response: &UnixResponse, lines: &mut Vec<String>) {
     let name = match response.name() {
         Some(UnixDiagName::Pathname(path)) => format!("{}", path.escape_ascii()), // here: bytes
         Some(UnixDiagName::Abstract(name)) => format!("@{}", name.escape_ascii()),
         None => String::new(),
     };
-    told.push(format!(
+    lines.push(format!(
         "{} {name} {:?}",
         response.header.inode,
         response.peer()
     ));
 }
 
-fn tell_inet(response: &InetResponse, told: &mut Vec<String>) {
+fn add_inet(response: &InetResponse, lines: &mut Vec<String>) {
     let id = &response.header.socket_id;
     let mut line = format!("{}:{}", id.source_address, id.source_port);
     for nla in &response.nlas {
@@ -61,11 +64,11 @@ fn tell_inet(response: &InetResponse, told: &mut Vec<String>) {
             _ => {}
         }
     }
-    told.push(line);
+    lines.push(line);
 }
 
 fn list(kernel: &mut Kernel, payload: SockDiagMessage) -> Vec<String> {
-    let mut told = Vec::new();
+    let mut lines = Vec::new();
     kernel.send(&request(payload)).unwrap();
     let mut receive_buffer = vec![0; 4096];
     let mut offset = 0;
@@ -76,14 +79,14 @@ fn list(kernel: &mut Kernel, payload: SockDiagMessage) -> Vec<String> {
             match packet.payload {
                 NetlinkPayload::Noop => {}
                 NetlinkPayload::InnerMessage(SockDiagMessage::UnixResponse(response)) => {
-                    tell_unix(&response, &mut told)
+                    add_unix(&response, &mut lines)
                 }
                 NetlinkPayload::InnerMessage(SockDiagMessage::InetResponse(response)) => {
-                    tell_inet(&response, &mut told)
+                    add_inet(&response, &mut lines)
                 }
-                NetlinkPayload::Done(_) => return told,
+                NetlinkPayload::Done(_) => return lines,
                 NetlinkPayload::Error(Some(errno)) => panic!("{errno}"), // here: a number
-                _ => return told,
+                _ => return lines,
             }
             offset += packet.header.length as usize;
             if offset == size || packet.header.length == 0 {
@@ -92,15 +95,7 @@ fn list(kernel: &mut Kernel, payload: SockDiagMessage) -> Vec<String> {
             }
         }
     }
-    told
-}
-
-fn message(message_type: u16, payload: &[u8]) -> Vec<u8> {
-    let mut bytes = (16 + payload.len() as u32).to_le_bytes().to_vec();
-    bytes.extend(message_type.to_le_bytes());
-    bytes.extend([2, 0, 7, 0, 0, 0, 9, 0, 0, 0]);
-    bytes.extend(payload);
-    bytes
+    lines
 }
 
 #[test]
@@ -109,10 +104,10 @@ fn lists_unix_sockets() {
     reply.extend([8, 0, 0, 0, 0, b'a', b'b', 0, 8, 0, 2, 0, 77, 0, 0, 0]);
     let answer = [message(20, &reply), message(3, &[0; 4])].concat();
     let mut kernel = Kernel {
-        asked: vec![],
+        request: vec![],
         answer,
     };
-    let told = list(
+    let lines = list(
         &mut kernel,
         SockDiagMessage::UnixRequest(UnixRequest {
             state_flags: unix::StateFlags::all(),
@@ -121,9 +116,9 @@ fn lists_unix_sockets() {
             cookie: [0xff; 8],
         }),
     );
-    assert_eq!(told, ["78 @ab\\x00 Some(77)"]);
+    assert_eq!(lines, ["78 @ab\\x00 Some(77)"]);
     assert_eq!(
-        (kernel.asked.len(), kernel.asked[0], kernel.asked[4]),
+        (kernel.request.len(), kernel.request[0], kernel.request[4]),
         (40, 40, 20)
     );
 }
@@ -141,10 +136,10 @@ fn lists_internet_sockets() {
     ]
     .concat();
     let mut kernel = Kernel {
-        asked: vec![],
+        request: vec![],
         answer,
     };
-    let told = list(
+    let lines = list(
         &mut kernel,
         SockDiagMessage::InetRequest(InetRequest {
             family: AF_INET,
@@ -154,15 +149,15 @@ fn lists_internet_sockets() {
             socket_id: SocketId::new_v4(),
         }),
     );
-    assert_eq!(told, ["127.0.0.1:80 mark 7", "127.0.0.1:80 mark 7"]);
+    assert_eq!(lines, ["127.0.0.1:80 mark 7", "127.0.0.1:80 mark 7"]);
     assert_eq!(
-        (kernel.asked.len(), kernel.asked[16], kernel.asked[17]),
+        (kernel.request.len(), kernel.request[16], kernel.request[17]),
         (72, 2, 6)
     );
 }
 
 #[test]
-fn writes_requests_alone() {
+fn serializes_only_requests() {
     let bytes = message(3, &[0; 4]);
     let mut done = NetlinkMessage::<SockDiagMessage>::deserialize(&bytes).unwrap();
     done.finalize();

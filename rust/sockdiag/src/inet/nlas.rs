@@ -18,7 +18,8 @@ pub struct LegacyMemInfo {
     pub send_queue: u32,
 }
 
-/// Socket memory: the fields of `INET_DIAG_SKMEMINFO`, in bytes except for the last.
+/// Socket memory: the fields of `INET_DIAG_SKMEMINFO`, in bytes except for the last. Kernels send
+/// it in three sizes: 28 bytes, 32 with `SK_MEMINFO_BACKLOG`, and 36 with `SK_MEMINFO_DROPS`.
 #[derive(Clone, Copy, Debug, PartialEq, Eq)]
 pub struct MemInfo {
     /// Memory in use by the receive queue (`SK_MEMINFO_RMEM_ALLOC`).
@@ -49,7 +50,7 @@ pub struct MemInfo {
 pub enum Nla<'a> {
     /// Socket memory in the format of older kernels (`INET_DIAG_MEMINFO`).
     LegacyMemInfo(LegacyMemInfo),
-    /// TCP connection (`INET_DIAG_INFO`).
+    /// TCP connection (`INET_DIAG_INFO`): the first 232 bytes. For SCTP the fields are meaningless.
     TcpInfo(TcpInfo),
     /// Name of the congestion control algorithm (`INET_DIAG_CONG`).
     Congestion(&'a str),
@@ -70,7 +71,9 @@ pub enum Nla<'a> {
     Mark(u32),
     /// Traffic control class of the socket's packets (`INET_DIAG_CLASS_ID`).
     ClassId(u32),
-    /// An attribute of another kind.
+    /// An attribute of another kind. Its value may be an array or nested attributes, as those of
+    /// `INET_DIAG_MD5SIG`, `INET_DIAG_LOCALS`, `INET_DIAG_PEERS`, `INET_DIAG_ULP_INFO` and
+    /// `INET_DIAG_SK_BPF_STORAGES` are.
     Other(Attribute<'a>),
 }
 

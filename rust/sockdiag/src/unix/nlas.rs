@@ -4,14 +4,16 @@ pub use super::{UnixDiagName, Vfs};
 use crate::attribute::{word, Attribute, Numbers};
 use crate::constants::*;
 
-/// Memory of a UNIX socket: three fields of `UNIX_DIAG_MEMINFO`, in bytes.
+/// Memory of a UNIX socket: three of the nine fields of `UNIX_DIAG_MEMINFO`, in bytes.
 #[derive(Clone, Copy, Debug, PartialEq, Eq)]
 pub struct MemInfo {
     /// Size of the receive buffer (`SK_MEMINFO_RCVBUF`).
     pub so_rcvbuf: u32,
     /// Size of the send buffer (`SK_MEMINFO_SNDBUF`), which is the limit of a datagram.
     pub max_datagram_size: u32,
-    /// Memory of data queued for sending (`SK_MEMINFO_WMEM_QUEUED`). Linux sends 0.
+    /// Memory of data queued for sending (`SK_MEMINFO_WMEM_QUEUED`). It is 0 while data is in
+    /// flight: see
+    /// [`memory_used_for_outgoing_data`](crate::unix::UnixReply::memory_used_for_outgoing_data).
     pub alloc: u32,
 }
 
@@ -35,7 +37,7 @@ pub enum Nla<'a> {
     /// Directions that are shut down (`UNIX_DIAG_SHUTDOWN`): 1 for receiving, 2 for sending, 3 for
     /// both.
     Shutdown(u8),
-    /// An attribute of another kind.
+    /// An attribute of another kind, such as `UNIX_DIAG_UID` (7).
     Other(Attribute<'a>),
 }
 

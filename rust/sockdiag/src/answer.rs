@@ -1,0 +1,112 @@
+//! The check that messages belong to the answer to one request.
+
+use crate::constants::NLM_F_DUMP_INTR;
+use crate::dump::{NetlinkHeader, NetlinkMessage, RejectedMessage};
+use core::fmt;
+
+/// Checks that messages belong to the answer to one request, and whether the answer is complete, as
+/// `mnl_cb_run` of libmnl does.
+///
+/// [`Dump`](crate::Dump) checks neither. Messages that answer an earlier request look like any
+/// others. If a table changes while it is dumped, sockets may be missing: the kernel then sets
+/// `NLM_F_DUMP_INTR` in the header of a message, which may be the last one. So give each request
+/// another sequence number, check each header, and repeat the request if the dump was interrupted.
+///
+/// ```
+/// use sockdiag::constants::{NLMSG_DONE, NLM_F_DUMP_INTR, NLM_F_MULTI};
+/// use sockdiag::{AnswerCheck, NetlinkHeader, UnrelatedMessage};
+///
+/// let header = NetlinkHeader {
+///     message_type: NLMSG_DONE,
+///     flags: NLM_F_MULTI | NLM_F_DUMP_INTR,
+///     sequence_number: 8,
+///     ..NetlinkHeader::default()
+/// };
+/// let mut check = AnswerCheck::new(7, 0);
+/// assert_eq!(check.check(&header), Err(UnrelatedMessage::SequenceNumber(8)));
+/// assert!(!check.is_interrupted());
+///
+/// let mut check = AnswerCheck::new(8, 0);
+/// assert_eq!(check.check(&header), Ok(()));
+/// assert!(check.is_interrupted());
+/// ```
+#[derive(Clone, Copy, Debug, PartialEq, Eq)]
+pub struct AnswerCheck {
+    sequence_number: u32,
+    port_number: u32,
+    is_interrupted: bool,
+}
+
+/// The reason why a message does not belong to an answer, with the number in its header.
+#[derive(Clone, Copy, Debug, PartialEq, Eq, Hash)]
+pub enum UnrelatedMessage {
+    /// The sequence number is that of another request.
+    SequenceNumber(u32),
+    /// The port id is that of another socket.
+    PortNumber(u32),
+}
+
+impl AnswerCheck {
+    /// Returns a check for the answer to a request with this sequence number, which was sent from a
+    /// socket with this port id. A number that is 0, here or in a message, is not compared: 0 if
+    /// the port id is not known.
+    pub const fn new(sequence_number: u32, port_number: u32) -> Self {
+        AnswerCheck {
+            sequence_number,
+            port_number,
+            is_interrupted: false,
+        }
+    }
+
+    /// Checks the header of a message. If it belongs to the answer, records whether it has the flag
+    /// `NLM_F_DUMP_INTR`.
+    pub fn check(&mut self, header: &NetlinkHeader) -> Result<(), UnrelatedMessage> {
+        if differ(header.port_number, self.port_number) {
+            return Err(UnrelatedMessage::PortNumber(header.port_number));
+        }
+        if differ(header.sequence_number, self.sequence_number) {
+            return Err(UnrelatedMessage::SequenceNumber(header.sequence_number));
+        }
+        self.is_interrupted |= header.flags & NLM_F_DUMP_INTR != 0;
+        Ok(())
+    }
+
+    /// Checks the header of an item of a [`Dump`](crate::Dump) or [`AnyDump`](crate::AnyDump), also
+    /// of a rejected message. Bytes that are not a message have no header, and are not checked.
+    pub fn check_message<I>(
+        &mut self,
+        message: &Result<NetlinkMessage<I>, RejectedMessage<'_>>,
+    ) -> Result<(), UnrelatedMessage> {
+        let header = match message {
+            Ok(message) => Some(message.header),
+            Err(rejected) => rejected.header,
+        };
+        header.map_or(Ok(()), |header| self.check(&header))
+    }
+
+    /// Returns whether a message of the answer had the flag `NLM_F_DUMP_INTR`. Then sockets may be
+    /// missing: repeat the request.
+    pub const fn is_interrupted(&self) -> bool {
+        self.is_interrupted
+    }
+}
+
+/// Returns whether two numbers are different, and neither is 0.
+fn differ(found: u32, expected: u32) -> bool {
+    found != 0 && expected != 0 && found != expected
+}
+
+impl fmt::Display for UnrelatedMessage {
+    fn fmt(&self, f: &mut fmt::Formatter<'_>) -> fmt::Result {
+        match self {
+            UnrelatedMessage::SequenceNumber(number) => {
+                write!(f, "message of another request: sequence number {number}")
+            }
+            UnrelatedMessage::PortNumber(number) => {
+                write!(f, "message for another socket: port id {number}")
+            }
+        }
+    }
+}
+
+impl core::error::Error for UnrelatedMessage {}

@@ -1,0 +1,81 @@
+//! Each prefix of some replies and datagrams, and each of them with a changed byte. Run under
+//! valgrind, this test finds reads outside of the bytes.
+
+mod common;
+
+use common::{bytes_of, inet_reply, message, unix_reply, NETLINK, PACKET, VSOCK, XDP};
+use sockdiag::constants::SOCK_DIAG_BY_FAMILY;
+use sockdiag::inet::{self, InetReply};
+use sockdiag::netlink::NetlinkReply;
+use sockdiag::packet::PacketReply;
+use sockdiag::unix::{self, UnixDiagName, UnixReply};
+use sockdiag::vsock::VsockReply;
+use sockdiag::xdp::XdpReply;
+use sockdiag::{AnyDump, Attributes, Dump};
+
+/// Parses bytes as each kind of reply. Texts that are returned lie within the bytes, and nothing
+/// panics.
+fn parse_all(bytes: &[u8]) {
+    if let Ok(reply) = UnixReply::parse(bytes) {
+        assert!(reply.attributes().all(|it| it.is_ok()));
+        let unknown = |nla| matches!(nla, unix::nlas::Nla::Other(it) if it.kind() <= 6);
+        assert!(!reply.nlas().any(unknown));
+        let limit = bytes.len() / 4;
+        assert!(reply.pending_connections().nth(limit).is_none());
+        if let Some(UnixDiagName::Pathname(name) | UnixDiagName::Abstract(name)) = reply.name() {
+            assert!(bytes.as_ptr_range().contains(&name.as_ptr()) || name.is_empty());
+        }
+    }
+    if let Ok(reply) = InetReply::parse(bytes) {
+        assert!(reply.attributes().all(|it| it.is_ok()));
+        let known = [1, 2, 4, 5, 6, 7, 8, 10, 11, 15, 17];
+        let unknown = |nla| matches!(nla, inet::nlas::Nla::Other(it) if known.contains(&it.kind()));
+        assert!(!reply.nlas().any(unknown));
+        let parts = bytes.as_ptr_range();
+        assert!(reply
+            .congestion()
+            .is_none_or(|name| name.is_empty() || parts.contains(&name.as_ptr())));
+    }
+    if let Ok(reply) = NetlinkReply::parse(bytes) {
+        assert!(reply.groups.is_none_or(|it| it.len() + 32 <= bytes.len()));
+    }
+    if let Ok(reply) = PacketReply::parse(bytes) {
+        let parts = [reply.addresses, reply.filter].into_iter().flatten();
+        assert!(
+            parts
+                .map(|it| it.iter().map(|_| 1).sum::<usize>())
+                .sum::<usize>()
+                <= bytes.len()
+        );
+    }
+    let _ = (
+        VsockReply::parse(bytes).is_ok(),
+        XdpReply::parse(bytes).is_ok(),
+    );
+    let _ = AnyDump::new(bytes).count();
+    let _ = sockdiag::inet::tcp_info(bytes);
+    let _ = Attributes::new(bytes).count();
+    let _ = Dump::new(bytes).count();
+}
+
+#[test]
+fn parses_each_prefix_and_each_changed_byte() {
+    let mut datagram = message(SOCK_DIAG_BY_FAMILY, &unix_reply());
+    datagram.extend(message(SOCK_DIAG_BY_FAMILY, &inet_reply()));
+    let others = [NETLINK, PACKET, VSOCK, XDP].map(bytes_of);
+    for bytes in [unix_reply(), inet_reply(), datagram]
+        .into_iter()
+        .chain(others)
+    {
+        for end in 0..=bytes.len() {
+            parse_all(&bytes[..end]);
+        }
+        for index in 0..bytes.len() {
+            for change in [0, 1, 3, 4, 5, 16, 0x7f, 0x80, 0xff] {
+                let mut other = bytes.clone();
+                other[index] = change;
+                parse_all(&other);
+            }
+        }
+    }
+}
