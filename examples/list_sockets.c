@@ -61,37 +61,37 @@ static int fail(const char *what) {
 /* Prints a text. Bytes that are not printable are printed as dots, and an abstract name is printed
  * after an @. */
 static void print_text(FILE *lines, const struct sockdiag_text *text) {
-    size_t place;
+    size_t index;
     if (text->kind == 0)
         return;
     if (text->kind == SOCKDIAG_ABSTRACT)
         putc('@', lines);
-    for (place = 0; place < text->length; place++) {
-        const uint8_t byte = text->bytes[place];
+    for (index = 0; index < text->length; index++) {
+        const uint8_t byte = text->bytes[index];
         putc(byte >= 0x20 && byte < 0x7f ? byte : '.', lines);
     }
 }
 
 static void print_number(FILE *lines, const char *name, struct sockdiag_number number) {
-    if (number.is_told)
+    if (number.is_set)
         fprintf(lines, " %s %u", name, number.value);
 }
 
 static uint32_t print_unix(FILE *lines, const uint8_t *payload, size_t length) {
     struct sockdiag_unix_details it;
     uint32_t pending;
-    size_t place;
-    const uint32_t fault = sockdiag_unix_get_details(payload, length, &it);
-    if (fault != SOCKDIAG_OK)
-        return fault;
+    size_t index;
+    const uint32_t error = sockdiag_unix_get_details(payload, length, &it);
+    if (error != SOCKDIAG_OK)
+        return error;
     fprintf(lines, "unix type %u state %u inode %u ", it.header.kind, it.header.state,
             it.header.inode);
     print_text(lines, &it.name);
     print_number(lines, "peer", it.peer);
     print_number(lines, "received", it.recv_queue);
     print_number(lines, "sent", it.send_queue);
-    for (place = 0; sockdiag_unix_get_pending(payload, length, place, &pending) == SOCKDIAG_ITEM;
-         place++)
+    for (index = 0; sockdiag_unix_get_pending(payload, length, index, &pending) == SOCKDIAG_ITEM;
+         index++)
         fprintf(lines, " pending %u", pending);
     putc('\n', lines);
     return SOCKDIAG_OK;
@@ -102,9 +102,9 @@ static uint32_t print_inet(FILE *lines, const char *protocol, const uint8_t *pay
     char source[INET6_ADDRSTRLEN] = "", destination[INET6_ADDRSTRLEN] = "";
     struct sockdiag_inet_details it;
     struct sockdiag_tcp_info info;
-    const uint32_t fault = sockdiag_inet_get_details(payload, length, &it);
-    if (fault != SOCKDIAG_OK)
-        return fault;
+    const uint32_t error = sockdiag_inet_get_details(payload, length, &it);
+    if (error != SOCKDIAG_OK)
+        return error;
     inet_ntop(it.header.family, it.header.source_address, source, sizeof source);
     inet_ntop(it.header.family, it.header.destination_address, destination, sizeof destination);
     fprintf(lines, "%s state %u %s %u %s %u uid %u inode %u ", protocol, it.header.state, source,
@@ -132,14 +132,14 @@ static enum progress end(const char *protocol, const uint8_t *payload, size_t le
 
 /* Prints the reply in a message. Reports one that is rejected. */
 static void print_reply(struct dump *dump, const uint8_t *payload, size_t length) {
-    const uint32_t fault = length > 0 && payload[0] == AF_UNIX
+    const uint32_t error = length > 0 && payload[0] == AF_UNIX
                                ? print_unix(dump->lines, payload, length)
                                : print_inet(dump->lines, dump->protocol, payload, length);
-    if (fault == SOCKDIAG_OK)
+    if (error == SOCKDIAG_OK)
         return;
     dump->has_rejected_reply = 1;
     fprintf(stderr, "list_sockets: %s: invalid reply: %s\n", dump->protocol,
-            sockdiag_fault_text(fault));
+            sockdiag_error_text(error));
 }
 
 /* Prints the replies of a datagram, up to the message that ends the dump. */
@@ -148,7 +148,7 @@ static enum progress print_datagram(struct dump *dump, const struct kernel *kern
     struct sockdiag_cursor cursor = {0};
     struct sockdiag_message message;
     uint32_t answer;
-    while ((answer = sockdiag_next_envelope(datagram, length, &cursor, &message))
+    while ((answer = sockdiag_next_any_message(datagram, length, &cursor, &message))
            == SOCKDIAG_ITEM) {
         const uint8_t *payload = datagram + message.offset;
         if (!sockdiag_is_answer(&message, kernel->sequence_number, kernel->port_number))
@@ -163,7 +163,7 @@ static enum progress print_datagram(struct dump *dump, const struct kernel *kern
     }
     if (answer != SOCKDIAG_END)
         return fprintf(stderr, "list_sockets: %s: invalid datagram: %s\n", dump->protocol,
-                       sockdiag_fault_text(answer)), FAILED;
+                       sockdiag_error_text(answer)), FAILED;
     return GOES_ON;
 }
 
@@ -265,15 +265,15 @@ static int list_inet(struct kernel *kernel, const char *name, uint32_t protocol,
     uint8_t bytes[SOCKDIAG_INET_REQUEST_LENGTH + sizeof filter];
     struct sockdiag_inet_request request;
     struct sockdiag_outcome outcome;
-    int place, failed = 0;
+    int index, failed = 0;
     memset(&request, 0, sizeof request);
     request.header.flags = SOCKDIAG_NLM_F_REQUEST | SOCKDIAG_NLM_F_DUMP;
     request.protocol = protocol;
     request.extensions = extensions;
     request.states = states;
-    for (place = 0; place < 2; place++) {
+    for (index = 0; index < 2; index++) {
         size_t length;
-        request.family = families[place];
+        request.family = families[index];
         length = sockdiag_write_inet_request_with_attributes(&request, (const uint8_t *)&filter,
                                                              filter_length, bytes, sizeof bytes,
                                                              &outcome);
@@ -324,19 +324,19 @@ static int open_kernel(struct kernel *kernel) {
 
 /* Reads the arguments. Returns 0, or -1 if they are wrong. */
 static int read_arguments(int count, char **arguments, struct selection *selection) {
-    int place = 1;
+    int index = 1;
     selection->only_listening = count > 1 && strcmp(arguments[1], "-l") == 0;
     selection->port = 0;
-    place += selection->only_listening;
-    if (place < count) {
+    index += selection->only_listening;
+    if (index < count) {
         char *end;
-        const unsigned long port = strtoul(arguments[place], &end, 10);
+        const unsigned long port = strtoul(arguments[index], &end, 10);
         if (*end != '\0' || port == 0 || port > UINT16_MAX)
             return -1;
         selection->port = (uint16_t)port;
-        place++;
+        index++;
     }
-    return place == count ? 0 : -1;
+    return index == count ? 0 : -1;
 }
 
 int main(int argc, char **argv) {

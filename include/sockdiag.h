@@ -5,7 +5,7 @@
  * The library is crates/sockdiag_c. tools/install builds it and installs it under a prefix. What
  * this header says of a call is proved there, by the contract of the function of the same name and
  * by the two theorem functions about iteration in src/laws.rt. The functions that are defined here
- * are not proved: sockdiag_is_compatible, sockdiag_fault_text, sockdiag_is_answer,
+ * are not proved: sockdiag_is_compatible, sockdiag_error_text, sockdiag_is_answer,
  * sockdiag_is_interrupted and sockdiag_ends_answer.
  *
  * The library does not allocate, opens no files or sockets, and has no state between calls. So any
@@ -85,7 +85,7 @@ static inline int sockdiag_is_compatible(void)
                            an allocation failure, which cannot happen. */
 
 /* Decode errors: why bytes are rejected. If bytes have several errors, a call returns the first. */
-enum sockdiag_fault {
+enum sockdiag_error {
     SOCKDIAG_BUFFER_TOO_SMALL = 2,          /* A record has fewer bytes than it needs. */
     SOCKDIAG_UNSUPPORTED_FAMILY = 3,        /* The family of an internet socket is neither
                                                AF_INET nor AF_INET6. */
@@ -121,9 +121,9 @@ enum sockdiag_fault {
  * crates/netlink_core without the values. Any number may be passed. The text of 0 is "no error".
  * The text of a number that is not the code of an error is "unknown error code".
  */
-static inline const char *sockdiag_fault_text(uint32_t fault)
+static inline const char *sockdiag_error_text(uint32_t error)
 {
-    switch (fault) {
+    switch (error) {
     case SOCKDIAG_OK:
         return "no error";
     case SOCKDIAG_BUFFER_TOO_SMALL:
@@ -463,8 +463,8 @@ uint32_t sockdiag_check_message(const uint8_t *payload, size_t length, uint16_t 
 
 /* A number that a reply may contain. */
 struct sockdiag_number {
-    uint32_t is_told; /* 1 if the reply contains the number, else 0. */
-    uint32_t value;   /* The number, or 0. */
+    uint32_t is_set; /* 1 if the reply contains the number, else 0. */
+    uint32_t value;  /* The number, or 0. */
 };
 
 #define SOCKDIAG_TEXT 1     /* Kind of a pathname, and of the name of a congestion control
@@ -757,8 +757,8 @@ size_t sockdiag_inet_get_memory(const uint8_t *payload, size_t length,
 /* ---- netlink, packet, vsock and XDP sockets
  *
  * The calls of this section do not check the family, which is the first byte of the payload: use it
- * to choose the call. Iterate over a dump by sockdiag_next_envelope: sockdiag_next_message rejects
- * these replies.
+ * to choose the call. Iterate over a dump by sockdiag_next_any_message: sockdiag_next_message
+ * rejects these replies.
  *
  * A payload that is shorter than the header is rejected with SOCKDIAG_BUFFER_TOO_SMALL. Then the
  * framing of all attributes is checked, with errors 7 to 9. Then values are checked in the order of
@@ -1052,10 +1052,10 @@ uint32_t sockdiag_xdp_get_details(const uint8_t *payload, size_t length,
 
 /* ---- iteration */
 
-/* State of an iteration. An iteration over all of the bytes starts with place 0. */
+/* State of an iteration. An iteration over all of the bytes starts with offset 0. */
 struct sockdiag_cursor {
-    size_t place; /* Offset of the next item. No items are left if it is at or after the end of
-                     the bytes. */
+    size_t offset; /* Offset of the next item. No items are left if it is at or after the end of
+                      the bytes. */
 };
 
 /* An attribute, struct nlattr, with the offset of its value in the bytes of the iteration. */
@@ -1127,8 +1127,9 @@ uint32_t sockdiag_next_message(const uint8_t *datagram, size_t length,
  * call is checked only once. A reply that such a call rejects does not end a dump: continue with
  * the next message.
  */
-uint32_t sockdiag_next_envelope(const uint8_t *datagram, size_t length,
-                                struct sockdiag_cursor *cursor, struct sockdiag_message *message);
+uint32_t sockdiag_next_any_message(const uint8_t *datagram, size_t length,
+                                   struct sockdiag_cursor *cursor,
+                                   struct sockdiag_message *message);
 
 /*
  * Stores the error number at the start of the payload of an NLMSG_ERROR or NLMSG_DONE: 0 for
@@ -1348,7 +1349,7 @@ size_t sockdiag_write_vsock_request(const struct sockdiag_vsock_request *request
 
 /* Outcome of a call that writes bytes derived from the caller's bytes. */
 struct sockdiag_outcome {
-    uint32_t fault; /* Code of the first error if the caller's bytes are rejected, else 0. */
+    uint32_t error; /* Code of the first error if the caller's bytes are rejected, else 0. */
     size_t needed;  /* Number of bytes to write; 0 if the caller's bytes are rejected, or cannot
                        be serialized. */
 };
@@ -1365,7 +1366,7 @@ struct sockdiag_outcome {
  *
  * Returns the number of bytes that were written, which is also stored in outcome.needed. Returns 0
  * if nothing was written, for the first of these reasons that applies:
- * - The framing of the attributes is invalid. outcome.fault is the code of the first error, 7 to 9;
+ * - The framing of the attributes is invalid. outcome.error is the code of the first error, 7 to 9;
  *   in all other cases it is 0. outcome.needed is 0.
  * - The family is neither AF_INET nor AF_INET6, or the whole has more than 4,294,967,295 bytes, too
  *   many for a length field. outcome.needed is 0.
@@ -1390,7 +1391,7 @@ size_t sockdiag_write_inet_request_with_attributes(const struct sockdiag_inet_re
  *
  * Returns the number of bytes that were written, which is also stored in outcome.needed. Returns 0
  * if nothing was written, for one of these reasons:
- * - The reply is rejected. outcome.fault is the code of the first error; in all other cases it is
+ * - The reply is rejected. outcome.error is the code of the first error; in all other cases it is
  *   0. outcome.needed is 0.
  * - The reply cannot be serialized, because a value is longer than it was in the reply, and too
  *   long for its length field. outcome.needed is 0.
@@ -1407,7 +1408,7 @@ size_t sockdiag_rewrite_unix_reply(const uint8_t *payload, size_t length, uint8_
  *
  * Returns the number of bytes that were written, which is also stored in outcome.needed. Returns 0
  * if nothing was written, for one of these reasons:
- * - The reply is rejected. outcome.fault is the code of the first error; in all other cases it is
+ * - The reply is rejected. outcome.error is the code of the first error; in all other cases it is
  *   0. outcome.needed is 0.
  * - The reply cannot be serialized, because a value is longer than it was in the reply, and too
  *   long for its length field. outcome.needed is 0.

@@ -31,18 +31,19 @@ OURS = re.compile(rf"Rattle\.({'|'.join(CRATES + OTHERS)})\.specs\.(?!declared|c
 # `test` and `tests` compute the result of `==`, which `eq_is_model`, `compared` and the functions
 # of laws.rt state without them. `asks` relates a line to what a private struct retains of it until
 # it is answered.
-LAWS = set("""laws fills exact eq_is_model written_is fits_is emitted_is writable_is written_as
-    compared idle_reflexive idle_symmetric idle_transitive one_value equal_by_bytes
-    idle_with_written reads_back_exactly written_alike eq tests test enough keeps same written fits
-    asks""".split())
+LAWS = set("""laws fills exact eq_is_model bytes_by_codec writable_by_codec
+    bytes_by_attribute writable_by_attribute attribute_by_model compared equivalent_reflexive
+    equivalent_symmetric equivalent_transitive one_value equal_by_bytes equivalent_to_serialized
+    round_trips_iff_normal same_bytes_iff_equivalent eq tests test enough keeps same
+    always_writable asks""".split())
 # Private items that count as promises: functions whose clauses docs/PROMISES.md cites, a struct
 # whose invariant docs/DECISIONS.md cites, and the trait whose impls define what the invariant
 # names.
-CITED = {"serve", "read_prompt", "FedDump", "Kept"}
+CITED = {"serve", "read_prompt", "GenericDump", "DumpEntry"}
 # Folders in specs/ with modules that need not be believed: lemmas and what they need, definitions
 # that only the contracts of private functions need, and the inverses of layouts' `values`. Only a
 # layout may refer to an inverse. The script does not follow this reference: the law
-# `read_where_it_stands` states what is parsed without the inverse.
+# `parsed_iff_contained` states what is parsed without the inverse.
 LEMMAS, PRIVATE, INVERSE = ".specs.laws.", ".specs.private.", ".specs.inverse."
 # Definitions that a law determines. Whoever believes the law need not read how they are computed:
 # their types are followed, their equations are not. The laws are found_values_are_the_attributes,

@@ -9,7 +9,7 @@
 #define IS_AT(name, field, at) _Static_assert(offsetof(struct name, field) == at, #field)
 #define HAS_SIZE(name, size) _Static_assert(sizeof(struct name) == size, #name)
 
-IS_AT(sockdiag_number, is_told, 0);
+IS_AT(sockdiag_number, is_set, 0);
 IS_AT(sockdiag_number, value, 4);
 HAS_SIZE(sockdiag_number, 8);
 
@@ -126,7 +126,7 @@ IS_AT(sockdiag_inet_request, interface_id, 60);
 IS_AT(sockdiag_inet_request, cookie, 64);
 HAS_SIZE(sockdiag_inet_request, 72);
 
-IS_AT(sockdiag_outcome, fault, 0);
+IS_AT(sockdiag_outcome, error, 0);
 IS_AT(sockdiag_outcome, needed, 8);
 HAS_SIZE(sockdiag_outcome, 16);
 
@@ -143,7 +143,7 @@ IS_AT(sockdiag_unix_details, queued, 96);
 IS_AT(sockdiag_unix_details, shutdown, 104);
 HAS_SIZE(sockdiag_unix_details, 112);
 
-IS_AT(sockdiag_cursor, place, 0);
+IS_AT(sockdiag_cursor, offset, 0);
 HAS_SIZE(sockdiag_cursor, 8);
 
 IS_AT(sockdiag_attribute, offset, 0);

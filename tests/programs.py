@@ -247,12 +247,12 @@ def test_options(program):
     assert run(program, [], named)[1].split() == escaped.split(), "without --utf8"
 
 
-def test_refused_memory(program, arguments, given, status, output):
+def test_out_of_memory(program, arguments, given, status, output):
     """Makes each allocation fail in turn. Either the run reports out of memory with status 1, and
     its output is a prefix of the full output; or it can do without the memory, as for a buffer, and
     status and output are as always."""
     with tempfile.TemporaryDirectory() as folder:
-        library = os.path.join(folder, "refuse.so")
+        library = os.path.join(folder, "fail_malloc.so")
         source = Path(__file__).parent / "api/refuse.c"
         subprocess.run(["gcc", "-shared", "-fPIC", "-O1", "-o", library, source], check=True)
         for first in range(1, 10_000):
@@ -279,7 +279,7 @@ if __name__ == "__main__":
     test_long_inputs(sslist)
     test_unreadable_file(sslist)
     if shutil.which("gcc"):
-        test_refused_memory(sockdiag, ["--strict"], b"unix 00\n", 3, b"refused 2\n")
+        test_out_of_memory(sockdiag, ["--strict"], b"unix 00\n", 3, b"refused 2\n")
         expected = run(sslist, ["-t"], CAPTURE.read_bytes())[:2]
-        test_refused_memory(sslist, ["-t", CAPTURE], b"", *expected)
+        test_out_of_memory(sslist, ["-t", CAPTURE], b"", *expected)
     sys.exit("\n".join(failures) or 0)

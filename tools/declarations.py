@@ -143,7 +143,7 @@ def constants_in(text):
 
 def decode_errors():
     """Yields each decode error that a call returns."""
-    text = text_of(CRATES / "netlink_core/src/fault.rt")
+    text = text_of(CRATES / "netlink_core/src/error.rt")
     codes = dict(CODE.findall(code_of(text)))
     for comment, shown, name in VARIANT.findall(text):
         if name not in NOT_RETURNED:

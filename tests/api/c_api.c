@@ -113,7 +113,7 @@ static size_t put(uint8_t *bytes, size_t at, uint8_t kind, const char *value, si
 }
 
 static int is(struct sockdiag_number number, uint32_t value) {
-    return number.is_told == 1 && number.value == value;
+    return number.is_set == 1 && number.value == value;
 }
 
 static void tells_unix_details(void) {
@@ -130,7 +130,7 @@ static void tells_unix_details(void) {
     check(details.name.kind == SOCKDIAG_TEXT && details.name.length == 2, "a pathname");
     check(details.name.bytes == unix_reply + 20 && is(details.peer, 0x12345678),
           "a pathname's offset, and a peer");
-    check(details.shutdown.is_told == 0 && details.shutdown.value == 0, "a number that is absent");
+    check(details.shutdown.is_set == 0 && details.shutdown.value == 0, "a number that is absent");
     memcpy(bytes, unix_reply, 16);
     end = put(bytes, 16, 0, "\0a\0b", 4);
     end = put(bytes, end, 1, "\1\0\0\0\2\0\0\0", 8);
@@ -169,7 +169,7 @@ static void tells_inet_details(void) {
     struct sockdiag_inet_details details;
     struct sockdiag_tcp_info info;
     struct sockdiag_inet_memory memory;
-    size_t end, place;
+    size_t end, index;
     memset(&details, 0, sizeof details);
     memcpy(bytes, inet_reply, 72);
     end = put(bytes, 72, 4, "cubic", 6);
@@ -192,8 +192,8 @@ static void tells_inet_details(void) {
     check(is(details.mark, 6) && is(details.class_id, 7), "mark and class");
     check(sockdiag_inet_get_tcp_info(bytes, end, &info) == 0 && info.state == 0,
           "no TCP connection");
-    for (place = 0; place < sizeof value; place++)
-        value[place] = (uint8_t)place;
+    for (index = 0; index < sizeof value; index++)
+        value[index] = (uint8_t)index;
     end = put(bytes, end, 2, (const char *)value, sizeof value);
     check(sockdiag_inet_get_details(bytes, end, &details) == SOCKDIAG_OK, "a TCP connection");
     check(sockdiag_inet_get_tcp_info(bytes, end, &info) == 240 &&
@@ -254,8 +254,8 @@ static void tells_netlink_details(void) {
     check(memcmp(&details, &before, sizeof before) == 0,
           "details are written for a rejected netlink reply");
     check(sockdiag_netlink_get_details(bytes, 28, &details) == SOCKDIAG_OK &&
-          !details.flags.is_told, "no flags");
-    check(details.groups.kind == 0 && details.memory.options.is_told == 0,
+          !details.flags.is_set, "no flags");
+    check(details.groups.kind == 0 && details.memory.options.is_set == 0,
           "neither groups nor memory");
 }
 
@@ -318,12 +318,12 @@ static void tells_vsock_and_xdp_details(void) {
           "an XDP header");
     check(details.has_info == 1 && details.info.interface == 3 && details.info.queue == 1,
           "its interface and queue");
-    check(is(details.owner, 1000) && is(details.receive_ring, 2048) && !details.send_ring.is_told,
+    check(is(details.owner, 1000) && is(details.receive_ring, 2048) && !details.send_ring.is_set,
           "owner and rings");
     check(details.has_umem == 1 && details.umem.size == 4194304 && details.umem.references == 1,
           "its shared memory");
-    check(is(details.fill_ring, 4096) && !details.completion_ring.is_told &&
-          !details.memory.cache.is_told, "its rings");
+    check(is(details.fill_ring, 4096) && !details.completion_ring.is_set &&
+          !details.memory.cache.is_set, "its rings");
     check(details.has_statistics == 1 && details.statistics.received_dropped == 1,
           "its statistics");
     check(details.statistics.fill_ring_empty == 4 && details.statistics.send_ring_empty == 6,
@@ -333,16 +333,16 @@ static void tells_vsock_and_xdp_details(void) {
 static void tells_numbers_in_words(void) {
     static const uint8_t refused[5] = {0xfe, 0xff, 0xff, 0xff, 9};
     int32_t number = 7;
-    uint32_t fault;
+    uint32_t error;
     check(sockdiag_get_error_number(refused, 3, &number) == SOCKDIAG_END && number == 7,
           "no errno");
     check(sockdiag_get_error_number(refused, 5, &number) == SOCKDIAG_ITEM && number == -2,
           "ENOENT");
-    for (fault = SOCKDIAG_BUFFER_TOO_SMALL; fault <= SOCKDIAG_ENVELOPE_LENGTH_PAST; fault++)
-        check(strcmp(sockdiag_fault_text(fault), sockdiag_fault_text(fault + 1)) != 0,
+    for (error = SOCKDIAG_BUFFER_TOO_SMALL; error <= SOCKDIAG_ENVELOPE_LENGTH_PAST; error++)
+        check(strcmp(sockdiag_error_text(error), sockdiag_error_text(error + 1)) != 0,
               "the text of an error");
-    check(strcmp(sockdiag_fault_text(SOCKDIAG_OK), "no error") == 0, "the text of no error");
-    check(strcmp(sockdiag_fault_text(19), "unknown error code") == 0,
+    check(strcmp(sockdiag_error_text(SOCKDIAG_OK), "no error") == 0, "the text of no error");
+    check(strcmp(sockdiag_error_text(19), "unknown error code") == 0,
           "the text of an unknown error");
 }
 
@@ -351,20 +351,20 @@ static void walks_attributes(void) {
     struct sockdiag_attribute attribute = {0, 0, 0};
     check(sockdiag_next_attribute(unix_reply, 36, &cursor, &attribute) == 1, "the first attribute");
     check(attribute.type_word == 0 && attribute.offset == 20 && attribute.length == 3 &&
-          cursor.place == 24, "a name");
+          cursor.offset == 24, "a name");
     check(sockdiag_next_attribute(unix_reply, 36, &cursor, &attribute) == 1,
           "the second attribute");
     check(attribute.type_word == 2 && attribute.offset == 28 && attribute.length == 4 &&
-          cursor.place == 32, "a peer");
+          cursor.offset == 32, "a peer");
     check(sockdiag_next_attribute(unix_reply, 36, &cursor, &attribute) == 1, "the third attribute");
-    check(attribute.type_word == 0x63 && attribute.length == 0 && cursor.place == 36,
+    check(attribute.type_word == 0x63 && attribute.length == 0 && cursor.offset == 36,
           "an attribute without value");
     check(sockdiag_next_attribute(unix_reply, 36, &cursor, &attribute) == 0,
           "the end of the attributes");
-    cursor.place = SIZE_MAX;
+    cursor.offset = SIZE_MAX;
     check(sockdiag_next_attribute(unix_reply, 36, &cursor, &attribute) == 0,
           "an offset after the end");
-    cursor.place = 24;
+    cursor.offset = 24;
     check(sockdiag_next_attribute(unix_reply, 31, &cursor, &attribute)
               == SOCKDIAG_ATTRIBUTE_LENGTH_PAST,
           "a truncated value");
@@ -411,7 +411,7 @@ static void walks_messages(void) {
     check(sockdiag_next_message(bytes, length, &cursor, &message) == 1, "the end of a dump");
     check(message.message_type == 3 && message.offset == 108 && message.length == 4,
           "the end's payload");
-    check(cursor.place == 112, "the offset after the end of the dump");
+    check(cursor.offset == 112, "the offset after the end of the dump");
     check(sockdiag_next_message(bytes, length, &cursor, &message) == SOCKDIAG_ENVELOPE_CUT,
           "two remaining bytes");
     check(message.message_type == 3, "the message is written on an error");
@@ -543,7 +543,7 @@ static void writes_filtered_request(void) {
     check(sockdiag_write_inet_request_with_attributes(&request, filter, 13, buffer, 95,
                                                       &outcome) == 0,
           "a short buffer");
-    check(outcome.fault == 0 && outcome.needed == 96 && buffer[0] == 0xaa,
+    check(outcome.error == 0 && outcome.needed == 96 && buffer[0] == 0xaa,
           "the length of a filtered request");
     check(sockdiag_write_inet_request_with_attributes(&request, filter, 13, buffer, 100,
                                                       &outcome) == 96,
@@ -555,7 +555,7 @@ static void writes_filtered_request(void) {
     check(sockdiag_write_inet_request_with_attributes(&request, filter, 11, buffer, 100,
                                                       &outcome) == 0,
           "a truncated filter");
-    check(outcome.fault == SOCKDIAG_ATTRIBUTE_HEADER_CUT && outcome.needed == 0,
+    check(outcome.error == SOCKDIAG_ATTRIBUTE_HEADER_CUT && outcome.needed == 0,
           "the error of a rejected filter");
     check(sockdiag_write_inet_request_with_attributes(&request, NULL, 0, buffer, 80,
                                                       &outcome) == 80,
@@ -565,7 +565,7 @@ static void writes_filtered_request(void) {
     check(sockdiag_write_inet_request_with_attributes(&request, filter, 13, buffer, 100,
                                                       &outcome) == 0,
           "a family");
-    check(outcome.fault == 0 && outcome.needed == 0, "a request for another family");
+    check(outcome.error == 0 && outcome.needed == 0, "a request for another family");
 }
 
 static void rewrites_unix_reply(void) {
@@ -578,15 +578,15 @@ static void rewrites_unix_reply(void) {
     want[23] = 0;
     check(sockdiag_rewrite_unix_reply(unix_reply, 36, buffer, 35, &outcome) == 0,
           "a short buffer for a reply");
-    check(outcome.fault == 0 && outcome.needed == 36, "the length of the canonical form");
+    check(outcome.error == 0 && outcome.needed == 36, "the length of the canonical form");
     check(buffer[0] == 0xaa && buffer[34] == 0xaa, "a short buffer is written to in part");
     check(sockdiag_rewrite_unix_reply(unix_reply, 36, buffer, 40, &outcome) == 36,
           "a canonical UNIX reply");
-    check(outcome.fault == 0 && outcome.needed == 36 && memcmp(buffer, want, 36) == 0, "its bytes");
+    check(outcome.error == 0 && outcome.needed == 36 && memcmp(buffer, want, 36) == 0, "its bytes");
     check(buffer[36] == 0xaa, "the bytes after the canonical form");
     check(sockdiag_rewrite_unix_reply(unix_reply, 15, buffer, 40, &outcome) == 0,
           "a rejected UNIX reply");
-    check(outcome.fault == SOCKDIAG_BUFFER_TOO_SMALL && outcome.needed == 0, "its error");
+    check(outcome.error == SOCKDIAG_BUFFER_TOO_SMALL && outcome.needed == 0, "its error");
 }
 
 static void rewrites_inet_reply(void) {
@@ -600,14 +600,14 @@ static void rewrites_inet_reply(void) {
     check(memcmp(buffer, want, 72) == 0, "an internet reply's bytes");
     check(sockdiag_rewrite_inet_reply(unix_reply, 36, buffer, 72, &outcome) == 0,
           "a rejected internet reply");
-    check(outcome.fault == SOCKDIAG_BUFFER_TOO_SMALL, "the error of a rejected internet reply");
+    check(outcome.error == SOCKDIAG_BUFFER_TOO_SMALL, "the error of a rejected internet reply");
 }
 
 /* Sets each byte to the low byte of its offset, so that fields at different offsets differ. */
 static void number_bytes(uint8_t *bytes, size_t length) {
-    size_t place;
-    for (place = 0; place < length; place++)
-        bytes[place] = (uint8_t)place;
+    size_t index;
+    for (index = 0; index < length; index++)
+        bytes[index] = (uint8_t)index;
 }
 
 /* Writes the header of an attribute at the end, and moves the end after its value and padding.
@@ -631,7 +631,7 @@ static void check_number(uint64_t found, const uint8_t *bytes, size_t size, cons
 #define FIELD(field, bytes) check_number(field, bytes, sizeof(field), #field)
 /* The number is present, and is the little-endian one of this size at these bytes. */
 #define TOLD(number, bytes, size) \
-    (check((number).is_told == 1, #number), check_number((number).value, bytes, size, #number))
+    (check((number).is_set == 1, #number), check_number((number).value, bytes, size, #number))
 /* The text is the one at these bytes. */
 #define TEXT(text, a_kind, at, a_length) \
     check((text).kind == (a_kind) && (text).bytes == (at) && (text).length == (a_length), #text)
@@ -776,15 +776,15 @@ static void reads_each_field_of_records(void) {
     uint8_t bytes[400];
     struct sockdiag_tcp_info info;
     struct sockdiag_inet_memory it;
-    size_t end = SOCKDIAG_INET_ATTRIBUTES, place, memory;
+    size_t end = SOCKDIAG_INET_ATTRIBUTES, index, memory;
     memset(&info, 0xaa, sizeof info);
     memset(&it, 0xaa, sizeof it);
     number_bytes(bytes, sizeof bytes);
-    place = begin(bytes, &end, SOCKDIAG_INET_DIAG_INFO, 232);
+    index = begin(bytes, &end, SOCKDIAG_INET_DIAG_INFO, 232);
     memory = begin(bytes, &end, SOCKDIAG_INET_DIAG_SKMEMINFO, 36);
     check(sockdiag_inet_get_tcp_info(bytes, end, &info) == 232, "all fields of a TCP connection");
-    check_tcp_info(&info, bytes + place);
-    check_words_of_tcp_info(&info, bytes + place);
+    check_tcp_info(&info, bytes + index);
+    check_words_of_tcp_info(&info, bytes + index);
     check(sockdiag_inet_get_memory(bytes, end, &it) == 36, "all fields of memory");
     FIELD(it.receive_queue, bytes + memory);
     FIELD(it.receive_queue_max, bytes + memory + 4);
@@ -987,7 +987,7 @@ static void follows_a_dump(void) {
     struct sockdiag_message message;
     int messages;
     for (messages = 0; messages < 4; messages++) {
-        check(sockdiag_next_envelope(bytes, length, &cursor, &message) == SOCKDIAG_ITEM,
+        check(sockdiag_next_any_message(bytes, length, &cursor, &message) == SOCKDIAG_ITEM,
               "a message, whatever its payload is");
         check(sockdiag_is_answer(&message, 7, 9), "an answer");
         check(!sockdiag_is_answer(&message, 8, 9), "a message with another sequence number");
@@ -996,7 +996,7 @@ static void follows_a_dump(void) {
         check(sockdiag_ends_answer(&message) == (messages == 3), "the end of an answer");
     }
     check(message.message_type == SOCKDIAG_NLMSG_DONE && message.offset == 108, "the end");
-    check(sockdiag_next_envelope(bytes, length, &cursor, &message) == SOCKDIAG_ENVELOPE_CUT,
+    check(sockdiag_next_any_message(bytes, length, &cursor, &message) == SOCKDIAG_ENVELOPE_CUT,
           "two remaining bytes after messages");
     message.flags = 0x12;
     check(sockdiag_is_interrupted(&message), "a dump that is interrupted");

@@ -68,10 +68,10 @@ static uint8_t *bytes_in(uint8_t *area, size_t length) {
 
 static int is_untouched(const void *found, size_t length) {
     const uint8_t *bytes = (const uint8_t *)found;
-    size_t place;
-    for (place = 0; place < length && bytes[place] == UNTOUCHED; place++)
+    size_t index;
+    for (index = 0; index < length && bytes[index] == UNTOUCHED; index++)
         ;
-    return place == length;
+    return index == length;
 }
 
 static void add_sample(const uint8_t *bytes, size_t length) {
@@ -90,7 +90,7 @@ static void add_datagram(const uint8_t *bytes, size_t length) {
     struct sockdiag_cursor cursor = {0};
     struct sockdiag_message message;
     add_sample(bytes, length);
-    while (sockdiag_next_envelope(bytes, length, &cursor, &message) == SOCKDIAG_ITEM)
+    while (sockdiag_next_any_message(bytes, length, &cursor, &message) == SOCKDIAG_ITEM)
         add_sample(bytes + message.offset, message.length);
 }
 
@@ -99,17 +99,17 @@ static void add_datagram(const uint8_t *bytes, size_t length) {
 static void read_capture(const char *path) {
     static uint8_t bytes[1 << 20];
     FILE *file = fopen(path, "rb");
-    size_t length, place = 24;
+    size_t length, index = 24;
     expect(file != NULL, "the capture");
     length = fread(bytes, 1, sizeof bytes, file);
     fclose(file);
-    while (place + 16 <= length) {
-        const size_t packet = bytes[place + 8] | (size_t)bytes[place + 9] << 8;
-        place += 16;
-        if (packet < 16 || packet > length - place)
+    while (index + 16 <= length) {
+        const size_t packet = bytes[index + 8] | (size_t)bytes[index + 9] << 8;
+        index += 16;
+        if (packet < 16 || packet > length - index)
             break;
-        add_datagram(bytes + place + 16, packet - 16);
-        place += packet;
+        add_datagram(bytes + index + 16, packet - 16);
+        index += packet;
     }
     expect(sample_count > 0, "a capture with datagrams");
 }
@@ -120,23 +120,23 @@ static size_t change(uint8_t *bytes, size_t length) {
     /* About the lengths of the headers of messages and replies. */
     static const uint8_t lengths[8] = {3, 15, 16, 27, 31, 71, 72, 75};
     const uint8_t shorter = lengths[random_below(8)];
-    const size_t place = length > 0 ? random_below((uint32_t)length) : 0;
+    const size_t index = length > 0 ? random_below((uint32_t)length) : 0;
     const struct sample *other = &samples[random_below((uint32_t)sample_count)];
     const size_t room = AREA / 2 - length;
     switch (length > 0 ? random_below(6) : 5) {
     case 0:
-        bytes[place] ^= (uint8_t)(1u << random_below(8));
+        bytes[index] ^= (uint8_t)(1u << random_below(8));
         return length;
     case 1:
-        bytes[place] = numbers[random_below(8)];
+        bytes[index] = numbers[random_below(8)];
         return length;
     case 2:
-        bytes[place & ~(size_t)3] = (uint8_t)random_below(40);
+        bytes[index & ~(size_t)3] = (uint8_t)random_below(40);
         return length;
     case 3:
-        return random_below(2) || shorter > length ? place : shorter;
+        return random_below(2) || shorter > length ? index : shorter;
     case 4:
-        memset(bytes + place, random_below(2) ? 0 : 0xff, (length - place) % 5);
+        memset(bytes + index, random_below(2) ? 0 : 0xff, (length - index) % 5);
         return length;
     default:
         if (other->length > room)
@@ -221,15 +221,15 @@ static void try_families(const uint8_t *payload, size_t length) {
 
 typedef size_t rewrite(const uint8_t *, size_t, uint8_t *, size_t, struct sockdiag_outcome *);
 
-/* Writes the canonical form to a buffer of a random length. `fault` is the error of the reply. */
-static void try_rewriting(rewrite *call, const uint8_t *payload, size_t length, uint32_t fault) {
+/* Writes the canonical form to a buffer of a random length. `error` is the error of the reply. */
+static void try_rewriting(rewrite *call, const uint8_t *payload, size_t length, uint32_t error) {
     static uint8_t again[AREA];
     struct sockdiag_outcome outcome;
     const size_t capacity = random_below((uint32_t)length + 8);
     uint8_t *buffer = bytes_in(buffer_area, capacity);
     const size_t written = call(payload, length, buffer, capacity, &outcome);
-    expect(outcome.fault == fault, "the error of a canonical form");
-    expect(fault == SOCKDIAG_OK || outcome.needed == 0, "the length of a rejected canonical form");
+    expect(outcome.error == error, "the error of a canonical form");
+    expect(error == SOCKDIAG_OK || outcome.needed == 0, "the length of a rejected canonical form");
     expect(written == (outcome.needed <= capacity ? outcome.needed : 0), "the length written");
     expect(is_untouched(buffer + written, capacity - written), "the bytes after a canonical form");
     if (written == 0)
@@ -239,12 +239,12 @@ static void try_rewriting(rewrite *call, const uint8_t *payload, size_t length, 
 }
 
 /* An iteration from a place ends. Its items are in the bytes. */
-static void try_attributes(const uint8_t *bytes, size_t length, size_t place) {
+static void try_attributes(const uint8_t *bytes, size_t length, size_t index) {
     struct sockdiag_cursor cursor;
     struct sockdiag_attribute *it;
     uint32_t answer;
     size_t items = 0;
-    cursor.place = place;
+    cursor.offset = index;
     it = (struct sockdiag_attribute *)(void *)bytes_in(output_area, sizeof *it);
     while ((answer = sockdiag_next_attribute(bytes, length, &cursor, it)) == SOCKDIAG_ITEM)
         expect(++items <= length / 4 && it->offset <= length && it->length <= length - it->offset,
@@ -263,13 +263,13 @@ static void try_messages(const uint8_t *bytes, size_t length) {
     uint32_t answer, other;
     size_t items = 0;
     it = (struct sockdiag_message *)(void *)bytes_in(output_area, sizeof *it);
-    while ((answer = sockdiag_next_envelope(bytes, length, &cursor, it)) == SOCKDIAG_ITEM) {
+    while ((answer = sockdiag_next_any_message(bytes, length, &cursor, it)) == SOCKDIAG_ITEM) {
         expect(++items <= length / 16 && it->offset <= length && it->length <= length - it->offset,
                "a message in the bytes");
         other = sockdiag_next_message(bytes, length, &checked, &message);
         expect(other >= SOCKDIAG_ITEM && other <= SOCKDIAG_NAME_WITHOUT_END &&
                message.offset == it->offset && message.length == it->length &&
-               checked.place == cursor.place, "the same message, checked");
+               checked.offset == cursor.offset, "the same message, checked");
     }
     expect(answer == SOCKDIAG_END || (answer >= SOCKDIAG_ENVELOPE_CUT &&
                                       answer <= SOCKDIAG_ENVELOPE_LENGTH_PAST),
@@ -318,8 +318,8 @@ static void try_attributes_of_request(const uint8_t *bytes, size_t length) {
     inet.family = 2 + 8 * (uint8_t)random_below(2);
     written = sockdiag_write_inet_request_with_attributes(&inet, bytes, length, buffer, capacity,
                                                           &outcome);
-    expect(outcome.fault == SOCKDIAG_OK || (outcome.fault >= SOCKDIAG_ATTRIBUTE_HEADER_CUT &&
-           outcome.fault <= SOCKDIAG_ATTRIBUTE_LENGTH_PAST && outcome.needed == 0),
+    expect(outcome.error == SOCKDIAG_OK || (outcome.error >= SOCKDIAG_ATTRIBUTE_HEADER_CUT &&
+           outcome.error <= SOCKDIAG_ATTRIBUTE_LENGTH_PAST && outcome.needed == 0),
            "the error of attributes of a request");
     expect(written == (outcome.needed <= capacity ? outcome.needed : 0), "the length of a request");
     expect_request(written, buffer, capacity);

@@ -3,13 +3,13 @@
 use Rattle.std.proofs.Common.{Option, Result, Ok, Err, Some, ◌≡◌, List, [], ◌∷◌}
 use Rattle.std.specs.Prelude.{map}
 use Rattle.std.specs.Iterator.{Drains, YieldsThen}
-use Rattle.netlink_core.specs.declared.fault.DecodeError.{DecodeError}
+use Rattle.netlink_core.specs.declared.error.DecodeError.{DecodeError}
 use Rattle.netlink_core.specs.Attribute.{Attribute, StartsWithAttribute, DecodeTo}
 use Rattle.netlink_core.specs.Attribute.{IsFirstAttributeError, HasAttributeError}
 use Rattle.netlink_core.specs.AttributeSet.{AttributeSet, AttributeValue, decode_attribute}
-use Rattle.netlink_core.specs.Gives.{YieldsPart}
+use Rattle.netlink_core.specs.IteratorStep.{YieldsPart}
 use Rattle.netlink_core.specs.Walk.{unread_bytes}
-use Rattle.netlink_core.proofs.Walking.{error_of_rest, error_of_first_attribute}
+use Rattle.netlink_core.proofs.Iterating.{error_of_rest, error_of_first_attribute}
 use Rattle.attribute_lists.specs.declared.checked.CheckedNlas.{CheckedNlas}
 
 -- a step of the iterator yields a value, the first error, or `None`

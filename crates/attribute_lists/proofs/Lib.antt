@@ -1,7 +1,7 @@
 pub mod Finding
-pub mod Standing
+pub mod FirstAttribute
 pub mod Checking
-pub mod Kept
+pub mod SecondAttributeSet
 mod EncodedAttributes
 mod Emitting
 mod Measuring

@@ -4,7 +4,7 @@ use Rattle.std.specs.Prelude.{ℕ, zero, suc, ◌+◌, ◌-◌, List, [], ◌∷
 use Rattle.std.specs.List.{filter_map}
 use Rattle.std.specs.Result.{result_ok}
 use Rattle.byteorder.specs.Endian.{little_number}
-use Rattle.netlink_core.specs.declared.fault.DecodeError.{DecodeError}
+use Rattle.netlink_core.specs.declared.error.DecodeError.{DecodeError}
 use Rattle.netlink_core.specs.Attribute.{Attribute, HasAttributeError, padding_length}
 use Rattle.netlink_core.specs.AttributeSet.{decode_attribute}
 use Rattle.netlink_core.specs.Response.{ResponseSpec, ReplyValue}
@@ -24,17 +24,17 @@ attributes_after zero (byte ∷ bytes) = let word = little_number 2 (byte ∷ by
     ∷ attributes_after (word + padding_length word - 1) bytes
 
 -- HasNoAttributeError reads bytes: the bytes have no error, neither in their framing nor in a
--- value; `reads` decodes an attribute, or returns the error of its value. The member `none` says
+-- value; `parses` decodes an attribute, or returns the error of its value. The member `none` says
 -- this of each error `e`.
-pub record HasNoAttributeError {A : Type 0} (reads : Attribute
+pub record HasNoAttributeError {A : Type 0} (parses : Attribute
     → Result A DecodeError) (bytes : List ℕ)
     : Type 0 where
-  pub none : (e : DecodeError) → HasAttributeError reads bytes e → ⊥
+  pub none : (e : DecodeError) → HasAttributeError parses bytes e → ⊥
 
--- decoded_in reads bytes: what the attributes in the bytes decode to by `reads`, in order;
+-- decoded_in reads bytes: what the attributes in the bytes decode to by `parses`, in order;
 -- attributes that are rejected are skipped
 abbrev pub decoded_in : {A : Type 0} → (Attribute → Result A DecodeError) → List ℕ → List A
-decoded_in reads bytes = filter_map (λ a. result_ok (reads a)) (attributes_after 0 bytes)
+decoded_in parses bytes = filter_map (λ a. result_ok (parses a)) (attributes_after 0 bytes)
 
 -- reply_after R h bytes: the reply with the header `h` and the values of the attributes in `bytes`,
 -- which are the bytes after the header

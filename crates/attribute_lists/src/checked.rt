@@ -6,7 +6,7 @@ ghost use Rattle.std.specs.Iterator.SizeHint.{IsWithinCount};
 ghost use Rattle.netlink_core.specs.Attribute.{Attribute, IsFirstAttributeError};
 ghost use Rattle.netlink_core.specs.Attribute.{StartsWithAttribute};
 ghost use Rattle.netlink_core.specs.AttributeSet.{decode_attribute};
-ghost use Rattle.netlink_core.specs.Gives.{YieldsPart};
+ghost use Rattle.netlink_core.specs.IteratorStep.{YieldsPart};
 ghost use Rattle.attribute_lists.specs.CheckedModel.{unchecked_bytes};
 
 use netlink_core::{DecodeError, FamilyView, NlasIterator};
@@ -61,7 +61,7 @@ impl<'a, V: FamilyView<'a>> Iterator for CheckedNlas<'a, V> {
     fn next(&mut self) -> Option<Result<V, DecodeError>> {
         let nla = match self.walk.next()? {
             Ok(nla) => nla,
-            Err(fault) => return Some(Err(fault)),
+            Err(error) => return Some(Err(error)),
         };
         let read = V::read_view(&nla);
         if read.is_err() {

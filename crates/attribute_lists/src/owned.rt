@@ -24,7 +24,7 @@ pub fn copy_nlas<T: FamilyNla>(alloc: Global, nlas: &[T]) -> Result<SmallVec<T, 
     ensures equal { IfOk result (λ copy. map T.model copy.items ≡ map T.model nlas.now) }
     // T.model: what an attribute decodes to. NeedsNoMemoryIn set value: the value is of a type
     // whose values are stored without an allocation. A raw attribute never is.
-    ensures spare { length nlas.now ≤ 8
+    ensures needs_no_memory { length nlas.now ≤ 8
         → AllByRecursion (NeedsNoMemoryIn T.attribute_set) (map T.model nlas.now)
         → IsOk result }
 {
@@ -57,7 +57,7 @@ pub fn own_nlas<T: FamilyNla>(
     requires empty { nlas.old.items ≡ [] }
     ensures equal { OnOk result (map T.model nlas.new.items
         ≡ decoded_in (decode_attribute T.attribute_set) bytes.now) }
-    ensures spare { count ≤ nlas.old.capacity
+    ensures needs_no_memory { count ≤ nlas.old.capacity
         → AllByRecursion (NeedsNoMemoryIn T.attribute_set)
         (decoded_in (decode_attribute T.attribute_set) bytes.now)
         → IsOk result }
@@ -88,7 +88,7 @@ fn push_accepted<T: FamilyNla>(
         × (decode_attribute T.attribute_set (buffered_attribute nla.now) ≡ Ok (T.model own))) }
     ensures capacity { nlas.new.capacity ≡ nlas.old.capacity }
     ensures kept { OnErr result (nlas.new ≡ nlas.old) }
-    ensures spare { (value : AttributeValue T.attribute_set)
+    ensures needs_no_memory { (value : AttributeValue T.attribute_set)
         → decode_attribute T.attribute_set (buffered_attribute nla.now) ≡ Ok value
         → NeedsNoMemoryIn T.attribute_set value → IsOk result }
 {
@@ -114,12 +114,12 @@ fn make_room<T: MadeWith<Global> + Drop>(
 }
 
 /// Proof only: puts the range of each number of each attribute in scope. No run-time effect.
-pub fn nlas_in_range<T: FamilyNla>(nlas: &[T])
+pub fn prove_nlas_in_range<T: FamilyNla>(nlas: &[T])
     // IsInRangeIn set value: each number of the decoded value fits its field.
     ensures { AllByRecursion (IsInRangeIn T.attribute_set) (map T.model nlas.now) }
 {
     for nla in nlas {
-        nla.value_in_range();
+        nla.prove_value_in_range();
     }
 }
 

@@ -27,12 +27,12 @@ pub fn check_nlas<'a, V: FamilyView<'a> + Drop>(bytes: &'a [u8]) -> Result<usize
         (λ count. count ≡ length (decoded_in (decode_attribute V.attribute_set) bytes.entry.now)) }
     // HasAttributeError decode bytes e: `e` is the first error, which only accepted attributes
     // precede.
-    ensures fault { IfErr result (HasAttributeError
+    ensures error { IfErr result (HasAttributeError
         (decode_attribute V.attribute_set) bytes.entry.now) }
 {
     match check_nlas_len::<V>(bytes, None) {
         Ok((count, _)) => Ok(count),
-        Err(fault) => Err(fault),
+        Err(error) => Err(error),
     }
 }
 
@@ -65,7 +65,7 @@ pub fn check_nlas_len<'a, V: FamilyView<'a> + Drop>(
         IfOk result (λ found. MatchOption limit (found.1 ≡ None) (λ limit.
         SomeIff found.1 (AreWritableWithin attributes limit)
         (length (flat_map attribute_bytes attributes)))) }
-    ensures fault { IfErr result (HasAttributeError
+    ensures error { IfErr result (HasAttributeError
         (decode_attribute V.attribute_set) bytes.entry.now) }
 {
     let mut count = 0;

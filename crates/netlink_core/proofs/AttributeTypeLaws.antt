@@ -7,14 +7,14 @@ use Rattle.std.proofs.lemmas.Bool.Decides.{nat_tests}
 use Rattle.byteorder.specs.Endian.{little_number, little_bytes}
 use Rattle.byteorder.specs.Numbers.{little_from-lt, little_number-reads_back}
 use Rattle.byteorder.specs.Numbers.{length-bytes_low_first}
-use Rattle.netlink_core.specs.declared.fault.DecodeError.{DecodeError}
-use Rattle.netlink_core.specs.declared.fault.DecodeError.TheVariants.{Memory}
+use Rattle.netlink_core.specs.declared.error.DecodeError.{DecodeError}
+use Rattle.netlink_core.specs.declared.error.DecodeError.TheVariants.{Memory}
 use Rattle.netlink_core.specs.Bytes.{IsBytes}
 use Rattle.netlink_core.specs.laws.Byte.{IsBytes-number}
 use Rattle.netlink_core.specs.ValueCodec.{ValueCodec}
 use Rattle.netlink_core.specs.Codec.{KeepsCodecLaws, as_codec}
 use Rattle.netlink_core.specs.laws.Prefix.{value_or_error}
-use Rattle.netlink_core.specs.laws.Shown.{AttributeSpecLaws}
+use Rattle.netlink_core.specs.laws.ReplyObligations.{AttributeSpecLaws}
 use Rattle.netlink_core.specs.AttributeSpecs.{whole_value_codec, attribute_spec}
 use Rattle.netlink_core.specs.AttributeSpecs.{allocating_attribute_spec, number_attribute_spec}
 use Rattle.netlink_core.specs.Parse.{number_of_width}
@@ -29,24 +29,24 @@ same_bytes n x y x-in_range y-in_range s t e =
 
 -- the codec of a value that takes all bytes keeps the codec laws, if each accepted byte string is
 -- the one that its value serializes to
-pub whole_value_laws : {A : Type 0} (reads : List ℕ → Result A DecodeError) (bytes : A → List ℕ)
+pub whole_value_laws : {A : Type 0} (parses : List ℕ → Result A DecodeError) (bytes : A → List ℕ)
     (is_in_range is_normal : A → Type 0)
-    → ((x : List ℕ) → reads x ≡ Err Memory → ⊥)
-    → ((x : List ℕ) (u : A) → IsBytes x → reads x ≡ Ok u
+    → ((x : List ℕ) → parses x ≡ Err Memory → ⊥)
+    → ((x : List ℕ) (u : A) → IsBytes x → parses x ≡ Ok u
     → (x ≡ bytes u) × is_in_range u × is_normal u)
     → ((u : A) → is_in_range u → IsBytes (bytes u))
-    → ((u : A) → is_in_range u → is_normal u → reads (bytes u) ≡ Ok u)
-    → KeepsCodecLaws (as_codec (whole_value_codec reads bytes is_in_range is_normal))
-whole_value_laws reads bytes is_in_range is_normal named exact bytes_in_range back = record {
-  answered = λ b p in_range. value_or_error (reads b);
-  one_answer = λ b p v e h k. cc;
-  one_fault = λ b p e f h k. cc;
-  named_fault = λ b p h. named b h;
-  same_value = λ b c p v w b-in_range c-in_range h k.
+    → ((u : A) → is_in_range u → is_normal u → parses (bytes u) ≡ Ok u)
+    → KeepsCodecLaws (as_codec (whole_value_codec parses bytes is_in_range is_normal))
+whole_value_laws parses bytes is_in_range is_normal named exact bytes_in_range back = record {
+  is_total = λ b p in_range. value_or_error (parses b);
+  is_exclusive = λ b p v e h k. cc;
+  error_is_unique = λ b p e f h k. cc;
+  error_is_not_memory = λ b p h. named b h;
+  equal_iff_equivalent = λ b c p v w b-in_range c-in_range h k.
       grind (arith, exact b v b-in_range h, exact c w c-in_range k);
-  reads_normal = λ b p v in_range h. let read = exact b v in_range h in (read.1, read.2);
-  written_bytes = bytes_in_range;
-  reads_back = λ p v in_range normal room. back v in_range normal;
+  parsed_is_normal = λ b p v in_range h. let read = exact b v in_range h in (read.1, read.2);
+  serialized_in_range = bytes_in_range;
+  round_trips = λ p v in_range normal room. back v in_range normal;
 }
 
 number_round_trips : (width n : ℕ) → n < 256 ^ width

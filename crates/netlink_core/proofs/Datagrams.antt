@@ -6,14 +6,14 @@ use Rattle.std.proofs.lemmas.List.{take-append-drop, drop-drop}
 use Rattle.std.proofs.lemmas.List.{length-take, length-append}
 use Rattle.byteorder.specs.Endian.{little_number}
 use Rattle.netlink_core.specs.declared.header.NetlinkHeader.{NetlinkHeader}
-use Rattle.netlink_core.specs.declared.fault.DecodeError.{DecodeError}
+use Rattle.netlink_core.specs.declared.error.DecodeError.{DecodeError}
 use Rattle.netlink_core.specs.Attribute.{padding_length}
 use Rattle.netlink_core.specs.Header.{HasHeader, IsMessageError}
 use Rattle.netlink_core.specs.Datagram.{StartsWithMessage, SplitsIntoMessages}
 use Rattle.netlink_core.specs.laws.Prefix.{equal_parts}
 use Rattle.byteorder.specs.Numbers.{little_from-append}
 use Rattle.netlink_core.proofs.Padding.{padding_and_rest}
-use Rattle.netlink_core.proofs.Cutting.{one_rest_after_padding}
+use Rattle.netlink_core.proofs.Splitting.{one_rest_after_padding}
 use Rattle.netlink_core.proofs.Framing.{one_message_framing_error}
 use Rattle.netlink_core.proofs.Headers.{header_length}
 

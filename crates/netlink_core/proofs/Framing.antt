@@ -1,15 +1,15 @@
 -- Bytes begin with one message, or have one error.
 use Rattle.std.proofs.Common.{◌≡◌, ℕ, zero, suc, ◌-◌, ◌⊎◌, inl, inr, List}
 use Rattle.std.proofs.Common.{take, drop, refl, arith}
-use Rattle.netlink_core.specs.declared.fault.DecodeError.{DecodeError}
-use Rattle.netlink_core.specs.declared.fault.DecodeError.TheVariants.{Memory}
+use Rattle.netlink_core.specs.declared.error.DecodeError.{DecodeError}
+use Rattle.netlink_core.specs.declared.error.DecodeError.TheVariants.{Memory}
 use Rattle.netlink_core.specs.declared.header.NetlinkHeader.{NetlinkHeader}
 use Rattle.netlink_core.specs.Bytes.{IsBytes}
 use Rattle.netlink_core.specs.Header.{HasHeader, IsMessageError}
 use Rattle.netlink_core.specs.declared.message.NetlinkPayload.TheVariants.{Done, Error, Noop}
 use Rattle.netlink_core.specs.declared.message.NetlinkPayload.TheVariants.{Overrun, InnerMessage}
-use Rattle.netlink_core.specs.Envelope.{Payload, NetlinkMessageModel, IsInnerMessageType}
-use Rattle.netlink_core.specs.Envelope.{ParsesAsPayload, netlink_codec}
+use Rattle.netlink_core.specs.NetlinkMessage.{Payload, NetlinkMessageModel, IsInnerMessageType}
+use Rattle.netlink_core.specs.NetlinkMessage.{ParsesAsPayload, netlink_codec}
 use Rattle.netlink_core.specs.Codec.{Codec}
 use Rattle.netlink_core.proofs.TableLaws.{AreBytes-drop}
 use Rattle.netlink_core.proofs.Headers.{AreBytes-take, header_or_error, header_length, one_header}
@@ -25,9 +25,9 @@ pub inner_error_is_outer_error : (C : Codec ℕ) (bytes : List ℕ) (h : Netlink
     (e : DecodeError)
     → HasHeader bytes h
     → IsInnerMessageType h.message_type
-    × C.refuses (take (h.length - 16) (drop 16 bytes)) h.message_type e
-    → (netlink_codec C).refuses bytes tt e
-inner_error_is_outer_error C bytes h e head fault = inr (h, head, fault.0, fault.1)
+    × C.rejects (take (h.length - 16) (drop 16 bytes)) h.message_type e
+    → (netlink_codec C).rejects bytes tt e
+inner_error_is_outer_error C bytes h e head error = inr (h, head, error.0, error.1)
 
 -- ---- one message or one error
 
@@ -48,9 +48,9 @@ one_message_framing_error b e f h k = grind arith
 module _ (C : Codec ℕ) where
   -- a payload parses under any type, or the inner message is rejected
   payload_or_error : (x : List ℕ) (t : ℕ)
-      → ((m : C.Value) × C.reads x t m) ⊎ ((e : DecodeError) × C.refuses x t e)
-      → ((p : Payload C.Value) × ParsesAsPayload C.reads x t p)
-      ⊎ ((e : DecodeError) × (IsInnerMessageType t × C.refuses x t e))
+      → ((m : C.Value) × C.parses x t m) ⊎ ((e : DecodeError) × C.rejects x t e)
+      → ((p : Payload C.Value) × ParsesAsPayload C.parses x t p)
+      ⊎ ((e : DecodeError) × (IsInnerMessageType t × C.rejects x t e))
   payload_or_error x (suc zero) law = inl (Noop, refl)
   payload_or_error x (suc (suc zero)) law = inl (Error x, (refl, refl))
   payload_or_error x (suc (suc (suc zero))) law = inl (Done x, (refl, refl))
@@ -60,35 +60,35 @@ module _ (C : Codec ℕ) where
 
   -- bytes begin with a message or have an error
   pub message_or_error : (b : List ℕ) → IsBytes b
-      → ((x : List ℕ) (t : ℕ) → IsBytes x → ((m : C.Value) × C.reads x t m)
-      ⊎ ((e : DecodeError) × C.refuses x t e))
-      → ((v : NetlinkMessageModel C.Value) × (netlink_codec C).reads b tt v)
-      ⊎ ((e : DecodeError) × (netlink_codec C).refuses b tt e)
+      → ((x : List ℕ) (t : ℕ) → IsBytes x → ((m : C.Value) × C.parses x t m)
+      ⊎ ((e : DecodeError) × C.rejects x t e))
+      → ((v : NetlinkMessageModel C.Value) × (netlink_codec C).parses b tt v)
+      ⊎ ((e : DecodeError) × (netlink_codec C).rejects b tt e)
   message_or_error b tb law = elim (header_or_error b tb) [
-    | inr fault ↦ inr (fault.0, inl fault.1)
+    | inr error ↦ inr (error.0, inl error.1)
     | inl (h, head) ↦ elim (payload_or_error _ _ (law _ h.message_type
         (payload_in_range h.length b tb))) [
           | inl p ↦ inl (record { header = h; payload = p.0 }, (head, p.1))
-          | inr fault ↦ inr (fault.0, inner_error_is_outer_error C b h fault.0 head fault.1)
+          | inr error ↦ inr (error.0, inner_error_is_outer_error C b h error.0 head error.1)
         ]
   ]
 
   -- bytes do not both begin with a message and have an error
   pub message_or_error_apart : (b : List ℕ) (v : NetlinkMessageModel C.Value) (e : DecodeError)
-      → ((x : List ℕ) (t : ℕ) (m : C.Value) → C.reads x t m → C.refuses x t e → ⊥)
-      → (netlink_codec C).reads b tt v → (netlink_codec C).refuses b tt e → ⊥
+      → ((x : List ℕ) (t : ℕ) (m : C.Value) → C.parses x t m → C.rejects x t e → ⊥)
+      → (netlink_codec C).parses b tt v → (netlink_codec C).rejects b tt e → ⊥
   message_or_error_apart b v e law r k =
       grind (arith, no_error_at_header b v.header, one_header b v.header, law)
 
 -- bytes have at most one error
 pub one_message_error : (C : Codec ℕ) (b : List ℕ) (e f : DecodeError)
-    → ((x : List ℕ) (t : ℕ) → C.refuses x t e → C.refuses x t f → e ≡ f)
-    → (netlink_codec C).refuses b tt e → (netlink_codec C).refuses b tt f → e ≡ f
+    → ((x : List ℕ) (t : ℕ) → C.rejects x t e → C.rejects x t f → e ≡ f)
+    → (netlink_codec C).rejects b tt e → (netlink_codec C).rejects b tt f → e ≡ f
 one_message_error C b e f law h k =
     grind (arith, one_message_framing_error b, no_error_at_header b, one_header b, law)
 
 -- bytes are never rejected with `Memory`
 pub message_error_is_not_memory : (C : Codec ℕ) (b : List ℕ)
-    → ((x : List ℕ) (t : ℕ) → C.refuses x t Memory → ⊥) → (netlink_codec C).refuses b tt Memory → ⊥
+    → ((x : List ℕ) (t : ℕ) → C.rejects x t Memory → ⊥) → (netlink_codec C).rejects b tt Memory → ⊥
 message_error_is_not_memory C b law h =
     grind (arith, law)

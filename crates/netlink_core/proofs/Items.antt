@@ -9,11 +9,11 @@ use Rattle.std.proofs.lemmas.List.{append-nil}
 use Rattle.netlink_core.specs.Bytes.{IsBytes}
 use Rattle.netlink_core.specs.laws.Byte.{IsBytes-left, IsBytes-right}
 use Rattle.netlink_core.specs.Attribute.{padding_length}
-use Rattle.netlink_core.specs.declared.fault.DecodeError.{DecodeError}
+use Rattle.netlink_core.specs.declared.error.DecodeError.{DecodeError}
 use Rattle.netlink_core.specs.Header.{IsMessageError}
 use Rattle.netlink_core.specs.Datagram.{StartsWithMessage, SplitsIntoMessages}
 use Rattle.netlink_core.specs.Codec.{Codec}
-use Rattle.netlink_core.specs.Envelope.{NetlinkMessageModel, netlink_codec}
+use Rattle.netlink_core.specs.NetlinkMessage.{NetlinkMessageModel, netlink_codec}
 use Rattle.netlink_core.specs.Items.{Item, IsItemOf, AreItemsOf}
 use Rattle.netlink_core.proofs.Headers.{header_or_error}
 use Rattle.netlink_core.proofs.Framing.{message_or_error}
@@ -126,8 +126,8 @@ module _ {A : Type 0} (is : List ℕ → Item A → Type 0) (some_item : (messag
   ])
 
 -- If each payload under a type has an inner message or an error, then:
-module _ (C : Codec ℕ) (law : (b : List ℕ) (t : ℕ) → IsBytes b → ((m : C.Value) × C.reads b t m)
-    ⊎ ((e : DecodeError) × C.refuses b t e)) where
+module _ (C : Codec ℕ) (law : (b : List ℕ) (t : ℕ) → IsBytes b → ((m : C.Value) × C.parses b t m)
+    ⊎ ((e : DecodeError) × C.rejects b t e)) where
   -- each message has an item
   pub item_of : (message : List ℕ) → IsBytes message → (item : Item C.Value)
       × IsItemOf C message item
@@ -185,12 +185,12 @@ module _ {A : Type 0} (is : List ℕ → Item A → Type 0) (one_item : (message
 -- If bytes have at most one message or one error, not both, then:
 module _ (C : Codec ℕ)
     (one_value : (b : List ℕ) (v w : NetlinkMessageModel C.Value) → IsBytes b
-    → (netlink_codec C).reads b tt v
-    → (netlink_codec C).reads b tt w → v ≡ w)
-    (one_answer : (b : List ℕ) (v : NetlinkMessageModel C.Value) (e : DecodeError)
-    → (netlink_codec C).reads b tt v → (netlink_codec C).refuses b tt e → ⊥)
-    (one_fault : (b : List ℕ) (e f : DecodeError) → (netlink_codec C).refuses b tt e
-    → (netlink_codec C).refuses b tt f → e ≡ f) where
+    → (netlink_codec C).parses b tt v
+    → (netlink_codec C).parses b tt w → v ≡ w)
+    (is_exclusive : (b : List ℕ) (v : NetlinkMessageModel C.Value) (e : DecodeError)
+    → (netlink_codec C).parses b tt v → (netlink_codec C).rejects b tt e → ⊥)
+    (error_is_unique : (b : List ℕ) (e f : DecodeError) → (netlink_codec C).rejects b tt e
+    → (netlink_codec C).rejects b tt f → e ≡ f) where
   -- each message has at most one item
   pub one_item : (b : List ℕ) → IsBytes b → (i j : Item C.Value) → IsItemOf C b i → IsItemOf C b j
       → i ≡ j
@@ -198,9 +198,9 @@ module _ (C : Codec ℕ)
       ap (λ (v : NetlinkMessageModel C.Value). Ok v.payload)
       (one_value b (record { header = h.0; payload = p }) (record { header = k.0; payload = q })
       in_range h.1 k.1)
-  one_item b in_range (Ok p) (Err f) h k = absurd (one_answer b _ f h.1 k)
-  one_item b in_range (Err e) (Ok q) h k = absurd (one_answer b _ e k.1 h)
-  one_item b in_range (Err e) (Err f) h k = ap Err (one_fault b e f h k)
+  one_item b in_range (Ok p) (Err f) h k = absurd (is_exclusive b _ f h.1 k)
+  one_item b in_range (Err e) (Ok q) h k = absurd (is_exclusive b _ e k.1 h)
+  one_item b in_range (Err e) (Err f) h k = ap Err (error_is_unique b e f h k)
 
   -- each datagram has at most one list of items
   pub one_list : (b : List ℕ) → IsBytes b → (xs ys : List (Item C.Value))

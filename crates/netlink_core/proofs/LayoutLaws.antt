@@ -6,20 +6,20 @@ use Rattle.std.proofs.Common.{append-nil, le-ltb, lt-ltb}
 use Rattle.std.proofs.lemmas.Bool.{cases_lt}
 use Rattle.netlink_core.specs.Bytes.{IsBytes}
 use Rattle.netlink_core.specs.Table.{values_of, bytes_of}
-use Rattle.netlink_core.specs.laws.Sound.{fields_are_consecutive, MeetsLayoutConditions}
+use Rattle.netlink_core.specs.laws.LayoutObligations.{fields_are_consecutive, MeetsLayoutConditions}
 use Rattle.netlink_core.specs.Layout.{Layout, parse_record, parse_fields, IsContainedIn}
 use Rattle.netlink_core.specs.Layout.{record_bytes, AreEquivalent, IsInRange, IsNormal, plain}
 use Rattle.netlink_core.specs.Layout.{tag_fields, field_numbers}
 use Rattle.netlink_core.specs.Rows.{Row, fields_of, numbers_of}
-use Rattle.netlink_core.specs.Faults.{map_ok}
+use Rattle.netlink_core.specs.Errors.{map_ok}
 use Rattle.netlink_core.specs.Codec.{KeepsCodecLaws, RecordLaws, record_codec}
 use Rattle.netlink_core.specs.laws.Prefix.{value_or_error}
 use Rattle.netlink_core.proofs.TableLaws.{AreConsecutiveFields, consecutive_from_test}
 use Rattle.netlink_core.proofs.TableLaws.{values-bytes_of, values-fit, values-defined}
 use Rattle.netlink_core.proofs.TableLaws.{bytes_of-bytes}
-use Rattle.netlink_core.specs.declared.fault.DecodeError.{DecodeError}
-use Rattle.netlink_core.specs.declared.fault.DecodeError.TheVariants.{Memory, BufferTooSmall}
-use Rattle.netlink_core.specs.declared.fault.RecordName.{RecordName}
+use Rattle.netlink_core.specs.declared.error.DecodeError.{DecodeError}
+use Rattle.netlink_core.specs.declared.error.DecodeError.TheVariants.{Memory, BufferTooSmall}
+use Rattle.netlink_core.specs.declared.error.RecordName.{RecordName}
 
 -- `Ok x`, with the type of the error
 abbrev ok_value : {T : Type 0} → T → Result T DecodeError
@@ -84,9 +84,9 @@ module _ {Param Tag Value : Type 0} (layout : Layout Param Tag Value) where
         long_enough param left,
       )
 
-  rejected_for_tag : (tag_found : Result Tag DecodeError) (left : List ℕ) (fault : DecodeError)
-      → parse_tagged left tag_found ≡ Err fault → tag_found ≡ Err fault
-  rejected_for_tag tag_found left fault e =
+  rejected_for_tag : (tag_found : Result Tag DecodeError) (left : List ℕ) (error : DecodeError)
+      → parse_tagged left tag_found ≡ Err error → tag_found ≡ Err error
+  rejected_for_tag tag_found left error e =
       grind arith
 
 same_tag : {T : Type 0} (r : Result T DecodeError) (s t : T) → r ≡ Ok s → r ≡ Ok t → s ≡ t
@@ -180,18 +180,18 @@ module _ {Param Tag Value : Type 0} (layout : Layout Param Tag Value)
 
   pub layout_codec_laws : KeepsCodecLaws (record_codec layout)
   layout_codec_laws = record {
-    answered = λ b p tb. value_or_error (parse_record layout p b);
-    one_answer = λ b p v e h k. cc;
-    one_fault = λ b p e f h k. cc;
-    named_fault = λ b p h. record_error_is_not_memory p b h;
-    same_value = λ b c p v w tb tc r s. (
+    is_total = λ b p tb. value_or_error (parse_record layout p b);
+    is_exclusive = λ b p v e h k. cc;
+    error_is_unique = λ b p e f h k. cc;
+    error_is_not_memory = λ b p h. record_error_is_not_memory p b h;
+    equal_iff_equivalent = λ b c p v w tb tc r s. (
       λ e. equivalent_from_equal p b c v ((contained_iff_parsed p b v tb).0 r)
           ((contained_iff_parsed p c v tc).0 (s ∙ ap (λ (x : Value). ok_value x) (sym e))),
       λ i. same_tag (parse_record layout p b) v w r (equal_from_equivalent p b c i ∙ s),
     );
-    reads_normal = λ b p v tb r. let x = (contained_iff_parsed p b v tb).0 r in (x.1, x.2);
-    written_bytes = record_bytes_in_range;
-    reads_back = λ p v tv n f. record_round_trips p v tv n;
+    parsed_is_normal = λ b p v tb r. let x = (contained_iff_parsed p b v tb).0 r in (x.1, x.2);
+    serialized_in_range = record_bytes_in_range;
+    round_trips = λ p v tv n f. record_round_trips p v tv n;
   }
 
   pub record_laws : RecordLaws layout

@@ -5,9 +5,9 @@ pub mod SignificantBits
 pub mod FieldReads
 pub mod Congruence
 pub mod Padding
-pub mod Walking
-pub mod Cutting
-pub mod Stated
+pub mod Iterating
+pub mod Splitting
+pub mod SplitCases
 pub mod Writing
 pub mod AttributeTypeLaws
 pub mod AttributeContent
@@ -18,10 +18,10 @@ pub mod Headers
 pub mod Framing
 pub mod Datagrams
 pub mod Items
-pub mod Idle
+pub mod Equivalence
 pub mod Equality
 pub mod ValueTests
-pub mod FaultEquality
+pub mod ErrorEquality
 pub mod Rewriting
-mod WholeWalk
-mod WholeDatagram
+mod CompleteIteration
+mod CompleteDatagram

@@ -2,9 +2,9 @@
 use Rattle.std.proofs.Common.{◌≡◌, ℕ, ◌≤◌, List, ◌++◌, length, Ok, arith}
 use Rattle.std.proofs.lemmas.List.{length-append}
 use Rattle.netlink_core.specs.Layout.{Layout}
-use Rattle.netlink_core.specs.laws.Sound.{MeetsLayoutConditions, HasFixedSize}
+use Rattle.netlink_core.specs.laws.LayoutObligations.{MeetsLayoutConditions, HasFixedSize}
 use Rattle.netlink_core.specs.ValueCodec.{value_codec}
-use Rattle.netlink_core.specs.laws.Shown.{IsPrefixCodec}
+use Rattle.netlink_core.specs.laws.ReplyObligations.{IsPrefixCodec}
 use Rattle.netlink_core.proofs.TableLaws.{consecutive_from_test, values-bytes_of}
 use Rattle.netlink_core.proofs.LayoutLaws.{parses_by_fields, long_enough}
 

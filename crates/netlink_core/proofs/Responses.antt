@@ -12,7 +12,7 @@ use Rattle.netlink_core.specs.Attribute.{attribute_bytes, SplitsIntoAttributes}
 use Rattle.netlink_core.specs.AttributeSet.{AttributeSet, AttributeValue, decode_attribute}
 use Rattle.netlink_core.specs.AttributeSet.{encode_attribute, IsInRangeIn, IsNormalIn}
 use Rattle.netlink_core.specs.AttributeSet.{AreEquivalentAttributes}
-use Rattle.netlink_core.specs.laws.Shown.{AttributeSetLaws, ResponseLaws}
+use Rattle.netlink_core.specs.laws.ReplyObligations.{AttributeSetLaws, ResponseLaws}
 use Rattle.netlink_core.specs.Response.{ResponseSpec, response_codec}
 use Rattle.netlink_core.specs.Codec.{KeepsCodecLaws}
 use Rattle.netlink_core.specs.laws.Byte.{IsBytes-append}
@@ -21,10 +21,10 @@ use Rattle.netlink_core.specs.laws.AttributeSet.{decode_error_is_not_memory, dec
 use Rattle.netlink_core.specs.laws.AttributeSet.{decoded_equal_iff_equivalent, encoded_in_range}
 use Rattle.netlink_core.specs.laws.AttributeSet.{decoded_round_trips}
 use Rattle.netlink_core.proofs.TableLaws.{AreBytes-drop}
-use Rattle.netlink_core.proofs.Cutting.{all_attribute_bytes_in_range, split_attributes_in_range}
-use Rattle.netlink_core.proofs.Cutting.{decoded_or_error, decoded_or_error_apart}
-use Rattle.netlink_core.proofs.Cutting.{one_error_of_attributes, one_split_into_attributes}
-use Rattle.netlink_core.proofs.Cutting.{encoded_values_are_decoded}
+use Rattle.netlink_core.proofs.Splitting.{all_attribute_bytes_in_range, split_attributes_in_range}
+use Rattle.netlink_core.proofs.Splitting.{decoded_or_error, decoded_or_error_apart}
+use Rattle.netlink_core.proofs.Splitting.{one_error_of_attributes, one_split_into_attributes}
+use Rattle.netlink_core.proofs.Splitting.{encoded_values_are_decoded}
 
 -- ---- from attributes to lists of attributes
 
@@ -79,29 +79,29 @@ module _ (R : ResponseSpec) (laws : ResponseLaws R) where
 
   pub reply_codec_laws : KeepsCodecLaws (response_codec R)
   reply_codec_laws = record {
-    answered = λ b p in_range. elim (value_or_error (R.header.reads tt b)) [
+    is_total = λ b p in_range. elim (value_or_error (R.header.parses tt b)) [
       | inr refused ↦ inr (refused.0, inl refused.1)
       | inl header ↦ elim (decoded_or_error (decode_attribute F) (drop R.size b)
           (AreBytes-drop R.size b in_range)) [
             | inl nlas ↦ inl (record { header = header.0; nlas = nlas.0 }, (header.1, nlas.1))
-            | inr fault ↦ inr (fault.0, inr (header.0, header.1, fault.1))
+            | inr error ↦ inr (error.0, inr (header.0, header.1, error.1))
           ]
     ];
-    one_answer = λ b p v e h k.
+    is_exclusive = λ b p v e h k.
         grind (arith, decoded_or_error_apart (decode_attribute F) (drop R.size b) v.nlas e h.1);
-    one_fault = λ b p e f h k. grind (
+    error_is_unique = λ b p e f h k. grind (
       arith,
       one_error_of_attributes (decode_attribute F) (drop R.size b) e f,
     );
-    named_fault = λ b p h.
+    error_is_not_memory = λ b p h.
         grind (
           arith,
-          laws.header.named_fault b tt,
+          laws.header.error_is_not_memory b tt,
           decode_error_is_not_memory F laws.attribute_set,
         );
     -- two accepted byte strings have equal values if and only if they are equivalent
-    same_value = λ b c p v w b-in_range c-in_range h k.
-        let headers = laws.header.same_value b c tt _ _ b-in_range c-in_range h.0 k.0 in
+    equal_iff_equivalent = λ b c p v w b-in_range c-in_range h k.
+        let headers = laws.header.equal_iff_equivalent b c tt _ _ b-in_range c-in_range h.0 k.0 in
         let lists = lists_equal_iff_equivalent F laws.attribute_set _ _ _ _
         (attributes_after_header_in_range b _ b-in_range h.1.1)
         (attributes_after_header_in_range c _ c-in_range k.1.1)
@@ -115,17 +115,18 @@ module _ (R : ResponseSpec) (laws : ResponseLaws R) where
               ) all) in
               λ i. record { header = same-header i; nlas = same-nlas i },
         );
-    reads_normal = λ b p v in_range h.
-        let header = laws.header.reads_normal b tt _ in_range h.0 in
+    parsed_is_normal = λ b p v in_range h.
+        let header = laws.header.parsed_is_normal b tt _ in_range h.0 in
         let nlas = decoded_list_is_normal F laws.attribute_set h.1.0 v.nlas
         (attributes_after_header_in_range b _ in_range h.1.1) h.1.2 in
         ((header.0, nlas.0), (header.1, nlas.1));
-    written_bytes = λ v in_range.
-        IsBytes-append (R.header.bytes v.header) _ (laws.header.written_bytes v.header in_range.0)
+    serialized_in_range = λ v in_range.
+        IsBytes-append (R.header.bytes v.header) _
+        (laws.header.serialized_in_range v.header in_range.0)
         (all_attribute_bytes_in_range _
         (encoded_list_in_range F laws.attribute_set v.nlas in_range.1));
     -- a writable value in normal form round-trips
-    reads_back = λ p v in_range normal fits.
+    round_trips = λ p v in_range normal fits.
         let nlas : List ℕ = flat_map attribute_bytes (map (encode_attribute F) v.nlas) in
         let lists = decoded_list_round_trips F laws.attribute_set v.nlas in_range.1 normal.1
         fits.0 in (

@@ -7,7 +7,7 @@ use Rattle.std.proofs.Math.Nat.{mod-eq_of_lt}
 use Rattle.netlink_core.specs.Bytes.{IsBytes}
 use Rattle.netlink_core.specs.SignificantBits.{EqualUnder}
 use Rattle.netlink_core.specs.Table.{values_of}
-use Rattle.netlink_core.specs.laws.Sound.{fields_are_consecutive, MeetsLayoutConditions}
+use Rattle.netlink_core.specs.laws.LayoutObligations.{fields_are_consecutive, MeetsLayoutConditions}
 use Rattle.netlink_core.specs.Layout.{Layout, AreEquivalent, tag_fields}
 use Rattle.netlink_core.proofs.TableLaws.{consecutive_from_test, significant_masks, values_and_bits}
 

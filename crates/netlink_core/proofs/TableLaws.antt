@@ -20,8 +20,8 @@ use Rattle.netlink_core.specs.Table.{Field, byte, number, network, flags, unread
 use Rattle.netlink_core.specs.Table.{values_of, bytes_of}
 use Rattle.netlink_core.proofs.Numbers.{Order, little_endian, big_endian, number_in, bytes_in}
 use Rattle.netlink_core.specs.Table.{FitFields, HaveDefinedFlags}
-use Rattle.netlink_core.specs.laws.Sound.{fields_are_consecutive, offset_of, width_of}
-use Rattle.netlink_core.specs.laws.Sound.{ignored_content_is_bytes}
+use Rattle.netlink_core.specs.laws.LayoutObligations.{fields_are_consecutive, offset_of, width_of}
+use Rattle.netlink_core.specs.laws.LayoutObligations.{ignored_content_is_bytes}
 use Rattle.netlink_core.specs.Bytes.{IsBytes}
 use Rattle.netlink_core.specs.SignificantBits.{masked}
 use Rattle.netlink_core.specs.laws.Prefix.{equal_parts}

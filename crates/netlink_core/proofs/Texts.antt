@@ -5,7 +5,7 @@ use Rattle.std.proofs.lemmas.List.{length-append, take_at}
 use Rattle.std.proofs.lemmas.Bool.Decides.{nat_tests}
 use Rattle.std.specs.Prelude.{IsUtf8}
 use Rattle.std.proofs.lemmas.Str.{IsUtf8-from_is_utf8, is_utf8-from_IsUtf8}
-use Rattle.netlink_core.specs.declared.fault.DecodeError.TheVariants.{NotUtf8}
+use Rattle.netlink_core.specs.declared.error.DecodeError.TheVariants.{NotUtf8}
 use Rattle.netlink_core.specs.Parse.{without_terminating_nul, parse_text}
 
 -- the last byte of a text and one more byte is this byte

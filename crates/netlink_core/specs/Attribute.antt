@@ -4,10 +4,10 @@ use Rattle.std.specs.Prelude.{◌≡◌, ◌≢◌, ℕ, ◌+◌, ◌-◌, ◌%�
 use Rattle.std.specs.Prelude.{length, replicate, bit_and, Result, Ok, Err, IsOk}
 use Rattle.byteorder.specs.Endian.{little_bytes, little_number}
 use Rattle.std.specs.List.{AllByRecursion, AllZip, flat_map}
-use Rattle.netlink_core.specs.declared.fault.DecodeError.{DecodeError}
-use Rattle.netlink_core.specs.declared.fault.DecodeError.TheVariants.{AttributeHeaderCut}
-use Rattle.netlink_core.specs.declared.fault.DecodeError.TheVariants.{AttributeLengthUnder4}
-use Rattle.netlink_core.specs.declared.fault.DecodeError.TheVariants.{AttributeLengthPast}
+use Rattle.netlink_core.specs.declared.error.DecodeError.{DecodeError}
+use Rattle.netlink_core.specs.declared.error.DecodeError.TheVariants.{AttributeHeaderCut}
+use Rattle.netlink_core.specs.declared.error.DecodeError.TheVariants.{AttributeLengthUnder4}
+use Rattle.netlink_core.specs.declared.error.DecodeError.TheVariants.{AttributeLengthPast}
 
 -- an attribute without its length field and its padding
 pub record Attribute : Type 0 where
@@ -89,26 +89,26 @@ abbrev pub SplitsUntilError : (List ℕ → DecodeError → Type 0) → List ℕ
 SplitsUntilError faulty bytes given e =
     (rest : List ℕ) × SplitsIntoAttributes bytes given rest × (rest ≢ []) × faulty rest e
 
--- `reads` is how one attribute is parsed: `reads a` is `Ok` of the value of the attribute `a`, or
+-- `parses` is how one attribute is parsed: `parses a` is `Ok` of the value of the attribute `a`, or
 -- `Err` of the error that rejects it. Elsewhere it is the first argument of each definition below,
 -- most often `decode_attribute set`.
-module _ {A : Type 0} (reads : Attribute → Result A DecodeError) where
+module _ {A : Type 0} (parses : Attribute → Result A DecodeError) where
   -- DecodeTo reads bytes values: the bytes are split into attributes without any bytes left, and
   -- these parse as the values, in order, one value for each attribute
   abbrev pub DecodeTo : List ℕ → List A → Type 0
   DecodeTo bytes values = (attributes : List Attribute) × SplitsIntoAttributes bytes attributes []
-      × AllZip (λ a value. reads a ≡ Ok value) attributes values
+      × AllZip (λ a value. parses a ≡ Ok value) attributes values
 
   -- IsFirstAttributeError reads b e: `e` is the first error at the start of the bytes `b`. Either
   -- they do not begin with an attribute, and `e` is the error of the framing; or they begin with an
   -- attribute, and `e` is the error of its value.
   abbrev pub IsFirstAttributeError : List ℕ → DecodeError → Type 0
   IsFirstAttributeError b e = IsFramingError b e
-      ⊎ ((a : Attribute) × HasAttributePrefix b a × (reads a ≡ Err e))
+      ⊎ ((a : Attribute) × HasAttributePrefix b a × (parses a ≡ Err e))
 
   -- HasAttributeError reads bytes e: `e` is the first error of the bytes, in the framing or in the
   -- value of an attribute; only accepted attributes, each with its padding, precede it
   abbrev pub HasAttributeError : List ℕ → DecodeError → Type 0
   HasAttributeError bytes e = (attributes : List Attribute)
       × SplitsUntilError IsFirstAttributeError bytes attributes e
-      × AllByRecursion (λ a. IsOk (reads a)) attributes
+      × AllByRecursion (λ a. IsOk (parses a)) attributes

@@ -4,10 +4,10 @@
 use Rattle.std.specs.Prelude.{◌≡◌, ◌≢◌, ℕ, ◌⊎◌, ◌==◌, if◌then◌else◌, cond, Bool, true, false}
 use Rattle.std.specs.Prelude.{◌<◌, ◌^◌, List, [], ◌∷◌, map, Option, Some, None, Result, Ok, ⊤}
 use Rattle.std.proofs.Common.{inl, inr}
-use Rattle.netlink_core.specs.declared.fault.DecodeError.{DecodeError}
+use Rattle.netlink_core.specs.declared.error.DecodeError.{DecodeError}
 use Rattle.netlink_core.specs.Attribute.{Attribute, attribute_kind}
 use Rattle.netlink_core.specs.Bytes.{IsBytes}
-use Rattle.netlink_core.specs.Faults.{map_ok}
+use Rattle.netlink_core.specs.Errors.{map_ok}
 use Rattle.netlink_core.specs.ValueCodec.{ValueCodec}
 
 -- one attribute type
@@ -17,7 +17,7 @@ pub record AttributeSpec : Type 1 where
   -- the codec of its values
   pub value : ValueCodec (Unit {0})
   -- its values need no memory: `⊤` if so for all values of the type, else `⊥`
-  pub is_spare : Type 0
+  pub needs_no_memory : Type 0
 
 -- a set is a list of types; of two types with the same kind the first counts
 abbrev pub AttributeSet : Type 1
@@ -41,7 +41,7 @@ AttributeValue (spec ∷ others) = spec.value.Value ⊎ AttributeValue others
 abbrev pub decode_attribute : (F : AttributeSet) → Attribute → Result (AttributeValue F) DecodeError
 decode_attribute [] a = Ok a
 decode_attribute (spec ∷ others) a =
-    if attribute_kind a == spec.number then map_ok inl (spec.value.reads tt a.value)
+    if attribute_kind a == spec.number then map_ok inl (spec.value.parses tt a.value)
     else map_ok inr (decode_attribute others a)
 
 -- encode_attribute F v: the attribute that the decoded value `v` serializes as: its kind, without
@@ -60,7 +60,7 @@ encode_attribute (spec ∷ others) (inr v) = encode_attribute others v
 abbrev pub AreEquivalentAttributes : AttributeSet → Attribute → Attribute → Type 0
 AreEquivalentAttributes [] a b = a ≡ b
 AreEquivalentAttributes (spec ∷ others) a b = cond (attribute_kind a == spec.number)
-    ((attribute_kind b ≡ spec.number) × spec.value.idle tt a.value b.value)
+    ((attribute_kind b ≡ spec.number) × spec.value.equivalent tt a.value b.value)
     ((attribute_kind b ≢ spec.number) × AreEquivalentAttributes others a b)
 
 -- IsInRangeIn F v: the decoded value `v` is in range. A value of an attribute type (`inl`) is in
@@ -81,11 +81,11 @@ IsNormalIn (spec ∷ F) (inl x) = spec.value.is_normal tt x
 IsNormalIn (spec ∷ F) (inr v) =
     (attribute_kind (encode_attribute F v) ≢ spec.number) × IsNormalIn F v
 
--- NeedsNoMemoryIn F v: the decoded value `v` needs no memory, as its type says (`is_spare`); a raw
--- attribute always counts as needing it
+-- NeedsNoMemoryIn F v: the decoded value `v` needs no memory, as its type says (`needs_no_memory`);
+-- a raw attribute always counts as needing it
 abbrev pub NeedsNoMemoryIn : (F : AttributeSet) → AttributeValue F → Type 0
 NeedsNoMemoryIn [] a = ⊥
-NeedsNoMemoryIn (spec ∷ others) (inl x) = spec.is_spare
+NeedsNoMemoryIn (spec ∷ others) (inl x) = spec.needs_no_memory
 NeedsNoMemoryIn (spec ∷ others) (inr v) = NeedsNoMemoryIn others v
 
 -- ---- by kind

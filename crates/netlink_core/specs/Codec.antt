@@ -3,8 +3,8 @@ use Rattle.std.specs.Prelude.{⊤, ◌≡◌, ◌↔◌, ◌⊎◌, ℕ, List, O
 use Rattle.netlink_core.specs.Bytes.{IsBytes}
 use Rattle.netlink_core.specs.Layout.{Layout, parse_record, IsContainedIn}
 use Rattle.netlink_core.specs.ValueCodec.{ValueCodec, value_codec}
-use Rattle.netlink_core.specs.declared.fault.DecodeError.{DecodeError}
-use Rattle.netlink_core.specs.declared.fault.DecodeError.TheVariants.{Memory}
+use Rattle.netlink_core.specs.declared.error.DecodeError.{DecodeError}
+use Rattle.netlink_core.specs.declared.error.DecodeError.TheVariants.{Memory}
 
 -- How values of one kind are parsed, with a parameter, and serialized. In the comments `b` and `c`
 -- are byte strings, `p` is the parameter (`tt` if there is none), `v` is a value and `e` an error.
@@ -14,70 +14,70 @@ pub record Codec (Param : Type 0) : Type 1 where
   -- is_in_range v: each number of `v` fits its field
   pub is_in_range : Value → Type 0
   -- reads b p v: `b` is accepted, and parses as `v`
-  pub reads : List ℕ → Param → Value → Type 0
+  pub parses : List ℕ → Param → Value → Type 0
   -- refuses b p e: `b` is rejected, and `e` is its first error
-  pub refuses : List ℕ → Param → DecodeError → Type 0
+  pub rejects : List ℕ → Param → DecodeError → Type 0
   -- is_spare v: `v` is stored without an allocation
-  pub is_spare : Value → Type 0
+  pub needs_no_memory : Value → Type 0
   -- idle p b c: the accepted byte strings `b` and `c` are equivalent: they differ only in ignored
   -- bits
-  pub idle : Param → List ℕ → List ℕ → Type 0
+  pub equivalent : Param → List ℕ → List ℕ → Type 0
   -- is_normal p v: `v` is in normal form, the form of every parsed value
   pub is_normal : Param → Value → Type 0
   -- written v: the bytes that `v` serializes to
-  pub written : Value → List ℕ
+  pub serialized : Value → List ℕ
   -- fits v: `v` is writable: its lengths fit their length fields
-  pub fits : Value → Type 0
+  pub is_writable : Value → Type 0
 
 -- KeepsCodecLaws C: the codec laws hold of `C`, for all byte strings, parameters, values and errors
 pub record KeepsCodecLaws {Param : Type 0} (C : Codec Param) : Type 0 where
-  -- bytes have a value or an error (`answered`), not both (`one_answer`), and at most one error
-  -- (`one_fault`), which is not `Memory` (`named_fault`)
-  pub answered : (b : List ℕ) (p : Param) → IsBytes b
-      → ((v : C.Value) × C.reads b p v) ⊎ ((e : DecodeError) × C.refuses b p e)
-  pub one_answer : (b : List ℕ) (p : Param) (v : C.Value) (e : DecodeError)
-      → C.reads b p v → C.refuses b p e → ⊥
-  pub one_fault : (b : List ℕ) (p : Param) (e f : DecodeError)
-      → C.refuses b p e → C.refuses b p f → e ≡ f
-  pub named_fault : (b : List ℕ) (p : Param) → C.refuses b p Memory → ⊥
-  -- two accepted byte strings have equal values if and only if they are equivalent (`idle`)
-  pub same_value : (b c : List ℕ) (p : Param) (v w : C.Value) → IsBytes b → IsBytes c
-      → C.reads b p v → C.reads c p w → ((v ≡ w) ↔ C.idle p b c)
+  -- bytes have a value or an error (`is_total`), not both (`is_exclusive`), and at most one error
+  -- (`error_is_unique`), which is not `Memory` (`error_is_not_memory`)
+  pub is_total : (b : List ℕ) (p : Param) → IsBytes b
+      → ((v : C.Value) × C.parses b p v) ⊎ ((e : DecodeError) × C.rejects b p e)
+  pub is_exclusive : (b : List ℕ) (p : Param) (v : C.Value) (e : DecodeError)
+      → C.parses b p v → C.rejects b p e → ⊥
+  pub error_is_unique : (b : List ℕ) (p : Param) (e f : DecodeError)
+      → C.rejects b p e → C.rejects b p f → e ≡ f
+  pub error_is_not_memory : (b : List ℕ) (p : Param) → C.rejects b p Memory → ⊥
+  -- two accepted byte strings have equal values if and only if they are equivalent
+  pub equal_iff_equivalent : (b c : List ℕ) (p : Param) (v w : C.Value) → IsBytes b → IsBytes c
+      → C.parses b p v → C.parses c p w → ((v ≡ w) ↔ C.equivalent p b c)
   -- every parsed value is in range and in normal form
-  pub reads_normal : (b : List ℕ) (p : Param) (v : C.Value) → IsBytes b
-      → C.reads b p v → C.is_in_range v × C.is_normal p v
-  -- a value in range serializes to bytes (`written_bytes`); if it is also writable and in normal
-  -- form, these bytes parse as it (`reads_back`)
-  pub written_bytes : (v : C.Value) → C.is_in_range v → IsBytes (C.written v)
-  pub reads_back : (p : Param) (v : C.Value) → C.is_in_range v → C.is_normal p v → C.fits v
-      → C.reads (C.written v) p v
+  pub parsed_is_normal : (b : List ℕ) (p : Param) (v : C.Value) → IsBytes b
+      → C.parses b p v → C.is_in_range v × C.is_normal p v
+  -- a value in range serializes to bytes (`serialized_in_range`); if it is also writable and in
+  -- normal form, these bytes parse as it (`round_trips`)
+  pub serialized_in_range : (v : C.Value) → C.is_in_range v → IsBytes (C.serialized v)
+  pub round_trips : (p : Param) (v : C.Value) → C.is_in_range v → C.is_normal p v → C.is_writable v
+      → C.parses (C.serialized v) p v
 
--- The codec of a part of a message by itself, given its `ValueCodec`, whose members it has. `reads`
--- there returns the value or the error; here `reads` says that it is this value, and `refuses` that
--- it is this error. No value needs memory, and each is writable.
+-- The codec of a part of a message by itself, given its `ValueCodec`, whose members it has.
+-- `parses` there returns the value or the error; here `parses` says that it is this value, and
+-- `rejects` that it is this error. No value needs memory, and each is writable.
 abbrev pub as_codec : {Param : Type 0} → ValueCodec Param → Codec Param
 as_codec P = record {
   Value = P.Value;
   is_in_range = P.is_in_range;
-  reads = λ b p v. P.reads p b ≡ Ok v;
-  refuses = λ b p e. P.reads p b ≡ Err e;
-  is_spare = λ v. ⊤;
-  idle = P.idle;
+  parses = λ b p v. P.parses p b ≡ Ok v;
+  rejects = λ b p e. P.parses p b ≡ Err e;
+  needs_no_memory = λ v. ⊤;
+  equivalent = P.equivalent;
   is_normal = P.is_normal;
-  written = P.bytes;
-  fits = λ v. ⊤;
+  serialized = P.bytes;
+  is_writable = λ v. ⊤;
 }
 
 -- the codec of a record, given its layout: `parse_record` and `record_bytes` parse and serialize;
--- `AreEquivalent`, `IsInRange` and `IsNormal` are `idle`, `is_in_range` and `is_normal`; no value
--- needs memory, and each is writable
+-- `AreEquivalent`, `IsInRange` and `IsNormal` are `equivalent`, `is_in_range` and `is_normal`; no
+-- value needs memory, and each is writable
 abbrev pub record_codec : {Param Tag Value : Type 0} → Layout Param Tag Value → Codec Param
 record_codec layout = as_codec (value_codec layout)
 
 -- The laws of a record: the codec laws (`codec`), and that bytes parse as a value if and only if
--- they contain it (`stands`). `IsContainedIn` says when: the bytes are long enough and have the
--- value's tag and numbers, and the value is in range and in normal form.
+-- they contain it (`parsed_iff_contained`). `IsContainedIn` says when: the bytes are long enough
+-- and have the value's tag and numbers, and the value is in range and in normal form.
 pub record RecordLaws {Param Tag Value : Type 0} (layout : Layout Param Tag Value) : Type 0 where
   pub codec : KeepsCodecLaws (record_codec layout)
-  pub stands : (b : List ℕ) (p : Param) (v : Value) → IsBytes b
+  pub parsed_iff_contained : (b : List ℕ) (p : Param) (v : Value) → IsBytes b
       → (parse_record layout p b ≡ Ok v) ↔ IsContainedIn layout b p v

@@ -1,13 +1,13 @@
 -- The iterators over the messages of a datagram: their states and their steps.
 use Rattle.std.specs.Prelude.{◌≡◌, ℕ, List, drop, length, Option, Result}
 use Rattle.std.specs.Borrow.{Bor}
-use Rattle.netlink_core.specs.declared.fault.DecodeError.{DecodeError}
+use Rattle.netlink_core.specs.declared.error.DecodeError.{DecodeError}
 use Rattle.netlink_core.specs.declared.header.NetlinkHeader.{NetlinkHeader}
 use Rattle.netlink_core.specs.declared.datagram.FramedMessages.{FramedMessages}
 use Rattle.netlink_core.specs.declared.datagram.MessageStrings.{MessageStrings}
 use Rattle.netlink_core.specs.Header.{HasHeader, IsMessageError}
 use Rattle.netlink_core.specs.Datagram.{StartsWithMessage}
-use Rattle.netlink_core.specs.Gives.{YieldsPart}
+use Rattle.netlink_core.specs.IteratorStep.{YieldsPart}
 
 -- the bytes that the iterator has not read yet
 abbrev pub unread_messages : FramedMessages → List ℕ

@@ -14,12 +14,12 @@ abbrev pub first_attribute_codec : AttributeSet → Codec (Unit {0})
 first_attribute_codec F = record {
   Value = AttributeValue F;
   is_in_range = IsInRangeIn F;
-  reads = λ b p v. (a : Attribute) × HasAttributePrefix b a × (decode_attribute F a ≡ Ok v);
-  refuses = λ b p e. IsFirstAttributeError (decode_attribute F) b e;
-  is_spare = NeedsNoMemoryIn F;
-  idle = λ p b c. (x y : Attribute) × HasAttributePrefix b x × HasAttributePrefix c y
+  parses = λ b p v. (a : Attribute) × HasAttributePrefix b a × (decode_attribute F a ≡ Ok v);
+  rejects = λ b p e. IsFirstAttributeError (decode_attribute F) b e;
+  needs_no_memory = NeedsNoMemoryIn F;
+  equivalent = λ p b c. (x y : Attribute) × HasAttributePrefix b x × HasAttributePrefix c y
       × AreEquivalentAttributes F x y;
   is_normal = λ p v. IsNormalIn F v;
-  written = λ v. attribute_bytes (encode_attribute F v);
-  fits = λ v. FitsLengthField (encode_attribute F v);
+  serialized = λ v. attribute_bytes (encode_attribute F v);
+  is_writable = λ v. FitsLengthField (encode_attribute F v);
 }

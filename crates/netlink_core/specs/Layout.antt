@@ -2,10 +2,10 @@
 use Rattle.std.specs.Prelude.{◌≡◌, ◌≤◌, ⊤, ℕ, nat_lt, if◌then◌else◌, List, length, Result, Ok, Err}
 use Rattle.netlink_core.specs.Table.{Field, values_of, bytes_of, FitFields, HaveDefinedFlags}
 use Rattle.netlink_core.specs.Rows.{Row, fields_of, numbers_of}
-use Rattle.netlink_core.specs.Faults.{map_ok}
-use Rattle.netlink_core.specs.declared.fault.DecodeError.{DecodeError}
-use Rattle.netlink_core.specs.declared.fault.DecodeError.TheVariants.{BufferTooSmall}
-use Rattle.netlink_core.specs.declared.fault.RecordName.{RecordName}
+use Rattle.netlink_core.specs.Errors.{map_ok}
+use Rattle.netlink_core.specs.declared.error.DecodeError.{DecodeError}
+use Rattle.netlink_core.specs.declared.error.DecodeError.TheVariants.{BufferTooSmall}
+use Rattle.netlink_core.specs.declared.error.RecordName.{RecordName}
 
 -- The layout of a record in bytes. A tag selects the rows that are used, for example the IP version
 -- of the addresses. A record with the same rows for all values has the tag `tt`.
@@ -23,7 +23,7 @@ pub record Layout (Param Tag Value : Type 0) : Type 1 where
   pub rows : Tag → List (Row Value)
   -- The value with these numbers in the fields that are not ignored, for a tag: the inverse of
   -- `field_numbers`, below. `IsContainedIn` says without it which value the bytes contain, and by
-  -- the law `read_where_it_stands` both agree.
+  -- the law `parsed_iff_contained` both agree.
   pub value : Tag → List ℕ → Value
   -- arrays have the length of their types
   pub is_shaped : Value → Type 0

@@ -4,10 +4,10 @@ pub mod Rows
 pub mod SignificantBits
 pub mod Layout
 pub mod Codec
-pub mod Faults
+pub mod Errors
 pub mod Canonical
 pub mod Attribute
-pub mod Gives
+pub mod IteratorStep
 pub mod Walk
 pub mod AttributeSet
 pub mod ValueCodec
@@ -17,10 +17,10 @@ pub mod Response
 pub mod DefaultNla
 pub mod Parse
 pub mod Header
-pub mod Envelope
+pub mod NetlinkMessage
 pub mod Datagram
 pub mod DatagramWalk
 pub mod Items
-pub mod EnvelopeModel
+pub mod NetlinkMessageModel
 pub mod laws
 pub mod private

@@ -3,8 +3,8 @@ use Rattle.std.specs.Prelude.{ℕ, ◌-◌, ◌==◌, if◌then◌else◌, List,
 use Rattle.std.specs.Prelude.{Option, Result, Ok, Err}
 use Rattle.std.specs.Str.{is_utf8}
 use Rattle.byteorder.specs.Endian.{little_number}
-use Rattle.netlink_core.specs.declared.fault.DecodeError.{DecodeError}
-use Rattle.netlink_core.specs.declared.fault.DecodeError.TheVariants.{WrongLength, NotUtf8}
+use Rattle.netlink_core.specs.declared.error.DecodeError.{DecodeError}
+use Rattle.netlink_core.specs.declared.error.DecodeError.TheVariants.{WrongLength, NotUtf8}
 
 -- number_of_width k width b: the little-endian number of exactly `width` bytes; the error of any
 -- other length contains the kind `k`, if there is one

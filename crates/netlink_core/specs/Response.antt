@@ -43,24 +43,25 @@ response_codec R = record {
   is_in_range = λ v. R.header.is_in_range v.header
       × AllByRecursion (IsInRangeIn R.attribute_set) v.nlas;
   -- the header's value, and one decoded value for each attribute after it
-  reads = λ b p v. (R.header.reads p b ≡ Ok v.header)
+  parses = λ b p v. (R.header.parses p b ≡ Ok v.header)
       × DecodeTo (decode_attribute R.attribute_set) (drop R.size b) v.nlas;
   -- the header's error, or after an accepted header the first error of the attributes
-  refuses = λ b p e. (R.header.reads p b ≡ Err e)
-      ⊎ ((h : R.header.Value) × (R.header.reads p b ≡ Ok h)
+  rejects = λ b p e. (R.header.parses p b ≡ Err e)
+      ⊎ ((h : R.header.Value) × (R.header.parses p b ≡ Ok h)
       × HasAttributeError (decode_attribute R.attribute_set) (drop R.size b) e);
   -- at most eight attributes, none of which needs memory
-  is_spare = λ v. (length v.nlas ≤ 8) × AllByRecursion (NeedsNoMemoryIn R.attribute_set) v.nlas;
+  needs_no_memory = λ v. (length v.nlas ≤ 8)
+      × AllByRecursion (NeedsNoMemoryIn R.attribute_set) v.nlas;
   -- the headers are equivalent; both have the same number of attributes, and these are equivalent
   -- in pairs
-  idle = λ p b c. R.header.idle p b c × (left right : List Attribute)
+  equivalent = λ p b c. R.header.equivalent p b c × (left right : List Attribute)
       × SplitsIntoAttributes (drop R.size b) left [] × SplitsIntoAttributes (drop R.size c) right []
       × AllZip (AreEquivalentAttributes R.attribute_set) left right;
   -- the header and each attribute are in normal form
   is_normal = λ p v. R.header.is_normal p v.header
       × AllByRecursion (IsNormalIn R.attribute_set) v.nlas;
-  written = response_bytes R;
+  serialized = response_bytes R;
   -- each attribute's value has at most 65,531 bytes, and the whole has at most 4,294,967,295
-  fits = λ v. AllByRecursion FitsLengthField (map (encode_attribute R.attribute_set) v.nlas)
+  is_writable = λ v. AllByRecursion FitsLengthField (map (encode_attribute R.attribute_set) v.nlas)
       × (length (response_bytes R v) ≤ 4294967295);
 }

@@ -1,7 +1,7 @@
 -- Lemmas about the definitions, and the definitions that these lemmas need.
 pub mod Byte
-pub mod Sound
-pub mod Shown
+pub mod LayoutObligations
+pub mod ReplyObligations
 pub mod Prefix
 pub mod AttributeSet
 pub mod FirstAttribute

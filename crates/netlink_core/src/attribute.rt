@@ -10,7 +10,7 @@ ghost use Rattle.netlink_core.specs.Attribute.{HasAttributePrefix, IsFramingErro
 ghost use Rattle.netlink_core.specs.Attribute.{attribute_kind, attribute_bytes};
 
 use crate::codec::Input;
-use crate::fault::DecodeError;
+use crate::error::DecodeError;
 use byteorder::{ByteOrder, LittleEndian};
 
 /// The size of an attribute's header, its length field and its type field, in bytes.
@@ -172,9 +172,9 @@ impl<'a> Iterator for NlasIterator<'a> {
                 self.at += padded(nla.length() as usize);
                 Some(Ok(nla))
             }
-            Err(fault) => {
+            Err(error) => {
                 self.at = self.bytes.len();
-                Some(Err(fault))
+                Some(Err(error))
             }
         }
     }

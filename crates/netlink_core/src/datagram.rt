@@ -3,7 +3,7 @@
 ghost use Rattle.std.specs.Prelude.{◌≡◌};
 
 use crate::attribute::padded;
-use crate::fault::DecodeError;
+use crate::error::DecodeError;
 use crate::header::NetlinkHeader;
 
 /// An iterator over consecutive netlink messages, each at a multiple of 4 bytes. An item is the
@@ -63,9 +63,9 @@ impl<'a> Iterator for FramedMessages<'a> {
                 self.at += padded(end);
                 Some(Ok((header, &left[..end])))
             }
-            Err(fault) => {
+            Err(error) => {
                 self.at = self.bytes.len();
-                Some(Err(fault))
+                Some(Err(error))
             }
         }
     }
@@ -129,7 +129,7 @@ impl<'a> Iterator for MessageStrings<'a> {
     fn next(&mut self) -> Option<Result<&'a [u8], DecodeError>> {
         match self.messages.next()? {
             Ok((_header, message)) => Some(Ok(message)),
-            Err(fault) => Some(Err(fault)),
+            Err(error) => Some(Err(error)),
         }
     }
 

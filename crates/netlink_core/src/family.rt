@@ -6,7 +6,7 @@ ghost use Rattle.netlink_core.specs.AttributeSet.{encode_attribute, NeedsNoMemor
 ghost use Rattle.netlink_core.specs.Walk.{buffered_attribute};
 
 use crate::attribute::NlaBuffer;
-use crate::fault::DecodeError;
+use crate::error::DecodeError;
 use crate::nla::Nla;
 use std::alloc::{AllocError, Global};
 use std::default::MadeWith;
@@ -26,7 +26,7 @@ pub trait FamilyView<'a>: Nla + PartialEq + Sized {
         ensures value { IfOk result (λ view. decode_attribute attribute_set
             (buffered_attribute nla.now)
             ≡ Ok (model view)) }
-        ensures fault { IfErr result (λ e. decode_attribute attribute_set
+        ensures error { IfErr result (λ e. decode_attribute attribute_set
             (buffered_attribute nla.now) ≡ Err e) };
 
     /// Returns what the attribute decodes to by the family's set. The set must accept it:
@@ -36,7 +36,8 @@ pub trait FamilyView<'a>: Nla + PartialEq + Sized {
         ensures { decode_attribute attribute_set (buffered_attribute nla.now) ≡ Ok (model result) };
 
     // An attribute serializes as what it decodes to.
-    ghost written_as: { (view : Self) → Self.Nla.attribute view ≡ encode_attribute attribute_set
+    ghost attribute_by_model: { (view : Self)
+        → Self.Nla.attribute view ≡ encode_attribute attribute_set
         (model view) };
 }
 
@@ -59,7 +60,7 @@ pub trait FamilyNla: Nla + PartialEq + MadeWith<Global> + Drop + Sized {
             decode_attribute attribute_set (buffered_attribute nla.now) ≡ Ok (model own)) }
         // NeedsNoMemoryIn: the value is of a type whose values are stored without an allocation. A
         // raw attribute never is.
-        ensures spare { (value : AttributeValue attribute_set)
+        ensures needs_no_memory { (value : AttributeValue attribute_set)
             → decode_attribute attribute_set (buffered_attribute nla.now) ≡ Ok value
             → NeedsNoMemoryIn attribute_set value → IsOk result };
 
@@ -67,15 +68,15 @@ pub trait FamilyNla: Nla + PartialEq + MadeWith<Global> + Drop + Sized {
     /// never for a value that needs no memory.
     fn copy_nla(&self, alloc: Global) -> Result<Self, AllocError>
         ensures equal { IfOk result (λ copy. model copy ≡ model self.now) }
-        ensures spare { NeedsNoMemoryIn attribute_set (model self.now) → IsOk result };
+        ensures needs_no_memory { NeedsNoMemoryIn attribute_set (model self.now) → IsOk result };
 
     /// Proof only: puts the range of each number in scope. No run-time effect.
-    fn value_in_range(&self)
+    fn prove_value_in_range(&self)
         // IsInRangeIn set value: each number of the decoded value fits its field.
         ensures { IsInRangeIn attribute_set (model self.now) };
 
     // An attribute serializes as what it decodes to, and `==` compares what it decodes to.
-    ghost written_as: { (nla : Self)
+    ghost attribute_by_model: { (nla : Self)
         → Self.Nla.attribute nla ≡ encode_attribute attribute_set (model nla) };
 
     ghost eq_is_model: { (v w : Self) → IsTrue (Self.PartialEq.eq v w) ↔ (model v ≡ model w) };

@@ -20,7 +20,7 @@ pub fn array_at<const N: usize>(bytes: &[u8], offset: usize) -> [u8; N]
 
 /// Returns the `N` consecutive little-endian 32-bit numbers at the offset. There must be at least
 /// `offset + 4 * N` bytes.
-pub fn words_at<const N: usize>(bytes: &[u8], offset: usize) -> [u32; N]
+pub fn u32s_at<const N: usize>(bytes: &[u8], offset: usize) -> [u32; N]
     requires { offset + 4 * N ≤ length bytes.now }
     // array FIELD offset width count: `count` consecutive fields of `width` bytes, the first at the
     // offset. FIELD is `number`: little-endian.
@@ -33,7 +33,7 @@ pub fn words_at<const N: usize>(bytes: &[u8], offset: usize) -> [u32; N]
 
 /// Returns the `N` consecutive little-endian 64-bit numbers at the offset. There must be at least
 /// `offset + 8 * N` bytes.
-pub fn long_words_at<const N: usize>(bytes: &[u8], offset: usize) -> [u64; N]
+pub fn u64s_at<const N: usize>(bytes: &[u8], offset: usize) -> [u64; N]
     requires { offset + 8 * N ≤ length bytes.now }
     // array FIELD offset width count: `count` consecutive fields of `width` bytes, the first at the
     // offset. FIELD is `number`: little-endian.
@@ -46,7 +46,7 @@ pub fn long_words_at<const N: usize>(bytes: &[u8], offset: usize) -> [u64; N]
 
 /// Returns the `N` consecutive 16-bit numbers in network byte order at the offset. There must be at
 /// least `offset + 2 * N` bytes.
-pub fn big_shorts_at<const N: usize>(bytes: &[u8], offset: usize) -> [u16; N]
+pub fn u16s_be_at<const N: usize>(bytes: &[u8], offset: usize) -> [u16; N]
     requires { offset + 2 * N ≤ length bytes.now }
     // array FIELD offset width count: `count` consecutive fields of `width` bytes, the first at the
     // offset. FIELD is `network`: in network byte order.
@@ -60,7 +60,7 @@ pub fn big_shorts_at<const N: usize>(bytes: &[u8], offset: usize) -> [u16; N]
 /// Proof only: puts in scope that each number is below 2^32, so that it fits a field of 4 bytes, at
 /// any offset. No run-time effect.
 #[tactic(auto, using(crate::proofs::FieldReads::numbers_fit_array))]
-pub fn words_in_range(_words: &[u32])
+pub fn prove_u32s_in_range(_words: &[u32])
     // FitFields fields numbers: there is one number for each field, and it fits the field's width.
     ensures { (offset : ℕ) → FitFields (array number offset 4 (length _words.now)) _words.now }
 {}
@@ -68,6 +68,6 @@ pub fn words_in_range(_words: &[u32])
 /// Proof only: puts in scope that each number is below 2^64, so that it fits a field of 8 bytes, at
 /// any offset. No run-time effect.
 #[tactic(auto, using(crate::proofs::FieldReads::numbers_fit_array))]
-pub fn long_words_in_range(_words: &[u64])
+pub fn prove_u64s_in_range(_words: &[u64])
     ensures { (offset : ℕ) → FitFields (array number offset 8 (length _words.now)) _words.now }
 {}

@@ -5,7 +5,7 @@ ghost use Rattle.netlink_core.specs.Header.{HasHeader, IsMessageError, header_fi
 ghost use Rattle.netlink_core.specs.Header.{header_bytes, header_values};
 ghost use Rattle.netlink_core.specs.Table.{FitFields};
 
-use crate::fault::DecodeError;
+use crate::error::DecodeError;
 use byteorder::{ByteOrder, LittleEndian};
 
 /// The size of the header of a netlink message, in bytes.
@@ -63,7 +63,7 @@ impl NetlinkHeader {
     }
 
     /// Proof only: puts the range of each field in scope. No run-time effect.
-    pub fn in_range(&self)
+    pub fn prove_in_range(&self)
         // FitFields fields numbers: each number fits the width of its field.
         ensures { FitFields header_fields (header_values self.now) }
     {

@@ -18,28 +18,28 @@ ghost use Rattle.netlink_core.specs.Walk.{buffered_attribute, unread_bytes, Yiel
 ghost use Rattle.netlink_core.specs.Datagram.{SplitsIntoMessages};
 ghost use Rattle.netlink_core.specs.DatagramWalk.{unread_datagram, YieldsMessage};
 ghost use Rattle.netlink_core.specs.Items.{IsItemOf, AreItemsOf};
-ghost use Rattle.netlink_core.specs.EnvelopeModel.{netlink_message_model, payload_model};
+ghost use Rattle.netlink_core.specs.NetlinkMessageModel.{netlink_message_model, payload_model};
 ghost use Rattle.netlink_core.specs.declared.attribute.NlaBuffer.{NlaBuffer};
 ghost use Rattle.netlink_core.specs.declared.attribute.NlasIterator.{NlasIterator};
 ghost use Rattle.netlink_core.specs.declared.datagram.MessageStrings.{MessageStrings};
-ghost use Rattle.netlink_core.specs.declared.fault.DecodeError.{DecodeError};
-ghost use Rattle.netlink_core.specs.declared.fault.DecodeError.TheVariants.{Memory};
+ghost use Rattle.netlink_core.specs.declared.error.DecodeError.{DecodeError};
+ghost use Rattle.netlink_core.specs.declared.error.DecodeError.TheVariants.{Memory};
 ghost use Rattle.netlink_core.specs.Canonical.{HasCanonicalForm};
-ghost use Rattle.netlink_core.specs.Envelope.{Payload, NetlinkMessageModel, finalized_header};
-ghost use Rattle.netlink_core.specs.Envelope.{netlink_codec};
+ghost use Rattle.netlink_core.specs.NetlinkMessage.{Payload, NetlinkMessageModel, finalized_header};
+ghost use Rattle.netlink_core.specs.NetlinkMessage.{netlink_codec};
 
 use crate::attribute::{NlaBuffer, NlasIterator};
-use crate::canon::CanonError;
+use crate::canonical_form::CanonError;
 use crate::codec::Readable;
 use crate::datagram::MessageStrings;
+use crate::error::DecodeError as Fault;
 use crate::exact::Exact;
 use crate::family::FamilyNla;
-use crate::fault::DecodeError as Fault;
 use crate::header::NetlinkHeader;
 use crate::message::{NetlinkMessage, NetlinkPayload};
 use crate::nla::DefaultNla;
 use crate::record::Record;
-use crate::wire::Coded;
+use crate::wire::HasCodec;
 use crate::{
     NETLINK_HEADER_LEN, NLA_HEADER_SIZE, NLM_F_ACK, NLM_F_ACK_TLVS, NLM_F_ATOMIC, NLM_F_CAPPED,
     NLM_F_DUMP, NLM_F_DUMP_FILTERED, NLM_F_DUMP_INTR, NLM_F_ECHO, NLM_F_MATCH, NLM_F_MULTI,
@@ -51,7 +51,7 @@ use std::alloc::AllocError;
 /// attributes. Other bytes begin with the first attribute, whose type field has 16 bits and whose
 /// value fits its length field. Either its padding is complete, and the remaining bytes are split
 /// into the later attributes; or its padding is short, nothing follows, and it is the last one.
-pub fn cut_is_as_stated()
+pub fn split_is_as_stated()
     // SplitsIntoAttributes bytes attributes rest: the bytes are these attributes, each with its
     // padding, and then `rest`; here `rest` is empty.
     ensures none { (bytes : List ℕ) → SplitsIntoAttributes bytes [] [] ↔ (bytes ≡ []) }
@@ -75,7 +75,7 @@ pub fn one_list_of_attributes()
 /// The bytes that attributes serialize to are split into these attributes, whatever follows, if
 /// each type field has 16 bits and each value fits its length field (`FitsLengthField`: it has at
 /// most 65,531 bytes).
-pub fn written_attributes_are_cut()
+pub fn serialized_attributes_are_split()
     // AllByRecursion P xs: `P` holds of each element of `xs`. flat_map attribute_bytes xs: the
     // bytes of all attributes, each with zeros as its padding. `rest` is what follows.
     ensures { (xs : List Attribute) → AllByRecursion
@@ -86,7 +86,7 @@ pub fn written_attributes_are_cut()
 /// Bytes parse as a value if and only if they contain it (`IsContainedIn`): they are long enough,
 /// they have the tag and the numbers of the value, and the value is in range and in normal form. A
 /// record is parsed as no other value.
-pub fn read_where_it_stands<T: Record>()
+pub fn parsed_iff_contained<T: Record>()
     // parse_record layout param bytes: `Ok` of the value, or `Err` of the error. IsBytes: each
     // number of the list is below 256.
     ensures { (bytes : List ℕ) (param : T.Param) (value : T) → IsBytes bytes
@@ -130,7 +130,7 @@ pub fn content_is_of_its_type<T: FamilyNla>()
 /// If the iterator ends without an error, it has yielded the attributes that the bytes are split
 /// into. If it yields an error, it has yielded the attributes before this error, and no bytes are
 /// left.
-pub fn whole_walk_is_the_cut()
+pub fn complete_iteration_is_the_split()
     // Drains step walk items: calling `next` on `walk` until it returns `None` yields `items`, here
     // the attributes `given`, each as an `Ok`. unread_bytes walk: the bytes that the iterator has
     // not read yet. buffered_attribute: the type field and the value of a yielded attribute.
@@ -141,21 +141,21 @@ pub fn whole_walk_is_the_cut()
     // `e`, after which the iterator is `last`. SplitsUntilError faulty bytes attributes e: the
     // bytes are these attributes, and then at least one byte more, whose error is `e`, here an
     // error of the framing (`IsFramingError`): values are not checked.
-    ensures fault { (walk last : NlasIterator) (given : List NlaBuffer) (e : DecodeError)
+    ensures error { (walk last : NlasIterator) (given : List NlaBuffer) (e : DecodeError)
         → YieldsThen YieldsAttribute walk (map (λ (b : NlaBuffer). Ok b) given) (Some (Err e)) last
         → SplitsUntilError IsFramingError (unread_bytes walk) (map buffered_attribute given) e
         × (unread_bytes last ≡ []) }
 {}
 
 /// Returns `v == w`, which is true if and only if the two values of an `Exact` type are the same.
-pub fn equal_where_same<T: Exact>(v: &T, w: &T) -> bool
+pub fn equal_iff_same<T: Exact>(v: &T, w: &T) -> bool
     ensures { IsTrue result ↔ (v.now ≡ w.now) }
 {
     v == w
 }
 
 /// Returns `v == w`, which is true if and only if the two decode errors are the same.
-pub fn equal_faults(v: &Fault, w: &Fault) -> bool
+pub fn equal_decode_errors(v: &Fault, w: &Fault) -> bool
     ensures { IsTrue result ↔ (v.now ≡ w.now) }
 {
     v == w
@@ -170,7 +170,7 @@ pub fn equal_errors(v: &CanonError, w: &CanonError) -> bool
 }
 
 /// Returns a clone. Cloning a decode error succeeds, and the clone is the same error.
-pub fn copied_fault(v: &Fault) -> Result<Fault, AllocError>
+pub fn copied_decode_error(v: &Fault) -> Result<Fault, AllocError>
     ensures ok { IsOk result }
     ensures same { IfOk result (λ copy. copy ≡ v.now) }
 {
@@ -196,7 +196,7 @@ pub fn copies_are_the_same<T: Exact>(v: &T) -> Result<T, AllocError>
 
 /// Returns `v == w`, which is true if and only if the headers and the models of the payloads are
 /// equal.
-pub fn equal_messages<I: Coded>(v: &NetlinkMessage<I>, w: &NetlinkMessage<I>) -> bool
+pub fn equal_messages<I: HasCodec>(v: &NetlinkMessage<I>, w: &NetlinkMessage<I>) -> bool
     // netlink_message_model model message: the header, and the payload with its bytes as a list, or
     // with the model of its inner message, which `model` returns.
     ensures { IsTrue result ↔ (netlink_message_model I.model v.now
@@ -206,7 +206,7 @@ pub fn equal_messages<I: Coded>(v: &NetlinkMessage<I>, w: &NetlinkMessage<I>) ->
 }
 
 /// Returns `v == w`, which is true if and only if the models of the payloads are equal.
-pub fn equal_payloads<I: Coded>(v: &NetlinkPayload<I>, w: &NetlinkPayload<I>) -> bool
+pub fn equal_payloads<I: HasCodec>(v: &NetlinkPayload<I>, w: &NetlinkPayload<I>) -> bool
     // payload_model bytes model payload: the payload with its bytes as a list, which `bytes`
     // returns (here of a `Vec`), or with the model of its inner message, which `model` returns.
     ensures { IsTrue result
@@ -267,60 +267,60 @@ pub fn default_header() -> NetlinkHeader
 /// Bytes start with one message or have one error, not both. The error is never `Memory`. In order:
 /// bytes have a message or an error; at most one message; not a message and an error; at most one
 /// error; and the error is not `Memory`.
-pub fn one_message_or_fault<I: Coded<Param = u16>>()
+pub fn one_message_or_error<I: HasCodec<Param = u16>>()
     // netlink_codec I.codec: the codec of netlink messages with inner messages of the type `I`. It
     // has no parameter, so that its parser's parameter is `tt`. NetlinkMessageModel: a header and a
     // payload.
-    ensures answered { (b : List ℕ) → IsBytes b
-        → ((v : NetlinkMessageModel I.codec.Value) × (netlink_codec I.codec).reads b tt v)
-        ⊎ ((e : DecodeError) × (netlink_codec I.codec).refuses b tt e) }
+    ensures is_total { (b : List ℕ) → IsBytes b
+        → ((v : NetlinkMessageModel I.codec.Value) × (netlink_codec I.codec).parses b tt v)
+        ⊎ ((e : DecodeError) × (netlink_codec I.codec).rejects b tt e) }
     ensures one_value { (b : List ℕ) (v w : NetlinkMessageModel I.codec.Value) → IsBytes b
-        → (netlink_codec I.codec).reads b tt v → (netlink_codec I.codec).reads b tt w → v ≡ w }
-    ensures one_answer { (b : List ℕ) (v : NetlinkMessageModel I.codec.Value) (e : DecodeError)
-        → (netlink_codec I.codec).reads b tt v → (netlink_codec I.codec).refuses b tt e → ⊥ }
-    ensures one_fault { (b : List ℕ) (e f : DecodeError)
-        → (netlink_codec I.codec).refuses b tt e → (netlink_codec I.codec).refuses b tt f
+        → (netlink_codec I.codec).parses b tt v → (netlink_codec I.codec).parses b tt w → v ≡ w }
+    ensures is_exclusive { (b : List ℕ) (v : NetlinkMessageModel I.codec.Value) (e : DecodeError)
+        → (netlink_codec I.codec).parses b tt v → (netlink_codec I.codec).rejects b tt e → ⊥ }
+    ensures error_is_unique { (b : List ℕ) (e f : DecodeError)
+        → (netlink_codec I.codec).rejects b tt e → (netlink_codec I.codec).rejects b tt f
         → e ≡ f }
-    ensures named_fault { (b : List ℕ) → (netlink_codec I.codec).refuses b tt Memory → ⊥ }
+    ensures error_is_not_memory { (b : List ℕ) → (netlink_codec I.codec).rejects b tt Memory → ⊥ }
 {}
 
-/// Two accepted byte strings have equal messages if and only if they are equivalent (`idle`): their
+/// Two accepted byte strings have equal messages if and only if they are equivalent: their
 /// netlink headers are equal, and their payloads are equivalent under the message type, up to the
 /// length in the header. What follows this length is ignored.
-pub fn equal_messages_where_idle<I: Coded<Param = u16>>()
+pub fn equal_messages_iff_equivalent<I: HasCodec<Param = u16>>()
     ensures { (b c : List ℕ) (v w : NetlinkMessageModel I.codec.Value) → IsBytes b → IsBytes c
-        → (netlink_codec I.codec).reads b tt v → (netlink_codec I.codec).reads c tt w
-        → ((v ≡ w) ↔ (netlink_codec I.codec).idle tt b c) }
+        → (netlink_codec I.codec).parses b tt v → (netlink_codec I.codec).parses c tt w
+        → ((v ≡ w) ↔ (netlink_codec I.codec).equivalent tt b c) }
 {}
 
 /// Two byte strings with canonical forms have the same one if and only if they are equivalent
-/// (`idle`).
-pub fn messages_written_alike<I: Coded<Param = u16>>()
+/// (`equivalent`).
+pub fn same_message_bytes_iff_equivalent<I: HasCodec<Param = u16>>()
     // HasCanonicalForm codec param bytes form: the bytes parse as a writable value, which
     // serializes to `form`.
     ensures { (b c form other : List ℕ) → IsBytes b → IsBytes c
         → HasCanonicalForm (netlink_codec I.codec) tt b form
         → HasCanonicalForm (netlink_codec I.codec) tt c other
-        → ((form ≡ other) ↔ (netlink_codec I.codec).idle tt b c) }
+        → ((form ≡ other) ↔ (netlink_codec I.codec).equivalent tt b c) }
 {}
 
 /// A message that is writable and in range, and whose header has the length and the type that
 /// `finalize` sets, round-trips if and only if it is in normal form. This holds for any function
 /// `type_of` that maps inner messages to types.
-pub fn finalized_message_reads_back<I: Coded<Param = u16>>()
+pub fn finalized_message_round_trips<I: HasCodec<Param = u16>>()
     // finalized_header bytes type_of message: the header of `message` with the length of the
     // message and the type of its payload. `bytes` and `type_of` are those of an inner message.
     ensures { (type_of : I.codec.Value → ℕ) (v : NetlinkMessageModel I.codec.Value)
-        → (netlink_codec I.codec).is_in_range v → (netlink_codec I.codec).fits v
-        → (v.header ≡ finalized_header I.codec.written type_of v)
-        → ((netlink_codec I.codec).reads ((netlink_codec I.codec).written v) tt v
+        → (netlink_codec I.codec).is_in_range v → (netlink_codec I.codec).is_writable v
+        → (v.header ≡ finalized_header I.codec.serialized type_of v)
+        → ((netlink_codec I.codec).parses ((netlink_codec I.codec).serialized v) tt v
         ↔ (netlink_codec I.codec).is_normal tt v) }
 {}
 
 /// If the iterator ends without an error, it has yielded the messages that the datagram is split
 /// into. If it yields an error, it has yielded the messages before this error, and no bytes are
 /// left.
-pub fn whole_walk_is_the_datagram()
+pub fn complete_iteration_is_the_datagram()
     // SplitsIntoMessages bytes messages end: the bytes are these messages, each with its padding.
     // `end` is `None` if no bytes are left then, else the error of the bytes that are left.
     // unread_datagram walk: the bytes that the iterator has not read yet. `given` are the messages
@@ -328,7 +328,7 @@ pub fn whole_walk_is_the_datagram()
     ensures ended { (walk : MessageStrings) (given : List (Bor (List ℕ)))
         → Drains YieldsMessage walk (map (λ (m : Bor (List ℕ)). Ok m) given)
         → SplitsIntoMessages (unread_datagram walk) (map (λ (m : Bor (List ℕ)). m.now) given) None }
-    ensures fault { (walk last : MessageStrings) (given : List (Bor (List ℕ))) (e : DecodeError)
+    ensures error { (walk last : MessageStrings) (given : List (Bor (List ℕ))) (e : DecodeError)
         → YieldsThen YieldsMessage walk (map (λ (m : Bor (List ℕ)). Ok m) given) (Some (Err e)) last
         → SplitsIntoMessages (unread_datagram walk) (map (λ (m : Bor (List ℕ)). m.now) given)
         (Some e)
@@ -345,7 +345,7 @@ pub fn one_list_of_messages()
 {}
 
 /// Each datagram has a list of items: the payload or the error of each of its messages.
-pub fn datagram_has_items<I: Coded<Param = u16>>()
+pub fn datagram_has_items<I: HasCodec<Param = u16>>()
     // AreItemsOf is bytes items: the items of the datagram. `is` relates a message to its item.
     // IsItemOf codec message item: the bytes of the message parse as this payload, or are rejected
     // with this error; `codec` is the codec of inner messages.
@@ -355,18 +355,18 @@ pub fn datagram_has_items<I: Coded<Param = u16>>()
 {}
 
 /// Each datagram has at most one list of items.
-pub fn one_list_of_items<I: Coded<Param = u16>>()
+pub fn one_list_of_items<I: HasCodec<Param = u16>>()
     ensures { (bytes : List ℕ) → IsBytes bytes
         → (xs ys : List (Result (Payload I.codec.Value) DecodeError))
         → AreItemsOf (IsItemOf I.codec) bytes xs → AreItemsOf (IsItemOf I.codec) bytes ys
         → xs ≡ ys }
 {
-    one_message_or_fault::<I>();
+    one_message_or_error::<I>();
 }
 
 /// Complete messages with all their padding, followed by more bytes, have the items of these
 /// messages and then the items of the other bytes.
-pub fn items_of_concatenation<I: Coded<Param = u16>>()
+pub fn items_of_concatenation<I: HasCodec<Param = u16>>()
     // SplitsIntoMessages front messages None: `front` is these messages, and no bytes are left. Its
     // length is a multiple of 4, so that the last message has all its padding too.
     ensures { (front back : List ℕ) (messages : List (List ℕ))
@@ -377,7 +377,7 @@ pub fn items_of_concatenation<I: Coded<Param = u16>>()
 {}
 
 /// The constants have the numbers of linux/netlink.h.
-pub fn message_constants_have_their_numbers()
+pub fn message_constants_have_their_values()
     ensures noop { NLMSG_NOOP ≡ 1 }
     ensures error { NLMSG_ERROR ≡ 2 }
     ensures done { NLMSG_DONE ≡ 3 }

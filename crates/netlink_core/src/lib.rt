@@ -3,12 +3,12 @@
 #![tactic(auto)]
 
 mod attribute;
-mod canon;
+mod canonical_form;
 mod codec;
 mod datagram;
+mod error;
 mod exact;
 mod family;
-mod fault;
 pub mod fields;
 mod header;
 pub mod laws;
@@ -19,12 +19,12 @@ mod record;
 mod wire;
 
 pub use crate::attribute::{NLA_HEADER_SIZE, NlaBuffer, NlasIterator, padded};
-pub use crate::canon::{CanonError, canonical};
+pub use crate::canonical_form::{CanonError, canonical};
 pub use crate::codec::{Emitable, Input, Parseable, ParseableParametrized, ReadParam, Readable};
 pub use crate::datagram::{FramedMessages, MessageStrings};
+pub use crate::error::{DecodeError, RecordName};
 pub use crate::exact::Exact;
 pub use crate::family::{FamilyNla, FamilyView};
-pub use crate::fault::{DecodeError, RecordName};
 pub use crate::header::{NETLINK_HEADER_LEN, NetlinkHeader};
 pub use crate::message::{
     NLM_F_ACK, NLM_F_ACK_TLVS, NLM_F_ATOMIC, NLM_F_CAPPED, NLM_F_DUMP, NLM_F_DUMP_FILTERED,
@@ -38,4 +38,4 @@ pub use crate::nla::{
 };
 pub use crate::parse::{emit_u32, parse_str, parse_string, parse_u8, parse_u32};
 pub use crate::record::{Fills, Record, RecordBuffer, read_record};
-pub use crate::wire::{Coded, Wire, bytes_in_range, word_in_range, write_new};
+pub use crate::wire::{HasCodec, Wire, prove_bytes_in_range, prove_u32_in_range, write_new};

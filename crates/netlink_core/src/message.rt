@@ -4,17 +4,20 @@ ghost use Rattle.std.specs.Prelude.{◌≡◌, ◌≢◌, ◌≤◌, ◌<◌, �
 ghost use Rattle.std.specs.Prelude.{IsTrue, List, ℕ, vec_items, ⊤};
 ghost use Rattle.std.specs.Borrow.{Bor};
 ghost use Rattle.netlink_core.specs.Bytes.{HoldsAtStart};
-ghost use Rattle.netlink_core.specs.declared.fault.DecodeError.TheVariants.{Memory};
+ghost use Rattle.netlink_core.specs.declared.error.DecodeError.TheVariants.{Memory};
 ghost use Rattle.netlink_core.specs.Header.{message_type_in};
-ghost use Rattle.netlink_core.specs.Envelope.{Payload, NetlinkMessageModel, leading_error_number};
-ghost use Rattle.netlink_core.specs.Envelope.{error_number_of, ParsesAsPayload, IsInnerMessageType};
-ghost use Rattle.netlink_core.specs.Envelope.{payload_bytes, payload_type, HoldsOfInnerMessage};
-ghost use Rattle.netlink_core.specs.Envelope.{finalized_header, netlink_codec};
-ghost use Rattle.netlink_core.specs.EnvelopeModel.{payload_model, netlink_message_model};
+ghost use Rattle.netlink_core.specs.NetlinkMessage.{Payload, NetlinkMessageModel};
+ghost use Rattle.netlink_core.specs.NetlinkMessage.{leading_error_number};
+ghost use Rattle.netlink_core.specs.NetlinkMessage.{error_number_of, ParsesAsPayload};
+ghost use Rattle.netlink_core.specs.NetlinkMessage.{IsInnerMessageType};
+ghost use Rattle.netlink_core.specs.NetlinkMessage.{payload_bytes, payload_type};
+ghost use Rattle.netlink_core.specs.NetlinkMessage.{HoldsOfInnerMessage};
+ghost use Rattle.netlink_core.specs.NetlinkMessage.{finalized_header, netlink_codec};
+ghost use Rattle.netlink_core.specs.NetlinkMessageModel.{payload_model, netlink_message_model};
 
-use crate::fault::DecodeError;
+use crate::error::DecodeError;
 use crate::header::{NETLINK_HEADER_LEN, NetlinkHeader};
-use crate::wire::Coded;
+use crate::wire::HasCodec;
 use byteorder::{ByteOrder, LittleEndian};
 use std::alloc::{AllocError, Global};
 
@@ -70,33 +73,34 @@ pub const NLM_F_ACK_TLVS: u16 = 0x200;
 const LONGEST: usize = 4_294_967_295;
 
 /// A message of a protocol that is serialized after a netlink header.
-pub trait NetlinkSerializable: Coded<Param = u16> {
+pub trait NetlinkSerializable: HasCodec<Param = u16> {
     /// Returns whether the message is writable.
     fn is_writable(&self) -> bool
-        ensures { IsTrue result ↔ Self.codec.fits (Self.model self.now) };
+        ensures { IsTrue result ↔ Self.codec.is_writable (Self.model self.now) };
 
     /// Returns the type of the message, for the type field of the header (`nlmsg_type`).
     fn message_type(&self) -> u16
-        // type_written: the type field for each message, a member of `Coded`.
-        ensures { result ≡ Self.type_written (Self.model self.now) };
+        // serialized_type: the type field for each message, a member of `HasCodec`.
+        ensures { result ≡ Self.serialized_type (Self.model self.now) };
 
     /// Returns the number of bytes that `serialize` writes. The message must be writable.
     fn buffer_len(&self) -> usize
-        requires { Self.codec.fits (Self.model self.now) }
-        ensures { result ≡ length (Self.codec.written (Self.model self.now)) };
+        requires { Self.codec.is_writable (Self.model self.now) }
+        ensures { result ≡ length (Self.codec.serialized (Self.model self.now)) };
 
     /// Serializes the message to the start of the buffer. The bytes after it are unchanged. The
     /// message must be writable, and the buffer at least as long as its bytes.
     fn serialize(&self, buffer: &mut [u8])
-        requires writable { Self.codec.fits (Self.model self.now) }
-        requires room { length (Self.codec.written (Self.model self.now)) ≤ length buffer.old }
+        requires writable { Self.codec.is_writable (Self.model self.now) }
+        requires room { length (Self.codec.serialized (Self.model self.now)) ≤ length buffer.old }
         // HoldsAtStart bytes old new: `new` is `bytes`, and then `old` from this offset on.
-        ensures { HoldsAtStart (Self.codec.written (Self.model self.now)) buffer.old buffer.new };
+        ensures { HoldsAtStart
+            (Self.codec.serialized (Self.model self.now)) buffer.old buffer.new };
 }
 
 /// A message of a protocol that is parsed from the payload of a netlink message, under the type in
 /// the netlink header.
-pub trait NetlinkDeserializable: Coded<Param = u16> {
+pub trait NetlinkDeserializable: HasCodec<Param = u16> {
     /// Parses a message under the header's type (`nlmsg_type`), or returns the first decode error.
     /// No other field of the header matters. Fails with `Memory` only if the payload has a message
     /// that needs to allocate.
@@ -106,14 +110,14 @@ pub trait NetlinkDeserializable: Coded<Param = u16> {
         payload: &[u8],
     ) -> Result<Self, DecodeError>
         ensures value { IfOk result
-            (λ m. Self.codec.reads payload.now header.now.message_type (Self.model m)) }
-        ensures fault { IfErr result (λ e. e ≢ Memory
-            → Self.codec.refuses payload.now header.now.message_type e) }
+            (λ m. Self.codec.parses payload.now header.now.message_type (Self.model m)) }
+        ensures error { IfErr result (λ e. e ≢ Memory
+            → Self.codec.rejects payload.now header.now.message_type e) }
         // `Memory` only if the payload has a message, and this message needs to allocate
-        // (`is_spare` does not hold of it).
-        ensures wanted { IfErr result (λ e. e ≡ Memory → (m : Self.codec.Value)
-            × Self.codec.reads payload.now header.now.message_type m
-            × ¬ Self.codec.is_spare m) };
+        // (`needs_no_memory` does not hold of it).
+        ensures memory_needed { IfErr result (λ e. e ≡ Memory → (m : Self.codec.Value)
+            × Self.codec.parses payload.now header.now.message_type m
+            × ¬ Self.codec.needs_no_memory m) };
 }
 
 /// The payload of a netlink message, by the message type. `B` holds the bytes of a payload that is
@@ -158,7 +162,7 @@ pub fn error_number(payload: &[u8]) -> Option<i32>
     Some(LittleEndian::read_i32(payload))
 }
 
-impl<I: Coded> NetlinkPayload<I> {
+impl<I: HasCodec> NetlinkPayload<I> {
     /// Returns the error number at the start of an `NLMSG_ERROR` or `NLMSG_DONE`: 4 bytes,
     /// little-endian, 0 or `-errno` (errno(3)). Returns `None` if this payload has fewer than 4
     /// bytes, and for any other payload.
@@ -197,8 +201,10 @@ impl<I: NetlinkSerializable> NetlinkPayload<I> {
     /// `NLMSG_OVERRUN`, or the type of the inner message.
     pub fn message_type(&self) -> u16
         // payload_type type_of payload: the constant NLMSG_.. of a control message, or `type_of` of
-        // the inner message. `I.type_written` is what `message_type` of the inner message returns.
-        ensures { result ≡ payload_type I.type_written (payload_model vec_items I.model self.now) }
+        // the inner message. `I.serialized_type` is what `message_type` of the inner message
+        // returns.
+        ensures { result ≡ payload_type I.serialized_type
+            (payload_model vec_items I.model self.now) }
     {
         match self {
             NetlinkPayload::Done(_) => NLMSG_DONE,
@@ -211,7 +217,7 @@ impl<I: NetlinkSerializable> NetlinkPayload<I> {
 
     // Returns whether the inner message, if any, is writable.
     fn is_writable(&self) -> bool
-        ensures { IsTrue result ↔ HoldsOfInnerMessage I.codec.fits
+        ensures { IsTrue result ↔ HoldsOfInnerMessage I.codec.is_writable
             (payload_model vec_items I.model self.now) }
     {
         match self {
@@ -222,9 +228,10 @@ impl<I: NetlinkSerializable> NetlinkPayload<I> {
 
     // Returns the number of bytes that `serialize` writes.
     fn buffer_len(&self) -> usize
-        requires { HoldsOfInnerMessage I.codec.fits (payload_model vec_items I.model self.now) }
+        requires { HoldsOfInnerMessage I.codec.is_writable
+            (payload_model vec_items I.model self.now) }
         ensures { result
-            ≡ length (payload_bytes I.codec.written (payload_model vec_items I.model self.now)) }
+            ≡ length (payload_bytes I.codec.serialized (payload_model vec_items I.model self.now)) }
     {
         match self {
             NetlinkPayload::Done(bytes)
@@ -237,12 +244,12 @@ impl<I: NetlinkSerializable> NetlinkPayload<I> {
 
     // Serializes the payload to the start of the buffer. The bytes after it are unchanged.
     fn serialize(&self, buffer: &mut [u8])
-        requires writable { HoldsOfInnerMessage I.codec.fits
+        requires writable { HoldsOfInnerMessage I.codec.is_writable
             (payload_model vec_items I.model self.now) }
         requires room { length
-            (payload_bytes I.codec.written (payload_model vec_items I.model self.now))
+            (payload_bytes I.codec.serialized (payload_model vec_items I.model self.now))
             ≤ length buffer.old }
-        ensures { HoldsAtStart (payload_bytes I.codec.written
+        ensures { HoldsAtStart (payload_bytes I.codec.serialized
             (payload_model vec_items I.model self.now)) buffer.old buffer.new }
     {
         match self {
@@ -258,15 +265,15 @@ impl<I: NetlinkSerializable> NetlinkPayload<I> {
 impl<I: NetlinkDeserializable> NetlinkPayload<I> {
     // Parses the payload under the header's type. An `NLMSG_NOOP` never allocates.
     fn read(alloc: Global, header: &NetlinkHeader, bytes: &[u8]) -> Result<Self, DecodeError>
-        ensures value { IfOk result (λ p. ParsesAsPayload I.codec.reads bytes.now
+        ensures value { IfOk result (λ p. ParsesAsPayload I.codec.parses bytes.now
             header.now.message_type
             (payload_model vec_items I.model p)) }
-        ensures fault { IfErr result (λ e. e ≢ Memory
+        ensures error { IfErr result (λ e. e ≢ Memory
             → IsInnerMessageType header.now.message_type
-            × I.codec.refuses bytes.now header.now.message_type e) }
+            × I.codec.rejects bytes.now header.now.message_type e) }
         ensures memory { IfErr result (λ e. header.now.message_type ≢ 1) }
-        ensures wanted { IfErr result (λ e. e ≡ Memory → (p : Payload I.codec.Value)
-            × ParsesAsPayload I.codec.reads bytes.now header.now.message_type p) }
+        ensures memory_needed { IfErr result (λ e. e ≡ Memory → (p : Payload I.codec.Value)
+            × ParsesAsPayload I.codec.parses bytes.now header.now.message_type p) }
     {
         Ok(match header.message_type {
             NLMSG_NOOP => NetlinkPayload::Noop,
@@ -307,18 +314,18 @@ impl<I> NetlinkMessage<I> {
     }
 }
 
-impl<I: Coded<Param = u16>> NetlinkMessage<I> {
+impl<I: HasCodec<Param = u16>> NetlinkMessage<I> {
     /// Proof only: puts the range of each number in scope, so that the laws of messages apply. No
     /// run-time effect.
-    pub fn in_range(&self)
+    pub fn prove_in_range(&self)
         // netlink_codec codec: the codec of netlink messages, given that of their inner messages.
         // netlink_message_model model message: the header and the payload, with the raw bytes as a
         // list, or with the model of the inner message.
         ensures { (netlink_codec I.codec).is_in_range (netlink_message_model I.model self.now) }
     {
-        self.header.in_range();
+        self.header.prove_in_range();
         if let NetlinkPayload::InnerMessage(message) = &self.payload {
-            message.in_range();
+            message.prove_in_range();
         }
     }
 }
@@ -335,14 +342,15 @@ impl<I: NetlinkDeserializable> NetlinkMessage<I> {
         // The bytes start with this header, and the payload up to the header's length parses by the
         // header's type.
         ensures value { IfOk result
-            (λ m. (netlink_codec I.codec).reads bytes.now tt (netlink_message_model I.model m)) }
-        ensures fault { IfErr result (λ e. e ≢ Memory
-            → (netlink_codec I.codec).refuses bytes.now tt e) }
+            (λ m. (netlink_codec I.codec).parses bytes.now tt (netlink_message_model I.model m)) }
+        ensures error { IfErr result (λ e. e ≢ Memory
+            → (netlink_codec I.codec).rejects bytes.now tt e) }
         // message_type_in: `nlmsg_type`, at offset 4.
         ensures memory { IfErr result (λ e. e ≡ Memory → message_type_in bytes.now ≢ NLMSG_NOOP) }
         // `Memory` only if the bytes have a message.
-        ensures wanted { IfErr result (λ e. e ≡ Memory → (m : NetlinkMessageModel I.codec.Value)
-            × (netlink_codec I.codec).reads bytes.now tt m) }
+        ensures memory_needed { IfErr result (λ e. e ≡ Memory
+            → (m : NetlinkMessageModel I.codec.Value)
+            × (netlink_codec I.codec).parses bytes.now tt m) }
     {
         let header = NetlinkHeader::from_prefix(bytes)?;
         let payload = &bytes[NETLINK_HEADER_LEN..header.length as usize];
@@ -356,10 +364,10 @@ impl<I: NetlinkSerializable> NetlinkMessage<I> {
     /// header, and its type to the payload's type. The other fields of the header and the payload
     /// are unchanged. The message must be writable.
     pub fn finalize(&mut self)
-        requires { (netlink_codec I.codec).fits (netlink_message_model I.model self.old) }
+        requires { (netlink_codec I.codec).is_writable (netlink_message_model I.model self.old) }
         // finalized_header bytes type_of message: the header of `message` with the length and the
         // type of its payload. `bytes` and `type_of` are those of an inner message.
-        ensures header { self.new.header ≡ finalized_header I.codec.written I.type_written
+        ensures header { self.new.header ≡ finalized_header I.codec.serialized I.serialized_type
             (netlink_message_model I.model self.old) }
         ensures payload { self.new.payload ≡ self.old.payload }
     {
@@ -370,7 +378,7 @@ impl<I: NetlinkSerializable> NetlinkMessage<I> {
     /// Returns whether the message is writable: its inner message is, and the whole has at most
     /// 4,294,967,295 bytes, including the 16 bytes of the header.
     pub fn is_writable(&self) -> bool
-        ensures { IsTrue result ↔ (netlink_codec I.codec).fits
+        ensures { IsTrue result ↔ (netlink_codec I.codec).is_writable
             (netlink_message_model I.model self.now) }
     {
         self.payload.is_writable() && self.payload.buffer_len() <= LONGEST - NETLINK_HEADER_LEN
@@ -379,8 +387,8 @@ impl<I: NetlinkSerializable> NetlinkMessage<I> {
     /// Returns the number of bytes that `serialize` writes, including the 16 of the header. The
     /// message must be writable.
     pub fn buffer_len(&self) -> usize
-        requires { (netlink_codec I.codec).fits (netlink_message_model I.model self.now) }
-        ensures { result ≡ length ((netlink_codec I.codec).written
+        requires { (netlink_codec I.codec).is_writable (netlink_message_model I.model self.now) }
+        ensures { result ≡ length ((netlink_codec I.codec).serialized
             (netlink_message_model I.model self.now)) }
     {
         NETLINK_HEADER_LEN + self.payload.buffer_len()
@@ -390,11 +398,12 @@ impl<I: NetlinkSerializable> NetlinkMessage<I> {
     /// after them are unchanged. The message must be writable, and the buffer at least as long as
     /// its bytes.
     pub fn serialize(&self, buffer: &mut [u8])
-        requires writable { (netlink_codec I.codec).fits (netlink_message_model I.model self.now) }
-        requires room { length ((netlink_codec I.codec).written
+        requires writable { (netlink_codec I.codec).is_writable
+            (netlink_message_model I.model self.now) }
+        requires room { length ((netlink_codec I.codec).serialized
             (netlink_message_model I.model self.now))
             ≤ length buffer.old }
-        ensures { HoldsAtStart ((netlink_codec I.codec).written
+        ensures { HoldsAtStart ((netlink_codec I.codec).serialized
             (netlink_message_model I.model self.now)) buffer.old buffer.new }
     {
         let (header, rest) = buffer.split_at_mut(NETLINK_HEADER_LEN);

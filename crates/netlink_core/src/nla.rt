@@ -11,10 +11,10 @@ ghost use Rattle.netlink_core.specs.FirstAttribute.{first_attribute_codec};
 ghost use Rattle.netlink_core.specs.laws.FirstAttribute.{first_attribute_codec_laws};
 
 use crate::attribute::{MAX_VALUE, NLA_HEADER_SIZE, NlaBuffer, padded};
-use crate::canon::CanonError;
+use crate::canonical_form::CanonError;
 use crate::codec::{Emitable, Parseable, Readable};
-use crate::fault::DecodeError;
-use crate::wire::{Coded, Wire, bytes_in_range, write_new};
+use crate::error::DecodeError;
+use crate::wire::{HasCodec, Wire, prove_bytes_in_range, write_new};
 use byteorder::{ByteOrder, LittleEndian};
 use std::alloc::{AllocError, Global};
 
@@ -52,9 +52,10 @@ pub trait Nla {
 /// of its value fits the length field.
 pub trait WireNla: Nla + Wire {
     // The value serializes to its attribute: header, value and padding of zeros.
-    ghost emitted_is: { (v : Self) → Self.bytes v ≡ attribute_bytes (Self.attribute v) };
+    ghost bytes_by_attribute: { (v : Self) → Self.bytes v ≡ attribute_bytes (Self.attribute v) };
 
-    ghost writable_is: { (v : Self) → (Self.writable v ↔ FitsLengthField (Self.attribute v)) };
+    ghost writable_by_attribute: { (v : Self) → (Self.writable v
+        ↔ FitsLengthField (Self.attribute v)) };
 }
 
 /// Returns the number of the attribute's bytes, with header and padding. Its value must fit its
@@ -192,7 +193,7 @@ impl DefaultNla {
     // Copies the attribute. Does not allocate if its value is empty.
     fn keep(alloc: Global, nla: &NlaBuffer<'_>) -> Result<DefaultNla, AllocError>
         ensures equal { IfOk result (λ kept. raw_attribute kept ≡ buffered_attribute nla.now) }
-        ensures spare { (buffered_attribute nla.now).value ≡ [] → IsOk result }
+        ensures needs_no_memory { (buffered_attribute nla.now).value ≡ [] → IsOk result }
     {
         Ok(DefaultNla {
             kind: nla.type_word(),
@@ -218,7 +219,7 @@ impl DefaultNla {
     /// value is empty.
     pub fn clone(&self, alloc: Global) -> Result<Self, AllocError>
         ensures equal { IfOk result (λ copy. raw_attribute copy ≡ raw_attribute self.now) }
-        ensures spare { (raw_attribute self.now).value ≡ [] → IsOk result }
+        ensures needs_no_memory { (raw_attribute self.now).value ≡ [] → IsOk result }
     {
         Ok(DefaultNla {
             kind: self.kind,
@@ -232,7 +233,7 @@ impl DefaultNla {
 /// Fails only if an allocation fails; does not allocate if there are no items.
 pub fn copy_list<T: Copy>(alloc: Global, items: &[T]) -> Result<Vec<T>, AllocError>
     ensures equal { IfOk result (λ copy. copy.items ≡ items.now) }
-    ensures spare { items.now ≡ [] → IsOk result }
+    ensures needs_no_memory { items.now ≡ [] → IsOk result }
 {
     if items.is_empty() {
         return Ok(Vec::new(alloc));
@@ -291,7 +292,7 @@ impl Emitable for DefaultNla {
     }
 }
 
-impl Coded for DefaultNla {
+impl HasCodec for DefaultNla {
     ghost use Rattle.netlink_core.specs.DefaultNla.{raw_attribute};
 
     type Param = ();
@@ -301,11 +302,11 @@ impl Coded for DefaultNla {
 
     ghost model = { raw_attribute };
 
-    ghost type_written = { λ _. 0 };
+    ghost serialized_type = { λ _. 0 };
 
-    fn in_range(&self) {
+    fn prove_in_range(&self) {
         let _kind = self.kind;
-        bytes_in_range(self.value.as_slice());
+        prove_bytes_in_range(self.value.as_slice());
     }
 
     ghost eq_is_model = { Prim.search rules };
@@ -327,13 +328,13 @@ impl Wire for DefaultNla {
         )
     }
 
-    ghost written_is = { λ v. refl };
+    ghost bytes_by_codec = { λ v. refl };
 
-    ghost fits_is = { λ v. (λ h. h, λ h. h) };
+    ghost writable_by_codec = { λ v. (λ h. h, λ h. h) };
 }
 
 impl WireNla for DefaultNla {
-    ghost emitted_is = { λ _. refl };
+    ghost bytes_by_attribute = { λ _. refl };
 
-    ghost writable_is = { λ _. (λ h. h, λ h. h) };
+    ghost writable_by_attribute = { λ _. (λ h. h, λ h. h) };
 }

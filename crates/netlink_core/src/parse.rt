@@ -3,10 +3,10 @@
 ghost use Rattle.std.specs.Prelude.{◌≡◌, ◌≢◌, ◌≤◌, ◌++◌, length, drop, string_bytes, None, IsOk};
 ghost use Rattle.std.specs.Prelude.{IfOk, IfErr};
 ghost use Rattle.byteorder.specs.Endian.{little_bytes};
-ghost use Rattle.netlink_core.specs.declared.fault.DecodeError.TheVariants.{Memory};
+ghost use Rattle.netlink_core.specs.declared.error.DecodeError.TheVariants.{Memory};
 ghost use Rattle.netlink_core.specs.Parse.{number_of_width, without_terminating_nul, parse_text};
 
-use crate::fault::DecodeError;
+use crate::error::DecodeError;
 use byteorder::{ByteOrder, LittleEndian};
 use std::alloc::Global;
 use std::str;
@@ -52,7 +52,7 @@ pub fn parse_string(alloc: Global, payload: &[u8]) -> Result<String, DecodeError
     // parse_text: `Ok` of the text's bytes, or `Err NotUtf8`. string_bytes: the bytes of a
     // `String`.
     ensures value { IfOk result (λ text. parse_text payload.now ≡ Ok (string_bytes text)) }
-    ensures fault { IfErr result (λ e. e ≢ Memory → parse_text payload.now ≡ Err e) }
+    ensures error { IfErr result (λ e. e ≢ Memory → parse_text payload.now ≡ Err e) }
     ensures memory { IfErr result (λ e. e ≡ Memory → IsOk (parse_text payload.now)) }
 {
     Ok(String::from_str(alloc, parse_str(payload)?)?)
@@ -65,7 +65,7 @@ pub fn parse_string(alloc: Global, payload: &[u8]) -> Result<String, DecodeError
 pub fn parse_str(payload: &[u8]) -> Result<&str, DecodeError>
     // parse_text: `Ok` of the text's bytes, or `Err NotUtf8`.
     ensures value { IfOk result (λ text. parse_text payload.entry.now ≡ Ok text.now) }
-    ensures fault { IfErr result (λ e. parse_text payload.entry.now ≡ Err e) }
+    ensures error { IfErr result (λ e. parse_text payload.entry.now ≡ Err e) }
 {
     match str::from_utf8(text_bytes(payload)) {
         Ok(text) => Ok(text),

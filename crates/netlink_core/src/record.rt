@@ -4,17 +4,17 @@ ghost use Rattle.std.specs.Prelude.{◌≡◌, ◌≢◌, ◌≤◌, IfErr, ℕ,
 ghost use Rattle.std.specs.Prelude.{refl};
 ghost use Rattle.netlink_core.specs.Layout.{Layout, parse_record, parse_fields, record_bytes};
 ghost use Rattle.netlink_core.specs.Layout.{IsInRange};
-ghost use Rattle.netlink_core.specs.declared.fault.DecodeError.TheVariants.{Memory};
+ghost use Rattle.netlink_core.specs.declared.error.DecodeError.TheVariants.{Memory};
 ghost use Rattle.netlink_core.specs.Codec.{record_codec, RecordLaws};
 
 use crate::{
-    CanonError, Coded, DecodeError, Emitable, Exact, Parseable, ParseableParametrized, ReadParam,
-    Readable, RecordName, Wire, write_new,
+    CanonError, DecodeError, Emitable, Exact, HasCodec, Parseable, ParseableParametrized,
+    ReadParam, Readable, RecordName, Wire, write_new,
 };
 use std::alloc::{AllocError, Global};
 use std::marker::{Model, PhantomData};
 
-/// A record. Every record is also [`Wire`], and so [`Coded`] and [`Emitable`].
+/// A record. Every record is also [`Wire`], and so [`HasCodec`] and [`Emitable`].
 ///
 /// Bytes after the record are ignored. Too few bytes are [`DecodeError::BufferTooSmall`].
 pub trait Record: Exact + Sized {
@@ -52,7 +52,7 @@ pub trait Record: Exact + Sized {
         ensures { buffer.new ≡ record_bytes layout self.now };
 
     /// Proof only: puts the range of each field in scope. No run-time effect.
-    fn fields_in_range(&self)
+    fn prove_fields_in_range(&self)
         // IsInRange layout value: arrays have their lengths, and each number fits its field.
         ensures { IsInRange layout self.now };
 
@@ -68,7 +68,7 @@ pub trait Record: Exact + Sized {
 pub fn read_record<T: Record>(bytes: &[u8], param: T::Param) -> Result<T, DecodeError>
     // parse_record layout param bytes: `Ok` of the value, or `Err` of the first error.
     ensures value { result ≡ parse_record T.layout param bytes.now }
-    ensures named { IfErr result (λ fault. fault ≢ Memory) }
+    ensures named { IfErr result (λ error. error ≢ Memory) }
 {
     let (which, need) = T::name_and_least();
     if bytes.len() < need {
@@ -114,17 +114,17 @@ impl<T: Record> Emitable for T {
     }
 }
 
-impl<T: Record> Coded for T {
+impl<T: Record> HasCodec for T {
     type Param = T::Param;
 
     ghost codec = { record_codec T.layout };
 
     ghost model = { λ value. value };
 
-    ghost type_written = { λ _. 0 };
+    ghost serialized_type = { λ _. 0 };
 
-    fn in_range(&self) {
-        self.fields_in_range();
+    fn prove_in_range(&self) {
+        self.prove_fields_in_range();
     }
 
     ghost eq_is_model = { T.exact.0 };
@@ -133,9 +133,9 @@ impl<T: Record> Coded for T {
 }
 
 impl<T: Record> Wire for T {
-    ghost written_is = { λ _. refl };
+    ghost bytes_by_codec = { λ _. refl };
 
-    ghost fits_is = { λ _. (λ h. h, λ h. h) };
+    ghost writable_by_codec = { λ _. (λ h. h, λ h. h) };
 
     fn read(_alloc: Global, bytes: &[u8], param: T::Param) -> Result<Self, DecodeError> {
         param.prove_in_range();
@@ -147,7 +147,7 @@ impl<T: Record> Wire for T {
         // Borrowed, as moving a large value takes longer than serializing it.
         match &read_record::<T>(bytes, param) {
             Ok(value) => write_new(alloc, value),
-            Err(fault) => Err(CanonError::Refused(*fault)),
+            Err(error) => Err(CanonError::Refused(*error)),
         }
     }
 }

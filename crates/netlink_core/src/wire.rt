@@ -6,14 +6,14 @@ ghost use Rattle.netlink_core.specs.Bytes.{IsBytes};
 ghost use Rattle.netlink_core.specs.Canonical.{CanonicalFails, HasCanonicalForm};
 ghost use Rattle.netlink_core.specs.Canonical.{CanonicalFormFails};
 ghost use Rattle.netlink_core.specs.Codec.{Codec, KeepsCodecLaws};
-ghost use Rattle.netlink_core.specs.declared.fault.DecodeError.TheVariants.{Memory};
+ghost use Rattle.netlink_core.specs.declared.error.DecodeError.TheVariants.{Memory};
 
 use crate::{CanonError, DecodeError, Emitable, ReadParam, Readable};
 use std::alloc::Global;
 
 /// A type with a codec, which states how its values are parsed, serialized and compared, and with
 /// the properties of this codec.
-pub trait Coded: PartialEq + Sized {
+pub trait HasCodec: PartialEq + Sized {
     /// The parameter of the parser.
     type Param: ReadParam;
 
@@ -24,7 +24,7 @@ pub trait Coded: PartialEq + Sized {
 
     // The type field of the netlink header (`nlmsg_type`) of a message; 0 if the values are not
     // messages.
-    ghost type_written: { codec.Value → ℕ };
+    ghost serialized_type: { codec.Value → ℕ };
 
     /// Returns whether both values have the same model. This is what `==` returns.
     fn equal(&self, other: &Self) -> bool
@@ -34,87 +34,91 @@ pub trait Coded: PartialEq + Sized {
     }
 
     /// Proof only: puts the range of each number in scope. No run-time effect.
-    fn in_range(&self)
+    fn prove_in_range(&self)
         ensures { codec.is_in_range (model self.now) };
 
     // `==` compares the models.
     ghost eq_is_model: { (v w : Self) → IsTrue (Self.eq v w) ↔ (model v ≡ model w) };
 
-    // The codec laws. For example, bytes have one value or one error, equivalent (`idle`) bytes
+    // The codec laws. For example, bytes have one value or one error, equivalent bytes
     // have equal values, and writable values in normal form round-trip.
     ghost laws: { KeepsCodecLaws codec };
 
     // The rest follows from these laws, for every type.
     // On accepted bytes, equivalence is reflexive, symmetric and transitive.
-    ghost idle_reflexive: { (b : List ℕ) (p : Self.Param) (v : codec.Value) → IsBytes b
-        → codec.reads b p v
-        → codec.idle p b b } = { λ b p v tb r. (laws.same_value b b p v v tb tb r r).0 refl };
+    ghost equivalent_reflexive: { (b : List ℕ) (p : Self.Param) (v : codec.Value) → IsBytes b
+        → codec.parses b p v
+        → codec.equivalent p b b } = { λ b p v tb r.
+            (laws.equal_iff_equivalent b b p v v tb tb r r).0 refl };
 
-    ghost idle_symmetric: { (b c : List ℕ) (p : Self.Param) (v w : codec.Value) → IsBytes b
+    ghost equivalent_symmetric: { (b c : List ℕ) (p : Self.Param) (v w : codec.Value) → IsBytes b
         → IsBytes c
-        → codec.reads b p v → codec.reads c p w → codec.idle p b c
-        → codec.idle p c b } = { λ b c p v w tb tc r s h.
-            (laws.same_value c b p w v tc tb s r).0
-            (sym ((laws.same_value b c p v w tb tc r s).1 h)) };
+        → codec.parses b p v → codec.parses c p w → codec.equivalent p b c
+        → codec.equivalent p c b } = { λ b c p v w tb tc r s h.
+            (laws.equal_iff_equivalent c b p w v tc tb s r).0
+            (sym ((laws.equal_iff_equivalent b c p v w tb tc r s).1 h)) };
 
-    ghost idle_transitive: { (b c d : List ℕ) (p : Self.Param) (v w x : codec.Value) → IsBytes b
+    ghost equivalent_transitive: { (b c d : List ℕ) (p : Self.Param) (v w x : codec.Value)
+        → IsBytes b
         → IsBytes c → IsBytes d
-        → codec.reads b p v → codec.reads c p w → codec.reads d p x → codec.idle p b c
-        → codec.idle p c d → codec.idle p b d } = { λ b c d p v w x tb tc td r s t h k.
-            (laws.same_value b d p v x tb td r t).0
-            ((laws.same_value b c p v w tb tc r s).1 h
-            ∙ (laws.same_value c d p w x tc td s t).1 k) };
+        → codec.parses b p v → codec.parses c p w → codec.parses d p x → codec.equivalent p b c
+        → codec.equivalent p c d → codec.equivalent p b d } = { λ b c d p v w x tb tc td r s t h k.
+            (laws.equal_iff_equivalent b d p v x tb td r t).0
+            ((laws.equal_iff_equivalent b c p v w tb tc r s).1 h
+            ∙ (laws.equal_iff_equivalent c d p w x tc td s t).1 k) };
 
     // Bytes have at most one value.
     ghost one_value: { (b : List ℕ) (p : Self.Param) (v w : codec.Value) → IsBytes b
-        → codec.reads b p v → codec.reads b p w → v ≡ w } = { λ b p v w tb r s.
-            (laws.same_value b b p v w tb tb r s).1
-            ((laws.same_value b b p v v tb tb r r).0 refl) };
+        → codec.parses b p v → codec.parses b p w → v ≡ w } = { λ b p v w tb r s.
+            (laws.equal_iff_equivalent b b p v w tb tb r s).1
+            ((laws.equal_iff_equivalent b b p v v tb tb r r).0 refl) };
 
     // Writable values that are in range and in normal form are equal if they serialize to the same
     // bytes.
     ghost equal_by_bytes: { (p : Self.Param) (v w : codec.Value) → codec.is_in_range v
         → codec.is_in_range w → codec.is_normal p v → codec.is_normal p w
-        → codec.fits v → codec.fits w → codec.written v ≡ codec.written w
+        → codec.is_writable v → codec.is_writable w → codec.serialized v ≡ codec.serialized w
         → v ≡ w } = { λ p v w tv tw nv nw fv fw e.
-            one_value (codec.written w) p v w (laws.written_bytes w tw)
-            (subst (λ (b : List ℕ). codec.reads b p v) e (laws.reads_back p v tv nv fv))
-            (laws.reads_back p w tw nw fw) };
+            one_value (codec.serialized w) p v w (laws.serialized_in_range w tw)
+            (subst (λ (b : List ℕ). codec.parses b p v) e (laws.round_trips p v tv nv fv))
+            (laws.round_trips p w tw nw fw) };
 
     // The bytes that a writable parsed value serializes to are equivalent to the bytes that it was
     // parsed from.
-    ghost idle_with_written: { (b : List ℕ) (p : Self.Param) (v : codec.Value) → IsBytes b
-        → codec.reads b p v → codec.fits v
-        → codec.idle p b (codec.written v) } = { λ b p v tb r f.
-            let n = laws.reads_normal b p v tb r in
-            (laws.same_value b (codec.written v) p v v tb (laws.written_bytes v n.0) r
-            (laws.reads_back p v n.0 n.1 f)).0 refl };
+    ghost equivalent_to_serialized: { (b : List ℕ) (p : Self.Param) (v : codec.Value) → IsBytes b
+        → codec.parses b p v → codec.is_writable v
+        → codec.equivalent p b (codec.serialized v) } = { λ b p v tb r f.
+            let n = laws.parsed_is_normal b p v tb r in
+            (laws.equal_iff_equivalent b (codec.serialized v) p v v tb (laws.serialized_in_range v
+            n.0) r
+            (laws.round_trips p v n.0 n.1 f)).0 refl };
 
     // A writable value in range round-trips if and only if it is in normal form.
-    ghost reads_back_exactly: { (p : Self.Param) (v : codec.Value) → codec.is_in_range v
-        → codec.fits v
-        → (codec.reads (codec.written v) p v ↔ codec.is_normal p v) } = { λ p v tv f. (
-          λ r. (laws.reads_normal (codec.written v) p v (laws.written_bytes v tv) r).1,
-          λ n. laws.reads_back p v tv n f,
+    ghost round_trips_iff_normal: { (p : Self.Param) (v : codec.Value) → codec.is_in_range v
+        → codec.is_writable v
+        → (codec.parses (codec.serialized v) p v ↔ codec.is_normal p v) } = { λ p v tv f. (
+          λ r. (laws.parsed_is_normal (codec.serialized v) p v (laws.serialized_in_range v tv) r).1,
+          λ n. laws.round_trips p v tv n f,
         ) };
 
     // Accepted bytes with writable values serialize to the same bytes if and only if they are
     // equivalent.
-    ghost written_alike: { (b c : List ℕ) (p : Self.Param) (v w : codec.Value) → IsBytes b
+    ghost same_bytes_iff_equivalent: { (b c : List ℕ) (p : Self.Param) (v w : codec.Value)
+        → IsBytes b
         → IsBytes c
-        → codec.reads b p v → codec.reads c p w → codec.fits v → codec.fits w
-        → ((codec.written v ≡ codec.written w)
-        ↔ codec.idle p b c) } = { λ b c p v w tb tc r s fv fw.
-            let same = laws.same_value b c p v w tb tc r s in
-            let n = laws.reads_normal b p v tb r in
-            let m = laws.reads_normal c p w tc s in (
+        → codec.parses b p v → codec.parses c p w → codec.is_writable v → codec.is_writable w
+        → ((codec.serialized v ≡ codec.serialized w)
+        ↔ codec.equivalent p b c) } = { λ b c p v w tb tc r s fv fw.
+            let same = laws.equal_iff_equivalent b c p v w tb tc r s in
+            let n = laws.parsed_is_normal b p v tb r in
+            let m = laws.parsed_is_normal c p w tc s in (
               λ e. same.0 (equal_by_bytes p v w n.0 m.0 n.1 m.1 fv fw e),
-              λ i. ap codec.written (same.1 i),
+              λ i. ap codec.serialized (same.1 i),
             ) };
 }
 
 /// A type that is parsed and serialized as its codec states.
-pub trait Wire: Coded + Readable + Emitable {
+pub trait Wire: HasCodec + Readable + Emitable {
     /// Parses a value, or returns the first decode error. Fails with `Memory` only if a parser of
     /// the type can (`TAKES_MEMORY`), and if the bytes have a value that needs to allocate.
     fn read(alloc: Global, bytes: &[u8], param: Self::Param) -> Result<Self, DecodeError>
@@ -122,13 +126,13 @@ pub trait Wire: Coded + Readable + Emitable {
         // it is stated for the proofs of callers.
         ensures in_range { IsBytes bytes.now }
         ensures param_in_range { Self.Param.is_in_range param }
-        ensures value { IfOk result (λ v. Self.codec.reads bytes.now param (Self.model v)) }
-        ensures fault { IfErr result (λ e. e ≢ Memory → Self.codec.refuses bytes.now param e) }
+        ensures value { IfOk result (λ v. Self.codec.parses bytes.now param (Self.model v)) }
+        ensures error { IfErr result (λ e. e ≢ Memory → Self.codec.rejects bytes.now param e) }
         ensures memory { IfErr result (λ e. e ≡ Memory → IsTrue Self.TAKES_MEMORY) }
         // `Memory` only if the bytes have a value, and this value needs to allocate.
-        ensures wanted { IfErr result (λ e. e ≡ Memory
-            → (v : Self.codec.Value) × Self.codec.reads bytes.now param v
-            × ¬ Self.codec.is_spare v) };
+        ensures memory_needed { IfErr result (λ e. e ≡ Memory
+            → (v : Self.codec.Value) × Self.codec.parses bytes.now param v
+            × ¬ Self.codec.needs_no_memory v) };
 
     /// Returns the canonical form of the bytes, as [`canonical`](crate::canonical) does: the bytes
     /// that their value serializes to. Fails with `Refused` and the first decode error, with
@@ -149,19 +153,20 @@ pub trait Wire: Coded + Readable + Emitable {
         ensures err { IfErr result (CanonicalFormFails Self.codec param bytes.now) };
 
     // `Emitable` serializes to the bytes that the codec states.
-    ghost written_is: { (v : Self) → Self.bytes v ≡ Self.codec.written (Self.model v) };
+    ghost bytes_by_codec: { (v : Self) → Self.bytes v ≡ Self.codec.serialized (Self.model v) };
 
     // A value is writable for `Emitable` if and only if it is writable by the codec.
-    ghost fits_is: { (v : Self) → (Self.writable v ↔ Self.codec.fits (Self.model v)) };
+    ghost writable_by_codec: { (v : Self) → (Self.writable v
+        ↔ Self.codec.is_writable (Self.model v)) };
 }
 
 /// Serializes a value to a new vector of exactly its bytes. Fails with `Unwritable` if the value is
 /// not writable, and with `Memory` only if it is.
 pub fn write_new<T: Emitable>(alloc: Global, value: &T) -> Result<Vec<u8>, CanonError>
     ensures written { IfOk result (λ c. T.writable value.now × (c.items ≡ T.bytes value.now)) }
-    // CanonicalFails reads refuses fits error: why nothing is returned. Here the only value is this
-    // one (`reads`), and there are no decode errors (`refuses`).
-    ensures err { IfErr result (CanonicalFails (λ v. v ≡ value.now) (λ fault. ⊥) T.writable) }
+    // CanonicalFails parses rejects is_writable error: why nothing is returned. Here the only value
+    // is this one (`parses`), and there are no decode errors (`rejects`).
+    ensures err { IfErr result (CanonicalFails (λ v. v ≡ value.now) (λ error. ⊥) T.writable) }
 {
     let Some(len) = value.writable_len() else {
         return Err(CanonError::Unwritable);
@@ -172,12 +177,12 @@ pub fn write_new<T: Emitable>(alloc: Global, value: &T) -> Result<Vec<u8>, Canon
 }
 
 /// Proof only: puts in scope that each byte is below 256. No run-time effect. Like
-/// [`word_in_range`] it is for implementations of [`Coded::in_range`].
-pub fn bytes_in_range(_bytes: &[u8])
+/// [`prove_u32_in_range`] it is for implementations of [`HasCodec::prove_in_range`].
+pub fn prove_bytes_in_range(_bytes: &[u8])
     ensures { IsBytes _bytes.now }
 {}
 
 /// Proof only: puts in scope that the number is below 2^32. No run-time effect.
-pub fn word_in_range(_word: u32)
+pub fn prove_u32_in_range(_word: u32)
     ensures { _word < 256 ^ 4 }
 {}

@@ -6,18 +6,18 @@ use Rattle.std.proofs.Common.{◌∙◌, append_assoc, arith, Bool, IsTrue, ◌%
 use Rattle.std.specs.Prelude.{MatchOption, Option, Some, None, Result, Ok, Err, slice_get, IsBitSet}
 use Rattle.std.specs.List.{AllByRecursion, AllZip, concat, flat_map}
 use Rattle.std.proofs.lemmas.List.{append-nil}
-use Rattle.netlink_core.specs.declared.fault.DecodeError.{DecodeError}
+use Rattle.netlink_core.specs.declared.error.DecodeError.{DecodeError}
 use Rattle.netlink_core.specs.declared.header.NetlinkHeader.{NetlinkHeader}
 use Rattle.netlink_core.specs.Bytes.{IsBytes}
 use Rattle.netlink_core.specs.Codec.{Codec, KeepsCodecLaws}
 use Rattle.netlink_core.specs.Header.{HasHeader}
-use Rattle.netlink_core.specs.declared.fault.DecodeError.TheVariants.{Memory}
+use Rattle.netlink_core.specs.declared.error.DecodeError.TheVariants.{Memory}
 use Rattle.netlink_core.specs.laws.Byte.{IsBytes-nil}
 use Rattle.netlink_core.specs.Datagram.{SplitsIntoMessages, StartsWithMessage}
 use Rattle.netlink_core.specs.Items.{Item, IsItemOf, AreItemsOf}
 use Rattle.netlink_core.proofs.Datagrams.{one_message, starts_in_concatenation}
 use Rattle.netlink_core.proofs.Framing.{message_or_error_apart, one_message_error}
-use Rattle.netlink_core.proofs.Idle.{messages_equal_iff_equivalent}
+use Rattle.netlink_core.proofs.Equivalence.{messages_equal_iff_equivalent}
 use Rattle.netlink_core.proofs.Items.{no_items, items_of, items_of_concatenation}
 use Rattle.netlink_core.proofs.Items.{one_item, one_list_by, items_of_padded_messages}
 use Rattle.netlink_packet_sock_diag.specs.declared.dump.DumpState.TheVariants.{Reading, Failed}
@@ -457,17 +457,17 @@ module _ {A : Type 0} (item_is : List ℕ → Item A → Type 0) where
 
 module _ (C : Codec ℕ) (laws : KeepsCodecLaws C) where
   pub some_items : SomeItems (IsItemOf C)
-  some_items = items_of C laws.answered
+  some_items = items_of C laws.is_total
 
   -- a message has at most one item
   pub one_item_of : (message : List ℕ) → IsBytes message → (i j : Item C.Value)
       → IsItemOf C message i → IsItemOf C message j → i ≡ j
   one_item_of =
-      let same = messages_equal_iff_equivalent C laws.same_value in
+      let same = messages_equal_iff_equivalent C laws.equal_iff_equivalent in
       one_item C (λ b v w in_range r s. (same b b v w in_range in_range r s).1
       ((same b b v v in_range in_range r r).0 refl))
-      (λ b v e. message_or_error_apart C b v e (λ x t m. laws.one_answer x t m e))
-      (λ b e f. one_message_error C b e f (λ x t. laws.one_fault x t e f))
+      (λ b v e. message_or_error_apart C b v e (λ x t m. laws.is_exclusive x t m e))
+      (λ b e f. one_message_error C b e f (λ x t. laws.error_is_unique x t e f))
 
   pub one_list_of : OneList (IsItemOf C)
   one_list_of = one_list_by (IsItemOf C) one_item_of
@@ -491,13 +491,13 @@ module _ {A : Type 0} (item_is : List ℕ → Item A → Type 0) (some : SomeIte
       → ReadsDatagram item_is new_dump datagram progress end
       → status_of_dump progress ≡ state_left item_is end → end ≢ Err Memory
       → FeedingAllLeadsTo item_is new_dump (datagram ∷ []) progress
-  feeding_one datagram progress (Ok status) reads is some =
-      (progress, (Ok tt, (refl, rw (← is) at reads), λ e. grind arith), refl)
-  feeding_one datagram progress (Err e) reads is some = (
+  feeding_one datagram progress (Ok status) parses is some =
+      (progress, (Ok tt, (refl, rw (← is) at parses), λ e. grind arith), refl)
+  feeding_one datagram progress (Err e) parses is some = (
     progress,
     (
       Err (Fault e),
-      (refl, is, λ no. reads, λ m. grind (arith, some)),
+      (refl, is, λ no. parses, λ m. grind (arith, some)),
       λ same. grind (arith, some),
     ),
     refl,

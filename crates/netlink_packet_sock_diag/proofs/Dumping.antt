@@ -4,8 +4,8 @@ use Rattle.std.proofs.Common.{append_assoc, arith, Bool, IsTrue}
 use Rattle.std.specs.Prelude.{Some, None, Ok, Err, IsBitSet}
 use Rattle.std.proofs.lemmas.List.{append-nil}
 use Rattle.netlink_core.specs.Bytes.{IsBytes}
-use Rattle.netlink_core.specs.declared.fault.DecodeError.{DecodeError}
-use Rattle.netlink_core.specs.declared.fault.DecodeError.TheVariants.{Memory}
+use Rattle.netlink_core.specs.declared.error.DecodeError.{DecodeError}
+use Rattle.netlink_core.specs.declared.error.DecodeError.TheVariants.{Memory}
 use Rattle.netlink_core.specs.declared.header.NetlinkHeader.{NetlinkHeader}
 use Rattle.netlink_core.specs.Header.{HasHeader, IsMessageError}
 use Rattle.netlink_core.specs.Datagram.{StartsWithMessage}
@@ -94,11 +94,11 @@ module _ {A : Type 0} {item_is : List ℕ → Item A → Type 0} {datagram rest 
       → (e ≢ Memory → ReadsDatagram item_is (dump_with before reading_status was) datagram
       (dump_with after reading_status is) (Err e))
       × (e ≡ Memory → T)
-  rest_is_framing_error {e} some fault = (
+  rest_is_framing_error {e} some error = (
     λ named. datagram_read_to_end (Err e ∷ []) (Err e)
-        (error_is_only_item item_is rest e some fault) refl
-        (λ (m, next, s, _). no_error_at_message rest m next e s fault),
-    λ memory. absurd (rw memory at fault),
+        (error_is_only_item item_is rest e some error) refl
+        (λ (m, next, s, _). no_error_at_message rest m next e s error),
+    λ memory. absurd (rw memory at error),
   )
 
 module _ {A : Type 0} {item_is : List ℕ → Item A → Type 0} {datagram next : List ℕ}

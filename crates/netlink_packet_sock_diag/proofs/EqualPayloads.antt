@@ -6,7 +6,7 @@ use denote.RattleType.{RattleType}
 use Rattle.std.specs.declared.cmp.PartialEq.{Ghosts}
 use Rattle.netlink_core.specs.declared.message.NetlinkPayload.{NetlinkPayload}
 use Rattle.netlink_core.specs.contracts.message.NetlinkPayloadPartialEq.TheImpl.{ghosts}
-use Rattle.netlink_core.specs.EnvelopeModel.{payload_model}
+use Rattle.netlink_core.specs.NetlinkMessageModel.{payload_model}
 
 -- over the types of inner messages and of bytes, and `==` of them
 module _ (I B : RattleType) (i : Ghosts I.Denot) (b : Ghosts B.Denot) {A : Type 0}

@@ -6,7 +6,7 @@ use Rattle.netlink_core.specs.Attribute.{Attribute, padding_length, header_and_v
 use Rattle.netlink_core.specs.Attribute.{attribute_bytes}
 use Rattle.netlink_core.specs.AttributeSet.{encode_attribute}
 use Rattle.netlink_core.specs.Response.{ResponseSpec, ReplyValue, response_bytes}
-use Rattle.netlink_core.specs.laws.Shown.{ResponseLaws}
+use Rattle.netlink_core.specs.laws.ReplyObligations.{ResponseLaws}
 
 -- the length of an attribute with its padding is a multiple of four
 written_multiple : (a : Attribute) → length (attribute_bytes a) % 4 ≡ 0

@@ -1,9 +1,9 @@
 pub mod Lengths
-pub mod Envelopes
+pub mod NetlinkMessages
 pub mod Dumping
 pub mod DumpRows
 pub mod LossyDumps
 pub mod Feeding
-pub mod WholeViews
+pub mod CompleteViews
 mod EqualPayloads
 mod Rewriting

@@ -7,15 +7,15 @@ use Rattle.std.specs.List.{AllZip}
 use Rattle.std.proofs.lemmas.List.{append-nil, map-append}
 use Rattle.netlink_core.specs.Codec.{Codec, KeepsCodecLaws}
 use Rattle.netlink_core.specs.Datagram.{SplitsIntoMessages}
-use Rattle.netlink_core.specs.declared.fault.DecodeError.{DecodeError}
+use Rattle.netlink_core.specs.declared.error.DecodeError.{DecodeError}
 use Rattle.netlink_core.specs.declared.message.NetlinkPayload.TheVariants.{InnerMessage, Noop}
 use Rattle.netlink_core.specs.Header.{IsMessageError}
 use Rattle.netlink_core.specs.Items.{Item, IsItemOf}
 use Rattle.netlink_core.proofs.Items.{items_by_messages, one_list_by}
 use Rattle.netlink_packet_sock_diag.specs.Dump.{DumpOfDatagrams, DumpStatus}
 use Rattle.netlink_packet_sock_diag.specs.Lossy.{HasLossyEntry}
-use Rattle.netlink_packet_sock_diag.specs.laws.Kept.{entry_of_item, is_entry, one_entry}
-use Rattle.netlink_packet_sock_diag.specs.laws.Kept.{entries_determine_items}
+use Rattle.netlink_packet_sock_diag.specs.laws.DumpEntry.{entry_of_item, is_entry, one_entry}
+use Rattle.netlink_packet_sock_diag.specs.laws.DumpEntry.{entries_determine_items}
 use Rattle.netlink_packet_sock_diag.proofs.DumpRows.{OneList, SomeItems, dump_is, dump_of_one}
 use Rattle.netlink_packet_sock_diag.proofs.DumpRows.{one_item_of, reach}
 

@@ -3,10 +3,10 @@ use Rattle.std.specs.Prelude.{◌≡◌, ◌%◌, length, ℕ, ℤ, List, [], �
 use Rattle.std.specs.Prelude.{None, MatchOption, Result, Ok, Err, slice_get}
 use Rattle.std.specs.List.{AllByRecursion, AllZip, concat, flat_map}
 use Rattle.netlink_core.specs.Bytes.{IsBytes}
-use Rattle.netlink_core.specs.declared.fault.DecodeError.{DecodeError}
+use Rattle.netlink_core.specs.declared.error.DecodeError.{DecodeError}
 use Rattle.netlink_core.specs.Datagram.{SplitsIntoMessages}
 use Rattle.netlink_core.specs.declared.message.NetlinkPayload.TheVariants as payload
-use Rattle.netlink_core.specs.Envelope.{leading_error_number}
+use Rattle.netlink_core.specs.NetlinkMessage.{leading_error_number}
 use Rattle.netlink_core.specs.Items.{Item, AreItemsOf}
 use Rattle.netlink_packet_sock_diag.specs.declared.dump.DumpState.{DumpState}
 use Rattle.netlink_packet_sock_diag.specs.declared.dump.DumpState.TheVariants.{Reading, Done, Error}

@@ -1,39 +1,40 @@
 -- The model of the readers of dumps: what contracts see of them. `I` is the type of what a reader
--- keeps of each message, and `G` are the ghost members of its `Kept`.
+-- keeps of each message, and `G` are the ghost members of its `DumpEntry`.
 use Rattle.std.specs.Prelude.{◌≤◌, List, Result, map, vec_capacity, vec_len}
-use Rattle.netlink_core.specs.Faults.{map_ok}
-use Rattle.netlink_core.specs.declared.fault.DecodeError.{DecodeError}
+use Rattle.netlink_core.specs.Errors.{map_ok}
+use Rattle.netlink_core.specs.declared.error.DecodeError.{DecodeError}
 use Rattle.netlink_packet_sock_diag.specs.declared.dump.DumpReader.{DumpReader}
-use Rattle.netlink_packet_sock_diag.specs.declared.dump.fed.FedDump.{FedDump}
-use Rattle.netlink_packet_sock_diag.specs.declared.dump.kept.Kept.{Ghosts}
+use Rattle.netlink_packet_sock_diag.specs.declared.dump.generic.GenericDump.{GenericDump}
+use Rattle.netlink_packet_sock_diag.specs.declared.dump.entry.DumpEntry.{Ghosts}
 use Rattle.netlink_packet_sock_diag.specs.declared.dump.lossy.LossyDump.{LossyDump}
 use Rattle.netlink_packet_sock_diag.specs.declared.message.SockDiagMessage.{SockDiagMessage}
 use Rattle.netlink_packet_sock_diag.specs.Feed.{DumpProgress, dump_with}
 use Rattle.netlink_packet_sock_diag.specs.Message.{Message}
 use Rattle.netlink_packet_sock_diag.specs.MessageModel.{message_model}
 
--- `fed_dump_progress model dump`: the progress of a reader; its messages are the models of the
+-- `generic_dump_progress model dump`: the progress of a reader; its messages are the models of the
 -- values that it keeps, in order
-abbrev pub fed_dump_progress : {I A : Type 0} {G : Ghosts I} → (I → A) → FedDump I G
+abbrev pub generic_dump_progress : {I A : Type 0} {G : Ghosts I} → (I → A) → GenericDump I G
     → DumpProgress A
-fed_dump_progress model dump = dump_with (map model dump.kept.items) dump.standing dump.interrupted
+generic_dump_progress model dump = dump_with
+    (map model dump.entries.items) dump.status dump.interrupted
 
 -- the list of what it keeps has no free slot, so that another entry needs memory
-abbrev pub IsFull : {I : Type 0} {G : Ghosts I} → FedDump I G → Type 0
-IsFull dump = vec_capacity dump.kept ≤ vec_len dump.kept
+abbrev pub IsFull : {I : Type 0} {G : Ghosts I} → GenericDump I G → Type 0
+IsFull dump = vec_capacity dump.entries ≤ vec_len dump.entries
 
 -- the progress of a `DumpReader`; its messages are the models of the messages that it keeps
 abbrev pub reader_progress : DumpReader → DumpProgress Message
-reader_progress reader = fed_dump_progress message_model reader.dump
+reader_progress reader = generic_dump_progress message_model reader.dump
 
 -- the entries of a `LossyDump`: messages, and the decode errors of rejected ones
 abbrev pub lossy_entries : LossyDump → List (Result SockDiagMessage DecodeError)
-lossy_entries lossy = lossy.dump.kept.items
+lossy_entries lossy = lossy.dump.entries.items
 
 -- the progress of a `LossyDump`; its messages are its entries, with the models of the messages in
 -- them
 abbrev pub lossy_progress : LossyDump → DumpProgress (Result Message DecodeError)
-lossy_progress lossy = fed_dump_progress (map_ok message_model) lossy.dump
+lossy_progress lossy = generic_dump_progress (map_ok message_model) lossy.dump
 
 -- the list of entries of a `LossyDump` has no free slot, so that another entry needs memory
 abbrev pub EntriesAreFull : LossyDump → Type 0

@@ -1,6 +1,6 @@
 -- The iterator over the messages of a datagram, each as its payload: its state and its steps.
 use Rattle.std.specs.Prelude.{◌≡◌, ◌≢◌, ◌⊎◌, ℕ, List, [], Option, Result, Err, MatchOption}
-use Rattle.netlink_core.specs.declared.fault.DecodeError.{DecodeError}
+use Rattle.netlink_core.specs.declared.error.DecodeError.{DecodeError}
 use Rattle.netlink_core.specs.Datagram.{StartsWithMessage}
 use Rattle.netlink_core.specs.DatagramWalk.{unread_messages}
 use Rattle.netlink_core.specs.Header.{IsMessageError}
@@ -8,7 +8,7 @@ use Rattle.netlink_core.specs.Items.{IsItemOf}
 use Rattle.netlink_packet_sock_diag.specs.declared.dump.views.DumpViews.{DumpViews}
 use Rattle.netlink_packet_sock_diag.specs.PayloadViewModel.{PayloadView}
 use Rattle.netlink_packet_sock_diag.specs.Message.{message_codec}
-use Rattle.netlink_core.specs.Faults.{map_ok}
+use Rattle.netlink_core.specs.Errors.{map_ok}
 use Rattle.netlink_packet_sock_diag.specs.PayloadViewModel.{payload_view_model}
 
 -- the bytes that the iterator has not read yet

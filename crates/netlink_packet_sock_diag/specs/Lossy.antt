@@ -1,10 +1,10 @@
 -- The entries of a dump that continues after invalid messages.
 use Rattle.std.specs.Prelude.{ℕ, List, ◌-◌, take, drop, Result, Ok, Err, MatchResult}
 use Rattle.netlink_core.specs.Codec.{Codec}
-use Rattle.netlink_core.specs.Envelope.{ParsesAsPayload}
+use Rattle.netlink_core.specs.NetlinkMessage.{ParsesAsPayload}
 use Rattle.netlink_core.specs.Header.{HasHeader}
 use Rattle.netlink_core.specs.Items.{Item}
-use Rattle.netlink_core.specs.declared.fault.DecodeError.{DecodeError}
+use Rattle.netlink_core.specs.declared.error.DecodeError.{DecodeError}
 use Rattle.netlink_core.specs.declared.header.NetlinkHeader.{NetlinkHeader}
 
 -- `HasLossyEntry C message item`: the message starts with a netlink header `h`, and `item` is `Ok`
@@ -14,6 +14,6 @@ use Rattle.netlink_core.specs.declared.header.NetlinkHeader.{NetlinkHeader}
 -- a message do.
 abbrev pub HasLossyEntry : (C : Codec ℕ) → List ℕ → Item (Result C.Value DecodeError) → Type 0
 HasLossyEntry C message (Ok payload) = (h : NetlinkHeader) × HasHeader message h
-    × ParsesAsPayload (λ b t entry. MatchResult entry (C.reads b t) (C.refuses b t))
+    × ParsesAsPayload (λ b t entry. MatchResult entry (C.parses b t) (C.rejects b t))
     (take (h.length - 16) (drop 16 message)) h.message_type payload
 HasLossyEntry C message (Err e) = ⊥

@@ -2,7 +2,7 @@
 -- are parsed.
 use Rattle.std.specs.Prelude.{◌≡◌, ℕ, ◌⊎◌, Ok, Err}
 use Rattle.netlink_core.specs.Codec.{Codec, record_codec}
-use Rattle.netlink_core.specs.Envelope.{netlink_codec}
+use Rattle.netlink_core.specs.NetlinkMessage.{netlink_codec}
 use Rattle.netlink_core.specs.Response.{response_codec}
 use Rattle.sock_diag_records.specs.InetRequest.{inet_request as inet_request_layout}
 use Rattle.sock_diag_records.specs.UnixRequest.{unix_request as unix_request_layout}
@@ -39,23 +39,23 @@ message_codec = record {
   Value = Message;
   is_in_range = apply_by_kind (λ k v. (codec_of_message_kind k).is_in_range v);
   -- the bytes dispatch to this kind of reply under the type, and parse as this value
-  reads = λ b t m. apply_by_kind
-      (λ k v. (response_kind b t ≡ Ok k) × (codec_of_message_kind k).reads b tt v) m;
+  parses = λ b t m. apply_by_kind
+      (λ k v. (response_kind b t ≡ Ok k) × (codec_of_message_kind k).parses b tt v) m;
   -- the bytes dispatch to no reply, or the reply of their kind is rejected
-  refuses = λ b t e. (response_kind b t ≡ Err e)
+  rejects = λ b t e. (response_kind b t ≡ Err e)
       ⊎ ((kind : MessageKind) × (response_kind b t ≡ Ok kind)
-      × (codec_of_message_kind kind).refuses b tt e);
+      × (codec_of_message_kind kind).rejects b tt e);
   -- no message counts as a value that needs no memory
-  is_spare = λ m. ⊥;
+  needs_no_memory = λ m. ⊥;
   -- both dispatch to the same kind of reply, and are equivalent as such replies
-  idle = λ t b c. (kind : MessageKind) × (response_kind b t ≡ Ok kind)
-      × (response_kind c t ≡ Ok kind) × (codec_of_message_kind kind).idle tt b c;
+  equivalent = λ t b c. (kind : MessageKind) × (response_kind b t ≡ Ok kind)
+      × (response_kind c t ≡ Ok kind) × (codec_of_message_kind kind).equivalent tt b c;
   -- a reply in normal form, under the type 20
   is_normal = λ t m. apply_by_kind (λ k v. (t ≡ 20) × ((k ≡ inet_response) ⊎ (k ≡ unix_response))
       × (codec_of_message_kind k).is_normal tt v) m;
-  written = apply_by_kind (λ k v. (codec_of_message_kind k).written v);
+  serialized = apply_by_kind (λ k v. (codec_of_message_kind k).serialized v);
   -- the lengths of the reply fit their fields; the lengths of a request always do
-  fits = apply_by_kind (λ k v. (codec_of_message_kind k).fits v);
+  is_writable = apply_by_kind (λ k v. (codec_of_message_kind k).is_writable v);
 }
 
 -- the codec of netlink messages: a netlink header, and a message of sock_diag(7) or a control

@@ -3,8 +3,8 @@
 use Rattle.std.specs.Prelude.{ℕ, List}
 use Rattle.std.specs.Borrow.{Bor}
 use Rattle.netlink_core.specs.declared.message.NetlinkPayload.{NetlinkPayload}
-use Rattle.netlink_core.specs.Envelope.{Payload, NetlinkMessageModel}
-use Rattle.netlink_core.specs.EnvelopeModel.{payload_model}
+use Rattle.netlink_core.specs.NetlinkMessage.{Payload, NetlinkMessageModel}
+use Rattle.netlink_core.specs.NetlinkMessageModel.{payload_model}
 use Rattle.netlink_packet_sock_diag.specs.declared.dump.views.MessageView.{MessageView}
 use Rattle.netlink_packet_sock_diag.specs.declared.message.SockDiagView.{SockDiagView}
 use Rattle.netlink_packet_sock_diag.specs.Message.{Message}

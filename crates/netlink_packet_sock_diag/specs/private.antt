@@ -1,2 +1,2 @@
 -- Definitions that only the contracts of private functions use.
-pub mod Kept
+pub mod DumpEntry

@@ -5,25 +5,26 @@ ghost use Rattle.std.specs.Prelude.{length, count_by, IsTrue, Result, IfOk, IsOk
 ghost use Rattle.std.specs.Iterator.{Drains};
 ghost use Rattle.std.specs.List.{AllByRecursion, concat};
 ghost use Rattle.netlink_core.specs.Bytes.{IsBytes};
-ghost use Rattle.netlink_core.specs.declared.fault.DecodeError.{DecodeError};
-ghost use Rattle.netlink_core.specs.declared.fault.DecodeError.TheVariants.{Memory};
-ghost use Rattle.netlink_core.specs.declared.fault.DecodeError.TheVariants.{UnknownMessageType};
+ghost use Rattle.netlink_core.specs.declared.error.DecodeError.{DecodeError};
+ghost use Rattle.netlink_core.specs.declared.error.DecodeError.TheVariants.{Memory};
+ghost use Rattle.netlink_core.specs.declared.error.DecodeError.TheVariants.{UnknownMessageType};
 ghost use Rattle.netlink_core.specs.declared.header.NetlinkHeader.{NetlinkHeader};
 ghost use Rattle.netlink_core.specs.Header.{IsMessageError, header_fields, header_values};
 ghost use Rattle.netlink_core.specs.Table.{FitFields};
 ghost use Rattle.netlink_core.specs.Canonical.{HasCanonicalForm};
-ghost use Rattle.netlink_core.specs.Envelope.{Payload, NetlinkMessageModel, HoldsOfInnerMessage};
-ghost use Rattle.netlink_core.specs.Envelope.{finalized_header};
+ghost use Rattle.netlink_core.specs.NetlinkMessage.{Payload, NetlinkMessageModel};
+ghost use Rattle.netlink_core.specs.NetlinkMessage.{HoldsOfInnerMessage};
+ghost use Rattle.netlink_core.specs.NetlinkMessage.{finalized_header};
 ghost use Rattle.netlink_core.specs.declared.message.NetlinkMessage.{NetlinkMessage};
 ghost use Rattle.netlink_core.specs.declared.message.NetlinkPayload.TheVariants.{InnerMessage};
-ghost use Rattle.netlink_core.specs.Faults.{map_ok};
+ghost use Rattle.netlink_core.specs.Errors.{map_ok};
 ghost use Rattle.netlink_core.specs.Items.{IsItemOf, AreItemsOf};
-ghost use Rattle.netlink_core.specs.EnvelopeModel.{netlink_message_model};
+ghost use Rattle.netlink_core.specs.NetlinkMessageModel.{netlink_message_model};
 ghost use Rattle.netlink_core.specs.Response.{ReplyValue, response_bytes, response_codec};
-ghost use Rattle.netlink_packet_sock_diag.specs.contracts.coded.SockDiagMessageEmitable.TheImpl.{ghosts as owned_messages};
-ghost use Rattle.netlink_packet_sock_diag.specs.contracts.coded.SockDiagViewEmitable.TheImpl.{ghosts as message_views};
-ghost use Rattle.netlink_packet_sock_diag.specs.contracts.coded.SockDiagDestroyCoded.TheImpl.{ghosts as destroys};
-ghost use Rattle.netlink_packet_sock_diag.specs.contracts.coded.SockDiagMessageCoded.TheImpl.{ghosts as messages};
+ghost use Rattle.netlink_packet_sock_diag.specs.contracts.codec.SockDiagMessageEmitable.TheImpl.{ghosts as owned_messages};
+ghost use Rattle.netlink_packet_sock_diag.specs.contracts.codec.SockDiagViewEmitable.TheImpl.{ghosts as message_views};
+ghost use Rattle.netlink_packet_sock_diag.specs.contracts.codec.SockDiagDestroyHasCodec.TheImpl.{ghosts as destroys};
+ghost use Rattle.netlink_packet_sock_diag.specs.contracts.codec.SockDiagMessageHasCodec.TheImpl.{ghosts as messages};
 ghost use Rattle.netlink_packet_sock_diag.specs.declared.message.SockDiagDestroy.{SockDiagDestroy};
 ghost use Rattle.netlink_packet_sock_diag.specs.Dump.{AreSplitsOfSameBytes, DumpOfDatagrams};
 ghost use Rattle.netlink_packet_sock_diag.specs.Dump.{DumpOfItems, DumpStatus, HaveSameItems};
@@ -76,17 +77,20 @@ pub fn one_kind()
 {}
 
 /// Every parsed message is a reply.
-pub fn read_messages_are_replies()
-    // `message_codec.reads b t m`: the bytes `b` parse under the message type `t` as the message
+pub fn parsed_messages_are_replies()
+    // `message_codec.parses b t m`: the bytes `b` parse under the message type `t` as the message
     // `m`.
-    ensures { (b : List ℕ) (t : ℕ) (m : Message) → message_codec.reads b t m
+    ensures { (b : List ℕ) (t : ℕ) (m : Message) → message_codec.parses b t m
         → (kind_of m ≡ inet_response)
         ⊎ (kind_of m ≡ unix_response) }
 {}
 
 /// The message type of each request to close sockets is 21 (`SOCK_DESTROY`), and that of each
 /// message is 20 (`SOCK_DIAG_BY_FAMILY`). Returns both.
-pub fn types_that_are_written(destroy: &SockDiagDestroyed, message: &SockDiagMessage) -> (u16, u16)
+pub fn serialized_message_types(
+    destroy: &SockDiagDestroyed,
+    message: &SockDiagMessage,
+) -> (u16, u16)
     ensures { result ≡ (21, 20) }
 {
     (
@@ -98,7 +102,7 @@ pub fn types_that_are_written(destroy: &SockDiagDestroyed, message: &SockDiagMes
 /// The constant `TAKES_MEMORY` is true for owned replies about UNIX sockets, for owned replies
 /// about IPv4 and IPv6 sockets, and for messages: their parsers may need to allocate. Returns these
 /// three constants.
-pub fn readers_take_memory() -> (bool, bool, bool)
+pub fn parsers_take_memory() -> (bool, bool, bool)
     ensures { result ≡ (true, true, true) }
 {
     (
@@ -111,106 +115,107 @@ pub fn readers_take_memory() -> (bool, bool, bool)
 /// The parser of requests to close sockets rejects each writable request that was finalized, with
 /// `UnknownMessageType(21)`: the request is serialized under the type 21, and messages are parsed
 /// only under the type 20.
-pub fn finalized_destroy_is_refused()
+pub fn finalized_destroy_is_rejected()
     // `h`: the header before `finalize`, each number of which fits its field
     // (`FitFields header_fields (header_values h)`). `netlink_message_codec`: the codec of a
     // netlink header and the payload after it. `finalized_header bytes type_of message`: the header
     // of the message, with the length of the message and the type of its payload; `bytes` and
-    // `type_of` are those of an inner message. Here the type is `destroys.type_written m`, which is
-    // 21. `written` and `refuses`: the bytes that the message serializes to are rejected.
+    // `type_of` are those of an inner message. Here the type is `destroys.serialized_type m`, which
+    // is
+    // 21. `serialized` and `rejects`: the bytes that the message serializes to are rejected.
     ensures { (h : NetlinkHeader) (m : Message) → FitFields header_fields (header_values h)
-        → netlink_message_codec.fits (record { header = h; payload = InnerMessage m })
-        → netlink_message_codec.refuses
-        (netlink_message_codec.written (record {
-          header = finalized_header message_codec.written destroys.type_written
+        → netlink_message_codec.is_writable (record { header = h; payload = InnerMessage m })
+        → netlink_message_codec.rejects
+        (netlink_message_codec.serialized (record {
+          header = finalized_header message_codec.serialized destroys.serialized_type
               (record { header = h; payload = InnerMessage m });
           payload = InnerMessage m;
         })) tt
-        (UnknownMessageType (destroys.type_written m)) }
+        (UnknownMessageType (destroys.serialized_type m)) }
 {}
 
 /// The parser of requests to close sockets rejects what `serialize` writes for a
 /// `NetlinkMessage<SockDiagDestroy>` after `finalize`, with any bytes after it. The error is
 /// `UnknownMessageType(21)`. The message has an inner message and is writable, and each number of
 /// its header fits its field. This is about a Rust value, `message`;
-/// [`finalized_destroy_is_refused`] is about models.
-pub fn finalized_destroy_in_hand_is_refused()
-    // `destroys.model`: the message that the request contains. `destroys.type_written` is 21.
+/// [`finalized_destroy_is_rejected`] is about models.
+pub fn finalized_destroy_value_is_rejected()
+    // `destroys.model`: the message that the request contains. `destroys.serialized_type` is 21.
     // `netlink_message_model destroys.model message`: the header of `message`, and the model of its
     // payload. `finalized_header`: the header with the length of the message and the type 21.
     // `rest`: the bytes after the message.
     ensures { (message : NetlinkMessage SockDiagDestroy) (destroy : SockDiagDestroy) (rest : List ℕ)
         → message.payload ≡ InnerMessage destroy
         → FitFields header_fields (header_values message.header)
-        → netlink_message_codec.fits (netlink_message_model destroys.model message)
-        → netlink_message_codec.refuses
-        (netlink_message_codec.written (netlink_message_model destroys.model (record message {
-          header = finalized_header message_codec.written destroys.type_written
+        → netlink_message_codec.is_writable (netlink_message_model destroys.model message)
+        → netlink_message_codec.rejects
+        (netlink_message_codec.serialized (netlink_message_model destroys.model (record message {
+          header = finalized_header message_codec.serialized destroys.serialized_type
               (netlink_message_model destroys.model message);
         })) ++ rest) tt
-        (UnknownMessageType (destroys.type_written (destroys.model destroy))) }
+        (UnknownMessageType (destroys.serialized_type (destroys.model destroy))) }
 {}
 
 /// Each input has one netlink message of sock_diag(7) at its start, or one decode error. It does
 /// not have both, and the error is not `Memory`.
-pub fn one_message_or_fault()
-    // `IsBytes b`: each number of the list `b` is below 256. `reads b tt v`: the bytes `b` start
-    // with the message `v`. `refuses b tt e`: they are rejected with the error `e`.
-    ensures answered { (b : List ℕ) → IsBytes b
-        → ((v : NetlinkMessageModel Message) × netlink_message_codec.reads b tt v)
-        ⊎ ((e : DecodeError) × netlink_message_codec.refuses b tt e) }
+pub fn one_message_or_error()
+    // `IsBytes b`: each number of the list `b` is below 256. `parses b tt v`: the bytes `b` start
+    // with the message `v`. `rejects b tt e`: they are rejected with the error `e`.
+    ensures is_total { (b : List ℕ) → IsBytes b
+        → ((v : NetlinkMessageModel Message) × netlink_message_codec.parses b tt v)
+        ⊎ ((e : DecodeError) × netlink_message_codec.rejects b tt e) }
     ensures one_value { (b : List ℕ) (v w : NetlinkMessageModel Message) → IsBytes b
-        → netlink_message_codec.reads b tt v → netlink_message_codec.reads b tt w
+        → netlink_message_codec.parses b tt v → netlink_message_codec.parses b tt w
         → v ≡ w }
-    ensures one_answer { (b : List ℕ) (v : NetlinkMessageModel Message) (e : DecodeError)
-        → netlink_message_codec.reads b tt v → netlink_message_codec.refuses b tt
+    ensures is_exclusive { (b : List ℕ) (v : NetlinkMessageModel Message) (e : DecodeError)
+        → netlink_message_codec.parses b tt v → netlink_message_codec.rejects b tt
         e → ⊥ }
-    ensures one_fault { (b : List ℕ) (e f : DecodeError)
-        → netlink_message_codec.refuses b tt e
-        → netlink_message_codec.refuses b tt f → e ≡ f }
-    ensures named_fault { (b : List ℕ) → netlink_message_codec.refuses b tt Memory → ⊥ }
+    ensures error_is_unique { (b : List ℕ) (e f : DecodeError)
+        → netlink_message_codec.rejects b tt e
+        → netlink_message_codec.rejects b tt f → e ≡ f }
+    ensures error_is_not_memory { (b : List ℕ) → netlink_message_codec.rejects b tt Memory → ⊥ }
 {
-    laws::one_message_or_fault::<SockDiagMessage>();
+    laws::one_message_or_error::<SockDiagMessage>();
 }
 
-/// Two accepted inputs have equal netlink messages if and only if they are equivalent (`idle`).
-pub fn equal_messages_where_idle()
+/// Two accepted inputs have equal netlink messages if and only if they are equivalent.
+pub fn equal_messages_iff_equivalent()
     ensures { (b c : List ℕ) (v w : NetlinkMessageModel Message) → IsBytes b → IsBytes c
-        → netlink_message_codec.reads b tt v → netlink_message_codec.reads c tt w
-        → ((v ≡ w) ↔ netlink_message_codec.idle tt b c) }
+        → netlink_message_codec.parses b tt v → netlink_message_codec.parses c tt w
+        → ((v ≡ w) ↔ netlink_message_codec.equivalent tt b c) }
 {
-    laws::equal_messages_where_idle::<SockDiagMessage>();
+    laws::equal_messages_iff_equivalent::<SockDiagMessage>();
 }
 
-/// Two inputs with canonical forms have the same one if and only if they are equivalent (`idle`).
+/// Two inputs with canonical forms have the same one if and only if they are equivalent.
 /// An input has a canonical form if it is accepted and its value is writable. The canonical form of
 /// a netlink message has its header unchanged.
-pub fn messages_written_alike()
+pub fn same_message_bytes_iff_equivalent()
     // `HasCanonicalForm codec tt b form`: the input `b` is accepted, its value is writable, and
     // `form` are the bytes that this value serializes to.
     ensures { (b c form other : List ℕ) → IsBytes b → IsBytes c
         → HasCanonicalForm netlink_message_codec tt b form
         → HasCanonicalForm netlink_message_codec tt c other
-        → ((form ≡ other) ↔ netlink_message_codec.idle tt b c) }
+        → ((form ≡ other) ↔ netlink_message_codec.equivalent tt b c) }
 {
-    laws::messages_written_alike::<SockDiagMessage>();
+    laws::same_message_bytes_iff_equivalent::<SockDiagMessage>();
 }
 
 /// A writable netlink message, each number of which fits its field, and whose header has the length
 /// and type that `finalize` sets, round-trips if and only if it has no inner message, or an inner
 /// message in normal form under the type 20.
-pub fn finalized_message_reads_back()
+pub fn finalized_message_round_trips()
     // `finalized_header bytes type_of v`: the header of `v`, with the length of the message and the
     // type of its payload; `bytes` and `type_of` are those of an inner message. Here the type of an
-    // inner message is `messages.type_written`, which is 20. `HoldsOfInnerMessage is payload`: the
-    // inner message is in normal form, if there is one.
+    // inner message is `messages.serialized_type`, which is 20. `HoldsOfInnerMessage is payload`:
+    // the inner message is in normal form, if there is one.
     ensures { (v : NetlinkMessageModel Message) → netlink_message_codec.is_in_range v
-        → netlink_message_codec.fits v
-        → (v.header ≡ finalized_header message_codec.written messages.type_written v)
-        → (netlink_message_codec.reads (netlink_message_codec.written v) tt v
+        → netlink_message_codec.is_writable v
+        → (v.header ≡ finalized_header message_codec.serialized messages.serialized_type v)
+        → (netlink_message_codec.parses (netlink_message_codec.serialized v) tt v
         ↔ HoldsOfInnerMessage (message_codec.is_normal 20) v.payload) }
 {
-    laws::finalized_message_reads_back::<SockDiagMessage>();
+    laws::finalized_message_round_trips::<SockDiagMessage>();
 }
 
 /// Each list of items has exactly one dump, given the messages before: the messages after it and
@@ -359,17 +364,17 @@ pub fn lossy_dump_keeps_messages()
         → DumpOfDatagrams (HasLossyEntry message_codec) (map (λ (m : Message). Ok m) before)
         (datagram ∷ [])
         (map (λ (m : Message). Ok m) after) (Ok end) }
-    // `IsMessageError rest fault`: the bytes `rest` do not start with a message, with this error.
-    ensures fault { (datagram : List ℕ) (before after : List (Result Message DecodeError))
-        (fault : DecodeError)
-        → DumpOfDatagrams (HasLossyEntry message_codec) before (datagram ∷ []) after (Err fault)
-        → (rest : List ℕ) × IsMessageError rest fault }
+    // `IsMessageError rest error`: the bytes `rest` do not start with a message, with this error.
+    ensures error { (datagram : List ℕ) (before after : List (Result Message DecodeError))
+        (error : DecodeError)
+        → DumpOfDatagrams (HasLossyEntry message_codec) before (datagram ∷ []) after (Err error)
+        → (rest : List ℕ) × IsMessageError rest error }
 {}
 
 /// If an iterator yields exactly `given`, and then `None`, these are the items of the bytes that
 /// were left to it, in order: the payload or the error of each message, and last the error of bytes
 /// that are not a message, if there are such bytes.
-pub fn whole_views_are_the_datagram()
+pub fn complete_views_are_the_datagram()
     // `Drains step walk given`: calling `next` on the iterator `walk` until it returns `None`
     // yields the list `given`. `unread_views walk`: the bytes that were left to it.
     // `AreItemsOf is bytes items`: these are the items of the bytes. `map_ok payload_view_model`:
@@ -484,7 +489,7 @@ pub fn owned_unix_view(
         ≡ response_bytes unix_response_spec (view_model view.now)) }
     ensures writable { IfOk result (λ reply.
         ⟦<UnixResponse as Emitable>⟧.writable reply
-        ↔ (response_codec unix_response_spec).fits (view_model view.now)) }
+        ↔ (response_codec unix_response_spec).is_writable (view_model view.now)) }
 {
     view.to_owned(alloc)
 }
@@ -500,7 +505,7 @@ pub fn owned_inet_view(
         ≡ response_bytes inet_response_spec (view_model view.now)) }
     ensures writable { IfOk result (λ reply.
         ⟦<InetResponse as Emitable>⟧.writable reply
-        ↔ (response_codec inet_response_spec).fits (view_model view.now)) }
+        ↔ (response_codec inet_response_spec).is_writable (view_model view.now)) }
 {
     view.to_owned(alloc)
 }

@@ -9,7 +9,7 @@
 ghost use Rattle.std.specs.Prelude.{[], ◌∷◌};
 ghost use Rattle.sock_diag_records.specs.Constants.{PairsAreEqual};
 
-mod coded;
+mod codec;
 mod dump;
 pub mod laws;
 pub mod message;
@@ -76,7 +76,7 @@ pub use sock_diag_records::constants::{
 /// The constants that are re-exported at the root have these numeric values. Each clause lists
 /// pairs of a constant and its value, and `PairsAreEqual` states that both numbers of each pair are
 /// equal. Proof only: the contract states the property.
-pub fn root_constants_have_their_numbers()
+pub fn root_constants_have_their_values()
     ensures families { PairsAreEqual ((AF_ALG, 38) ∷ (AF_APPLETALK, 5) ∷ (AF_ASH, 18) ∷
         (AF_ATMPVC, 8) ∷ (AF_ATMSVC, 20) ∷ (AF_AX25, 3) ∷ (AF_BLUETOOTH, 31) ∷ (AF_BRIDGE, 7) ∷
         (AF_CAIF, 37) ∷ (AF_CAN, 29) ∷ (AF_DECNET, 12) ∷ (AF_ECONET, 19) ∷ (AF_IEEE802154, 36) ∷

@@ -2,7 +2,7 @@
 
 ghost use Rattle.std.specs.Prelude.{◌≡◌, ◌≢◌, ◌<◌, ◌↔◌, ◌⊎◌, true, refl, IsTrue, IfOk, IfErr, IsOk};
 ghost use Rattle.std.specs.Prelude.{Ok, Err, if◌then◌else◌};
-ghost use Rattle.netlink_core.specs.declared.fault.DecodeError.TheVariants.{Memory};
+ghost use Rattle.netlink_core.specs.declared.error.DecodeError.TheVariants.{Memory};
 ghost use Rattle.netlink_core.specs.declared.message.NetlinkPayload.TheVariants.{InnerMessage};
 ghost use Rattle.netlink_packet_sock_diag.specs.Message.{Message, kind_of, message_codec};
 ghost use Rattle.sock_diag_records.specs.ResponseKind.{inet_request, inet_response, unix_request};
@@ -105,14 +105,14 @@ impl SockDiagMessage {
         message_type: u16,
     ) -> Result<SockDiagMessage, DecodeError>
         ensures value { IfOk result
-            (λ m. message_codec.reads payload.now message_type (message_model m)) }
-        ensures fault { IfErr result (λ e. e ≢ Memory
-            → message_codec.refuses payload.now message_type e) }
+            (λ m. message_codec.parses payload.now message_type (message_model m)) }
+        ensures error { IfErr result (λ e. e ≢ Memory
+            → message_codec.rejects payload.now message_type e) }
         // `Memory` is returned only for bytes that have a message `m`. No message counts as one
         // that needs no memory, so the last condition always holds.
-        ensures wanted { IfErr result (λ e. e ≡ Memory
-            → (m : Message) × message_codec.reads payload.now message_type m
-            × ¬ message_codec.is_spare m) }
+        ensures memory_needed { IfErr result (λ e. e ≡ Memory
+            → (m : Message) × message_codec.parses payload.now message_type m
+            × ¬ message_codec.needs_no_memory m) }
     {
         Ok(SockDiagView::parse(payload, message_type)?.to_owned(alloc)?)
     }
@@ -126,7 +126,7 @@ impl SockDiagMessage {
         // its first byte, or the error if it has none.
         ensures kind { IfOk result (λ unix. response_kind payload.now message_type
             ≡ Ok (if unix then unix_response else inet_response)) }
-        ensures fault { IfErr result (λ fault. response_kind payload.now message_type ≡ Err fault) }
+        ensures error { IfErr result (λ error. response_kind payload.now message_type ≡ Err error) }
     {
         if payload.len() < 2 {
             return Err(DecodeError::MessageTooShort { got: payload.len() });
@@ -166,16 +166,17 @@ impl<'a> SockDiagView<'a> {
     /// - `UnknownFamily`, if the first byte is not `AF_UNIX`, `AF_INET` or `AF_INET6`;
     /// - the error that the view of the family's replies returns.
     pub fn parse(payload: &'a [u8], message_type: u16) -> Result<SockDiagView<'a>, DecodeError>
-        // `message_codec.reads b t m`: the bytes `b` parse under the message type `t` as the
-        // message `m`. `message_codec.refuses b t e`: they are rejected with the error `e`.
+        // `message_codec.parses b t m`: the bytes `b` parse under the message type `t` as the
+        // message `m`. `message_codec.rejects b t e`: they are rejected with the error `e`.
         ensures value { IfOk result
-            (λ view. message_codec.reads payload.entry.now message_type (message_view_model view)) }
-        ensures fault { IfErr result (message_codec.refuses payload.entry.now message_type) }
+            (λ view. message_codec.parses payload.entry.now message_type
+            (message_view_model view)) }
+        ensures error { IfErr result (message_codec.rejects payload.entry.now message_type) }
     {
         match SockDiagMessage::holds_unix_reply(payload, message_type) {
             Ok(true) => Ok(SockDiagView::UnixResponse(UnixResponseView::parse(payload)?)),
             Ok(false) => Ok(SockDiagView::InetResponse(InetResponseView::parse(payload)?)),
-            Err(fault) => Err(fault),
+            Err(error) => Err(error),
         }
     }
 
@@ -230,13 +231,13 @@ impl Wire for SockDiagMessage {
         match SockDiagMessage::holds_unix_reply(bytes, param) {
             Ok(true) => canonical::<UnixResponse>(alloc, bytes, ()),
             Ok(false) => canonical::<InetResponse>(alloc, bytes, ()),
-            Err(fault) => Err(CanonError::Refused(fault)),
+            Err(error) => Err(CanonError::Refused(error)),
         }
     }
 
-    ghost written_is = { λ v. refl };
+    ghost bytes_by_codec = { λ v. refl };
 
-    ghost fits_is = { λ v. (λ h. h, λ h. h) };
+    ghost writable_by_codec = { λ v. (λ h. h, λ h. h) };
 }
 
 impl NetlinkSerializable for SockDiagMessage {

@@ -8,8 +8,8 @@ use std::fmt::Debug;
 use std::process::Abort;
 
 mod hostile;
-mod read_twice;
-mod refused_memory;
+mod out_of_memory;
+mod parse_twice;
 mod replies;
 mod requests;
 mod sizes;

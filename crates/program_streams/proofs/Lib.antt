@@ -1,3 +1,3 @@
 pub mod LinesLemmas
 pub mod LineRunLemmas
-pub mod Stops
+pub mod InputEnds

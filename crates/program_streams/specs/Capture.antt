@@ -5,10 +5,11 @@ use Rattle.std.specs.Prelude.{drop, Option, ◌==◌, if◌then◌else◌}
 use Rattle.std.specs.Io.KnownBytes.{IsAtEnd}
 use Rattle.byteorder.specs.Endian.{big_number, little_number}
 use Rattle.program_streams.specs.declared.captures.ByteOrder.{ByteOrder}
-use Rattle.program_streams.specs.declared.captures.ByteOrder.TheVariants.{LowFirst, HighFirst}
+use Rattle.program_streams.specs.declared.captures.ByteOrder.TheVariants.{LittleEndian, BigEndian}
 use Rattle.program_streams.specs.declared.captures.CaptureError.{CaptureError}
 use Rattle.program_streams.specs.declared.captures.CaptureError.TheVariants.{Read, Memory}
-use Rattle.program_streams.specs.declared.captures.CaptureError.TheVariants.{Cut, Empty, NewFormat}
+use Rattle.program_streams.specs.declared.captures.CaptureError.TheVariants.{Truncated, Empty}
+use Rattle.program_streams.specs.declared.captures.CaptureError.TheVariants.{NewFormat}
 use Rattle.program_streams.specs.declared.captures.CaptureError.TheVariants.{NoCapture, Packed}
 use Rattle.program_streams.specs.declared.captures.CaptureError.TheVariants.{OtherVersion}
 use Rattle.program_streams.specs.declared.captures.CaptureError.TheVariants.{OtherLinkType}
@@ -21,8 +22,8 @@ use Rattle.program_streams.specs.declared.captures.TimeUnit.TheVariants.{Microse
 -- `number_at_offset order count offset bytes`: the number in the `count` bytes from `offset` on, in
 -- this byte order
 abbrev pub number_at_offset : ByteOrder → ℕ → ℕ → List ℕ → ℕ
-number_at_offset LowFirst count offset bytes = little_number count (drop offset bytes)
-number_at_offset HighFirst count offset bytes = big_number count (drop offset bytes)
+number_at_offset LittleEndian count offset bytes = little_number count (drop offset bytes)
+number_at_offset BigEndian count offset bytes = big_number count (drop offset bytes)
 
 -- The magic number of a pcap file at offset 0: 0xa1b2c3d4 for timestamps in microseconds,
 -- 0xa1b23c4d for nanoseconds.
@@ -60,9 +61,9 @@ IsMagicError first _ = ⊥
 -- the bytes do not begin with a magic number of pcap in either byte order, and `e` is their error
 abbrev pub HasNoPcapMagic : List ℕ → CaptureError → Type 0
 HasNoPcapMagic bytes e =
-    IsMagicError (number_at_offset HighFirst 4 0 bytes) e
-    × ¬ IsPcapMagic (number_at_offset HighFirst 4 0 bytes)
-    × ¬ IsPcapMagic (number_at_offset LowFirst 4 0 bytes)
+    IsMagicError (number_at_offset BigEndian 4 0 bytes) e
+    × ¬ IsPcapMagic (number_at_offset BigEndian 4 0 bytes)
+    × ¬ IsPcapMagic (number_at_offset LittleEndian 4 0 bytes)
 
 -- The error of bytes that are not a file header: an unknown magic number is reported first, then a
 -- major version that is not 2, then a link type that is not 253.
@@ -123,7 +124,7 @@ pub record IsPacketRecord (file : FileHeader) (header : List ℕ)
 -- `failed` states that a read failed.
 abbrev pub IsEarlyReadStop : Option (List ℕ) → Type 0 → List ℕ → CaptureError → Type 0
 IsEarlyReadStop left failed part Empty = (part ≡ []) × IsAtEnd left
-IsEarlyReadStop left failed part Cut = (0 < length part) × IsAtEnd left
+IsEarlyReadStop left failed part Truncated = (0 < length part) × IsAtEnd left
 IsEarlyReadStop left failed part (Read error) = failed
 IsEarlyReadStop left failed part _ = ⊥
 
@@ -149,7 +150,8 @@ IsPartOfPacket file part =
 -- packet header, whose captured length is at most 262144, but the allocation of so much memory
 -- failed (Memory), or is greater than 262144 (PacketTooLong with this length).
 abbrev pub IsPacketStop : FileHeader → Option (List ℕ) → Type 0 → List ℕ → CaptureError → Type 0
-IsPacketStop file left failed part Cut = (0 < length part) × IsPartOfPacket file part × IsAtEnd left
+IsPacketStop file left failed part Truncated = (0 < length part) × IsPartOfPacket file part
+    × IsAtEnd left
 IsPacketStop file left failed part (Read error) = IsPartOfPacket file part × failed
 IsPacketStop file left failed part Memory = (length part ≡ 16)
     × (number_at_offset file.order 4 8 part ≤ 262144)

@@ -4,7 +4,8 @@ use Rattle.byteorder.specs.Endian.{big_bytes}
 use Rattle.hex.specs.Hex.{encode_lower}
 use Rattle.program_streams.specs.Streams.{read_error_text}
 use Rattle.program_streams.specs.declared.captures.CaptureError.{CaptureError}
-use Rattle.program_streams.specs.declared.captures.CaptureError.TheVariants.{Read, Memory, Cut}
+use Rattle.program_streams.specs.declared.captures.CaptureError.TheVariants.{Read, Memory}
+use Rattle.program_streams.specs.declared.captures.CaptureError.TheVariants.{Truncated}
 use Rattle.program_streams.specs.declared.captures.CaptureError.TheVariants.{Empty, NewFormat}
 use Rattle.program_streams.specs.declared.captures.CaptureError.TheVariants.{NoCapture, Packed}
 use Rattle.program_streams.specs.declared.captures.CaptureError.TheVariants.{OtherVersion}
@@ -23,7 +24,7 @@ error_text_bytes (Hex before number) = before.now ++ encode_lower (big_bytes 4 n
 abbrev pub capture_error_text : CaptureError → List ℕ
 capture_error_text (Read error) = read_error_text error
 capture_error_text Memory = codes "out of memory"
-capture_error_text Cut = codes "the capture is truncated"
+capture_error_text Truncated = codes "the capture is truncated"
 capture_error_text Empty = codes "the input is empty"
 capture_error_text NewFormat = codes "pcapng is not supported; try editcap -F pcap CAPTURE OTHER"
 capture_error_text Packed = codes "gzip is not supported; try gzip -dc CAPTURE"

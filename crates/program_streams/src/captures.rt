@@ -69,7 +69,7 @@ pub enum CaptureError {
     /// An allocation failed.
     Memory,
     /// The capture ends within a header or a packet.
-    Cut,
+    Truncated,
     /// The input has no bytes.
     Empty,
     /// The input is a pcapng file.
@@ -95,7 +95,7 @@ impl CaptureError {
         match self {
             CaptureError::Read(error) => ErrorText::Plain(error.text()),
             CaptureError::Memory => ErrorText::Plain("out of memory"),
-            CaptureError::Cut => ErrorText::Plain("the capture is truncated"),
+            CaptureError::Truncated => ErrorText::Plain("the capture is truncated"),
             CaptureError::Empty => ErrorText::Plain("the input is empty"),
             CaptureError::NewFormat => {
                 ErrorText::Plain("pcapng is not supported; try editcap -F pcap CAPTURE OTHER")
@@ -154,9 +154,9 @@ impl From<AllocError> for CaptureError {
 #[derive(Clone, Copy, Debug, PartialEq, Eq)]
 pub enum ByteOrder {
     /// Little-endian.
-    LowFirst,
+    LittleEndian,
     /// Big-endian.
-    HighFirst,
+    BigEndian,
 }
 
 impl ByteOrder {
@@ -166,8 +166,8 @@ impl ByteOrder {
         ensures { result ≡ number_at_offset self 2 offset bytes.now }
     {
         match self {
-            ByteOrder::LowFirst => LittleEndian::read_u16(&bytes[offset..]),
-            ByteOrder::HighFirst => BigEndian::read_u16(&bytes[offset..]),
+            ByteOrder::LittleEndian => LittleEndian::read_u16(&bytes[offset..]),
+            ByteOrder::BigEndian => BigEndian::read_u16(&bytes[offset..]),
         }
     }
 
@@ -177,8 +177,8 @@ impl ByteOrder {
         ensures { result ≡ number_at_offset self 4 offset bytes.now }
     {
         match self {
-            ByteOrder::LowFirst => LittleEndian::read_u32(&bytes[offset..]),
-            ByteOrder::HighFirst => BigEndian::read_u32(&bytes[offset..]),
+            ByteOrder::LittleEndian => LittleEndian::read_u32(&bytes[offset..]),
+            ByteOrder::BigEndian => BigEndian::read_u32(&bytes[offset..]),
         }
     }
 
@@ -187,14 +187,14 @@ impl ByteOrder {
     fn find(bytes: &[u8]) -> Option<ByteOrder>
         requires { 4 ≤ length bytes.now }
         ensures { MatchOption result
-            (¬ IsPcapMagic (number_at_offset ByteOrder.HighFirst 4 0 bytes.now)
-            × ¬ IsPcapMagic (number_at_offset ByteOrder.LowFirst 4 0 bytes.now))
+            (¬ IsPcapMagic (number_at_offset ByteOrder.BigEndian 4 0 bytes.now)
+            × ¬ IsPcapMagic (number_at_offset ByteOrder.LittleEndian 4 0 bytes.now))
             (λ order. IsPcapMagic (number_at_offset order 4 0 bytes.now)) }
     {
-        if is_magic(ByteOrder::LowFirst.word_at(bytes, 0)) {
-            Some(ByteOrder::LowFirst)
-        } else if is_magic(ByteOrder::HighFirst.word_at(bytes, 0)) {
-            Some(ByteOrder::HighFirst)
+        if is_magic(ByteOrder::LittleEndian.word_at(bytes, 0)) {
+            Some(ByteOrder::LittleEndian)
+        } else if is_magic(ByteOrder::BigEndian.word_at(bytes, 0)) {
+            Some(ByteOrder::BigEndian)
         } else {
             None
         }
@@ -275,7 +275,7 @@ impl FileHeader {
         ensures { MatchResult result (IsFileHeader bytes.now) (IsFileHeaderError bytes.now) }
     {
         let Some(order) = ByteOrder::find(bytes) else {
-            return Err(no_capture(ByteOrder::HighFirst.word_at(bytes, 0)));
+            return Err(no_capture(ByteOrder::BigEndian.word_at(bytes, 0)));
         };
         let version = order.short_at(bytes, 4);
         if version != MAJOR_VERSION {
@@ -291,8 +291,8 @@ impl FileHeader {
 
     /// Reads the file header: the next 24 bytes of the input.
     ///
-    /// Fails with `Empty` if the input ends before its first byte, with `Cut` if it ends within the
-    /// header, and with `Read` if a read failed. If all 24 bytes were read, it fails
+    /// Fails with `Empty` if the input ends before its first byte, with `Truncated` if it ends
+    /// within the header, and with `Read` if a read failed. If all 24 bytes were read, it fails
     /// with the error of `parse`.
     pub fn read<R: Source>(input: &mut R) -> Result<FileHeader, CaptureError>
         // R.left: the remaining bytes, if known.
@@ -315,10 +315,10 @@ impl FileHeader {
     /// at offset 8, into `packet`, whose former content is dropped. Returns the other fields of the
     /// packet header. Returns `None` if the input is at its end; then nothing was consumed.
     ///
-    /// Fails with `Cut` if the input ends within the packet header or the bytes of the packet, with
-    /// `Read` if a read failed, with `PacketTooLong` if the captured length is greater than 262144,
-    /// and with `Memory` if an allocation failed. At the end of the input and after an error, the
-    /// content of `packet` is not specified.
+    /// Fails with `Truncated` if the input ends within the packet header or the bytes of the
+    /// packet, with `Read` if a read failed, with `PacketTooLong` if the captured length is greater
+    /// than 262144, and with `Memory` if an allocation failed. At the end of the input and after an
+    /// error, the content of `packet` is not specified.
     ///
     /// Allocates only for the bytes of the packet, and never for more than 262144 bytes.
     pub fn read_packet<R: Source>(
@@ -347,7 +347,7 @@ impl FileHeader {
         }
         match read_bytes(input, packet, length as usize) {
             Ok(()) => Ok(Some(self.packet_header(&header))),
-            Err(fault) => Err(fault),
+            Err(error) => Err(error),
         }
     }
 
@@ -393,7 +393,7 @@ fn fill<R: Source>(input: &mut R, bytes: &mut [u8]) -> Result<(), CaptureError>
     let mut at = 0;
     'reads: while at < bytes.len() {
         match input.read_some(&mut bytes[at..])? {
-            0 => return Err(CaptureError::Cut),
+            0 => return Err(CaptureError::Truncated),
             count => at += count,
         }
     }
@@ -408,7 +408,7 @@ fn fill_or_end<R: Source>(input: &mut R, bytes: &mut [u8]) -> Result<bool, Captu
         (Consumes (R.left input.old) (R.left input.new) bytes.new)
         (IsAtEnd (R.left input.new) × Keeps (R.left input.old) (R.left input.new))) }
     ensures stopped { IfErr result (λ e. (part : List ℕ) × (length part < length bytes.old)
-        × (e ≡ CaptureError.Cut → 0 < length part)
+        × (e ≡ CaptureError.Truncated → 0 < length part)
         × Consumes (R.left input.old) (R.left input.new) part
         × IsReadStop (R.left input.new) (R.failed input.new) e) }
 {

@@ -70,7 +70,7 @@ impl<T: Drop> From<AllocFailed<T>> for RunError {
 const CHUNK: usize = 8192;
 
 /// The largest capacity, in bytes, that a buffer retains from line to line.
-const KEPT: usize = 131072;
+const RETAINED_CAPACITY: usize = 131072;
 
 /// The state of a reader and a writer when a run starts, and the answer to each line. It exists in
 /// contracts only.
@@ -144,13 +144,13 @@ impl<R: Source> PromptRead for R {
 /// The service that answers lines: it parses a line as a request, and appends the answer.
 pub trait LineAnswers {
     /// The request in a line, without the bytes that it is about.
-    type Asked: Drop;
+    type Request: Drop;
 
     // The text is an answer to the line.
     ghost answers: { List ℕ → List ℕ → Type 0 };
 
     // The line contains this request, about these bytes.
-    ghost asks: { List ℕ → Self.Asked → List ℕ → Type 0 };
+    ghost asks: { List ℕ → Self.Request → List ℕ → Type 0 };
 
     // Whether an answer is a good one.
     ghost good: { List ℕ → Bool };
@@ -161,7 +161,7 @@ pub trait LineAnswers {
         alloc: Global,
         bytes: &mut Vec<u8>,
         line: &[u8],
-    ) -> Result<Self::Asked, AllocError>
+    ) -> Result<Self::Request, AllocError>
         ensures { IfOk result (λ asked. asks line.now asked bytes.new.items) };
 
     /// Appends the answer to the text, and returns whether it is a good one. Fails only if an
@@ -169,7 +169,7 @@ pub trait LineAnswers {
     fn push_answer(
         alloc: Global,
         text: &mut Vec<u8>,
-        asked: Self::Asked,
+        asked: Self::Request,
         bytes: &[u8],
     ) -> Result<bool, AllocError>
         // For each line that contains this request about these bytes, and each answer to this line:
@@ -189,9 +189,9 @@ impl Start for Brand {
 }
 
 /// The buffers that a run reuses from line to line. They allocate only to grow, or after a buffer
-/// was freed because its capacity was above `KEPT`.
+/// was freed because its capacity was above `RETAINED_CAPACITY`.
 #[derive(Drop)]
-struct Kept {
+struct LineBuffers {
     /// The bytes since the last line feed.
     line: Vec<u8>,
     /// The bytes that the request in a line is about.
@@ -234,7 +234,7 @@ pub fn serve<S: Start, A: LineAnswers, R: PromptRead, W: Sink>(
     ensures write_cause { IfErr result (λ e. e ≡ RunError.Write
         → (error : WriteError) × W.failed output.new error) }
 {
-    let mut kept = Kept {
+    let mut kept = LineBuffers {
         line: Vec::new(alloc),
         bytes: Vec::new(alloc),
         answers: Vec::new(alloc),
@@ -259,7 +259,7 @@ pub fn serve<S: Start, A: LineAnswers, R: PromptRead, W: Sink>(
 /// is a good one, or `true` if there is no such line.
 fn finish<S: Start, A: LineAnswers, W: Sink>(
     alloc: Global,
-    kept: &mut Kept,
+    kept: &mut LineBuffers,
     output: &mut W,
 ) -> Result<bool, RunError>
     requires { (kept.old.answers.items ≡ []) × ((line : List ℕ) → A.answers line (S.answer line)) }
@@ -281,7 +281,7 @@ fn finish<S: Start, A: LineAnswers, W: Sink>(
 /// good one, or `true` if there is no such line.
 fn end_last_line<S: Start, A: LineAnswers>(
     alloc: Global,
-    kept: &mut Kept,
+    kept: &mut LineBuffers,
 ) -> Result<bool, AllocError>
     requires { (kept.old.answers.items ≡ []) × ((line : List ℕ) → A.answers line (S.answer line)) }
     ensures added { OnOk result (kept.new.answers.items
@@ -299,7 +299,7 @@ fn end_last_line<S: Start, A: LineAnswers>(
 /// good one. Appends the bytes after the last of these lines to `kept.line`.
 fn take_piece<S: Start, A: LineAnswers>(
     alloc: Global,
-    kept: &mut Kept,
+    kept: &mut LineBuffers,
     piece: &[u8],
 ) -> Result<bool, AllocError>
     requires { HasNoLineFeed kept.old.line.items
@@ -322,7 +322,7 @@ fn take_piece<S: Start, A: LineAnswers>(
 /// starts the next line. The memory of a long line is freed before its answer is allocated.
 fn end_line<S: Start, A: LineAnswers>(
     alloc: Global,
-    kept: &mut Kept,
+    kept: &mut LineBuffers,
     end: &[u8],
 ) -> Result<bool, AllocError>
     requires { (line : List ℕ) → A.answers line (S.answer line) }
@@ -331,7 +331,7 @@ fn end_line<S: Start, A: LineAnswers>(
         ++ with_line_feed (S.answer (kept.old.line.items ++ end.now)))) }
     ensures judged { IfOk result (λ is_good.
         is_good ≡ A.good (S.answer (kept.old.line.items ++ end.now))) }
-    ensures rooms { OnOk result ((vec_capacity kept.new.line ≤ 131072)
+    ensures capacities { OnOk result ((vec_capacity kept.new.line ≤ 131072)
         × (vec_capacity kept.new.bytes ≤ 131072)) }
 {
     let asked = read_line::<A>(alloc, kept, end)?;
@@ -345,9 +345,9 @@ fn end_line<S: Start, A: LineAnswers>(
 /// parsed without a copy.
 fn read_line<A: LineAnswers>(
     alloc: Global,
-    kept: &mut Kept,
+    kept: &mut LineBuffers,
     end: &[u8],
-) -> Result<A::Asked, AllocError>
+) -> Result<A::Request, AllocError>
     ensures asked { IfOk result (λ asked. A.asks (kept.old.line.items ++ end.now) asked
         kept.new.bytes.items) }
     ensures others { OnOk result (kept.new.answers.items ≡ kept.old.answers.items) }
@@ -363,7 +363,7 @@ fn read_line<A: LineAnswers>(
 fn add_answer_line<S: Start, A: LineAnswers>(
     alloc: Global,
     answers: &mut Vec<u8>,
-    asked: A::Asked,
+    asked: A::Request,
     bytes: &[u8],
 ) -> Result<bool, AllocError>
     requires { (line : List ℕ) → A.answers line (S.answer line) }
@@ -376,13 +376,13 @@ fn add_answer_line<S: Start, A: LineAnswers>(
     Ok(is_good)
 }
 
-/// Empties the buffer. Frees its memory only if its capacity is above `KEPT`.
+/// Empties the buffer. Frees its memory only if its capacity is above `RETAINED_CAPACITY`.
 fn empty(alloc: Global, room: &mut Vec<u8>)
     ensures emptied { room.new.items ≡ [] }
     ensures bound { vec_capacity room.new ≤ 131072 }
     ensures keeps { vec_capacity room.old ≤ 131072 → vec_capacity room.new ≡ vec_capacity room.old }
 {
-    if room.capacity() > KEPT {
+    if room.capacity() > RETAINED_CAPACITY {
         *room = Vec::new(alloc);
     } else {
         room.clear();

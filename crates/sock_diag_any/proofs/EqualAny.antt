@@ -58,7 +58,7 @@ equal_by_port_message is v w same =
 -- `==` of two views is true if and only if their models are equal.
 pub any_equal : (v w : AnySockDiagView)
     → IsTrue (ghosts.eq v w) ↔ (any_view_model v ≡ any_view_model w)
-any_equal (view.Port a) (view.Port x) = equal_by_port_message _ _ _ (view_equal a x)
+any_equal (view.SockDiag a) (view.SockDiag x) = equal_by_port_message _ _ _ (view_equal a x)
 any_equal (view.Netlink a) (view.Netlink x) =
     equal_by_reply netlink _ _ _
     (response_test_decides _ [] tt exact_netlink.0 (view_model a) (view_model x))

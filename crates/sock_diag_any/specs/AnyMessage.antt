@@ -3,14 +3,14 @@ use Rattle.std.specs.Prelude.{◌≡◌, ℕ, ◌==◌, ◌||◌, not, nat_lt, i
 use Rattle.std.specs.Prelude.{slice_index, Option, Some, None}
 use Rattle.netlink_core.specs.Codec.{Codec}
 use Rattle.netlink_core.specs.Response.{response_codec}
-use Rattle.netlink_core.specs.declared.fault.DecodeError.{DecodeError}
+use Rattle.netlink_core.specs.declared.error.DecodeError.{DecodeError}
 use Rattle.netlink_packet_sock_diag.specs.Message.{Message, message_codec}
 use Rattle.sock_diag_replies.specs.ViewModel.{view_model}
 use Rattle.netlink_packet_sock_diag.specs.MessageViewModel.{message_view_model}
 use Rattle.sock_diag_families.specs.NetlinkResponseHeader.{netlink_header}
 use Rattle.sock_diag_families.specs.PacketResponseHeader.{packet_header}
 use Rattle.sock_diag_families.specs.VsockResponseHeader.{vsock_header}
-use Rattle.sock_diag_any.specs.WholeReply.{raw_reply_spec}
+use Rattle.sock_diag_any.specs.RawReply.{raw_reply_spec}
 use Rattle.sock_diag_families.specs.XdpResponseHeader.{xdp_header}
 use Rattle.sock_diag_any.specs.declared.any.AnySockDiagView.{AnySockDiagView}
 use Rattle.sock_diag_any.specs.declared.any.AnySockDiagView.TheVariants as view
@@ -48,7 +48,7 @@ pub data AnyMessage : Type 0 where
 -- The value of the message that a view borrows: of the port, or of one of the four families, with
 -- the header and the attributes of the reply.
 abbrev pub any_view_model : AnySockDiagView → AnyMessage
-any_view_model (view.Port message) = of_port (message_view_model message)
+any_view_model (view.SockDiag message) = of_port (message_view_model message)
 any_view_model (view.Netlink reply) = of_family netlink (view_model reply)
 any_view_model (view.Packet reply) = of_family packet (view_model reply)
 any_view_model (view.Vsock reply) = of_family vsock (view_model reply)
@@ -60,16 +60,16 @@ any_view_model (view.Xdp reply) = of_family xdp (view_model reply)
 -- parses the bytes as the message.
 abbrev pub ParsesAsAnyMessage : List ℕ → ℕ → AnyMessage → Type 0
 ParsesAsAnyMessage b t (of_port message) =
-    (extension_family_of b t ≡ None) × message_codec.reads b t message
+    (extension_family_of b t ≡ None) × message_codec.parses b t message
 ParsesAsAnyMessage b t (of_family family v) =
-    (extension_family_of b t ≡ Some family) × (extension_codec_of family).reads b tt v
+    (extension_family_of b t ≡ Some family) × (extension_codec_of family).parses b tt v
 
 -- `IsRejectedByExtensionFamily family b t e`: the codec of the given family, or the port's if it is
 -- `None`, rejects the bytes `b` with the error `e`. Only the port's codec depends on the message
 -- type `t`.
 abbrev pub IsRejectedByExtensionFamily : Option ExtensionFamily → List ℕ → ℕ → DecodeError → Type 0
-IsRejectedByExtensionFamily None b t e = message_codec.refuses b t e
-IsRejectedByExtensionFamily (Some family) b t e = (extension_codec_of family).refuses b tt e
+IsRejectedByExtensionFamily None b t e = message_codec.rejects b t e
+IsRejectedByExtensionFamily (Some family) b t e = (extension_codec_of family).rejects b tt e
 
 -- The bytes `b` of a message of type `t` are rejected with the error `e`, by the codec of the
 -- family that `extension_family_of` returns.
@@ -78,11 +78,11 @@ IsRejectedAsAnyMessage b t e = IsRejectedByExtensionFamily (extension_family_of 
 
 -- The bytes that a message is serialized to, by the codec of the port or of the family.
 abbrev pub any_bytes : AnyMessage → List ℕ
-any_bytes (of_port message) = message_codec.written message
-any_bytes (of_family family v) = (extension_codec_of family).written v
+any_bytes (of_port message) = message_codec.serialized message
+any_bytes (of_family family v) = (extension_codec_of family).serialized v
 
 -- The message is writable: its lengths fit their length fields, by the codec of the port or of the
 -- family.
 abbrev pub IsAnyMessageWritable : AnyMessage → Type 0
-IsAnyMessageWritable (of_port message) = message_codec.fits message
-IsAnyMessageWritable (of_family family v) = (extension_codec_of family).fits v
+IsAnyMessageWritable (of_port message) = message_codec.is_writable message
+IsAnyMessageWritable (of_family family v) = (extension_codec_of family).is_writable v

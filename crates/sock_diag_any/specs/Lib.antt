@@ -1,3 +1,3 @@
-pub mod WholeReply
+pub mod RawReply
 pub mod AnyMessage
 pub mod laws

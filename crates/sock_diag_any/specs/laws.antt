@@ -1,2 +1,2 @@
 -- Lemmas about the definitions.
-pub mod WholeReply
+pub mod RawReply

@@ -15,7 +15,7 @@ use sock_diag_families::xdp::AF_XDP;
 #[derive(Clone, Copy, Debug, PartialEq, Eq)]
 pub enum AnySockDiagView<'a> {
     /// A reply describing an IPv4, IPv6 or UNIX socket.
-    Port(SockDiagView<'a>),
+    SockDiag(SockDiagView<'a>),
     /// A reply describing a netlink socket.
     Netlink(NetlinkResponseView<'a>),
     /// A reply describing a packet socket.
@@ -45,7 +45,7 @@ impl<'a> AnySockDiagView<'a> {
             (λ view. ParsesAsAnyMessage payload.entry.now message_type (any_view_model view)) }
         // `IsRejectedAsAnyMessage b t e`: the codec of the family of the bytes rejects them with
         // the error `e`.
-        ensures fault { IfErr result (IsRejectedAsAnyMessage payload.entry.now message_type) }
+        ensures error { IfErr result (IsRejectedAsAnyMessage payload.entry.now message_type) }
     {
         if payload.len() >= 2 && message_type == SOCK_DIAG_BY_FAMILY {
             match payload[0] {
@@ -61,21 +61,21 @@ impl<'a> AnySockDiagView<'a> {
             }
         }
         match SockDiagView::parse(payload, message_type) {
-            Ok(message) => Ok(AnySockDiagView::Port(message)),
-            Err(fault) => Err(fault),
+            Ok(message) => Ok(AnySockDiagView::SockDiag(message)),
+            Err(error) => Err(error),
         }
     }
 }
 
 /// Evaluates an expression with the view that the variant of the reply contains.
-macro_rules! held {
-    ($message:expr, $held:ident => $answer:expr) => {
+macro_rules! with_inner {
+    ($message:expr, $inner:ident => $answer:expr) => {
         match $message {
-            AnySockDiagView::Port($held) => $answer,
-            AnySockDiagView::Netlink($held) => $answer,
-            AnySockDiagView::Packet($held) => $answer,
-            AnySockDiagView::Vsock($held) => $answer,
-            AnySockDiagView::Xdp($held) => $answer,
+            AnySockDiagView::SockDiag($inner) => $answer,
+            AnySockDiagView::Netlink($inner) => $answer,
+            AnySockDiagView::Packet($inner) => $answer,
+            AnySockDiagView::Vsock($inner) => $answer,
+            AnySockDiagView::Xdp($inner) => $answer,
         }
     };
 }
@@ -92,18 +92,18 @@ impl Emitable for AnySockDiagView<'_> {
     ghost writable = { λ v. IsAnyMessageWritable (any_view_model v) };
 
     fn is_writable(&self) -> bool {
-        held!(self, held => held.is_writable())
+        with_inner!(self, inner => inner.is_writable())
     }
 
     fn buffer_len(&self) -> usize {
-        held!(self, held => held.buffer_len())
+        with_inner!(self, inner => inner.buffer_len())
     }
 
     fn writable_len(&self) -> Option<usize> {
-        held!(self, held => held.writable_len())
+        with_inner!(self, inner => inner.writable_len())
     }
 
     fn emit(&self, buffer: &mut [u8]) {
-        held!(self, held => held.emit(buffer))
+        with_inner!(self, inner => inner.emit(buffer))
     }
 }

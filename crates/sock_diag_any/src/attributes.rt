@@ -5,14 +5,14 @@ ghost use Rattle.netlink_core.specs.Attribute.{Attribute};
 ghost use Rattle.netlink_core.specs.Layout.{parse_record};
 ghost use Rattle.netlink_core.specs.Parse.{number_of_width};
 ghost use Rattle.sock_diag_replies.specs.ViewModel.{view_model};
-ghost use Rattle.sock_diag_families.specs.Found.{first_value_of_kind, parse_if_present};
+ghost use Rattle.sock_diag_families.specs.AttributeGetters.{first_value_of_kind, parse_if_present};
 
-use crate::{FamilyHeader, WholeView};
+use crate::{FamilyHeader, RawReplyView};
 use netlink_core::{DecodeError, Record, parse_u32, read_record};
 
 /// Getters for the attributes of a reply. Each getter uses the first attribute of a kind, and
 /// ignores the two flag bits of the type field.
-pub trait WholeAttributes {
+pub trait RawAttributes {
     // The attributes of the reply, in order.
     ghost attributes: { Self → List Attribute };
 
@@ -57,7 +57,7 @@ pub trait WholeAttributes {
     }
 }
 
-impl<H: FamilyHeader> WholeAttributes for WholeView<'_, H> {
+impl<H: FamilyHeader> RawAttributes for RawReplyView<'_, H> {
     ghost attributes = { λ view. (view_model view).nlas };
 
     fn value_of(&self, kind: u16) -> Option<&[u8]> {
@@ -66,7 +66,10 @@ impl<H: FamilyHeader> WholeAttributes for WholeView<'_, H> {
 }
 
 // Returns the value of the first attribute of the kind. It borrows from the reply's bytes.
-pub(crate) fn value_in<'a, H: FamilyHeader>(reply: &WholeView<'a, H>, kind: u16) -> Option<&'a [u8]>
+pub(crate) fn value_in<'a, H: FamilyHeader>(
+    reply: &RawReplyView<'a, H>,
+    kind: u16,
+) -> Option<&'a [u8]>
     ensures { option_map (λ value. value.now) result
         ≡ first_value_of_kind kind (view_model reply.now).nlas }
 {

@@ -5,12 +5,12 @@ ghost use Rattle.std.specs.Prelude.{◌≡◌, ◌↔◌, IfOk, IsOk, IsTrue};
 ghost use Rattle.sock_diag_replies.specs.ViewModel.{view_model};
 ghost use Rattle.sock_diag_any.specs.AnyMessage.{any_view_model};
 
-use crate::{AnySockDiagView, FamilyHeader, Whole, WholeView};
+use crate::{AnySockDiagView, FamilyHeader, RawHeader, RawReplyView};
 use std::alloc::AllocError;
 
 /// Compares two headers of one family by `==`, which is true if and only if all of their fields are
 /// equal.
-pub fn equal_wholes<H: FamilyHeader>(v: &Whole<H>, w: &Whole<H>) -> bool
+pub fn equal_raw_headers<H: FamilyHeader>(v: &RawHeader<H>, w: &RawHeader<H>) -> bool
     ensures { IsTrue result ↔ (v.now ≡ w.now) }
 {
     v == w
@@ -19,7 +19,10 @@ pub fn equal_wholes<H: FamilyHeader>(v: &Whole<H>, w: &Whole<H>) -> bool
 /// Compares two borrowed replies of one family by `==`, which is true if and only if their headers
 /// are equal and they have equal attributes in the same order: the same type fields, with their
 /// flag bits, and the same bytes in the values. Padding is not compared.
-pub fn equal_whole_views<H: FamilyHeader>(v: &WholeView<'_, H>, w: &WholeView<'_, H>) -> bool
+pub fn equal_raw_reply_views<H: FamilyHeader>(
+    v: &RawReplyView<'_, H>,
+    w: &RawReplyView<'_, H>,
+) -> bool
     // `view_model`: the header, and the raw attributes in order.
     ensures { IsTrue result ↔ (view_model v.now ≡ view_model w.now) }
 {
@@ -40,9 +43,9 @@ pub fn equal_any_views(v: &AnySockDiagView<'_>, w: &AnySockDiagView<'_>) -> bool
 
 /// Copies a borrowed reply of one family by `clone`, which never fails and returns a reply with the
 /// same header and the same attributes.
-pub fn copied_whole_view<'a, H: FamilyHeader>(
-    view: &WholeView<'a, H>,
-) -> Result<WholeView<'a, H>, AllocError>
+pub fn copied_raw_reply_view<'a, H: FamilyHeader>(
+    view: &RawReplyView<'a, H>,
+) -> Result<RawReplyView<'a, H>, AllocError>
     ensures ok { IsOk result }
     ensures same { IfOk result (λ copy. view_model copy ≡ view_model view.now) }
 {

@@ -7,10 +7,10 @@ mod attributes;
 pub mod laws;
 pub mod netlink;
 pub mod packet;
+mod raw;
 pub mod vsock;
-mod whole;
 pub mod xdp;
 
 pub use any::AnySockDiagView;
-pub use attributes::WholeAttributes;
-pub use whole::{FamilyHeader, Whole, WholeView};
+pub use attributes::RawAttributes;
+pub use raw::{FamilyHeader, RawHeader, RawReplyView};

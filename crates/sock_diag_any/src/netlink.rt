@@ -7,12 +7,12 @@ ghost use Rattle.netlink_core.specs.Layout.{parse_record};
 ghost use Rattle.netlink_core.specs.Parse.{number_of_width};
 ghost use Rattle.sock_diag_values.specs.MemInfo.{mem_info};
 ghost use Rattle.sock_diag_replies.specs.ViewModel.{view_model};
-ghost use Rattle.sock_diag_families.specs.Found.{first_value_of_kind, parse_if_present};
+ghost use Rattle.sock_diag_families.specs.AttributeGetters.{first_value_of_kind, parse_if_present};
 ghost use Rattle.sock_diag_families.specs.laws.Record.{netlink_header_sound};
-ghost use Rattle.sock_diag_any.specs.laws.WholeReply.{raw_reply_codec_laws};
+ghost use Rattle.sock_diag_any.specs.laws.RawReply.{raw_reply_codec_laws};
 
 use crate::attributes::value_in;
-use crate::{FamilyHeader, WholeAttributes, WholeView};
+use crate::{FamilyHeader, RawAttributes, RawReplyView};
 use netlink_core::DecodeError;
 use sock_diag_families::netlink::{
     NETLINK_DIAG_FLAGS, NETLINK_DIAG_GROUPS, NETLINK_DIAG_MEMINFO, NetlinkResponseHeader,
@@ -23,7 +23,7 @@ use sock_diag_values::inet::MemInfo;
 ///
 /// `parse` returns `BufferTooSmall` for fewer than 28 bytes, or else the first error of an
 /// attribute.
-pub type NetlinkResponseView<'a> = WholeView<'a, NetlinkResponseHeader>;
+pub type NetlinkResponseView<'a> = RawReplyView<'a, NetlinkResponseHeader>;
 
 impl FamilyHeader for NetlinkResponseHeader {
     const NAME: &'static str = "NetlinkResponseView";

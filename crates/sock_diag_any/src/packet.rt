@@ -7,13 +7,13 @@ ghost use Rattle.netlink_core.specs.Layout.{parse_record};
 ghost use Rattle.netlink_core.specs.Parse.{number_of_width};
 ghost use Rattle.sock_diag_values.specs.MemInfo.{mem_info};
 ghost use Rattle.sock_diag_replies.specs.ViewModel.{view_model};
-ghost use Rattle.sock_diag_families.specs.Found.{first_value_of_kind, parse_if_present};
+ghost use Rattle.sock_diag_families.specs.AttributeGetters.{first_value_of_kind, parse_if_present};
 ghost use Rattle.sock_diag_families.specs.PacketAttributes.{packet_info, packet_ring};
 ghost use Rattle.sock_diag_families.specs.laws.Record.{packet_header_sound};
-ghost use Rattle.sock_diag_any.specs.laws.WholeReply.{raw_reply_codec_laws};
+ghost use Rattle.sock_diag_any.specs.laws.RawReply.{raw_reply_codec_laws};
 
 use crate::attributes::value_in;
-use crate::{FamilyHeader, WholeAttributes, WholeView};
+use crate::{FamilyHeader, RawAttributes, RawReplyView};
 use netlink_core::DecodeError;
 use sock_diag_families::packet::{
     PACKET_DIAG_FANOUT, PACKET_DIAG_FILTER, PACKET_DIAG_INFO, PACKET_DIAG_MCLIST,
@@ -26,7 +26,7 @@ use sock_diag_values::inet::MemInfo;
 ///
 /// `parse` returns `BufferTooSmall` for fewer than 16 bytes, or else the first error of an
 /// attribute.
-pub type PacketResponseView<'a> = WholeView<'a, PacketResponseHeader>;
+pub type PacketResponseView<'a> = RawReplyView<'a, PacketResponseHeader>;
 
 impl FamilyHeader for PacketResponseHeader {
     const NAME: &'static str = "PacketResponseView";

@@ -7,12 +7,12 @@ ghost use Rattle.netlink_core.specs.Layout.{parse_record};
 ghost use Rattle.netlink_core.specs.Parse.{number_of_width};
 ghost use Rattle.sock_diag_values.specs.MemInfo.{mem_info};
 ghost use Rattle.sock_diag_replies.specs.ViewModel.{view_model};
-ghost use Rattle.sock_diag_families.specs.Found.{first_value_of_kind, parse_if_present};
+ghost use Rattle.sock_diag_families.specs.AttributeGetters.{first_value_of_kind, parse_if_present};
 ghost use Rattle.sock_diag_families.specs.XdpAttributes.{xdp_info, xdp_umem, xdp_statistics};
 ghost use Rattle.sock_diag_families.specs.laws.Record.{xdp_header_sound};
-ghost use Rattle.sock_diag_any.specs.laws.WholeReply.{raw_reply_codec_laws};
+ghost use Rattle.sock_diag_any.specs.laws.RawReply.{raw_reply_codec_laws};
 
-use crate::{FamilyHeader, WholeAttributes, WholeView};
+use crate::{FamilyHeader, RawAttributes, RawReplyView};
 use netlink_core::DecodeError;
 use sock_diag_families::xdp::{
     XDP_DIAG_INFO, XDP_DIAG_MEMINFO, XDP_DIAG_RX_RING, XDP_DIAG_STATS, XDP_DIAG_TX_RING,
@@ -24,7 +24,7 @@ use sock_diag_values::inet::MemInfo;
 ///
 /// `parse` returns `BufferTooSmall` for fewer than 16 bytes, or else the first error of an
 /// attribute.
-pub type XdpResponseView<'a> = WholeView<'a, XdpResponseHeader>;
+pub type XdpResponseView<'a> = RawReplyView<'a, XdpResponseHeader>;
 
 impl FamilyHeader for XdpResponseHeader {
     const NAME: &'static str = "XdpResponseView";

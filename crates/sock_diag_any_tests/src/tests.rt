@@ -4,7 +4,7 @@
 
 use netlink_core::{DecodeError, Emitable, write_new};
 use sock_diag_any::AnySockDiagView;
-use sock_diag_any::laws::{equal_whole_views, equal_wholes};
+use sock_diag_any::laws::{equal_raw_headers, equal_raw_reply_views};
 use sock_diag_any::netlink::{self, NetlinkResponseView};
 use sock_diag_any::packet::{self, PacketResponseView};
 use sock_diag_any::vsock::VsockResponseView;
@@ -99,12 +99,12 @@ fn what_linux_sent(rt: HostRuntime) -> Result<(), Fail> {
     let text = "Whole(NetlinkResponseHeader { kind: 3, protocol: 0, state: 7, port: 6250, \
         destination_port: 0, destination_group: 0, inode: 87039, cookie: 4097 })";
     shows(&rt, alloc, &reply.header(), text)?;
-    assert!(&rt; equal_whole_views(&reply, &reply));
-    assert!(&rt; equal_wholes(&reply.header(), &reply.header()));
+    assert!(&rt; equal_raw_reply_views(&reply, &reply));
+    assert!(&rt; equal_raw_headers(&reply.header(), &reply.header()));
     let told = (netlink::groups(&reply), netlink::flags(&reply)?);
     let text = "(Some([17, 0, 0, 0, 0, 0, 0, 0]), Some(32))";
     shows(&rt, alloc, &told, text)?;
-    let text = "Some(WholeNla(NlaBuffer { type_word: 1, value: [17, 0, 0, 0, 0, 0, 0, 0] }))";
+    let text = "Some(RawNla(NlaBuffer { type_word: 1, value: [17, 0, 0, 0, 0, 0, 0, 0] }))";
     shows(&rt, alloc, &reply.attributes().next(), text)?;
     shows(&rt, alloc, &dropped_packets(&bytes)?, "Some(0)")?;
     let bytes = hex::decode(alloc, PACKET)?;
@@ -124,7 +124,7 @@ fn what_linux_sent(rt: HostRuntime) -> Result<(), Fail> {
 }
 
 #[test]
-fn what_the_headers_say(rt: HostRuntime) -> Result<(), Fail> {
+fn fields_of_headers(rt: HostRuntime) -> Result<(), Fail> {
     let alloc = rt.alloc();
     let bytes = hex::decode(alloc, VSOCK)?;
     let reply = VsockResponseView::parse(&bytes)?;
@@ -167,8 +167,8 @@ fn debug_texts(rt: HostRuntime) -> Result<(), Fail> {
         (PACKET, ("Packet(PacketResponseView", 7, ")")),
         (VSOCK, ("Vsock(VsockResponseView", 0, ")")),
         (XDP, ("Xdp(XdpResponseView", 6, ")")),
-        (UNIX, ("Port(UnixResponse(UnixResponseView", 0, "))")),
-        (INET, ("Port(InetResponse(InetResponseView", 0, "))")),
+        (UNIX, ("SockDiag(UnixResponse(UnixResponseView", 0, "))")),
+        (INET, ("SockDiag(InetResponse(InetResponseView", 0, "))")),
     ] {
         for more in [0, 1, 300, 10_000] {
             shows_reply(&rt, rt.alloc(), row, more, parts)?;
@@ -187,8 +187,8 @@ fn of_any_family(rt: HostRuntime) -> Result<(), Fail> {
     let cut = "FamilyResponseHeader { family: 16 }: buffer of 5 bytes, at least 28 needed";
     for (row, text) in [("1003000701", cut), ("1d03", "unknown address family 29")] {
         let bytes = hex::decode(alloc, row)?;
-        let fault = AnySockDiagView::parse(&bytes, 20).err().ok_or("read")?;
-        assert!(&rt; format!(in alloc; "{fault}")?.as_str() == text, "{row}");
+        let error = AnySockDiagView::parse(&bytes, 20).err().ok_or("read")?;
+        assert!(&rt; format!(in alloc; "{error}")?.as_str() == text, "{row}");
     }
     Ok(())
 }

@@ -3,23 +3,23 @@
 use Rattle.std.proofs.Common.{arith, inr}
 use Rattle.std.proofs.Common.{◌≡◌, ◌≢◌, List, ℕ, Result, Ok, Err, IsOk, IfErr, IsErrAnd}
 use Rattle.std.proofs.lemmas.Result.{err_from_is_err_and}
-use Rattle.netlink_core.specs.declared.fault.DecodeError.{DecodeError}
-use Rattle.netlink_core.specs.declared.fault.DecodeError.TheVariants.{Memory}
-use Rattle.netlink_core.specs.declared.canon.CanonError.{CanonError}
-use Rattle.netlink_core.specs.declared.canon.CanonError.TheVariants as canon
+use Rattle.netlink_core.specs.declared.error.DecodeError.{DecodeError}
+use Rattle.netlink_core.specs.declared.error.DecodeError.TheVariants.{Memory}
+use Rattle.netlink_core.specs.declared.canonical_form.CanonError.{CanonError}
+use Rattle.netlink_core.specs.declared.canonical_form.CanonError.TheVariants as canon
 use Rattle.netlink_core.specs.Canonical.{CanonicalFails}
 use Rattle.netlink_core.specs.Attribute.{Attribute, HasAttributePrefix}
 use Rattle.netlink_core.specs.AttributeSet.{AttributeSet, AttributeValue, decode_attribute}
 use Rattle.netlink_core.specs.AttributeSet.{NeedsNoMemoryIn}
 use Rattle.netlink_core.specs.laws.AttributeSet.{decode_error_is_not_memory}
 use Rattle.netlink_core.specs.FirstAttribute.{first_attribute_codec}
-use Rattle.netlink_core.specs.laws.Shown.{AttributeSetLaws}
+use Rattle.netlink_core.specs.laws.ReplyObligations.{AttributeSetLaws}
 
 -- `Memory` is returned only for bytes with a value that needs memory
 abbrev MemoryOnlyIfNeeded : (F : AttributeSet) → List ℕ → {T : Type 0} → Result T DecodeError
     → Type 0
 MemoryOnlyIfNeeded F b r = IfErr r (λ e. e ≡ Memory
-    → (v : AttributeValue F) × (first_attribute_codec F).reads b tt v × ¬ NeedsNoMemoryIn F v)
+    → (v : AttributeValue F) × (first_attribute_codec F).parses b tt v × ¬ NeedsNoMemoryIn F v)
 
 -- this holds for the error of a rejected value
 pub rejected_needs_no_memory : (F : AttributeSet) → AttributeSetLaws F
@@ -47,7 +47,7 @@ pub rejected_has_no_canonical_form : (F : AttributeSet) → AttributeSetLaws F
     → decode_attribute F a ≡ Err e → (r : Result T CanonError)
     → IsErrAnd r (λ f. (e ≡ Memory → f ≡ canon.Memory) × (e ≢ Memory → f ≡ canon.Refused e))
     → let C = first_attribute_codec F in
-    IfErr r (CanonicalFails (C.reads b tt) (C.refuses b tt) C.fits)
+    IfErr r (CanonicalFails (C.parses b tt) (C.rejects b tt) C.is_writable)
 rejected_has_no_canonical_form F laws b a e head refused r given =
     let named : e ≢ Memory = λ memory. decode_error_is_not_memory F laws a (rw memory at refused) in
     let p = err_from_is_err_and r given in

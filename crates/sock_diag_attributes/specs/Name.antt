@@ -6,9 +6,9 @@ use Rattle.netlink_core.specs.Bytes.{IsBytes}
 use Rattle.netlink_core.specs.Codec.{Codec, as_codec}
 use Rattle.netlink_core.specs.ValueCodec.{ValueCodec}
 use Rattle.netlink_core.specs.AttributeSpecs.{whole_value_codec}
-use Rattle.netlink_core.specs.declared.fault.DecodeError.{DecodeError}
-use Rattle.netlink_core.specs.declared.fault.DecodeError.TheVariants.{NameEmpty, NameInnerZero}
-use Rattle.netlink_core.specs.declared.fault.DecodeError.TheVariants.{NameWithoutEnd}
+use Rattle.netlink_core.specs.declared.error.DecodeError.{DecodeError}
+use Rattle.netlink_core.specs.declared.error.DecodeError.TheVariants.{NameEmpty, NameInnerZero}
+use Rattle.netlink_core.specs.declared.error.DecodeError.TheVariants.{NameWithoutEnd}
 use Rattle.sock_diag_attributes.specs.declared.unix.name.SocketName.{SocketName}
 use Rattle.sock_diag_attributes.specs.declared.unix.name.SocketName.TheVariants.{Pathname, Abstract}
 
@@ -43,6 +43,6 @@ name_value = whole_value_codec read_name name_bytes (λ name. IsBytes (name_byte
 -- a name by itself: it needs memory, and is writable if it has at most 4,294,967,295 bytes
 abbrev pub name_codec : Codec (Unit {0})
 name_codec = record (as_codec name_value) {
-  is_spare = λ v. ⊥;
-  fits = λ v. length (name_bytes v) ≤ 4294967295;
+  needs_no_memory = λ v. ⊥;
+  is_writable = λ v. length (name_bytes v) ≤ 4294967295;
 }

@@ -1,15 +1,15 @@
 -- Little-endian numbers that make up the complete value of an attribute. The arguments of
 -- `whole_value_codec` are, in this order: how a value is parsed, how it is serialized, which values
 -- are in range, and which are in normal form. With `whole_value_codec`, only equal bytes are
--- equivalent (`idle`).
+-- equivalent.
 use Rattle.std.specs.List.{AllByRecursion}
 use Rattle.netlink_core.specs.ValueCodec.{ValueCodec}
 use Rattle.netlink_core.specs.AttributeSpecs.{whole_value_codec}
 use Rattle.std.specs.Prelude.{⊤, ◌<◌, ◌^◌, ℕ, ◌%◌, ◌==◌, if◌then◌else◌, List, [], ◌∷◌, ◌++◌, length}
 use Rattle.std.specs.Prelude.{drop, flat_map, Some, Ok, Err}
 use Rattle.byteorder.specs.Endian.{little_number, little_bytes}
-use Rattle.netlink_core.specs.declared.fault.DecodeError.TheVariants.{WrongLength}
-use Rattle.netlink_core.specs.declared.fault.DecodeError.TheVariants.{NotMultipleOfFour}
+use Rattle.netlink_core.specs.declared.error.DecodeError.TheVariants.{WrongLength}
+use Rattle.netlink_core.specs.declared.error.DecodeError.TheVariants.{NotMultipleOfFour}
 
 -- the consecutive little-endian numbers of four bytes each in the bytes; up to three bytes at the
 -- end that are not a complete number are left out

@@ -14,11 +14,11 @@ AddsTerminatingNul left right =
 
 -- A text is the value without one terminating NUL, if it has one. It must be UTF-8 (else
 -- `NotUtf8`), and its model is its bytes. It always serializes with one terminating NUL. Two values
--- are equivalent (`idle`) if they are equal, or if one is the other, which has no terminating NUL,
+-- are equivalent if they are equal, or if one is the other, which has no terminating NUL,
 -- with one added. Each text is in normal form.
 abbrev pub text_value : ValueCodec (Unit {0})
 text_value = record (whole_value_codec parse_text (λ text. text ++ 0 ∷ [])
     (λ text. IsUtf8 text × IsBytes text) (λ text. ⊤)) {
-      idle = λ p left right. (left ≡ right)
+      equivalent = λ p left right. (left ≡ right)
           ⊎ (AddsTerminatingNul left right ⊎ AddsTerminatingNul right left);
     }

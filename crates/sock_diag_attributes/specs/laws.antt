@@ -6,7 +6,7 @@ pub mod Text
 pub mod Flag
 pub mod InetAttribute
 pub mod Variant
-pub mod Lent
+pub mod AttributeParts
 pub mod EqualName
 pub mod EqualUnix
 pub mod EqualInet

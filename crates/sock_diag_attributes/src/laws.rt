@@ -21,7 +21,7 @@ use std::alloc::AllocError;
 /// Returns `TAKES_MEMORY` of owned attributes of replies about UNIX sockets, of those of replies
 /// about IPv4 and IPv6 sockets, and of owned names. Each is true: the parsers of these types may
 /// allocate, and may return `Memory`.
-pub fn readers_take_memory() -> (bool, bool, bool)
+pub fn parsers_take_memory() -> (bool, bool, bool)
     ensures { result ≡ (true, true, true) }
 {
     (

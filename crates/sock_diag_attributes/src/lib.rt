@@ -1,9 +1,9 @@
 //! The attributes of the replies of sock_diag(7).
 #![tactic(auto)]
 
+mod borrowed;
 pub mod inet;
 pub mod laws;
-mod lent;
 mod numbers;
 mod text;
 pub mod unix;

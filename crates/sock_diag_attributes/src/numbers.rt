@@ -20,7 +20,7 @@ use std::alloc::{AllocError, Global};
 pub(crate) fn exact_u8(kind: u16, value: &[u8]) -> Result<u8, DecodeError>
     ensures { result ≡ number_of_width (Some kind) 1 value.now }
 {
-    parse_u8(value).map_err(|fault| fault.with_kind(kind))
+    parse_u8(value).map_err(|error| error.with_kind(kind))
 }
 
 /// Parses the little-endian number in exactly four bytes. Returns `WrongLength` with the kind for
@@ -28,13 +28,13 @@ pub(crate) fn exact_u8(kind: u16, value: &[u8]) -> Result<u8, DecodeError>
 pub(crate) fn exact_u32(kind: u16, value: &[u8]) -> Result<u32, DecodeError>
     ensures { result ≡ number_of_width (Some kind) 4 value.now }
 {
-    parse_u32(value).map_err(|fault| fault.with_kind(kind))
+    parse_u32(value).map_err(|error| error.with_kind(kind))
 }
 
 /// Parses the flag in exactly one byte, which is true if the byte is not zero. Returns
 /// `WrongLength` with the kind for any other length.
 pub(crate) fn exact_flag(kind: u16, value: &[u8]) -> Result<bool, DecodeError>
-    ensures { result ≡ (flag_value kind).reads tt value.now }
+    ensures { result ≡ (flag_value kind).parses tt value.now }
 {
     Ok(exact_u8(kind, value)? != 0)
 }
@@ -42,7 +42,7 @@ pub(crate) fn exact_flag(kind: u16, value: &[u8]) -> Result<bool, DecodeError>
 /// Parses the two little-endian numbers in exactly eight bytes. Returns `WrongLength` with the kind
 /// for any other length.
 pub(crate) fn exact_u32_pair(kind: u16, value: &[u8]) -> Result<(u32, u32), DecodeError>
-    ensures { result ≡ (number_pair_value kind).reads tt value.now }
+    ensures { result ≡ (number_pair_value kind).parses tt value.now }
 {
     if value.len() != 8 {
         return Err(DecodeError::WrongLength {
@@ -73,8 +73,8 @@ impl<'a> NumbersView<'a> {
     /// `NotMultipleOfFour` if the length is not a multiple of four.
     pub(crate) fn parse(bytes: &'a [u8]) -> Result<NumbersView<'a>, DecodeError>
         ensures { MatchResult result
-            (λ numbers. numbers_value.reads tt bytes.entry.now ≡ Ok (numbers_view_model numbers))
-            (λ e. numbers_value.reads tt bytes.entry.now ≡ Err e) }
+            (λ numbers. numbers_value.parses tt bytes.entry.now ≡ Ok (numbers_view_model numbers))
+            (λ e. numbers_value.parses tt bytes.entry.now ≡ Err e) }
     {
         if bytes.len() % 4 != 0 {
             return Err(DecodeError::NotMultipleOfFour { got: bytes.len() });
@@ -130,7 +130,7 @@ impl<'a> NumbersView<'a> {
     /// list needs no allocation.
     pub fn to_owned(&self, alloc: Global) -> Result<Vec<u32>, AllocError>
         ensures equal { IfOk result (λ numbers. numbers.items ≡ numbers_view_model self.now) }
-        ensures spare { numbers_view_model self.now ≡ [] → IsOk result }
+        ensures needs_no_memory { numbers_view_model self.now ≡ [] → IsOk result }
     {
         if self.is_empty() {
             return Ok(Vec::new(alloc));
@@ -205,12 +205,12 @@ pub(crate) fn emit_numbers(numbers: &[u32], buffer: &mut [u8])
 }
 
 /// Proof only: puts the range of the number in scope. No run-time effect.
-pub(crate) fn byte_in_range(_byte: u8)
+pub(crate) fn prove_byte_in_range(_byte: u8)
     ensures { _byte < 256 }
 {}
 
 /// Proof only: puts the range of each number in scope. No run-time effect.
 #[tactic(auto, using(crate::specs::laws::Number::each_number_below))]
-pub(crate) fn words_in_range(_words: &[u32])
+pub(crate) fn prove_u32s_in_range(_words: &[u32])
     ensures { AllByRecursion (λ n. n < 2 ^ 32) _words.now }
 {}

@@ -14,6 +14,6 @@ pub(crate) fn emit_text(text: &str, buffer: &mut [u8])
 }
 
 /// Proof only: puts in scope that the text is UTF-8. No run-time effect.
-pub(crate) fn text_in_range(_text: &str)
+pub(crate) fn prove_text_in_range(_text: &str)
     ensures { IsUtf8 _text.now × IsBytes _text.now }
 {}

@@ -4,10 +4,10 @@ ghost use Rattle.std.specs.Prelude.{◌≡◌, ◌≤◌, length};
 ghost use Rattle.sock_diag_attributes.specs.private.Value.{value_bytes, IsValueInRange};
 ghost use Rattle.netlink_core.specs.Bytes.{HoldsAtStart};
 
-use crate::numbers::{byte_in_range, emit_numbers, emit_u32_pair, words_in_range};
-use crate::text::{emit_text, text_in_range};
+use crate::numbers::{emit_numbers, emit_u32_pair, prove_byte_in_range, prove_u32s_in_range};
+use crate::text::{emit_text, prove_text_in_range};
 use crate::unix::nlas::NameView;
-use netlink_core::{Coded, Emitable, bytes_in_range, emit_u32, word_in_range};
+use netlink_core::{Emitable, HasCodec, emit_u32, prove_bytes_in_range, prove_u32_in_range};
 use sock_diag_values::inet::{LegacyMemInfo, MemInfo, TcpInfo};
 use sock_diag_values::unix::{MemInfo as UnixMemInfo, Vfs};
 
@@ -75,25 +75,25 @@ impl Value<'_> {
     }
 
     /// Proof only: puts the range of each number in scope. No run-time effect.
-    pub(crate) fn in_range(&self)
+    pub(crate) fn prove_in_range(&self)
         ensures { IsValueInRange self.now }
     {
         match self {
-            Value::Byte(byte) => byte_in_range(*byte),
-            Value::Word(word) => word_in_range(*word),
+            Value::Byte(byte) => prove_byte_in_range(*byte),
+            Value::Word(word) => prove_u32_in_range(*word),
             Value::Pair(first, second) => {
-                word_in_range(*first);
-                word_in_range(*second);
+                prove_u32_in_range(*first);
+                prove_u32_in_range(*second);
             }
-            Value::Numbers(numbers) => words_in_range(numbers),
-            Value::Text(text) => text_in_range(text),
-            Value::Name(name) => name.in_range(),
-            Value::LegacyMemInfo(info) => info.in_range(),
-            Value::TcpInfo(info) => info.in_range(),
-            Value::MemInfo(info) => info.in_range(),
-            Value::UnixMemInfo(info) => info.in_range(),
-            Value::Vfs(vfs) => vfs.in_range(),
-            Value::Bytes(bytes) => bytes_in_range(bytes),
+            Value::Numbers(numbers) => prove_u32s_in_range(numbers),
+            Value::Text(text) => prove_text_in_range(text),
+            Value::Name(name) => name.prove_in_range(),
+            Value::LegacyMemInfo(info) => info.prove_in_range(),
+            Value::TcpInfo(info) => info.prove_in_range(),
+            Value::MemInfo(info) => info.prove_in_range(),
+            Value::UnixMemInfo(info) => info.prove_in_range(),
+            Value::Vfs(vfs) => vfs.prove_in_range(),
+            Value::Bytes(bytes) => prove_bytes_in_range(bytes),
         }
     }
 }

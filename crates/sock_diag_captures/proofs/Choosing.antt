@@ -9,13 +9,14 @@ use Rattle.std.proofs.lemmas.List.Sums.{AllPass-from_list_all, list_all-from_All
 use Rattle.std.proofs.lemmas.Slice.Eq.{bytes_eq-Decides}
 use Rattle.sock_diag_captures.specs.Choice.{are_letters, decides_command, is_letter}
 use Rattle.sock_diag_captures.specs.Choice.{with_argument_bytes}
-use Rattle.sock_diag_captures.specs.Words.{AreLetters, IsArgument, with_argument}
+use Rattle.sock_diag_captures.specs.Arguments.{AreLetters, IsArgument, with_argument}
 use Rattle.sock_diag_captures.specs.declared.options.Options.{Options}
-use Rattle.sock_diag_captures.specs.declared.words.Argument.{Argument}
-use Rattle.sock_diag_captures.specs.declared.words.Argument.TheVariants.{Help, Version, Letters}
-use Rattle.sock_diag_captures.specs.declared.words.Argument.TheVariants.{File}
-use Rattle.sock_diag_captures.specs.declared.words.Argument.TheVariants.{Unknown, Utf8, Requests}
-use Rattle.sock_diag_captures.specs.declared.words.Argument.TheVariants.{Netlink, Vsock, Xdp}
+use Rattle.sock_diag_captures.specs.declared.arguments.Argument.{Argument}
+use Rattle.sock_diag_captures.specs.declared.arguments.Argument.TheVariants.{Help, Version, Letters}
+use Rattle.sock_diag_captures.specs.declared.arguments.Argument.TheVariants.{File}
+use Rattle.sock_diag_captures.specs.declared.arguments.Argument.TheVariants.{Unknown, Utf8}
+use Rattle.sock_diag_captures.specs.declared.arguments.Argument.TheVariants.{Requests}
+use Rattle.sock_diag_captures.specs.declared.arguments.Argument.TheVariants.{Netlink, Vsock, Xdp}
 
 -- `bytes_eq` is false for two different lists.
 differ : (xs ys : List ℕ) → xs ≢ ys → bytes_eq xs ys ≡ false

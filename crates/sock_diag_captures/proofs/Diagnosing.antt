@@ -9,7 +9,7 @@ use Rattle.std.proofs.lemmas.List.{append-nil, length-append}
 use Rattle.netlink_core.proofs.Datagrams.{shorter-rest}
 use Rattle.netlink_core.specs.Datagram.{SplitsIntoMessages, StartsWithMessage}
 use Rattle.netlink_core.specs.Header.{IsMessageError}
-use Rattle.netlink_core.specs.declared.fault.DecodeError.{DecodeError}
+use Rattle.netlink_core.specs.declared.error.DecodeError.{DecodeError}
 use Rattle.sock_diag_captures.specs.Diagnostics.{DiagnosesContent, DiagnosesMessages, end_line}
 use Rattle.sock_diag_captures.specs.Diagnostics.{lines_about}
 use Rattle.sock_diag_captures.specs.Diagnostics.{lines_about_message}
@@ -114,10 +114,10 @@ module _ (front : List ℕ) (packet : ℕ) where
       → Diagnosed datagram rest before after count → rest ≢ [] → IsMessageError rest e
       → after' ≡ after ++ end_line front packet (count + 1) (Some e)
       → DiagnosesMessages front packet datagram before after'
-  diagnosed_stops datagram rest before after after' count e so_far some fault added = record {
+  diagnosed_stops datagram rest before after after' count e so_far some error added = record {
     messages = so_far.passed;
     end = Some e;
-    cut = all_of datagram rest before after count (Some e) so_far (some, fault);
+    cut = all_of datagram rest before after count (Some e) so_far (some, error);
     lines =
         added ∙ ap (λ (t : List ℕ). t ++ end_line front packet (count + 1) (Some e)) so_far.lines
         ∙ append_assoc before (lines_about front packet 1 so_far.passed)

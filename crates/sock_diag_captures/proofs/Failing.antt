@@ -10,7 +10,8 @@ use Rattle.std.proofs.KnownBytes.{Keeps-refl}
 use Rattle.program_streams.specs.Capture.{IsFileHeader, IsFileHeaderStop, IsPacketStop}
 use Rattle.program_streams.specs.Capture.{IsPacketRecord, CapturedPacket}
 use Rattle.program_streams.specs.declared.captures.CaptureError.{CaptureError}
-use Rattle.program_streams.specs.declared.captures.CaptureError.TheVariants.{Cut, PacketTooLong}
+use Rattle.program_streams.specs.declared.captures.CaptureError.TheVariants.{Truncated}
+use Rattle.program_streams.specs.declared.captures.CaptureError.TheVariants.{PacketTooLong}
 use Rattle.program_streams.specs.declared.captures.CaptureError.TheVariants.{Read}
 use Rattle.program_streams.specs.declared.captures.CaptureError.TheVariants.{Memory as NoMemory}
 use Rattle.program_streams.specs.declared.captures.FileHeader.{FileHeader}
@@ -24,7 +25,7 @@ use Rattle.sock_diag_captures.specs.declared.options.Options.{Options}
 use Rattle.sock_diag_captures.specs.Reports.{closing_line}
 use Rattle.sock_diag_captures.specs.Diagnostics.{DiagnosesPacket}
 use Rattle.sock_diag_captures.specs.Listing.{requests_after_packet}
-use Rattle.sock_diag_captures.specs.declared.requests.Asked.{Asked}
+use Rattle.sock_diag_captures.specs.declared.requests.Query.{Query}
 use Rattle.sock_diag_captures.specs.Run.{FailsAtWrite, Fails, Finishes, IsListed, IsTableOfCapture}
 use Rattle.sock_diag_captures.specs.Run.{RunState, ListedPacket}
 use Rattle.sock_diag_captures.specs.private.Run.{closing_text}
@@ -35,9 +36,9 @@ use Rattle.sock_diag_captures.proofs.Progress.{progress_begins}
 
 -- A reason to stop for one cause is a reason to stop for one of two causes.
 stop_weaker : (file : FileHeader) (left : Option (List ℕ)) (A B : Type 0) (part : List ℕ)
-    (fault : CaptureError)
-    → IsPacketStop file left A part fault → IsPacketStop file left (A ⊎ B) part fault
-stop_weaker file left A B part Cut h = h
+    (error : CaptureError)
+    → IsPacketStop file left A part error → IsPacketStop file left (A ⊎ B) part error
+stop_weaker file left A B part Truncated h = h
 stop_weaker file left A B part (Read error) h = (h.0, inl h.1)
 stop_weaker file left A B part NoMemory h = h
 stop_weaker file left A B part (PacketTooLong listings) h = h
@@ -53,9 +54,9 @@ appended_known None more = tt
 appended_known (Some xs) more = refl
 
 -- The error of a packet that could not be read is not a failed write.
-pub no_write : (number : ℕ) (fault : CaptureError) (e : ListError) (P : WriteError → Type 0)
-    → e ≡ Packet number fault → (error : WriteError) → e ≡ Write error → P error
-no_write number fault e P is error write = absurd cc
+pub no_write : (number : ℕ) (error : CaptureError) (e : ListError) (P : WriteError → Type 0)
+    → e ≡ Packet number error → (error : WriteError) → e ≡ Write error → P error
+no_write number error e P is error write = absurd cc
 
 -- A failed allocation is not a failed write.
 pub no_memory : (e : ListError) (P : WriteError → Type 0) → e ≡ Memory
@@ -65,10 +66,10 @@ no_memory e P is error write = absurd cc
 -- The run failed because the file header could not be read.
 pub fails_at_header : (o : Options) (a d x : Option (List ℕ)) (heading front : List ℕ)
     (Reported : List ℕ → Type 0) (unread : Type 0) (e : ListError) → Reported []
-    → ((fault : CaptureError) × (e ≡ Header fault) × (part : List ℕ) × Consumes a d part
-    × IsFileHeaderStop d unread part fault)
+    → ((error : CaptureError) × (e ≡ Header error) × (part : List ℕ) × Consumes a d part
+    × IsFileHeaderStop d unread part error)
     → Fails o a d x x heading front Reported unread e
-fails_at_header o a d x heading front Reported unread e none (fault, is, part, read, stop) =
+fails_at_header o a d x heading front Reported unread e none (error, is, part, read, stop) =
     subst (λ (e : ListError). Fails o a d x x heading front Reported unread e) (sym is)
     (part, read, stop, Keeps-refl x, none)
 
@@ -85,7 +86,7 @@ fails_at_write o a d x z heading front bytes lines diagnostics Reported whole ta
 module _ (o : Options) (front : List ℕ) (file : FileHeader) (header : List ℕ)
     (long : length header ≡ 24) (is : IsFileHeader header file) where
   -- the table of the packets so far
-  abbrev pub table_of : (b c y z : Option (List ℕ)) (asked : List Asked) (whole : Bool) (number : ℕ)
+  abbrev pub table_of : (b c y z : Option (List ℕ)) (asked : List Query) (whole : Bool) (number : ℕ)
       (p : Progress o front (IsPacketRecord file) b c y z asked whole number)
       → IsTableOfCapture o front (header ++ p.records) (flat_map lines_of_packet p.listings)
       p.diagnostics
@@ -109,7 +110,7 @@ module _ (o : Options) (front : List ℕ) (file : FileHeader) (header : List ℕ
   -- The state after the packets so far, if more bytes were read.
   progress_is_run_state : (a b c d x y z : Option (List ℕ)) (heading more : List ℕ)
       (Reported : List ℕ → Type 0)
-      (asked : List Asked) (whole : Bool) (number : ℕ)
+      (asked : List Query) (whole : Bool) (number : ℕ)
       (p : Progress o front (IsPacketRecord file) b c y z asked whole number)
       → Reported p.diagnostics
       → Consumes a b header → Consumes c d more → Appends x y heading
@@ -142,17 +143,17 @@ module _ (o : Options) (front : List ℕ) (file : FileHeader) (header : List ℕ
       (Consumes-trans a b b header [] first (Consumes-nil b)) sent rest (append-nil heading
       ∙ split) appended
 
-  module _ (a b c x y z : Option (List ℕ)) (heading : List ℕ) (asked : List Asked) (whole : Bool)
+  module _ (a b c x y z : Option (List ℕ)) (heading : List ℕ) (asked : List Query) (whole : Bool)
       (number : ℕ)
       (p : Progress o front (IsPacketRecord file) b c y z asked whole number)
       (first : Consumes a b header) (begun : Appends x y heading) where
     module _ (Reported : List ℕ → Type 0) (reported : Reported p.diagnostics) where
       -- The run failed because a packet could not be read.
       pub fails_at_packet : (d : Option (List ℕ)) (unread : Type 0) (e : ListError)
-          → ((fault : CaptureError) × (e ≡ Packet number fault) × (part : List ℕ)
-          × Consumes c d part × IsPacketStop file d unread part fault)
+          → ((error : CaptureError) × (e ≡ Packet number error) × (part : List ℕ)
+          × Consumes c d part × IsPacketStop file d unread part error)
           → Fails o a d x z heading front Reported unread e
-      fails_at_packet d unread e (fault, same, part, read, stop) =
+      fails_at_packet d unread e (error, same, part, read, stop) =
           subst (λ (e : ListError). Fails o a d x z heading front Reported unread e) (sym same) (
             file,
             length p.packets,
@@ -161,7 +162,7 @@ module _ (o : Options) (front : List ℕ) (file : FileHeader) (header : List ℕ
                 first read
                 begun,
             p.next,
-            stop_weaker file d unread (number ≡ 2 ^ 64 - 1) part fault stop,
+            stop_weaker file d unread (number ≡ 2 ^ 64 - 1) part error stop,
           )
 
       -- The run failed because the next packet has no number.
@@ -212,15 +213,15 @@ module _ (o : Options) (front : List ℕ) (file : FileHeader) (header : List ℕ
 
     -- The lines of a packet could not be written.
     pub fails_at_lines : (Reported : List ℕ → Type 0) (d z' : Option (List ℕ))
-        (head lines issues : List ℕ) (packet : CapturedPacket) (asked' : List Asked) (one : Bool)
-        → Reported (p.diagnostics ++ issues)
+        (head lines added : List ℕ) (packet : CapturedPacket) (asked' : List Query) (one : Bool)
+        → Reported (p.diagnostics ++ added)
         → IsPacketRecord file head packet → asked' ≡ requests_after_packet asked packet.bytes
         → IsListed o asked' packet (record { lines = lines; whole = one })
-        → DiagnosesPacket front number packet [] issues
+        → DiagnosesPacket front number packet [] added
         → Consumes c d (head ++ packet.bytes)
         → (sent rest : List ℕ) → lines ≡ sent ++ rest → Appends z z' sent
         → FailsAtWrite o a d x z' heading front Reported
-    fails_at_lines Reported d z' head lines issues packet asked' one reported record_of next
+    fails_at_lines Reported d z' head lines added packet asked' one reported record_of next
         listed diagnosed read sent rest split appended =
         let before = flat_map lines_of_packet p.listings in
         let new : ListedPacket = record { lines = lines; whole = one } in
@@ -243,13 +244,13 @@ module _ (o : Options) (front : List ℕ) (file : FileHeader) (header : List ℕ
           | inl t ↦ fails_at_write o a d x z' heading front _ _ _ Reported one
               (table_of b d y w asked' one (number + 1)
               (progress_continues_complete o front (IsPacketRecord file) b c d y z w head lines
-              issues packet asked
+              added packet asked
               asked' one whole number t p record_of next listed diagnosed read wrote))
               reported bytes ((heading ++ before) ++ sent) rest joined all
           | inr f ↦ fails_at_write o a d x z' heading front _ _ _ Reported whole
               (table_of b d y w asked' whole (number + 1)
               (progress_continues_incomplete o front (IsPacketRecord file) b c d y z w head lines
-              issues packet asked
+              added packet asked
               asked' one whole number f p record_of next listed diagnosed read wrote))
               reported bytes ((heading ++ before) ++ sent) rest joined all
         ]
@@ -304,9 +305,9 @@ module _ (o : Options) (left left' held held' : Option (List ℕ)) (heading fron
   pub fails_implies : (unread : Type 0) (e : ListError)
       → Fails o left left' held held' heading front P unread e
       → Fails o left left' held held' heading front Q unread e
-  fails_implies unread (Header fault) (part, read, stop, kept, reported) =
+  fails_implies unread (Header error) (part, read, stop, kept, reported) =
       (part, read, stop, kept, implies [] reported)
-  fails_implies unread (Packet number fault) (file, packets, part, h, is, stop) =
+  fails_implies unread (Packet number error) (file, packets, part, h, is, stop) =
       (file, packets, part, run_state_implies file packets part h, is, stop)
   fails_implies unread Memory (file, packets, header, packet, is, h) =
       (file, packets, header, packet, is, run_state_implies file packets (header ++ packet.bytes) h)

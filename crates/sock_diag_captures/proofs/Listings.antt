@@ -9,15 +9,15 @@ use Rattle.program_streams.specs.Capture.{CapturedPacket}
 use Rattle.sock_diag_captures.specs.declared.options.Options.{Options}
 use Rattle.netlink_core.specs.Datagram.{SplitsIntoMessages, StartsWithMessage}
 use Rattle.netlink_core.specs.Header.{IsMessageError}
-use Rattle.netlink_core.specs.declared.fault.DecodeError.{DecodeError}
+use Rattle.netlink_core.specs.declared.error.DecodeError.{DecodeError}
 use Rattle.sock_diag_captures.specs.Listing.{ListsPacket, ListsCapturedPacket}
-use Rattle.sock_diag_captures.specs.declared.requests.Asked.{Asked}
+use Rattle.sock_diag_captures.specs.declared.requests.Query.{Query}
 
 not_both : (b : Bool) → b ≡ false → b ≡ true → ⊥
 not_both b is_false is_true = cc
 
 -- A packet was listed without errors if its bytes were, and it was not truncated.
-pub listed_without_errors : (o : Options) (asked : List Asked) (packet : CapturedPacket)
+pub listed_without_errors : (o : Options) (asked : List Query) (packet : CapturedPacket)
     (before after : List ℕ)
     (listed whole : Bool) → (IsTrue whole ↔ (packet.header.whole_length ≤ length packet.bytes))
     → ListsPacket o asked packet before after listed
@@ -125,6 +125,6 @@ module _ (lines_of : List ℕ → List ℕ) (Plain : List ℕ → Type 0) where
   pub listing_stops : (datagram rest before after : List ℕ) (clean : Bool) (e : DecodeError)
       (so_far : ListedSoFar datagram rest before after clean) → rest ≢ [] → IsMessageError rest e
       → SplitsIntoMessages datagram so_far.passed (Some e)
-  listing_stops datagram rest before after clean e so_far some fault =
+  listing_stops datagram rest before after clean e so_far some error =
       subst (λ (all : List (List ℕ)). SplitsIntoMessages datagram all (Some e))
-      (append-nil so_far.passed) (so_far.walk [] (Some e) (some, fault))
+      (append-nil so_far.passed) (so_far.walk [] (Some e) (some, error))

@@ -8,13 +8,13 @@ use Rattle.byteorder.specs.Endian.{little_number}
 use Rattle.netlink_core.specs.Attribute.{Attribute, IsFramingError, StartsWithAttribute}
 use Rattle.netlink_core.specs.Attribute.{padding_length, header_and_value}
 use Rattle.netlink_core.specs.laws.Prefix.{length_field_counts}
-use Rattle.netlink_core.specs.declared.fault.DecodeError.{DecodeError}
-use Rattle.netlink_core.specs.declared.fault.DecodeError.TheVariants.{AttributeHeaderCut}
-use Rattle.netlink_core.specs.declared.fault.DecodeError.TheVariants.{AttributeLengthUnder4}
-use Rattle.netlink_core.specs.declared.fault.DecodeError.TheVariants.{AttributeLengthPast}
-use Rattle.netlink_core.proofs.Walking.{StartsWithAttribute-nonempty, attribute_prefix_of_start}
+use Rattle.netlink_core.specs.declared.error.DecodeError.{DecodeError}
+use Rattle.netlink_core.specs.declared.error.DecodeError.TheVariants.{AttributeHeaderCut}
+use Rattle.netlink_core.specs.declared.error.DecodeError.TheVariants.{AttributeLengthUnder4}
+use Rattle.netlink_core.specs.declared.error.DecodeError.TheVariants.{AttributeLengthPast}
+use Rattle.netlink_core.proofs.Iterating.{StartsWithAttribute-nonempty, attribute_prefix_of_start}
 use Rattle.attribute_lists.specs.AttributesIn.{attributes_after}
-use Rattle.attribute_lists.proofs.Standing.{first_attribute_is_found}
+use Rattle.attribute_lists.proofs.FirstAttribute.{first_attribute_is_found}
 use Rattle.sock_diag_captures.specs.Pieces.{AttributeOrError, before_error}
 use Rattle.sock_diag_captures.specs.Pieces.{first_attribute_or_error, attributes_or_error}
 

@@ -14,7 +14,7 @@ use Rattle.sock_diag_captures.specs.Diagnostics.{AreDiagnosed, DiagnosesPacket}
 use Rattle.sock_diag_captures.specs.Listing.{requests_after_packet}
 use Rattle.sock_diag_captures.specs.Run.{AreListed, ArePackets, IsListed, IsListedWithoutErrors}
 use Rattle.sock_diag_captures.specs.Run.{ListedPacket, lines_of_packet}
-use Rattle.sock_diag_captures.specs.declared.requests.Asked.{Asked}
+use Rattle.sock_diag_captures.specs.declared.requests.Query.{Query}
 
 pub not_both : (b : Bool) → b ≡ false → b ≡ true → ⊥
 not_both b is_false is_true = cc
@@ -43,13 +43,13 @@ lines_push xs x = flat_map-append lines_of_packet xs (x ∷ [])
     ∙ ap (λ (t : List ℕ). flat_map lines_of_packet xs ++ t) (append-nil x.lines)
 
 -- the requests after these packets
-pub requests_after_packets : List Asked → List CapturedPacket → List Asked
+pub requests_after_packets : List Query → List CapturedPacket → List Query
 requests_after_packets asked [] = asked
 requests_after_packets asked (p ∷ ps) =
     requests_after_packets (requests_after_packet asked p.bytes) ps
 
 -- One more packet was listed.
-pub listed_push : (o : Options) (asked : List Asked) (ps : List CapturedPacket)
+pub listed_push : (o : Options) (asked : List Query) (ps : List CapturedPacket)
     (xs : List ListedPacket)
     (p : CapturedPacket) (x : ListedPacket)
     → AreListed o asked ps xs → IsListed o
@@ -63,7 +63,7 @@ listed_push o asked (q ∷ ps) (y ∷ xs) p x h is =
     (h.0, listed_push o (requests_after_packet asked q.bytes) ps xs p x h.1 is)
 
 -- The requests after one more packet.
-pub requests_after_one_more : (asked : List Asked) (ps : List CapturedPacket) (p : CapturedPacket)
+pub requests_after_one_more : (asked : List Query) (ps : List CapturedPacket) (p : CapturedPacket)
     → requests_after_packets asked (ps ++ p ∷ [])
     ≡ requests_after_packet (requests_after_packets asked ps) p.bytes
 unfolding requests_after_packets
@@ -125,7 +125,7 @@ module _ (o : Options) (front : List ℕ) (R : List ℕ → CapturedPacket → T
   -- number of the next packet, and `is_whole` is true if and only if all were listed without
   -- errors.
   pub record Progress (remaining remaining' contents contents' : Option (List ℕ))
-      (asked : List Asked) (is_whole : Bool) (number : ℕ) : Type 0 where
+      (asked : List Query) (is_whole : Bool) (number : ℕ) : Type 0 where
     pub records : List ℕ
     pub packets : List CapturedPacket
     pub listings : List ListedPacket
@@ -159,36 +159,36 @@ module _ (o : Options) (front : List ℕ) (R : List ℕ → CapturedPacket → T
   }
 
   -- One more packet was read and listed.
-  abbrev pub progress_continues : (a b c x y z : Option (List ℕ)) (header lines issues : List ℕ)
+  abbrev pub progress_continues : (a b c x y z : Option (List ℕ)) (header lines added : List ℕ)
       (p : CapturedPacket)
-      (asked asked' : List Asked) (one whole whole' : Bool) (number : ℕ)
+      (asked asked' : List Query) (one whole whole' : Bool) (number : ℕ)
       → Progress a b x y asked whole number
       → R header p → asked' ≡ requests_after_packet asked p.bytes
       → IsListed o asked' p (record { lines = lines; whole = one })
-      → DiagnosesPacket front number p [] issues
+      → DiagnosesPacket front number p [] added
       → Consumes b c (header ++ p.bytes)
       → Appends y z lines
       → (IsTrue whole' → IsTrue whole) → (IsTrue whole' → IsTrue one)
       → (IsTrue whole → IsTrue one → IsTrue whole')
       → Progress a c x z asked' whole' (number + 1)
-  progress_continues a b c x y z header lines issues p asked asked' one whole whole' number so_far
+  progress_continues a b c x y z header lines added p asked asked' one whole whole' number so_far
       is
       next listed diagnosed read appended flagged last both =
       let new : ListedPacket = record { lines = lines; whole = one } in
       let after : asked' ≡ requests_after_packet (requests_after_packets [] so_far.packets)
       p.bytes =
-      next ∙ ap (λ (q : List Asked). requests_after_packet q p.bytes) so_far.seen in record {
+      next ∙ ap (λ (q : List Query). requests_after_packet q p.bytes) so_far.seen in record {
         records = so_far.records ++ (header ++ p.bytes);
         packets = so_far.packets ++ p ∷ [];
         listings = so_far.listings ++ new ∷ [];
-        diagnostics = so_far.diagnostics ++ issues;
+        diagnostics = so_far.diagnostics ++ added;
         read = Consumes-trans a b c so_far.records (header ++ p.bytes) so_far.read read;
         are_packets = packets_push so_far.records so_far.packets header p so_far.are_packets is;
         listed = listed_push o [] so_far.packets so_far.listings p new so_far.listed
-            (subst (λ (q : List Asked). IsListed o q p new) after listed);
-        diagnosed = diagnosed_push front 1 so_far.packets p so_far.diagnostics issues
+            (subst (λ (q : List Query). IsListed o q p new) after listed);
+        diagnosed = diagnosed_push front 1 so_far.packets p so_far.diagnostics added
             so_far.diagnosed
-            (subst (λ (k : ℕ). DiagnosesPacket front k p [] issues) so_far.next diagnosed);
+            (subst (λ (k : ℕ). DiagnosesPacket front k p [] added) so_far.next diagnosed);
         seen = after ∙ sym (requests_after_one_more [] so_far.packets p);
         appended = subst (λ (t : List ℕ). Appends x z t) (sym (lines_push so_far.listings new))
             (Appends-trans x y z (flat_map lines_of_packet so_far.listings) lines so_far.appended
@@ -201,37 +201,37 @@ module _ (o : Options) (front : List ℕ) (R : List ℕ → CapturedPacket → T
 
   -- One more packet was listed, and all packets before it were listed without errors.
   abbrev pub progress_continues_complete : (a b c x y z : Option (List ℕ))
-      (header lines issues : List ℕ)
+      (header lines added : List ℕ)
       (p : CapturedPacket)
-      (asked asked' : List Asked) (one whole : Bool) (number : ℕ) → whole ≡ true
+      (asked asked' : List Query) (one whole : Bool) (number : ℕ) → whole ≡ true
       → Progress a b x y asked whole number
       → R header p → asked' ≡ requests_after_packet asked p.bytes
       → IsListed o asked' p (record { lines = lines; whole = one })
-      → DiagnosesPacket front number p [] issues
+      → DiagnosesPacket front number p [] added
       → Consumes b c (header ++ p.bytes)
       → Appends y z lines → Progress a c x z asked' one (number + 1)
-  progress_continues_complete a b c x y z header lines issues p asked asked' one whole number
+  progress_continues_complete a b c x y z header lines added p asked asked' one whole number
       is_whole so_far is
       next listed diagnosed read appended =
-      progress_continues a b c x y z header lines issues p asked asked' one whole one number so_far
+      progress_continues a b c x y z header lines added p asked asked' one whole one number so_far
       is
       next listed diagnosed read appended (λ _. is_whole) (λ h. h) (λ _ h. h)
 
   -- One more packet was listed, and a packet before it had an error.
   abbrev pub progress_continues_incomplete : (a b c x y z : Option (List ℕ))
-      (header lines issues : List ℕ)
+      (header lines added : List ℕ)
       (p : CapturedPacket)
-      (asked asked' : List Asked) (one whole : Bool) (number : ℕ) → whole ≡ false
+      (asked asked' : List Query) (one whole : Bool) (number : ℕ) → whole ≡ false
       → Progress a b x y asked whole number
       → R header p → asked' ≡ requests_after_packet asked p.bytes
       → IsListed o asked' p (record { lines = lines; whole = one })
-      → DiagnosesPacket front number p [] issues
+      → DiagnosesPacket front number p [] added
       → Consumes b c (header ++ p.bytes)
       → Appends y z lines → Progress a c x z asked' whole (number + 1)
-  progress_continues_incomplete a b c x y z header lines issues p asked asked' one whole number
+  progress_continues_incomplete a b c x y z header lines added p asked asked' one whole number
       is_part so_far is
       next listed diagnosed read appended =
-      progress_continues a b c x y z header lines issues p asked asked' one whole whole number
+      progress_continues a b c x y z header lines added p asked asked' one whole whole number
       so_far
       is next listed diagnosed read appended
       (λ h. h) (λ h. absurd (not_both whole is_part h)) (λ h _. h)

@@ -80,8 +80,8 @@ pub closing_other : (front : List ℕ) (e : ListError) → (e ≡ Write Closed �
     → closing_line front e ≡ front ++ list_error_text e ++ 10 ∷ []
 closing_other front (Write Closed) other = absurd (other refl)
 closing_other front (Write Other) other = refl
-closing_other front (Header fault) other = refl
-closing_other front (Packet packet fault) other = refl
+closing_other front (Header error) other = refl
+closing_other front (Packet packet error) other = refl
 closing_other front Memory other = refl
 
 -- A clause about a success holds if the result is `Ok`.

@@ -12,7 +12,7 @@ use Rattle.sock_diag_captures.specs.Parts.{optional_part, packet_flags, pair_det
 use Rattle.sock_diag_captures.specs.Parts.{timer_if_shown}
 use Rattle.sock_diag_captures.specs.Escapes.{shown_name}
 use Rattle.sock_diag_captures.specs.Options.{shows_detail}
-use Rattle.sock_diag_captures.specs.declared.parts.TimerWords.{TimerWords}
+use Rattle.sock_diag_captures.specs.declared.parts.TimerFields.{TimerFields}
 use Rattle.sock_diag_captures.specs.declared.options.Detail.{Detail}
 use Rattle.sock_diag_captures.specs.declared.options.Detail.TheVariants.{Extended, Memory}
 use Rattle.sock_diag_captures.specs.declared.options.Detail.TheVariants.{Connection}
@@ -23,11 +23,11 @@ use Rattle.sock_diag_captures.specs.declared.options.Options.{Options}
 use Rattle.netlink_core.specs.Attribute.{Attribute, attribute_kind}
 use Rattle.netlink_core.specs.AttributeSet.{decode_attribute}
 use Rattle.netlink_core.specs.Layout.{parse_record}
-use Rattle.netlink_core.specs.declared.fault.DecodeError.{DecodeError}
-use Rattle.netlink_core.specs.declared.fault.DecodeError.TheVariants.{BufferTooSmall, WrongLength}
-use Rattle.netlink_core.specs.declared.fault.DecodeError.TheVariants.{NotMultipleOfFour, NotUtf8}
-use Rattle.netlink_core.specs.declared.fault.DecodeError.TheVariants.{NameEmpty, NameInnerZero}
-use Rattle.netlink_core.specs.declared.fault.DecodeError.TheVariants.{NameWithoutEnd}
+use Rattle.netlink_core.specs.declared.error.DecodeError.{DecodeError}
+use Rattle.netlink_core.specs.declared.error.DecodeError.TheVariants.{BufferTooSmall, WrongLength}
+use Rattle.netlink_core.specs.declared.error.DecodeError.TheVariants.{NotMultipleOfFour, NotUtf8}
+use Rattle.netlink_core.specs.declared.error.DecodeError.TheVariants.{NameEmpty, NameInnerZero}
+use Rattle.netlink_core.specs.declared.error.DecodeError.TheVariants.{NameWithoutEnd}
 use Rattle.sock_diag_values.specs.MemInfo.{mem_info}
 use Rattle.sock_diag_values.specs.declared.inet.legacy_mem_info.LegacyMemInfo.{LegacyMemInfo}
 use Rattle.sock_diag_values.specs.declared.inet.mem_info.MemInfo.{MemInfo}
@@ -272,7 +272,7 @@ attribute_or_error_detail o sockets (Err e) = []
 
 -- The timer fields of a reply about an IPv4 or IPv6 socket: `idiag_timer` at 2, `idiag_retrans` at
 -- 3 and `idiag_expires` at 52, in milliseconds.
-abbrev pub timer_in : List ℕ → TimerWords
+abbrev pub timer_in : List ℕ → TimerFields
 timer_in b = record {
   class = slice_index b 2;
   retransmits = slice_index b 3;
@@ -282,7 +282,7 @@ timer_in b = record {
 -- `details o sockets timer cookie given`: the details of a socket. They are the timer, the cookie
 -- (eight bytes) and the texts of the attributes `given`, as far as the options select them.
 -- `sockets` is the kind of sockets that the reply is about.
-abbrev pub details : Options → Sockets → TimerWords → List ℕ → List AttributeOrError → List ℕ
+abbrev pub details : Options → Sockets → TimerFields → List ℕ → List AttributeOrError → List ℕ
 details o sockets timer cookie given =
     timer_if_shown o timer ++ cookie_if_shown o cookie
     ++ flat_map (attribute_or_error_detail o sockets) given

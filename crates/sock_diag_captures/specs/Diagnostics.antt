@@ -6,35 +6,37 @@ use Rattle.byteorder.specs.Endian.{little_number}
 use Rattle.program_streams.specs.Capture.{CapturedPacket}
 use Rattle.sock_diag_captures.specs.Reports.{truncation_line, short_line}
 use Rattle.netlink_core.specs.Datagram.{SplitsIntoMessages}
-use Rattle.netlink_core.specs.declared.fault.DecodeError.{DecodeError}
-use Rattle.netlink_core.specs.declared.fault.DecodeError.TheVariants.{Memory, BufferTooSmall}
-use Rattle.netlink_core.specs.declared.fault.DecodeError.TheVariants.{UnsupportedFamily}
-use Rattle.netlink_core.specs.declared.fault.DecodeError.TheVariants.{MessageTooShort}
-use Rattle.netlink_core.specs.declared.fault.DecodeError.TheVariants.{UnknownFamily}
-use Rattle.netlink_core.specs.declared.fault.DecodeError.TheVariants.{UnknownMessageType}
-use Rattle.netlink_core.specs.declared.fault.DecodeError.TheVariants.{AttributeHeaderCut}
-use Rattle.netlink_core.specs.declared.fault.DecodeError.TheVariants.{AttributeLengthUnder4}
-use Rattle.netlink_core.specs.declared.fault.DecodeError.TheVariants.{AttributeLengthPast}
-use Rattle.netlink_core.specs.declared.fault.DecodeError.TheVariants.{WrongLength}
-use Rattle.netlink_core.specs.declared.fault.DecodeError.TheVariants.{NotMultipleOfFour, NotUtf8}
-use Rattle.netlink_core.specs.declared.fault.DecodeError.TheVariants.{NameEmpty, NameInnerZero}
-use Rattle.netlink_core.specs.declared.fault.DecodeError.TheVariants.{NameWithoutEnd, EnvelopeCut}
-use Rattle.netlink_core.specs.declared.fault.DecodeError.TheVariants.{EnvelopeLengthUnder16}
-use Rattle.netlink_core.specs.declared.fault.DecodeError.TheVariants.{EnvelopeLengthPast}
-use Rattle.netlink_core.specs.declared.fault.RecordName.{RecordName}
-use Rattle.netlink_core.specs.declared.fault.RecordName.TheVariants.{SocketId, InetRequest}
-use Rattle.netlink_core.specs.declared.fault.RecordName.TheVariants.{InetResponseHeader}
-use Rattle.netlink_core.specs.declared.fault.RecordName.TheVariants.{UnixRequest}
-use Rattle.netlink_core.specs.declared.fault.RecordName.TheVariants.{UnixResponseHeader}
-use Rattle.netlink_core.specs.declared.fault.RecordName.TheVariants.{LegacyMemInfo, MemInfo}
-use Rattle.netlink_core.specs.declared.fault.RecordName.TheVariants.{TcpInfo, Vfs, UnixMemInfo}
-use Rattle.netlink_core.specs.declared.fault.RecordName.TheVariants.{FamilyRequest}
-use Rattle.netlink_core.specs.declared.fault.RecordName.TheVariants.{FamilyResponseHeader}
-use Rattle.netlink_core.specs.declared.fault.RecordName.TheVariants.{FamilyAttribute}
+use Rattle.netlink_core.specs.declared.error.DecodeError.{DecodeError}
+use Rattle.netlink_core.specs.declared.error.DecodeError.TheVariants.{Memory, BufferTooSmall}
+use Rattle.netlink_core.specs.declared.error.DecodeError.TheVariants.{UnsupportedFamily}
+use Rattle.netlink_core.specs.declared.error.DecodeError.TheVariants.{MessageTooShort}
+use Rattle.netlink_core.specs.declared.error.DecodeError.TheVariants.{UnknownFamily}
+use Rattle.netlink_core.specs.declared.error.DecodeError.TheVariants.{UnknownMessageType}
+use Rattle.netlink_core.specs.declared.error.DecodeError.TheVariants.{AttributeHeaderCut}
+use Rattle.netlink_core.specs.declared.error.DecodeError.TheVariants.{AttributeLengthUnder4}
+use Rattle.netlink_core.specs.declared.error.DecodeError.TheVariants.{AttributeLengthPast}
+use Rattle.netlink_core.specs.declared.error.DecodeError.TheVariants.{WrongLength}
+use Rattle.netlink_core.specs.declared.error.DecodeError.TheVariants.{NotMultipleOfFour, NotUtf8}
+use Rattle.netlink_core.specs.declared.error.DecodeError.TheVariants.{NameEmpty, NameInnerZero}
+use Rattle.netlink_core.specs.declared.error.DecodeError.TheVariants.{NameWithoutEnd, EnvelopeCut}
+use Rattle.netlink_core.specs.declared.error.DecodeError.TheVariants.{EnvelopeLengthUnder16}
+use Rattle.netlink_core.specs.declared.error.DecodeError.TheVariants.{EnvelopeLengthPast}
+use Rattle.netlink_core.specs.declared.error.RecordName.{RecordName}
+use Rattle.netlink_core.specs.declared.error.RecordName.TheVariants.{SocketId, InetRequest}
+use Rattle.netlink_core.specs.declared.error.RecordName.TheVariants.{InetResponseHeader}
+use Rattle.netlink_core.specs.declared.error.RecordName.TheVariants.{UnixRequest}
+use Rattle.netlink_core.specs.declared.error.RecordName.TheVariants.{UnixResponseHeader}
+use Rattle.netlink_core.specs.declared.error.RecordName.TheVariants.{LegacyMemInfo, MemInfo}
+use Rattle.netlink_core.specs.declared.error.RecordName.TheVariants.{TcpInfo, Vfs, UnixMemInfo}
+use Rattle.netlink_core.specs.declared.error.RecordName.TheVariants.{FamilyRequest}
+use Rattle.netlink_core.specs.declared.error.RecordName.TheVariants.{FamilyResponseHeader}
+use Rattle.netlink_core.specs.declared.error.RecordName.TheVariants.{FamilyAttribute}
 use Rattle.sock_diag_captures.specs.Listing.{IsRequestDatagram, IsSockDiag, message_diagnostic}
-use Rattle.sock_diag_captures.specs.declared.list.Issue.{Issue}
-use Rattle.sock_diag_captures.specs.declared.list.Issue.TheVariants.{Refused, Answered, NoEntry}
-use Rattle.sock_diag_captures.specs.declared.list.Issue.TheVariants.{Invalid, Interrupted, Lost}
+use Rattle.sock_diag_captures.specs.declared.list.Diagnostic.{Diagnostic}
+use Rattle.sock_diag_captures.specs.declared.list.Diagnostic.TheVariants.{Refused, Answered}
+use Rattle.sock_diag_captures.specs.declared.list.Diagnostic.TheVariants.{NoEntry}
+use Rattle.sock_diag_captures.specs.declared.list.Diagnostic.TheVariants.{Invalid, Interrupted}
+use Rattle.sock_diag_captures.specs.declared.list.Diagnostic.TheVariants.{Lost}
 
 -- ---- texts
 
@@ -96,8 +98,8 @@ decode_error_text (EnvelopeLengthPast len got) =
     ++ codes " bytes given"
 
 -- the text of a diagnostic
-abbrev pub diagnostic_text : Issue → List ℕ
-diagnostic_text (Refused fault) = decode_error_text fault
+abbrev pub diagnostic_text : Diagnostic → List ℕ
+diagnostic_text (Refused error) = decode_error_text error
 diagnostic_text (Answered errno) = codes "the kernel returned error " ++ decimal errno
 diagnostic_text NoEntry = codes "note: the kernel returned ENOENT"
 diagnostic_text Invalid = codes "note: the kernel returned EINVAL"
@@ -106,22 +108,23 @@ diagnostic_text Lost = codes "the kernel lost data"
 
 -- ---- lines of messages
 
--- `message_line front packet message issue`: the line of a diagnostic about the message with the
--- number `message` in the packet with the number `packet`
-abbrev pub message_line : List ℕ → ℕ → ℕ → Issue → List ℕ
-message_line front packet message issue =
+-- `message_line front packet message diagnostic`: the line of a diagnostic about the message with
+-- the number `message` in the packet with the number `packet`
+abbrev pub message_line : List ℕ → ℕ → ℕ → Diagnostic → List ℕ
+message_line front packet message diagnostic =
     front ++ codes "packet " ++ decimal packet ++ codes ", message " ++ decimal message
-    ++ codes ": " ++ diagnostic_text issue ++ 10 ∷ []
+    ++ codes ": " ++ diagnostic_text diagnostic ++ 10 ∷ []
 
--- `diagnostic_line front packet message issue`: the line of a diagnostic about this message, or
--- nothing if there is none (None)
-abbrev pub diagnostic_line : List ℕ → ℕ → ℕ → Option Issue → List ℕ
+-- `diagnostic_line front packet message diagnostic`: the line of a diagnostic about this message,
+-- or nothing if there is none (None)
+abbrev pub diagnostic_line : List ℕ → ℕ → ℕ → Option Diagnostic → List ℕ
 diagnostic_line front packet message None = []
-diagnostic_line front packet message (Some issue) = message_line front packet message issue
+diagnostic_line front packet message
+    (Some diagnostic) = message_line front packet message diagnostic
 
 -- `interrupted_diagnostic m`: Interrupted if the message `m` has the flag NLM_F_DUMP_INTR (16) in
 -- `nlmsg_flags` at 6, else None
-abbrev pub interrupted_diagnostic : List ℕ → Option Issue
+abbrev pub interrupted_diagnostic : List ℕ → Option Diagnostic
 interrupted_diagnostic m =
     if bit_and (little_number 2 (drop 6 m)) 16 == 0 then None else Some Interrupted
 
@@ -140,12 +143,12 @@ lines_about front packet message [] = []
 lines_about front packet message (m ∷ later) =
     lines_about_message front packet message m ++ lines_about front packet (message + 1) later
 
--- `end_line front packet message fault`: the line about the bytes after the last message, with
+-- `end_line front packet message error`: the line about the bytes after the last message, with
 -- their decode error, or nothing if there are no such bytes. They count as the message with the
 -- number `message`.
 abbrev pub end_line : List ℕ → ℕ → ℕ → Option DecodeError → List ℕ
 end_line front packet message None = []
-end_line front packet message (Some fault) = message_line front packet message (Refused fault)
+end_line front packet message (Some error) = message_line front packet message (Refused error)
 
 -- ---- datagrams and packets
 

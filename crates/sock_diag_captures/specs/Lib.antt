@@ -9,7 +9,7 @@ pub mod Diagnostics
 pub mod Run
 pub mod Escapes
 pub mod Options
-pub mod Words
+pub mod Arguments
 pub mod Cells
 pub mod CellsModel
 pub mod Parts

@@ -16,10 +16,10 @@ use Rattle.sock_diag_captures.specs.declared.options.Options.{Options}
 use Rattle.netlink_core.specs.Datagram.{SplitsIntoMessages}
 use Rattle.netlink_core.specs.Layout.{Layout, parse_record}
 use Rattle.netlink_core.specs.Header.{HasHeader}
-use Rattle.netlink_core.specs.declared.fault.DecodeError.{DecodeError}
-use Rattle.netlink_core.specs.declared.fault.DecodeError.TheVariants.{UnknownFamily}
+use Rattle.netlink_core.specs.declared.error.DecodeError.{DecodeError}
+use Rattle.netlink_core.specs.declared.error.DecodeError.TheVariants.{UnknownFamily}
 use Rattle.netlink_core.specs.declared.header.NetlinkHeader.{NetlinkHeader}
-use Rattle.netlink_core.specs.Envelope.{leading_error_number}
+use Rattle.netlink_core.specs.NetlinkMessage.{leading_error_number}
 use Rattle.sock_diag_records.specs.InetResponse.{inet_response_header}
 use Rattle.sock_diag_records.specs.UnixResponseHeader.{unix_response_header}
 use Rattle.sock_diag_records.specs.ResponseKind.{MessageKind, inet_response, response_kind}
@@ -32,14 +32,14 @@ use Rattle.sock_diag_captures.specs.Pieces.{AttributeOrError, framing_error_of, 
 use Rattle.sock_diag_captures.specs.RequestLine.{request_line_if_selected}
 use Rattle.sock_diag_captures.specs.Requests.{with_request_in_datagram, protocol_of}
 use Rattle.sock_diag_captures.specs.declared.others.OtherSocket.{OtherSocket}
-use Rattle.sock_diag_captures.specs.declared.requests.Asked.{Asked}
+use Rattle.sock_diag_captures.specs.declared.requests.Query.{Query}
 use Rattle.sock_diag_captures.specs.Details.{timer_in}
 use Rattle.sock_diag_captures.specs.Others.{family_numbered, netlink_socket, other_lines}
 use Rattle.sock_diag_captures.specs.Others.{packet_socket, vsock_socket, xdp_socket}
 use Rattle.sock_diag_captures.specs.Table.{inet_lines, unix_lines}
-use Rattle.sock_diag_captures.specs.declared.list.Issue.{Issue}
-use Rattle.sock_diag_captures.specs.declared.list.Issue.TheVariants.{Refused, Answered, Lost}
-use Rattle.sock_diag_captures.specs.declared.list.Issue.TheVariants.{Invalid, NoEntry}
+use Rattle.sock_diag_captures.specs.declared.list.Diagnostic.{Diagnostic}
+use Rattle.sock_diag_captures.specs.declared.list.Diagnostic.TheVariants.{Refused, Answered, Lost}
+use Rattle.sock_diag_captures.specs.declared.list.Diagnostic.TheVariants.{Invalid, NoEntry}
 
 -- ---- replies
 
@@ -139,11 +139,11 @@ lines_by_type o protocol t payload =
 
 -- `protocol_for asked m`: the protocol of the request that the message `m` answers, by its sequence
 -- number (`nlmsg_seq` at 8) and its port number (`nlmsg_pid` at 12); None if it is not known
-abbrev pub protocol_for : List Asked → List ℕ → Option ℕ
+abbrev pub protocol_for : List Query → List ℕ → Option ℕ
 protocol_for asked m = protocol_of asked (little_number 4 (drop 8 m)) (little_number 4 (drop 12 m))
 
 -- `message_lines o asked m`: the lines of the message `m`, whose payload is at 16
-abbrev pub message_lines : Options → List Asked → List ℕ → List ℕ
+abbrev pub message_lines : Options → List Query → List ℕ → List ℕ
 message_lines o asked m = lines_by_type o (protocol_for asked m) (type_of m) (drop 16 m)
 
 -- `negated_if_negative n`: the absolute value of a negative number; 0 for any other number, and for
@@ -160,7 +160,7 @@ errno_in payload = negated_if_negative (leading_error_number payload)
 
 -- The diagnostic of an error number: none for 0, a note for ENOENT (2) and EINVAL (22), or else an
 -- error.
-abbrev pub errno_diagnostic : ℕ → Option Issue
+abbrev pub errno_diagnostic : ℕ → Option Diagnostic
 errno_diagnostic n =
     if n == 0 then None else if n == 2 then Some NoEntry else if n == 22 then Some Invalid
     else Some (Answered n)
@@ -168,35 +168,35 @@ errno_diagnostic n =
 -- `control_diagnostic t payload`: the diagnostic of a control message: none for NLMSG_NOOP (1),
 -- Lost for NLMSG_OVERRUN (4); for NLMSG_ERROR (2) and NLMSG_DONE (3) that of the error number in
 -- the payload
-abbrev pub control_diagnostic : ℕ → List ℕ → Option Issue
+abbrev pub control_diagnostic : ℕ → List ℕ → Option Diagnostic
 control_diagnostic t payload =
     if t == 1 then None else if t == 4 then Some Lost else errno_diagnostic (errno_in payload)
 
 -- `diagnostic_by_type t payload`: the diagnostic of a message with the type `t` and this payload,
 -- except for Interrupted: that of a control message, or the decode error of any other message
 -- (Refused)
-abbrev pub diagnostic_by_type : ℕ → List ℕ → Option Issue
+abbrev pub diagnostic_by_type : ℕ → List ℕ → Option Diagnostic
 diagnostic_by_type t payload =
     if is_control t then control_diagnostic t payload
     else option_map Refused (payload_error (response_kind payload t) payload)
 
 -- the diagnostic of a message, except for Interrupted
-abbrev pub message_diagnostic : List ℕ → Option Issue
+abbrev pub message_diagnostic : List ℕ → Option Diagnostic
 message_diagnostic m = diagnostic_by_type (type_of m) (drop 16 m)
 
--- `is_note_or_none issue`: there is no diagnostic, or it is one of the two notes, so that no socket
--- is missing from the table
-abbrev pub is_note_or_none : Option Issue → Bool
-is_note_or_none None = true
-is_note_or_none (Some NoEntry) = true
-is_note_or_none (Some Invalid) = true
-is_note_or_none (Some issue) = false
+-- `is_informational_or_none diagnostic`: there is no diagnostic, or it is one of the two notes, so
+-- that no socket is missing from the table
+abbrev pub is_informational_or_none : Option Diagnostic → Bool
+is_informational_or_none None = true
+is_informational_or_none (Some NoEntry) = true
+is_informational_or_none (Some Invalid) = true
+is_informational_or_none (Some diagnostic) = false
 
 -- `IsCleanMessage m`: the message `m` has neither the flag NLM_F_DUMP_INTR (16) in `nlmsg_flags` at
 -- 6, nor a diagnostic other than a note
 abbrev pub IsCleanMessage : List ℕ → Type 0
 IsCleanMessage m = (bit_and (little_number 2 (drop 6 m)) 16 ≡ 0)
-    × IsTrue (is_note_or_none (message_diagnostic m))
+    × IsTrue (is_informational_or_none (message_diagnostic m))
 
 -- ---- datagrams and packets
 
@@ -214,7 +214,7 @@ IsSockDiag packet = (16 ≤ length packet) × IsOfSockDiag packet
 -- the lines of each message of a datagram, in order. `is_clean` is true if and only if each message
 -- is clean (`IsCleanMessage`) and there is no error of bytes after the last one (`end`). `asked`
 -- are the requests that the messages may answer.
-pub record ListsMessages (o : Options) (asked : List Asked) (datagram before after : List ℕ)
+pub record ListsMessages (o : Options) (asked : List Query) (datagram before after : List ℕ)
     (is_clean : Bool) : Type 0 where
   -- the messages of the datagram, without the padding between them
   pub messages : List (List ℕ)
@@ -228,7 +228,7 @@ pub record ListsMessages (o : Options) (asked : List Asked) (datagram before aft
 -- `before` and the lines of the datagram. Either it is not a request: these are the lines of its
 -- messages. Or it is a request: it has only its own line, if `--requests` is set, and is always
 -- clean. `header` is the packet header, with the time of capture.
-abbrev pub ListsDatagram : Options → List Asked → PacketHeader → List ℕ → List ℕ → List ℕ → Bool
+abbrev pub ListsDatagram : Options → List Query → PacketHeader → List ℕ → List ℕ → List ℕ → Bool
     → Type 0
 ListsDatagram o asked header datagram before after is_clean =
     ((IsRequestDatagram datagram → ⊥) × ListsMessages o asked datagram before after is_clean)
@@ -238,7 +238,7 @@ ListsDatagram o asked header datagram before after is_clean =
 -- `requests_after_packet asked packet`: the requests after a packet. If it has a cooked header of
 -- sock_diag(7) (the hardware type at 2 is 824 and the protocol at 14 is 4, both big-endian), the
 -- request that its datagram begins with is added, if there is one. The datagram is at 16.
-unfoldable pub requests_after_packet : List Asked → List ℕ → List Asked
+unfoldable pub requests_after_packet : List Query → List ℕ → List Query
 requests_after_packet asked packet =
     if nat_lt (length packet) 16 then asked
     else if (big_number 2 (drop 2 packet) == 824) && (big_number 2 (drop 14 packet) == 4)
@@ -248,7 +248,7 @@ requests_after_packet asked packet =
 -- lines of a packet: those of its datagram if it is one of sock_diag(7), or else none. A packet of
 -- another protocol is clean, and a packet with fewer than 16 bytes is not. Whether the packet was
 -- truncated is not considered.
-abbrev pub ListsPacket : Options → List Asked → CapturedPacket → List ℕ → List ℕ → Bool → Type 0
+abbrev pub ListsPacket : Options → List Query → CapturedPacket → List ℕ → List ℕ → Bool → Type 0
 ListsPacket o asked packet before after is_clean =
     (IsSockDiag packet.bytes
     × ListsDatagram o asked packet.header (drop 16 packet.bytes) before after is_clean)
@@ -259,7 +259,7 @@ ListsPacket o asked packet before after is_clean =
 -- and the lines of the packet. `is_whole` is true if and only if the packet was listed without
 -- errors: it is clean and was not truncated, so it has at least as many bytes as its original
 -- length.
-abbrev pub ListsCapturedPacket : Options → List Asked → CapturedPacket → List ℕ → List ℕ → Bool
+abbrev pub ListsCapturedPacket : Options → List Query → CapturedPacket → List ℕ → List ℕ → Bool
     → Type 0
 ListsCapturedPacket o asked packet before after is_whole =
     (is_clean : Bool) × ListsPacket o asked packet before after is_clean

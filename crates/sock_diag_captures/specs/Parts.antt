@@ -7,7 +7,7 @@ use Rattle.byteorder.specs.Endian.{little_number}
 use Rattle.sock_diag_captures.specs.Options.{shows_detail}
 use Rattle.sock_diag_captures.specs.declared.options.Detail.TheVariants.{Timer, Extended}
 use Rattle.sock_diag_captures.specs.declared.options.Options.{Options}
-use Rattle.sock_diag_captures.specs.declared.parts.TimerWords.{TimerWords}
+use Rattle.sock_diag_captures.specs.declared.parts.TimerFields.{TimerFields}
 
 -- a space, the name, a colon and a number in decimal
 abbrev pub detail : List ℕ → ℕ → List ℕ
@@ -59,18 +59,18 @@ timer_name class =
 
 -- The timer: its kind, the time until it expires, in milliseconds, and the number of retransmits.
 -- Nothing if no timer runs. Example: ` timer:(on,200ms,3)`.
-abbrev pub timer_text : TimerWords → List ℕ
+abbrev pub timer_text : TimerFields → List ℕ
 timer_text t =
     if t.class == 0 then []
     else codes " timer:(" ++ timer_name t.class ++ 44 ∷ decimal t.expires ++ codes "ms,"
     ++ decimal t.retransmits ++ 41 ∷ []
 
 -- the timer fields of a socket without a timer
-abbrev pub no_timer : TimerWords
+abbrev pub no_timer : TimerFields
 no_timer = record { class = 0; retransmits = 0; expires = 0 }
 
 -- the timer, if its group of details is shown
-abbrev pub timer_if_shown : Options → TimerWords → List ℕ
+abbrev pub timer_if_shown : Options → TimerFields → List ℕ
 timer_if_shown o timer = if shows_detail o Timer then timer_text timer else []
 
 -- ` sk:` and the cookie as a little-endian number of eight bytes, in hexadecimal digits, if the

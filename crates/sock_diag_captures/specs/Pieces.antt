@@ -9,14 +9,14 @@ use Rattle.byteorder.specs.Endian.{little_number}
 use Rattle.netlink_core.specs.Attribute.{Attribute, padding_length, attribute_kind}
 use Rattle.netlink_core.specs.AttributeSet.{AttributeSet, AttributeValue, ValueOfKind}
 use Rattle.netlink_core.specs.AttributeSet.{value_of_kind, decode_attribute}
-use Rattle.netlink_core.specs.Faults.{map_ok}
+use Rattle.netlink_core.specs.Errors.{map_ok}
 use Rattle.netlink_core.specs.Walk.{buffered_attribute, unread_bytes}
 use Rattle.netlink_core.specs.declared.attribute.NlaBuffer.{NlaBuffer}
 use Rattle.netlink_core.specs.declared.attribute.NlasIterator.{NlasIterator}
-use Rattle.netlink_core.specs.declared.fault.DecodeError.{DecodeError}
-use Rattle.netlink_core.specs.declared.fault.DecodeError.TheVariants.{AttributeHeaderCut}
-use Rattle.netlink_core.specs.declared.fault.DecodeError.TheVariants.{AttributeLengthUnder4}
-use Rattle.netlink_core.specs.declared.fault.DecodeError.TheVariants.{AttributeLengthPast}
+use Rattle.netlink_core.specs.declared.error.DecodeError.{DecodeError}
+use Rattle.netlink_core.specs.declared.error.DecodeError.TheVariants.{AttributeHeaderCut}
+use Rattle.netlink_core.specs.declared.error.DecodeError.TheVariants.{AttributeLengthUnder4}
+use Rattle.netlink_core.specs.declared.error.DecodeError.TheVariants.{AttributeLengthPast}
 
 -- an attribute, or the error of bytes that are not one
 abbrev pub AttributeOrError : Type 0

@@ -39,9 +39,9 @@ short_line front packet = packet_line front packet (codes "fewer than 16 bytes")
 
 -- the text of an error of a run
 abbrev pub list_error_text : ListError → List ℕ
-list_error_text (Header fault) = capture_error_text fault
-list_error_text (Packet packet fault) =
-    codes "packet " ++ decimal packet ++ codes ": " ++ capture_error_text fault
+list_error_text (Header error) = capture_error_text error
+list_error_text (Packet packet error) =
+    codes "packet " ++ decimal packet ++ codes ": " ++ capture_error_text error
 list_error_text (Write error) = write_error_text error
 list_error_text Memory = codes "out of memory"
 

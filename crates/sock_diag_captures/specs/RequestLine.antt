@@ -12,7 +12,7 @@ use Rattle.sock_diag_captures.specs.declared.options.Options.{Options}
 use Rattle.sock_diag_captures.specs.Requests.{inet_request_in_datagram}
 use Rattle.sock_diag_captures.specs.Table.{inet_kind}
 use Rattle.sock_diag_captures.specs.Others.{family_numbered}
-use Rattle.sock_diag_captures.specs.declared.requests.Asked.{Asked}
+use Rattle.sock_diag_captures.specs.declared.requests.Query.{Query}
 
 -- `requested_unix_states b`: the requested states of UNIX sockets, a bit for each, if the datagram
 -- `b` begins with such a request: it has at least 40 bytes, a netlink header with `nlmsg_type` 20
@@ -44,7 +44,7 @@ requested_family_text None = codes "other"
 -- `request_text asked states family`: the text about the requested sockets. It has the protocol and
 -- the requested states of IPv4 or IPv6 sockets (`asked`), or else `unix` and the requested states,
 -- or else the name of the family. Example: `tcp states:0xfff`.
-abbrev pub request_text : Option Asked → Option ℕ → Option Family → List ℕ
+abbrev pub request_text : Option Query → Option ℕ → Option Family → List ℕ
 request_text (Some a) states family =
     inet_kind (Some a.protocol) a.family ++ hex_detail (codes "states") a.states
 request_text None (Some states) family = codes "unix" ++ hex_detail (codes "states") states

@@ -5,7 +5,7 @@ use Rattle.std.specs.Prelude.{length, bit_and, slice_index, ◌&&◌, Option, No
 use Rattle.byteorder.specs.Endian.{little_number}
 use Rattle.netlink_core.specs.Attribute.{Attribute}
 use Rattle.sock_diag_captures.specs.Pieces.{first_of_kind, attributes_or_error}
-use Rattle.sock_diag_captures.specs.declared.requests.Asked.{Asked}
+use Rattle.sock_diag_captures.specs.declared.requests.Query.{Query}
 
 -- `protocol_by byte attribute`: the protocol of a request. It is the little-endian value of its
 -- attribute INET_DIAG_REQ_PROTOCOL, if there is one and its value has four bytes, or else the byte
@@ -18,7 +18,7 @@ protocol_by byte (Some a) = if length a.value == 4 then little_number 4 a.value 
 -- `nlmsg_seq` at 8, `nlmsg_pid` at 12, `sdiag_family` at 16, `sdiag_protocol` at 17, `idiag_states`
 -- at 20, and attributes from 72 on, of which type 3 is INET_DIAG_REQ_PROTOCOL. Numbers are
 -- little-endian.
-abbrev pub inet_request_fields : List ℕ → Asked
+abbrev pub inet_request_fields : List ℕ → Query
 inet_request_fields r = record {
   sequence_number = little_number 4 (drop 8 r);
   port_number = little_number 4 (drop 12 r);
@@ -31,7 +31,7 @@ inet_request_fields r = record {
 -- for IPv4 or IPv6 sockets: `nlmsg_type` at 4 is 20 (SOCK_DIAG_BY_FAMILY), `nlmsg_flags` at 6 have
 -- bit 0 (NLM_F_REQUEST, 1), and the family at 16 is 2 (AF_INET) or 10 (AF_INET6). None for any
 -- other message.
-abbrev pub inet_request_in_message : List ℕ → Option Asked
+abbrev pub inet_request_in_message : List ℕ → Option Query
 inet_request_in_message r =
     if not (little_number 2 (drop 4 r) == 20) || (bit_and (little_number 2 (drop 6 r)) 1 == 0)
     then None
@@ -40,7 +40,7 @@ inet_request_in_message r =
 
 -- `inet_request_in_datagram b`: the request in the first message of the datagram `b`, or None.
 -- `nlmsg_len` at 0 must be at least 72, and at most the length of the datagram.
-abbrev pub inet_request_in_datagram : List ℕ → Option Asked
+abbrev pub inet_request_in_datagram : List ℕ → Option Query
 inet_request_in_datagram b =
     if nat_lt (length b) 72 then None
     else if nat_lt (little_number 4 b) 72 || nat_lt (length b) (little_number 4 b) then None
@@ -49,20 +49,20 @@ inet_request_in_datagram b =
 -- `with_newest_request newest asked`: the requests after one more: `newest` first, if there is one,
 -- and then at most 15 of the older ones in `asked`. So at most 16 are kept, from the newest to the
 -- oldest.
-abbrev pub with_newest_request : Option Asked → List Asked → List Asked
+abbrev pub with_newest_request : Option Query → List Query → List Query
 with_newest_request None asked = asked
 with_newest_request (Some newest) asked = newest ∷ take 15 asked
 
 -- `with_request_in_datagram asked datagram`: the requests after a datagram: those in `asked`, and
 -- the one that the datagram begins with, if there is one
-abbrev pub with_request_in_datagram : List Asked → List ℕ → List Asked
+abbrev pub with_request_in_datagram : List Query → List ℕ → List Query
 with_request_in_datagram asked datagram =
     with_newest_request (inet_request_in_datagram datagram) asked
 
 -- `protocol_of asked sequence port`: the protocol of the newest request that a reply with this
 -- sequence number (`nlmsg_seq`) and this port number (`nlmsg_pid`) may answer: its sequence number
 -- is equal, and its port number is equal or 0. None if there is no such request.
-abbrev pub protocol_of : List Asked → ℕ → ℕ → Option ℕ
+abbrev pub protocol_of : List Query → ℕ → ℕ → Option ℕ
 protocol_of [] sequence port = None
 protocol_of (a ∷ asked) sequence port =
     if (a.sequence_number == sequence) && ((a.port_number == port) || (a.port_number == 0))

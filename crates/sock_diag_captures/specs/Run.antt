@@ -13,7 +13,7 @@ use Rattle.program_streams.specs.Capture.{IsPacketRecord, CapturedPacket}
 use Rattle.sock_diag_captures.specs.declared.options.Options.{Options}
 use Rattle.sock_diag_captures.specs.Diagnostics.{AreDiagnosed}
 use Rattle.sock_diag_captures.specs.Listing.{ListsCapturedPacket, requests_after_packet}
-use Rattle.sock_diag_captures.specs.declared.requests.Asked.{Asked}
+use Rattle.sock_diag_captures.specs.declared.requests.Query.{Query}
 
 -- the lines of a packet, and whether it was listed without errors
 pub record ListedPacket : Type 0 where
@@ -32,12 +32,12 @@ IsListedWithoutErrors listing = IsTrue listing.whole
 
 -- `IsListed o asked packet listing`: `listing` has the lines of the packet, and whether it was
 -- listed without errors. `asked` are the requests up to and including this packet.
-abbrev pub IsListed : Options → List Asked → CapturedPacket → ListedPacket → Type 0
+abbrev pub IsListed : Options → List Query → CapturedPacket → ListedPacket → Type 0
 IsListed o asked packet listing = ListsCapturedPacket o asked packet [] listing.lines listing.whole
 
 -- `AreListed o asked packets listings`: one listing for each of these consecutive packets, in
 -- order. `asked` are the requests before the first of them.
-abbrev pub AreListed : Options → List Asked → List CapturedPacket → List ListedPacket → Type 0
+abbrev pub AreListed : Options → List Query → List CapturedPacket → List ListedPacket → Type 0
 AreListed o asked [] [] = ⊤
 AreListed o asked [] (listing ∷ later) = ⊥
 AreListed o asked (packet ∷ packets) [] = ⊥
@@ -124,12 +124,12 @@ module _ (o : Options) (left left' held held' : Option (List ℕ)) (heading fron
   --   before it were listed.
   -- * Write: a write or the last flush failed.
   abbrev pub Fails : Type 0 → ListError → Type 0
-  Fails unread (Header fault) =
-      (part : List ℕ) × Consumes left left' part × IsFileHeaderStop left' unread part fault
+  Fails unread (Header error) =
+      (part : List ℕ) × Consumes left left' part × IsFileHeaderStop left' unread part error
       × Keeps held held' × Reported []
-  Fails unread (Packet number fault) =
+  Fails unread (Packet number error) =
       (file : FileHeader) × (packets : ℕ) × (part : List ℕ) × RunState file packets part
-      × (number ≡ packets + 1) × IsPacketStop file left' (unread ⊎ (number ≡ 2 ^ 64 - 1)) part fault
+      × (number ≡ packets + 1) × IsPacketStop file left' (unread ⊎ (number ≡ 2 ^ 64 - 1)) part error
   Fails unread Memory =
       (file : FileHeader) × (packets : ℕ) × (header : List ℕ) × (packet : CapturedPacket)
       × IsPacketRecord file header packet × RunState file packets (header ++ packet.bytes)

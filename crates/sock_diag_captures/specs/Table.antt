@@ -6,7 +6,7 @@ use Rattle.sock_diag_captures.specs.Cells.{endpoint, table_line, peer_cell}
 use Rattle.sock_diag_captures.specs.Parts.{no_timer, details_after_separator}
 use Rattle.sock_diag_captures.specs.Escapes.{byte_digits, unescaped_bytes, shown_name}
 use Rattle.sock_diag_captures.specs.Options.{lists_protocol, lists_unix}
-use Rattle.sock_diag_captures.specs.declared.parts.TimerWords.{TimerWords}
+use Rattle.sock_diag_captures.specs.declared.parts.TimerFields.{TimerFields}
 use Rattle.sock_diag_captures.specs.declared.options.Options.{Options}
 use Rattle.sock_diag_records.specs.declared.inet.response.InetResponseHeader.{InetResponseHeader}
 use Rattle.sock_diag_records.specs.declared.unix.response.UnixResponseHeader.{UnixResponseHeader}
@@ -119,7 +119,8 @@ unix_lines o h given =
 -- `inet_lines o protocol timer h given`: the lines of an IPv4 or IPv6 socket, if the options select
 -- its protocol: the columns, the details and a line feed (10). Else nothing. `timer` are the timer
 -- fields of the reply's header (`timer_in`).
-abbrev pub inet_lines : Options → Option ℕ → TimerWords → InetResponseHeader → List AttributeOrError
+abbrev pub inet_lines : Options → Option ℕ → TimerFields → InetResponseHeader
+    → List AttributeOrError
     → List ℕ
 inet_lines o protocol timer h given =
     if lists_protocol o protocol

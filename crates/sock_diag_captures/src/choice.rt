@@ -3,8 +3,8 @@
 ghost use Rattle.std.specs.Prelude.{map, string_bytes};
 ghost use Rattle.sock_diag_captures.specs.Choice.{IsChoice};
 
+use crate::arguments::{Argument, parse_argument};
 use crate::options::Options;
-use crate::words::{Argument, parse_argument};
 
 /// The request of a command line.
 #[derive(Clone, Copy, Debug)]

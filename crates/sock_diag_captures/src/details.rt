@@ -22,7 +22,7 @@ use crate::cells::push_number;
 use crate::names::push_shown;
 use crate::options::{Detail, Family, Options};
 use crate::parts::{
-    TimerWords, push_detail, push_directions, push_flag, push_hex_detail, push_packet_flags,
+    TimerFields, push_detail, push_directions, push_flag, push_hex_detail, push_packet_flags,
     push_pair, push_part, push_shown_cookie, push_shown_timer, push_some, separator,
 };
 use crate::pieces::next_piece;
@@ -71,11 +71,11 @@ macro_rules! push_fields {
 }
 
 /// Returns the timer fields of a reply about an IPv4 or IPv6 socket.
-pub(crate) fn timer_of(payload: &[u8]) -> TimerWords
+pub(crate) fn timer_of(payload: &[u8]) -> TimerFields
     requires { 72 ≤ length payload.now }
     ensures { result ≡ timer_in payload.now }
 {
-    TimerWords {
+    TimerFields {
         class: payload[2],
         retransmits: payload[3],
         expires: LittleEndian::read_u32(&payload[52..]),
@@ -88,7 +88,7 @@ pub(crate) fn push_details(
     text: &mut Vec<u8>,
     options: Options,
     sockets: Sockets,
-    timer: &TimerWords,
+    timer: &TimerFields,
     cookie: &[u8; 8],
     bytes: &[u8],
 ) -> Result<(), AllocError>
@@ -113,7 +113,7 @@ fn push_selected(
     text: &mut Vec<u8>,
     options: Options,
     sockets: Sockets,
-    timer: &TimerWords,
+    timer: &TimerFields,
     cookie: &[u8; 8],
     bytes: &[u8],
 ) -> Result<(), AllocError>
@@ -162,11 +162,11 @@ fn push_attribute(
     match sockets {
         Sockets::Unix => match UnixView::parse(nla) {
             Ok(view) => push_unix(text, nla, &view),
-            Err(fault) => push_invalid(text, nla, &fault),
+            Err(error) => push_invalid(text, nla, &error),
         },
         Sockets::Inet => match InetView::parse(nla) {
             Ok(view) => push_inet(text, options, nla, &view),
-            Err(fault) => push_invalid(text, nla, &fault),
+            Err(error) => push_invalid(text, nla, &error),
         },
         Sockets::Other(family) => push_other(text, family, nla),
     }
@@ -304,23 +304,23 @@ fn push_unknown(text: &mut Vec<u8>, nla: &NlaBuffer<'_>) -> Result<(), AllocErro
 fn push_invalid(
     text: &mut Vec<u8>,
     nla: &NlaBuffer<'_>,
-    fault: &DecodeError,
+    error: &DecodeError,
 ) -> Result<(), AllocError>
     ensures { OnOk result (text.new.items ≡ text.old.items
-        ++ invalid_attribute_text (buffered_attribute nla.now) fault.now) }
+        ++ invalid_attribute_text (buffered_attribute nla.now) error.now) }
 {
     let (kind, length) = (nla.kind() as u64, nla.value().len() as u64);
     push_rows(text, Format::Part, &[(b" unread:(", kind), (b",", length)])?;
     text.push(b',')?;
-    text.extend_from_slice(error_reason(fault))?;
+    text.extend_from_slice(error_reason(error))?;
     Ok(text.push(b')')?)
 }
 
 /// Returns the reason why a value is invalid, in one word.
-fn error_reason(fault: &DecodeError) -> &'static [u8]
-    ensures { result.now ≡ error_reason fault.now }
+fn error_reason(error: &DecodeError) -> &'static [u8]
+    ensures { result.now ≡ error_reason error.now }
 {
-    match fault {
+    match error {
         DecodeError::BufferTooSmall { .. } => b"too-short",
         DecodeError::WrongLength { .. } | DecodeError::NotMultipleOfFour { .. } => b"wrong-length",
         DecodeError::NotUtf8 => b"not-utf8",
@@ -356,7 +356,7 @@ fn push_memory_value(text: &mut Vec<u8>, nla: &NlaBuffer<'_>) -> Result<(), Allo
 {
     match MemInfo::parse(nla.value()) {
         Ok(memory) => push_memory(text, &memory),
-        Err(fault) => push_invalid(text, nla, &fault),
+        Err(error) => push_invalid(text, nla, &error),
     }
 }
 

@@ -6,7 +6,7 @@ ghost use Rattle.std.specs.Process.{exit_status};
 ghost use Rattle.sock_diag_captures.specs.Files.{Listing, captures_in, last_failure, listing};
 ghost use Rattle.sock_diag_captures.specs.Files.{listing_name, listing_status};
 
-use crate::words::is_file;
+use crate::arguments::is_file;
 use std::process::ExitCode;
 
 /// A lister of captures. Generic code can list a capture by this method only, so it cannot return a

@@ -4,14 +4,14 @@ ghost use Rattle.std.specs.Prelude.{◌≡◌, ◌↔◌, IsTrue, IsOk, IfOk};
 
 use crate::cells::Cells;
 use crate::choice::Choice;
-use crate::list::Issue;
+use crate::list::Diagnostic;
 use crate::list_error::ListError;
 use crate::options::{Detail, Family, Options};
-use crate::parts::TimerWords;
+use crate::parts::TimerFields;
 use std::alloc::AllocError;
 
 /// Compares two diagnostics by `==`, which is true if and only if they are equal.
-pub fn equal_issues(v: &Issue, w: &Issue) -> bool
+pub fn equal_diagnostics(v: &Diagnostic, w: &Diagnostic) -> bool
     ensures { IsTrue result ↔ (v.now ≡ w.now) }
 {
     v == w
@@ -72,7 +72,7 @@ pub fn copied_cells(v: &Cells) -> Result<Cells, AllocError>
 }
 
 /// Copies the fields of a timer by `clone`, which never fails and returns an equal value.
-pub fn copied_timer_words(v: &TimerWords) -> Result<TimerWords, AllocError>
+pub fn copied_timer_fields(v: &TimerFields) -> Result<TimerFields, AllocError>
     ensures ok { IsOk result }
     ensures same { IfOk result (λ copy. copy ≡ v.now) }
 {

@@ -12,10 +12,11 @@ ghost use Rattle.sock_diag_captures.specs.declared.list_error.ListError.{ListErr
 ghost use Rattle.sock_diag_captures.specs.Run.{Fails, Finishes};
 ghost use Rattle.sock_diag_captures.specs.private.Run.{closing_text};
 
+mod arguments;
 mod cells;
 mod choice;
 mod details;
-mod fault_text;
+mod error_text;
 mod files;
 pub mod laws;
 mod line;
@@ -23,9 +24,9 @@ mod list;
 mod list_error;
 mod name_cells;
 mod names;
-mod notes;
 mod options;
 mod others;
+mod output;
 mod parts;
 mod pieces;
 mod reports;
@@ -33,21 +34,20 @@ mod request_line;
 mod requests;
 mod stream;
 mod times;
-mod words;
 
 pub use choice::{Choice, choose};
 pub use files::{ListCapture, list_captures};
 pub use line::HEADING;
-pub use list::{Issue, list_packet};
+pub use list::{Diagnostic, list_packet};
 pub use list_error::ListError;
-pub use notes::Written;
 pub use options::{Detail, Family, Options};
+pub use output::PacketOutput;
 pub use program_streams::{
     ByteOrder, CaptureError, FileHeader, Packet, PacketHeader, ReadError, TimeUnit, WriteError,
 };
 use program_streams::{Sink, Source};
 use reports::report_failure;
-pub use requests::{Asked, Requests};
+pub use requests::{Query, Requests};
 use std::alloc::Global;
 use std::io::{Read, Write};
 use std::process::ExitCode;

@@ -20,8 +20,8 @@ use crate::details::{Sockets, push_details, timer_of};
 use crate::name_cells::push_name_column;
 use crate::options::Options;
 use crate::others::push_other;
-use crate::parts::{NO_TIMER, TimerWords};
-use crate::pieces::{find_fault, find_kind};
+use crate::parts::{NO_TIMER, TimerFields};
+use crate::pieces::{find_framing_error, find_kind};
 use netlink_core::DecodeError;
 use sock_diag_attributes::unix::nlas::{NameView, NlaView};
 use sock_diag_records::constants::{
@@ -53,8 +53,8 @@ pub(crate) fn push_reply(
 ) -> Result<Option<DecodeError>, AllocError>
     ensures lines { OnOk result (text.new.items ≡ text.old.items
         ++ payload_lines options protocol (response_kind payload.now message_type) payload.now) }
-    ensures fault { IfOk result (λ fault.
-        fault ≡ payload_error (response_kind payload.now message_type) payload.now) }
+    ensures error { IfOk result (λ error.
+        error ≡ payload_error (response_kind payload.now message_type) payload.now) }
 {
     if payload.len() < 2 {
         let got = payload.len();
@@ -80,7 +80,7 @@ fn push_unix(
         ++ lines_after_header (unix_lines options)
         (parse_record unix_response_header tt payload.now)
         (attributes_or_error 0 (drop 16 payload.now))) }
-    ensures fault { IfOk result (λ fault. fault
+    ensures error { IfOk result (λ error. error
         ≡ error_after_reply_header (parse_record unix_response_header tt payload.now)
         (attributes_or_error 0 (drop 16 payload.now))) }
 {
@@ -88,9 +88,9 @@ fn push_unix(
         Ok(header) => {
             let attributes = &payload[UNIX_RESPONSE_HEADER_LEN..];
             push_unix_lines(text, options, &header, attributes)?;
-            Ok(find_fault(attributes))
+            Ok(find_framing_error(attributes))
         }
-        Err(fault) => Ok(Some(fault)),
+        Err(error) => Ok(Some(error)),
     }
 }
 
@@ -219,7 +219,7 @@ fn push_inet(
         ++ lines_after_header (inet_lines options protocol (timer_in payload.now))
         (parse_record inet_response_header tt payload.now)
         (attributes_or_error 0 (drop 72 payload.now))) }
-    ensures fault { IfOk result (λ fault. fault
+    ensures error { IfOk result (λ error. error
         ≡ error_after_reply_header (parse_record inet_response_header tt payload.now)
         (attributes_or_error 0 (drop 72 payload.now))) }
 {
@@ -228,9 +228,9 @@ fn push_inet(
             let attributes = &payload[INET_RESPONSE_HEADER_LEN..];
             let timer = timer_of(payload);
             push_inet_lines(text, options, protocol, &timer, &header, attributes)?;
-            Ok(find_fault(attributes))
+            Ok(find_framing_error(attributes))
         }
-        Err(fault) => Ok(Some(fault)),
+        Err(error) => Ok(Some(error)),
     }
 }
 
@@ -240,7 +240,7 @@ fn push_inet_lines(
     text: &mut Vec<u8>,
     options: Options,
     protocol: Option<u32>,
-    timer: &TimerWords,
+    timer: &TimerFields,
     header: &InetResponseHeader,
     attributes: &[u8],
 ) -> Result<(), AllocError>

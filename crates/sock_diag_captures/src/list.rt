@@ -12,16 +12,17 @@ ghost use Rattle.sock_diag_captures.specs.Listing.{IsCleanMessage, IsRequestData
 ghost use Rattle.sock_diag_captures.specs.Listing.{ListsMessages, ListsDatagram, ListsPacket};
 ghost use Rattle.sock_diag_captures.specs.Listing.{ListsCapturedPacket, requests_after_packet};
 ghost use Rattle.sock_diag_captures.specs.Listing.{diagnostic_by_type, control_diagnostic};
-ghost use Rattle.sock_diag_captures.specs.Listing.{errno_in, errno_diagnostic, is_note_or_none};
+ghost use Rattle.sock_diag_captures.specs.Listing.{errno_in, errno_diagnostic};
+ghost use Rattle.sock_diag_captures.specs.Listing.{is_informational_or_none};
 ghost use Rattle.sock_diag_captures.specs.Listing.{lines_by_type, message_diagnostic, protocol_for};
 ghost use Rattle.sock_diag_captures.specs.Listing.{message_lines};
 ghost use Rattle.sock_diag_captures.specs.Requests.{with_request_in_datagram};
-ghost use Rattle.sock_diag_captures.specs.declared.list.Issue.TheVariants.{Refused};
+ghost use Rattle.sock_diag_captures.specs.declared.list.Diagnostic.TheVariants.{Refused};
 
-use crate::fault_text::FaultText;
+use crate::error_text::DecodeErrorText;
 use crate::line::push_reply;
-use crate::notes::{Written, push_cut_note, push_short};
 use crate::options::Options;
+use crate::output::{PacketOutput, push_short, push_truncation};
 use crate::request_line::push_shown_request;
 use crate::requests::Requests;
 use byteorder::{ByteOrder, LittleEndian};
@@ -46,7 +47,7 @@ const EINVAL: u32 = 22;
 
 /// A diagnostic of a message.
 #[derive(Debug, Drop, PartialEq, Eq)]
-pub enum Issue {
+pub enum Diagnostic {
     /// The message is invalid, with this decode error.
     Refused(DecodeError),
     /// The kernel answered with an error or ended a dump with one. This is its number in errno(3).
@@ -63,35 +64,35 @@ pub enum Issue {
     Lost,
 }
 
-impl fmt::Display for Issue {
-    ghost output = { λ issue. Some (diagnostic_text issue) };
+impl fmt::Display for Diagnostic {
+    ghost output = { λ diagnostic. Some (diagnostic_text diagnostic) };
 
     fn fmt<W: fmt::Write>(&self, f: &mut fmt::Formatter<W>) -> fmt::Result {
         match self {
-            Issue::Refused(fault) => {
-                let text = FaultText(fault);
+            Diagnostic::Refused(error) => {
+                let text = DecodeErrorText(error);
                 write!(f, "{text}")
             }
-            Issue::Answered(errno) => write!(f, "the kernel returned error {errno}"),
-            Issue::NoEntry => write!(f, "note: the kernel returned ENOENT"),
-            Issue::Invalid => write!(f, "note: the kernel returned EINVAL"),
-            Issue::Interrupted => write!(f, "dump interrupted (NLM_F_DUMP_INTR)"),
-            Issue::Lost => write!(f, "the kernel lost data"),
+            Diagnostic::Answered(errno) => write!(f, "the kernel returned error {errno}"),
+            Diagnostic::NoEntry => write!(f, "note: the kernel returned ENOENT"),
+            Diagnostic::Invalid => write!(f, "note: the kernel returned EINVAL"),
+            Diagnostic::Interrupted => write!(f, "dump interrupted (NLM_F_DUMP_INTR)"),
+            Diagnostic::Lost => write!(f, "the kernel lost data"),
         }
     }
 }
 
-impl Error for Issue {}
+impl Error for Diagnostic {}
 
 /// Position of a diagnostic: the number of the packet in the capture, and of the message in the
 /// packet. Both start at 1.
 #[derive(Clone, Copy, Debug, PartialEq, Eq)]
-struct Place {
+struct Position {
     packet: u64,
     message: u64,
 }
 
-/// Appends the lines of a packet to `written.lines`, and its diagnostics to `written.issues`.
+/// Appends the lines of a packet to `written.lines`, and its diagnostics to `written.diagnostics`.
 /// `number` is the number of the packet in the capture.
 ///
 /// Returns whether the packet was listed without errors. It was not if it was truncated (it has
@@ -106,7 +107,7 @@ struct Place {
 /// known. Appends a line for a request if `--requests` is set. If it fails, an allocation failed,
 /// and the lines, diagnostics and requests are not specified.
 pub fn list_packet(
-    written: &mut Written<'_>,
+    written: &mut PacketOutput<'_>,
     requests: &mut Requests,
     options: Options,
     number: u64,
@@ -121,19 +122,20 @@ pub fn list_packet(
         ≡ requests_after_packet requests.old.asked.items packet.now) }
     // The diagnostics.
     ensures diagnosed { OnOk result (DiagnosesPacket written.old.front.now number
-        (captured_packet packet.now header.now) written.old.issues.items written.new.issues.items) }
+        (captured_packet packet.now header.now) written.old.diagnostics.items
+        written.new.diagnostics.items) }
     ensures front { written.new.front ≡ written.old.front }
 {
-    let is_whole = push_cut_note(written, number, packet, header.whole_length)?;
+    let is_whole = push_truncation(written, number, packet, header.whole_length)?;
     let is_listed = list_content(written, requests, options, number, packet, header)?;
     Ok(is_listed & is_whole)
 }
 
 /// Appends the lines and the diagnostics of the captured bytes of a packet. Does not check whether
 /// the packet was truncated.
-#[tactic(auto, using(crate::proofs::Asking::requests_rules))]
+#[tactic(auto, using(crate::proofs::RequestsAfterPacket::requests_rules))]
 fn list_content(
-    written: &mut Written<'_>,
+    written: &mut PacketOutput<'_>,
     requests: &mut Requests,
     options: Options,
     number: u64,
@@ -145,7 +147,7 @@ fn list_content(
     ensures asked { OnOk result (requests.new.asked.items
         ≡ requests_after_packet requests.old.asked.items packet.now) }
     ensures diagnosed { OnOk result (DiagnosesContent written.old.front.now number packet.now
-        written.old.issues.items written.new.issues.items) }
+        written.old.diagnostics.items written.new.diagnostics.items) }
     ensures front { written.new.front ≡ written.old.front }
 {
     match Packet::parse(packet) {
@@ -162,7 +164,7 @@ fn list_content(
 
 /// Appends the lines and the diagnostics of a datagram of sock_diag(7).
 fn list_sock_diag(
-    written: &mut Written<'_>,
+    written: &mut PacketOutput<'_>,
     requests: &mut Requests,
     options: Options,
     number: u64,
@@ -174,10 +176,10 @@ fn list_sock_diag(
     ensures asked { OnOk result (requests.new.asked.items
         ≡ with_request_in_datagram requests.old.asked.items datagram.now) }
     ensures diagnosed { OnOk result (DiagnosesDatagram written.old.front.now number datagram.now
-        written.old.issues.items written.new.issues.items) }
+        written.old.diagnostics.items written.new.diagnostics.items) }
     ensures front { written.new.front ≡ written.old.front }
 {
-    requests.note(datagram)?;
+    requests.add(datagram)?;
     if is_request(datagram) {
         push_shown_request(&mut written.lines, options, header, datagram)?;
         return Ok(true);
@@ -198,7 +200,7 @@ fn is_request(datagram: &[u8]) -> bool
 /// Appends the lines and the diagnostics of the messages of a datagram. Stops at bytes that are not
 /// a message. Returns whether the datagram was listed without errors.
 fn list_datagram(
-    written: &mut Written<'_>,
+    written: &mut PacketOutput<'_>,
     requests: &Requests,
     options: Options,
     number: u64,
@@ -207,24 +209,24 @@ fn list_datagram(
     ensures lists { IfOk result (ListsMessages options requests.now.asked.items datagram.now
         written.old.lines.items written.new.lines.items) }
     ensures diagnosed { OnOk result (DiagnosesMessages written.old.front.now number datagram.now
-        written.old.issues.items written.new.issues.items) }
+        written.old.diagnostics.items written.new.diagnostics.items) }
     ensures front { written.new.front ≡ written.old.front }
 {
     let mut is_clean = true;
     let mut count = 0u64;
     for item in MessageStrings::new(datagram) {
         count = next_number(count, datagram.len());
-        let place = Place {
+        let position = Position {
             packet: number,
             message: count,
         };
         match item {
             Ok(message) => {
-                let is_plain = list_message(written, requests, options, place, message)?;
+                let is_plain = list_message(written, requests, options, position, message)?;
                 is_clean = is_clean && is_plain;
             }
-            Err(fault) => {
-                push_issue(written, place, &Issue::Refused(fault))?;
+            Err(error) => {
+                push_diagnostic(written, position, &Diagnostic::Refused(error))?;
                 return Ok(false);
             }
         }
@@ -244,45 +246,48 @@ fn next_number(count: u64, most: usize) -> u64
 /// Appends the lines and the diagnostics of a message. Returns whether it has no diagnostic, or
 /// only a note.
 fn list_message(
-    written: &mut Written<'_>,
+    written: &mut PacketOutput<'_>,
     requests: &Requests,
     options: Options,
-    place: Place,
+    position: Position,
     message: &[u8],
 ) -> Result<bool, AllocError>
     requires { 16 ≤ length message.now }
     ensures lines { OnOk result (written.new.lines.items ≡ written.old.lines.items
         ++ message_lines options requests.now.asked.items message.now) }
     ensures plain { IfOk result (λ is_plain. IsTrue is_plain ↔ IsCleanMessage message.now) }
-    ensures diagnosed { OnOk result (written.new.issues.items ≡ written.old.issues.items
-        ++ lines_about_message written.old.front.now place.packet place.message message.now) }
+    ensures diagnosed { OnOk result (written.new.diagnostics.items ≡ written.old.diagnostics.items
+        ++ lines_about_message written.old.front.now position.packet position.message message.now) }
     ensures front { written.new.front ≡ written.old.front }
 {
-    let interrupted = interrupted_issue(message);
-    push_some_issue(written, place, &interrupted)?;
-    let issue = push_message(&mut written.lines, requests, options, message)?;
-    push_some_issue(written, place, &issue)?;
-    Ok(interrupted.is_none() && is_note(&issue))
+    let interrupted = interruption_diagnostic(message);
+    push_optional_diagnostic(written, position, &interrupted)?;
+    let diagnostic = push_message(&mut written.lines, requests, options, message)?;
+    push_optional_diagnostic(written, position, &diagnostic)?;
+    Ok(interrupted.is_none() && is_informational(&diagnostic))
 }
 
 /// Returns `Interrupted` if a message has the flag `NLM_F_DUMP_INTR`.
-fn interrupted_issue(message: &[u8]) -> Option<Issue>
+fn interruption_diagnostic(message: &[u8]) -> Option<Diagnostic>
     requires { 16 ≤ length message.now }
     ensures { result ≡ interrupted_diagnostic message.now }
 {
     if LittleEndian::read_u16(&message[6..]) & DUMP_INTERRUPTED == 0 {
         None
     } else {
-        Some(Issue::Interrupted)
+        Some(Diagnostic::Interrupted)
     }
 }
 
 /// Returns whether there is no diagnostic, or only a note. Then no socket is missing from the
 /// table.
-fn is_note(issue: &Option<Issue>) -> bool
-    ensures { result ≡ is_note_or_none issue.now }
+fn is_informational(diagnostic: &Option<Diagnostic>) -> bool
+    ensures { result ≡ is_informational_or_none diagnostic.now }
 {
-    matches!(issue, None | Some(Issue::NoEntry | Issue::Invalid))
+    matches!(
+        diagnostic,
+        None | Some(Diagnostic::NoEntry | Diagnostic::Invalid)
+    )
 }
 
 /// Appends the lines of a message if it is a reply. Returns its diagnostic, except for
@@ -292,11 +297,11 @@ fn push_message(
     requests: &Requests,
     options: Options,
     message: &[u8],
-) -> Result<Option<Issue>, AllocError>
+) -> Result<Option<Diagnostic>, AllocError>
     requires { 16 ≤ length message.now }
     ensures lines { OnOk result (lines.new.items ≡ lines.old.items
         ++ message_lines options requests.now.asked.items message.now) }
-    ensures issue { IfOk result (λ issue. issue ≡ message_diagnostic message.now) }
+    ensures diagnostic { IfOk result (λ diagnostic. diagnostic ≡ message_diagnostic message.now) }
 {
     push_payload(
         lines,
@@ -315,27 +320,28 @@ fn push_payload(
     protocol: Option<u32>,
     message_type: u16,
     payload: &[u8],
-) -> Result<Option<Issue>, AllocError>
+) -> Result<Option<Diagnostic>, AllocError>
     ensures lines { OnOk result (lines.new.items ≡ lines.old.items
         ++ lines_by_type options protocol message_type payload.now) }
-    ensures issue { IfOk result (λ issue. issue ≡ diagnostic_by_type message_type payload.now) }
+    ensures diagnostic { IfOk result (λ diagnostic. diagnostic
+        ≡ diagnostic_by_type message_type payload.now) }
 {
     if (NLMSG_NOOP..=NLMSG_OVERRUN).contains(&message_type) {
-        return Ok(issue_about_control(message_type, payload));
+        return Ok(diagnostic_of_control(message_type, payload));
     }
-    let fault = push_reply(lines, options, protocol, message_type, payload)?;
-    Ok(issue_about_fault(fault))
+    let error = push_reply(lines, options, protocol, message_type, payload)?;
+    Ok(diagnostic_of_rejection(error))
 }
 
 /// Returns the diagnostic of a control message: `NLMSG_NOOP`, `NLMSG_ERROR`, `NLMSG_DONE` or
 /// `NLMSG_OVERRUN`.
-fn issue_about_control(message_type: u16, payload: &[u8]) -> Option<Issue>
+fn diagnostic_of_control(message_type: u16, payload: &[u8]) -> Option<Diagnostic>
     ensures { result ≡ control_diagnostic message_type payload.now }
 {
     match message_type {
         NLMSG_NOOP => None,
-        NLMSG_OVERRUN => Some(Issue::Lost),
-        _ => issue_about_error(error_of(payload)),
+        NLMSG_OVERRUN => Some(Diagnostic::Lost),
+        _ => diagnostic_of_errno(error_of(payload)),
     }
 }
 
@@ -352,24 +358,24 @@ fn protocol_of(requests: &Requests, message: &[u8]) -> Option<u32>
 }
 
 /// Returns the diagnostic of a decode error, if there is one.
-fn issue_about_fault(fault: Option<DecodeError>) -> Option<Issue>
-    ensures { result ≡ option_map Refused fault }
+fn diagnostic_of_rejection(error: Option<DecodeError>) -> Option<Diagnostic>
+    ensures { result ≡ option_map Refused error }
 {
-    match fault {
-        Some(fault) => Some(Issue::Refused(fault)),
+    match error {
+        Some(error) => Some(Diagnostic::Refused(error)),
         None => None,
     }
 }
 
 /// Returns the diagnostic of an error number of errno(3). 0 is not an error.
-fn issue_about_error(number: u32) -> Option<Issue>
+fn diagnostic_of_errno(number: u32) -> Option<Diagnostic>
     ensures { result ≡ errno_diagnostic number }
 {
     match number {
         0 => None,
-        ENOENT => Some(Issue::NoEntry),
-        EINVAL => Some(Issue::Invalid),
-        _ => Some(Issue::Answered(number)),
+        ENOENT => Some(Diagnostic::NoEntry),
+        EINVAL => Some(Diagnostic::Invalid),
+        _ => Some(Diagnostic::Answered(number)),
     }
 }
 
@@ -385,34 +391,38 @@ fn error_of(payload: &[u8]) -> u32
 }
 
 /// Appends the line of a diagnostic, if there is one.
-fn push_some_issue(
-    written: &mut Written<'_>,
-    place: Place,
-    issue: &Option<Issue>,
+fn push_optional_diagnostic(
+    written: &mut PacketOutput<'_>,
+    position: Position,
+    diagnostic: &Option<Diagnostic>,
 ) -> Result<(), AllocError>
     ensures lines { OnOk result (written.new.lines.items ≡ written.old.lines.items) }
-    ensures issues { OnOk result (written.new.issues.items ≡ written.old.issues.items
-        ++ diagnostic_line written.old.front.now place.packet place.message issue.now) }
+    ensures diagnostics { OnOk result (written.new.diagnostics.items ≡ written.old.diagnostics.items
+        ++ diagnostic_line written.old.front.now position.packet position.message diagnostic.now) }
     ensures front { written.new.front ≡ written.old.front }
 {
-    match issue {
+    match diagnostic {
         None => Ok(()),
-        Some(issue) => push_issue(written, place, issue),
+        Some(diagnostic) => push_diagnostic(written, position, diagnostic),
     }
 }
 
 /// Appends the line of a diagnostic.
-fn push_issue(written: &mut Written<'_>, place: Place, issue: &Issue) -> Result<(), AllocError>
+fn push_diagnostic(
+    written: &mut PacketOutput<'_>,
+    position: Position,
+    diagnostic: &Diagnostic,
+) -> Result<(), AllocError>
     ensures lines { OnOk result (written.new.lines.items ≡ written.old.lines.items) }
-    ensures issues { OnOk result (written.new.issues.items ≡ written.old.issues.items
-        ++ message_line written.old.front.now place.packet place.message issue.now) }
+    ensures diagnostics { OnOk result (written.new.diagnostics.items ≡ written.old.diagnostics.items
+        ++ message_line written.old.front.now position.packet position.message diagnostic.now) }
     ensures front { written.new.front ≡ written.old.front }
 {
     let front = written.front;
-    let Place { packet, message } = place;
+    let Position { packet, message } = position;
     match writeln!(
-        written.issues,
-        "{front}packet {packet}, message {message}: {issue}"
+        written.diagnostics,
+        "{front}packet {packet}, message {message}: {diagnostic}"
     ) {
         Ok(()) => Ok(()),
         Err(_) => Err(AllocError),

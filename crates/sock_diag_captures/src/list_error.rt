@@ -25,7 +25,7 @@ pub enum ListError {
         /// Number of the packet.
         packet: u64,
         /// Reason why it could not be read.
-        fault: CaptureError,
+        error: CaptureError,
     },
     /// A write or the final flush failed.
     Write(WriteError),
@@ -40,7 +40,7 @@ impl ListError {
             ≡ list_error_text self.now }
     {
         match self {
-            ListError::Header(fault) | ListError::Packet { fault, .. } => fault.text(),
+            ListError::Header(error) | ListError::Packet { error, .. } => error.text(),
             ListError::Write(error) => ErrorText::Plain(error.text()),
             ListError::Memory => ErrorText::Plain("out of memory"),
         }
@@ -90,14 +90,14 @@ pub(crate) fn read_header<R: Source>(input: &mut R) -> Result<FileHeader, ListEr
         × IsFileHeader bytes file
         × Consumes (R.left input.old) (R.left input.new) bytes) }
     // R.failed: a read has failed. part: the bytes that were read.
-    ensures stopped { IfErr result (λ e. (fault : CaptureError) × (e ≡ ListError.Header fault)
+    ensures stopped { IfErr result (λ e. (error : CaptureError) × (e ≡ ListError.Header error)
         × (part : List ℕ)
         × Consumes (R.left input.old) (R.left input.new) part
-        × IsFileHeaderStop (R.left input.new) (R.failed input.new) part fault) }
+        × IsFileHeaderStop (R.left input.new) (R.failed input.new) part error) }
 {
     match FileHeader::read(input) {
         Ok(file) => Ok(file),
-        Err(fault) => Err(ListError::Header(fault)),
+        Err(error) => Err(ListError::Header(error)),
     }
 }
 
@@ -117,16 +117,16 @@ pub(crate) fn read_packet<R: Source>(
         × IsPacketRecord file.now header (captured_packet packet.new.items told_header)
         × Consumes (R.left input.old) (R.left input.new) (header ++ packet.new.items))) }
     // R.failed: a read has failed. part: the bytes that were read.
-    ensures stopped { IfErr result (λ e. (fault : CaptureError)
-        × (e ≡ ListError.Packet number fault) × (part : List ℕ)
+    ensures stopped { IfErr result (λ e. (error : CaptureError)
+        × (e ≡ ListError.Packet number error) × (part : List ℕ)
         × Consumes (R.left input.old) (R.left input.new) part
-        × IsPacketStop file.now (R.left input.new) (R.failed input.new) part fault) }
+        × IsPacketStop file.now (R.left input.new) (R.failed input.new) part error) }
 {
     match file.read_packet(input, packet) {
         Ok(found) => Ok(found),
-        Err(fault) => Err(ListError::Packet {
+        Err(error) => Err(ListError::Packet {
             packet: number,
-            fault,
+            error,
         }),
     }
 }

@@ -37,7 +37,7 @@ fn push_abstract(text: &mut Vec<u8>, utf8: bool, address: &[u8]) -> Result<(), A
     ensures cell { OnOk result (text.new.items
         ≡ text.old.items ++ name_cell utf8 (Some (Abstract address.now))) }
     // The name can be read back from the cell if a space follows.
-    ensures told { (behind : List ℕ) → unescaped_bytes 0 behind ≡ []
+    ensures unescapes { (behind : List ℕ) → unescaped_bytes 0 behind ≡ []
         → name_of_cell (name_cell utf8 (Some (Abstract address.now)) ++ behind)
         ≡ Some (Abstract address.now) }
 {
@@ -51,7 +51,7 @@ fn push_path(text: &mut Vec<u8>, utf8: bool, path: &[u8]) -> Result<(), AllocErr
     ensures cell { OnOk result (text.new.items
         ≡ text.old.items ++ name_cell utf8 (Some (Pathname path.now))) }
     // The name can be read back from the cell if a space follows.
-    ensures told { (behind : List ℕ) → unescaped_bytes 0 behind ≡ []
+    ensures unescapes { (behind : List ℕ) → unescaped_bytes 0 behind ≡ []
         → name_of_cell (name_cell utf8 (Some (Pathname path.now)) ++ behind)
         ≡ Some (Pathname path.now) }
 {

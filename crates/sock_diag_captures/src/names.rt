@@ -41,7 +41,7 @@ pub(crate) fn push_shown(text: &mut Vec<u8>, utf8: bool, bytes: &[u8]) -> Result
     // The bytes can be read back from what is shown, by `unescaped_bytes`. So two different names
     // are never shown alike. behind: the text that follows. If it begins with a space, nothing of
     // it is read.
-    ensures told { (behind : List ℕ)
+    ensures unescapes { (behind : List ℕ)
         → (unescaped_bytes 0 (shown_name utf8 bytes.now ++ behind)
         ≡ bytes.now ++ unescaped_bytes 0 behind) }
 {

@@ -86,11 +86,11 @@ impl Options {
     pub fn shows(self, detail: Detail) -> bool
         ensures { result ≡ shows_detail self detail }
     {
-        self.asks_for(detail) || !(self.timer || self.extended || self.memory || self.connection)
+        self.has_detail(detail) || !(self.timer || self.extended || self.memory || self.connection)
     }
 
     /// Returns whether the option of a group of details is set.
-    fn asks_for(self, detail: Detail) -> bool
+    fn has_detail(self, detail: Detail) -> bool
         ensures { result ≡ is_detail_selected self detail }
     {
         match detail {
@@ -131,11 +131,11 @@ impl Options {
     pub fn lists_family(self, family: Family) -> bool
         ensures { result ≡ lists_family self family }
     {
-        self.asks_family(family) || !self.selects()
+        self.has_family(family) || !self.selects()
     }
 
     /// Returns whether the option of a family is set.
-    fn asks_family(self, family: Family) -> bool
+    fn has_family(self, family: Family) -> bool
         ensures { result ≡ selects_family self family }
     {
         match family {

@@ -21,7 +21,7 @@ use crate::details::{Sockets, memory_kind, push_details};
 use crate::line::LOCAL;
 use crate::options::{Family, Options};
 use crate::parts::NO_TIMER;
-use crate::pieces::{find_fault, find_kind};
+use crate::pieces::{find_framing_error, find_kind};
 use byteorder::{ByteOrder, LittleEndian};
 use netlink_core::{DecodeError, NlaBuffer, Record, read_record};
 use sock_diag_families::netlink::NetlinkResponseHeader;
@@ -92,8 +92,8 @@ pub(crate) fn push_other(
 ) -> Result<Option<DecodeError>, AllocError>
     ensures lines { OnOk result (text.new.items ≡ text.old.items
         ++ family_lines options (family_numbered number) payload.now) }
-    ensures fault { IfOk result
-        (λ fault. fault ≡ family_error (family_numbered number) payload.now) }
+    ensures error { IfOk result
+        (λ error. error ≡ family_error (family_numbered number) payload.now) }
 {
     match family_numbered(number) {
         Some(Family::Netlink) => push_listed::<NetlinkResponseHeader>(text, options, payload),
@@ -112,15 +112,15 @@ fn push_listed<H: Listed>(
 ) -> Result<Option<DecodeError>, AllocError>
     ensures lines { OnOk result (text.new.items ≡ text.old.items
         ++ other_reply_lines options H.layout H.listed payload.now) }
-    ensures fault { IfOk result (λ fault. fault ≡ other_reply_error H.layout payload.now) }
+    ensures error { IfOk result (λ error. error ≡ other_reply_error H.layout payload.now) }
 {
     match read_record::<H>(payload, ()) {
         Ok(header) => {
             let attributes = attributes_of::<H>(payload);
             push_socket(text, options, &header.socket(attributes), attributes)?;
-            Ok(find_fault(attributes))
+            Ok(find_framing_error(attributes))
         }
-        Err(fault) => Ok(Some(fault)),
+        Err(error) => Ok(Some(error)),
     }
 }
 

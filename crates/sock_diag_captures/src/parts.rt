@@ -22,7 +22,7 @@ const SHUT_SENDING: u8 = 2;
 
 /// The timer fields of `inet_diag_msg`, the header of a reply about an IPv4 or IPv6 socket.
 #[derive(Clone, Copy)]
-pub struct TimerWords {
+pub struct TimerFields {
     /// Kind of the timer (`idiag_timer`). 0 if no timer runs.
     pub class: u8,
     /// Number of retransmits (`idiag_retrans`).
@@ -32,7 +32,7 @@ pub struct TimerWords {
 }
 
 /// The fields of a socket without a timer.
-pub(crate) const NO_TIMER: TimerWords = TimerWords {
+pub(crate) const NO_TIMER: TimerFields = TimerFields {
     class: 0,
     retransmits: 0,
     expires: 0,
@@ -52,7 +52,7 @@ pub(crate) fn separator(options: Options) -> &'static [u8]
 pub(crate) fn push_shown_timer(
     text: &mut Vec<u8>,
     options: Options,
-    timer: &TimerWords,
+    timer: &TimerFields,
 ) -> Result<(), AllocError>
     ensures { OnOk result (text.new.items ≡ text.old.items ++ timer_if_shown options timer.now) }
 {
@@ -64,7 +64,7 @@ pub(crate) fn push_shown_timer(
 
 /// Appends the kind of the timer, the time until it expires, and the number of retransmits. Appends
 /// nothing if no timer runs.
-fn push_timer(text: &mut Vec<u8>, timer: &TimerWords) -> Result<(), AllocError>
+fn push_timer(text: &mut Vec<u8>, timer: &TimerFields) -> Result<(), AllocError>
     ensures { OnOk result (text.new.items ≡ text.old.items ++ timer_text timer.now) }
 {
     if timer.class == 0 {

@@ -37,13 +37,13 @@ pub(crate) fn find_kind<'a>(bytes: &'a [u8], kind: u16) -> Option<NlaBuffer<'a>>
 }
 
 /// Returns the error of the bytes after the last attribute, if there are any.
-pub(crate) fn find_fault(bytes: &[u8]) -> Option<DecodeError>
+pub(crate) fn find_framing_error(bytes: &[u8]) -> Option<DecodeError>
     ensures { result ≡ framing_error_of (attributes_or_error 0 bytes.now) }
 {
     let mut walk = NlasIterator::new(bytes);
     while let Some(piece) = next_piece(&mut walk) {
-        if let Err(fault) = piece {
-            return Some(fault);
+        if let Err(error) = piece {
+            return Some(error);
         }
     }
     None

@@ -10,7 +10,7 @@ use crate::line::name_of_protocol;
 use crate::options::{Family, Options};
 use crate::others::family_numbered;
 use crate::parts::push_hex_detail;
-use crate::requests::{Asked, find_request};
+use crate::requests::{Query, find_request};
 use crate::times::push_time;
 use byteorder::{ByteOrder, LittleEndian};
 use netlink_core::NETLINK_HEADER_LEN;
@@ -66,7 +66,7 @@ fn push_request(
 /// name of their family.
 fn push_asked(
     text: &mut Vec<u8>,
-    inet: Option<Asked>,
+    inet: Option<Query>,
     unix_states: Option<u32>,
     family: Option<Family>,
 ) -> Result<(), AllocError>

@@ -22,11 +22,11 @@ const REQUEST: usize = NETLINK_HEADER_LEN + INET_REQUEST_LEN;
 const PROTOCOL: u16 = 3;
 
 /// Number of requests that are kept when a new one is added.
-const KEPT: usize = 15;
+const MAX_OLDER_REQUESTS: usize = 15;
 
 /// A request for IPv4 or IPv6 sockets.
 #[derive(Clone, Copy, Debug, PartialEq, Eq)]
-pub struct Asked {
+pub struct Query {
     /// Sequence number (`nlmsg_seq`), which a reply repeats.
     sequence_number: u32,
     /// Port number of the sender (`nlmsg_pid`). Most programs leave it 0.
@@ -39,7 +39,7 @@ pub struct Asked {
     pub(crate) states: u32,
 }
 
-impl Exact for Asked {
+impl Exact for Query {
     ghost exact = { Prim.search rules };
 }
 
@@ -47,7 +47,7 @@ impl Exact for Asked {
 #[derive(Drop)]
 pub struct Requests {
     /// The requests, the newest first.
-    pub asked: Vec<Asked>,
+    pub asked: Vec<Query>,
 }
 
 impl Requests {
@@ -63,14 +63,14 @@ impl Requests {
     /// Adds the request for IPv4 or IPv6 sockets that a datagram begins with, if there is one. Then
     /// at most 15 older requests are kept. If it fails, an allocation failed, and the requests are
     /// not specified.
-    pub fn note(&mut self, datagram: &[u8]) -> Result<(), AllocError>
+    pub fn add(&mut self, datagram: &[u8]) -> Result<(), AllocError>
         ensures { OnOk result (self.new.asked.items
             ≡ with_request_in_datagram self.old.asked.items datagram.now) }
     {
         let Some(newest) = find_request(datagram) else {
             return Ok(());
         };
-        self.asked.truncate(KEPT);
+        self.asked.truncate(MAX_OLDER_REQUESTS);
         Ok(self.asked.insert(0, newest)?)
     }
 
@@ -85,7 +85,7 @@ impl Requests {
 }
 
 /// Returns the protocol of the first of these requests that a reply with these numbers may answer.
-fn find_in(asked: &[Asked], sequence_number: u32, port_number: u32) -> Option<u32>
+fn find_in(asked: &[Query], sequence_number: u32, port_number: u32) -> Option<u32>
     ensures { result ≡ protocol_of asked.now sequence_number port_number }
 {
     for request in asked {
@@ -99,7 +99,7 @@ fn find_in(asked: &[Asked], sequence_number: u32, port_number: u32) -> Option<u3
 }
 
 /// Returns the request for IPv4 or IPv6 sockets that a datagram begins with, if there is one.
-pub(crate) fn find_request(datagram: &[u8]) -> Option<Asked>
+pub(crate) fn find_request(datagram: &[u8]) -> Option<Query>
     ensures { result ≡ inet_request_in_datagram datagram.now }
 {
     if datagram.len() < REQUEST {
@@ -113,7 +113,7 @@ pub(crate) fn find_request(datagram: &[u8]) -> Option<Asked>
 }
 
 /// Returns the request in a message, if it is one for IPv4 or IPv6 sockets.
-fn read_request(message: &[u8]) -> Option<Asked>
+fn read_request(message: &[u8]) -> Option<Query>
     requires { 72 ≤ length message.now }
     ensures { result ≡ inet_request_in_message message.now }
 {
@@ -123,17 +123,17 @@ fn read_request(message: &[u8]) -> Option<Asked>
         return None;
     }
     match message[16] {
-        AF_INET | AF_INET6 => Some(read_asked(message)),
+        AF_INET | AF_INET6 => Some(parse_request_fields(message)),
         _ => None,
     }
 }
 
 /// Returns the fields of a request for IPv4 or IPv6 sockets.
-fn read_asked(request: &[u8]) -> Asked
+fn parse_request_fields(request: &[u8]) -> Query
     requires { 72 ≤ length request.now }
     ensures { result ≡ inet_request_fields request.now }
 {
-    Asked {
+    Query {
         sequence_number: LittleEndian::read_u32(&request[8..]),
         port_number: LittleEndian::read_u32(&request[12..]),
         protocol: choose_protocol(request[17], find_kind(&request[REQUEST..], PROTOCOL)),

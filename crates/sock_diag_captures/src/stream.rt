@@ -9,8 +9,8 @@ ghost use Rattle.sock_diag_captures.specs.Run.{Fails, Finishes};
 use crate::line::HEADING;
 use crate::list::list_packet;
 use crate::list_error::{ListError, read_header, read_packet};
-use crate::notes::Written;
 use crate::options::Options;
+use crate::output::PacketOutput;
 use crate::reports::report;
 use crate::requests::Requests;
 use program_streams::{CaptureError, ReadError, Sink, Source, send};
@@ -76,10 +76,10 @@ pub(crate) fn write_table<R: Source, W: Sink, E: Sink>(
     let file = read_header(input)?;
     send(output, HEADING)?;
     let mut packet = Vec::new(alloc);
-    let mut written = Written {
+    let mut written = PacketOutput {
         front,
         lines: Vec::new(alloc),
-        issues: Vec::new(alloc),
+        diagnostics: Vec::new(alloc),
     };
     let mut requests = Requests::new(alloc);
     let mut is_whole = true;
@@ -89,15 +89,15 @@ pub(crate) fn write_table<R: Source, W: Sink, E: Sink>(
             return Ok(is_whole);
         };
         written.lines.clear();
-        written.issues.clear();
+        written.diagnostics.clear();
         let bytes = packet.as_slice();
         let is_listed = list_packet(&mut written, &mut requests, options, number, bytes, &header)?;
         is_whole = is_whole && is_listed;
-        report(errors, is_open, written.issues.as_slice());
+        report(errors, is_open, written.diagnostics.as_slice());
         send(output, written.lines.as_slice())?;
     }
     Err(ListError::Packet {
         packet: u64::MAX,
-        fault: CaptureError::Read(ReadError::Other),
+        error: CaptureError::Read(ReadError::Other),
     })
 }

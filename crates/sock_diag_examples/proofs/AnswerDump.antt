@@ -11,10 +11,10 @@ use Rattle.netlink_core.specs.declared.header.NetlinkHeader.{NetlinkHeader}
 use Rattle.netlink_core.specs.Table.{FitFields}
 use Rattle.netlink_core.specs.Header.{header_fields, header_values}
 use Rattle.netlink_core.specs.Datagram.{SplitsIntoMessages, StartsWithMessage}
-use Rattle.netlink_core.specs.Envelope.{NetlinkMessageModel, Payload, finalized_header}
-use Rattle.netlink_core.specs.Envelope.{HoldsOfInnerMessage}
+use Rattle.netlink_core.specs.NetlinkMessage.{NetlinkMessageModel, Payload, finalized_header}
+use Rattle.netlink_core.specs.NetlinkMessage.{HoldsOfInnerMessage}
 use Rattle.netlink_core.specs.declared.message.NetlinkPayload.TheVariants.{Done, InnerMessage}
-use Rattle.netlink_core.specs.Envelope.{payload_bytes, payload_type, netlink_codec}
+use Rattle.netlink_core.specs.NetlinkMessage.{payload_bytes, payload_type, netlink_codec}
 use Rattle.netlink_core.proofs.Datagrams.{IsOfOwnLength}
 use Rattle.netlink_core.specs.Items.{Item, IsItemOf, AreItemsOf}
 use Rattle.netlink_core.specs.Response.{response_bytes, response_codec, ReplyValue}
@@ -83,7 +83,7 @@ items_of_all law bytes item last ends (x ∷ xs) all are =
 
 abbrev numbered_header : ℕ → Payload Message → NetlinkHeader
 numbered_header n payload = record {
-  length = 16 + length (payload_bytes message_codec.written payload);
+  length = 16 + length (payload_bytes message_codec.serialized payload);
   message_type = payload_type (λ _. 20) payload;
   flags = 2;
   sequence_number = n;
@@ -94,7 +94,7 @@ abbrev numbered_message : ℕ → Payload Message → NetlinkMessageModel Messag
 numbered_message n payload = record { header = numbered_header n payload; payload = payload }
 
 header_in_range : (n : ℕ) (payload : Payload Message) → n < 2 ^ 32
-    → 16 + length (payload_bytes message_codec.written payload) ≤ 4294967295
+    → 16 + length (payload_bytes message_codec.serialized payload) ≤ 4294967295
     → payload_type (λ _. 20) payload < 2 ^ 16
     → FitFields header_fields (header_values (numbered_header n payload))
 header_in_range n carried small short kind =
@@ -102,35 +102,35 @@ header_in_range n carried small short kind =
 
 -- the length field is the length of the message
 message_has_own_length : (n : ℕ) (payload : Payload Message)
-    → 16 + length (payload_bytes message_codec.written payload) ≤ 4294967295
+    → 16 + length (payload_bytes message_codec.serialized payload) ≤ 4294967295
     → IsOfOwnLength (numbered_message_bytes n payload)
 unfolding numbered_message_bytes
 message_has_own_length n payload short =
-    let size = 16 + length (payload_bytes message_codec.written payload) in
+    let size = 16 + length (payload_bytes message_codec.serialized payload) in
     let word : little_number 4 (numbered_message_bytes n payload)
-    ≡ 16 + length (payload_bytes message_codec.written payload) =
-    little_number-reads_back 4 (16 + length (payload_bytes message_codec.written payload)) []
+    ≡ 16 + length (payload_bytes message_codec.serialized payload) =
+    little_number-reads_back 4 (16 + length (payload_bytes message_codec.serialized payload)) []
     (omega arith) in
     (omega arith, word ∙ omega arith)
 
 -- the length of a message is a multiple of four if the length of its payload is
 even_message : (n : ℕ) (payload : Payload Message)
-    → length (payload_bytes message_codec.written payload) % 4 ≡ 0
+    → length (payload_bytes message_codec.serialized payload) % 4 ≡ 0
     → length (numbered_message_bytes n payload) % 4 ≡ 0
 unfolding numbered_message_bytes
 even_message n carried even = omega arith
 
-module _ (reads_back : (v : NetlinkMessageModel Message)
+module _ (round_trips : (v : NetlinkMessageModel Message)
     → (netlink_codec message_codec).is_in_range v
-    → (netlink_codec message_codec).fits v
-    → v.header ≡ finalized_header message_codec.written (λ _. 20) v
-    → ((netlink_codec message_codec).reads ((netlink_codec message_codec).written v) tt v
+    → (netlink_codec message_codec).is_writable v
+    → v.header ≡ finalized_header message_codec.serialized (λ _. 20) v
+    → ((netlink_codec message_codec).parses ((netlink_codec message_codec).serialized v) tt v
     ↔ HoldsOfInnerMessage (message_codec.is_normal 20) v.payload)) where
   item_of_payload_message : (n : ℕ) (payload : Payload Message)
       → (netlink_codec message_codec).is_in_range (numbered_message n payload)
-      → (netlink_codec message_codec).fits (numbered_message n payload)
+      → (netlink_codec message_codec).is_writable (numbered_message n payload)
       → HoldsOfInnerMessage (message_codec.is_normal 20) payload
-      → length (payload_bytes message_codec.written payload) % 4 ≡ 0
+      → length (payload_bytes message_codec.serialized payload) % 4 ≡ 0
       → IsMessageWithItem (numbered_message_bytes n payload) (Ok payload)
   unfolding numbered_message_bytes
   item_of_payload_message n payload in_range fits normal even = record {
@@ -138,7 +138,7 @@ module _ (reads_back : (v : NetlinkMessageModel Message)
     even = even_message n payload even;
     is = (
       numbered_header n payload,
-      (reads_back (numbered_message n payload) in_range fits refl).1
+      (round_trips (numbered_message n payload) in_range fits refl).1
           normal,
     );
   }
@@ -190,9 +190,9 @@ replies_are_inner_messages (r ∷ rs) =
 
 pub answer_is_complete_dump : ((v : NetlinkMessageModel Message)
     → (netlink_codec message_codec).is_in_range v
-    → (netlink_codec message_codec).fits v
-    → v.header ≡ finalized_header message_codec.written (λ _. 20) v
-    → ((netlink_codec message_codec).reads ((netlink_codec message_codec).written v) tt v
+    → (netlink_codec message_codec).is_writable v
+    → v.header ≡ finalized_header message_codec.serialized (λ _. 20) v
+    → ((netlink_codec message_codec).parses ((netlink_codec message_codec).serialized v) tt v
     ↔ HoldsOfInnerMessage (message_codec.is_normal 20) v.payload))
     → ((v : ReplyValue unix_response_spec)
     → (response_codec unix_response_spec).is_in_range v
@@ -205,18 +205,18 @@ pub answer_is_complete_dump : ((v : NetlinkMessageModel Message)
     → (request : List ℕ) (replies : List (ReplyValue unix_response_spec)) (datagram : List ℕ)
     → IsAnswer request replies datagram → AllByRecursion IsWritableReply replies
     → IsCompleteDump datagram replies
-answer_is_complete_dump reads_back even concatenation request replies datagram answer found =
+answer_is_complete_dump round_trips even concatenation request replies datagram answer found =
     let n = answer.header.sequence_number in
     let small = answer.framed.1.1.1.1.0 in
     let ends = one_item_of_message (done_message_bytes n) (Ok (Done (0 ∷ 0 ∷ 0 ∷ 0 ∷ [])))
-    (item_of_done_message reads_back n small) in
+    (item_of_done_message round_trips n small) in
     let items = map (λ (r : ReplyValue unix_response_spec). Ok (InnerMessage (reply_as_message r)))
     replies
     ++ (Ok (Done (0 ∷ 0 ∷ 0 ∷ 0 ∷ [])) ∷ []) in
     let all = items_of_all concatenation (reply_message_bytes n) (λ r.
     Ok (InnerMessage (reply_as_message r)))
     (done_message_bytes n) (Ok (Done (0 ∷ 0 ∷ 0 ∷ 0 ∷ [])) ∷ []) replies
-    (items_of_reply_messages reads_back even n small replies found) ends in
+    (items_of_reply_messages round_trips even n small replies found) ends in
     record {
       dump = (
         items ∷ [],

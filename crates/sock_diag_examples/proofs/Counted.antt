@@ -3,11 +3,11 @@ use Rattle.std.proofs.Common.{Result, Ok, ◌≡◌, ◌≢◌, ℕ, suc, ◌+�
 use Rattle.std.proofs.Common.{inr, refl, ap, ◌∙◌}
 use Rattle.std.specs.List.{AllZip}
 use Rattle.std.proofs.lemmas.List.{length-append}
-use Rattle.netlink_core.specs.declared.fault.DecodeError.{DecodeError}
+use Rattle.netlink_core.specs.declared.error.DecodeError.{DecodeError}
 use Rattle.netlink_core.specs.Attribute.{Attribute, SplitsIntoAttributes, SplitsUntilError}
 use Rattle.netlink_core.specs.Attribute.{StartsWithAttribute, IsFramingError, HasAttributeError}
-use Rattle.netlink_core.proofs.Walking.{DecodedSoFar, nothing_decoded_yet, next_attribute_decoded}
-use Rattle.netlink_core.proofs.Walking.{all_attributes_decoded, framing_error_of_all}
+use Rattle.netlink_core.proofs.Iterating.{DecodedSoFar, nothing_decoded_yet, next_attribute_decoded}
+use Rattle.netlink_core.proofs.Iterating.{all_attributes_decoded, framing_error_of_all}
 
 -- parses an attribute as itself, so that only the framing is checked
 abbrev pub attribute_itself : Attribute → Result Attribute DecodeError
@@ -51,13 +51,13 @@ count_ends bytes rest count c none =
 error_is_framing_error : (bytes : List ℕ) (e : DecodeError)
     → HasAttributeError attribute_itself bytes e
     → (xs : List Attribute) × SplitsUntilError IsFramingError bytes xs e
-error_is_framing_error bytes e (xs, (rest, cut, some, fault), good) = (
+error_is_framing_error bytes e (xs, (rest, cut, some, error), good) = (
   xs,
   (
     rest,
     cut,
     some,
-    elim fault [
+    elim error [
       | inl framing ↦ framing
       | inr refused ↦
           absurd (let wrong = refused.2 in cc)

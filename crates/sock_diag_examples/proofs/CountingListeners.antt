@@ -6,7 +6,7 @@ use Rattle.std.specs.Prelude.{Err}
 use Rattle.std.specs.List.{AllByRecursion}
 use Rattle.std.proofs.lemmas.List.Sums.{sum_by-append}
 use Rattle.netlink_core.specs.Bytes.{IsBytes}
-use Rattle.netlink_core.specs.declared.fault.DecodeError.{DecodeError}
+use Rattle.netlink_core.specs.declared.error.DecodeError.{DecodeError}
 use Rattle.netlink_core.specs.Datagram.{StartsWithMessage}
 use Rattle.netlink_core.specs.Header.{IsMessageError}
 use Rattle.netlink_core.specs.Items.{Item, IsItemOf, AreItemsOf}
@@ -19,7 +19,7 @@ use Rattle.netlink_packet_sock_diag.specs.Dump.{dump_end_at}
 use Rattle.netlink_packet_sock_diag.specs.DumpWalk.{YieldsPayloadView}
 use Rattle.netlink_packet_sock_diag.specs.Message.{Message, message_codec}
 use Rattle.netlink_packet_sock_diag.specs.laws.Message.{message_laws}
-use Rattle.netlink_core.specs.Faults.{map_ok}
+use Rattle.netlink_core.specs.Errors.{map_ok}
 use Rattle.netlink_packet_sock_diag.specs.PayloadViewModel.{payload_view_model}
 use Rattle.sock_diag_examples.specs.Readme.{IsCountAtEnd, IsCounted, is_listening_reply}
 
@@ -55,8 +55,8 @@ pub step_of : (old new : DumpViews) (item : Result PayloadView DecodeError)
     → Step (unread_messages old.messages) (map_ok payload_view_model item)
     (unread_messages new.messages)
 step_of old new item (inl (bytes, s, is)) = message bytes s is
-step_of old new item (inr (e, is, some, fault, none)) =
-    no_message e (ap (map_ok payload_view_model) is) some fault
+step_of old new item (inr (e, is, some, error, none)) =
+    no_message e (ap (map_ok payload_view_model) is) some error
 
 go_on_push : (xs : List (Item Message)) (item : Item Message)
     → AllByRecursion (λ item. dump_end_at item ≡ None) xs → dump_end_at item ≡ None
@@ -91,7 +91,7 @@ counts_on datagram left later count item c (message bytes s is) plain = record {
       ∙ sym (count_push c.passed item);
   short = omega (arith, c.short, shorter left bytes later s, at_most_one (is_listening_reply item));
 }
-counts_on datagram left later count item c (no_message e is some fault) plain =
+counts_on datagram left later count item c (no_message e is some error) plain =
     let no : Some (Err e) ≡ None = sym (ap dump_end_at is) ∙ plain in cc
 
 -- the item is counted, or not
@@ -119,7 +119,7 @@ pub counts_to : (datagram left later : List ℕ) (count : ℕ) (item : Item Mess
     → ((more : List (Item Message)) → IsCountAtEnd count (item ∷ more) answer)
     → IsCounted datagram answer
 counts_to datagram left later count item answer in_range c (message bytes s is) ends =
-    let all = items_with_next message_codec message_laws.answered datagram left later bytes c.passed
+    let all = items_with_next message_codec message_laws.is_total datagram left later bytes c.passed
     item
     in_range c.walk s is in
     record {
@@ -129,13 +129,13 @@ counts_to datagram left later count item answer in_range c (message bytes s is) 
       go_on = c.go_on;
       ends = subst (λ n. IsCountAtEnd n (item ∷ all.0) answer) c.counted (ends all.0);
     }
-counts_to datagram left later count item answer in_range c (no_message e is some fault) ends =
+counts_to datagram left later count item answer in_range c (no_message e is some error) ends =
     record {
       passed = c.passed;
       later = item ∷ [];
       are = c.walk.items (item ∷ []) (subst (λ (i : Item Message).
           AreItemsOf (IsItemOf message_codec) left (i ∷ []))
-          (sym is) (error_is_only_item (IsItemOf message_codec) left e some fault));
+          (sym is) (error_is_only_item (IsItemOf message_codec) left e some error));
       go_on = c.go_on;
       ends = subst (λ n. IsCountAtEnd n (item ∷ []) answer) c.counted (ends []);
     }

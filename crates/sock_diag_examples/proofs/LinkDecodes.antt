@@ -5,13 +5,13 @@ use Rattle.std.proofs.Common.{◌∙◌}
 use Rattle.std.specs.Prelude.{IsOk}
 use Rattle.std.specs.List.{filter_map, last_or}
 use Rattle.std.proofs.lemmas.Bool.{ne_eqb}
-use Rattle.netlink_core.specs.declared.fault.DecodeError.{DecodeError}
-use Rattle.netlink_core.specs.declared.fault.DecodeError.TheVariants.{Memory, WrongLength}
+use Rattle.netlink_core.specs.declared.error.DecodeError.{DecodeError}
+use Rattle.netlink_core.specs.declared.error.DecodeError.TheVariants.{Memory, WrongLength}
 use Rattle.netlink_core.specs.Attribute.{Attribute, IsFramingError, StartsWithAttribute}
 use Rattle.netlink_core.specs.Attribute.{attribute_kind}
 use Rattle.netlink_core.specs.Parse.{number_of_width, parse_text}
-use Rattle.netlink_core.proofs.Walking.{StartsWithAttribute-nonempty, error_after_attribute}
-use Rattle.netlink_core.proofs.Walking.{attribute_prefix_of_start}
+use Rattle.netlink_core.proofs.Iterating.{StartsWithAttribute-nonempty, error_after_attribute}
+use Rattle.netlink_core.proofs.Iterating.{attribute_prefix_of_start}
 use Rattle.sock_diag_examples.proofs.Pushing.{nothing_is_appended, value_is_appended}
 use Rattle.sock_diag_examples.specs.Link.{HasName, IsNamePrefix, LinkAttribute, name_attribute}
 use Rattle.sock_diag_examples.specs.Link.{mtu_attribute, other_attribute}
@@ -101,7 +101,7 @@ name_here rest after a s kind ok =
 -- neither a framing error nor the error of a number is `Memory`
 pub framing_error_is_not_memory : (rest : List ℕ) (e : DecodeError) → IsFramingError rest e
     → e ≢ Memory
-framing_error_is_not_memory rest e fault memory = subst (IsFramingError rest) memory fault
+framing_error_is_not_memory rest e error memory = subst (IsFramingError rest) memory error
 
 chosen_error : (is : Bool) (n : ℕ) (e f : DecodeError) → (if is then Ok n else Err f) ≡ Err e
     → e ≡ f

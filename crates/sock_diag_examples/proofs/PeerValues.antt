@@ -2,10 +2,10 @@
 use Rattle.std.proofs.Common.{Some, Result, Ok, Err, ◌≡◌, ◌⊎◌, inl, inr, ℕ, List, length}
 use Rattle.std.proofs.lemmas.Bool.{cases_eq, eq-eqb, ne_eqb}
 use Rattle.byteorder.specs.Endian.{little_number}
-use Rattle.netlink_core.specs.declared.fault.DecodeError.{DecodeError}
+use Rattle.netlink_core.specs.declared.error.DecodeError.{DecodeError}
 use Rattle.netlink_core.specs.Attribute.{Attribute, attribute_kind}
 use Rattle.netlink_core.specs.AttributeSet.{value_as_decoded, decode_attribute}
-use Rattle.netlink_core.specs.Faults.{map_ok}
+use Rattle.netlink_core.specs.Errors.{map_ok}
 use Rattle.netlink_core.specs.Parse.{number_of_width}
 use Rattle.sock_diag_attributes.specs.UnixAttributes.{unix_attribute_set}
 

@@ -4,8 +4,8 @@ use Rattle.std.specs.Prelude.{Option, Some, None, Result, Ok, Err, IsOk, String,
 use Rattle.std.specs.Prelude.{option_map}
 use Rattle.std.specs.List.{AllByRecursion}
 use Rattle.std.specs.declared.alloc.Global.{Global}
-use Rattle.netlink_core.specs.declared.fault.DecodeError.{DecodeError}
-use Rattle.netlink_core.specs.declared.fault.DecodeError.TheVariants.{Memory}
+use Rattle.netlink_core.specs.declared.error.DecodeError.{DecodeError}
+use Rattle.netlink_core.specs.declared.error.DecodeError.TheVariants.{Memory}
 use Rattle.netlink_core.specs.Attribute.{Attribute, HasAttributeError, SplitsUntilError}
 use Rattle.netlink_core.specs.Attribute.{HasAttributePrefix, attribute_kind}
 use Rattle.netlink_core.specs.Parse.{number_of_width, parse_text}
@@ -53,7 +53,7 @@ string_content text = option_map string_bytes text
 
 -- the error of an attribute, as a LinkError
 abbrev pub link_error_of : DecodeError → LinkError
-link_error_of fault = errors.Attribute fault
+link_error_of error = errors.Attribute error
 
 -- `IsNamePrefix bytes`: the bytes start with an attribute that decodes to a name
 abbrev pub IsNamePrefix : List ℕ → Type 0

@@ -1,6 +1,6 @@
 -- The request for all listening TCP sockets.
 use Rattle.std.specs.Prelude.{ℕ, replicate}
-use Rattle.netlink_core.specs.Envelope.{NetlinkMessageModel}
+use Rattle.netlink_core.specs.NetlinkMessage.{NetlinkMessageModel}
 use Rattle.netlink_core.specs.declared.message.NetlinkPayload.TheVariants.{InnerMessage}
 use Rattle.std.specs.declared.net.ip_addr.IpAddr.{IpAddr}
 use Rattle.std.specs.declared.net.ip_addr.IpAddr.TheVariants.{V4, V6}

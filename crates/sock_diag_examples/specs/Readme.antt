@@ -5,7 +5,7 @@ use Rattle.std.specs.Borrow.{Bor}
 use Rattle.std.specs.Bool.{then_some}
 use Rattle.std.specs.List.{AllByRecursion, starts_with}
 use Rattle.std.specs.Option.{option_and_then}
-use Rattle.netlink_core.specs.declared.fault.DecodeError.{DecodeError}
+use Rattle.netlink_core.specs.declared.error.DecodeError.{DecodeError}
 use Rattle.netlink_core.specs.declared.message.NetlinkPayload.TheVariants.{Done, Error}
 use Rattle.netlink_core.specs.declared.message.NetlinkPayload.TheVariants.{Overrun, InnerMessage}
 use Rattle.netlink_core.specs.AttributeSet.{value_of_kind}
@@ -25,7 +25,7 @@ use Rattle.sock_diag_replies.specs.UnixResponseSpec.{unix_response_spec}
 -- the bytes parse as a reply about a UNIX socket
 abbrev pub IsUnixReply : List ℕ → Type 0
 IsUnixReply bytes =
-    (v : ReplyValue unix_response_spec) × (response_codec unix_response_spec).reads bytes tt v
+    (v : ReplyValue unix_response_spec) × (response_codec unix_response_spec).parses bytes tt v
 
 -- the bytes of a borrowed path
 abbrev pub path_bytes : Option (Bor (List ℕ)) → Option (List ℕ)

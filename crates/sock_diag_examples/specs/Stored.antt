@@ -2,7 +2,7 @@
 use Rattle.std.specs.Prelude.{◌≡◌, ℕ, List}
 use Rattle.netlink_core.specs.Bytes.{IsBytes}
 use Rattle.netlink_core.specs.Canonical.{CanonicalFails}
-use Rattle.netlink_core.specs.declared.canon.CanonError.{CanonError}
+use Rattle.netlink_core.specs.declared.canonical_form.CanonError.{CanonError}
 use Rattle.netlink_packet_sock_diag.specs.Message.{Message, message_codec}
 
 -- `IsKey reply key`: the bytes `reply` parse as a message under the type 20 (SOCK_DIAG_BY_FAMILY),
@@ -11,9 +11,9 @@ pub record IsKey (reply key : List ℕ) : Type 0 where
   -- each number is below 256
   pub in_range : IsBytes reply
   pub message : Message
-  pub is : message_codec.reads reply 20 message
-  pub fits : message_codec.fits message
-  pub written : key ≡ message_codec.written message
+  pub is : message_codec.parses reply 20 message
+  pub fits : message_codec.is_writable message
+  pub written : key ≡ message_codec.serialized message
 
 -- `HasKey reply`: the reply has a key: it parses as a writable message
 abbrev pub HasKey : List ℕ → Type 0
@@ -23,5 +23,5 @@ HasKey reply = (key : List ℕ) × IsKey reply key
 -- (`Refused`); or it parses as a message that is not writable (`Unwritable`); or it parses as a
 -- writable message, and an allocation failed (`Memory`)
 abbrev pub KeyFails : List ℕ → CanonError → Type 0
-KeyFails reply = CanonicalFails (message_codec.reads reply 20) (message_codec.refuses reply 20)
-    message_codec.fits
+KeyFails reply = CanonicalFails (message_codec.parses reply 20) (message_codec.rejects reply 20)
+    message_codec.is_writable

@@ -3,12 +3,12 @@ use Rattle.std.specs.Prelude.{⊤, ◌≡◌, ◌≢◌, ℕ, ◌+◌, ◌-◌, 
 use Rattle.std.specs.Prelude.{drop, Ok, Err, Some, pos}
 use Rattle.std.specs.List.{AllByRecursion, flat_map}
 use Rattle.netlink_core.specs.declared.header.NetlinkHeader.{NetlinkHeader}
-use Rattle.netlink_core.specs.declared.fault.DecodeError.{DecodeError}
-use Rattle.netlink_core.specs.declared.fault.DecodeError.TheVariants.{UnknownMessageType}
+use Rattle.netlink_core.specs.declared.error.DecodeError.{DecodeError}
+use Rattle.netlink_core.specs.declared.error.DecodeError.TheVariants.{UnknownMessageType}
 use Rattle.netlink_core.specs.Header.{HasHeader, IsMessageError}
-use Rattle.netlink_core.specs.Envelope.{Payload, HoldsOfInnerMessage, payload_bytes}
+use Rattle.netlink_core.specs.NetlinkMessage.{Payload, HoldsOfInnerMessage, payload_bytes}
 use Rattle.netlink_core.specs.declared.message.NetlinkPayload.TheVariants as netlink
-use Rattle.netlink_core.specs.Envelope.{payload_type}
+use Rattle.netlink_core.specs.NetlinkMessage.{payload_type}
 use Rattle.netlink_core.specs.Layout.{parse_record}
 use Rattle.sock_diag_records.specs.declared.unix.request.UnixRequest.{UnixRequest}
 use Rattle.sock_diag_records.specs.UnixRequest.{unix_request}
@@ -30,9 +30,9 @@ use Rattle.sock_diag_examples.specs.declared.test_kernel.AnswerError.TheVariants
 -- SOCK_DIAG_BY_FAMILY, for an inner message), its flags are 2 (NLM_F_MULTI: one of several
 -- messages), and its port id is 0.
 unfoldable pub numbered_message_bytes : ℕ → Payload Message → List ℕ
-numbered_message_bytes sequence_number payload = netlink_message_codec.written (record {
+numbered_message_bytes sequence_number payload = netlink_message_codec.serialized (record {
   header = record {
-    length = 16 + length (payload_bytes message_codec.written payload);
+    length = 16 + length (payload_bytes message_codec.serialized payload);
     message_type = payload_type (λ _. 20) payload;
     flags = 2;
     sequence_number = sequence_number;
@@ -84,8 +84,8 @@ pub data RejectsUnixRequest (request : List ℕ) (e : DecodeError) : Type 0 wher
 -- `IsWritableMessage payload`: a message with this payload is writable: its inner message is
 -- writable, if it has one, and its length, 16 bytes more than the payload, fits `nlmsg_len`
 abbrev pub IsWritableMessage : Payload Message → Type 0
-IsWritableMessage payload = HoldsOfInnerMessage message_codec.fits payload
-    × (16 + length (payload_bytes message_codec.written payload) ≤ 4294967295)
+IsWritableMessage payload = HoldsOfInnerMessage message_codec.is_writable payload
+    × (16 + length (payload_bytes message_codec.serialized payload) ≤ 4294967295)
 
 -- the message of the reply is writable
 abbrev pub IsWritableReplyMessage : ReplyValue unix_response_spec → Type 0
@@ -122,7 +122,7 @@ pub record IsWritableReply (reply : ReplyValue unix_response_spec) : Type 0 wher
   pub in_range : (response_codec unix_response_spec).is_in_range reply
   pub normal : (response_codec unix_response_spec).is_normal tt reply
   -- each attribute fits `nla_len`, and the reply has at most 4,294,967,295 bytes
-  pub fits : (response_codec unix_response_spec).fits reply
+  pub fits : (response_codec unix_response_spec).is_writable reply
   -- the message, with its header of 16 bytes, fits `nlmsg_len`
   pub short : 16 + length (response_bytes unix_response_spec reply) ≤ 4294967295
 

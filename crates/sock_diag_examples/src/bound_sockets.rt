@@ -20,12 +20,12 @@ pub fn is_bound_to(reply: &[u8], path: &[u8]) -> Result<bool, DecodeError>
     // `v`: the value that the reply parses as. `value_of_kind`: the value of an attribute of this
     // kind.
     ensures value { IfOk result (λ bound.
-        (v : ReplyValue unix_response_spec) × (response_codec unix_response_spec).reads reply.now
+        (v : ReplyValue unix_response_spec) × (response_codec unix_response_spec).parses reply.now
         tt v
         × (IsTrue bound
         ↔ (first_content_of (value_of_kind unix_attribute_set UNIX_DIAG_NAME) v.nlas
         ≡ Some (Pathname path.now)))) }
-    ensures fault { IfErr result ((response_codec unix_response_spec).refuses reply.now tt) }
+    ensures error { IfErr result ((response_codec unix_response_spec).rejects reply.now tt) }
 {
     let view = UnixResponseView::parse(reply)?;
     Ok(view.name() == Some(NameView::Pathname(path)))

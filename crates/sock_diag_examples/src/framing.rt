@@ -12,8 +12,8 @@ use netlink_core::{DecodeError, NlasIterator};
 pub fn count_attributes(bytes: &[u8]) -> Result<usize, DecodeError>
     ensures count { IfOk result (λ count. (attributes : List Attribute)
         × SplitsIntoAttributes bytes.now attributes [] × (length attributes ≡ count)) }
-    ensures fault { IfErr result (λ fault. (before : List Attribute)
-        × SplitsUntilError IsFramingError bytes.now before fault) }
+    ensures error { IfErr result (λ error. (before : List Attribute)
+        × SplitsUntilError IsFramingError bytes.now before error) }
 {
     let mut count = 0;
     for item in NlasIterator::new(bytes) {

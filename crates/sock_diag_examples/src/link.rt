@@ -49,10 +49,10 @@ pub enum LinkError {
 }
 
 impl From<DecodeError> for LinkError {
-    ghost from_gives = { λ fault e. e ≡ link_error_of fault };
+    ghost from_gives = { λ error e. e ≡ link_error_of error };
 
-    fn from(fault: DecodeError) -> LinkError {
-        LinkError::Attribute(fault)
+    fn from(error: DecodeError) -> LinkError {
+        LinkError::Attribute(error)
     }
 }
 
@@ -71,7 +71,7 @@ pub fn parse_link(alloc: Global, payload: &[u8]) -> Result<Link, LinkError>
         × DecodeTo decodes_link (drop 16 payload.now) found
         × (string_content link.name ≡ last_or None (filter_map name_in found))
         × (link.mtu ≡ last_or None (filter_map mtu_in found))) }
-    ensures fault { IfErr result (LinkFails payload.now) }
+    ensures error { IfErr result (LinkFails payload.now) }
 {
     if payload.len() < HEADER {
         return Err(LinkError::TooShort { got: payload.len() });
@@ -116,19 +116,19 @@ pub fn attribute_key(alloc: Global, attribute: &[u8]) -> Result<Vec<u8>, CanonEr
     // `first_attribute_codec []`: the codec of one attribute of which no kind is known, so that it
     // parses as itself.
     ensures written { IfOk result (λ key.
-        (a : Attribute) × (first_attribute_codec []).reads attribute.now tt a
+        (a : Attribute) × (first_attribute_codec []).parses attribute.now tt a
         × (key.items ≡ attribute_bytes a)) }
     // The condition `FitsLengthField` holds of every attribute that was parsed.
-    ensures alike { IfOk result (λ key. (other : List ℕ) (theirs : Attribute) → IsBytes other
-        → (first_attribute_codec []).reads other tt theirs
+    ensures equal_bytes { IfOk result (λ key. (other : List ℕ) (theirs : Attribute) → IsBytes other
+        → (first_attribute_codec []).parses other tt theirs
         → FitsLengthField theirs
         → ((attribute_bytes theirs ≡ key.items)
-        ↔ (first_attribute_codec []).idle tt attribute.now other)) }
-    // `CanonicalFails reads refuses fits`: the error by the values that the bytes parse as, the
-    // errors that reject them, and the writable values.
+        ↔ (first_attribute_codec []).equivalent tt attribute.now other)) }
+    // `CanonicalFails parses rejects is_writable`: the error by the values that the bytes parse as,
+    // the errors that reject them, and the writable values.
     ensures err { IfErr result (canon.CanonicalFails (λ a.
-        (first_attribute_codec []).reads attribute.now tt a)
-        (λ e. (first_attribute_codec []).refuses attribute.now tt e) FitsLengthField) }
+        (first_attribute_codec []).parses attribute.now tt a)
+        (λ e. (first_attribute_codec []).rejects attribute.now tt e) FitsLengthField) }
 {
     canonical::<DefaultNla>(alloc, attribute, ())
 }

@@ -3,7 +3,7 @@
 ghost use Rattle.std.proofs.Common.{rules};
 ghost use Rattle.std.specs.Prelude.{◌≡◌, [], ◌∷◌, ◌++◌, replicate};
 ghost use Rattle.byteorder.specs.Endian.{little_bytes};
-ghost use Rattle.netlink_core.specs.EnvelopeModel.{netlink_message_model};
+ghost use Rattle.netlink_core.specs.NetlinkMessageModel.{netlink_message_model};
 ghost use Rattle.netlink_packet_sock_diag.specs.Message.{message_codec, netlink_message_codec};
 ghost use Rattle.netlink_packet_sock_diag.specs.MessageModel.{message_model};
 ghost use Rattle.sock_diag_examples.specs.ListeningTcp.{family_number, listening_request};
@@ -66,7 +66,7 @@ pub fn listening_tcp(family: Family, sequence_number: u32) -> NetlinkMessage<Soc
 /// Returns the bytes of [`listening_tcp`] as they are sent.
 #[tactic(auto, unfolding(sock_diag_records::specs::InetRequest::inet_request))]
 pub fn listening_tcp_bytes(family: Family, sequence_number: u32) -> [u8; REQUEST_LENGTH]
-    ensures written { result ≡ netlink_message_codec.written
+    ensures written { result ≡ netlink_message_codec.serialized
         (listening_request family sequence_number) }
     // Length 72, type 20, flags 0x301, the sequence number, port id 0; the family, protocol 6, no
     // extensions, a pad byte, the state LISTEN (bit 10); a socket id of 48 zeros.

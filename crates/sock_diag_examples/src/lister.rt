@@ -3,11 +3,11 @@
 ghost use Rattle.std.specs.Prelude.{◌≡◌, ◌↔◌, List, Result, Some, IfOk, IsTrue, map};
 ghost use Rattle.std.specs.Iterator.{Drains};
 ghost use Rattle.std.specs.List.{filter_map};
-ghost use Rattle.netlink_core.specs.declared.fault.DecodeError.{DecodeError as Fault};
+ghost use Rattle.netlink_core.specs.declared.error.DecodeError.{DecodeError as Fault};
 ghost use Rattle.netlink_packet_sock_diag.specs.DumpWalk.{YieldsPayloadView};
 ghost use Rattle.netlink_packet_sock_diag.specs.PayloadViewModel.{PayloadView};
 ghost use Rattle.netlink_packet_sock_diag.specs.MessageViewModel.{message_view_model};
-ghost use Rattle.netlink_core.specs.Faults.{map_ok};
+ghost use Rattle.netlink_core.specs.Errors.{map_ok};
 ghost use Rattle.netlink_packet_sock_diag.specs.PayloadViewModel.{payload_view_model};
 ghost use Rattle.sock_diag_examples.specs.Lister.{AreLinesOf, line_of, socket_of};
 
@@ -38,7 +38,7 @@ pub enum Line {
 pub fn list(alloc: Global, datagram: &[u8]) -> Result<Vec<Line>, AllocError>
     ensures { IfOk result (λ lines. AreLinesOf datagram.now lines.items) }
 {
-    laws::whole_views_are_the_datagram();
+    laws::complete_views_are_the_datagram();
     lines_of(alloc, DumpViews::new(datagram))
 }
 
@@ -73,7 +73,7 @@ fn line_for(item: Result<PayloadView<'_>, DecodeError>) -> Option<Line>
         Ok(PayloadView::Done(_)) => Some(Line::End),
         Ok(PayloadView::Error(_) | PayloadView::Overrun(_)) => Some(Line::Failure),
         Ok(PayloadView::Noop) => None,
-        Err(fault) => Some(Line::Refused(fault)),
+        Err(error) => Some(Line::Refused(error)),
     }
 }
 

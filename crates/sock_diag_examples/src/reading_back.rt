@@ -1,7 +1,7 @@
 //! Serializing and parsing a value of any type, with `netlink_core`.
 
 ghost use Rattle.std.specs.Prelude.{◌≡◌, IfOk, IfErr};
-ghost use Rattle.netlink_core.specs.declared.fault.DecodeError.TheVariants.{Memory};
+ghost use Rattle.netlink_core.specs.declared.error.DecodeError.TheVariants.{Memory};
 
 use netlink_core::{DecodeError, Wire};
 use std::alloc::Global;
@@ -17,10 +17,10 @@ pub fn copy_by_bytes<T: Wire + Drop>(
     requires normal { T.codec.is_normal param (T.model value.now) }
     requires writable { T.writable value.now }
     ensures equal { IfOk result (λ copy. T.model copy ≡ T.model value.now) }
-    ensures fault { IfErr result (λ e. e ≡ Memory) }
+    ensures error { IfErr result (λ e. e ≡ Memory) }
 {
     let mut bytes = vec![in alloc; 0; value.buffer_len()]?;
     value.emit(&mut bytes);
-    value.in_range();
+    value.prove_in_range();
     T::read(alloc, &bytes, param)
 }

@@ -12,7 +12,7 @@ use std::alloc::Global;
 /// Returns the key under which a reply is stored: its canonical form. The reply is the payload of a
 /// netlink message of type 20.
 ///
-/// Two replies with keys have the same key if and only if they are equivalent (`idle`): they differ
+/// Two replies with keys have the same key if and only if they are equivalent: they differ
 /// only in ignored bits and bytes, such as padding, undefined flag bits and bytes that no parser
 /// reads.
 ///
@@ -20,18 +20,19 @@ use std::alloc::Global;
 /// its value is not writable, and with `Memory` if an allocation fails.
 pub fn key(alloc: Global, reply: &[u8]) -> Result<Vec<u8>, CanonError>
     ensures key { IfOk result (λ key. IsKey reply.now key.items) }
-    ensures alike { IfOk result (λ key. (other theirs : List ℕ) → IsKey other theirs
-        → ((key.items ≡ theirs) ↔ message_codec.idle 20 reply.now other)) }
+    ensures equal_bytes { IfOk result (λ key. (other theirs : List ℕ) → IsKey other theirs
+        → ((key.items ≡ theirs) ↔ message_codec.equivalent 20 reply.now other)) }
     ensures err { IfErr result (KeyFails reply.now) }
 {
     canonical::<SockDiagMessage>(alloc, reply, SOCK_DIAG_BY_FAMILY)
 }
 
-/// Returns whether two replies have the same key, if both have one: whether they are equivalent
-/// (`idle`). Otherwise returns the error of the first reply, or of the second if the first has a
+/// Returns whether two replies have the same key, if both have one: whether they are equivalent.
+/// Otherwise returns the error of the first reply, or of the second if the first has a
 /// key. An error is the one of [`key`].
 pub fn same_reply(alloc: Global, one: &[u8], other: &[u8]) -> Result<bool, CanonError>
-    ensures value { IfOk result (λ same. IsTrue same ↔ message_codec.idle 20 one.now other.now) }
+    ensures value { IfOk result (λ same. IsTrue same
+        ↔ message_codec.equivalent 20 one.now other.now) }
     ensures keys { OnOk result (HasKey one.now × HasKey other.now) }
     ensures err { IfErr result
         (λ e. KeyFails one.now e ⊎ (HasKey one.now × KeyFails other.now e)) }

@@ -4,7 +4,7 @@
 ghost use Rattle.std.specs.Prelude.{◌≡◌, ◌↔◌, ◌++◌, ℕ, List, map, IsTrue, OnOk, IfOk, IfErr};
 ghost use Rattle.std.specs.Prelude.{vec_items};
 ghost use Rattle.std.specs.List.{AllByRecursion, flat_map};
-ghost use Rattle.netlink_core.specs.EnvelopeModel.{payload_model};
+ghost use Rattle.netlink_core.specs.NetlinkMessageModel.{payload_model};
 ghost use Rattle.netlink_packet_sock_diag.specs.MessageModel.{message_model};
 ghost use Rattle.sock_diag_examples.specs.UnixResponseModel.{unix_response_model};
 ghost use Rattle.netlink_core.specs.Response.{ReplyValue};
@@ -37,10 +37,10 @@ pub enum AnswerError {
 }
 
 impl From<DecodeError> for AnswerError {
-    ghost from_gives = { λ fault e. e ≡ Request fault };
+    ghost from_gives = { λ error e. e ≡ Request error };
 
-    fn from(fault: DecodeError) -> AnswerError {
-        AnswerError::Request(fault)
+    fn from(error: DecodeError) -> AnswerError {
+        AnswerError::Request(error)
     }
 }
 
@@ -104,14 +104,14 @@ pub fn answer(
 
 /// The dump over an answer is complete and has the caller's replies, if each is in range and in
 /// normal form, and its message is writable. Proof only: the contract states the property.
-pub fn answer_is_a_whole_dump()
+pub fn answer_is_a_complete_dump()
     ensures { (request : List ℕ) (replies : List (ReplyValue unix_response_spec))
         (datagram : List ℕ)
         → IsAnswer request replies datagram
         → AllByRecursion IsWritableReply replies → IsCompleteDump datagram replies }
 {
     netlink_core::laws::items_of_concatenation::<SockDiagMessage>();
-    laws::finalized_message_reads_back();
+    laws::finalized_message_round_trips();
     laws::reply_lengths_are_multiples_of_four();
 }
 

@@ -58,7 +58,7 @@ fn shows<T: Debug>(rt: &impl Abort, alloc: Global, value: &T, text: &str) -> Res
 }
 
 #[test]
-fn replies_are_stored_by_what_they_tell(rt: HostRuntime) -> Result<(), Fail> {
+fn replies_are_stored_by_canonical_form(rt: HostRuntime) -> Result<(), Fail> {
     let alloc = rt.alloc();
     assert!(rt; key(alloc, NAMED)?.as_slice() == WRITTEN);
     assert!(rt; same_reply(alloc, NAMED, WRITTEN)?);

@@ -1,1 +1,1 @@
-mod WholeLenientWalk
+mod CompleteLenientIteration

@@ -2,29 +2,29 @@
 use Rattle.std.specs.Prelude.{◌≡◌, ◌≢◌, ℕ, ◌⊎◌, List, [], ◌∷◌, ◌++◌, map, Option, None, Some}
 use Rattle.std.specs.Prelude.{Result, Err, MatchOption}
 use Rattle.std.specs.Result.{result_map_both}
-use Rattle.netlink_core.specs.declared.fault.DecodeError.{DecodeError}
+use Rattle.netlink_core.specs.declared.error.DecodeError.{DecodeError}
 use Rattle.netlink_core.specs.Attribute.{Attribute, SplitsIntoAttributes, SplitsUntilError}
 use Rattle.netlink_core.specs.Attribute.{IsFramingError, StartsWithAttribute}
 use Rattle.netlink_core.specs.AttributeSet.{AttributeSet, AttributeValue, decode_attribute}
 use Rattle.netlink_core.specs.Walk.{buffered_attribute}
 use Rattle.sock_diag_extras.specs.Models.{unread_lenient_bytes}
 use Rattle.sock_diag_extras.specs.declared.lenient.LenientNlas.{LenientNlas}
-use Rattle.sock_diag_extras.specs.declared.lenient.Refused.{Refused}
-use Rattle.sock_diag_extras.specs.declared.lenient.Refused.TheVariants as refused
+use Rattle.sock_diag_extras.specs.declared.lenient.LenientError.{LenientError}
+use Rattle.sock_diag_extras.specs.declared.lenient.LenientError.TheVariants as refused
 
--- The model of a `Refused`: the rejected attribute, or None for a framing error (bytes that do not
--- start with an attribute); and the error.
+-- The model of a `LenientError`: the rejected attribute, or None for a framing error (bytes that do
+-- not start with an attribute); and the error.
 pub record RejectionModel : Type 0 where
   pub attribute : Option Attribute
-  pub fault : DecodeError
+  pub error : DecodeError
 
--- The model of a rejected attribute (`Refused`).
-abbrev pub rejection_model : Refused → RejectionModel
+-- The model of a rejected attribute (`LenientError`).
+abbrev pub rejection_model : LenientError → RejectionModel
 rejection_model (refused.Attribute nla e) = record {
   attribute = Some (buffered_attribute nla);
-  fault = e;
+  error = e;
 }
-rejection_model (refused.Framing e) = record { attribute = None; fault = e }
+rejection_model (refused.Framing e) = record { attribute = None; error = e }
 
 -- `lenient_item_of F a`: the item for the attribute `a`, by the set `F` of known attribute types:
 -- `Ok` and the value that it decodes to, or `Err` and the attribute with its error.
@@ -32,12 +32,12 @@ rejection_model (refused.Framing e) = record { attribute = None; fault = e }
 abbrev pub lenient_item_of : (F : AttributeSet) → Attribute
     → Result (AttributeValue F) RejectionModel
 lenient_item_of F a = result_map_both (λ value. value) (λ e.
-    record { attribute = Some a; fault = e }) (decode_attribute F a)
+    record { attribute = Some a; error = e }) (decode_attribute F a)
 
 -- `lenient_item_model F view_model item`: the model of an item that the iterator yields.
 -- `view_model` maps a view to the value that it decodes to.
 abbrev pub lenient_item_model : {V : Type 0} (F : AttributeSet) → (V → AttributeValue F)
-    → Result V Refused
+    → Result V LenientError
     → Result (AttributeValue F) RejectionModel
 lenient_item_model F view_model item = result_map_both view_model rejection_model item
 
@@ -51,7 +51,7 @@ abbrev pub StartsWithLenientItem : (F : AttributeSet) → List ℕ
 StartsWithLenientItem F left item later =
     ((a : Attribute) × StartsWithAttribute left a later × (item ≡ lenient_item_of F a))
     ⊎ ((e : DecodeError) × (left ≢ []) × IsFramingError left e × (later ≡ [])
-    × (item ≡ Err (record { attribute = None; fault = e })))
+    × (item ≡ Err (record { attribute = None; error = e })))
 
 -- `YieldsLenientItem F view_model old given new`: what a call of `next` does: `old` is the iterator
 -- before it, `given` what it returns, and `new` the iterator after it. It returns None if no bytes
@@ -59,7 +59,7 @@ StartsWithLenientItem F left item later =
 -- item.
 abbrev pub YieldsLenientItem : {V : Type 0} (F : AttributeSet) → (V → AttributeValue F)
     → LenientNlas V
-    → Option (Result V Refused) → LenientNlas V → Type 0
+    → Option (Result V LenientError) → LenientNlas V → Type 0
 YieldsLenientItem F view_model old given new =
     MatchOption given ((unread_lenient_bytes old ≡ []) × (unread_lenient_bytes new ≡ []))
     (λ item. StartsWithLenientItem F (unread_lenient_bytes old)
@@ -75,5 +75,5 @@ abbrev pub HasLenientItems : (F : AttributeSet) → List ℕ
 HasLenientItems F bytes items = (attributes : List Attribute) × (
     (SplitsIntoAttributes bytes attributes [] × (items ≡ map (lenient_item_of F) attributes))
     ⊎ ((e : DecodeError) × SplitsUntilError IsFramingError bytes attributes e
-    × (items ≡ map (lenient_item_of F) attributes ++ Err (record { attribute = None; fault = e })
+    × (items ≡ map (lenient_item_of F) attributes ++ Err (record { attribute = None; error = e })
     ∷ [])))

@@ -1,11 +1,11 @@
 -- Attributes that are nested in the value of another attribute or follow a header.
 use Rattle.std.specs.Prelude.{ℕ, List, [], Option, Some, Result}
-use Rattle.netlink_core.specs.declared.fault.DecodeError.{DecodeError}
+use Rattle.netlink_core.specs.declared.error.DecodeError.{DecodeError}
 use Rattle.netlink_core.specs.Attribute.{Attribute}
 use Rattle.netlink_core.specs.AttributeSet.{decode_attribute}
 use Rattle.netlink_core.specs.Parse.{number_of_width}
 use Rattle.attribute_lists.specs.AttributesIn.{decoded_in}
-use Rattle.sock_diag_families.specs.Found.{first_value_of_kind, parse_if_present}
+use Rattle.sock_diag_families.specs.AttributeGetters.{first_value_of_kind, parse_if_present}
 
 -- `attributes_in bytes`: the attributes that the bytes consist of, in order. Only meaningful for
 -- bytes without a framing error. `decode_attribute []`: no attribute type is known, so that each

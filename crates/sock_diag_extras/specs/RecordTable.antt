@@ -3,7 +3,7 @@ use Rattle.std.specs.Prelude.{ℕ, List}
 use Rattle.netlink_core.specs.Table.{values_of, bytes_of}
 use Rattle.netlink_core.specs.Rows.{Row, fields_of, numbers_of}
 use Rattle.netlink_core.specs.Layout.{Layout, plain}
-use Rattle.netlink_core.specs.declared.fault.RecordName.{RecordName}
+use Rattle.netlink_core.specs.declared.error.RecordName.{RecordName}
 
 -- The layout of a record: a C struct that is parsed as `Value`.
 pub record RecordTable (Value : Type 0) : Type 1 where

@@ -5,12 +5,12 @@ ghost use Rattle.std.specs.Prelude.{◌≡◌, ◌≤◌, ◌<◌, ◌^◌, ◌�
 ghost use Rattle.std.specs.Prelude.{IsSome, None, Some, SomeIff, option_map};
 ghost use Rattle.netlink_core.specs.Attribute.{HasAttributeError};
 ghost use Rattle.netlink_core.specs.AttributeSet.{decode_attribute};
-ghost use Rattle.netlink_core.specs.Envelope.{leading_error_number};
-ghost use Rattle.netlink_core.specs.Faults.{map_ok};
+ghost use Rattle.netlink_core.specs.NetlinkMessage.{leading_error_number};
+ghost use Rattle.netlink_core.specs.Errors.{map_ok};
 ghost use Rattle.netlink_core.specs.Header.{header_fields, header_values};
 ghost use Rattle.netlink_core.specs.Parse.{number_of_width, parse_text};
 ghost use Rattle.netlink_core.specs.Table.{values_of};
-ghost use Rattle.sock_diag_families.specs.Found.{parse_if_present};
+ghost use Rattle.sock_diag_families.specs.AttributeGetters.{parse_if_present};
 ghost use Rattle.sock_diag_extras.specs.Acknowledgement.{HasCompleteRequest};
 ghost use Rattle.sock_diag_extras.specs.Acknowledgement.{ack_attribute_bytes_from};
 ghost use Rattle.sock_diag_extras.specs.Acknowledgement.{error_attribute_bytes};
@@ -19,7 +19,7 @@ ghost use Rattle.sock_diag_extras.specs.Models.{ack_attributes, ack_number, ack_
 ghost use Rattle.sock_diag_extras.specs.Models.{nested_bytes};
 ghost use Rattle.sock_diag_extras.specs.Nested.{first_in};
 
-use crate::bytes::bytes_behind;
+use crate::bytes::suffix_from;
 use crate::constants::{
     NLM_F_ACK_TLVS, NLM_F_CAPPED, NLMSGERR_ATTR_COOKIE, NLMSGERR_ATTR_MISS_NEST,
     NLMSGERR_ATTR_MISS_TYPE, NLMSGERR_ATTR_MSG, NLMSGERR_ATTR_OFFS, NLMSGERR_ATTR_POLICY,
@@ -48,7 +48,7 @@ impl<'a> AckView<'a> {
     /// Returns `None` if there are fewer than 20 bytes, or if the whole request is sent and its
     /// length field is below 16 or past the end of the bytes.
     pub fn of_error(flags: u16, payload: &'a [u8]) -> Option<AckView<'a>>
-        ensures held { IsSome result ↔ HasCompleteRequest flags payload.entry.now }
+        ensures contained { IsSome result ↔ HasCompleteRequest flags payload.entry.now }
         // leading_error_number: the signed little-endian number in the first four bytes.
         ensures number { IfSome result (λ ack.
             leading_error_number payload.entry.now ≡ Some (ack_number ack)) }
@@ -61,14 +61,14 @@ impl<'a> AckView<'a> {
             return None;
         }
         let number = error_number(payload)?;
-        let length = held_length(flags, payload);
+        let length = request_length(flags, payload);
         if length < NETLINK_HEADER_LEN || length > payload.len() - 4 {
             return None;
         }
         Some(AckView {
             number,
             request: &payload[4..4 + length],
-            attributes: told_behind(flags, 4 + padded(length), payload),
+            attributes: bytes_after_request(flags, 4 + padded(length), payload),
         })
     }
 
@@ -86,7 +86,7 @@ impl<'a> AckView<'a> {
         Some(AckView {
             number: error_number(payload)?,
             request: &[],
-            attributes: told_behind(flags, 4, payload),
+            attributes: bytes_after_request(flags, 4, payload),
         })
     }
 
@@ -130,7 +130,7 @@ impl<'a> AckView<'a> {
         // `decode_attribute []`: no attribute type is known, so every value is accepted, and only
         // the framing can be invalid.
         ensures kept { IfOk result (λ told. nested_bytes told.0 ≡ ack_attributes self.now) }
-        ensures fault { IfErr result (HasAttributeError (decode_attribute [])
+        ensures error { IfErr result (HasAttributeError (decode_attribute [])
             (ack_attributes self.now)) }
     {
         Ok(AckAttributes(NestedNlas::parse(self.attributes)?))
@@ -205,7 +205,7 @@ impl<'a> AckAttributes<'a> {
 }
 
 // Returns the length of the request in an `NLMSG_ERROR` payload, in bytes.
-fn held_length(flags: u16, payload: &[u8]) -> usize
+fn request_length(flags: u16, payload: &[u8]) -> usize
     requires { 20 ≤ length payload.now }
     ensures length { result ≡ acked_request_length flags payload.now }
     ensures small { result < 2 ^ 32 }
@@ -219,11 +219,11 @@ fn held_length(flags: u16, payload: &[u8]) -> usize
 
 // Returns the bytes of the attributes, from offset `front` on, or none if the flags lack
 // `NLM_F_ACK_TLVS`.
-fn told_behind(flags: u16, front: usize, payload: &[u8]) -> &[u8]
+fn bytes_after_request(flags: u16, front: usize, payload: &[u8]) -> &[u8]
     ensures { result.now ≡ ack_attribute_bytes_from flags front payload.entry.now }
 {
     if flags & NLM_F_ACK_TLVS == 0 {
         return &[];
     }
-    bytes_behind(payload, front)
+    suffix_from(payload, front)
 }

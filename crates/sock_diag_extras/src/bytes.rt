@@ -3,7 +3,7 @@
 ghost use Rattle.std.specs.Prelude.{◌≡◌, drop};
 
 /// Returns the bytes after the first `count` bytes, or no bytes if there are fewer than `count`.
-pub(crate) fn bytes_behind(bytes: &[u8], count: usize) -> &[u8]
+pub(crate) fn suffix_from(bytes: &[u8], count: usize) -> &[u8]
     ensures { result.now ≡ drop count bytes.entry.now }
 {
     if bytes.len() < count {

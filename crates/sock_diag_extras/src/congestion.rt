@@ -9,7 +9,7 @@ ghost use Rattle.sock_diag_extras.specs.RecordTable.{layout_with_name};
 
 use crate::record::AttributeRecord;
 use byteorder::{ByteOrder, LittleEndian};
-use netlink_core::fields::{long_words_at, words_at};
+use netlink_core::fields::{u32s_at, u64s_at};
 
 /// The measurements of TCP Vegas, and of other algorithms that report in the same format:
 /// `struct tcpvegas_info` of `linux/inet_diag.h`, 16 bytes, four little-endian `u32` fields.
@@ -33,7 +33,7 @@ impl AttributeRecord for VegasInfo {
     }
 
     fn from_fields(bytes: &[u8]) -> Self {
-        let [enabled, rtt_count, rtt, min_rtt] = words_at::<4>(bytes, 0);
+        let [enabled, rtt_count, rtt, min_rtt] = u32s_at::<4>(bytes, 0);
         VegasInfo {
             enabled,
             rtt_count,
@@ -77,7 +77,7 @@ impl AttributeRecord for DctcpInfo {
     }
 
     fn from_fields(bytes: &[u8]) -> Self {
-        let [alpha, marked_bytes, acked_bytes] = words_at::<3>(bytes, 4);
+        let [alpha, marked_bytes, acked_bytes] = u32s_at::<3>(bytes, 4);
         DctcpInfo {
             enabled: LittleEndian::read_u16(bytes),
             ce_state: LittleEndian::read_u16(&bytes[2..]),
@@ -122,8 +122,8 @@ impl AttributeRecord for BbrInfo {
     }
 
     fn from_fields(bytes: &[u8]) -> Self {
-        let [bandwidth] = long_words_at::<1>(bytes, 0);
-        let [min_rtt, pacing_gain, window_gain] = words_at::<3>(bytes, 8);
+        let [bandwidth] = u64s_at::<1>(bytes, 0);
+        let [min_rtt, pacing_gain, window_gain] = u32s_at::<3>(bytes, 8);
         BbrInfo {
             bandwidth,
             min_rtt,

@@ -285,7 +285,7 @@ pub const TCP_BOUND_INACTIVE: u8 = 13;
 
 /// States the numeric value of each constant of this module. Proof only: the contract states the
 /// property.
-pub fn extra_constants_have_their_numbers()
+pub fn extra_constants_have_their_values()
     ensures extra_attributes { PairsAreEqual ((INET_DIAG_ULP_INFO, 19) ∷
         (INET_DIAG_SK_BPF_STORAGES, 20) ∷ (INET_DIAG_CGROUP_ID, 21) ∷
         (INET_DIAG_SOCKOPT, 22) ∷ (UNIX_DIAG_UID, 7) ∷ (UDIAG_SHOW_UID, 64) ∷ []) }

@@ -26,10 +26,10 @@ ghost use Rattle.sock_diag_extras.specs.Models.{unread_lenient_bytes, nested_byt
 ghost use Rattle.sock_diag_extras.specs.TcpFields.{first_fields, later_fields};
 ghost use Rattle.sock_diag_extras.specs.TcpFields.{end_offset, row_of, span_of};
 ghost use Rattle.sock_diag_extras.specs.declared.lenient.LenientNlas.{LenientNlas};
-ghost use Rattle.sock_diag_extras.specs.declared.lenient.Refused.{Refused};
+ghost use Rattle.sock_diag_extras.specs.declared.lenient.LenientError.{LenientError};
 
 use crate::acknowledgement::{AckAttributes, AckView};
-use crate::lenient::{LenientInetReply, LenientReply, LenientUnixReply, Refused};
+use crate::lenient::{LenientError, LenientInetReply, LenientReply, LenientUnixReply};
 use crate::nested::NestedNlas;
 use crate::storages::BpfStorage;
 use crate::tcp_info::TcpInfoBytes;
@@ -42,8 +42,8 @@ use std::alloc::AllocError;
 /// States which items a `LenientNlas` yields until its end: for each attribute in the bytes left,
 /// in order, its value or its error; and last the framing error, if there is one. `Drains`: `given`
 /// are all items that `next` yields until it returns `None`.
-pub fn whole_lenient_walk<'a, V: FamilyView<'a>>()
-    ensures items { (walk : LenientNlas V) (given : List (Result V Refused))
+pub fn complete_lenient_iteration<'a, V: FamilyView<'a>>()
+    ensures items { (walk : LenientNlas V) (given : List (Result V LenientError))
         → Drains (YieldsLenientItem V.attribute_set V.model) walk given
         → HasLenientItems V.attribute_set (unread_lenient_bytes walk)
         (map (lenient_item_model V.attribute_set V.model) given) }
@@ -54,7 +54,7 @@ pub fn whole_lenient_walk<'a, V: FamilyView<'a>>()
 /// them (`strict`). If every item that it yields is a value (`map Ok views`), the bytes decode to
 /// these values (`accepted`).
 pub fn lenient_walk_of_good_bytes<'a, V: FamilyView<'a>>()
-    ensures strict { (walk : LenientNlas V) (given : List (Result V Refused))
+    ensures strict { (walk : LenientNlas V) (given : List (Result V LenientError))
         → HasNoAttributeError (decode_attribute V.attribute_set) (unread_lenient_bytes walk)
         → Drains (YieldsLenientItem V.attribute_set V.model) walk given
         → map (lenient_item_model V.attribute_set V.model) given
@@ -82,7 +82,7 @@ pub fn lenient_inet_header<'a>(bytes: &'a [u8]) -> Result<LenientInetReply<'a>, 
     ensures header { IfOk result (λ lenient.
         parse_record inet_response_header tt bytes.entry.now ≡ Ok (lenient_header lenient)) }
     ensures attributes { IfOk result (λ lenient. lenient_bytes lenient ≡ drop 72 bytes.entry.now) }
-    ensures fault { IfErr result (λ e. parse_record inet_response_header tt bytes.entry.now
+    ensures error { IfErr result (λ e. parse_record inet_response_header tt bytes.entry.now
         ≡ Err e) }
 {
     LenientReply::parse(bytes)
@@ -94,7 +94,7 @@ pub fn lenient_inet_header<'a>(bytes: &'a [u8]) -> Result<LenientInetReply<'a>, 
 /// are none. The iterator yields the other attributes by the same rule.
 pub fn lenient_inet_attribute<'a>(
     reply: &LenientInetReply<'a>,
-) -> Option<Result<InetNlaView<'a>, Refused<'a>>>
+) -> Option<Result<InetNlaView<'a>, LenientError<'a>>>
     ensures { MatchOption result (lenient_bytes reply.now ≡ []) (λ item. (later : List ℕ)
         × StartsWithLenientItem inet_attribute_set (lenient_bytes reply.now)
         (lenient_item_model inet_attribute_set inet_view_model item) later) }
@@ -108,7 +108,7 @@ pub fn lenient_unix_header<'a>(bytes: &'a [u8]) -> Result<LenientUnixReply<'a>, 
     ensures header { IfOk result (λ lenient.
         parse_record unix_response_header tt bytes.entry.now ≡ Ok (lenient_header lenient)) }
     ensures attributes { IfOk result (λ lenient. lenient_bytes lenient ≡ drop 16 bytes.entry.now) }
-    ensures fault { IfErr result (λ e. parse_record unix_response_header tt bytes.entry.now
+    ensures error { IfErr result (λ e. parse_record unix_response_header tt bytes.entry.now
         ≡ Err e) }
 {
     LenientReply::parse(bytes)
@@ -120,7 +120,7 @@ pub fn lenient_unix_header<'a>(bytes: &'a [u8]) -> Result<LenientUnixReply<'a>, 
 /// are none. The iterator yields the other attributes by the same rule.
 pub fn lenient_unix_attribute<'a>(
     reply: &LenientUnixReply<'a>,
-) -> Option<Result<UnixNlaView<'a>, Refused<'a>>>
+) -> Option<Result<UnixNlaView<'a>, LenientError<'a>>>
     ensures { MatchOption result (lenient_bytes reply.now ≡ []) (λ item. (later : List ℕ)
         × StartsWithLenientItem unix_attribute_set (lenient_bytes reply.now)
         (lenient_item_model unix_attribute_set unix_view_model item) later) }
@@ -129,7 +129,7 @@ pub fn lenient_unix_attribute<'a>(
 }
 
 /// States that a copy has the same attribute and the same error, and that `clone` never fails.
-pub fn copied_refused<'a>(refused: &Refused<'a>) -> Result<Refused<'a>, AllocError>
+pub fn copied_lenient_error<'a>(refused: &LenientError<'a>) -> Result<LenientError<'a>, AllocError>
     ensures ok { IsOk result }
     ensures same { IfOk result (λ copy. rejection_model copy ≡ rejection_model refused.now) }
 {

@@ -20,22 +20,22 @@ use std::marker::PhantomData;
 
 /// An attribute or bytes that could not be parsed, with the error.
 #[derive(Clone, Copy, Debug)]
-pub enum Refused<'a> {
+pub enum LenientError<'a> {
     /// An attribute whose value is invalid for its kind. The iterator continues after it.
     Attribute(NlaBuffer<'a>, DecodeError),
     /// Bytes that do not start with an attribute. The iterator ends.
     Framing(DecodeError),
 }
 
-impl<'a> Refused<'a> {
+impl<'a> LenientError<'a> {
     ghost use Rattle.sock_diag_extras.specs.Lenient.{rejection_model};
 
     /// Returns the error.
-    pub fn fault(&self) -> DecodeError
-        ensures { result ≡ (rejection_model self.now).fault }
+    pub fn error(&self) -> DecodeError
+        ensures { result ≡ (rejection_model self.now).error }
     {
         match self {
-            Refused::Attribute(_, fault) | Refused::Framing(fault) => *fault,
+            LenientError::Attribute(_, error) | LenientError::Framing(error) => *error,
         }
     }
 
@@ -45,8 +45,8 @@ impl<'a> Refused<'a> {
         ensures { option_map buffered_attribute result ≡ (rejection_model self.now).attribute }
     {
         match self {
-            Refused::Attribute(nla, _) => Some(*nla),
-            Refused::Framing(_) => None,
+            LenientError::Attribute(nla, _) => Some(*nla),
+            LenientError::Framing(_) => None,
         }
     }
 
@@ -56,8 +56,8 @@ impl<'a> Refused<'a> {
         ensures { result ≡ option_map attribute_kind (rejection_model self.now).attribute }
     {
         match self {
-            Refused::Attribute(nla, _) => Some(nla.kind()),
-            Refused::Framing(_) => None,
+            LenientError::Attribute(nla, _) => Some(nla.kind()),
+            LenientError::Framing(_) => None,
         }
     }
 }
@@ -87,7 +87,7 @@ impl<'a, V> LenientNlas<'a, V> {
 impl<'a, V: FamilyView<'a>> Iterator for LenientNlas<'a, V> {
     ghost use Rattle.sock_diag_extras.specs.Lenient.{YieldsLenientItem};
 
-    type Item = Result<V, Refused<'a>>;
+    type Item = Result<V, LenientError<'a>>;
 
     // `next` yields the value of the first attribute in the bytes left, or its error, and leaves
     // the bytes after its padding. If no attribute is there, it yields the framing error, and
@@ -98,14 +98,14 @@ impl<'a, V: FamilyView<'a>> Iterator for LenientNlas<'a, V> {
     ghost remaining = { λ nlas. at_most ((length (unread_lenient_bytes nlas) + 3) / 4) };
 
     #[inline(always)]
-    fn next(&mut self) -> Option<Result<V, Refused<'a>>> {
+    fn next(&mut self) -> Option<Result<V, LenientError<'a>>> {
         let nla = match self.walk.next()? {
             Ok(nla) => nla,
-            Err(fault) => return Some(Err(Refused::Framing(fault))),
+            Err(error) => return Some(Err(LenientError::Framing(error))),
         };
         Some(match V::read_view(&nla) {
             Ok(view) => Ok(view),
-            Err(fault) => Err(Refused::Attribute(nla, fault)),
+            Err(error) => Err(LenientError::Attribute(nla, error)),
         })
     }
 
@@ -164,10 +164,10 @@ impl<'a, H: LenientHeader<'a>> LenientReply<'a, H> {
         ensures header { IfOk result (λ lenient.
             parse_record H.layout tt bytes.entry.now ≡ Ok (lenient_header lenient)) }
         // H.layout.least: the length of the header in bytes.
-        ensures behind { IfOk result (λ lenient.
+        ensures following { IfOk result (λ lenient.
             lenient_bytes lenient ≡ drop H.layout.least bytes.entry.now) }
-        ensures fault { IfErr result (λ fault. parse_record H.layout tt bytes.entry.now
-            ≡ Err fault) }
+        ensures error { IfErr result (λ error. parse_record H.layout tt bytes.entry.now
+            ≡ Err error) }
     {
         let header = read_record::<H>(bytes, ())?;
         let (_, least) = H::name_and_least();

@@ -26,7 +26,7 @@ mod ulp_info;
 pub use acknowledgement::{AckAttributes, AckView};
 pub use congestion::{BbrInfo, DctcpInfo, VegasInfo};
 pub use lenient::{
-    LenientHeader, LenientInetReply, LenientNlas, LenientReply, LenientUnixReply, Refused,
+    LenientError, LenientHeader, LenientInetReply, LenientNlas, LenientReply, LenientUnixReply,
 };
 pub use md5_signature::Md5Signature;
 pub use nested::NestedNlas;

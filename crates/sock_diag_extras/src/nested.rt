@@ -4,17 +4,17 @@
 ghost use Rattle.std.specs.Prelude.{◌≡◌, ◌≤◌, ℕ, List, [], IfErr, IfOk, None, Some, option_map};
 ghost use Rattle.netlink_core.specs.Attribute.{HasAttributeError};
 ghost use Rattle.netlink_core.specs.AttributeSet.{decode_attribute};
-ghost use Rattle.netlink_core.specs.Faults.{map_ok};
+ghost use Rattle.netlink_core.specs.Errors.{map_ok};
 ghost use Rattle.netlink_core.specs.Parse.{number_of_width, parse_text};
 ghost use Rattle.netlink_core.specs.Walk.{unread_bytes};
 ghost use Rattle.attribute_lists.specs.AttributesIn.{HasNoAttributeError};
-ghost use Rattle.sock_diag_families.specs.Found.{parse_if_present};
+ghost use Rattle.sock_diag_families.specs.AttributeGetters.{parse_if_present};
 ghost use Rattle.sock_diag_extras.specs.Nested.{first_in, nested_number_in};
 
 use attribute_lists::{check_nlas, next_view};
 use byteorder::{ByteOrder, LittleEndian};
 use netlink_core::{DecodeError, NlasIterator, parse_str, parse_u32};
-use sock_diag_families::WholeNla;
+use sock_diag_families::RawNla;
 
 /// Consecutive attributes, borrowed. Each getter uses the first attribute of a kind, and returns
 /// `None` if there is none. The two flag bits of the type field are ignored. It does not allocate.
@@ -33,9 +33,9 @@ impl<'a> NestedNlas<'a> {
     pub fn parse(bytes: &'a [u8]) -> Result<NestedNlas<'a>, DecodeError>
         // `decode_attribute []`: no attribute type is known, so every value is accepted.
         ensures kept { IfOk result (λ nested. nested_bytes nested ≡ bytes.entry.now) }
-        ensures fault { IfErr result (HasAttributeError (decode_attribute []) bytes.entry.now) }
+        ensures error { IfErr result (HasAttributeError (decode_attribute []) bytes.entry.now) }
     {
-        let _count = check_nlas::<WholeNla>(bytes)?;
+        let _count = check_nlas::<RawNla>(bytes)?;
         Ok(NestedNlas { bytes })
     }
 
@@ -51,7 +51,7 @@ impl<'a> NestedNlas<'a> {
         ensures { option_map (λ value. value.now) result ≡ first_in kind (nested_bytes self.now) }
     {
         let mut walk = self.walk();
-        while let Some(nla) = next_view::<WholeNla>(&mut walk) {
+        while let Some(nla) = next_view::<RawNla>(&mut walk) {
             if nla.0.kind() == kind {
                 return Some(nla.0.value());
             }
@@ -111,7 +111,7 @@ impl<'a> NestedNlas<'a> {
         ensures kept { IfOk result (λ found. option_map (λ nested. nested_bytes nested) found
             ≡ first_in kind (nested_bytes self.now)) }
         // `value`: the value of the attribute, in which the framing error is.
-        ensures fault { IfErr result (λ e. (value : List ℕ)
+        ensures error { IfErr result (λ e. (value : List ℕ)
             × (first_in kind (nested_bytes self.now) ≡ Some value)
             × HasAttributeError (decode_attribute []) value e) }
     {

@@ -4,7 +4,7 @@ ghost use Rattle.std.specs.Prelude.{◌≡◌, ◌≤◌, ◌++◌, drop, length
 ghost use Rattle.std.specs.Result.{result_ok};
 ghost use Rattle.netlink_core.specs.Codec.{RecordLaws};
 ghost use Rattle.netlink_core.specs.Layout.{parse_record};
-ghost use Rattle.netlink_core.specs.declared.fault.RecordName.{RecordName};
+ghost use Rattle.netlink_core.specs.declared.error.RecordName.{RecordName};
 ghost use Rattle.sock_diag_extras.specs.RecordTable.{RecordTable, bytes_by_table, layout_with_name};
 ghost use Rattle.sock_diag_extras.specs.RecordTable.{parse_by_table};
 

@@ -5,7 +5,7 @@ ghost use Rattle.netlink_core.specs.Attribute.{HasAttributeError, attribute_kind
 ghost use Rattle.netlink_core.specs.AttributeSet.{decode_attribute};
 ghost use Rattle.netlink_core.specs.Parse.{number_of_width};
 ghost use Rattle.netlink_core.specs.Walk.{buffered_attribute};
-ghost use Rattle.sock_diag_families.specs.Found.{parse_if_present};
+ghost use Rattle.sock_diag_families.specs.AttributeGetters.{parse_if_present};
 ghost use Rattle.sock_diag_extras.specs.Models.{nested_bytes};
 ghost use Rattle.sock_diag_extras.specs.Nested.{first_in};
 
@@ -31,7 +31,7 @@ impl<'a> BpfStorage<'a> {
             (λ storage. (attribute_kind (buffered_attribute nla.now) ≡ SK_DIAG_BPF_STORAGE)
             × (nested_bytes storage.0 ≡ (buffered_attribute nla.now).value))) }
         // `decode_attribute []`: no attribute type is known, so every value is accepted.
-        ensures fault { IfErr result (λ e.
+        ensures error { IfErr result (λ e.
             (attribute_kind (buffered_attribute nla.now) ≡ SK_DIAG_BPF_STORAGE)
             × HasAttributeError (decode_attribute []) (buffered_attribute nla.now).value e) }
     {

@@ -8,7 +8,7 @@ ghost use Rattle.sock_diag_extras.specs.StoredAddress.{stored_address};
 
 use crate::record::AttributeRecord;
 use byteorder::{BigEndian, ByteOrder, LittleEndian};
-use netlink_core::fields::{array_at, big_shorts_at, words_at};
+use netlink_core::fields::{array_at, u16s_be_at, u32s_at};
 use std::net::{IpAddr, Ipv4Addr, Ipv6Addr};
 
 /// The address family of IPv4, `AF_INET`.
@@ -48,13 +48,13 @@ impl AttributeRecord for StoredAddress {
     }
 
     fn from_fields(row: &[u8]) -> Self {
-        let [port] = big_shorts_at::<1>(row, 2);
-        let [scope_id] = words_at::<1>(row, 24);
+        let [port] = u16s_be_at::<1>(row, 2);
+        let [scope_id] = u32s_at::<1>(row, 24);
         StoredAddress {
             family: LittleEndian::read_u16(row),
             port,
             front: array_at(row, 4),
-            segments: big_shorts_at(row, 8),
+            segments: u16s_be_at(row, 8),
             scope_id,
             rest: array_at(row, 28),
         }

@@ -7,7 +7,7 @@ ghost use Rattle.netlink_core.specs.Layout.{parse_record};
 ghost use Rattle.sock_diag_values.specs.TcpInfo.{tcp_info};
 ghost use Rattle.sock_diag_extras.specs.Models.{tcp_info_bytes};
 
-use crate::bytes::bytes_behind;
+use crate::bytes::suffix_from;
 use byteorder::{ByteOrder, LittleEndian};
 use sock_diag_values::inet::TcpInfo;
 
@@ -294,7 +294,7 @@ impl<'a> TcpInfoBytes<'a> {
     pub fn rest(&self) -> &'a [u8]
         ensures { result.now ≡ drop 280 (tcp_info_bytes self.now) }
     {
-        bytes_behind(self.bytes, WHOLE)
+        suffix_from(self.bytes, WHOLE)
     }
 }
 

@@ -4,9 +4,9 @@ ghost use Rattle.std.specs.Prelude.{◌≡◌, ◌↔◌, ℕ, List, [], IfErr, 
 ghost use Rattle.std.specs.Prelude.{option_map};
 ghost use Rattle.netlink_core.specs.Attribute.{HasAttributeError};
 ghost use Rattle.netlink_core.specs.AttributeSet.{decode_attribute};
-ghost use Rattle.netlink_core.specs.Faults.{map_ok};
+ghost use Rattle.netlink_core.specs.Errors.{map_ok};
 ghost use Rattle.netlink_core.specs.Parse.{parse_text};
-ghost use Rattle.sock_diag_families.specs.Found.{parse_if_present};
+ghost use Rattle.sock_diag_families.specs.AttributeGetters.{parse_if_present};
 ghost use Rattle.sock_diag_extras.specs.Models.{nested_bytes};
 ghost use Rattle.sock_diag_extras.specs.Nested.{first_in, nested_number_in};
 
@@ -33,7 +33,7 @@ impl<'a> UlpInfo<'a> {
         // `decode_attribute []`: no attribute type is known, so every value is accepted, and only
         // the framing can be invalid.
         ensures kept { IfOk result (λ info. nested_bytes info.0 ≡ value.entry.now) }
-        ensures fault { IfErr result (HasAttributeError (decode_attribute []) value.entry.now) }
+        ensures error { IfErr result (HasAttributeError (decode_attribute []) value.entry.now) }
     {
         Ok(UlpInfo(NestedNlas::parse(value)?))
     }
@@ -55,7 +55,7 @@ impl<'a> UlpInfo<'a> {
         ensures kept { IfOk result (λ found. option_map (λ tls. nested_bytes tls.0) found
             ≡ first_in INET_ULP_INFO_TLS (nested_bytes self.now.0)) }
         // `value`: the value of the attribute, in which the framing error is.
-        ensures fault { IfErr result (λ e. (value : List ℕ)
+        ensures error { IfErr result (λ e. (value : List ℕ)
             × (first_in INET_ULP_INFO_TLS (nested_bytes self.now.0) ≡ Some value)
             × HasAttributeError (decode_attribute []) value e) }
     {
@@ -72,7 +72,7 @@ impl<'a> UlpInfo<'a> {
         ensures kept { IfOk result (λ found. option_map (λ subflow. nested_bytes subflow.0) found
             ≡ first_in INET_ULP_INFO_MPTCP (nested_bytes self.now.0)) }
         // `value`: the value of the attribute, in which the framing error is.
-        ensures fault { IfErr result (λ e. (value : List ℕ)
+        ensures error { IfErr result (λ e. (value : List ℕ)
             × (first_in INET_ULP_INFO_MPTCP (nested_bytes self.now.0) ≡ Some value)
             × HasAttributeError (decode_attribute []) value e) }
     {

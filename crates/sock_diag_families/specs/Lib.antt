@@ -1,4 +1,4 @@
-pub mod Found
+pub mod AttributeGetters
 pub mod ShowRequest
 pub mod VsockRequest
 pub mod VsockResponseHeader

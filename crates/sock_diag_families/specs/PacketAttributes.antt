@@ -2,8 +2,8 @@
 -- AF_PACKET (17), the kind of the attribute, the length of the record in bytes, and its members.
 -- More bytes may follow each record: newer kernels append members.
 use Rattle.std.specs.Prelude.{ℕ, List, Result}
-use Rattle.netlink_core.specs.declared.fault.DecodeError.{DecodeError}
-use Rattle.sock_diag_families.specs.Found.{fields, u32_at}
+use Rattle.netlink_core.specs.declared.error.DecodeError.{DecodeError}
+use Rattle.sock_diag_families.specs.AttributeGetters.{fields, u32_at}
 use Rattle.sock_diag_families.specs.declared.packet.attributes.PacketInfo.{PacketInfo}
 use Rattle.sock_diag_families.specs.declared.packet.attributes.PacketRing.{PacketRing}
 

@@ -30,13 +30,13 @@ use crate::xdp::{
     XDP_RESPONSE_HEADER_LEN, XDP_SHOW_INFO, XDP_SHOW_MEMINFO, XDP_SHOW_RING_CFG, XDP_SHOW_STATS,
     XDP_SHOW_UMEM,
 };
-use crate::{SHOW_REQUEST_LEN, WholeNla};
+use crate::{RawNla, SHOW_REQUEST_LEN};
 use std::alloc::AllocError;
 
 /// States that `==` of two attributes returns true if and only if they have the same type field,
 /// with its two flag bits, and the same bytes in their values.
 #[tactic(auto, using(netlink_core::proofs::ValueTests::attribute_test_decides))]
-pub fn equal_whole_nlas(v: &WholeNla<'_>, w: &WholeNla<'_>) -> bool
+pub fn equal_raw_nlas(v: &RawNla<'_>, w: &RawNla<'_>) -> bool
     // `buffered_attribute`: the type field and the bytes of the value.
     ensures { IsTrue result ↔ (buffered_attribute v.now.0 ≡ buffered_attribute w.now.0) }
 {
@@ -45,7 +45,7 @@ pub fn equal_whole_nlas(v: &WholeNla<'_>, w: &WholeNla<'_>) -> bool
 
 /// States that `clone` never fails, and returns an attribute with the same type field and the same
 /// bytes.
-pub fn copied_whole_nla<'a>(nla: &WholeNla<'a>) -> Result<WholeNla<'a>, AllocError>
+pub fn copied_raw_nla<'a>(nla: &RawNla<'a>) -> Result<RawNla<'a>, AllocError>
     ensures ok { IsOk result }
     ensures same { IfOk result (λ copy. buffered_attribute copy.0 ≡ buffered_attribute nla.now.0) }
 {
@@ -56,7 +56,7 @@ pub fn copied_whole_nla<'a>(nla: &WholeNla<'a>) -> Result<WholeNla<'a>, AllocErr
 /// value, and `PairsAreEqual` says that both numbers of each pair are equal. Each size is the
 /// fewest bytes that the record is parsed from (`least` of its layout); `SHOW_REQUEST_LEN` is that
 /// for each family.
-pub fn family_constants_have_their_numbers()
+pub fn family_constants_have_their_values()
     ensures families { PairsAreEqual ((AF_VSOCK, 40) ∷ (AF_XDP, 44) ∷ []) }
     ensures netlink_requests { PairsAreEqual ((NDIAG_PROTO_ALL, 255) ∷ (NDIAG_SHOW_MEMINFO, 1) ∷
         (NDIAG_SHOW_GROUPS, 2) ∷ (NDIAG_SHOW_FLAGS, 8) ∷ []) }

@@ -5,11 +5,11 @@
 pub mod laws;
 pub mod netlink;
 pub mod packet;
+mod raw;
 mod request;
 mod values;
 pub mod vsock;
-mod whole;
 pub mod xdp;
 
+pub use raw::RawNla;
 pub use request::{SHOW_REQUEST_LEN, ShowRequest};
-pub use whole::WholeNla;

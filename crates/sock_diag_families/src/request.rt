@@ -6,7 +6,7 @@ ghost use Rattle.sock_diag_families.specs.laws.Record.{show_request_sound};
 ghost use Rattle.sock_diag_families.specs.ShowRequest.{show_request};
 
 use byteorder::{ByteOrder, LittleEndian};
-use netlink_core::fields::{long_words_at, words_at};
+use netlink_core::fields::{u32s_at, u64s_at};
 use netlink_core::{DecodeError, Exact, Record, RecordName};
 
 /// Size of `struct netlink_diag_req`, `packet_diag_req` and `xdp_diag_req` in bytes.
@@ -52,8 +52,8 @@ impl<const FAMILY: u8> Record for ShowRequest<FAMILY> {
     /// Parses the first 20 bytes, and ignores the bytes after them. There have to be 20 bytes: the
     /// caller checks this first, and reports [`DecodeError::BufferTooSmall`].
     fn from_fields(payload: &[u8], _param: ()) -> Result<Self, DecodeError> {
-        let [inode, show] = words_at::<2>(payload, 4);
-        let [cookie] = long_words_at::<1>(payload, 12);
+        let [inode, show] = u32s_at::<2>(payload, 4);
+        let [cookie] = u64s_at::<1>(payload, 12);
         Ok(ShowRequest {
             protocol: payload[1],
             inode,
@@ -70,7 +70,7 @@ impl<const FAMILY: u8> Record for ShowRequest<FAMILY> {
         LittleEndian::write_u64(cookie, self.cookie);
     }
 
-    fn fields_in_range(&self) {
+    fn prove_fields_in_range(&self) {
         let (_protocol, _inode) = (self.protocol, self.inode);
         let (_show, _cookie) = (self.show, self.cookie);
     }

@@ -1,8 +1,8 @@
 //! A check of the length of an attribute's value. A newer kernel may append fields to the value.
 
 ghost use Rattle.std.specs.Prelude.{◌≡◌};
-ghost use Rattle.netlink_core.specs.Faults.{map_ok};
-ghost use Rattle.sock_diag_families.specs.Found.{with_length_at_least};
+ghost use Rattle.netlink_core.specs.Errors.{map_ok};
+ghost use Rattle.sock_diag_families.specs.AttributeGetters.{with_length_at_least};
 
 use netlink_core::{DecodeError, RecordName};
 

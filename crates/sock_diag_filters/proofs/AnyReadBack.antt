@@ -5,10 +5,10 @@ use Rattle.std.proofs.Common.{append-nil}
 use Rattle.std.specs.Prelude.{map, slice_index}
 use Rattle.std.proofs.lemmas.Bool.{cases_eq, ne_eqb}
 use Rattle.std.proofs.lemmas.List.{drop_at, length-append}
-use Rattle.netlink_core.specs.declared.fault.DecodeError.{DecodeError}
+use Rattle.netlink_core.specs.declared.error.DecodeError.{DecodeError}
 use Rattle.netlink_core.specs.declared.header.NetlinkHeader.{NetlinkHeader}
 use Rattle.netlink_core.specs.Header.{HasHeader, header_bytes}
-use Rattle.netlink_core.specs.laws.Shown.{IsPrefixCodec}
+use Rattle.netlink_core.specs.laws.ReplyObligations.{IsPrefixCodec}
 use Rattle.netlink_core.proofs.Headers.{begins_with_header, one_header}
 use Rattle.netlink_core.proofs.LayoutLaws.{parsed_by_fields}
 use Rattle.netlink_core.proofs.PrefixCodecs.{is_prefix_codec}
@@ -30,10 +30,10 @@ use Rattle.sock_diag_filters.specs.AnyRequest.{family_of_message, inet, netlink,
 use Rattle.sock_diag_filters.specs.AnyRequest.{of_record, packet, IsRejectedByRequestFamily}
 use Rattle.sock_diag_filters.specs.AnyRequest.{record_request_size, family_by_byte, unix, vsock}
 use Rattle.sock_diag_filters.specs.AnyRequest.{xdp}
-use Rattle.sock_diag_filters.specs.Asked.{IsRequestType, message_payload}
+use Rattle.sock_diag_filters.specs.InetRequests.{IsRequestType, message_payload}
 use Rattle.sock_diag_filters.specs.ReadBack.{IsRoundTrippingRequest, serialized_request_header}
 use Rattle.sock_diag_filters.specs.Requests.{request_attribute, request_bytes}
-use Rattle.sock_diag_filters.proofs.AskingAny.{family_by_first_byte}
+use Rattle.sock_diag_filters.proofs.RequestFamily.{family_by_first_byte}
 use Rattle.sock_diag_filters.proofs.ReadBack.{serialized_request_is_accepted}
 use Rattle.sock_diag_filters.proofs.ReadBack.{complete_message_has_no_error}
 use Rattle.sock_diag_filters.proofs.ReadBack.{serialized_request_parses, reads_as}
@@ -112,8 +112,8 @@ module _ (family : RecordFamily) (h : NetlinkHeader) (request : (record_request_
       (omega (arith, long, two, length-append own attributes)) whole.kind
       (family_of_first_byte family request attributes)
 
-  record_read : (record_request_codec family).reads tt (message_payload message h) ≡ Ok request
-  record_read = ap ((record_request_codec family).reads tt) starts_with_record_request_header.1
+  record_read : (record_request_codec family).parses tt (message_payload message h) ≡ Ok request
+  record_read = ap ((record_request_codec family).parses tt) starts_with_record_request_header.1
       ∙ (record_codec_is_prefix_codec family).reads_as_prefix request attributes whole.in_range
       whole.normal
 
@@ -126,16 +126,16 @@ module _ (family : RecordFamily) (h : NetlinkHeader) (request : (record_request_
   -- What is parsed by the layout of the same family is the request that was serialized.
   same_record : (k : RecordFamily) → family ≡ k
       → (v : (record_request_codec k).Value) (behind : List ℕ)
-      → (record_request_codec k).reads tt (message_payload message h) ≡ Ok v
+      → (record_request_codec k).parses tt (message_payload message h) ≡ Ok v
       → behind ≡ drop (record_request_size k) (message_payload message h)
       → of_family k h v behind ≡ of_family family h request attributes
   same_record k same =
       let P : RecordFamily → Type 0 = λ k. (v : (record_request_codec k).Value) (behind : List ℕ)
-      → (record_request_codec k).reads tt (message_payload message h) ≡ Ok v
+      → (record_request_codec k).parses tt (message_payload message h) ≡ Ok v
       → behind ≡ drop (record_request_size k) (message_payload message h)
       → of_family k h v behind ≡ of_family family h request attributes in
-      subst P same (λ v behind reads is.
-      let value : v ≡ request = equal_ok_values _ v request reads record_read in
+      subst P same (λ v behind parses is.
+      let value : v ≡ request = equal_ok_values _ v request parses record_read in
       let rest : behind ≡ attributes = is ∙ bytes_after_parsed_record in
       λ i. of_family family h (value i) (rest i))
 
@@ -153,7 +153,7 @@ module _ (family : RecordFamily) (h : NetlinkHeader) (request : (record_request_
       let one : family ≡ k = cc (decoded, record_family_of_message) in
       ap (λ (g : NetlinkHeader). of_family k g v behind) same
       ∙ same_record k one v behind
-      (ap (λ (g : NetlinkHeader). (record_request_codec k).reads tt (message_payload message g))
+      (ap (λ (g : NetlinkHeader). (record_request_codec k).parses tt (message_payload message g))
       (sym same)
       ∙ asks.2)
       (asks.3 ∙ ap (λ (g : NetlinkHeader). drop (record_request_size k) (message_payload message g))
@@ -201,10 +201,10 @@ module _ (h : NetlinkHeader) (request : InetRequest) (attributes : List RequestA
       grind (arith, serialized_request_parses, inet_header, inet_family_of_message)
 
   pub serialized_inet_request_is_accepted : (e : DecodeError) → IsRejectedAnyRequest asked e → ⊥
-  serialized_inet_request_is_accepted e (inl fault) =
+  serialized_inet_request_is_accepted e (inl error) =
       complete_message_has_no_error asked own_header e
       (starts_with_serialized_header h request attributes can).0
-      (request_has_own_length h request attributes) fault
+      (request_has_own_length h request attributes) error
   serialized_inet_request_is_accepted e (inr (k, framed, refused)) =
       let there : IsRejectedByRequestFamily (Ok inet) asked own_header e =
       subst (λ (r : Result RequestedFamily DecodeError). IsRejectedByRequestFamily r asked

@@ -2,10 +2,10 @@ pub mod Operations
 pub mod Stepping
 pub mod Auditing
 pub mod Running
-pub mod Asking
+pub mod LastAttributes
 pub mod Requesting
 pub mod ReadBack
-pub mod AskingAny
+pub mod RequestFamily
 pub mod AnyReadBack
 pub mod Finding
 pub mod Verdicts

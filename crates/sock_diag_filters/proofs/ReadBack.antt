@@ -10,13 +10,13 @@ use Rattle.netlink_core.specs.Attribute.{Attribute, HasAttributeError, SplitsInt
 use Rattle.netlink_core.specs.laws.Prefix.{FitsHeaderFields}
 use Rattle.netlink_core.specs.Attribute.{padding_length, attribute_bytes}
 use Rattle.netlink_core.specs.Datagram.{SplitsIntoMessages}
-use Rattle.netlink_core.specs.declared.fault.DecodeError.{DecodeError}
+use Rattle.netlink_core.specs.declared.error.DecodeError.{DecodeError}
 use Rattle.netlink_core.specs.declared.header.NetlinkHeader.{NetlinkHeader}
 use Rattle.netlink_core.specs.Layout.{record_bytes, parse_record}
 use Rattle.netlink_core.specs.Header.{HasHeader, IsMessageError, header_bytes}
 use Rattle.netlink_core.proofs.Numbers.{little_endian}
-use Rattle.netlink_core.proofs.Cutting.{all_attribute_bytes_split, decoded_or_error_apart}
-use Rattle.netlink_core.proofs.Cutting.{one_split_into_attributes, encoded_values_are_decoded}
+use Rattle.netlink_core.proofs.Splitting.{all_attribute_bytes_split, decoded_or_error_apart}
+use Rattle.netlink_core.proofs.Splitting.{one_split_into_attributes, encoded_values_are_decoded}
 use Rattle.netlink_core.proofs.Datagrams.{one_split_into_messages}
 use Rattle.netlink_core.proofs.Headers.{header_length, begins_with_header, one_header}
 use Rattle.netlink_core.proofs.Numbers.{number-reads_back}
@@ -29,10 +29,13 @@ use Rattle.sock_diag_records.specs.declared.inet.request.InetRequest.{InetReques
 use Rattle.sock_diag_filters.specs.declared.request.RequestAttribute.{RequestAttribute}
 use Rattle.sock_diag_filters.specs.declared.request.RequestAttribute.TheVariants.{Program, Protocol}
 use Rattle.sock_diag_filters.specs.declared.view.RequestView.{RequestView}
-use Rattle.sock_diag_filters.specs.Asked.{ParsesAsRequest, IsRequestType, IsRejectedRequest}
-use Rattle.sock_diag_filters.specs.Asked.{RequestContent, no_attributes, no_message, no_request}
-use Rattle.sock_diag_filters.specs.Asked.{other_type, message_payload, program_in, protocol_in}
-use Rattle.sock_diag_filters.specs.Asked.{decode_request_attribute, request_attribute_content}
+use Rattle.sock_diag_filters.specs.InetRequests.{ParsesAsRequest, IsRequestType, IsRejectedRequest}
+use Rattle.sock_diag_filters.specs.InetRequests.{RequestContent, no_attributes, no_message}
+use Rattle.sock_diag_filters.specs.InetRequests.{no_request}
+use Rattle.sock_diag_filters.specs.InetRequests.{other_type, message_payload, program_in}
+use Rattle.sock_diag_filters.specs.InetRequests.{protocol_in}
+use Rattle.sock_diag_filters.specs.InetRequests.{decode_request_attribute}
+use Rattle.sock_diag_filters.specs.InetRequests.{request_attribute_content}
 use Rattle.sock_diag_filters.specs.ReadBack.{IsRoundTrippingRequest, IsRequestAttributeInRange}
 use Rattle.sock_diag_filters.specs.ReadBack.{IsParsedRequest, serialized_request_header}
 use Rattle.sock_diag_filters.specs.Requests.{request_attribute, request_bytes}
@@ -84,7 +87,7 @@ decoded_contents_are_unique all decoded others h k = grind arith
 pub complete_message_has_no_error : (b : List ℕ) (h : NetlinkHeader) (e : DecodeError)
     → HasHeader b h
     → length b ≡ h.length → IsMessageError b e → ⊥
-complete_message_has_no_error b h e head whole fault =
+complete_message_has_no_error b h e head whole error =
     let counted = header_length b h head ∙ sym whole in
     let alone : SplitsIntoMessages b (b ∷ []) None = (
       [],
@@ -100,7 +103,7 @@ complete_message_has_no_error b h e head whole fault =
       refl,
     ) in
     let some : b ≢ [] = λ none. omega (arith, ap length none, head.2, whole) in
-    absurd (cc (one_split_into_messages b [] (b ∷ []) (Some e) None (some, fault) alone).0)
+    absurd (cc (one_split_into_messages b [] (b ∷ []) (Some e) None (some, error) alone).0)
 
 -- The length of a serialized request is the length in its header.
 pub request_has_own_length : (h : NetlinkHeader) (request : InetRequest)
@@ -205,9 +208,9 @@ module _ (h : NetlinkHeader) (request : InetRequest) (attributes : List RequestA
   pub serialized_request_is_accepted : (e : DecodeError) → IsRequestType h.message_type
       → IsRejectedRequest message e
       → ⊥
-  serialized_request_is_accepted e kind (no_message fault) =
+  serialized_request_is_accepted e kind (no_message error) =
       complete_message_has_no_error message header e starts_with_serialized_header.0
-      (request_has_own_length h request attributes) fault
+      (request_has_own_length h request attributes) error
   serialized_request_is_accepted e kind (other_type k framed other unknown) =
       other (subst (λ (g : NetlinkHeader). IsRequestType g.message_type)
       (one_header message header k starts_with_serialized_header.0 framed) kind)
@@ -216,7 +219,7 @@ module _ (h : NetlinkHeader) (request : InetRequest) (attributes : List RequestA
         reads_as k (one_header message k header framed starts_with_serialized_header.0),
         refused,
       ))
-  serialized_request_is_accepted e kind (no_attributes k asked framed also reads fault) =
+  serialized_request_is_accepted e kind (no_attributes k asked framed also parses error) =
       let all : List Attribute = map request_attribute attributes in
       let same = one_header message k header framed starts_with_serialized_header.0 in
       decoded_or_error_apart decode_request_attribute behind
@@ -226,4 +229,4 @@ module _ (h : NetlinkHeader) (request : InetRequest) (attributes : List RequestA
       (fit_header_fields attributes can.fit)
       (attributes_decode_to_contents attributes can.fit))
       (subst (λ (b : List ℕ). HasAttributeError decode_request_attribute b e)
-      (attributes_after_request k same) fault)
+      (attributes_after_request k same) error)

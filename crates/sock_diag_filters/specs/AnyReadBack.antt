@@ -7,7 +7,7 @@ use Rattle.sock_diag_records.specs.declared.inet.request.InetRequest.{InetReques
 use Rattle.sock_diag_filters.specs.declared.request.RequestAttribute.{RequestAttribute}
 use Rattle.sock_diag_filters.specs.AnyRequest.{AnyRequest, RecordFamily, record_request_codec}
 use Rattle.sock_diag_filters.specs.AnyRequest.{of_family, of_inet, record_request_size}
-use Rattle.sock_diag_filters.specs.Asked.{IsRequestType}
+use Rattle.sock_diag_filters.specs.InetRequests.{IsRequestType}
 use Rattle.sock_diag_filters.specs.ReadBack.{IsParsedRequest}
 
 -- `record_request_bytes family h request attributes`: the bytes of a message: the netlink header

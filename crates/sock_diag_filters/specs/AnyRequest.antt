@@ -3,10 +3,10 @@ use Rattle.std.specs.Prelude.{◌≡◌, ℕ, ◌==◌, ◌||◌, not, nat_lt, i
 use Rattle.std.specs.Prelude.{drop, slice_index, Result, Ok, Err}
 use Rattle.netlink_core.specs.Header.{HasHeader, IsMessageError}
 use Rattle.netlink_core.specs.ValueCodec.{ValueCodec, value_codec}
-use Rattle.netlink_core.specs.declared.fault.DecodeError.{DecodeError}
-use Rattle.netlink_core.specs.declared.fault.DecodeError.TheVariants.{MessageTooShort}
-use Rattle.netlink_core.specs.declared.fault.DecodeError.TheVariants.{UnknownFamily}
-use Rattle.netlink_core.specs.declared.fault.DecodeError.TheVariants.{UnknownMessageType}
+use Rattle.netlink_core.specs.declared.error.DecodeError.{DecodeError}
+use Rattle.netlink_core.specs.declared.error.DecodeError.TheVariants.{MessageTooShort}
+use Rattle.netlink_core.specs.declared.error.DecodeError.TheVariants.{UnknownFamily}
+use Rattle.netlink_core.specs.declared.error.DecodeError.TheVariants.{UnknownMessageType}
 use Rattle.netlink_core.specs.declared.header.NetlinkHeader.{NetlinkHeader}
 use Rattle.sock_diag_records.specs.UnixRequest.{unix_request}
 use Rattle.sock_diag_families.specs.ShowRequest.{show_request}
@@ -14,7 +14,8 @@ use Rattle.sock_diag_families.specs.VsockRequest.{vsock_request}
 use Rattle.sock_diag_filters.specs.declared.any.AnyRequestView.{AnyRequestView}
 use Rattle.sock_diag_filters.specs.declared.any.AnyRequestView.TheVariants as view
 use Rattle.sock_diag_filters.specs.declared.view.RequestView.{RequestView}
-use Rattle.sock_diag_filters.specs.Asked.{ParsesAsRequest, IsRejectedRequest, message_payload}
+use Rattle.sock_diag_filters.specs.InetRequests.{ParsesAsRequest, IsRejectedRequest}
+use Rattle.sock_diag_filters.specs.InetRequests.{message_payload}
 
 -- The families whose request consists of one record.
 pub data RecordFamily : Type 0 where
@@ -94,7 +95,7 @@ ParsesAsAnyRequest message (of_inet v) =
     (family_of_message message v.header ≡ Ok inet) × ParsesAsRequest message v
 ParsesAsAnyRequest message (of_family family h request attributes) =
     HasHeader message h × (family_of_message message h ≡ Ok (of_record family))
-    × ((record_request_codec family).reads tt (message_payload message h) ≡ Ok request)
+    × ((record_request_codec family).parses tt (message_payload message h) ≡ Ok request)
     × (attributes ≡ drop (record_request_size family) (message_payload message h))
 
 -- `IsRejectedByRequestFamily family message h e`: the message with the netlink header `h` is
@@ -104,10 +105,10 @@ ParsesAsAnyRequest message (of_family family h request attributes) =
 abbrev pub IsRejectedByRequestFamily : Result RequestedFamily DecodeError → List ℕ → NetlinkHeader
     → DecodeError
     → Type 0
-IsRejectedByRequestFamily (Err fault) message h e = e ≡ fault
+IsRejectedByRequestFamily (Err error) message h e = e ≡ error
 IsRejectedByRequestFamily (Ok inet) message h e = IsRejectedRequest message e
 IsRejectedByRequestFamily (Ok (of_record family)) message h e =
-    (record_request_codec family).reads tt (message_payload message h) ≡ Err e
+    (record_request_codec family).parses tt (message_payload message h) ≡ Err e
 
 -- `IsRejectedAnyRequest message e`: the message is rejected with `e`, its first error: the bytes do
 -- not start with a netlink message, or the message that they start with is rejected.

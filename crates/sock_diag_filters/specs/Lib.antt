@@ -5,7 +5,7 @@ pub mod Audit
 pub mod Run
 pub mod Assembled
 pub mod Requests
-pub mod Asked
+pub mod InetRequests
 pub mod AnyRequest
 pub mod Uses
 pub mod ReadBack

@@ -12,7 +12,7 @@ use Rattle.sock_diag_records.specs.declared.inet.request.InetRequest.{InetReques
 use Rattle.sock_diag_filters.specs.declared.request.RequestAttribute.{RequestAttribute}
 use Rattle.sock_diag_filters.specs.declared.request.RequestAttribute.TheVariants.{Program, Protocol}
 use Rattle.sock_diag_filters.specs.declared.view.RequestView.{RequestView}
-use Rattle.sock_diag_filters.specs.Asked.{request_attribute_content, program_in, protocol_in}
+use Rattle.sock_diag_filters.specs.InetRequests.{request_attribute_content, program_in, protocol_in}
 use Rattle.sock_diag_filters.specs.Requests.{request_attribute, header_with_length}
 
 -- The header that is serialized. Its length is the length of the message: 72 bytes, of the netlink

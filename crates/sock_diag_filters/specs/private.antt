@@ -1,3 +1,3 @@
 -- Definitions that only the contracts of private functions need.
 pub mod Assembly
-pub mod Asked
+pub mod AttributeSearch

@@ -38,7 +38,7 @@ impl<'a, R: Record<Param = ()>> RecordRequestView<'a, R> {
             parse_record R.layout tt payload.entry.now ≡ Ok view.request) }
         ensures attributes { IfOk result (λ view.
             view.attributes.now ≡ drop R.layout.least payload.entry.now) }
-        ensures fault { IfErr result (λ e. parse_record R.layout tt payload.entry.now ≡ Err e) }
+        ensures error { IfErr result (λ e. parse_record R.layout tt payload.entry.now ≡ Err e) }
     {
         let (_, least) = R::name_and_least();
         let request = read_record::<R>(payload, ())?;
@@ -87,11 +87,11 @@ impl<'a> AnyRequestView<'a> {
         // bytes parses as this request. `IsRejectedAnyRequest message e`: `e` is its first error.
         ensures value { IfOk result (λ view. ParsesAsAnyRequest message.entry.now
             (any_request_content view)) }
-        ensures fault { IfErr result (IsRejectedAnyRequest message.entry.now) }
+        ensures error { IfErr result (IsRejectedAnyRequest message.entry.now) }
     {
         match NetlinkHeader::from_prefix(message) {
             Ok(header) => read_under(header, message),
-            Err(fault) => Err(fault),
+            Err(error) => Err(error),
         }
     }
 }
@@ -104,7 +104,7 @@ fn read_under<'a>(
     requires { HasHeader message.now header }
     ensures value { IfOk result (λ view. ParsesAsAnyRequest message.entry.now
         (any_request_content view)) }
-    ensures fault { IfErr result
+    ensures error { IfErr result
         (IsRejectedByRequestFamily (family_of_message message.entry.now header) message.entry.now
         header) }
 {

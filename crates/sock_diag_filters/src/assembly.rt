@@ -65,13 +65,13 @@ pub fn assemble(alloc: Global, filter: &Filter) -> Result<Vec<u8>, AssembleError
         (meaning (λ c. found (code_of c) (arguments c)) filter.now)) }
     // `kernel_evaluates socket`: the kernel's results for this socket. `meets socket`: which
     // conditions the socket meets.
-    ensures wanted { IfOk result (λ program. (socket : Socket)
+    ensures selects_by_filter { IfOk result (λ program. (socket : Socket)
         → Runs (kernel_evaluates socket) program.items (meaning (meets socket) filter.now)) }
     // `IsAssembleError filter e`: if `e` is `TooLong`, the program would have more than 65,531
     // bytes; if it is `Memory`, at most 65,531.
     ensures refused { IfErr result (λ e. IsAssembleError filter.now e) }
 {
-    filter.in_range();
+    filter.prove_in_range();
     let Some(len) = filter.len_within(MAX_PROGRAM) else {
         return Err(AssembleError::TooLong);
     };

@@ -146,12 +146,12 @@ impl Condition {
     }
 
     // Proof only: puts the range of each number in scope. No run-time effect.
-    pub(crate) fn in_range(self)
+    pub(crate) fn prove_in_range(self)
         ensures { IsConditionInRange self }
     {
         match self {
             Condition::SourcePort(_, _port) | Condition::DestinationPort(_, _port) => {}
-            Condition::Source(host) | Condition::Destination(host) => host.in_range(),
+            Condition::Source(host) | Condition::Destination(host) => host.prove_in_range(),
             Condition::Interface(_number) => {}
             Condition::Mark {
                 mark: _mark,
@@ -207,7 +207,7 @@ impl Host {
     }
 
     // Proof only: puts the range of the port in scope. No run-time effect.
-    fn in_range(self)
+    fn prove_in_range(self)
         ensures { IsPort self.port }
     {
         if let Some(_port) = self.port {}

@@ -49,17 +49,17 @@ impl Filter<'_> {
     }
 
     /// Proof only: puts the range of each number in scope. No run-time effect.
-    pub fn in_range(&self)
+    pub fn prove_in_range(&self)
         // `AreInRange filter`: each number of each condition of the filter fits its Rust type.
         ensures { AreInRange self.now }
     {
         match self {
-            Filter::Condition(condition) => condition.in_range(),
+            Filter::Condition(condition) => condition.prove_in_range(),
             Filter::And(first, second) | Filter::Or(first, second) => {
-                first.in_range();
-                second.in_range();
+                first.prove_in_range();
+                second.prove_in_range();
             }
-            Filter::Not(filter) => filter.in_range(),
+            Filter::Not(filter) => filter.prove_in_range(),
         }
     }
 

@@ -2,7 +2,7 @@
 //! Proof only: the contract of each function states the property.
 
 ghost use Rattle.std.specs.Prelude.{◌≡◌, ◌↔◌, ℕ, Bool, List, [], ◌∷◌, map, IfOk, IsOk, IsTrue};
-ghost use Rattle.netlink_core.specs.declared.fault.DecodeError.{DecodeError};
+ghost use Rattle.netlink_core.specs.declared.error.DecodeError.{DecodeError};
 ghost use Rattle.netlink_core.specs.declared.header.NetlinkHeader.{NetlinkHeader};
 ghost use Rattle.sock_diag_records.specs.Constants.{PairsAreEqual};
 ghost use Rattle.sock_diag_records.specs.declared.inet.request.InetRequest.{InetRequest};
@@ -11,8 +11,9 @@ ghost use Rattle.sock_diag_filters.specs.Conditions.{arguments, code_of};
 ghost use Rattle.sock_diag_filters.specs.Filters.{meaning};
 ghost use Rattle.sock_diag_filters.specs.Run.{Runs};
 ghost use Rattle.sock_diag_filters.specs.Sockets.{AreInRange, Socket, kernel_evaluates, meets};
-ghost use Rattle.sock_diag_filters.specs.Asked.{ParsesAsRequest, IsRequestType, IsRejectedRequest};
-ghost use Rattle.sock_diag_filters.specs.Asked.{request_attribute_content};
+ghost use Rattle.sock_diag_filters.specs.InetRequests.{ParsesAsRequest, IsRequestType};
+ghost use Rattle.sock_diag_filters.specs.InetRequests.{IsRejectedRequest};
+ghost use Rattle.sock_diag_filters.specs.InetRequests.{request_attribute_content};
 ghost use Rattle.sock_diag_filters.specs.AnyRequest.{ParsesAsAnyRequest, AnyRequest, RecordFamily};
 ghost use Rattle.sock_diag_filters.specs.AnyRequest.{IsRejectedAnyRequest, record_request_codec};
 ghost use Rattle.sock_diag_filters.specs.AnyRequest.{of_family};
@@ -40,7 +41,7 @@ use std::alloc::AllocError;
 /// its header with the length of the message, its request, and its last program and protocol.
 /// `RequestView::parse` does not reject them if the message type is `SOCK_DIAG_BY_FAMILY` or
 /// `SOCK_DESTROY`.
-pub fn written_request_is_read_back()
+pub fn request_round_trips()
     // `request_bytes h request attributes`: the bytes of the message.
     // `ParsesAsRequest message view`: they parse as this view.
     // `IsParsedRequest h request attributes view`: the view has the content that was serialized.
@@ -67,14 +68,14 @@ pub fn written_request_is_read_back()
 ///   the length of the message, its request, and its last program and protocol, if its request is
 ///   in range and in normal form, its lengths fit (`IsRoundTrippingRequest`), and its header has
 ///   the type of a request.
-pub fn any_written_request_is_read_back()
+pub fn any_request_round_trips()
     // `record_request_bytes family h request attributes`: the bytes of the message: the header, the
     // record of the family, and the bytes `attributes`. `ParsesAsAnyRequest message other`: they
     // parse as the request `other`. `of_family family h request attributes`: the request of another
     // family than IPv4 and IPv6, with this content.
     // `IsParsedInetRequest h request attributes other`: a request for IPv4 or IPv6 sockets with the
     // content that was serialized. `IsRejectedAnyRequest message e`: they are rejected with `e`.
-    // The other definitions are as in `written_request_is_read_back`.
+    // The other definitions are as in `request_round_trips`.
     ensures records { (family : RecordFamily) (h : NetlinkHeader)
         (request : (record_request_codec family).Value) (attributes : List ℕ) (other : AnyRequest)
         → IsCompleteRecordRequest family h request attributes
@@ -100,9 +101,10 @@ pub fn any_written_request_is_read_back()
 /// `kernel_evaluates`, which the kernel computes from an operation's code and arguments, and under
 /// `meets`, the documented meaning of the conditions. By the contract of `assemble`, a program
 /// therefore selects a socket if and only if the socket meets its filter. The premise is that each
-/// number of the filter fits its Rust type. For a `Filter` value, `Filter::in_range` proves it.
+/// number of the filter fits its Rust type. For a `Filter` value, `Filter::prove_in_range` proves
+/// it.
 #[tactic(auto, using(crate::proofs::Finding::evaluation_is_meaning))]
-pub fn filters_find_what_they_mean()
+pub fn programs_select_by_filter()
     // `meaning met filter`: whether the filter selects a socket, if `met` says which conditions the
     // socket meets. `code_of c` and `arguments c`: the operation of the condition `c`.
     ensures { (socket : Socket) (filter : Filter) → AreInRange filter
@@ -187,7 +189,7 @@ pub fn equal_any_request_views(v: &AnyRequestView<'_>, w: &AnyRequestView<'_>) -
 
 /// States the numeric value of each constant: `PairsAreEqual` states that both numbers of each pair
 /// are equal.
-pub fn filter_constants_have_their_numbers()
+pub fn filter_constants_have_their_values()
     ensures { PairsAreEqual ((MAX_PROGRAM, 65531) ∷ (INET_DIAG_REQ_BYTECODE, 1) ∷
         (INET_DIAG_REQ_PROTOCOL, 3) ∷ (REQUEST_FRONT, 72) ∷ []) }
 {}

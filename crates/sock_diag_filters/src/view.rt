@@ -3,17 +3,17 @@
 ghost use Rattle.std.specs.Prelude.{◌≡◌, ◌↔◌, List, IsTrue, IfOk, IfErr};
 ghost use Rattle.netlink_core.specs.Attribute.{HasAttributeError, DecodeTo};
 ghost use Rattle.netlink_core.specs.Walk.{buffered_attribute};
-ghost use Rattle.netlink_core.specs.Faults.{map_ok};
-ghost use Rattle.sock_diag_filters.specs.Asked.{
+ghost use Rattle.netlink_core.specs.Errors.{map_ok};
+ghost use Rattle.sock_diag_filters.specs.InetRequests.{
   ParsesAsRequest,
   IsRequestType,
   HasLastContents,
   RequestContent,
   decode_request_attribute,
 };
-ghost use Rattle.sock_diag_filters.specs.Asked.{IsRejectedRequest};
-ghost use Rattle.sock_diag_filters.specs.private.Asked.{found_attributes_after};
-ghost use Rattle.sock_diag_filters.specs.private.Asked.{optional_request_content};
+ghost use Rattle.sock_diag_filters.specs.InetRequests.{IsRejectedRequest};
+ghost use Rattle.sock_diag_filters.specs.private.AttributeSearch.{found_attributes_after};
+ghost use Rattle.sock_diag_filters.specs.private.AttributeSearch.{optional_request_content};
 
 use crate::request::{INET_DIAG_REQ_BYTECODE, INET_DIAG_REQ_PROTOCOL, RequestAttribute};
 use netlink_core::{
@@ -53,7 +53,7 @@ impl<'a> RequestView<'a> {
         // `ParsesAsRequest message view`: the message at the start of the bytes parses as the view.
         // `IsRejectedRequest message e`: `e` is the first error in it.
         ensures value { IfOk result (ParsesAsRequest message.entry.now) }
-        ensures fault { IfErr result (IsRejectedRequest message.entry.now) }
+        ensures error { IfErr result (IsRejectedRequest message.entry.now) }
     {
         let header = NetlinkHeader::from_prefix(message)?;
         let message_type = header.message_type;
@@ -113,7 +113,7 @@ fn find_attributes<'a>(bytes: &'a [u8]) -> Result<Found<'a>, DecodeError>
     ensures value { IfOk result (λ found. (decoded : List RequestContent)
         × DecodeTo decode_request_attribute bytes.entry.now decoded
         × HasLastContents found decoded) }
-    ensures fault { IfErr result (HasAttributeError decode_request_attribute bytes.entry.now) }
+    ensures error { IfErr result (HasAttributeError decode_request_attribute bytes.entry.now) }
 {
     let mut found = Found {
         program: None,

@@ -10,14 +10,14 @@ use Rattle.std.proofs.lemmas.List.Splits.{join_with_byte-slice_split, length-sli
 use Rattle.std.proofs.lemmas.List.Splits.{slice_split_first, slice_split_none}
 use Rattle.netlink_core.specs.Bytes.{IsBytes}
 use Rattle.sock_diag_lines.specs.Answer.{IsAnswerOf, IsRequest, name_entry}
-use Rattle.sock_diag_lines.specs.private.Asked.{IsAnswerTo, IsBadLine, IsParsedAs}
+use Rattle.sock_diag_lines.specs.private.LineRequest.{IsAnswerTo, IsBadLine, IsParsedAs}
 use Rattle.sock_diag_lines.specs.DumpLine.{IsDumpRequest, IsDumpAnswer, dump_text}
 use Rattle.sock_diag_lines.specs.HexField.{IsHexField}
 use Rattle.sock_diag_lines.specs.private.ReadDump.{AreHexFields, IsWritable}
 use Rattle.sock_diag_lines.specs.AnswerText.{IsAnswerUnder}
 use Rattle.sock_diag_lines.specs.private.Text.{is_space}
-use Rattle.sock_diag_lines.specs.declared.answers.Asked.{Asked}
-use Rattle.sock_diag_lines.specs.declared.answers.Asked.TheVariants.{Field, Dump, Nothing}
+use Rattle.sock_diag_lines.specs.declared.answers.LineRequest.{LineRequest}
+use Rattle.sock_diag_lines.specs.declared.answers.LineRequest.TheVariants.{Field, Dump, Nothing}
 use Rattle.sock_diag_lines.specs.declared.answers.Name.{Name}
 use Rattle.sock_diag_lines.specs.declared.answers.Name.TheVariants.{UnixRequest, UnixResponse}
 use Rattle.sock_diag_lines.specs.declared.answers.Name.TheVariants.{InetRequest, InetResponse}
@@ -241,20 +241,20 @@ one_function f h = λ i line. one_answer_of_line line (answer_of line) (f line) 
     i
 
 -- the answer to the request in a line answers the line
-pub read_answer : (line : List ℕ) (asked : Asked) (bytes text : List ℕ)
+pub read_answer : (line : List ℕ) (asked : LineRequest) (bytes text : List ℕ)
     → IsParsedAs line asked bytes
     → IsAnswerTo asked bytes text → IsAnswerOf line text
 read_answer line (Field name) bytes text asked tells =
     field_answers line name bytes text asked tells
 read_answer line (Dump dump) bytes text (datagrams, asked, read) tells =
     dump_answers line datagrams text asked
-    (answers_more IsWritable dump_text (λ d same. rw same read.is) (λ fault never. absurd never)
+    (answers_more IsWritable dump_text (λ d same. rw same read.is) (λ error never. absurd never)
     tells)
 read_answer line Nothing bytes text none e = bad_line_answers line text none e
 
 -- ---- the answers to two lines
 
--- two inputs of one name with writable values have the same answer if they are equivalent (`idle`),
+-- two inputs of one name with writable values have the same answer if they are equivalent,
 -- and, except for `unixview`, only if they are
 pub same_answer_iff_equivalent : (name : Name) (line other bytes bytes' text text' : List ℕ)
     → IsAnswerOf line text → IsAnswerOf other text' → IsRequest line name bytes

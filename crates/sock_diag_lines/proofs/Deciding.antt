@@ -7,8 +7,8 @@ use Rattle.std.proofs.lemmas.Slice.Eq.{bytes_eq-Decides}
 use Rattle.netlink_core.specs.Attribute.{FitsLengthField}
 use Rattle.netlink_core.specs.AttributeSet.{encode_attribute}
 use Rattle.netlink_core.specs.Response.{ResponseSpec, ReplyValue, response_bytes, response_codec}
-use Rattle.netlink_core.specs.Envelope.{Payload, NetlinkMessageModel, HoldsOfInnerMessage}
-use Rattle.netlink_core.specs.Envelope.{payload_bytes, netlink_codec}
+use Rattle.netlink_core.specs.NetlinkMessage.{Payload, NetlinkMessageModel, HoldsOfInnerMessage}
+use Rattle.netlink_core.specs.NetlinkMessage.{payload_bytes, netlink_codec}
 use Rattle.netlink_core.specs.declared.message.NetlinkPayload.TheVariants.{Done, Error, Noop}
 use Rattle.netlink_core.specs.declared.message.NetlinkPayload.TheVariants.{Overrun, InnerMessage}
 use Rattle.sock_diag_replies.specs.InetResponseSpec.{inet_response_spec}
@@ -39,21 +39,24 @@ pub each_or_not : {X : Type 0} (P : X → Type 0) → ((x : X) → P x ⊎ ¬ P 
 each_or_not P decide [] = inl tt
 each_or_not P decide (x ∷ later) = both_or_not (decide x) (each_or_not P decide later)
 
-pub reply_fits_or_not : (R : ResponseSpec) (value : ReplyValue R) → (response_codec R).fits value
-    ⊎ ¬ (response_codec R).fits value
+pub reply_fits_or_not : (R : ResponseSpec) (value : ReplyValue R)
+    → (response_codec R).is_writable value
+    ⊎ ¬ (response_codec R).is_writable value
 reply_fits_or_not R value =
     both_or_not (each_or_not FitsLengthField (λ a. at_most (length a.value) 65531)
     (map (encode_attribute R.attribute_set) value.nlas))
     (at_most (length (response_bytes R value)) 4294967295)
 
-pub message_fits_or_not : (value : Message) → message_codec.fits value ⊎ ¬ message_codec.fits value
+pub message_fits_or_not : (value : Message) → message_codec.is_writable value
+    ⊎ ¬ message_codec.is_writable value
 message_fits_or_not (message_of inet_request request) = inl tt
 message_fits_or_not (message_of inet_response reply) = reply_fits_or_not inet_response_spec reply
 message_fits_or_not (message_of unix_request request) = inl tt
 message_fits_or_not (message_of unix_response reply) = reply_fits_or_not unix_response_spec reply
 
-inner_fits_or_not : (payload : Payload Message) → HoldsOfInnerMessage message_codec.fits payload
-    ⊎ ¬ HoldsOfInnerMessage message_codec.fits payload
+inner_fits_or_not : (payload : Payload Message)
+    → HoldsOfInnerMessage message_codec.is_writable payload
+    ⊎ ¬ HoldsOfInnerMessage message_codec.is_writable payload
 inner_fits_or_not (InnerMessage message) = message_fits_or_not message
 inner_fits_or_not (Done given) = inl tt
 inner_fits_or_not (Error given) = inl tt
@@ -61,7 +64,7 @@ inner_fits_or_not Noop = inl tt
 inner_fits_or_not (Overrun given) = inl tt
 
 pub netlink_message_fits_or_not : (value : NetlinkMessageModel Message)
-    → (netlink_codec message_codec).fits value
-    ⊎ ¬ (netlink_codec message_codec).fits value
+    → (netlink_codec message_codec).is_writable value
+    ⊎ ¬ (netlink_codec message_codec).is_writable value
 netlink_message_fits_or_not value = both_or_not (inner_fits_or_not value.payload)
-    (at_most (16 + length (payload_bytes message_codec.written value.payload)) 4294967295)
+    (at_most (16 + length (payload_bytes message_codec.serialized value.payload)) 4294967295)

@@ -2,7 +2,7 @@ pub mod FieldLaws
 pub mod SubjectLaws
 pub mod Deciding
 pub mod CanonicalLaws
-pub mod EnvelopeLaws
+pub mod MessageLaws
 pub mod AnswerTexts
 pub mod NameLaws
 pub mod DumpLaws

@@ -26,16 +26,16 @@ use Rattle.sock_diag_lines.specs.declared.answers.Name.TheVariants.{NetlinkMessa
 use Rattle.sock_diag_lines.specs.AnswerText.{answer_codec}
 use Rattle.sock_diag_lines.proofs.CanonicalLaws.{canonical_has_full_text, subject_laws_of_codec}
 use Rattle.sock_diag_lines.proofs.Deciding.{message_fits_or_not, reply_fits_or_not}
-use Rattle.sock_diag_lines.proofs.EnvelopeLaws.{netlink_message_answer_laws}
-use Rattle.sock_diag_lines.proofs.EnvelopeLaws.{netlink_message_has_full_text}
+use Rattle.sock_diag_lines.proofs.MessageLaws.{netlink_message_answer_laws}
+use Rattle.sock_diag_lines.proofs.MessageLaws.{netlink_message_has_full_text}
 use Rattle.sock_diag_lines.proofs.SubjectLaws.{AnswerLawsOf, HasFullText}
 
 -- the laws of a subject that shows the canonical form
 codec_answer_laws : {Param P : Type 0} (C : Codec Param) → KeepsCodecLaws C → (param : Param)
-    → ((v : C.Value) → C.fits v ⊎ ¬ C.fits v)
+    → ((v : C.Value) → C.is_writable v ⊎ ¬ C.is_writable v)
     → AnswerLawsOf (answer_codec C param) × (P → HasFullText (answer_codec C param))
 codec_answer_laws C laws param fits_or_not = (
-  subject_laws_of_codec C laws param C.fits fits_or_not,
+  subject_laws_of_codec C laws param C.is_writable fits_or_not,
   λ p. canonical_has_full_text C laws param,
 )
 

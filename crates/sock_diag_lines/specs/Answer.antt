@@ -13,7 +13,7 @@ use Rattle.netlink_core.specs.Response.{response_codec}
 use Rattle.sock_diag_lines.specs.DumpLine.{IsDumpRequest, IsDumpAnswer}
 use Rattle.sock_diag_lines.specs.HexField.{IsHexField}
 use Rattle.sock_diag_lines.specs.AnswerText.{AnswerCodec, answer_codec, IsAnswerUnder}
-use Rattle.sock_diag_lines.specs.EnvelopeLine.{netlink_message_text}
+use Rattle.sock_diag_lines.specs.MessageLine.{netlink_message_text}
 use Rattle.sock_diag_lines.specs.ViewLine.{reply_text}
 use Rattle.sock_diag_lines.specs.declared.answers.Name.{Name}
 use Rattle.sock_diag_lines.specs.declared.answers.Name.TheVariants.{UnixRequest, UnixResponse}
@@ -38,7 +38,7 @@ name_entry Message = (codes "message", answer_codec message_codec 20)
 -- the fields of the header as they were parsed, and the serialized payload
 name_entry NetlinkMessage = (codes "netlink", (_, netlink_message_codec, tt, netlink_message_text))
 -- thirteen values of a reply about a UNIX socket; never `unwritable`, since each value counts as
--- writable (`fits`)
+-- writable (`is_writable`)
 name_entry UnixView = let replies = record (response_codec unix_response_spec) { fits = λ v. ⊤ } in
     (codes "unixview", (_, replies, tt, reply_text))
 
@@ -50,7 +50,7 @@ IsRequest line name b = (hex : List ℕ) × (line ≡ (name_entry name).0 ++ 32 
 -- The text answers the line. A line `NAME HEX` is answered by `ok ` and the text of the value of
 -- these bytes, by `unwritable`, or by `refused ` and the code of the first error (`IsAnswerUnder`;
 -- `(name_entry n).1` is the codec, its parameter, and the text of a value). A line `dump HEX HEX
--- ..` is answered by `ok `, the state, the number of messages and the messages, or by `unwritable`
+-- ..` is is_total by `ok `, the state, the number of messages and the messages, or by `unwritable`
 -- (`IsDumpAnswer`). Every other line is answered by `bad line`.
 pub record IsAnswerOf (line text : List ℕ) : Type 0 where
   -- if the line is a name and a hex field

@@ -2,19 +2,19 @@
 use Rattle.std.specs.Prelude.{◌≡◌, ◌⊎◌, ℕ, List, ◌++◌, codes, decimal}
 use Rattle.sock_diag_lines.specs.HexField.{hex_field_of}
 use Rattle.netlink_core.specs.Codec.{Codec}
-use Rattle.netlink_core.specs.Faults.{error_code}
-use Rattle.netlink_core.specs.declared.fault.DecodeError.{DecodeError}
+use Rattle.netlink_core.specs.Errors.{error_code}
+use Rattle.netlink_core.specs.declared.error.DecodeError.{DecodeError}
 
 -- IsAnswerText reads refuses fits text_of text: given are the values that the bytes parse as
--- (`reads`), the errors that reject them (`refuses`), whether a value is writable (`fits`), and the
--- text of a value. The answer is `ok ` and the text of a writable value; `unwritable`, for a value
--- that is not writable; or `refused ` and the code of an error in decimal.
+-- (`parses`), the errors that reject them (`rejects`), whether a value is writable (`is_writable`),
+-- and the text of a value. The answer is `ok ` and the text of a writable value; `unwritable`, for
+-- a value that is not writable; or `refused ` and the code of an error in decimal.
 abbrev pub IsAnswerText : {Value : Type 0} → (Value → Type 0) → (DecodeError → Type 0)
     → (Value → Type 0) → (Value → List ℕ) → List ℕ → Type 0
-IsAnswerText {Value} reads refuses fits text_of text =
-    ((value : Value) × reads value × fits value × (text ≡ codes "ok " ++ text_of value))
-    ⊎ (((value : Value) × reads value × ¬ fits value × (text ≡ codes "unwritable"))
-    ⊎ ((e : DecodeError) × refuses e × (text ≡ codes "refused " ++ decimal (error_code e))))
+IsAnswerText {Value} parses rejects is_writable text_of text =
+    ((value : Value) × parses value × is_writable value × (text ≡ codes "ok " ++ text_of value))
+    ⊎ (((value : Value) × parses value × ¬ is_writable value × (text ≡ codes "unwritable"))
+    ⊎ ((e : DecodeError) × rejects e × (text ≡ codes "refused " ++ decimal (error_code e))))
 
 -- how bytes are parsed and shown: the type of the codec's parameter, the codec, its parameter, and
 -- the text of a value
@@ -24,9 +24,10 @@ AnswerCodec = (Param : Type 0) × (C : Codec Param) × Param × (C.Value → Lis
 -- answer_codec C param: the codec `C` with this parameter; a value is shown as the hex field of the
 -- bytes that it serializes to
 abbrev pub answer_codec : {Param : Type 0} → Codec Param → Param → AnswerCodec
-answer_codec C param = (_, C, param, λ v. hex_field_of (C.written v))
+answer_codec C param = (_, C, param, λ v. hex_field_of (C.serialized v))
 
 -- IsAnswerUnder (Param, C, p, text_of) b text: the text answers the bytes `b` under the codec `C`
 -- and the parameter `p`; a value is shown by `text_of`
 abbrev pub IsAnswerUnder : AnswerCodec → List ℕ → List ℕ → Type 0
-IsAnswerUnder (_, C, p, text_of) b = IsAnswerText (C.reads b p) (C.refuses b p) C.fits text_of
+IsAnswerUnder (_, C, p, text_of) b = IsAnswerText (C.parses b p)
+    (C.rejects b p) C.is_writable text_of

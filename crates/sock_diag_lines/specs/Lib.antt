@@ -1,6 +1,6 @@
 pub mod HexField
 pub mod AnswerText
-pub mod EnvelopeLine
+pub mod MessageLine
 pub mod ViewLine
 pub mod DumpLine
 pub mod Answer

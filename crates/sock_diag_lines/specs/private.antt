@@ -2,5 +2,5 @@
 pub mod Text
 pub mod View
 pub mod ReadDump
-pub mod Asked
+pub mod LineRequest
 pub mod Run

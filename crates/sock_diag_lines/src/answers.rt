@@ -13,17 +13,17 @@ ghost use Rattle.netlink_packet_sock_diag.specs.Message.{netlink_message_codec};
 ghost use Rattle.netlink_packet_sock_diag.specs.MessageViewModel.{message_view_model};
 ghost use Rattle.netlink_packet_sock_diag.specs.PayloadViewModel.{netlink_message_view_model};
 ghost use Rattle.sock_diag_lines.specs.Answer.{IsAnswerOf, IsRequest, name_entry};
-ghost use Rattle.sock_diag_lines.specs.private.Asked.{IsAnswerTo, IsParsedAs};
+ghost use Rattle.sock_diag_lines.specs.private.LineRequest.{IsAnswerTo, IsParsedAs};
 ghost use Rattle.sock_diag_lines.specs.DumpLine.{IsDumpRequest};
-ghost use Rattle.sock_diag_lines.specs.EnvelopeLine.{netlink_message_text};
+ghost use Rattle.sock_diag_lines.specs.MessageLine.{netlink_message_text};
 ghost use Rattle.sock_diag_lines.specs.HexField.{hex_field_of};
 ghost use Rattle.sock_diag_lines.specs.AnswerText.{IsAnswerUnder, IsAnswerText};
 ghost use Rattle.sock_diag_lines.specs.private.Text.{AppendsSome, ok_text, number_then_rest};
 
+use crate::answer_parts::{OK, UNWRITABLE, push_accepted, push_field, push_number, push_refused};
 use crate::dump_line::{ReadDump, push_dump, read_dump};
 use crate::fields::{find_space, read_field};
 use crate::view_line::push_view;
-use crate::words::{OK, UNWRITABLE, push_accepted, push_field, push_number, push_refused};
 use netlink_core::{CanonError, Emitable, NetlinkHeader, Wire, canonical};
 use netlink_packet_sock_diag::constants::{AF_INET, AF_INET6, SOCK_DIAG_BY_FAMILY};
 use netlink_packet_sock_diag::inet::{InetRequest, InetResponse, SocketId};
@@ -52,7 +52,7 @@ pub(crate) enum Name {
 
 /// The request in a line.
 #[derive(Drop)]
-pub(crate) enum Asked {
+pub(crate) enum LineRequest {
     /// The bytes of the line's field, under its name.
     Field(Name),
     /// A dump over the line's datagrams.
@@ -82,24 +82,24 @@ pub fn answer(alloc: Global, line: &[u8]) -> Result<Vec<u8>, AllocError>
     ensures answers { IfOk result (λ text. IsAnswerOf line.now text.items) }
 
     // Two inputs of one name other than `unixview`, both with writable values, have the same answer
-    // if and only if they are equivalent (`idle`). `C` is the codec of the name, and `param` its
+    // if and only if they are equivalent. `C` is the codec of the name, and `param` its
     // parameter. `IsRequest line name bytes`: the line is this name and a hex field of these bytes.
     // `unixview` does not show the whole value.
     ensures same { IfOk result (λ text. (name : Name) → name ≢ UnixView
         → let C = (name_entry name).1.1 in let param = (name_entry name).1.2 in
         (other bytes bytes' text' : List ℕ) (value value' : C.Value)
         → IsRequest line.now name bytes → IsRequest other name bytes'
-        → C.reads bytes param value → C.fits value
-        → C.reads bytes' param value' → C.fits value'
-        → IsAnswerOf other text' → ((text.items ≡ text') ↔ C.idle param bytes bytes')) }
+        → C.parses bytes param value → C.is_writable value
+        → C.parses bytes' param value' → C.is_writable value'
+        → IsAnswerOf other text' → ((text.items ≡ text') ↔ C.equivalent param bytes bytes')) }
     // Two equivalent inputs of any name, both with writable values, have the same answer.
-    ensures alike { IfOk result (λ text. (name : Name)
+    ensures equal_bytes { IfOk result (λ text. (name : Name)
         → let C = (name_entry name).1.1 in let param = (name_entry name).1.2 in
         (other bytes bytes' text' : List ℕ) (value value' : C.Value)
         → IsRequest line.now name bytes → IsRequest other name bytes'
-        → C.reads bytes param value → C.fits value
-        → C.reads bytes' param value' → C.fits value'
-        → IsAnswerOf other text' → C.idle param bytes bytes' → text.items ≡ text') }
+        → C.parses bytes param value → C.is_writable value
+        → C.parses bytes' param value' → C.is_writable value'
+        → IsAnswerOf other text' → C.equivalent param bytes bytes' → text.items ≡ text') }
     // Two dumps have the same answer if their datagrams have the same items: the payload or the
     // error of each message, of all datagrams in order.
     ensures dumps { IfOk result
@@ -147,33 +147,37 @@ pub(crate) fn read_request(
     alloc: Global,
     bytes: &mut Vec<u8>,
     line: &[u8],
-) -> Result<Asked, AllocError>
+) -> Result<LineRequest, AllocError>
     ensures { IfOk result (λ asked. IsParsedAs line.now asked bytes.new.items) }
 {
     let Some(space) = find_space(line) else {
-        return Ok(Asked::Nothing);
+        return Ok(LineRequest::Nothing);
     };
     if &line[..space] == DUMP {
         return read_dump_request(alloc, bytes, &line[space + 1..]);
     }
     let Some(name) = find_name(&line[..space]) else {
-        return Ok(Asked::Nothing);
+        return Ok(LineRequest::Nothing);
     };
     if read_field(bytes, &line[space + 1..])? {
-        Ok(Asked::Field(name))
+        Ok(LineRequest::Field(name))
     } else {
-        Ok(Asked::Nothing)
+        Ok(LineRequest::Nothing)
     }
 }
 
 /// Parses a line whose name is `dump`, given the text after the space.
-fn read_dump_request(alloc: Global, bytes: &mut Vec<u8>, fields: &[u8]) -> Result<Asked, AllocError>
+fn read_dump_request(
+    alloc: Global,
+    bytes: &mut Vec<u8>,
+    fields: &[u8],
+) -> Result<LineRequest, AllocError>
     ensures { IfOk result (λ asked. IsParsedAs (codes "dump" ++ 32 ∷ fields.now) asked
         bytes.new.items) }
 {
     match read_dump(alloc, bytes, fields)? {
-        Some(dump) => Ok(Asked::Dump(dump)),
-        None => Ok(Asked::Nothing),
+        Some(dump) => Ok(LineRequest::Dump(dump)),
+        None => Ok(LineRequest::Nothing),
     }
 }
 
@@ -181,15 +185,15 @@ fn read_dump_request(alloc: Global, bytes: &mut Vec<u8>, fields: &[u8]) -> Resul
 pub(crate) fn push_answer_text(
     alloc: Global,
     text: &mut Vec<u8>,
-    asked: Asked,
+    asked: LineRequest,
     bytes: &[u8],
 ) -> Result<(), AllocError>
     ensures { OnOk result (AppendsSome text.old.items text.new.items (IsAnswerTo asked bytes.now)) }
 {
     match asked {
-        Asked::Field(name) => push_named(alloc, text, name, bytes),
-        Asked::Dump(dump) => push_dump(alloc, text, &dump),
-        Asked::Nothing => text.extend_from_slice(BAD_LINE),
+        LineRequest::Field(name) => push_named(alloc, text, name, bytes),
+        LineRequest::Dump(dump) => push_dump(alloc, text, &dump),
+        LineRequest::Nothing => text.extend_from_slice(BAD_LINE),
     }
 }
 
@@ -221,12 +225,13 @@ fn push_canonical<T: Wire + Drop>(
     param: T::Param,
 ) -> Result<(), AllocError>
     ensures { OnOk result (AppendsSome text.old.items text.new.items
-        (IsAnswerText (T.codec.reads bytes.now param) (T.codec.refuses bytes.now param) T.codec.fits
-        (λ v. hex_field_of (T.codec.written v)))) }
+        (IsAnswerText (T.codec.parses bytes.now param) (T.codec.rejects bytes.now param)
+        T.codec.is_writable
+        (λ v. hex_field_of (T.codec.serialized v)))) }
 {
     match canonical::<T>(alloc, bytes, param) {
         Ok(written) => push_accepted(text, written.as_slice()),
-        Err(CanonError::Refused(fault)) => push_refused(text, &fault),
+        Err(CanonError::Refused(error)) => push_refused(text, &error),
         Err(CanonError::Unwritable) => text.extend_from_slice(UNWRITABLE),
         Err(CanonError::Memory) => Err(AllocError),
     }
@@ -239,29 +244,29 @@ fn push_netlink_message(alloc: Global, text: &mut Vec<u8>, bytes: &[u8]) -> Resu
         (IsAnswerUnder (name_entry NetlinkMessage).1 bytes.now)) }
 {
     match MessageView::parse(bytes) {
-        Ok(message) => push_envelope_text(alloc, text, &message),
-        Err(fault) => push_refused(text, &fault),
+        Ok(message) => push_message_text(alloc, text, &message),
+        Err(error) => push_refused(text, &error),
     }
 }
 
 /// Appends `ok`, the five fields of the header and the serialized payload, or `unwritable`.
-fn push_envelope_text(
+fn push_message_text(
     alloc: Global,
     text: &mut Vec<u8>,
     message: &MessageView<'_>,
 ) -> Result<(), AllocError>
     ensures { OnOk result (AppendsSome text.old.items text.new.items
-        (IsAnswerText (λ e. e ≡ netlink_message_view_model message.now) (λ fault. ⊥)
-        netlink_message_codec.fits netlink_message_text)) }
+        (IsAnswerText (λ e. e ≡ netlink_message_view_model message.now) (λ error. ⊥)
+        netlink_message_codec.is_writable netlink_message_text)) }
 {
     if !message.is_writable() {
         return text.extend_from_slice(UNWRITABLE);
     }
     match &message.payload {
-        PayloadView::Noop => push_envelope(text, &message.header, &[]),
-        PayloadView::Error(bytes) => push_envelope(text, &message.header, bytes),
-        PayloadView::Done(bytes) => push_envelope(text, &message.header, bytes),
-        PayloadView::Overrun(bytes) => push_envelope(text, &message.header, bytes),
+        PayloadView::Noop => push_message_fields(text, &message.header, &[]),
+        PayloadView::Error(bytes) => push_message_fields(text, &message.header, bytes),
+        PayloadView::Done(bytes) => push_message_fields(text, &message.header, bytes),
+        PayloadView::Overrun(bytes) => push_message_fields(text, &message.header, bytes),
         PayloadView::InnerMessage(inner) => push_inner(alloc, text, &message.header, inner),
     }
 }
@@ -273,7 +278,7 @@ fn push_inner(
     header: &NetlinkHeader,
     inner: &SockDiagView<'_>,
 ) -> Result<(), AllocError>
-    requires { message_codec.fits (message_view_model inner.now) }
+    requires { message_codec.is_writable (message_view_model inner.now) }
     ensures { OnOk result (text.new.items ≡ text.old.items ++ ok_text
         (netlink_message_text (record {
           header = header.now;
@@ -282,11 +287,11 @@ fn push_inner(
 {
     let mut bytes = vec![in alloc; 0; inner.buffer_len()]?;
     inner.emit(&mut bytes);
-    push_envelope(text, header, &bytes)
+    push_message_fields(text, header, &bytes)
 }
 
 /// Appends `ok`, the five fields of a header and a payload.
-fn push_envelope(
+fn push_message_fields(
     text: &mut Vec<u8>,
     header: &NetlinkHeader,
     payload: &[u8],

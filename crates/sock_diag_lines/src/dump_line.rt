@@ -13,8 +13,8 @@ ghost use Rattle.sock_diag_lines.specs.private.ReadDump.{message_text, read_dump
 ghost use Rattle.sock_diag_lines.specs.AnswerText.{IsAnswerText};
 ghost use Rattle.sock_diag_lines.specs.private.Text.{AppendsSome};
 
+use crate::answer_parts::{OK, UNWRITABLE, push_field, push_number};
 use crate::fields::{find_space, read_field};
-use crate::words::{OK, UNWRITABLE, push_field, push_number};
 use netlink_core::{DecodeError, Emitable};
 use netlink_packet_sock_diag::{DumpError, DumpReader, DumpState, SockDiagMessage};
 use std::alloc::{AllocError, Global};
@@ -24,7 +24,7 @@ use std::alloc::{AllocError, Global};
 pub(crate) struct ReadDump {
     reader: DumpReader,
     /// The decode error that ended the dump, if any.
-    fault: Option<DecodeError>,
+    error: Option<DecodeError>,
 }
 
 /// Reads the dump over the datagrams in hex fields that are separated by one space. Returns `None`
@@ -41,7 +41,7 @@ pub(crate) fn read_dump(
 {
     let mut dump = ReadDump {
         reader: DumpReader::new(alloc),
-        fault: None,
+        error: None,
     };
     let mut rest = fields;
     'fields: while let Some(space) = find_space(rest) {
@@ -78,10 +78,10 @@ fn take_datagram(dump: &mut ReadDump, datagram: &[u8]) -> Result<(), AllocError>
     match dump.reader.feed(datagram) {
         Ok(()) => Ok(()),
         Err(DumpError::Ended) => Ok(()),
-        Err(DumpError::Fault(fault)) => match fault {
+        Err(DumpError::Fault(error)) => match error {
             DecodeError::Memory => Err(AllocError),
             named => {
-                dump.fault = Some(named);
+                dump.error = Some(named);
                 Ok(())
             }
         },
@@ -96,7 +96,7 @@ pub(crate) fn push_dump(
     dump: &ReadDump,
 ) -> Result<(), AllocError>
     ensures { OnOk result (AppendsSome text.old.items text.new.items
-        (IsAnswerText (λ d. d ≡ read_dump_outcome dump.now) (λ fault. ⊥) IsWritable dump_text)) }
+        (IsAnswerText (λ d. d ≡ read_dump_outcome dump.now) (λ error. ⊥) IsWritable dump_text)) }
 {
     let messages = dump.reader.messages();
     if !are_writable(messages) {
@@ -114,15 +114,15 @@ fn push_end(text: &mut Vec<u8>, dump: &ReadDump) -> Result<(), AllocError>
     ensures { OnOk result (text.new.items
         ≡ text.old.items ++ dump_state_text (read_dump_end dump.now)) }
 {
-    let Some(fault) = &dump.fault else {
-        return text.extend_from_slice(state_word(dump.reader.state()));
+    let Some(error) = &dump.error else {
+        return text.extend_from_slice(name_of_dump_state(dump.reader.state()));
     };
     text.extend_from_slice(b"failed:")?;
-    push_number(text, fault.number().into())
+    push_number(text, error.number().into())
 }
 
 /// Returns the name of a state.
-fn state_word(state: DumpState) -> &'static [u8]
+fn name_of_dump_state(state: DumpState) -> &'static [u8]
     ensures { (number : Option ℤ) → result.now ≡ dump_state_text (Ok (state, number)) }
 {
     match state {
@@ -136,7 +136,8 @@ fn state_word(state: DumpState) -> &'static [u8]
 
 /// Returns whether each message is writable.
 fn are_writable(messages: &[SockDiagMessage]) -> bool
-    ensures { IsTrue result ↔ AllByRecursion message_codec.fits (map message_model messages.now) }
+    ensures { IsTrue result
+        ↔ AllByRecursion message_codec.is_writable (map message_model messages.now) }
 {
     for message in messages {
         if !message.is_writable() {
@@ -152,7 +153,7 @@ fn push_messages(
     text: &mut Vec<u8>,
     messages: &[SockDiagMessage],
 ) -> Result<(), AllocError>
-    requires { AllByRecursion message_codec.fits (map message_model messages.now) }
+    requires { AllByRecursion message_codec.is_writable (map message_model messages.now) }
     ensures { OnOk result (text.new.items ≡ text.old.items ++ flat_map message_text
         (map message_model messages.now)) }
 {
@@ -168,7 +169,7 @@ fn push_message(
     text: &mut Vec<u8>,
     message: &SockDiagMessage,
 ) -> Result<(), AllocError>
-    requires { message_codec.fits (message_model message.now) }
+    requires { message_codec.is_writable (message_model message.now) }
     ensures { OnOk result (text.new.items ≡ text.old.items
         ++ message_text (message_model message.now)) }
 {

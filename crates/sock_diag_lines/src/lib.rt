@@ -11,13 +11,13 @@ ghost use Rattle.program_streams.specs.Lines.{SplitsIntoLines, all_lines};
 ghost use Rattle.program_streams.specs.LineRun.{AnswersInput, answer_lines};
 ghost use Rattle.program_streams.specs.declared.lines.RunError.{RunError};
 
+mod answer_parts;
 mod answers;
 mod arguments;
 mod dump_line;
 mod fields;
 mod stream;
 mod view_line;
-mod words;
 
 pub use answers::answer;
 pub use arguments::{Choice, HELP, choose};

@@ -8,11 +8,11 @@ ghost use Rattle.program_streams.specs.Streams.{WritesAllOrFails};
 ghost use Rattle.program_streams.specs.declared.lines.RunError.{RunError};
 ghost use Rattle.program_streams.specs.declared.streams.WriteError.{WriteError};
 ghost use Rattle.sock_diag_lines.specs.Answer.{IsAnswerOf, is_good};
-ghost use Rattle.sock_diag_lines.specs.private.Asked.{IsParsedAs};
+ghost use Rattle.sock_diag_lines.specs.private.LineRequest.{IsParsedAs};
 ghost use Rattle.sock_diag_lines.specs.private.Run.{failure_line};
 
-use crate::answers::{Asked, push_answer_text, read_request};
-use crate::words::OK;
+use crate::answer_parts::OK;
+use crate::answers::{LineRequest, push_answer_text, read_request};
 use program_streams::{LineAnswers, RunError, Sink, serve, try_send};
 use std::alloc::{AllocError, Global};
 use std::io::{Read, Write};
@@ -22,7 +22,7 @@ use std::marker::Brand;
 struct Protocol;
 
 impl LineAnswers for Protocol {
-    type Asked = Asked;
+    type Request = LineRequest;
 
     ghost answers = { IsAnswerOf };
 
@@ -30,14 +30,18 @@ impl LineAnswers for Protocol {
 
     ghost good = { is_good };
 
-    fn read_request(alloc: Global, bytes: &mut Vec<u8>, line: &[u8]) -> Result<Asked, AllocError> {
+    fn read_request(
+        alloc: Global,
+        bytes: &mut Vec<u8>,
+        line: &[u8],
+    ) -> Result<LineRequest, AllocError> {
         read_request(alloc, bytes, line)
     }
 
     fn push_answer(
         alloc: Global,
         text: &mut Vec<u8>,
-        asked: Asked,
+        asked: LineRequest,
         bytes: &[u8],
     ) -> Result<bool, AllocError> {
         let start = text.len();

@@ -10,8 +10,8 @@ ghost use Rattle.sock_diag_lines.specs.private.Text.{AppendsSome, ok_text};
 ghost use Rattle.sock_diag_lines.specs.ViewLine.{reply_text};
 ghost use Rattle.sock_diag_lines.specs.private.View.{with_socket_details, with_memory, with_queues};
 
-use crate::words::{
-    OK, push_name_word, push_number, push_number_word, push_numbers_word, push_refused,
+use crate::answer_parts::{
+    OK, push_name_field, push_number, push_numbers_field, push_optional_number, push_refused,
 };
 use netlink_packet_sock_diag::unix::{UnixResponseHeader, UnixResponseView};
 use std::alloc::AllocError;
@@ -23,7 +23,7 @@ pub(crate) fn push_view(text: &mut Vec<u8>, bytes: &[u8]) -> Result<(), AllocErr
 {
     match UnixResponseView::parse(bytes) {
         Ok(view) => push_reply(text, &view),
-        Err(fault) => push_refused(text, &fault),
+        Err(error) => push_refused(text, &error),
     }
 }
 
@@ -44,10 +44,10 @@ fn push_details(text: &mut Vec<u8>, view: &UnixResponseView<'_>) -> Result<(), A
     ensures { OnOk result (text.new.items
         ≡ with_socket_details text.old.items (view_model view.now)) }
 {
-    push_number_word(text, view.peer())?;
-    push_name_word(text, view.name())?;
-    push_numbers_word(text, view.pending_connections())?;
-    push_number_word(text, widened(view.shutdown_state()))
+    push_optional_number(text, view.peer())?;
+    push_name_field(text, view.name())?;
+    push_numbers_field(text, view.pending_connections())?;
+    push_optional_number(text, widened(view.shutdown_state()))
 }
 
 /// Appends the queue lengths: two values of a listening socket, then two values of any other
@@ -55,18 +55,18 @@ fn push_details(text: &mut Vec<u8>, view: &UnixResponseView<'_>) -> Result<(), A
 fn push_queues(text: &mut Vec<u8>, view: &UnixResponseView<'_>) -> Result<(), AllocError>
     ensures { OnOk result (text.new.items ≡ with_queues text.old.items (view_model view.now)) }
 {
-    push_number_word(text, view.number_of_pending_connection())?;
-    push_number_word(text, view.max_number_of_pending_connection())?;
-    push_number_word(text, view.receive_queue_size())?;
-    push_number_word(text, view.send_queue_size())
+    push_optional_number(text, view.number_of_pending_connection())?;
+    push_optional_number(text, view.max_number_of_pending_connection())?;
+    push_optional_number(text, view.receive_queue_size())?;
+    push_optional_number(text, view.send_queue_size())
 }
 
 /// Appends the memory values.
 fn push_memory(text: &mut Vec<u8>, view: &UnixResponseView<'_>) -> Result<(), AllocError>
     ensures { OnOk result (text.new.items ≡ with_memory text.old.items (view_model view.now)) }
 {
-    push_number_word(text, view.max_datagram_size())?;
-    push_number_word(text, view.memory_used_for_outgoing_data())
+    push_optional_number(text, view.max_datagram_size())?;
+    push_optional_number(text, view.memory_used_for_outgoing_data())
 }
 
 /// Appends the kind, the state and the inode.
@@ -76,8 +76,8 @@ fn push_header(text: &mut Vec<u8>, header: &UnixResponseHeader) -> Result<(), Al
         ∷ decimal header.now.inode) }
 {
     push_number(text, header.kind.into())?;
-    push_number_word(text, Some(header.state.into()))?;
-    push_number_word(text, Some(header.inode))
+    push_optional_number(text, Some(header.state.into()))?;
+    push_optional_number(text, Some(header.inode))
 }
 
 /// Widens a byte, if there is one.

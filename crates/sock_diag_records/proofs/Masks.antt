@@ -3,7 +3,7 @@
 use Rattle.std.proofs.Common.{◌≡◌, ◌⊎◌, inl, inr, ◌<◌, ℕ, Result, Ok, refl, ◌∙◌, arith}
 use Rattle.netlink_core.specs.Layout.{tag_fields}
 use Rattle.netlink_core.proofs.TableLaws.{significant_masks}
-use Rattle.netlink_core.specs.declared.fault.DecodeError.{DecodeError}
+use Rattle.netlink_core.specs.declared.error.DecodeError.{DecodeError}
 use Rattle.sock_diag_records.specs.SignificantBits.{IsInetFamily, HaveSameTimerClass}
 use Rattle.sock_diag_records.specs.SignificantBits.{socket_id_masks, inet_request_masks}
 use Rattle.sock_diag_records.specs.SignificantBits.{inet_response_header_masks}

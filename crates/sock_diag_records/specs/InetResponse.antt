@@ -3,8 +3,8 @@ use Rattle.std.specs.Prelude.{◌≡◌, ℕ, ◌==◌, ◌||◌, if◌then◌el
 use Rattle.std.specs.Prelude.{replicate, slice_index, Ok}
 use Rattle.netlink_core.specs.Layout.{Layout}
 use Rattle.sock_diag_records.specs.declared.inet.response.InetResponseHeader.{InetResponseHeader}
-use Rattle.netlink_core.specs.Faults.{map_ok}
-use Rattle.netlink_core.specs.declared.fault.RecordName.TheVariants as name
+use Rattle.netlink_core.specs.Errors.{map_ok}
+use Rattle.netlink_core.specs.declared.error.RecordName.TheVariants as name
 use Rattle.sock_diag_records.specs.IpVersions.{IpVersions, versions_of, versions_of_family}
 use Rattle.sock_diag_records.specs.SocketId.{HasArrayLengths, socket_id_rows}
 use Rattle.sock_diag_records.specs.Timer.{timer_class, timer_data, u32_milliseconds}

@@ -1,10 +1,10 @@
 -- Which kind of message a payload is.
 use Rattle.std.specs.Prelude.{ℕ, ◌==◌, ◌||◌, not, nat_lt, if◌then◌else◌, List, length}
 use Rattle.std.specs.Prelude.{slice_index, Result, Ok, Err}
-use Rattle.netlink_core.specs.declared.fault.DecodeError.{DecodeError}
-use Rattle.netlink_core.specs.declared.fault.DecodeError.TheVariants.{MessageTooShort}
-use Rattle.netlink_core.specs.declared.fault.DecodeError.TheVariants.{UnknownFamily}
-use Rattle.netlink_core.specs.declared.fault.DecodeError.TheVariants.{UnknownMessageType}
+use Rattle.netlink_core.specs.declared.error.DecodeError.{DecodeError}
+use Rattle.netlink_core.specs.declared.error.DecodeError.TheVariants.{MessageTooShort}
+use Rattle.netlink_core.specs.declared.error.DecodeError.TheVariants.{UnknownFamily}
+use Rattle.netlink_core.specs.declared.error.DecodeError.TheVariants.{UnknownMessageType}
 
 -- The four kinds of messages. Payloads are parsed as replies only: `inet_response` or
 -- `unix_response`.

@@ -6,7 +6,7 @@ use Rattle.netlink_core.specs.Table.{Field, unread, bytes_at}
 use Rattle.netlink_core.specs.Table.{first_numbers}
 use Rattle.netlink_core.specs.Layout.{Layout}
 use Rattle.sock_diag_records.specs.declared.inet.socket_id.SocketId.{SocketId}
-use Rattle.netlink_core.specs.declared.fault.RecordName.TheVariants as name
+use Rattle.netlink_core.specs.declared.error.RecordName.TheVariants as name
 use Rattle.sock_diag_records.specs.IpVersions.{IpVersion, ipv4, ipv6, IpVersions}
 use Rattle.sock_diag_records.specs.IpVersions.{versions_of_family, versions_of, address_data}
 use Rattle.sock_diag_records.specs.inverse.SocketId.{socket_id_of}

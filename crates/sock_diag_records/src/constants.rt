@@ -454,7 +454,7 @@ pub const SHUT_RDWR: u8 = 2;
 /// value, and `PairsAreEqual` says that both numbers of each pair are equal.
 ///
 /// Proof only: the contract states the property.
-pub fn constants_have_their_numbers()
+pub fn constants_have_their_values()
     ensures message_types { PairsAreEqual ((SOCK_DIAG_BY_FAMILY, 20) ∷ (SOCK_DESTROY, 21) ∷ []) }
     ensures address_families { PairsAreEqual ((AF_UNSPEC, 0) ∷ (AF_UNIX, 1) ∷ (AF_INET, 2) ∷
         (AF_AX25, 3) ∷ (AF_IPX, 4) ∷ (AF_APPLETALK, 5) ∷ (AF_NETROM, 6) ∷ (AF_BRIDGE, 7) ∷

@@ -1,12 +1,12 @@
-//! Laws of the five records: their equivalence (`idle`), stated on bytes, and their sizes.
+//! Laws of the five records: their equivalence, stated on bytes, and their sizes.
 //!
 //! Two byte strings are equivalent if both are accepted and parse as equal values. In the contracts
 //! `EqualUnder masks b c` says that `b` and `c` have the same bits under the masks, one for each
 //! byte from the first on: a bit that is 1 in the mask is significant, a bit that is 0 is ignored.
 //! No byte after these is compared. `IsInetFamily` says that a number is `AF_INET` (2) or
 //! `AF_INET6` (10), and `IsBytes` that each number of a list is below 256. The equivalence of a
-//! record is the member `idle` of its codec; its parameter is the family for a [`SocketId`], and
-//! `tt` for the other records, which have none.
+//! record is the member `equivalent` of its codec; its parameter is the family for a [`SocketId`],
+//! and `tt` for the other records, which have none.
 //!
 //! Proof only: the contracts state the property.
 
@@ -29,14 +29,14 @@ use crate::inet::{
     SocketId,
 };
 use crate::unix::{UNIX_REQUEST_LEN, UNIX_RESPONSE_HEADER_LEN, UnixRequest, UnixResponseHeader};
-use netlink_core::Coded;
+use netlink_core::HasCodec;
 
 /// States that two byte strings are equivalent as [`SocketId`] of a family if and only if both have
 /// at least 48 bytes, the family is `AF_INET` or `AF_INET6`, and the bits that are significant for
 /// the family are equal. The family is the parameter of the parser, and not in the bytes.
 pub fn equivalent_socket_ids()
     ensures { (family : ℕ) (b c : List ℕ) → IsBytes b → IsBytes c
-        → ⟦<SocketId as Coded>⟧.codec.idle family b c
+        → ⟦<SocketId as HasCodec>⟧.codec.equivalent family b c
         ↔ ((48 ≤ length b) × (48 ≤ length c) × IsInetFamily family
         × EqualUnder (socket_id_masks family) b c) }
 {}
@@ -47,7 +47,7 @@ pub fn equivalent_socket_ids()
 /// the same family.
 pub fn equivalent_inet_requests()
     ensures { (b c : List ℕ) → IsBytes b → IsBytes c
-        → ⟦<InetRequest as Coded>⟧.codec.idle tt b c
+        → ⟦<InetRequest as HasCodec>⟧.codec.equivalent tt b c
         ↔ ((56 ≤ length b) × (56 ≤ length c) × IsInetFamily (slice_index b 0)
         × EqualUnder (inet_request_masks (slice_index b 0)) b c) }
 {}
@@ -59,7 +59,7 @@ pub fn equivalent_inet_requests()
 /// significant, so `c` has the same family.
 pub fn equivalent_inet_response_headers()
     ensures { (b c : List ℕ) → IsBytes b → IsBytes c
-        → ⟦<InetResponseHeader as Coded>⟧.codec.idle tt b c
+        → ⟦<InetResponseHeader as HasCodec>⟧.codec.equivalent tt b c
         ↔ ((72 ≤ length b) × (72 ≤ length c)
         × (IsInetFamily (slice_index b 0) × HaveSameTimerClass (slice_index b 2) (slice_index c 2))
         × EqualUnder (inet_response_header_masks (slice_index b 0) (slice_index b 2)) b c) }
@@ -70,7 +70,7 @@ pub fn equivalent_inet_response_headers()
 /// named show flags and the cookie. The first four bytes, with the family, are ignored.
 pub fn equivalent_unix_requests()
     ensures { (b c : List ℕ) → IsBytes b → IsBytes c
-        → ⟦<UnixRequest as Coded>⟧.codec.idle tt b c
+        → ⟦<UnixRequest as HasCodec>⟧.codec.equivalent tt b c
         ↔ ((24 ≤ length b) × (24 ≤ length c) × EqualUnder unix_request_masks b c) }
 {}
 
@@ -79,7 +79,7 @@ pub fn equivalent_unix_requests()
 /// cookie. The bytes at offsets 0, the family, and 3 are ignored.
 pub fn equivalent_unix_response_headers()
     ensures { (b c : List ℕ) → IsBytes b → IsBytes c
-        → ⟦<UnixResponseHeader as Coded>⟧.codec.idle tt b c
+        → ⟦<UnixResponseHeader as HasCodec>⟧.codec.equivalent tt b c
         ↔ ((16 ≤ length b) × (16 ≤ length c) × EqualUnder unix_response_header_masks b c) }
 {}
 

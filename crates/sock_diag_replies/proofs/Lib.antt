@@ -1,3 +1,3 @@
 mod FirstFound
-mod NoFault
+mod ErrorTest
 mod Owning

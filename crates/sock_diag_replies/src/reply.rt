@@ -6,7 +6,7 @@ ghost use lib.Pointwise.{pointwise};
 ghost use Rattle.attribute_lists.specs.AttributesIn.{HasNoAttributeError, decoded_in};
 ghost use Rattle.netlink_core.specs.Attribute.{HasAttributeError};
 ghost use Rattle.netlink_core.specs.Bytes.{HoldsAtStart};
-ghost use Rattle.netlink_core.specs.declared.fault.DecodeError.TheVariants.{Memory};
+ghost use Rattle.netlink_core.specs.declared.error.DecodeError.TheVariants.{Memory};
 ghost use Rattle.netlink_core.specs.AttributeSet.{AttributeValue, decode_attribute};
 ghost use Rattle.netlink_core.specs.AttributeSet.{encode_attribute};
 ghost use Rattle.netlink_core.specs.private.Response.{header_and_attributes, HasWritableLengths};
@@ -115,14 +115,14 @@ pub(crate) fn check_reply_len<'a, H: Emitable, V: FamilyView<'a> + Drop>(
         (decoded_in (decode_attribute V.attribute_set) bytes.entry.now) in
         IfOk result (λ len. SomeIff len (HasWritableLengths (H.bytes header.now) attributes)
         (length (header_and_attributes (H.bytes header.now) attributes))) }
-    ensures fault { IfErr result (HasAttributeError
+    ensures error { IfErr result (HasAttributeError
         (decode_attribute V.attribute_set) bytes.entry.now) }
 {
     let len = header.buffer_len();
     match check_nlas_len::<V>(bytes, (u32::MAX as usize).checked_sub(len)) {
         Ok((_, Some(attributes))) => Ok(Some(len + attributes)),
         Ok((_, None)) => Ok(None),
-        Err(fault) => Err(fault),
+        Err(error) => Err(error),
     }
 }
 

@@ -5,7 +5,7 @@ ghost use Rattle.std.specs.Prelude.{OnOk, IsTrue, true, refl};
 ghost use Rattle.std.specs.List.{AllByRecursion};
 ghost use Rattle.netlink_core.specs.Attribute.{HasAttributeError};
 ghost use Rattle.netlink_core.specs.Codec.{KeepsCodecLaws};
-ghost use Rattle.netlink_core.specs.declared.fault.DecodeError.{DecodeError};
+ghost use Rattle.netlink_core.specs.declared.error.DecodeError.{DecodeError};
 ghost use Rattle.netlink_core.specs.AttributeSet.{decode_attribute, encode_attribute};
 ghost use Rattle.netlink_core.specs.AttributeSet.{NeedsNoMemoryIn};
 ghost use Rattle.netlink_core.specs.Response.{response_bytes, response_codec};
@@ -13,9 +13,9 @@ ghost use Rattle.attribute_lists.specs.AttributesIn.{HasNoAttributeError, reply_
 
 use crate::reply::{emit_reply, fitting_reply_len, reply_len, without_memory};
 use crate::view::{ReplyHeader, ReplyView};
-use attribute_lists::{copy_nlas, nlas_in_range, own_nlas};
+use attribute_lists::{copy_nlas, own_nlas, prove_nlas_in_range};
 use netlink_core::{
-    CanonError, Coded, DecodeError, Emitable, Exact, FamilyNla, Parseable, Readable, Wire,
+    CanonError, DecodeError, Emitable, Exact, FamilyNla, HasCodec, Parseable, Readable, Wire,
 };
 use smallvec::SmallVec;
 use std::alloc::{AllocError, Global};
@@ -39,7 +39,7 @@ pub trait ReplyOwned: ReplyHeader + Exact + Emitable {
     const REPLY: &'static str;
 
     /// Proof only: puts the range of each field in scope. No run-time effect.
-    fn header_in_range(&self)
+    fn prove_header_in_range(&self)
         ensures { Self.reply.header.is_in_range (Self.header_model self.now) };
 
     // `==` is true if and only if the models of the headers are equal. A header serializes to the
@@ -47,10 +47,10 @@ pub trait ReplyOwned: ReplyHeader + Exact + Emitable {
     ghost eq_is_model: { (v w : Self) → IsTrue (Self.PartialEq.eq v w)
         ↔ (Self.ReplyHeader.header_model v ≡ Self.ReplyHeader.header_model w) };
 
-    ghost written: { (header : Self) → Self.Emitable.bytes header
+    ghost bytes_by_codec: { (header : Self) → Self.Emitable.bytes header
         ≡ Self.ReplyHeader.reply.header.bytes (Self.ReplyHeader.header_model header) };
 
-    ghost fits: { (header : Self) → Self.Emitable.writable header };
+    ghost always_writable: { (header : Self) → Self.Emitable.writable header };
 
     // How the attribute set of the owned attributes relates to the reply's attribute set: bytes
     // with an error have the same error, bytes without an error have none, the number of values is
@@ -93,12 +93,12 @@ impl<H: ReplyOwned> Reply<H, H::Nla> {
             response_model H.header_model H.Nla.FamilyNla.model copy
             ≡ response_model H.header_model H.Nla.FamilyNla.model
             self.now) }
-        // `is_spare`: the reply needs no memory, that is, it has at most eight attributes, and none
-        // of them needs memory. `response_codec reply`: the codec of the replies of this format.
-        // `record (H.reply) { .. }`: the format of the replies, with the attribute set of the owned
-        // attributes.
-        ensures spare { (response_codec
-            (record (H.reply) { attribute_set = H.Nla.FamilyNla.attribute_set })).is_spare
+        // `needs_no_memory`: the reply needs no memory, that is, it has at most eight attributes,
+        // and none of them needs memory. `response_codec reply`: the codec of the replies of this
+        // format. `record (H.reply) { .. }`: the format of the replies, with the attribute set of
+        // the owned attributes.
+        ensures needs_no_memory { (response_codec
+            (record (H.reply) { attribute_set = H.Nla.FamilyNla.attribute_set })).needs_no_memory
             (response_model H.header_model H.Nla.FamilyNla.model self.now)
             → IsOk result }
     {
@@ -155,7 +155,7 @@ impl<H: ReplyOwned> ReplyView<'_, H> {
         ensures equal { OnOk result (map H.Nla.FamilyNla.model nlas.new.items
             ≡ decoded_in (decode_attribute H.Nla.FamilyNla.attribute_set)
             (bytes_after_header self.now)) }
-        ensures spare { let set = H.Nla.FamilyNla.attribute_set in
+        ensures needs_no_memory { let set = H.Nla.FamilyNla.attribute_set in
             let values = decoded_in (decode_attribute set) (bytes_after_header self.now) in
             nlas.old.capacity ≡ 8
             → (length values ≤ 8) × AllByRecursion (NeedsNoMemoryIn set) values
@@ -181,10 +181,10 @@ impl<H: ReplyOwned> ReplyView<'_, H> {
             ≡ reply_after (record (H.reply) { attribute_set = H.Nla.FamilyNla.attribute_set })
             (view_model self.now).header
             (bytes_after_header self.now)) }
-        // `is_spare`: the reply needs no memory, that is, it has at most eight attributes, and none
-        // of them needs memory.
-        ensures spare { (response_codec
-            (record (H.reply) { attribute_set = H.Nla.FamilyNla.attribute_set })).is_spare
+        // `needs_no_memory`: the reply needs no memory, that is, it has at most eight attributes,
+        // and none of them needs memory.
+        ensures needs_no_memory { (response_codec
+            (record (H.reply) { attribute_set = H.Nla.FamilyNla.attribute_set })).needs_no_memory
             (reply_after (record (H.reply) { attribute_set = H.Nla.FamilyNla.attribute_set })
             (view_model self.now).header
             (bytes_after_header self.now)) → IsOk result }
@@ -223,13 +223,13 @@ impl<H: ReplyOwned> Emitable for Reply<H, H::Nla> {
     ghost use Rattle.sock_diag_replies.specs.ResponseModel.{response_model};
 
     // `response_bytes reply v`: the bytes of the reply `v`, its header and its attributes with
-    // their padding. `fits v`: it is writable.
+    // their padding. `is_writable v`: it is writable.
     ghost bytes = { λ v. response_bytes
         (record (H.reply) { attribute_set = H.Nla.FamilyNla.attribute_set })
         (response_model H.header_model H.Nla.FamilyNla.model v) };
 
     ghost writable = { λ v. (response_codec
-        (record (H.reply) { attribute_set = H.Nla.FamilyNla.attribute_set })).fits
+        (record (H.reply) { attribute_set = H.Nla.FamilyNla.attribute_set })).is_writable
         (response_model H.header_model H.Nla.FamilyNla.model v) };
 
     fn is_writable(&self) -> bool {
@@ -249,7 +249,7 @@ impl<H: ReplyOwned> Emitable for Reply<H, H::Nla> {
     }
 }
 
-impl<H: ReplyOwned> Coded for Reply<H, H::Nla> {
+impl<H: ReplyOwned> HasCodec for Reply<H, H::Nla> {
     ghost use Rattle.sock_diag_replies.specs.laws.EqualResponse.{responses_equal};
     ghost use Rattle.sock_diag_replies.specs.ResponseModel.{response_model};
 
@@ -260,11 +260,11 @@ impl<H: ReplyOwned> Coded for Reply<H, H::Nla> {
 
     ghost model = { response_model H.header_model H.Nla.FamilyNla.model };
 
-    ghost type_written = { λ _. 0 };
+    ghost serialized_type = { λ _. 0 };
 
-    fn in_range(&self) {
-        self.header.header_in_range();
-        nlas_in_range(self.nlas.as_slice());
+    fn prove_in_range(&self) {
+        self.header.prove_header_in_range();
+        prove_nlas_in_range(self.nlas.as_slice());
     }
 
     ghost eq_is_model = { responses_equal H.header_model H.Nla.FamilyNla.model
@@ -284,20 +284,20 @@ impl<H: ReplyOwned> Wire for Reply<H, H::Nla> {
     fn rewrite(alloc: Global, bytes: &[u8], _param: ()) -> Result<Vec<u8>, CanonError> {
         let header = match H::read_header(bytes) {
             Ok(header) => header,
-            Err(fault) => return Err(CanonError::Refused(fault)),
+            Err(error) => return Err(CanonError::Refused(error)),
         };
         let attributes = &bytes[H::length()..];
         let len = match header.check_len(attributes) {
             Ok(Some(len)) => len,
             Ok(None) => return Err(CanonError::Unwritable),
-            Err(fault) => return Err(CanonError::Refused(fault)),
+            Err(error) => return Err(CanonError::Refused(error)),
         };
         Ok(write_reply(alloc, &header, attributes, len)?)
     }
 
-    ghost written_is = { λ _. refl };
+    ghost bytes_by_codec = { λ _. refl };
 
-    ghost fits_is = { λ _. (λ h. h, λ h. h) };
+    ghost writable_by_codec = { λ _. (λ h. h, λ h. h) };
 }
 
 // Returns the canonical form of the header and the attributes after it, which has this length.
@@ -309,7 +309,7 @@ fn write_reply<H: ReplyHeader>(
 ) -> Result<Vec<u8>, AllocError>
     requires clean { HasNoAttributeError (decode_attribute H.reply.attribute_set) bytes.now }
     // `reply_after reply header bytes`: the reply with this header and the attributes in the bytes.
-    requires fits { (response_codec H.reply).fits
+    requires fits { (response_codec H.reply).is_writable
         (reply_after H.reply (H.header_model header.now) bytes.now) }
     requires len { len ≡ length (response_bytes H.reply
         (reply_after H.reply (H.header_model header.now) bytes.now)) }

@@ -6,8 +6,8 @@ ghost use Rattle.std.specs.Cmp.{partial_equiv_from_equiv};
 ghost use Rattle.std.specs.Iterator.{Drains, UpTo, YieldsFirstBy, YieldsThen, at_most};
 ghost use Rattle.std.specs.Iterator.SizeHint.{IsWithinCount};
 ghost use Rattle.netlink_core.specs.Bytes.{HoldsAtStart};
-ghost use Rattle.netlink_core.specs.declared.fault.DecodeError.{DecodeError as Fault};
-ghost use Rattle.netlink_core.specs.declared.fault.DecodeError.TheVariants.{Memory};
+ghost use Rattle.netlink_core.specs.declared.error.DecodeError.{DecodeError as Fault};
+ghost use Rattle.netlink_core.specs.declared.error.DecodeError.TheVariants.{Memory};
 ghost use Rattle.netlink_core.specs.Attribute.{HasAttributeError};
 ghost use Rattle.netlink_core.specs.Codec.{KeepsCodecLaws};
 ghost use Rattle.netlink_core.specs.AttributeSet.{decode_attribute};
@@ -32,7 +32,7 @@ pub trait ReplyHeader: Drop + Sized {
     // `reply`: the format of the replies, as the codec of the header, its size, and the set of the
     // attributes after it. `header_model`: the model of a header. `test`: the comparison of two
     // replies, which is true if and only if they are equal (`compared`, below).
-    // `reply.header.reads tt bytes`: the model of the header at the start of the bytes, or the
+    // `reply.header.parses tt bytes`: the model of the header at the start of the bytes, or the
     // error that rejects it.
     ghost reply: { ResponseSpec };
 
@@ -47,8 +47,8 @@ pub trait ReplyHeader: Drop + Sized {
     /// Parses the header at the start of `bytes`, or returns its error.
     fn read_header(bytes: &[u8]) -> Result<Self, DecodeError>
         ensures value { IfOk result (λ header.
-            reply.header.reads tt bytes.now ≡ Ok (header_model header)) }
-        ensures fault { IfErr result (λ fault. reply.header.reads tt bytes.now ≡ Err fault) };
+            reply.header.parses tt bytes.now ≡ Ok (header_model header)) }
+        ensures error { IfErr result (λ error. reply.header.parses tt bytes.now ≡ Err error) };
 
     /// Checks each attribute in `bytes`, the bytes after a header, and returns their number, or
     /// returns the first error. Does not allocate.
@@ -61,7 +61,7 @@ pub trait ReplyHeader: Drop + Sized {
             bytes.now) }
         ensures count { IfOk result (λ count.
             count ≡ length (decoded_in (decode_attribute reply.attribute_set) bytes.now)) }
-        ensures fault { IfErr result (HasAttributeError (decode_attribute reply.attribute_set)
+        ensures error { IfErr result (HasAttributeError (decode_attribute reply.attribute_set)
             bytes.now) };
 
     /// Checks each attribute in `bytes`, the bytes after this header, or returns the first error.
@@ -70,13 +70,14 @@ pub trait ReplyHeader: Drop + Sized {
     /// 4,294,967,295 bytes. Does not allocate.
     fn check_len(&self, bytes: &[u8]) -> Result<Option<usize>, DecodeError>
         // `reply_after reply header bytes`: the reply `v` with this header and the attributes in
-        // these bytes. `fits v`: it is writable. `response_bytes reply v`: what it serializes to.
+        // these bytes. `is_writable v`: it is writable. `response_bytes reply v`: what it
+        // serializes to.
         ensures clean { OnOk result (HasNoAttributeError (decode_attribute reply.attribute_set)
             bytes.now) }
         ensures len { let v = reply_after reply (header_model self.now) bytes.now in
-            IfOk result (λ len. SomeIff len ((response_codec reply).fits v)
+            IfOk result (λ len. SomeIff len ((response_codec reply).is_writable v)
             (length (response_bytes reply v))) }
-        ensures fault { IfErr result (HasAttributeError (decode_attribute reply.attribute_set)
+        ensures error { IfErr result (HasAttributeError (decode_attribute reply.attribute_set)
             bytes.now) };
 
     /// Returns whether the headers are equal, and the bytes after them, `left` and `right`, contain
@@ -93,26 +94,27 @@ pub trait ReplyHeader: Drop + Sized {
     fn len_with(&self, bytes: &[u8]) -> Option<usize>
         requires { HasNoAttributeError (decode_attribute reply.attribute_set) bytes.now }
         ensures { let v = reply_after reply (header_model self.now) bytes.now in
-            SomeIff result ((response_codec reply).fits v) (length (response_bytes reply v)) };
+            SomeIff result ((response_codec reply).is_writable v)
+            (length (response_bytes reply v)) };
 
     /// Writes the header and the attributes in `bytes`, in canonical form, at the start of
     /// `buffer`. The bytes after them are unchanged. `bytes` must not contain a decode error, the
     /// reply must be writable, and the buffer must have at least its length.
     fn emit_with(&self, bytes: &[u8], buffer: &mut [u8])
         requires clean { HasNoAttributeError (decode_attribute reply.attribute_set) bytes.now }
-        requires fits { (response_codec reply).fits
+        requires fits { (response_codec reply).is_writable
             (reply_after reply (header_model self.now) bytes.now) }
         requires room { length (response_bytes reply
             (reply_after reply (header_model self.now) bytes.now))
             ≤ length buffer.old }
-        // `HoldsAtStart written old new`: the buffer `new` is `written` and then the bytes of `old`
-        // from this offset on.
+        // `HoldsAtStart serialized old new`: the buffer `new` is `serialized` and then the bytes of
+        // `old` from this offset on.
         ensures { HoldsAtStart (response_bytes reply (reply_after reply
             (header_model self.now) bytes.now)) buffer.old buffer.new };
 
     // Bytes with a valid header have at least `size` bytes. The codec of the replies satisfies the
     // codec laws. The comparison is true if and only if the replies are equal.
-    ghost enough: { (b : List ℕ) (h : reply.header.Value) → reply.header.reads tt b ≡ Ok h
+    ghost enough: { (b : List ℕ) (h : reply.header.Value) → reply.header.parses tt b ≡ Ok h
         → reply.size ≤ length b };
 
     ghost keeps: { KeepsCodecLaws (response_codec reply) };
@@ -145,8 +147,8 @@ pub struct ReplyView<'a, H: ReplyHeader> {
     ghost long: { H.reply.size ≤ length bytes.now },
     // The model of the header at the start of the bytes, and that they parse as it.
     ghost head: { (h : H.reply.header.Value)
-        × (H.reply.header.reads tt bytes.now ≡ Ok h) } by { result_has_one_value
-            (H.reply.header.reads tt bytes.now) },
+        × (H.reply.header.parses tt bytes.now ≡ Ok h) } by { result_has_one_value
+            (H.reply.header.parses tt bytes.now) },
     // The attributes after the header have no error, and `count` is their number.
     ghost clean: { HasNoAttributeError (decode_attribute H.reply.attribute_set)
         (drop H.reply.size bytes.now) },
@@ -189,10 +191,10 @@ impl<'a, H: ReplyHeader> ReplyView<'a, H> {
         // `response_codec reply`: the codec of the replies of this format. `view_model view`: the
         // header and the decoded attributes of the view. `view_bytes view`: all of its bytes.
         ensures value { IfOk result (λ view.
-            (response_codec H.reply).reads bytes.entry.now tt (view_model view)) }
+            (response_codec H.reply).parses bytes.entry.now tt (view_model view)) }
         ensures kept { IfOk result (λ view. view_bytes view ≡ bytes.entry.now) }
-        ensures fault { IfErr result ((response_codec H.reply).refuses bytes.entry.now tt) }
-        ensures named { IfErr result (λ fault. fault ≢ Memory) }
+        ensures error { IfErr result ((response_codec H.reply).rejects bytes.entry.now tt) }
+        ensures named { IfErr result (λ error. error ≢ Memory) }
     {
         let _header = H::read_header(bytes)?;
         let count = H::check(&bytes[H::length()..])?;
@@ -246,7 +248,7 @@ impl<'a, H: ReplyViews<'a>> ReplyView<'a, H> {
     #[inline(always)]
     pub fn walk(bytes: &'a [u8]) -> Result<(H, CheckedNlas<'a, H::View>), DecodeError>
         ensures header { IfOk result (λ parts.
-            H.reply.header.reads tt bytes.entry.now ≡ Ok (H.header_model parts.0)) }
+            H.reply.header.parses tt bytes.entry.now ≡ Ok (H.header_model parts.0)) }
         // `parts.0` is the header, and `parts.1` the iterator. It starts at the bytes after the
         // header: these are `unchecked_bytes`, the bytes that it has neither read nor checked yet.
         ensures left { IfOk result (λ parts.
@@ -260,7 +262,7 @@ impl<'a, H: ReplyViews<'a>> ReplyView<'a, H> {
             let gives = ⟦<CheckedNlas<'a, H::View> as Iterator>⟧.next_gives in
             IfOk result (λ parts. (nlas : List H.View)
             → Drains gives parts.1 (map (λ (nla : H.View). Ok nla) nlas)
-            → reply.reads bytes.entry.now tt (record {
+            → reply.parses bytes.entry.now tt (record {
               header = H.header_model parts.0;
               nlas = map H.View.FamilyView.model nlas;
             })) }
@@ -272,9 +274,9 @@ impl<'a, H: ReplyViews<'a>> ReplyView<'a, H> {
             let gives = ⟦<CheckedNlas<'a, H::View> as Iterator>⟧.next_gives in
             IfOk result (λ parts. (nlas : List H.View) (e : Fault) (last : CheckedNlas H.View)
             → YieldsThen gives parts.1 (map (λ (nla : H.View). Ok nla) nlas) (Some (Err e)) last
-            → reply.refuses bytes.entry.now tt e) }
-        ensures fault { IfErr result (λ fault.
-            H.reply.header.reads tt bytes.entry.now ≡ Err fault) }
+            → reply.rejects bytes.entry.now tt e) }
+        ensures error { IfErr result (λ error.
+            H.reply.header.parses tt bytes.entry.now ≡ Err error) }
     {
         let header = H::read_header(bytes)?;
         Ok((header, CheckedNlas::new(&bytes[H::length()..])))
@@ -282,12 +284,12 @@ impl<'a, H: ReplyViews<'a>> ReplyView<'a, H> {
 
     /// Returns an iterator over the attributes, in wire order.
     pub fn attributes(&self) -> AttributeViews<'a, H>
-        // `decoded_in reads bytes`: what the attributes in the bytes decode to by `reads`, in
+        // `decoded_in parses bytes`: what the attributes in the bytes decode to by `parses`, in
         // order. `unread_attributes result`: the bytes that the iterator has not read yet. They
         // decode to the same values as the bytes after the header: all attributes are left.
-        ensures { let reads = decode_attribute H.View.FamilyView.attribute_set in
-            decoded_in reads (unread_attributes result)
-            ≡ decoded_in reads (bytes_after_header self.now) }
+        ensures { let parses = decode_attribute H.View.FamilyView.attribute_set in
+            decoded_in parses (unread_attributes result)
+            ≡ decoded_in parses (bytes_after_header self.now) }
     {
         AttributeViews {
             walk: NlasIterator::new(self.attribute_bytes()),
@@ -327,7 +329,7 @@ impl<H: ReplyHeader> Emitable for ReplyView<'_, H> {
 
     ghost bytes = { λ v. response_bytes H.reply (view_model v) };
 
-    ghost writable = { λ v. (response_codec H.reply).fits (view_model v) };
+    ghost writable = { λ v. (response_codec H.reply).is_writable (view_model v) };
 
     fn is_writable(&self) -> bool {
         self.writable_len().is_some()

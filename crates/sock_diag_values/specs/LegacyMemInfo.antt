@@ -1,7 +1,7 @@
 -- The memory of a socket in the format of old kernels: four little-endian `u32`, 16 bytes.
 use Rattle.std.specs.Prelude.{⊤, [], ◌∷◌}
 use Rattle.netlink_core.specs.Layout.{Layout, plain}
-use Rattle.netlink_core.specs.declared.fault.RecordName.TheVariants as name
+use Rattle.netlink_core.specs.declared.error.RecordName.TheVariants as name
 use Rattle.sock_diag_values.specs.declared.inet.legacy_mem_info.LegacyMemInfo.{LegacyMemInfo}
 use Rattle.sock_diag_values.specs.inverse.LegacyMemInfo.{legacy_mem_info_of}
 use Rattle.netlink_core.specs.Rows.{u32}

@@ -4,7 +4,7 @@ use Rattle.netlink_core.specs.Rows.{Row, u8, u32, u64}
 use Rattle.netlink_core.specs.Layout.{Layout, plain}
 use Rattle.sock_diag_values.specs.declared.inet.tcp_info.TcpInfo.{TcpInfo}
 use Rattle.sock_diag_values.specs.inverse.TcpInfo.{tcp_info_of}
-use Rattle.netlink_core.specs.declared.fault.RecordName.TheVariants as name
+use Rattle.netlink_core.specs.declared.error.RecordName.TheVariants as name
 
 -- `struct tcp_info` (linux/tcp.h) up to `tcpi_snd_wnd`: each member has the name in C without the
 -- prefix `tcpi_`. A row is the width of the member, its offset, and the member of the Rust struct.

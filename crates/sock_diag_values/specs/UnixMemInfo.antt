@@ -1,7 +1,7 @@
 -- The memory of a UNIX socket: an array of nine little-endian `u32`, 36 bytes.
 use Rattle.std.specs.Prelude.{⊤, [], ◌∷◌, replicate}
 use Rattle.netlink_core.specs.Layout.{Layout, plain}
-use Rattle.netlink_core.specs.declared.fault.RecordName.TheVariants as name
+use Rattle.netlink_core.specs.declared.error.RecordName.TheVariants as name
 use Rattle.sock_diag_values.specs.declared.unix.mem_info.MemInfo.{MemInfo}
 use Rattle.sock_diag_values.specs.inverse.UnixMemInfo.{unix_mem_info_of}
 use Rattle.netlink_core.specs.Rows.{skip, u32}

@@ -1,7 +1,7 @@
 -- The file that a UNIX socket is bound to: two little-endian `u32`, 8 bytes.
 use Rattle.std.specs.Prelude.{⊤, [], ◌∷◌}
 use Rattle.netlink_core.specs.Layout.{Layout, plain}
-use Rattle.netlink_core.specs.declared.fault.RecordName.TheVariants as name
+use Rattle.netlink_core.specs.declared.error.RecordName.TheVariants as name
 use Rattle.sock_diag_values.specs.declared.unix.vfs.Vfs.{Vfs}
 use Rattle.sock_diag_values.specs.inverse.Vfs.{vfs_of}
 use Rattle.netlink_core.specs.Rows.{u32}

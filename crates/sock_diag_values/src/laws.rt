@@ -1,10 +1,10 @@
-//! Laws of the five records: their equivalence (`idle`), stated on bytes, and their sizes.
+//! Laws of the five records: their equivalence, stated on bytes, and their sizes.
 //!
 //! Two byte strings are equivalent if both are accepted and parse as equal values. In the contracts
 //! `EqualUnder masks b c` says that `b` and `c` have the same bits under the masks, one for each
 //! byte from the first on: 255 for a significant byte, 0 for an ignored one. No byte after these is
 //! compared. `IsBytes` says that each number of a list is below 256. The equivalence of a record is
-//! the member `idle` of its codec, whose parameter is `tt`, since these records have none.
+//! the member `equivalent` of its codec, whose parameter is `tt`, since these records have none.
 //!
 //! Proof only: the contracts state the property.
 
@@ -25,26 +25,28 @@ use crate::inet::{
     MemInfo, TCP_INFO_LEN, TcpInfo,
 };
 use crate::unix::{MEM_INFO_LEN as UNIX_MEM_INFO_LEN, MemInfo as UnixMemInfo, VFS_LEN, Vfs};
-use netlink_core::Coded;
+use netlink_core::HasCodec;
 
 /// States that two byte strings are equivalent as [`Vfs`] if and only if both have at least 8
 /// bytes, and their first 8 bytes are equal.
 pub fn equivalent_vfs()
-    ensures { (b c : List ℕ) → IsBytes b → IsBytes c → ⟦<Vfs as Coded>⟧.codec.idle tt b c
+    ensures { (b c : List ℕ) → IsBytes b → IsBytes c → ⟦<Vfs as HasCodec>⟧.codec.equivalent tt b c
         ↔ ((8 ≤ length b) × (8 ≤ length c) × EqualUnder vfs_masks b c) }
 {}
 
 /// States that two byte strings are equivalent as [`UnixMemInfo`] if and only if both have at least
 /// 36 bytes, and the fields at offsets 4, 12 and 20 are equal. The other bytes are ignored.
 pub fn equivalent_unix_mem_infos()
-    ensures { (b c : List ℕ) → IsBytes b → IsBytes c → ⟦<UnixMemInfo as Coded>⟧.codec.idle tt b c
+    ensures { (b c : List ℕ) → IsBytes b → IsBytes c
+        → ⟦<UnixMemInfo as HasCodec>⟧.codec.equivalent tt b c
         ↔ ((36 ≤ length b) × (36 ≤ length c) × EqualUnder unix_mem_info_masks b c) }
 {}
 
 /// States that two byte strings are equivalent as [`LegacyMemInfo`] if and only if both have at
 /// least 16 bytes, and their first 16 bytes are equal.
 pub fn equivalent_legacy_mem_infos()
-    ensures { (b c : List ℕ) → IsBytes b → IsBytes c → ⟦<LegacyMemInfo as Coded>⟧.codec.idle tt b c
+    ensures { (b c : List ℕ) → IsBytes b → IsBytes c
+        → ⟦<LegacyMemInfo as HasCodec>⟧.codec.equivalent tt b c
         ↔ ((16 ≤ length b) × (16 ≤ length c) × EqualUnder legacy_mem_info_masks b c) }
 {}
 
@@ -52,7 +54,8 @@ pub fn equivalent_legacy_mem_infos()
 /// bytes, both contain the same number of complete `u32` fields (seven, eight or nine; more are not
 /// counted), and these fields are equal.
 pub fn equivalent_mem_infos()
-    ensures { (b c : List ℕ) → IsBytes b → IsBytes c → ⟦<MemInfo as Coded>⟧.codec.idle tt b c
+    ensures { (b c : List ℕ) → IsBytes b → IsBytes c
+        → ⟦<MemInfo as HasCodec>⟧.codec.equivalent tt b c
         ↔ ((28 ≤ length b) × (28 ≤ length c) × (whole_u32_count b ≡ whole_u32_count c)
         × EqualUnder (mem_info_masks (whole_u32_count b)) b c) }
 {}
@@ -60,7 +63,8 @@ pub fn equivalent_mem_infos()
 /// States that two byte strings are equivalent as [`TcpInfo`] if and only if both have at least 232
 /// bytes, and their first 232 bytes are equal.
 pub fn equivalent_tcp_infos()
-    ensures { (b c : List ℕ) → IsBytes b → IsBytes c → ⟦<TcpInfo as Coded>⟧.codec.idle tt b c
+    ensures { (b c : List ℕ) → IsBytes b → IsBytes c
+        → ⟦<TcpInfo as HasCodec>⟧.codec.equivalent tt b c
         ↔ ((232 ≤ length b) × (232 ≤ length c) × EqualUnder tcp_info_masks b c) }
 {}
 

@@ -5,31 +5,31 @@ use Rattle.std.proofs.Common.{◌≡◌, ℕ, inl, inr, List, [], ◌∷◌, sub
 use Rattle.std.specs.Prelude.{Option, Some, None}
 use Rattle.netlink_core.specs.Bytes.{IsBytes}
 use Rattle.netlink_core.specs.Datagram.{SplitsIntoMessages}
-use Rattle.netlink_core.specs.declared.fault.DecodeError.{DecodeError}
-use Rattle.netlink_core.specs.Faults.{error_code}
+use Rattle.netlink_core.specs.declared.error.DecodeError.{DecodeError}
+use Rattle.netlink_core.specs.Errors.{error_code}
 use Rattle.netlink_core.proofs.Datagrams.{one_split_into_messages}
 use Rattle.netlink_core.proofs.Framing.{one_message_framing_error}
 use Rattle.netlink_core.proofs.Items.{items_of, rest_in_range}
 use Rattle.netlink_packet_sock_diag.specs.Message.{message_codec}
 use Rattle.netlink_packet_sock_diag.specs.laws.Message.{message_laws}
 use Rattle.sockdiag_c.specs.declared.walks.Cursor.{Cursor}
-use Rattle.sockdiag_c.specs.declared.walks.MessagePart.{MessagePart}
+use Rattle.sockdiag_c.specs.declared.walks.MessageRange.{MessageRange}
 use Rattle.sockdiag_c.specs.Walks.{StoresCheckedMessage, NextMessage, bytes_after_cursor}
 
 -- the bytes left by a step are split into messages, and so are the bytes before the step
-step_splits_off_message : (bytes : List ℕ) (old new : Cursor) (now : MessagePart) (answer : ℕ)
+step_splits_off_message : (bytes : List ℕ) (old new : Cursor) (now : MessageRange) (answer : ℕ)
     → IsBytes (bytes_after_cursor bytes old) → StoresCheckedMessage bytes old new now answer
     → (message : List ℕ) × (later : List (List ℕ)) × (end : Option DecodeError)
     × SplitsIntoMessages (bytes_after_cursor bytes new) later end
     × SplitsIntoMessages (bytes_after_cursor bytes old) (message ∷ later) end
 step_splits_off_message bytes old new now answer in_range s =
-    let items = (items_of message_codec message_laws.answered (bytes_after_cursor bytes new)
+    let items = (items_of message_codec message_laws.is_total (bytes_after_cursor bytes new)
     (rest_in_range (bytes_after_cursor bytes old) s.0.0 (bytes_after_cursor bytes new) s.0.1
     in_range)).1 in
     (s.0.0, items.0, items.1, items.3, (bytes_after_cursor bytes new, s.0.1, items.3))
 
 -- a step returns the first message, and leaves the others
-pub step_at_message : (bytes : List ℕ) (old new : Cursor) (was now : MessagePart) (answer : ℕ)
+pub step_at_message : (bytes : List ℕ) (old new : Cursor) (was now : MessageRange) (answer : ℕ)
     (message : List ℕ) (later : List (List ℕ)) (end : Option DecodeError)
     → IsBytes (bytes_after_cursor bytes old)
     → SplitsIntoMessages (bytes_after_cursor bytes old) (message ∷ later) end
@@ -54,7 +54,7 @@ step_at_message bytes old new was now answer message later end in_range h (inr (
     grind (arith, common_steps, one_split_into_messages)
 
 -- if no message is left, the iteration ends
-pub step_at_no_message : (bytes : List ℕ) (old new : Cursor) (was now : MessagePart) (answer : ℕ)
+pub step_at_no_message : (bytes : List ℕ) (old new : Cursor) (was now : MessageRange) (answer : ℕ)
     → IsBytes (bytes_after_cursor bytes old)
     → SplitsIntoMessages (bytes_after_cursor bytes old) [] None
     → NextMessage bytes old new was now answer
@@ -67,7 +67,8 @@ step_at_no_message bytes old new was now answer in_range h k =
     )
 
 -- at a framing error, the iteration fails
-pub step_at_framing_error : (bytes : List ℕ) (old new : Cursor) (was now : MessagePart) (answer : ℕ)
+pub step_at_framing_error : (bytes : List ℕ) (old new : Cursor) (was now : MessageRange)
+    (answer : ℕ)
     (e : DecodeError) → IsBytes (bytes_after_cursor bytes old)
     → SplitsIntoMessages (bytes_after_cursor bytes old) [] (Some e)
     → NextMessage bytes old new was now answer

@@ -10,49 +10,49 @@ use Rattle.netlink_core.specs.declared.message.NetlinkPayload.TheVariants.{Done,
 use Rattle.netlink_core.specs.declared.message.NetlinkPayload.TheVariants.{Overrun}
 use Rattle.netlink_core.specs.Header.{HasHeader}
 use Rattle.netlink_core.specs.laws.Prefix.{prefix_or_error_apart}
-use Rattle.netlink_core.proofs.Cutting.{one_first_attribute}
+use Rattle.netlink_core.proofs.Splitting.{one_first_attribute}
 use Rattle.netlink_core.proofs.Datagrams.{starts_with_message}
 use Rattle.netlink_core.proofs.Padding.{starts_with_attribute}
-use Rattle.netlink_core.proofs.Walking.{attribute_prefix_of_start}
-use Rattle.sockdiag_c.specs.declared.walks.AttributePart.{AttributePart}
+use Rattle.netlink_core.proofs.Iterating.{attribute_prefix_of_start}
+use Rattle.sockdiag_c.specs.declared.walks.AttributeRange.{AttributeRange}
 use Rattle.sockdiag_c.specs.declared.walks.Cursor.{Cursor}
-use Rattle.sockdiag_c.specs.declared.walks.MessagePart.{MessagePart}
+use Rattle.sockdiag_c.specs.declared.walks.MessageRange.{MessageRange}
 use Rattle.sockdiag_c.specs.Walks.{IsPayloadCheckResult, NextAttribute, attribute_in, header_in}
 use Rattle.sockdiag_c.specs.Walks.{bytes_after_cursor}
 
 -- the value of the attribute at an offset is four bytes after the offset
-attribute_read : (bytes rest : List ℕ) (place : ℕ) (a : Attribute)
-    → StartsWithAttribute (drop place bytes) a rest
+attribute_read : (bytes rest : List ℕ) (offset : ℕ) (a : Attribute)
+    → StartsWithAttribute (drop offset bytes) a rest
     → a ≡ attribute_in bytes
-    (record { offset = place + 4; length = length a.value; type_word = a.type_word })
-attribute_read bytes rest place a s =
-    grind (arith, drop-drop 4 place bytes, take_at a.value (s.padding ++ rest) (length a.value))
+    (record { offset = offset + 4; length = length a.value; type_word = a.type_word })
+attribute_read bytes rest offset a s =
+    grind (arith, drop-drop 4 offset bytes, take_at a.value (s.padding ++ rest) (length a.value))
 
 -- a step over an attribute, to the offset after its padding
-pub attribute_passed : (bytes rest : List ℕ) (place end : ℕ) (a : Attribute)
-    → StartsWithAttribute (drop place bytes) a rest
+pub attribute_passed : (bytes rest : List ℕ) (offset end : ℕ) (a : Attribute)
+    → StartsWithAttribute (drop offset bytes) a rest
     → end ≡ 4 + length a.value + padding_length (4 + length a.value)
-    → StartsWithAttribute (drop place bytes)
+    → StartsWithAttribute (drop offset bytes)
     (attribute_in bytes (record {
-      offset = place + 4;
+      offset = offset + 4;
       length = length a.value;
       type_word = a.type_word;
-    })) (drop (place + end) bytes)
-attribute_passed bytes rest place end a s end-is =
+    })) (drop (offset + end) bytes)
+attribute_passed bytes rest offset end a s end-is =
     grind (
       arith,
-      attribute_read bytes rest place a s,
-      starts_with_attribute (drop place bytes) (drop (place + end) bytes) a end
+      attribute_read bytes rest offset a s,
+      starts_with_attribute (drop offset bytes) (drop (offset + end) bytes) a end
           (attribute_prefix_of_start
-          (drop place bytes) rest a s) end-is (sym (drop-drop end place bytes)),
-      attribute_prefix_of_start (drop place bytes) rest a s,
-      drop-drop end place bytes,
+          (drop offset bytes) rest a s) end-is (sym (drop-drop end offset bytes)),
+      attribute_prefix_of_start (drop offset bytes) rest a s,
+      drop-drop end offset bytes,
     )
 
 -- the output struct for a message with this header at an offset
-abbrev pub part_of : ℕ → NetlinkHeader → MessagePart
-part_of place h = record {
-  offset = place + 16;
+abbrev pub part_of : ℕ → NetlinkHeader → MessageRange
+part_of offset h = record {
+  offset = offset + 16;
   length = h.length - 16;
   message_type = h.message_type;
   flags = h.flags;
@@ -61,28 +61,28 @@ part_of place h = record {
 }
 
 -- the header of the output struct is the header that was parsed
-header_read : (bytes : List ℕ) (place : ℕ) (h : NetlinkHeader) → HasHeader bytes h
-    → h ≡ header_in (part_of place h)
-header_read bytes place h head =
+header_read : (bytes : List ℕ) (offset : ℕ) (h : NetlinkHeader) → HasHeader bytes h
+    → h ≡ header_in (part_of offset h)
+header_read bytes offset h head =
     grind arith
 
 -- the bytes start with the header of the output struct
-pub header_is_framed : (bytes : List ℕ) (place : ℕ) (h : NetlinkHeader) → HasHeader bytes h
-    → HasHeader bytes (header_in (part_of place h))
-header_is_framed bytes place h head =
-    grind (arith, header_read bytes place h head)
+pub header_is_framed : (bytes : List ℕ) (offset : ℕ) (h : NetlinkHeader) → HasHeader bytes h
+    → HasHeader bytes (header_in (part_of offset h))
+header_is_framed bytes offset h head =
+    grind (arith, header_read bytes offset h head)
 
 -- a step over a message, to the offset after its padding
-pub message_passed : (bytes : List ℕ) (place end : ℕ) (h : NetlinkHeader)
-    → HasHeader (drop place bytes) h → end ≡ h.length + padding_length h.length
-    → StartsWithMessage (drop place bytes) (take h.length (drop place bytes))
-    (drop (place + end) bytes)
-message_passed bytes place end h head end-is =
+pub message_passed : (bytes : List ℕ) (offset end : ℕ) (h : NetlinkHeader)
+    → HasHeader (drop offset bytes) h → end ≡ h.length + padding_length h.length
+    → StartsWithMessage (drop offset bytes) (take h.length (drop offset bytes))
+    (drop (offset + end) bytes)
+message_passed bytes offset end h head end-is =
     grind (
       arith,
-      starts_with_message (drop place bytes) (take h.length (drop place bytes)) (drop
-          (place + end) bytes) h end head,
-      drop-drop end place bytes,
+      starts_with_message (drop offset bytes) (take h.length (drop offset bytes)) (drop
+          (offset + end) bytes) h end head,
+      drop-drop end offset bytes,
     )
 
 -- the payload of a control message, types 1 to 4, is accepted
@@ -99,7 +99,7 @@ control_payload_is_accepted payload t (inr (inr (inr four))) =
 -- ---- steps over bytes that are split into attributes
 
 -- a step returns the first attribute
-pub step_at_attribute : (bytes : List ℕ) (old new : Cursor) (was now : AttributePart) (answer : ℕ)
+pub step_at_attribute : (bytes : List ℕ) (old new : Cursor) (was now : AttributeRange) (answer : ℕ)
     (first : Attribute) (later : List Attribute)
     → SplitsIntoAttributes (bytes_after_cursor bytes old) (first ∷ later) []
     → NextAttribute bytes old new was now answer
@@ -115,7 +115,7 @@ step_at_attribute bytes old new was now answer first later h k =
     )
 
 -- if no attribute is left, the iteration ends
-pub step_at_end : (bytes : List ℕ) (old new : Cursor) (was now : AttributePart) (answer : ℕ)
+pub step_at_end : (bytes : List ℕ) (old new : Cursor) (was now : AttributeRange) (answer : ℕ)
     → SplitsIntoAttributes (bytes_after_cursor bytes old) [] []
     → NextAttribute bytes old new was now answer → answer ≡ 0
 step_at_end bytes old new was now answer none h =

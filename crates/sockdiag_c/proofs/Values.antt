@@ -7,10 +7,10 @@ use Rattle.std.proofs.lemmas.Bool.{cases_lt, ne_eqb}
 use Rattle.std.proofs.lemmas.List.{take_all}
 use Rattle.netlink_core.specs.Attribute.{Attribute, IsFramingError, StartsWithAttribute}
 use Rattle.netlink_core.specs.Attribute.{attribute_kind}
-use Rattle.netlink_core.specs.declared.fault.DecodeError.{DecodeError}
+use Rattle.netlink_core.specs.declared.error.DecodeError.{DecodeError}
 use Rattle.netlink_core.specs.laws.Prefix.{prefix_or_error_apart}
-use Rattle.netlink_core.proofs.Cutting.{one_first_attribute}
-use Rattle.netlink_core.proofs.Walking.{StartsWithAttribute-nonempty, attribute_prefix_of_start}
+use Rattle.netlink_core.proofs.Splitting.{one_first_attribute}
+use Rattle.netlink_core.proofs.Iterating.{StartsWithAttribute-nonempty, attribute_prefix_of_start}
 use Rattle.sock_diag_replies.specs.UnixGetters.{first_content_of}
 use Rattle.sockdiag_c.specs.TcpInfo.{AreAttributesIn, padded_or_truncated, value_of_type}
 
@@ -28,8 +28,8 @@ first_attribute_is_at_start : (bytes : List ℕ) (a : Attribute) (more : List At
     → AreAttributesIn bytes (a ∷ more)
     → (rest : List ℕ) × StartsWithAttribute bytes a rest × AreAttributesIn rest more
 first_attribute_is_at_start bytes a more (inl cut) = (cut.0, cut.1, inl cut.2)
-first_attribute_is_at_start bytes a more (inr (e, (left, cut, some, fault))) =
-    (cut.0, cut.1, inr (e, (left, cut.2, some, fault)))
+first_attribute_is_at_start bytes a more (inr (e, (left, cut, some, error))) =
+    (cut.0, cut.1, inr (e, (left, cut.2, some, error)))
 
 -- an attribute at the start of the bytes is the first of them
 attribute_at_start_is_first : (bytes rest : List ℕ) (a : Attribute)
@@ -122,5 +122,5 @@ pub framing_error_is_found : (k : ℕ) (bytes rest : List ℕ) (e : DecodeError)
     → IsFramingError rest e
     → (attributes : List Attribute) → AreAttributesIn bytes attributes
     → [] ≡ value_or_nothing k attributes
-framing_error_is_found k bytes rest e found fault =
+framing_error_is_found k bytes rest e found error =
     grind (arith, common_steps, no_value_is_found, prefix_or_error_apart, attribute_prefix_of_start)

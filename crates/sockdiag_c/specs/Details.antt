@@ -6,11 +6,11 @@ use Rattle.sock_diag_replies.specs.UnixGetters.{first_content_of}
 use Rattle.sockdiag_c.specs.declared.details.Number.{Number}
 use Rattle.sockdiag_c.specs.declared.details.Text.{Text}
 
--- `struct sockdiag_number`: if there is a number, `is_told` is 1 and `value` is the number; else
+-- `struct sockdiag_number`: if there is a number, `is_set` is 1 and `value` is the number; else
 -- both are 0
 abbrev pub optional_number : Option ℕ → Number
-optional_number (Some n) = record { is_told = 1; value = n }
-optional_number None = record { is_told = 0; value = 0 }
+optional_number (Some n) = record { is_set = 1; value = n }
+optional_number None = record { is_set = 0; value = 0 }
 
 -- first_number F k part vs: the number in the first attribute of type `k` among the decoded
 -- attributes `vs` of the set `F`, as `struct sockdiag_number`. `part` takes the number from the

@@ -6,19 +6,19 @@ use Rattle.netlink_core.specs.Attribute.{Attribute}
 use Rattle.netlink_core.specs.Layout.{parse_record}
 use Rattle.netlink_core.specs.Parse.{number_of_width}
 use Rattle.netlink_core.specs.Response.{ResponseSpec, ReplyValue, response_codec}
-use Rattle.netlink_core.specs.declared.fault.DecodeError.{DecodeError}
+use Rattle.netlink_core.specs.declared.error.DecodeError.{DecodeError}
 use Rattle.sock_diag_replies.specs.UnixGetters.{first_content_of}
-use Rattle.sock_diag_families.specs.Found.{first_value_of_kind, parse_if_present}
+use Rattle.sock_diag_families.specs.AttributeGetters.{first_value_of_kind, parse_if_present}
 use Rattle.sock_diag_values.specs.MemInfo.{mem_info}
 use Rattle.sock_diag_values.specs.declared.inet.mem_info.MemInfo.{MemInfo}
 use Rattle.sockdiag_c.specs.Details.{optional_number}
 use Rattle.sockdiag_c.specs.declared.family_values.Memory.{Memory}
 
--- parse_first reads kind attributes: `reads` parses the value of the first attribute of the type
+-- parse_first reads kind attributes: `parses` parses the value of the first attribute of the type
 -- `kind`, whatever its two flag bits; `Ok None` if there is no such attribute
 abbrev pub parse_first : {A : Type 0} → (List ℕ → Result A DecodeError) → ℕ → List Attribute
     → Result (Option A) DecodeError
-parse_first reads kind attributes = parse_if_present reads (first_value_of_kind kind attributes)
+parse_first parses kind attributes = parse_if_present parses (first_value_of_kind kind attributes)
 
 -- a `__u32`: four bytes, little-endian; any other length is WrongLength, without an attribute type
 -- (`None`)
@@ -55,13 +55,13 @@ memory_struct m = record {
 }
 
 -- RejectsReplyOrValue R faults payload e: `e` is the error with which the reply in `payload` is
--- rejected; or the reply is accepted, and `e` is the first error in `faults v`. `faults v` has, for
+-- rejected; or the reply is accepted, and `e` is the first error in `errors v`. `errors v` has, for
 -- each value of the accepted reply `v` in the order in which they are checked, its error, or None
 -- if it parses or is not present.
 abbrev pub RejectsReplyOrValue : (R : ResponseSpec) → (ReplyValue R → List (Option DecodeError))
     → List ℕ
     → DecodeError → Type 0
-RejectsReplyOrValue R faults payload e =
-    (response_codec R).refuses payload tt e
-    ⊎ ((v : ReplyValue R) × (response_codec R).reads payload tt v
-    × (first_content_of (λ o. o) (faults v) ≡ Some e))
+RejectsReplyOrValue R errors payload e =
+    (response_codec R).rejects payload tt e
+    ⊎ ((v : ReplyValue R) × (response_codec R).parses payload tt v
+    × (first_content_of (λ o. o) (errors v) ≡ Some e))

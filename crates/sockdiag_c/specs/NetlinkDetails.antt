@@ -2,9 +2,9 @@
 use Rattle.std.specs.Prelude.{◌≡◌, List, [], ◌∷◌, Option, IsOkAnd}
 use Rattle.std.specs.Result.{result_err}
 use Rattle.netlink_core.specs.Response.{ReplyValue}
-use Rattle.netlink_core.specs.declared.fault.DecodeError.{DecodeError}
+use Rattle.netlink_core.specs.declared.error.DecodeError.{DecodeError}
 use Rattle.sock_diag_families.specs.NetlinkResponseHeader.{netlink_header}
-use Rattle.sock_diag_any.specs.WholeReply.{raw_reply_spec}
+use Rattle.sock_diag_any.specs.RawReply.{raw_reply_spec}
 use Rattle.sockdiag_c.specs.Details.{optional_number, text_parts}
 use Rattle.sockdiag_c.specs.FamilyValues.{first_value_as_text, parse_socket_memory, memory_struct}
 use Rattle.sockdiag_c.specs.FamilyValues.{parse_first, parse_u32_value}

@@ -3,7 +3,7 @@ use Rattle.std.specs.Prelude.{ℕ, ◌-◌, ◌⊎◌, ◌==◌, if◌then◌els
 use Rattle.std.specs.Prelude.{[], Option, Some, None}
 use Rattle.netlink_core.specs.Attribute.{Attribute, SplitsIntoAttributes, SplitsUntilError}
 use Rattle.netlink_core.specs.Attribute.{IsFramingError, attribute_kind}
-use Rattle.netlink_core.specs.declared.fault.DecodeError.{DecodeError}
+use Rattle.netlink_core.specs.declared.error.DecodeError.{DecodeError}
 
 -- `AreAttributesIn bytes attributes`: `attributes` are the attributes at the start of the bytes, in
 -- order: all of them if the bytes consist of attributes (`SplitsIntoAttributes`), else those before

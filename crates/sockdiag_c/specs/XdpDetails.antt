@@ -2,8 +2,8 @@
 use Rattle.std.specs.Prelude.{◌≡◌, List, [], ◌∷◌, Option, IsOkAnd}
 use Rattle.std.specs.Result.{result_err}
 use Rattle.netlink_core.specs.Response.{ReplyValue}
-use Rattle.netlink_core.specs.declared.fault.DecodeError.{DecodeError}
-use Rattle.sock_diag_any.specs.WholeReply.{raw_reply_spec}
+use Rattle.netlink_core.specs.declared.error.DecodeError.{DecodeError}
+use Rattle.sock_diag_any.specs.RawReply.{raw_reply_spec}
 use Rattle.sock_diag_families.specs.XdpAttributes.{xdp_info, xdp_statistics, xdp_umem}
 use Rattle.sock_diag_families.specs.XdpResponseHeader.{xdp_header}
 use Rattle.sockdiag_c.specs.Answers.{IsGetterResult}

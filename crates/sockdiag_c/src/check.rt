@@ -29,8 +29,8 @@ pub(crate) const OK: u32 = 0;
 pub extern "C" fn sockdiag_check_unix_reply(payload: &[u8], header: &mut UnixHeader) -> u32
     // In order: how the payload parses, its errors, the header that is stored, and the header
     // before and after the call.
-    ensures { IsCheckResult ((response_codec unix_response_spec).reads payload.now tt)
-        ((response_codec unix_response_spec).refuses payload.now tt)
+    ensures { IsCheckResult ((response_codec unix_response_spec).parses payload.now tt)
+        ((response_codec unix_response_spec).rejects payload.now tt)
         (λ v. unix_header_of v.header) header.old header.new result }
 {
     match UnixResponseView::parse(payload) {
@@ -38,7 +38,7 @@ pub extern "C" fn sockdiag_check_unix_reply(payload: &[u8], header: &mut UnixHea
             *header = UnixHeader::from(view.header());
             OK
         }
-        Err(fault) => u32::from(fault.number()),
+        Err(error) => u32::from(error.number()),
     }
 }
 
@@ -59,8 +59,8 @@ pub extern "C" fn sockdiag_check_unix_reply(payload: &[u8], header: &mut UnixHea
 pub extern "C" fn sockdiag_check_inet_reply(payload: &[u8], header: &mut InetHeader) -> u32
     // In order: how the payload parses, its errors, the header that is stored, and the header
     // before and after the call.
-    ensures { IsCheckResult ((response_codec inet_response_spec).reads payload.now tt)
-        ((response_codec inet_response_spec).refuses payload.now tt)
+    ensures { IsCheckResult ((response_codec inet_response_spec).parses payload.now tt)
+        ((response_codec inet_response_spec).rejects payload.now tt)
         (λ v. inet_header_of v.header) header.old header.new result }
 {
     match InetResponseView::parse(payload) {
@@ -68,7 +68,7 @@ pub extern "C" fn sockdiag_check_inet_reply(payload: &[u8], header: &mut InetHea
             *header = InetHeader::from(view.header());
             OK
         }
-        Err(fault) => u32::from(fault.number()),
+        Err(error) => u32::from(error.number()),
     }
 }
 
@@ -86,8 +86,8 @@ pub extern "C" fn sockdiag_check_message(
 ) -> u32
     // In order: how the payload parses, its errors, the reply that is stored, and the reply before
     // and after the call. The codec accepts only replies, of type 20 (SOCK_DIAG_BY_FAMILY).
-    ensures { IsCheckResult (message_codec.reads payload.now message_type)
-        (message_codec.refuses payload.now message_type)
+    ensures { IsCheckResult (message_codec.parses payload.now message_type)
+        (message_codec.rejects payload.now message_type)
         (reply_of reply.old) reply.old reply.new result }
 {
     match SockDiagView::parse(payload, message_type) {
@@ -101,6 +101,6 @@ pub extern "C" fn sockdiag_check_message(
             reply.inet_header = InetHeader::from(view.header());
             OK
         }
-        Err(fault) => u32::from(fault.number()),
+        Err(error) => u32::from(error.number()),
     }
 }

@@ -24,7 +24,7 @@ use netlink_core::{DecodeError, NlaBuffer, NlasIterator};
 #[derive(Clone, Copy)]
 pub struct Number {
     /// 1 if the reply contains the number, else 0.
-    pub is_told: u32,
+    pub is_set: u32,
     /// The number, or 0.
     pub value: u32,
 }
@@ -54,7 +54,7 @@ pub(crate) const BYTES: u32 = 3;
 
 /// The number of a reply that contains none.
 pub(crate) const NO_NUMBER: Number = Number {
-    is_told: 0,
+    is_set: 0,
     value: 0,
 };
 
@@ -63,8 +63,8 @@ impl Number {
     pub(crate) fn set(&mut self, value: u32)
         ensures { self.new ≡ set_number_once self.old (Some value) }
     {
-        if self.is_told == 0 {
-            *self = Number { is_told: 1, value };
+        if self.is_set == 0 {
+            *self = Number { is_set: 1, value };
         }
     }
 }
@@ -93,7 +93,7 @@ impl<'a> Text<'a> {
 }
 
 /// The contents of replies about the sockets of one family, as a C struct.
-pub(crate) trait KeepsDetails<'a>: Copy {
+pub(crate) trait ReplyDetails<'a>: Copy {
     // The layout of the reply.
     ghost reply: { ResponseSpec };
 
@@ -103,11 +103,11 @@ pub(crate) trait KeepsDetails<'a>: Copy {
 
     /// Parses the header. Returns the struct with the header and without attributes, and the bytes
     /// after the header.
-    fn tell_header(payload: &'a [u8]) -> Result<(Self, &'a [u8]), DecodeError>
+    fn parse_header(payload: &'a [u8]) -> Result<(Self, &'a [u8]), DecodeError>
         ensures value { IfOk result (λ parts. (h : reply.header.Value)
-            × (reply.header.reads tt payload.entry.now ≡ Ok h) × describes h parts.0 []) }
+            × (reply.header.parses tt payload.entry.now ≡ Ok h) × describes h parts.0 []) }
         ensures rest { IfOk result (λ parts. parts.1.now ≡ drop reply.size payload.entry.now) }
-        ensures fault { IfErr result (λ e. reply.header.reads tt payload.entry.now ≡ Err e) };
+        ensures error { IfErr result (λ e. reply.header.parses tt payload.entry.now ≡ Err e) };
 
     /// Parses the attribute, and sets its fields unless an earlier attribute of its kind has set
     /// them.
@@ -116,7 +116,7 @@ pub(crate) trait KeepsDetails<'a>: Copy {
             × (decode_attribute reply.attribute_set (buffered_attribute nla.now) ≡ Ok v)
             × ((h : reply.header.Value) (before : List (AttributeValue reply.attribute_set))
             → describes h self.old before → describes h self.new (before ++ v ∷ []))) }
-        ensures fault { IfErr result (λ e.
+        ensures error { IfErr result (λ e.
             decode_attribute reply.attribute_set (buffered_attribute nla.now) ≡ Err e) };
 }
 
@@ -137,12 +137,12 @@ pub extern "C" fn sockdiag_unix_get_details<'a>(
 ) -> u32
     // In order: how the payload parses, its errors, what the struct has for a parsed reply, and the
     // struct before and after the call.
-    ensures { IsCheckResultBy ((response_codec unix_response_spec).reads payload.entry.now tt)
-        ((response_codec unix_response_spec).refuses payload.entry.now tt) IsUnixDetailsOf
+    ensures { IsCheckResultBy ((response_codec unix_response_spec).parses payload.entry.now tt)
+        ((response_codec unix_response_spec).rejects payload.entry.now tt) IsUnixDetailsOf
         details.old details.new
         result }
 {
-    tell_reply(payload, details)
+    store_details(payload, details)
 }
 
 /// Checks a whole reply about an IPv4 or IPv6 socket, as `sockdiag_check_inet_reply` does, and
@@ -163,19 +163,19 @@ pub extern "C" fn sockdiag_inet_get_details<'a>(
 ) -> u32
     // In order: how the payload parses, its errors, what the struct has for a parsed reply, and the
     // struct before and after the call.
-    ensures { IsCheckResultBy ((response_codec inet_response_spec).reads payload.entry.now tt)
-        ((response_codec inet_response_spec).refuses payload.entry.now tt) IsInetDetailsOf
+    ensures { IsCheckResultBy ((response_codec inet_response_spec).parses payload.entry.now tt)
+        ((response_codec inet_response_spec).rejects payload.entry.now tt) IsInetDetailsOf
         details.old details.new
         result }
 {
-    tell_reply(payload, details)
+    store_details(payload, details)
 }
 
 // Stores the contents of the reply in the details. Returns 0, or the code of the first error; then
 // the details are unchanged.
-fn tell_reply<'a, T: KeepsDetails<'a>>(payload: &'a [u8], details: &mut T) -> u32
-    ensures { IsCheckResultBy ((response_codec T.reply).reads payload.entry.now tt)
-        ((response_codec T.reply).refuses payload.entry.now tt)
+fn store_details<'a, T: ReplyDetails<'a>>(payload: &'a [u8], details: &mut T) -> u32
+    ensures { IsCheckResultBy ((response_codec T.reply).parses payload.entry.now tt)
+        ((response_codec T.reply).rejects payload.entry.now tt)
         (λ v details. T.describes v.header details v.nlas) details.old details.new result }
 {
     match read_details::<T>(payload) {
@@ -183,29 +183,29 @@ fn tell_reply<'a, T: KeepsDetails<'a>>(payload: &'a [u8], details: &mut T) -> u3
             *details = found;
             OK
         }
-        Err(fault) => u32::from(fault.number()),
+        Err(error) => u32::from(error.number()),
     }
 }
 
 // Parses the reply, and returns its contents or the first error.
-fn read_details<'a, T: KeepsDetails<'a>>(payload: &'a [u8]) -> Result<T, DecodeError>
+fn read_details<'a, T: ReplyDetails<'a>>(payload: &'a [u8]) -> Result<T, DecodeError>
     ensures value { IfOk result (λ details. (v : ReplyValue T.reply)
-        × (response_codec T.reply).reads payload.entry.now tt v
+        × (response_codec T.reply).parses payload.entry.now tt v
         × T.describes v.header details v.nlas) }
-    ensures fault { IfErr result ((response_codec T.reply).refuses payload.entry.now tt) }
+    ensures error { IfErr result ((response_codec T.reply).rejects payload.entry.now tt) }
 {
-    let (mut details, rest) = T::tell_header(payload)?;
+    let (mut details, rest) = T::parse_header(payload)?;
     set_details(rest, &mut details)?;
     Ok(details)
 }
 
 // Parses each attribute and sets its fields, or returns the first error.
-fn set_details<'a, T: KeepsDetails<'a>>(bytes: &'a [u8], details: &mut T) -> Result<(), DecodeError>
+fn set_details<'a, T: ReplyDetails<'a>>(bytes: &'a [u8], details: &mut T) -> Result<(), DecodeError>
     ensures value { OnOk result ((vs : List (AttributeValue T.reply.attribute_set))
         × DecodeTo (decode_attribute T.reply.attribute_set) bytes.entry.now vs
         × ((h : T.reply.header.Value) → T.describes h details.old []
         → T.describes h details.new vs)) }
-    ensures fault { IfErr result (HasAttributeError (decode_attribute T.reply.attribute_set)
+    ensures error { IfErr result (HasAttributeError (decode_attribute T.reply.attribute_set)
         bytes.entry.now) }
 {
     for item in NlasIterator::new(bytes) {

@@ -53,22 +53,22 @@ const NO_MEMORY: Memory = Memory {
 };
 
 impl From<Option<u32>> for Number {
-    ghost from_gives = { λ told number. number ≡ optional_number told };
+    ghost from_gives = { λ value number. number ≡ optional_number value };
 
-    fn from(told: Option<u32>) -> Number {
-        match told {
-            Some(value) => Number { is_told: 1, value },
+    fn from(value: Option<u32>) -> Number {
+        match value {
+            Some(value) => Number { is_set: 1, value },
             None => NO_NUMBER,
         }
     }
 }
 
 impl<'a> From<Option<&'a [u8]>> for Text<'a> {
-    ghost from_gives = { λ told text. text_parts text
-        ≡ option_map (λ bytes. (3, bytes)) (option_map (λ bytes. bytes.now) told) };
+    ghost from_gives = { λ value text. text_parts text
+        ≡ option_map (λ bytes. (3, bytes)) (option_map (λ bytes. bytes.now) value) };
 
-    fn from(told: Option<&'a [u8]>) -> Text<'a> {
-        match told {
+    fn from(value: Option<&'a [u8]>) -> Text<'a> {
+        match value {
             Some(bytes) => Text { kind: BYTES, bytes },
             None => Text::none(),
         }
@@ -76,10 +76,10 @@ impl<'a> From<Option<&'a [u8]>> for Text<'a> {
 }
 
 impl From<Option<MemInfo>> for Memory {
-    ghost from_gives = { λ told memory. memory ≡ memory_struct told };
+    ghost from_gives = { λ value memory. memory ≡ memory_struct value };
 
-    fn from(told: Option<MemInfo>) -> Memory {
-        let Some(memory) = told else {
+    fn from(value: Option<MemInfo>) -> Memory {
+        let Some(memory) = value else {
             return NO_MEMORY;
         };
         Memory {
@@ -98,12 +98,12 @@ impl From<Option<MemInfo>> for Memory {
 
 /// Stores the record, if there is one. Returns 1, or 0 if there is none; then the target is
 /// unchanged.
-pub(crate) fn tell<T: Copy>(found: Option<T>, place: &mut T) -> u32
-    ensures { IsGetterResult found place.old place.new result }
+pub(crate) fn store<T: Copy>(found: Option<T>, target: &mut T) -> u32
+    ensures { IsGetterResult found target.old target.new result }
 {
     match found {
         Some(item) => {
-            *place = item;
+            *target = item;
             ITEM
         }
         None => END,
@@ -112,11 +112,11 @@ pub(crate) fn tell<T: Copy>(found: Option<T>, place: &mut T) -> u32
 
 /// The first error of the values of a reply, if any.
 #[derive(Drop)]
-pub(crate) struct Faults {
+pub(crate) struct FirstError {
     pub(crate) first: Option<DecodeError>,
 }
 
-impl Faults {
+impl FirstError {
     /// Returns the value. If the value is rejected, returns `None` and keeps the error, unless
     /// there was an earlier one.
     pub(crate) fn keep<T>(&mut self, found: Result<Option<T>, DecodeError>) -> Option<T>
@@ -125,9 +125,9 @@ impl Faults {
     {
         match found {
             Ok(value) => value,
-            Err(fault) => {
+            Err(error) => {
                 if self.first.is_none() {
-                    self.first = Some(fault);
+                    self.first = Some(error);
                 }
                 None
             }

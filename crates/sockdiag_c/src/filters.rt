@@ -12,7 +12,7 @@ ghost use Rattle.sockdiag_c.specs.Requests.{inet_request_from_c, protocol_attrib
 ghost use Rattle.sockdiag_c.specs.Rewriting.{ParsesAndWrites};
 
 use crate::requests::{InetRequest, write_inet};
-use crate::rewriting::{Outcome, refuse, write_value};
+use crate::rewriting::{Outcome, reject, write_value};
 use byteorder::{ByteOrder, LittleEndian};
 use netlink_core::{DecodeError, Emitable, NETLINK_HEADER_LEN, NlasIterator, padded};
 use netlink_packet_sock_diag::constants::{AF_INET, AF_INET6, SOCK_DIAG_BY_FAMILY};
@@ -29,7 +29,7 @@ use netlink_packet_sock_diag::inet::INET_REQUEST_LEN;
 ///
 /// Returns the number of bytes that were written, which is also stored in `outcome.needed`. Returns
 /// 0 if nothing was written, for the first of these reasons that applies:
-/// - The framing of the attributes is invalid. `outcome.fault` is the code of the first error, 7 to
+/// - The framing of the attributes is invalid. `outcome.error` is the code of the first error, 7 to
 ///   9; in all other cases it is 0. `outcome.needed` is 0.
 /// - The family is neither `AF_INET` nor `AF_INET6`, or the whole has more than 4,294,967,295
 ///   bytes, too many for a length field. `outcome.needed` is 0.
@@ -61,7 +61,7 @@ pub extern "C" fn sockdiag_write_inet_request_with_attributes(
             buffer,
             outcome,
         ),
-        Err(fault) => refuse(&fault, outcome),
+        Err(error) => reject(&error, outcome),
     }
 }
 
@@ -69,7 +69,7 @@ pub extern "C" fn sockdiag_write_inet_request_with_attributes(
 fn check_framing(bytes: &[u8]) -> Result<(), DecodeError>
     ensures whole { OnOk result ((given : List Attribute)
         × SplitsIntoAttributes bytes.now given []) }
-    ensures fault { IfErr result (HasFramingError bytes.now) }
+    ensures error { IfErr result (HasFramingError bytes.now) }
 {
     for item in NlasIterator::new(bytes) {
         let _nla = item?;

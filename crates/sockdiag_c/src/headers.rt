@@ -109,7 +109,7 @@ impl From<InetResponseHeader> for InetHeader {
     ghost from_gives = { λ header found. found ≡ inet_header_of header };
 
     fn from(header: InetResponseHeader) -> InetHeader {
-        let (timer, retransmits, expires) = timer_numbers(&header.timer);
+        let (timer, retransmits, expires) = timer_fields(&header.timer);
         let SocketId {
             source_port,
             destination_port,
@@ -141,7 +141,7 @@ impl From<InetResponseHeader> for InetHeader {
 }
 
 // Returns `idiag_timer`, `idiag_retrans` and `idiag_expires` of a timer; 0 for each that it lacks.
-fn timer_numbers(timer: &Option<Timer>) -> (u8, u8, u32)
+fn timer_fields(timer: &Option<Timer>) -> (u8, u8, u32)
     ensures byte { result.0 ≡ (timer_data timer.now).0 }
     ensures retransmits { result.1 ≡ (timer_data timer.now).1 }
     ensures expires { result.2 ≡ u32_milliseconds (timer_data timer.now).2 }

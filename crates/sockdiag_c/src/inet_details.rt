@@ -10,7 +10,7 @@ ghost use Rattle.sockdiag_c.specs.InetDetails.{HasInetDetails, congestion_text};
 ghost use Rattle.sockdiag_c.specs.private.InetDetails.{inet_details_with};
 ghost use Rattle.sockdiag_c.specs.private.FirstNumber.{first_present};
 
-use crate::details::{KeepsDetails, NO_NUMBER, Number, TEXT, Text};
+use crate::details::{NO_NUMBER, Number, ReplyDetails, TEXT, Text};
 use crate::headers::InetHeader;
 use netlink_core::{DecodeError, NlaBuffer};
 use netlink_packet_sock_diag::inet::nlas::NlaView;
@@ -68,13 +68,13 @@ impl<'a> InetDetails<'a> {
     }
 }
 
-impl<'a> KeepsDetails<'a> for InetDetails<'a> {
+impl<'a> ReplyDetails<'a> for InetDetails<'a> {
     ghost reply = { inet_response_spec };
 
     ghost describes = { λ h found vs. HasInetDetails (inet_header_of h) found vs };
 
     #[tactic(auto, using(sock_diag_replies::specs::laws::InetResponseSpec::inet_header_bytes_suffice))]
-    fn tell_header(payload: &'a [u8]) -> Result<(Self, &'a [u8]), DecodeError> {
+    fn parse_header(payload: &'a [u8]) -> Result<(Self, &'a [u8]), DecodeError> {
         let header = InetResponseHeader::from_prefix(payload)?;
         let found = InetDetails {
             header: InetHeader::from(header),

@@ -4,11 +4,11 @@ ghost use Rattle.std.specs.Prelude.{◌≡◌, ℕ, List, [], ◌∷◌, Option,
 ghost use Rattle.netlink_core.specs.Attribute.{Attribute, SplitsIntoAttributes};
 ghost use Rattle.netlink_core.specs.Bytes.{IsBytes};
 ghost use Rattle.netlink_core.specs.Datagram.{SplitsIntoMessages};
-ghost use Rattle.netlink_core.specs.declared.fault.DecodeError.{DecodeError};
-ghost use Rattle.netlink_core.specs.Faults.{error_code};
-ghost use Rattle.sockdiag_c.specs.declared.walks.AttributePart.{AttributePart};
+ghost use Rattle.netlink_core.specs.declared.error.DecodeError.{DecodeError};
+ghost use Rattle.netlink_core.specs.Errors.{error_code};
+ghost use Rattle.sockdiag_c.specs.declared.walks.AttributeRange.{AttributeRange};
 ghost use Rattle.sockdiag_c.specs.declared.walks.Cursor.{Cursor};
-ghost use Rattle.sockdiag_c.specs.declared.walks.MessagePart.{MessagePart};
+ghost use Rattle.sockdiag_c.specs.declared.walks.MessageRange.{MessageRange};
 ghost use Rattle.sockdiag_c.specs.Walks.{StoresCheckedMessage, NextAttribute, NextMessage};
 ghost use Rattle.sockdiag_c.specs.Walks.{attribute_in, bytes_after_cursor};
 
@@ -20,13 +20,13 @@ ghost use Rattle.sockdiag_c.specs.Walks.{attribute_in, bytes_after_cursor};
 /// output struct, and `answer` is the return value. `SplitsIntoAttributes b attributes []`: the
 /// bytes `b` consist of these attributes, and nothing remains.
 pub fn a_step_passes_the_first_attribute()
-    ensures next { (bytes : List ℕ) (old new : Cursor) (was now : AttributePart) (answer : ℕ)
+    ensures next { (bytes : List ℕ) (old new : Cursor) (was now : AttributeRange) (answer : ℕ)
         (first : Attribute) (later : List Attribute)
         → SplitsIntoAttributes (bytes_after_cursor bytes old) (first ∷ later) []
         → NextAttribute bytes old new was now answer
         → (answer ≡ 1) × (attribute_in bytes now ≡ first)
         × SplitsIntoAttributes (bytes_after_cursor bytes new) later [] }
-    ensures end { (bytes : List ℕ) (old new : Cursor) (was now : AttributePart) (answer : ℕ)
+    ensures end { (bytes : List ℕ) (old new : Cursor) (was now : AttributeRange) (answer : ℕ)
         → SplitsIntoAttributes (bytes_after_cursor bytes old) [] []
         → NextAttribute bytes old new was now answer → answer ≡ 0 }
 {}
@@ -34,24 +34,24 @@ pub fn a_step_passes_the_first_attribute()
 /// States that a step of an iteration over messages returns the first message of the bytes left,
 /// and leaves the others (`next`); that it returns 0 if no bytes are left (`end`); and that it
 /// returns the code of the framing error if bytes are left that do not begin with a message
-/// (`fault`).
+/// (`error`).
 ///
 /// The variables are those of [`a_step_passes_the_first_attribute`].
 /// `SplitsIntoMessages b messages end`: the bytes `b` consist of these messages, and then nothing
 /// (`None`) or bytes with the framing error `Some e`. `IsBytes b`: each number of `b` is below 256.
 pub fn a_step_passes_the_first_message()
-    ensures next { (bytes : List ℕ) (old new : Cursor) (was now : MessagePart) (answer : ℕ)
+    ensures next { (bytes : List ℕ) (old new : Cursor) (was now : MessageRange) (answer : ℕ)
         (message : List ℕ) (later : List (List ℕ)) (end : Option DecodeError)
         → IsBytes (bytes_after_cursor bytes old)
         → SplitsIntoMessages (bytes_after_cursor bytes old) (message ∷ later) end
         → NextMessage bytes old new was now answer
         → StoresCheckedMessage bytes old new now answer
         × SplitsIntoMessages (bytes_after_cursor bytes new) later end }
-    ensures end { (bytes : List ℕ) (old new : Cursor) (was now : MessagePart) (answer : ℕ)
+    ensures end { (bytes : List ℕ) (old new : Cursor) (was now : MessageRange) (answer : ℕ)
         → IsBytes (bytes_after_cursor bytes old)
         → SplitsIntoMessages (bytes_after_cursor bytes old) [] None
         → NextMessage bytes old new was now answer → answer ≡ 0 }
-    ensures fault { (bytes : List ℕ) (old new : Cursor) (was now : MessagePart) (answer : ℕ)
+    ensures error { (bytes : List ℕ) (old new : Cursor) (was now : MessageRange) (answer : ℕ)
         (e : DecodeError)
         → IsBytes (bytes_after_cursor bytes old)
         → SplitsIntoMessages (bytes_after_cursor bytes old) [] (Some e)

@@ -11,7 +11,7 @@ use crate::packet_details::PacketDetails;
 use crate::requests::{InetRequest, RequestHeader, UnixRequest};
 use crate::rewriting::Outcome;
 use crate::unix_details::UnixDetails;
-use crate::walks::{AttributePart, Cursor, MessagePart};
+use crate::walks::{AttributeRange, Cursor, MessageRange};
 use crate::xdp_details::XdpDetails;
 use sock_diag_families::netlink::NetlinkResponseHeader;
 use sock_diag_families::packet::{PacketInfo, PacketResponseHeader, PacketRing};
@@ -35,9 +35,9 @@ const _: () = prove!(size_of::<InetDetails<'static>>() == 152);
 
 const _: () = prove!(size_of::<Cursor>() == 8);
 
-const _: () = prove!(size_of::<AttributePart>() == 24);
+const _: () = prove!(size_of::<AttributeRange>() == 24);
 
-const _: () = prove!(size_of::<MessagePart>() == 32);
+const _: () = prove!(size_of::<MessageRange>() == 32);
 
 const _: () = prove!(size_of::<RequestHeader>() == 12);
 

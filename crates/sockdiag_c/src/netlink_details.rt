@@ -3,14 +3,14 @@
 ghost use Rattle.std.specs.Prelude.{◌≡◌, IfOk, IfErr};
 ghost use Rattle.netlink_core.specs.Response.{ReplyValue, response_codec};
 ghost use Rattle.sock_diag_families.specs.NetlinkResponseHeader.{netlink_header};
-ghost use Rattle.sock_diag_any.specs.WholeReply.{raw_reply_spec};
+ghost use Rattle.sock_diag_any.specs.RawReply.{raw_reply_spec};
 ghost use Rattle.sockdiag_c.specs.Answers.{IsCheckResultBy};
 ghost use Rattle.sockdiag_c.specs.FamilyValues.{RejectsReplyOrValue};
 ghost use Rattle.sockdiag_c.specs.NetlinkDetails.{IsNetlinkDetailsOf, netlink_value_errors};
 
 use crate::check::OK;
 use crate::details::{Number, Text};
-use crate::family_values::{Faults, Memory};
+use crate::family_values::{FirstError, Memory};
 use netlink_core::DecodeError;
 use sock_diag_any::netlink::{self, NetlinkResponseView};
 use sock_diag_families::netlink::NetlinkResponseHeader;
@@ -43,7 +43,7 @@ pub extern "C" fn sockdiag_netlink_get_details<'a>(
 ) -> u32
     // In order: how the payload parses, the first error of the reply or else of its values, what
     // the struct has for a parsed reply, and the struct before and after the call.
-    ensures { IsCheckResultBy ((response_codec (raw_reply_spec netlink_header)).reads
+    ensures { IsCheckResultBy ((response_codec (raw_reply_spec netlink_header)).parses
         payload.entry.now tt)
         (RejectsReplyOrValue (raw_reply_spec netlink_header) netlink_value_errors payload.entry.now)
         IsNetlinkDetailsOf
@@ -55,29 +55,29 @@ pub extern "C" fn sockdiag_netlink_get_details<'a>(
             *details = found;
             OK
         }
-        Err(fault) => u32::from(fault.number()),
+        Err(error) => u32::from(error.number()),
     }
 }
 
 // Parses the reply, and returns its contents or the first error.
 fn read<'a>(payload: &'a [u8]) -> Result<NetlinkDetails<'a>, DecodeError>
     ensures value { IfOk result (λ found. (v : ReplyValue (raw_reply_spec netlink_header))
-        × (response_codec (raw_reply_spec netlink_header)).reads payload.entry.now tt v
+        × (response_codec (raw_reply_spec netlink_header)).parses payload.entry.now tt v
         × IsNetlinkDetailsOf v found) }
-    ensures fault { IfErr result
+    ensures error { IfErr result
         (RejectsReplyOrValue (raw_reply_spec netlink_header) netlink_value_errors
         payload.entry.now) }
 {
     let reply = NetlinkResponseView::parse(payload)?;
-    let mut seen = Faults { first: None };
+    let mut errors = FirstError { first: None };
     let found = NetlinkDetails {
         header: reply.header().0,
-        memory: Memory::from(seen.keep(netlink::memory(&reply))),
+        memory: Memory::from(errors.keep(netlink::memory(&reply))),
         groups: Text::from(netlink::groups(&reply)),
-        flags: Number::from(seen.keep(netlink::flags(&reply))),
+        flags: Number::from(errors.keep(netlink::flags(&reply))),
     };
-    match seen.first {
-        Some(fault) => Err(fault),
+    match errors.first {
+        Some(error) => Err(error),
         None => Ok(found),
     }
 }

@@ -3,14 +3,14 @@
 ghost use Rattle.std.specs.Prelude.{◌≡◌, IfOk, IfErr};
 ghost use Rattle.netlink_core.specs.Response.{ReplyValue, response_codec};
 ghost use Rattle.sock_diag_families.specs.PacketResponseHeader.{packet_header};
-ghost use Rattle.sock_diag_any.specs.WholeReply.{raw_reply_spec};
+ghost use Rattle.sock_diag_any.specs.RawReply.{raw_reply_spec};
 ghost use Rattle.sockdiag_c.specs.Answers.{IsCheckResultBy};
 ghost use Rattle.sockdiag_c.specs.FamilyValues.{RejectsReplyOrValue};
 ghost use Rattle.sockdiag_c.specs.PacketDetails.{IsPacketDetailsOf, packet_value_errors};
 
 use crate::check::OK;
 use crate::details::{Number, Text};
-use crate::family_values::{Faults, Memory, tell};
+use crate::family_values::{FirstError, Memory, store};
 use netlink_core::DecodeError;
 use sock_diag_any::packet::{self, PacketResponseView};
 use sock_diag_families::packet::{PacketInfo, PacketResponseHeader, PacketRing};
@@ -64,7 +64,7 @@ pub extern "C" fn sockdiag_packet_get_details<'a>(
 ) -> u32
     // In order: how the payload parses, the first error of the reply or else of its values, what
     // the struct has for a parsed reply, and the struct before and after the call.
-    ensures { IsCheckResultBy ((response_codec (raw_reply_spec packet_header)).reads
+    ensures { IsCheckResultBy ((response_codec (raw_reply_spec packet_header)).parses
         payload.entry.now tt)
         (RejectsReplyOrValue (raw_reply_spec packet_header) packet_value_errors payload.entry.now)
         (IsPacketDetailsOf details.old)
@@ -76,35 +76,35 @@ pub extern "C" fn sockdiag_packet_get_details<'a>(
             *details = found;
             OK
         }
-        Err(fault) => u32::from(fault.number()),
+        Err(error) => u32::from(error.number()),
     }
 }
 
 // Parses the reply over the old details, and returns its contents or the first error.
 fn read<'a>(payload: &'a [u8], old: &PacketDetails<'a>) -> Result<PacketDetails<'a>, DecodeError>
     ensures value { IfOk result (λ found. (v : ReplyValue (raw_reply_spec packet_header))
-        × (response_codec (raw_reply_spec packet_header)).reads payload.entry.now tt v
+        × (response_codec (raw_reply_spec packet_header)).parses payload.entry.now tt v
         × IsPacketDetailsOf old.now v found) }
-    ensures fault { IfErr result
+    ensures error { IfErr result
         (RejectsReplyOrValue (raw_reply_spec packet_header) packet_value_errors payload.entry.now) }
 {
     let reply = PacketResponseView::parse(payload)?;
-    let mut seen = Faults { first: None };
+    let mut errors = FirstError { first: None };
     let mut found = *old;
     found.header = reply.header().0;
-    found.has_info = tell(seen.keep(packet::info(&reply)), &mut found.info);
+    found.has_info = store(errors.keep(packet::info(&reply)), &mut found.info);
     found.addresses = Text::from(packet::addresses(&reply));
-    found.has_receive_ring = tell(
-        seen.keep(packet::receive_ring(&reply)),
+    found.has_receive_ring = store(
+        errors.keep(packet::receive_ring(&reply)),
         &mut found.receive_ring,
     );
-    found.has_send_ring = tell(seen.keep(packet::send_ring(&reply)), &mut found.send_ring);
-    found.fanout = Number::from(seen.keep(packet::fanout(&reply)));
-    found.owner = Number::from(seen.keep(packet::owner(&reply)));
-    found.memory = Memory::from(seen.keep(packet::memory(&reply)));
+    found.has_send_ring = store(errors.keep(packet::send_ring(&reply)), &mut found.send_ring);
+    found.fanout = Number::from(errors.keep(packet::fanout(&reply)));
+    found.owner = Number::from(errors.keep(packet::owner(&reply)));
+    found.memory = Memory::from(errors.keep(packet::memory(&reply)));
     found.filter = Text::from(packet::filter(&reply));
-    match seen.first {
-        Some(fault) => Err(fault),
+    match errors.first {
+        Some(error) => Err(error),
         None => Ok(found),
     }
 }

@@ -1,7 +1,7 @@
 //! The connections that wait to be accepted on a UNIX socket.
 
 ghost use Rattle.std.specs.Prelude.{◌≡◌, ◌⊎◌, slice_get};
-ghost use Rattle.netlink_core.specs.declared.fault.DecodeError.{DecodeError};
+ghost use Rattle.netlink_core.specs.declared.error.DecodeError.{DecodeError};
 ghost use Rattle.netlink_core.specs.Response.{ReplyValue, response_codec};
 ghost use Rattle.sock_diag_replies.specs.UnixResponseSpec.{unix_response_spec};
 ghost use Rattle.sockdiag_c.specs.Answers.{IsGetterResult};
@@ -23,9 +23,9 @@ pub extern "C" fn sockdiag_unix_get_pending(payload: &[u8], index: usize, inode:
     // Either the reply is accepted, and the inode at the index is stored, if there is one. Or it is
     // rejected.
     ensures { ((v : ReplyValue unix_response_spec)
-        × (response_codec unix_response_spec).reads payload.now tt v
+        × (response_codec unix_response_spec).parses payload.now tt v
         × IsGetterResult (slice_get (pending_inodes v.nlas) index) inode.old inode.new result)
-        ⊎ ((e : DecodeError) × (response_codec unix_response_spec).refuses payload.now tt e
+        ⊎ ((e : DecodeError) × (response_codec unix_response_spec).rejects payload.now tt e
         × (result ≡ 0)
         × (inode.new ≡ inode.old)) }
 {

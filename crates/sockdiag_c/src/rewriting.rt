@@ -1,8 +1,8 @@
-//! The canonical form of replies. Equivalent (`idle`) replies, which differ only in ignored bits,
+//! The canonical form of replies. Equivalent replies, which differ only in ignored bits,
 //! have the same canonical form.
 
 ghost use Rattle.std.specs.Prelude.{◌≡◌};
-ghost use Rattle.netlink_core.specs.Faults.{error_code};
+ghost use Rattle.netlink_core.specs.Errors.{error_code};
 ghost use Rattle.netlink_core.specs.Response.{response_bytes, response_codec};
 ghost use Rattle.sock_diag_replies.specs.InetResponseSpec.{inet_response_spec};
 ghost use Rattle.sock_diag_replies.specs.UnixResponseSpec.{unix_response_spec};
@@ -19,7 +19,7 @@ use netlink_packet_sock_diag::{ReplyHeader, ReplyView};
 #[derive(Clone, Copy)]
 pub struct Outcome {
     /// Code of the first error if the caller's bytes are rejected, else 0.
-    pub fault: u32,
+    pub error: u32,
     /// Number of bytes to write; 0 if the caller's bytes are rejected, or cannot be serialized.
     pub needed: usize,
 }
@@ -29,7 +29,7 @@ pub struct Outcome {
 ///
 /// Returns the number of bytes that were written, which is also stored in `outcome.needed`. Returns
 /// 0 if nothing was written, for one of these reasons:
-/// - The reply is rejected. `outcome.fault` is the code of the first error; in all other cases it
+/// - The reply is rejected. `outcome.error` is the code of the first error; in all other cases it
 ///   is 0. `outcome.needed` is 0.
 /// - The reply cannot be serialized, because a value is longer than it was in the reply, and too
 ///   long for its length field. `outcome.needed` is 0.
@@ -45,9 +45,9 @@ pub extern "C" fn sockdiag_rewrite_unix_reply(
 ) -> usize
     // In order: how the payload parses, its errors, which replies are writable, the bytes of a
     // reply, the buffer before and after the call, the outcome, and the return value.
-    ensures rewrites { ParsesAndWrites ((response_codec unix_response_spec).reads payload.now tt)
-        ((response_codec unix_response_spec).refuses payload.now tt)
-        (response_codec unix_response_spec).fits
+    ensures rewrites { ParsesAndWrites ((response_codec unix_response_spec).parses payload.now tt)
+        ((response_codec unix_response_spec).rejects payload.now tt)
+        (response_codec unix_response_spec).is_writable
         (response_bytes unix_response_spec)
         buffer.old buffer.new outcome.new result }
     // An accepted and writable reply serializes to the bytes that were written if and only if it is
@@ -62,7 +62,7 @@ pub extern "C" fn sockdiag_rewrite_unix_reply(
 ///
 /// Returns the number of bytes that were written, which is also stored in `outcome.needed`. Returns
 /// 0 if nothing was written, for one of these reasons:
-/// - The reply is rejected. `outcome.fault` is the code of the first error; in all other cases it
+/// - The reply is rejected. `outcome.error` is the code of the first error; in all other cases it
 ///   is 0. `outcome.needed` is 0.
 /// - The reply cannot be serialized, because a value is longer than it was in the reply, and too
 ///   long for its length field. `outcome.needed` is 0.
@@ -78,9 +78,9 @@ pub extern "C" fn sockdiag_rewrite_inet_reply(
 ) -> usize
     // In order: how the payload parses, its errors, which replies are writable, the bytes of a
     // reply, the buffer before and after the call, the outcome, and the return value.
-    ensures rewrites { ParsesAndWrites ((response_codec inet_response_spec).reads payload.now tt)
-        ((response_codec inet_response_spec).refuses payload.now tt)
-        (response_codec inet_response_spec).fits
+    ensures rewrites { ParsesAndWrites ((response_codec inet_response_spec).parses payload.now tt)
+        ((response_codec inet_response_spec).rejects payload.now tt)
+        (response_codec inet_response_spec).is_writable
         (response_bytes inet_response_spec)
         buffer.old buffer.new outcome.new result }
     // An accepted and writable reply serializes to the bytes that were written if and only if it is
@@ -92,16 +92,16 @@ pub extern "C" fn sockdiag_rewrite_inet_reply(
 
 // Writes the canonical form of a reply with this kind of header.
 fn rewrite<H: ReplyHeader>(payload: &[u8], buffer: &mut [u8], outcome: &mut Outcome) -> usize
-    ensures rewrites { ParsesAndWrites ((response_codec H.reply).reads payload.now tt)
-        ((response_codec H.reply).refuses payload.now tt)
-        (response_codec H.reply).fits
+    ensures rewrites { ParsesAndWrites ((response_codec H.reply).parses payload.now tt)
+        ((response_codec H.reply).rejects payload.now tt)
+        (response_codec H.reply).is_writable
         (response_bytes H.reply)
         buffer.old buffer.new outcome.new result }
     ensures canonical { IsCanonical H.reply payload.now buffer.new result }
 {
     match ReplyView::<H>::parse(payload) {
         Ok(view) => write_value(&view, buffer, outcome),
-        Err(fault) => refuse(&fault, outcome),
+        Err(error) => reject(&error, outcome),
     }
 }
 
@@ -113,12 +113,12 @@ pub(crate) fn write_value<V: Emitable>(value: &V, buffer: &mut [u8], outcome: &m
 {
     let Some(needed) = value.writable_len() else {
         *outcome = Outcome {
-            fault: 0,
+            error: 0,
             needed: 0,
         };
         return 0;
     };
-    *outcome = Outcome { fault: 0, needed };
+    *outcome = Outcome { error: 0, needed };
     if buffer.len() < needed {
         return 0;
     }
@@ -127,12 +127,12 @@ pub(crate) fn write_value<V: Emitable>(value: &V, buffer: &mut [u8], outcome: &m
 }
 
 // Stores the code of the error in the outcome. Returns 0, since nothing is written.
-pub(crate) fn refuse(fault: &DecodeError, outcome: &mut Outcome) -> usize
-    ensures outcome { outcome.new ≡ outcome_struct (error_code fault.now) 0 }
+pub(crate) fn reject(error: &DecodeError, outcome: &mut Outcome) -> usize
+    ensures outcome { outcome.new ≡ outcome_struct (error_code error.now) 0 }
     ensures none { result ≡ 0 }
 {
     *outcome = Outcome {
-        fault: u32::from(fault.number()),
+        error: u32::from(error.number()),
         needed: 0,
     };
     0

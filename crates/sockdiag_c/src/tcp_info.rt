@@ -29,7 +29,7 @@ pub extern "C" fn sockdiag_inet_get_tcp_info(payload: &[u8], info: &mut [u8; TCP
         → let value = unwrap_or (first_content_of (value_of_type 2) attributes) [] in
         (result ≡ length value) × (info.new ≡ padded_or_truncated 232 value) }
 {
-    let value = first_value(behind_header(payload), INET_DIAG_INFO);
+    let value = first_value(bytes_after_inet_header(payload), INET_DIAG_INFO);
     fill(value, info);
     value.len()
 }
@@ -48,13 +48,13 @@ pub extern "C" fn sockdiag_inet_get_memory(payload: &[u8], memory: &mut [u8; MEM
         → let value = unwrap_or (first_content_of (value_of_type 7) attributes) [] in
         (result ≡ length value) × (memory.new ≡ padded_or_truncated 36 value) }
 {
-    let value = first_value(behind_header(payload), INET_DIAG_SKMEMINFO);
+    let value = first_value(bytes_after_inet_header(payload), INET_DIAG_SKMEMINFO);
     fill(value, memory);
     value.len()
 }
 
 // Returns the bytes after the header of a reply about an IPv4 or IPv6 socket.
-fn behind_header(payload: &[u8]) -> &[u8]
+fn bytes_after_inet_header(payload: &[u8]) -> &[u8]
     ensures { result.now ≡ drop 72 payload.entry.now }
 {
     if payload.len() < INET_RESPONSE_HEADER_LEN {

@@ -9,7 +9,7 @@ use crate::requests::{
     sockdiag_write_unix_request,
 };
 use crate::rewriting::{Outcome, sockdiag_rewrite_inet_reply, sockdiag_rewrite_unix_reply};
-use crate::walks::{Cursor, MessagePart, sockdiag_next_message};
+use crate::walks::{Cursor, MessageRange, sockdiag_next_message};
 use std::process::Abort;
 
 // A listening stream socket with inode 0x11223344, the name "/a" and a peer. The bytes at offsets 3
@@ -88,7 +88,7 @@ fn replies_in_messages(rt: HostRuntime) {
 // the payload.
 #[test]
 fn walks_over_messages(rt: HostRuntime) {
-    let mut part = MessagePart {
+    let mut part = MessageRange {
         offset: 0,
         length: 0,
         message_type: 0,
@@ -96,15 +96,15 @@ fn walks_over_messages(rt: HostRuntime) {
         sequence_number: 0,
         port_number: 0,
     };
-    for (place, answer, next, offset, length) in [
+    for (start, answer, next, offset, length) in [
         (0, 1, 20, 16, 1),
         (20, 5, 40, 36, 2),
         (40, 16, 42, 36, 2),
         (42, 0, 42, 36, 2),
     ] {
-        let mut cursor = Cursor { place };
+        let mut cursor = Cursor { offset: start };
         assert!(rt; sockdiag_next_message(&DATAGRAM, &mut cursor, &mut part) == answer);
-        assert!(rt; (cursor.place, part.offset, part.length) == (next, offset, length));
+        assert!(rt; (cursor.offset, part.offset, part.length) == (next, offset, length));
     }
 }
 
@@ -173,13 +173,13 @@ fn rewrites_unix_replies(rt: HostRuntime) {
     for (room, length, bytes) in [(31, 0, [0xaa; 33]), (33, 32, want)] {
         let mut buffer = [0xaa; 33];
         let mut outcome = Outcome {
-            fault: 9,
+            error: 9,
             needed: 9,
         };
         assert!(rt;
             sockdiag_rewrite_unix_reply(&UNIX_REPLY, &mut buffer[..room], &mut outcome) == length
         );
-        assert!(rt; (outcome.fault, outcome.needed) == (0, 32));
+        assert!(rt; (outcome.error, outcome.needed) == (0, 32));
         assert!(rt; buffer == bytes);
     }
 }
@@ -189,17 +189,17 @@ fn rewrites_internet_replies(rt: HostRuntime) {
     let mut want = INET_REPLY;
     want[12..24].fill(0);
     want[28..40].fill(0);
-    for (payload, length, fault, needed, bytes) in [
+    for (payload, length, error, needed, bytes) in [
         (&UNIX_REPLY[..], 0, 2, 0, [0xaa; 72]),
         (&INET_REPLY[..], 72, 0, 72, want),
     ] {
         let mut buffer = [0xaa; 72];
         let mut outcome = Outcome {
-            fault: 9,
+            error: 9,
             needed: 9,
         };
         assert!(rt; sockdiag_rewrite_inet_reply(payload, &mut buffer, &mut outcome) == length);
-        assert!(rt; (outcome.fault, outcome.needed) == (fault, needed));
+        assert!(rt; (outcome.error, outcome.needed) == (error, needed));
         assert!(rt; buffer == bytes);
     }
 }

@@ -9,7 +9,7 @@ ghost use Rattle.sockdiag_c.specs.private.FirstNumber.{first_present};
 ghost use Rattle.sockdiag_c.specs.UnixDetails.{HasUnixDetails, name_text};
 ghost use Rattle.sockdiag_c.specs.private.UnixDetails.{unix_details_with};
 
-use crate::details::{ABSTRACT, KeepsDetails, NO_NUMBER, Number, TEXT, Text};
+use crate::details::{ABSTRACT, NO_NUMBER, Number, ReplyDetails, TEXT, Text};
 use crate::headers::UnixHeader;
 use netlink_core::{DecodeError, NlaBuffer};
 use netlink_packet_sock_diag::unix::nlas::{NameView, NlaView};
@@ -83,12 +83,12 @@ impl<'a> UnixDetails<'a> {
     }
 }
 
-impl<'a> KeepsDetails<'a> for UnixDetails<'a> {
+impl<'a> ReplyDetails<'a> for UnixDetails<'a> {
     ghost reply = { unix_response_spec };
 
     ghost describes = { λ h found vs. HasUnixDetails (unix_header_of h) found vs };
 
-    fn tell_header(payload: &'a [u8]) -> Result<(Self, &'a [u8]), DecodeError> {
+    fn parse_header(payload: &'a [u8]) -> Result<(Self, &'a [u8]), DecodeError> {
         let header = UnixResponseHeader::from_prefix(payload)?;
         let found = UnixDetails {
             header: UnixHeader::from(header),

@@ -2,7 +2,7 @@
 
 ghost use Rattle.netlink_core.specs.Response.{response_codec};
 ghost use Rattle.sock_diag_families.specs.VsockResponseHeader.{vsock_header};
-ghost use Rattle.sock_diag_any.specs.WholeReply.{raw_reply_spec};
+ghost use Rattle.sock_diag_any.specs.RawReply.{raw_reply_spec};
 ghost use Rattle.sockdiag_c.specs.Answers.{IsCheckResult};
 
 use crate::check::OK;
@@ -24,8 +24,8 @@ pub extern "C" fn sockdiag_vsock_get_details(
 ) -> u32
     // In order: how the payload parses, its errors, the header that is stored, and the header
     // before and after the call.
-    ensures { IsCheckResult ((response_codec (raw_reply_spec vsock_header)).reads payload.now tt)
-        ((response_codec (raw_reply_spec vsock_header)).refuses payload.now tt)
+    ensures { IsCheckResult ((response_codec (raw_reply_spec vsock_header)).parses payload.now tt)
+        ((response_codec (raw_reply_spec vsock_header)).rejects payload.now tt)
         (λ v. v.header) details.old details.new result }
 {
     match VsockResponseView::parse(payload) {
@@ -33,6 +33,6 @@ pub extern "C" fn sockdiag_vsock_get_details(
             *details = view.header().0;
             OK
         }
-        Err(fault) => u32::from(fault.number()),
+        Err(error) => u32::from(error.number()),
     }
 }

@@ -1,7 +1,7 @@
 //! Iteration over the attributes of a reply and the messages of a datagram, without copying.
 
 ghost use Rattle.std.specs.Prelude.{◌≡◌, ◌+◌, ◌<◌, ◌^◌, ◌⊎◌, OnOk, IfErr};
-ghost use Rattle.netlink_core.specs.Envelope.{leading_error_number};
+ghost use Rattle.netlink_core.specs.NetlinkMessage.{leading_error_number};
 ghost use Rattle.sockdiag_c.specs.Answers.{IsGetterResult};
 ghost use Rattle.netlink_core.specs.Header.{IsMessageError};
 ghost use Rattle.sockdiag_c.specs.Walks.{IsPayloadCheckResult, IterationEnds, IterationFails};
@@ -21,18 +21,18 @@ pub(crate) const END: u32 = 0;
 /// not the code of an error here: code 1 is an allocation failure, which cannot happen.
 pub(crate) const ITEM: u32 = 1;
 
-/// State of an iteration. An iteration over all of the bytes starts with `place` 0.
+/// State of an iteration. An iteration over all of the bytes starts with `offset` 0.
 #[repr(C)]
 #[derive(Clone, Copy)]
 pub struct Cursor {
     /// Offset of the next item. No items are left if it is at or after the end of the bytes.
-    pub place: usize,
+    pub offset: usize,
 }
 
 /// An attribute, `struct nlattr`, with the offset of its value in the bytes of the iteration.
 #[repr(C)]
 #[derive(Clone, Copy)]
-pub struct AttributePart {
+pub struct AttributeRange {
     /// Offset of the value.
     pub offset: usize,
     /// Length of the value in bytes, without padding.
@@ -46,7 +46,7 @@ pub struct AttributePart {
 /// header.
 #[repr(C)]
 #[derive(Clone, Copy)]
-pub struct MessagePart {
+pub struct MessageRange {
     /// Offset of the payload.
     pub offset: usize,
     /// Length of the payload in bytes, without padding: the length field (`nlmsg_len`) minus the 16
@@ -77,27 +77,27 @@ pub struct MessagePart {
 pub extern "C" fn sockdiag_next_attribute(
     bytes: &[u8],
     cursor: &mut Cursor,
-    attribute: &mut AttributePart,
+    attribute: &mut AttributeRange,
 ) -> u32
     ensures { NextAttribute bytes.now cursor.old cursor.new attribute.old attribute.new result }
 {
-    let place = cursor.place;
-    if place >= bytes.len() {
+    let offset = cursor.offset;
+    if offset >= bytes.len() {
         return END;
     }
-    let mut walk = NlasIterator::new(&bytes[place..]);
+    let mut walk = NlasIterator::new(&bytes[offset..]);
     match walk.next() {
         None => END,
         Some(Ok(nla)) => {
-            attribute.offset = place + NLA_HEADER_SIZE;
+            attribute.offset = offset + NLA_HEADER_SIZE;
             attribute.length = nla.value().len();
             attribute.type_word = nla.type_word();
-            cursor.place = place + padded(NLA_HEADER_SIZE + attribute.length);
+            cursor.offset = offset + padded(NLA_HEADER_SIZE + attribute.length);
             ITEM
         }
-        Some(Err(fault)) => {
-            cursor.place = bytes.len();
-            u32::from(fault.number())
+        Some(Err(error)) => {
+            cursor.offset = bytes.len();
+            u32::from(error.number())
         }
     }
 }
@@ -119,7 +119,7 @@ pub extern "C" fn sockdiag_next_attribute(
 pub extern "C" fn sockdiag_next_message(
     datagram: &[u8],
     cursor: &mut Cursor,
-    message: &mut MessagePart,
+    message: &mut MessageRange,
 ) -> u32
     ensures { NextMessage datagram.now cursor.old cursor.new message.old message.new result }
 {
@@ -141,10 +141,10 @@ pub extern "C" fn sockdiag_next_message(
 /// similar call is checked only once. A reply that such a call rejects does not end a dump:
 /// continue with the next message.
 #[unsafe(no_mangle)]
-pub extern "C" fn sockdiag_next_envelope(
+pub extern "C" fn sockdiag_next_any_message(
     datagram: &[u8],
     cursor: &mut Cursor,
-    message: &mut MessagePart,
+    message: &mut MessageRange,
 ) -> u32
     ensures { NextUncheckedMessage datagram.now cursor.old cursor.new message.old message.new
         result }
@@ -158,34 +158,34 @@ pub extern "C" fn sockdiag_next_envelope(
 // Stores the message at the cursor, and advances the cursor past it and its padding. Returns as an
 // `Err` 0 at the end of the bytes, or the code of the framing error.
 #[inline(always)]
-fn take_message(datagram: &[u8], cursor: &mut Cursor, message: &mut MessagePart) -> Result<(), u32>
+fn take_message(datagram: &[u8], cursor: &mut Cursor, message: &mut MessageRange) -> Result<(), u32>
     ensures found { OnOk result (StoresMessage datagram.now cursor.old cursor.new message.new) }
     ensures ended { IfErr result (λ answer.
         IterationEnds datagram.now cursor.old cursor.new message.old message.new answer
         ⊎ IterationFails IsMessageError datagram.now cursor.old cursor.new message.old message.new
         answer) }
 {
-    let place = cursor.place;
-    if place >= datagram.len() {
+    let offset = cursor.offset;
+    if offset >= datagram.len() {
         return Err(END);
     }
-    match NetlinkHeader::from_prefix(&datagram[place..]) {
+    match NetlinkHeader::from_prefix(&datagram[offset..]) {
         Ok(header) => {
             let end = header.length as usize;
-            *message = MessagePart {
-                offset: place + NETLINK_HEADER_LEN,
+            *message = MessageRange {
+                offset: offset + NETLINK_HEADER_LEN,
                 length: end - NETLINK_HEADER_LEN,
                 message_type: header.message_type,
                 flags: header.flags,
                 sequence_number: header.sequence_number,
                 port_number: header.port_number,
             };
-            cursor.place = place + padded(end);
+            cursor.offset = offset + padded(end);
             Ok(())
         }
-        Err(fault) => {
-            cursor.place = datagram.len();
-            Err(u32::from(fault.number()))
+        Err(error) => {
+            cursor.offset = datagram.len();
+            Err(u32::from(error.number()))
         }
     }
 }
@@ -222,7 +222,7 @@ fn check_payload(payload: &[u8], message_type: u16) -> u32
         NLMSG_OVERRUN => ITEM,
         _ => match SockDiagView::parse(payload, message_type) {
             Ok(_) => ITEM,
-            Err(fault) => u32::from(fault.number()),
+            Err(error) => u32::from(error.number()),
         },
     }
 }

@@ -2,7 +2,7 @@
 
 ghost use Rattle.std.specs.Prelude.{◌≡◌, IfOk, IfErr};
 ghost use Rattle.netlink_core.specs.Response.{ReplyValue, response_codec};
-ghost use Rattle.sock_diag_any.specs.WholeReply.{raw_reply_spec};
+ghost use Rattle.sock_diag_any.specs.RawReply.{raw_reply_spec};
 ghost use Rattle.sock_diag_families.specs.XdpResponseHeader.{xdp_header};
 ghost use Rattle.sockdiag_c.specs.Answers.{IsCheckResultBy};
 ghost use Rattle.sockdiag_c.specs.FamilyValues.{RejectsReplyOrValue};
@@ -10,9 +10,9 @@ ghost use Rattle.sockdiag_c.specs.XdpDetails.{IsXdpDetailsOf, xdp_value_errors};
 
 use crate::check::OK;
 use crate::details::Number;
-use crate::family_values::{Faults, Memory, tell};
+use crate::family_values::{FirstError, Memory, store};
 use netlink_core::DecodeError;
-use sock_diag_any::WholeAttributes;
+use sock_diag_any::RawAttributes;
 use sock_diag_any::xdp::{self, XdpResponseView};
 use sock_diag_families::xdp::{
     XDP_DIAG_UMEM_COMPLETION_RING, XDP_DIAG_UMEM_FILL_RING, XdpInfo, XdpResponseHeader,
@@ -63,7 +63,7 @@ pub struct XdpDetails {
 pub extern "C" fn sockdiag_xdp_get_details(payload: &[u8], details: &mut XdpDetails) -> u32
     // In order: how the payload parses, the first error of the reply or else of its values, what
     // the struct has for a parsed reply, and the struct before and after the call.
-    ensures { IsCheckResultBy ((response_codec (raw_reply_spec xdp_header)).reads payload.now tt)
+    ensures { IsCheckResultBy ((response_codec (raw_reply_spec xdp_header)).parses payload.now tt)
         (RejectsReplyOrValue (raw_reply_spec xdp_header) xdp_value_errors payload.now)
         (IsXdpDetailsOf details.old)
         details.old details.new
@@ -74,33 +74,35 @@ pub extern "C" fn sockdiag_xdp_get_details(payload: &[u8], details: &mut XdpDeta
             *details = found;
             OK
         }
-        Err(fault) => u32::from(fault.number()),
+        Err(error) => u32::from(error.number()),
     }
 }
 
 // Parses the reply over the old details, and returns its contents or the first error.
 fn read(payload: &[u8], old: &XdpDetails) -> Result<XdpDetails, DecodeError>
     ensures value { IfOk result (λ found. (v : ReplyValue (raw_reply_spec xdp_header))
-        × (response_codec (raw_reply_spec xdp_header)).reads payload.now tt v
+        × (response_codec (raw_reply_spec xdp_header)).parses payload.now tt v
         × IsXdpDetailsOf old.now v found) }
-    ensures fault { IfErr result (RejectsReplyOrValue (raw_reply_spec xdp_header) xdp_value_errors
+    ensures error { IfErr result (RejectsReplyOrValue (raw_reply_spec xdp_header) xdp_value_errors
         payload.now) }
 {
     let reply = XdpResponseView::parse(payload)?;
-    let mut seen = Faults { first: None };
+    let mut errors = FirstError { first: None };
     let mut found = *old;
     found.header = reply.header().0;
-    found.has_info = tell(seen.keep(xdp::info(&reply)), &mut found.info);
-    found.owner = Number::from(seen.keep(xdp::owner(&reply)));
-    found.receive_ring = Number::from(seen.keep(xdp::receive_ring(&reply)));
-    found.send_ring = Number::from(seen.keep(xdp::send_ring(&reply)));
-    found.has_umem = tell(seen.keep(xdp::shared_memory(&reply)), &mut found.umem);
-    found.fill_ring = Number::from(seen.keep(reply.number_of(XDP_DIAG_UMEM_FILL_RING)));
-    found.completion_ring = Number::from(seen.keep(reply.number_of(XDP_DIAG_UMEM_COMPLETION_RING)));
-    found.memory = Memory::from(seen.keep(xdp::memory(&reply)));
-    found.has_statistics = tell(seen.keep(xdp::statistics(&reply)), &mut found.statistics);
-    match seen.first {
-        Some(fault) => Err(fault),
+    found.has_info = store(errors.keep(xdp::info(&reply)), &mut found.info);
+    found.owner = Number::from(errors.keep(xdp::owner(&reply)));
+    found.receive_ring = Number::from(errors.keep(xdp::receive_ring(&reply)));
+    found.send_ring = Number::from(errors.keep(xdp::send_ring(&reply)));
+    found.has_umem = store(errors.keep(xdp::shared_memory(&reply)), &mut found.umem);
+    found.fill_ring = Number::from(errors.keep(reply.number_of(XDP_DIAG_UMEM_FILL_RING)));
+    found.completion_ring = Number::from(errors.keep(reply.number_of(
+        XDP_DIAG_UMEM_COMPLETION_RING,
+    )));
+    found.memory = Memory::from(errors.keep(xdp::memory(&reply)));
+    found.has_statistics = store(errors.keep(xdp::statistics(&reply)), &mut found.statistics);
+    match errors.first {
+        Some(error) => Err(error),
         None => Ok(found),
     }
 }

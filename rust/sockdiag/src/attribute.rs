@@ -50,7 +50,7 @@ impl<'a> Attributes<'a> {
         Attributes {
             bytes,
             cursor: Cursor {
-                place: header_length,
+                offset: header_length,
             },
         }
     }
@@ -144,7 +144,7 @@ impl<'a, N: From<Attribute<'a>>> Iterator for NlaWalk<'a, N> {
 }
 
 /// Returns the little-endian `u32` at an index of an array of `u32`s, or `None` past its end.
-pub(crate) fn word(bytes: &[u8], index: usize) -> Option<u32> {
+pub(crate) fn u32_at(bytes: &[u8], index: usize) -> Option<u32> {
     let bytes = bytes.get(4 * index..)?.first_chunk()?;
     Some(u32::from_le_bytes(*bytes))
 }
@@ -165,7 +165,7 @@ impl Iterator for Numbers<'_> {
     type Item = u32;
 
     fn next(&mut self) -> Option<u32> {
-        let number = word(self.bytes, 0)?;
+        let number = u32_at(self.bytes, 0)?;
         self.bytes = &self.bytes[4..];
         Some(number)
     }

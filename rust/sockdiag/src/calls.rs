@@ -14,7 +14,7 @@ use core::marker::PhantomData;
 impl Number {
     /// Returns the number, or `None` if the reply does not contain it.
     pub(crate) fn get(self) -> Option<u32> {
-        (self.is_told != 0).then_some(self.value)
+        (self.is_set != 0).then_some(self.value)
     }
 }
 
@@ -93,7 +93,7 @@ unsafe fn details<D: Default>(
     // local. The contract of a details call requires nothing else. The call writes only the struct.
     match unsafe { call(payload.as_ptr(), payload.len(), &mut details) } {
         0 => Ok(details),
-        fault => Err(fault),
+        error => Err(error),
     }
 }
 
@@ -159,8 +159,8 @@ pub(crate) fn tcp_info_in(bytes: &[u8; size_of::<TcpInfo>()]) -> TcpInfo {
 
 /// Returns the next attribute and advances the cursor, or returns the return value of the call as
 /// an error: 0 at the end, else the code of the error.
-pub(crate) fn next_attribute(bytes: &[u8], cursor: &mut Cursor) -> Result<AttributePart, u32> {
-    let mut attribute = AttributePart::default();
+pub(crate) fn next_attribute(bytes: &[u8], cursor: &mut Cursor) -> Result<AttributeRange, u32> {
+    let mut attribute = AttributeRange::default();
     // SAFETY: the pointer and the length are from one slice. Neither the cursor, which is
     // borrowed mutably, nor the struct, which is a local, overlaps anything else. The contract of
     // `sockdiag_next_attribute` allows any offset.
@@ -175,13 +175,14 @@ pub(crate) fn next_attribute(bytes: &[u8], cursor: &mut Cursor) -> Result<Attrib
 
 /// Returns the next message and advances the cursor, or returns the return value of the call as an
 /// error: 0 at the end, else the code of the error.
-pub(crate) fn next_envelope(datagram: &[u8], cursor: &mut Cursor) -> Result<MessagePart, u32> {
-    let mut message = MessagePart::default();
+pub(crate) fn next_message(datagram: &[u8], cursor: &mut Cursor) -> Result<MessageRange, u32> {
+    let mut message = MessageRange::default();
     // SAFETY: the pointer and the length are from one slice. Neither the cursor, which is
     // borrowed mutably, nor the struct, which is a local, overlaps anything else. The contract of
-    // `sockdiag_next_envelope` allows any offset.
-    let answer =
-        unsafe { sockdiag_next_envelope(datagram.as_ptr(), datagram.len(), cursor, &mut message) };
+    // `sockdiag_next_any_message` allows any offset.
+    let answer = unsafe {
+        sockdiag_next_any_message(datagram.as_ptr(), datagram.len(), cursor, &mut message)
+    };
     if answer == 1 {
         Ok(message)
     } else {

@@ -6,7 +6,7 @@ use crate::constants::{NLMSG_DONE, NLMSG_ERROR, NLMSG_NOOP, NLMSG_OVERRUN, SOCK_
 use crate::inet::{InetReply, InetRequest, RequestBytes};
 use crate::netlink::NetlinkReply;
 use crate::packet::PacketReply;
-use crate::sys::{Cursor, MessagePart};
+use crate::sys::{Cursor, MessageRange};
 use crate::unix::{UnixReply, UnixRequest};
 use crate::vsock::VsockReply;
 use crate::xdp::XdpReply;
@@ -34,8 +34,8 @@ pub struct NetlinkHeader {
     pub port_number: u32,
 }
 
-impl From<MessagePart> for NetlinkHeader {
-    fn from(part: MessagePart) -> Self {
+impl From<MessageRange> for NetlinkHeader {
+    fn from(part: MessageRange) -> Self {
         NetlinkHeader {
             length: part.length as u32 + 16,
             message_type: part.message_type,
@@ -369,8 +369,8 @@ fn next_message<'a, I>(
     cursor: &mut Cursor,
     parse: fn(&'a [u8], u16) -> Result<I, DecodeError>,
 ) -> Option<Result<NetlinkMessage<I>, RejectedMessage<'a>>> {
-    let remaining = datagram.get(cursor.place..)?;
-    let part = match calls::next_envelope(datagram, cursor) {
+    let remaining = datagram.get(cursor.offset..)?;
+    let part = match calls::next_message(datagram, cursor) {
         Ok(part) => part,
         Err(0) => return None,
         Err(code) => {

@@ -252,7 +252,7 @@ impl InetRequest {
     ) -> Result<Option<&'b [u8]>, DecodeError> {
         let request = self.to_sys(header);
         let (written, outcome) = calls::write_inet_with_attributes(&request, attributes, buffer);
-        match outcome.fault {
+        match outcome.error {
             0 => Ok((written != 0).then_some(&buffer[..written])),
             code => Err(DecodeError::from_code(code)),
         }

@@ -100,7 +100,7 @@
 //! | an `InetRequest` with a family other than `AF_INET` and `AF_INET6` is serialized | such a request has a message of zero bytes |
 //! | `SocketId::new_v4()` has a cookie of zeros | its cookie is `[0xff; 8]`, which matches any, as is that of `UnixRequest::default()`. The kernel compares it if a single socket is requested |
 //! | flags have the methods of `bitflags` | flags have `empty`, `all`, `from_bits`, `from_bits_retain`, `from_bits_truncate`, `bits`, `is_empty`, `contains`, `insert`, `remove`, `\|` and `\|=` |
-//! | `DecodeError` contains texts | [`DecodeError`] is an enum of the errors; both implement `Display`. The texts here are those of `sockdiag_fault_text`, without values, and the variants have no fields |
+//! | `DecodeError` contains texts | [`DecodeError`] is an enum of the errors; both implement `Display`. The texts here are those of `sockdiag_error_text`, without values, and the variants have no fields |
 //! | panics on some input | does not panic |
 //!
 //! In addition, [`Dump`] iterates over a whole datagram, [`AnswerCheck`] checks that its messages
@@ -128,7 +128,7 @@ mod attribute;
 mod calls;
 pub mod constants;
 mod dump;
-mod fault;
+mod error;
 pub mod inet;
 pub mod netlink;
 pub mod packet;
@@ -143,7 +143,7 @@ pub use attribute::{Attribute, Attributes, NlaWalk, Nlas, Numbers};
 pub use constants::*;
 pub use dump::{AnyDump, AnySockDiagMessage, Dump, Message, RejectedMessage, SockDiagMessage};
 pub use dump::{NetlinkHeader, NetlinkMessage, NetlinkPayload};
-pub use fault::DecodeError;
+pub use error::DecodeError;
 pub use show::ShowRequest;
 
 /// A set of flags, with the bits that the kernel uses.

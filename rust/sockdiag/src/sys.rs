@@ -74,7 +74,7 @@ pub const XDP_SHOW_STATS: u32 = 0x10;
 #[repr(C)]
 #[derive(Clone, Copy, Debug, Default, PartialEq, Eq)]
 pub(crate) struct Number {
-    pub(crate) is_told: u32,
+    pub(crate) is_set: u32,
     pub(crate) value: u32,
 }
 
@@ -234,7 +234,7 @@ pub(crate) struct InetRequest {
 #[repr(C)]
 #[derive(Clone, Copy, Debug, Default, PartialEq, Eq)]
 pub(crate) struct Outcome {
-    pub(crate) fault: u32,
+    pub(crate) error: u32,
     pub(crate) needed: usize,
 }
 
@@ -257,12 +257,12 @@ pub(crate) struct UnixDetails<'a> {
 #[repr(C)]
 #[derive(Clone, Copy, Debug, Default, PartialEq, Eq)]
 pub(crate) struct Cursor {
-    pub(crate) place: usize,
+    pub(crate) offset: usize,
 }
 
 #[repr(C)]
 #[derive(Clone, Copy, Debug, Default, PartialEq, Eq)]
-pub(crate) struct AttributePart {
+pub(crate) struct AttributeRange {
     pub(crate) offset: usize,
     pub(crate) length: usize,
     pub(crate) type_word: u16,
@@ -270,7 +270,7 @@ pub(crate) struct AttributePart {
 
 #[repr(C)]
 #[derive(Clone, Copy, Debug, Default, PartialEq, Eq)]
-pub(crate) struct MessagePart {
+pub(crate) struct MessageRange {
     pub(crate) offset: usize,
     pub(crate) length: usize,
     pub(crate) message_type: u16,
@@ -645,8 +645,8 @@ const _: () = assert!(size_of::<InetRequest>() == 72);
 const _: () = assert!(size_of::<Outcome>() == 16);
 const _: () = assert!(size_of::<UnixDetails>() == 112);
 const _: () = assert!(size_of::<Cursor>() == 8);
-const _: () = assert!(size_of::<AttributePart>() == 24);
-const _: () = assert!(size_of::<MessagePart>() == 32);
+const _: () = assert!(size_of::<AttributeRange>() == 24);
+const _: () = assert!(size_of::<MessageRange>() == 32);
 const _: () = assert!(size_of::<XdpDetails>() == 240);
 const _: () = assert!(size_of::<NetlinkResponseHeader>() == 32);
 const _: () = assert!(size_of::<PacketInfo>() == 24);
@@ -775,19 +775,19 @@ extern "C" {
         bytes: *const u8,
         length: usize,
         cursor: *mut Cursor,
-        attribute: *mut AttributePart,
+        attribute: *mut AttributeRange,
     ) -> u32;
     pub(crate) fn sockdiag_next_message(
         datagram: *const u8,
         length: usize,
         cursor: *mut Cursor,
-        message: *mut MessagePart,
+        message: *mut MessageRange,
     ) -> u32;
-    pub(crate) fn sockdiag_next_envelope(
+    pub(crate) fn sockdiag_next_any_message(
         datagram: *const u8,
         length: usize,
         cursor: *mut Cursor,
-        message: *mut MessagePart,
+        message: *mut MessageRange,
     ) -> u32;
     pub(crate) fn sockdiag_get_error_number(
         payload: *const u8,

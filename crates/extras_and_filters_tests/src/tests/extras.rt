@@ -32,7 +32,7 @@ where
     for item in attributes {
         let line = match item {
             Ok(view) => format!(in alloc; "{view:?};")?,
-            Err(refused) => format!(in alloc; "{:?} {};", refused.kind(), refused.fault())?,
+            Err(refused) => format!(in alloc; "{:?} {};", refused.kind(), refused.error())?,
         };
         text.push_str(line.as_str())?;
     }
@@ -121,7 +121,7 @@ fn told(alloc: Global, word: &str, bytes: &[u8]) -> Result<String, Fail> {
         "storages" => storages(alloc, bytes),
         "ulp" => match upper_protocol(alloc, bytes) {
             Ok(text) => Ok(text),
-            Err(fault) => Ok(format!(in alloc; "{fault}")?),
+            Err(error) => Ok(format!(in alloc; "{error}")?),
         },
         "done" => acknowledgement(alloc, AckView::of_done(514, bytes)),
         flags => acknowledgement(alloc, AckView::of_error(flags.parse::<u16>()?, bytes)),

@@ -4,20 +4,20 @@ use Rattle.std.proofs.Common.{refl, arith}
 use Rattle.std.specs.Prelude.{◌≢◌}
 use Rattle.std.proofs.lemmas.Nat.{and_mask}
 use Rattle.std.proofs.lemmas.Bool.Decides.{nat_tests}
-use Rattle.netlink_core.specs.declared.fault.DecodeError.TheVariants.{Memory}
+use Rattle.netlink_core.specs.declared.error.DecodeError.TheVariants.{Memory}
 use Rattle.netlink_core.specs.Attribute.{Attribute, attribute_kind}
 use Rattle.netlink_core.specs.laws.Prefix.{IsAttributeInRange}
 use Rattle.netlink_core.specs.AttributeSet.{AttributeSpec, AttributeSet, AttributeValue}
 use Rattle.netlink_core.specs.AttributeSet.{decode_attribute, encode_attribute}
 use Rattle.netlink_core.specs.AttributeSet.{AreEquivalentAttributes, IsInRangeIn, IsNormalIn}
-use Rattle.netlink_core.specs.laws.Shown.{AttributeSetLaws}
+use Rattle.netlink_core.specs.laws.ReplyObligations.{AttributeSetLaws}
 
 -- a value of the first type is decoded from an attribute of its kind, any other value from an
 -- attribute of another kind
 decoded_at_first_type : (spec : AttributeSpec) (others : AttributeSet) (a : Attribute)
     (x : spec.value.Value)
     → decode_attribute (spec ∷ others) a ≡ Ok (inl x)
-    → (attribute_kind a ≡ spec.number) × (spec.value.reads tt a.value ≡ Ok x)
+    → (attribute_kind a ≡ spec.number) × (spec.value.parses tt a.value ≡ Ok x)
 decoded_at_first_type spec others a x h =
     grind (arith, nat_tests)
 
@@ -35,7 +35,7 @@ decode_error_is_not_memory (spec ∷ others) laws a h =
     grind (
       arith,
       nat_tests,
-      laws.0.value.named_fault a.value tt,
+      laws.0.value.error_is_not_memory a.value tt,
       decode_error_is_not_memory others laws.1 a,
     )
 
@@ -55,7 +55,8 @@ pub decoded_is_normal : (F : AttributeSet) → AttributeSetLaws F
     → IsInRangeIn F v × IsNormalIn F v
 decoded_is_normal [] laws a v in_range h = grind arith
 decoded_is_normal (spec ∷ others) laws a (inl x) in_range h =
-    laws.0.value.reads_normal a.value tt x in_range.1 (decoded_at_first_type spec others a x h).1
+    laws.0.value.parsed_is_normal a.value tt x in_range.1
+    (decoded_at_first_type spec others a x h).1
 decoded_is_normal (spec ∷ others) laws a (inr v) in_range h =
     grind (
       arith,
@@ -98,6 +99,6 @@ pub decoded_round_trips : (F : AttributeSet) → AttributeSetLaws F → (v : Att
     → decode_attribute F (encode_attribute F v) ≡ Ok v
 decoded_round_trips [] laws a t n = refl
 decoded_round_trips (spec ∷ others) laws (inl x) t n =
-    grind (arith, nat_tests, laws.0.plain, laws.0.value.reads_back tt x t n tt)
+    grind (arith, nat_tests, laws.0.plain, laws.0.value.round_trips tt x t n tt)
 decoded_round_trips (spec ∷ others) laws (inr v) t n =
     grind (arith, nat_tests, decoded_round_trips others laws.1 v t n.1)

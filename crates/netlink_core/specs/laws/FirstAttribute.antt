@@ -7,7 +7,7 @@ use Rattle.netlink_core.specs.laws.Prefix.{FitsHeaderFields}
 use Rattle.netlink_core.specs.Attribute.{attribute_bytes}
 use Rattle.netlink_core.specs.AttributeSet.{AttributeSet, AttributeValue, decode_attribute}
 use Rattle.netlink_core.specs.AttributeSet.{encode_attribute}
-use Rattle.netlink_core.specs.laws.Shown.{AttributeSetLaws}
+use Rattle.netlink_core.specs.laws.ReplyObligations.{AttributeSetLaws}
 use Rattle.netlink_core.specs.FirstAttribute.{first_attribute_codec}
 use Rattle.netlink_core.specs.Codec.{KeepsCodecLaws}
 use Rattle.netlink_core.specs.laws.Prefix.{value_or_error, prefix_or_framing_error}
@@ -21,31 +21,31 @@ use Rattle.netlink_core.specs.laws.AttributeSet.{decoded_round_trips}
 module _ (F : AttributeSet) (a : Attribute) (fits : FitsHeaderFields a) where
   -- what an attribute decodes to is parsed from the bytes that the attribute serializes to
   pub decoded_is_parsed : (v : AttributeValue F) → decode_attribute F a ≡ Ok v
-      → (first_attribute_codec F).reads (attribute_bytes a) tt v
+      → (first_attribute_codec F).parses (attribute_bytes a) tt v
   decoded_is_parsed v s = (a, (replicate (padding_length (length a.value)) 0, refl, fits), s)
 
 -- a raw copy of an attribute is what is parsed from the bytes that the attribute serializes to
 pub raw_copy_is_parsed : (a v : Attribute) → FitsHeaderFields a → v ≡ a
-    → (first_attribute_codec []).reads (attribute_bytes a) tt v
+    → (first_attribute_codec []).parses (attribute_bytes a) tt v
 raw_copy_is_parsed a v fits e = decoded_is_parsed [] a fits v (ap Ok (sym e))
 
 module _ (F : AttributeSet) (laws : AttributeSetLaws F) where
   pub first_attribute_codec_laws : KeepsCodecLaws (first_attribute_codec F)
   first_attribute_codec_laws = record {
-    answered = λ b p in_range. elim (prefix_or_framing_error b in_range) [
+    is_total = λ b p in_range. elim (prefix_or_framing_error b in_range) [
       | inr framing ↦ inr (framing.0, inl framing.1)
       | inl head ↦ elim (value_or_error (decode_attribute F head.0)) [
         | inl said ↦ inl (said.0, (head.0, head.1, said.1))
         | inr refused ↦ inr (refused.0, inr (head.0, head.1, refused.1))
       ]
     ];
-    one_answer = λ b p v e h. elim [
+    is_exclusive = λ b p v e h. elim [
       | inl framing ↦ prefix_or_error_apart b h.0 e h.1 framing
       | inr refused ↦ let same = one_attribute b refused.0 h.0 refused.1 h.1 in cc
     ];
-    one_fault = λ b p. one_first_attribute_error (decode_attribute F) b;
-    named_fault = λ b p h. grind (arith, decode_error_is_not_memory F laws);
-    same_value = λ b c p v w b-in_range c-in_range h k.
+    error_is_unique = λ b p. one_first_attribute_error (decode_attribute F) b;
+    error_is_not_memory = λ b p h. grind (arith, decode_error_is_not_memory F laws);
+    equal_iff_equivalent = λ b c p v w b-in_range c-in_range h k.
         let same = decoded_equal_iff_equivalent F laws h.0 k.0 v w
         (attribute_prefix_in_range b h.0 b-in_range h.1)
         (attribute_prefix_in_range c k.0 c-in_range k.1) h.2 k.2 in (
@@ -55,11 +55,11 @@ module _ (F : AttributeSet) (laws : AttributeSetLaws F) where
             one_attribute c k.0 y k.1 right,
           ) idle),
         );
-    reads_normal = λ b p v in_range h. decoded_is_normal F laws h.0 v
+    parsed_is_normal = λ b p v in_range h. decoded_is_normal F laws h.0 v
         (attribute_prefix_in_range b h.0 in_range h.1) h.2;
-    written_bytes = λ v in_range.
+    serialized_in_range = λ v in_range.
         attribute_bytes_in_range (encode_attribute F v) (encoded_in_range F laws v in_range);
-    reads_back = λ p v in_range normal fits. decoded_is_parsed F (encode_attribute F v)
+    round_trips = λ p v in_range normal fits. decoded_is_parsed F (encode_attribute F v)
         ((encoded_in_range F laws v in_range).0, fits) v
         (decoded_round_trips F laws v in_range normal);
   }

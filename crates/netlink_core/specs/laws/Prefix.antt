@@ -4,10 +4,10 @@ use Rattle.std.proofs.Common.{◌-◌, ◌*◌, ◌/◌, ◌%◌, ◌^◌, ◌�
 use Rattle.std.proofs.Common.{suc, length, take, drop, refl, sym, ap, arith, ◌<◌}
 use Rattle.std.proofs.lemmas.List.{take-append-drop, length-take, length-append, take_all}
 use Rattle.byteorder.specs.Endian.{little_number}
-use Rattle.netlink_core.specs.declared.fault.DecodeError.{DecodeError}
-use Rattle.netlink_core.specs.declared.fault.DecodeError.TheVariants.{AttributeHeaderCut}
-use Rattle.netlink_core.specs.declared.fault.DecodeError.TheVariants.{AttributeLengthUnder4}
-use Rattle.netlink_core.specs.declared.fault.DecodeError.TheVariants.{AttributeLengthPast}
+use Rattle.netlink_core.specs.declared.error.DecodeError.{DecodeError}
+use Rattle.netlink_core.specs.declared.error.DecodeError.TheVariants.{AttributeHeaderCut}
+use Rattle.netlink_core.specs.declared.error.DecodeError.TheVariants.{AttributeLengthUnder4}
+use Rattle.netlink_core.specs.declared.error.DecodeError.TheVariants.{AttributeLengthPast}
 use Rattle.netlink_core.specs.Bytes.{IsBytes}
 use Rattle.netlink_core.specs.Attribute.{Attribute, header_and_value, attribute_bytes}
 use Rattle.netlink_core.specs.Attribute.{HasAttributePrefix, IsFramingError, IsFirstAttributeError}
@@ -135,10 +135,10 @@ pub one_attribute_framing_error : (bytes : List ℕ) (e f : DecodeError) → IsF
     → IsFramingError bytes f → e ≡ f
 one_attribute_framing_error bytes e f h k = grind arith
 
-module _ {A : Type 0} (reads : Attribute → Result A DecodeError) where
+module _ {A : Type 0} (parses : Attribute → Result A DecodeError) where
   pub one_first_attribute_error : (bytes : List ℕ) (e f : DecodeError)
-      → IsFirstAttributeError reads bytes e
-      → IsFirstAttributeError reads bytes f → e ≡ f
+      → IsFirstAttributeError parses bytes e
+      → IsFirstAttributeError parses bytes f → e ≡ f
   one_first_attribute_error bytes e f (inl framing) (inl also) =
       one_attribute_framing_error bytes e f framing also
   one_first_attribute_error bytes e f (inl framing) (inr (a, head, refused)) =

@@ -4,8 +4,8 @@ use Rattle.std.proofs.Common.{◌≡◌, ◌↔◌, Bool, IsTrue, ap}
 use Rattle.netlink_core.proofs.Equality.{false_decides}
 use Rattle.sock_diag_records.specs.contracts.inet.exact.InetRequestExact.TheImpl.Laws.{exact-law as exact_inet_request}
 use Rattle.sock_diag_records.specs.contracts.unix.request.UnixRequestExact.TheImpl.Laws.{exact-law as exact_unix_request}
-use Rattle.sock_diag_attributes.specs.contracts.inet.coded.NlaCoded.TheImpl.Laws.{eq_is_model-law as same_inet}
-use Rattle.sock_diag_attributes.specs.contracts.unix.coded.NlaCoded.TheImpl.Laws.{eq_is_model-law as same_unix}
+use Rattle.sock_diag_attributes.specs.contracts.inet.codec.NlaHasCodec.TheImpl.Laws.{eq_is_model-law as same_inet}
+use Rattle.sock_diag_attributes.specs.contracts.unix.codec.NlaHasCodec.TheImpl.Laws.{eq_is_model-law as same_unix}
 use Rattle.sock_diag_attributes.specs.InetModel as inet
 use Rattle.sock_diag_attributes.specs.UnixModel as unix
 use Rattle.sock_diag_records.specs.contracts.inet.exact.InetResponseHeaderExact.TheImpl.Laws.{exact-law as exact_inet}

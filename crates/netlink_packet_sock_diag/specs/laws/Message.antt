@@ -8,9 +8,9 @@ use Rattle.std.proofs.lemmas.Bool.Decides.{nat_tests}
 use Rattle.netlink_core.specs.Bytes.{IsBytes}
 use Rattle.netlink_core.specs.Codec.{KeepsCodecLaws}
 use Rattle.netlink_core.specs.Response.{response_bytes}
-use Rattle.netlink_core.specs.declared.fault.DecodeError.{DecodeError}
-use Rattle.netlink_core.specs.declared.fault.DecodeError.TheVariants.{Memory}
-use Rattle.netlink_core.specs.declared.fault.DecodeError.TheVariants.{UnknownMessageType}
+use Rattle.netlink_core.specs.declared.error.DecodeError.{DecodeError}
+use Rattle.netlink_core.specs.declared.error.DecodeError.TheVariants.{Memory}
+use Rattle.netlink_core.specs.declared.error.DecodeError.TheVariants.{UnknownMessageType}
 use Rattle.netlink_core.proofs.LayoutLaws.{layout_codec_laws}
 use Rattle.netlink_core.proofs.Responses.{reply_codec_laws}
 use Rattle.sock_diag_records.specs.IpVersions.{IpVersions, versions_of_family}
@@ -66,7 +66,7 @@ response_kinds : (b : List ℕ) (t : ℕ) (found : Result MessageKind DecodeErro
 response_kinds b t found h = rw (← h) (grind (arith, nat_tests, eqb-true))
 
 -- a parsed message is a reply, under the type 20
-pub read_reply : (b : List ℕ) (t : ℕ) (m : Message) → message_codec.reads b t m
+pub read_reply : (b : List ℕ) (t : ℕ) (m : Message) → message_codec.parses b t m
     → (t ≡ 20) × ((apply_by_kind (λ kind v. kind) m ≡ inet_response)
     ⊎ (apply_by_kind (λ kind v. kind) m ≡ unix_response))
 read_reply b t (message_of kind v) r = response_kinds b t (Ok kind) r.0
@@ -76,76 +76,77 @@ read_reply b t (message_of kind v) r = response_kinds b t (Ok kind) r.0
 -- bytes have a message or an error, by the result of `response_kind`
 parsed_or_rejected_as : (b : List ℕ) (t : ℕ) (found : Result MessageKind DecodeError) → IsBytes b
     → response_kind b t ≡ found
-    → ((m : Message) × message_codec.reads b t m)
-    ⊎ ((e : DecodeError) × message_codec.refuses b t e)
+    → ((m : Message) × message_codec.parses b t m)
+    ⊎ ((e : DecodeError) × message_codec.rejects b t e)
 parsed_or_rejected_as b t (Err e) tb h = inr (e, inl h)
-parsed_or_rejected_as b t (Ok kind) tb h = elim ((message_kind_laws kind).answered b tt tb) [
+parsed_or_rejected_as b t (Ok kind) tb h = elim ((message_kind_laws kind).is_total b tt tb) [
   | inl answer ↦ inl (message_of kind answer.0, (h, answer.1))
-  | inr fault ↦ inr (fault.0, inr (kind, h, fault.1))
+  | inr error ↦ inr (error.0, inr (kind, h, error.1))
 ]
 
 not_parsed_and_rejected : (b : List ℕ) (t : ℕ) (m : Message) (e : DecodeError)
-    → message_codec.reads b t m
-    → message_codec.refuses b t e → ⊥
+    → message_codec.parses b t m
+    → message_codec.rejects b t e → ⊥
 not_parsed_and_rejected b t (message_of kind v) e (found, r) (inl none) = cc
 not_parsed_and_rejected b t (message_of kind v) e (found, r) (inr (other, as_other, refused)) =
     grind (arith, message_kind_laws kind)
 
-one_error_of_message : (b : List ℕ) (t : ℕ) (e f : DecodeError) → message_codec.refuses b t e
-    → message_codec.refuses b t f → e ≡ f
+one_error_of_message : (b : List ℕ) (t : ℕ) (e f : DecodeError) → message_codec.rejects b t e
+    → message_codec.rejects b t f → e ≡ f
 one_error_of_message b t e f (inl h) (inl k) = cc
 one_error_of_message b t e f (inl h) (inr (kind, found, refused)) = cc
 one_error_of_message b t e f (inr (kind, found, refused)) (inl k) = cc
 one_error_of_message b t e f (inr (kind, found, refused)) (inr (other, as_other, also)) =
     grind (arith, message_kind_laws kind)
 
-message_error_is_named : (b : List ℕ) (t : ℕ) → message_codec.refuses b t Memory → ⊥
+message_error_is_named : (b : List ℕ) (t : ℕ) → message_codec.rejects b t Memory → ⊥
 message_error_is_named b t (inl none) = response_kinds b t (Err Memory) none refl
 message_error_is_named b t (inr (kind, found, refused)) =
-    (message_kind_laws kind).named_fault b tt refused
+    (message_kind_laws kind).error_is_not_memory b tt refused
 
 -- ---- equivalent bytes
 
 -- two byte strings that parse as the same message are equivalent
 equal_messages_are_equivalent : (b c : List ℕ) (t : ℕ) (m : Message) → IsBytes b → IsBytes c
-    → message_codec.reads b t m → message_codec.reads c t m → message_codec.idle t b c
+    → message_codec.parses b t m → message_codec.parses c t m → message_codec.equivalent t b c
 equal_messages_are_equivalent b c t (message_of kind v) tb tc r s =
-    let law = (message_kind_laws kind).same_value b c tt v v tb tc r.1 s.1 in
+    let law = (message_kind_laws kind).equal_iff_equivalent b c tt v v tb tc r.1 s.1 in
     (kind, r.0, s.0, law.0 refl)
 
 -- a message that is parsed from bytes of a kind is of this kind
 of_kind : (b : List ℕ) (t : ℕ) (kind : MessageKind) (m : Message) → response_kind b t ≡ Ok kind
-    → message_codec.reads b t m
+    → message_codec.parses b t m
     → (v : (codec_of_message_kind kind).Value) × (m ≡ message_of kind v)
-    × (codec_of_message_kind kind).reads b tt v
+    × (codec_of_message_kind kind).parses b tt v
 of_kind b t kind (message_of other v) found r =
     let same : other ≡ kind = cc (r.0) in rw (← same) (v, refl, r.1)
 
 equal_iff_equivalent_messages : (b c : List ℕ) (t : ℕ) (m n : Message) → IsBytes b → IsBytes c
-    → message_codec.reads b t m → message_codec.reads c t n → ((m ≡ n) ↔ message_codec.idle t b c)
+    → message_codec.parses b t m → message_codec.parses c t n → ((m ≡ n)
+    ↔ message_codec.equivalent t b c)
 equal_iff_equivalent_messages b c t m n tb tc r s = (
   λ e. equal_messages_are_equivalent b c t n tb tc (rw e at r) s,
   λ (kind, left, right, idle).
       let x = of_kind b t kind m left r in
       let y = of_kind c t kind n right s in
-      let law = (message_kind_laws kind).same_value b c tt x.0 y.0 tb tc x.2 y.2 in
+      let law = (message_kind_laws kind).equal_iff_equivalent b c tt x.0 y.0 tb tc x.2 y.2 in
       x.1 ∙ ap (message_of kind) (law.1 idle) ∙ sym y.1,
 )
 
 -- ---- parsed and serialized messages
 
 parsed_message_is_normal : (b : List ℕ) (t : ℕ) (m : Message) → IsBytes b
-    → message_codec.reads b t m
+    → message_codec.parses b t m
     → message_codec.is_in_range m × message_codec.is_normal t m
 parsed_message_is_normal b t (message_of kind v) tb (found, r) =
     let reply = response_kinds b t (Ok kind) found in
-    let parts = (message_kind_laws kind).reads_normal b tt v tb r in
+    let parts = (message_kind_laws kind).parsed_is_normal b tt v tb r in
     (parts.0, (reply.0, reply.1, parts.1))
 
 message_bytes_in_range : (m : Message) → message_codec.is_in_range m
-    → IsBytes (message_codec.written m)
+    → IsBytes (message_codec.serialized m)
 message_bytes_in_range (message_of kind v) in_range =
-    (message_kind_laws kind).written_bytes v in_range
+    (message_kind_laws kind).serialized_in_range v in_range
 
 -- the family of an IPv4 or IPv6 reply in normal form determines its kind
 kind_of_versions : (family : ℕ) (versions : IpVersions) → versions_of_family family ≡ Ok versions
@@ -155,7 +156,7 @@ kind_of_versions family versions h =
 
 -- a message in normal form serializes to bytes of its kind
 serialized_kind_is_kept : (t : ℕ) (m : Message) → message_codec.is_normal t m
-    → response_kind (message_codec.written m) t ≡ Ok (apply_by_kind (λ kind v. kind) m)
+    → response_kind (message_codec.serialized m) t ≡ Ok (apply_by_kind (λ kind v. kind) m)
 unfolding inet_response_header
 serialized_kind_is_kept t (message_of inet_response v) (is, reply, normal) =
     grind (
@@ -169,27 +170,27 @@ serialized_kind_is_kept t m h = grind arith
 
 message_value_round_trips : (t : ℕ) (m : Message) → message_codec.is_in_range m
     → message_codec.is_normal t m
-    → message_codec.fits m
-    → message_codec.reads (message_codec.written m) t m
+    → message_codec.is_writable m
+    → message_codec.parses (message_codec.serialized m) t m
 message_value_round_trips t (message_of kind v) in_range normal fits = (
   serialized_kind_is_kept t (message_of kind v) normal,
-  (message_kind_laws kind).reads_back tt v in_range normal.2 fits,
+  (message_kind_laws kind).round_trips tt v in_range normal.2 fits,
 )
 
 pub message_laws : KeepsCodecLaws message_codec
 message_laws = record {
-  answered = λ b t tb. parsed_or_rejected_as b t (response_kind b t) tb refl;
-  one_answer = not_parsed_and_rejected;
-  one_fault = one_error_of_message;
-  named_fault = message_error_is_named;
-  same_value = equal_iff_equivalent_messages;
-  reads_normal = parsed_message_is_normal;
-  written_bytes = message_bytes_in_range;
-  reads_back = message_value_round_trips;
+  is_total = λ b t tb. parsed_or_rejected_as b t (response_kind b t) tb refl;
+  is_exclusive = not_parsed_and_rejected;
+  error_is_unique = one_error_of_message;
+  error_is_not_memory = message_error_is_named;
+  equal_iff_equivalent = equal_iff_equivalent_messages;
+  parsed_is_normal = parsed_message_is_normal;
+  serialized_in_range = message_bytes_in_range;
+  round_trips = message_value_round_trips;
 }
 
 -- a message serializes to at least two bytes
-pub length-serialized_message : (m : Message) → 2 ≤ length (message_codec.written m)
+pub length-serialized_message : (m : Message) → 2 ≤ length (message_codec.serialized m)
 unfolding inet_request_layout inet_response_header
 length-serialized_message (message_of inet_request v) = omega arith
 length-serialized_message (message_of inet_response v) = omega arith

@@ -1,12 +1,12 @@
 //! Dumps that continue after invalid replies.
 
 ghost use Rattle.std.specs.Prelude.{◌≡◌, ◌⊎◌, Err, Ok as ok};
-ghost use Rattle.netlink_core.specs.declared.fault.DecodeError.TheVariants.{Memory};
+ghost use Rattle.netlink_core.specs.declared.error.DecodeError.TheVariants.{Memory};
 ghost use Rattle.netlink_packet_sock_diag.specs.Feed.{FeedLeadsTo, AllocationFailsAt, new_dump};
 ghost use Rattle.netlink_packet_sock_diag.specs.Lossy.{HasLossyEntry};
 ghost use Rattle.netlink_packet_sock_diag.specs.Message.{Message, message_codec};
 
-use super::fed::FedDump;
+use super::generic::GenericDump;
 use super::{DumpError, DumpState};
 use crate::message::SockDiagMessage;
 use netlink_core::DecodeError;
@@ -18,7 +18,7 @@ use std::alloc::Global;
 /// an error, because the next message cannot be found.
 #[derive(Drop)]
 pub struct LossyDump {
-    dump: FedDump<Result<SockDiagMessage, DecodeError>>,
+    dump: GenericDump<Result<SockDiagMessage, DecodeError>>,
 }
 
 impl LossyDump {
@@ -32,7 +32,7 @@ impl LossyDump {
         ensures { lossy_progress result ≡ new_dump }
     {
         LossyDump {
-            dump: FedDump::new(alloc),
+            dump: GenericDump::new(alloc),
         }
     }
 
@@ -70,21 +70,21 @@ impl LossyDump {
     pub fn entries(&self) -> &[Result<SockDiagMessage, DecodeError>]
         ensures { result.now ≡ lossy_entries self.now }
     {
-        self.dump.kept.as_slice()
+        self.dump.entries.as_slice()
     }
 
     /// Returns the entries read so far, in order, and drops the rest of the reader.
     pub fn into_entries(self) -> Vec<Result<SockDiagMessage, DecodeError>>
         ensures { result.items ≡ lossy_entries self }
     {
-        self.dump.kept
+        self.dump.entries
     }
 
     /// Returns the state of the dump.
     pub fn state(&self) -> DumpState
         ensures { result ≡ (lossy_progress self.now).state }
     {
-        self.dump.standing.0
+        self.dump.status.0
     }
 
     /// Returns the error number that the end of the dump carries: 0 if the dump is complete, else
@@ -93,7 +93,7 @@ impl LossyDump {
     pub fn error_number(&self) -> Option<i32>
         ensures { result ≡ (lossy_progress self.now).error_number }
     {
-        self.dump.standing.1
+        self.dump.status.1
     }
 
     /// Returns whether the dump was interrupted: whether a message up to and including the one that

@@ -7,12 +7,12 @@ ghost use Rattle.netlink_packet_sock_diag.specs.Feed.{FeedLeadsTo, new_dump};
 ghost use Rattle.netlink_packet_sock_diag.specs.Message.{message_codec};
 ghost use Rattle.netlink_packet_sock_diag.specs.MessageModel.{message_model};
 
-mod fed;
-mod kept;
+mod entry;
+mod generic;
 mod lossy;
 mod views;
 
-use self::fed::FedDump;
+use self::generic::GenericDump;
 pub use self::lossy::LossyDump;
 pub use self::views::{DumpViews, MessageView, PayloadView};
 use crate::message::SockDiagMessage;
@@ -53,7 +53,7 @@ impl Exact for DumpState {
 /// ends the dump; a [`LossyDump`] continues.
 #[derive(Drop)]
 pub struct DumpReader {
-    dump: FedDump<SockDiagMessage>,
+    dump: GenericDump<SockDiagMessage>,
 }
 
 impl DumpReader {
@@ -65,7 +65,7 @@ impl DumpReader {
         ensures { reader_progress result ≡ new_dump }
     {
         DumpReader {
-            dump: FedDump::new(alloc),
+            dump: GenericDump::new(alloc),
         }
     }
 
@@ -95,21 +95,21 @@ impl DumpReader {
         // the messages, the state, the error number and the interruption of a reader.
         ensures { map message_model result.now ≡ (reader_progress self.now).messages }
     {
-        self.dump.kept.as_slice()
+        self.dump.entries.as_slice()
     }
 
     /// Returns the messages read so far, in order, and drops the rest of the reader.
     pub fn into_messages(self) -> Vec<SockDiagMessage>
         ensures { map message_model result.items ≡ (reader_progress self).messages }
     {
-        self.dump.kept
+        self.dump.entries
     }
 
     /// Returns the state of the dump.
     pub fn state(&self) -> DumpState
         ensures { result ≡ (reader_progress self.now).state }
     {
-        self.dump.standing.0
+        self.dump.status.0
     }
 
     /// Returns the error number that the end of the dump carries, as
@@ -118,7 +118,7 @@ impl DumpReader {
     pub fn error_number(&self) -> Option<i32>
         ensures { result ≡ (reader_progress self.now).error_number }
     {
-        self.dump.standing.1
+        self.dump.status.1
     }
 
     /// Returns whether the dump was interrupted: a message up to and including its end had

@@ -1,9 +1,9 @@
 //! Borrowed messages of a datagram, with their payloads.
 
 ghost use Rattle.std.specs.Prelude.{◌≡◌, ◌↔◌, length, IfOk, IfErr, IsTrue, SomeIff};
-ghost use Rattle.netlink_core.specs.Envelope.{IsInnerMessageType, HoldsOfInnerMessage};
-ghost use Rattle.netlink_core.specs.Envelope.{ParsesAsPayload, payload_bytes};
-ghost use Rattle.netlink_core.specs.Faults.{map_ok};
+ghost use Rattle.netlink_core.specs.NetlinkMessage.{IsInnerMessageType, HoldsOfInnerMessage};
+ghost use Rattle.netlink_core.specs.NetlinkMessage.{ParsesAsPayload, payload_bytes};
+ghost use Rattle.netlink_core.specs.Errors.{map_ok};
 ghost use Rattle.netlink_core.specs.Header.{HasHeader};
 ghost use Rattle.netlink_core.specs.Items.{IsItemOf};
 ghost use Rattle.netlink_packet_sock_diag.specs.Message.{message_codec, netlink_message_codec};
@@ -25,12 +25,12 @@ fn read_payload<'a>(
     header: &NetlinkHeader,
     payload: &'a [u8],
 ) -> Result<PayloadView<'a>, DecodeError>
-    // `ParsesAsPayload reads bytes t payload`: the bytes parse as this payload under the message
-    // type `t`, and an inner message by `reads`.
-    ensures value { IfOk result (λ view. ParsesAsPayload message_codec.reads payload.entry.now
+    // `ParsesAsPayload parses bytes t payload`: the bytes parse as this payload under the message
+    // type `t`, and an inner message by `parses`.
+    ensures value { IfOk result (λ view. ParsesAsPayload message_codec.parses payload.entry.now
         header.now.message_type (payload_view_model view)) }
-    ensures fault { IfErr result (λ e. IsInnerMessageType header.now.message_type
-        × message_codec.refuses payload.entry.now header.now.message_type e) }
+    ensures error { IfErr result (λ e. IsInnerMessageType header.now.message_type
+        × message_codec.rejects payload.entry.now header.now.message_type e) }
 {
     Ok(match header.message_type {
         NLMSG_NOOP => PayloadView::Noop,
@@ -44,10 +44,10 @@ fn read_payload<'a>(
 // Returns the length of the serialized payload. Returns `None` if the inner message is not
 // writable.
 fn payload_writable_len(payload: &PayloadView<'_>) -> Option<usize>
-    // `HoldsOfInnerMessage fits payload`: the inner message is writable, if there is one.
-    ensures { SomeIff result (HoldsOfInnerMessage message_codec.fits
+    // `HoldsOfInnerMessage is_writable payload`: the inner message is writable, if there is one.
+    ensures { SomeIff result (HoldsOfInnerMessage message_codec.is_writable
         (payload_view_model payload.now))
-        (length (payload_bytes message_codec.written (payload_view_model payload.now))) }
+        (length (payload_bytes message_codec.serialized (payload_view_model payload.now))) }
 {
     match payload {
         PayloadView::Noop => Some(0),
@@ -85,8 +85,8 @@ impl<'a> MessageView<'a> {
         // `netlink_message_view_model view`: the header, and the payload with the model of its
         // inner message or with its bytes.
         ensures value { IfOk result (λ view.
-            netlink_message_codec.reads bytes.entry.now tt (netlink_message_view_model view)) }
-        ensures fault { IfErr result (netlink_message_codec.refuses bytes.entry.now tt) }
+            netlink_message_codec.parses bytes.entry.now tt (netlink_message_view_model view)) }
+        ensures error { IfErr result (netlink_message_codec.rejects bytes.entry.now tt) }
     {
         let header = NetlinkHeader::from_prefix(bytes)?;
         let payload = &bytes[NETLINK_HEADER_LEN..header.length as usize];
@@ -98,7 +98,7 @@ impl<'a> MessageView<'a> {
     /// at most 4,294,967,295 bytes, including the 16 bytes of its header.
     pub fn is_writable(&self) -> bool
         ensures { IsTrue result
-            ↔ netlink_message_codec.fits (netlink_message_view_model self.now) }
+            ↔ netlink_message_codec.is_writable (netlink_message_view_model self.now) }
     {
         match payload_writable_len(&self.payload) {
             Some(len) => len <= u32::MAX as usize - NETLINK_HEADER_LEN,
@@ -166,7 +166,7 @@ impl<'a> Iterator for DumpViews<'a> {
     fn next(&mut self) -> Option<Result<PayloadView<'a>, DecodeError>> {
         match self.messages.next()? {
             Ok((header, message)) => Some(payload_of(&header, message)),
-            Err(fault) => Some(Err(fault)),
+            Err(error) => Some(Err(error)),
         }
     }
 

@@ -1,7 +1,7 @@
 //! Two requests and four replies with each byte changed. Their truncated forms are lines of the
 //! stored input of the program `sockdiag`.
 
-use super::read_twice::{ReadTwice, read_twice};
+use super::parse_twice::{ParseTwice, parse_twice};
 use super::{ABSTRACT, INET, PATH, PEER, SHUTDOWN, ZEROS, bytes, shows};
 use netlink_core::DecodeError;
 use netlink_packet_sock_diag::inet::{InetRequest, InetResponse};
@@ -14,7 +14,7 @@ use std::process::Abort;
 fn count<T: PartialEq + Drop>(tally: &mut [u32; 11], read: Result<T, DecodeError>, value: &T) {
     let place = match read {
         Ok(read) => u8::from(read != *value),
-        Err(fault) => fault.number(),
+        Err(error) => error.number(),
     };
     if let Some(count) = tally.get_mut(usize::from(place)) {
         *count = count.saturating_add(1);
@@ -32,14 +32,14 @@ fn changed(rt: &impl Abort, alloc: Global, whole: &[u8], place: usize, change: u
 
 /// Parses the bytes in both ways, with each byte in turn changed to each other value. Asserts that
 /// `counts` occurs in what `Debug` prints for the counts.
-fn changes<T: ReadTwice>(rt: &impl Abort, alloc: Global, parts: &[&str], counts: &str) {
+fn changes<T: ParseTwice>(rt: &impl Abort, alloc: Global, parts: &[&str], counts: &str) {
     let whole = bytes(rt, alloc, parts);
-    let value = T::read_once(alloc, &whole).expect(rt, "refused");
+    let value = T::parse_once(alloc, &whole).expect(rt, "refused");
     let mut tally = [0; 11];
     for place in 0..whole.len() {
         for change in 1..=u8::MAX {
             let changed = changed(rt, alloc, &whole, place, change);
-            count(&mut tally, read_twice::<T>(rt, alloc, &changed), &value);
+            count(&mut tally, parse_twice::<T>(rt, alloc, &changed), &value);
         }
     }
     shows(rt, alloc, &tally, counts);

@@ -1,7 +1,7 @@
 //! What `Debug` prints for replies and messages, or a part of it. A row has more digits for the
 //! bytes, a space, and that part.
 
-use super::read_twice::{ReadTwice, read_twice};
+use super::parse_twice::{ParseTwice, parse_twice};
 use super::{CONNECTED, INET, PATH, PEER, SHUTDOWN, bytes, cells, shows};
 use netlink_core::{NetlinkDeserializable, NetlinkMessage};
 use netlink_packet_sock_diag::inet::InetResponse;
@@ -12,9 +12,9 @@ use std::fmt::Debug;
 use std::process::Abort;
 
 /// Asserts that the part in the row occurs in what `Debug` prints for the result of both parsers.
-fn tell<T: ReadTwice>(rt: &impl Abort, alloc: Global, front: &str, row: &str) {
+fn tell<T: ParseTwice>(rt: &impl Abort, alloc: Global, front: &str, row: &str) {
     let (reply, part) = cells(rt, alloc, front, row);
-    shows(rt, alloc, &read_twice::<T>(rt, alloc, &reply), part);
+    shows(rt, alloc, &parse_twice::<T>(rt, alloc, &reply), part);
 }
 
 /// For the reply `PATH`.
@@ -58,7 +58,7 @@ fn replies_and_a_message(rt: HostRuntime) {
 }
 
 /// Asserts that `Debug` prints `count + 1` equal attributes of a reply.
-fn tell_many<T: ReadTwice>(
+fn check_many<T: ParseTwice>(
     rt: &impl Abort,
     alloc: Global,
     header: &str,
@@ -71,19 +71,19 @@ fn tell_many<T: ReadTwice>(
     let text = ["nlas: [", &many, "Shutdown(2)] })"]
         .concat(alloc)
         .expect(rt, "memory");
-    shows(rt, alloc, &read_twice::<T>(rt, alloc, &reply), &text);
+    shows(rt, alloc, &parse_twice::<T>(rt, alloc, &reply), &text);
 }
 
 #[test]
 fn replies_with_many_attributes(rt: HostRuntime) {
     for count in [0, 1, 7, 8, 9, 300, 10_000] {
-        tell_many::<UnixResponse>(&rt, rt.alloc(), CONNECTED, "0500060002000000", count);
-        tell_many::<InetResponse>(&rt, rt.alloc(), INET, "0500080002000000", count);
+        check_many::<UnixResponse>(&rt, rt.alloc(), CONNECTED, "0500060002000000", count);
+        check_many::<InetResponse>(&rt, rt.alloc(), INET, "0500080002000000", count);
     }
 }
 
 /// Asserts what `Debug` prints for the netlink message in each row.
-fn tell_envelopes<I: NetlinkDeserializable + Debug + Drop>(
+fn check_messages<I: NetlinkDeserializable + Debug + Drop>(
     rt: &impl Abort,
     alloc: Global,
     rows: &str,
@@ -129,6 +129,6 @@ message_type: 21 })";
 
 #[test]
 fn envelopes(rt: HostRuntime) {
-    tell_envelopes::<SockDiagMessage>(&rt, rt.alloc(), ENVELOPES);
-    tell_envelopes::<SockDiagDestroy>(&rt, rt.alloc(), CLOSING);
+    check_messages::<SockDiagMessage>(&rt, rt.alloc(), ENVELOPES);
+    check_messages::<SockDiagDestroy>(&rt, rt.alloc(), CLOSING);
 }

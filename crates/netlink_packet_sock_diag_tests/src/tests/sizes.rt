@@ -1,6 +1,6 @@
 //! Lists, payloads and dumps of each size: no allocation fails if there is memory. Long attributes.
 
-use super::read_twice::{ReadTwice, read_twice};
+use super::parse_twice::{ParseTwice, parse_twice};
 use super::{CONNECTED, INET, LISTENING, bytes, shows};
 use netlink_core::{CanonError, NetlinkMessage, NetlinkPayload, canonical};
 use netlink_packet_sock_diag::inet::InetResponse;
@@ -19,8 +19,8 @@ const SIZES: [u32; 15] = [
 ];
 
 /// Asserts that both parsers accept the bytes, and that the bytes have a canonical form.
-fn accepts<T: ReadTwice>(rt: &impl Abort, alloc: Global, bytes: &[u8]) {
-    assert!(rt; read_twice::<T>(rt, alloc, bytes).is_ok());
+fn accepts<T: ParseTwice>(rt: &impl Abort, alloc: Global, bytes: &[u8]) {
+    assert!(rt; parse_twice::<T>(rt, alloc, bytes).is_ok());
     assert!(rt; T::rewritten(alloc, bytes).is_ok());
 }
 
@@ -54,7 +54,7 @@ fn repeated(
 
 /// Asserts that a reply with this number of attributes is parsed, by itself and in a netlink
 /// message.
-fn has_room_for<T: ReadTwice>(
+fn has_room_for<T: ParseTwice>(
     rt: &impl Abort,
     alloc: Global,
     header: &str,
@@ -68,7 +68,7 @@ fn has_room_for<T: ReadTwice>(
 }
 
 /// Asserts that a reply with each number of attributes is parsed.
-fn has_room<T: ReadTwice>(rt: &impl Abort, alloc: Global, header: &str, attribute: &str) {
+fn has_room<T: ParseTwice>(rt: &impl Abort, alloc: Global, header: &str, attribute: &str) {
     for count in (0..301).chain(COUNTS) {
         has_room_for::<T>(rt, alloc, header, attribute, count);
     }

@@ -17,7 +17,7 @@ fn writes<T: Emitable>(rt: &impl Abort, alloc: Global, value: &T, parts: &[&str]
 }
 
 #[test]
-fn a_unix_reply_in_place(rt: HostRuntime) {
+fn a_borrowed_unix_reply(rt: HostRuntime) {
     let alloc = rt.alloc();
     let parts = [PATH, "0c0003000500000006000000"];
     let reply = bytes(&rt, alloc, &parts);
@@ -33,7 +33,7 @@ fn a_unix_reply_in_place(rt: HostRuntime) {
 }
 
 #[test]
-fn an_inet_reply_in_place(rt: HostRuntime) {
+fn a_borrowed_inet_reply(rt: HostRuntime) {
     let alloc = rt.alloc();
     let reply = bytes(&rt, alloc, &[INET, "090004006375626963000000", SHUTDOWN]);
     let text = "InetResponse(InetResponseView { bytes: [2, 1, 2, 0, 235, 20, 1, 187, 192, ";
@@ -168,7 +168,7 @@ fn lossy(rt: &impl Abort, alloc: Global, datagrams: &str, part: &str) {
 }
 
 #[test]
-fn dumps_go_past_refused_replies(rt: HostRuntime) {
+fn lossy_dumps_continue_after_invalid_replies(rt: HostRuntime) {
     for row in LOSSY_DUMPS.lines() {
         let (datagrams, part) = row.split_once(": ").expect(&rt, "no part");
         lossy(&rt, rt.alloc(), datagrams, part);

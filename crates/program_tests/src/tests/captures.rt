@@ -2,7 +2,7 @@
 
 use netlink_core::{DecodeError, RecordName};
 use sock_diag_captures::{
-    ByteOrder, CaptureError, HEADING, Issue, ListError, Options, ReadError, WriteError, run,
+    ByteOrder, CaptureError, Diagnostic, HEADING, ListError, Options, ReadError, WriteError, run,
     run_to_status,
 };
 use std::alloc::Global;
@@ -55,8 +55,8 @@ fn push_packet(
     let length = u32::try_from(bytes.len()).expect(rt, "a short datagram");
     for word in [7, 9, length, 0] {
         let word: [u8; 4] = match order {
-            ByteOrder::LowFirst => word.to_le_bytes(),
-            ByteOrder::HighFirst => word.to_be_bytes(),
+            ByteOrder::LittleEndian => word.to_le_bytes(),
+            ByteOrder::BigEndian => word.to_be_bytes(),
         };
         capture.extend_from_slice(&word).expect(rt, "memory");
     }
@@ -67,8 +67,8 @@ fn push_packet(
 fn captured(rt: &impl Abort, alloc: Global, header: &str, packets: &[[&str; 2]]) -> Vec<u8> {
     let mut capture = decoded(rt, alloc, &[header]);
     let order = match header.starts_with('a') {
-        true => ByteOrder::HighFirst,
-        false => ByteOrder::LowFirst,
+        true => ByteOrder::BigEndian,
+        false => ByteOrder::LittleEndian,
     };
     for digits in packets {
         push_packet(rt, alloc, &mut capture, order, digits);
@@ -290,20 +290,20 @@ fn lists_a_long_datagram(rt: HostRuntime) {
 /// A capture that is truncated at any byte has the lines of its complete packets, and an error with
 /// the position.
 #[test]
-fn tells_where_a_capture_is_cut(rt: HostRuntime) {
+fn reports_where_a_capture_is_truncated(rt: HostRuntime) {
     let alloc = rt.alloc();
     let packets = [[SOCK_DIAG, UNIX], [SOCK_DIAG, INET6]];
     let capture = captured(&rt, alloc, HEADERS[3], &packets);
     let whole = captured(&rt, alloc, HEADERS[3], &packets[..1]).len();
     for len in 0..capture.len() {
-        let fault = CaptureError::Cut;
+        let error = CaptureError::Truncated;
         let want = match len {
             0 => Err(ListError::Header(CaptureError::Empty)),
-            1..24 => Err(ListError::Header(fault)),
+            1..24 => Err(ListError::Header(error)),
             24 => Ok(true),
-            _ if len < whole => Err(ListError::Packet { packet: 1, fault }),
+            _ if len < whole => Err(ListError::Packet { packet: 1, error }),
             _ if len == whole => Ok(true),
-            _ => Err(ListError::Packet { packet: 2, fault }),
+            _ => Err(ListError::Packet { packet: 2, error }),
         };
         let line = [UNIX_LINE];
         let lines: Option<&[&str]> = if len >= whole { Some(&line) } else { None };
@@ -350,7 +350,7 @@ fn tells(rt: &impl Abort, alloc: Global, parts: &[&str], want: &str) {
 
 /// The diagnostics and failures on standard error, with their numbers.
 #[test]
-fn tells_why(rt: HostRuntime) {
+fn reports_why(rt: HostRuntime) {
     let alloc = rt.alloc();
     let parts = [FRONT, OF_100, OF_SOCK_DIAG, SHORT, SHORT, SHORT];
     let want = "packet 1, message 1: UnixResponseHeader: buffer of 12 bytes, at least 16 needed\n\
@@ -386,9 +386,9 @@ sslist: packet 6: the capture is truncated";
 
 /// The texts of errors that the other tests do not cause.
 #[test]
-fn errors_of_a_run_have_words(rt: HostRuntime) {
-    let (packet, fault) = (2, CaptureError::Read(ReadError::Other));
-    let (cut, memory) = (ListError::Packet { packet, fault }, ListError::Memory);
+fn errors_of_a_run_have_texts(rt: HostRuntime) {
+    let (packet, error) = (2, CaptureError::Read(ReadError::Other));
+    let (cut, memory) = (ListError::Packet { packet, error }, ListError::Memory);
     let (lack, folder) = (
         CaptureError::Memory,
         CaptureError::Read(ReadError::Directory),
@@ -411,16 +411,16 @@ not a pcap capture: it begins with 00000a0b, unsupported pcap version 1, expecte
 }
 
 /// Checks that the diagnostic of a decode error has the text of its `Display`.
-fn has_the_text_of(rt: &impl Abort, alloc: Global, fault: DecodeError) {
-    let text = format!(in alloc; "{fault}").expect(rt, "memory");
-    let issue = Issue::Refused(fault);
-    let shown = format!(in alloc; "{issue}").expect(rt, "memory");
+fn has_the_text_of(rt: &impl Abort, alloc: Global, error: DecodeError) {
+    let text = format!(in alloc; "{error}").expect(rt, "memory");
+    let diagnostic = Diagnostic::Refused(error);
+    let shown = format!(in alloc; "{diagnostic}").expect(rt, "memory");
     assert!(rt; shown.as_str() == text.as_str(), "{shown}");
 }
 
 /// Each decode error, and each record that a decode error names.
 #[test]
-fn faults_have_their_own_texts(rt: HostRuntime) {
+fn decode_errors_have_their_own_texts(rt: HostRuntime) {
     let (family, message_type, kind) = (3, 21, Some(6));
     let (got, need, left, index) = (5, 72, 2, 9);
     let faults = [
@@ -442,8 +442,8 @@ fn faults_have_their_own_texts(rt: HostRuntime) {
         DecodeError::EnvelopeLengthUnder16 { length: 7 },
         DecodeError::EnvelopeLengthPast { length: 40, got },
     ];
-    for fault in faults {
-        has_the_text_of(&rt, rt.alloc(), fault);
+    for error in faults {
+        has_the_text_of(&rt, rt.alloc(), error);
     }
     let records = [
         RecordName::SocketId,

@@ -34,7 +34,7 @@ fn repeated(rt: &impl Abort, alloc: Global, text: Repeated) -> String {
 }
 
 #[test]
-fn errors_of_a_run_have_words(rt: HostRuntime) {
+fn errors_of_a_run_have_texts(rt: HostRuntime) {
     for (error, want) in [
         (RunError::Read, "Read: reading failed"),
         (RunError::Write, "Write: writing failed"),

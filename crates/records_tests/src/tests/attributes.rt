@@ -187,7 +187,7 @@ fn refusals(rt: HostRuntime) {
 }
 
 // Asserts that a value serializes to these bytes, and that these parse as this text.
-fn reads_back<T: Wire<Param = ()> + Debug + Drop>(
+fn round_trips<T: Wire<Param = ()> + Debug + Drop>(
     rt: &impl Abort,
     alloc: Global,
     value: &T,
@@ -200,7 +200,7 @@ fn reads_back<T: Wire<Param = ()> + Debug + Drop>(
 }
 
 #[test]
-fn values_that_no_reader_gives(rt: HostRuntime) {
+fn values_that_no_parser_returns(rt: HostRuntime) {
     let alloc = rt.alloc();
     for (path, bytes, text) in [
         (b"".as_slice(), b"\0".as_slice(), "Ok(Abstract([]))"),
@@ -208,7 +208,7 @@ fn values_that_no_reader_gives(rt: HostRuntime) {
         (b"\0a", b"\0a\0", "Ok(Abstract([97, 0]))"),
     ] {
         let name = UnixDiagName::Pathname(Vec::from_slice(alloc, path).expect(&rt, "memory"));
-        reads_back(&rt, alloc, &name, bytes, text);
+        round_trips(&rt, alloc, &name, bytes, text);
     }
     let peer: &[u8] = b"\x08\0\x02\0\x01\0\0\0";
     let short = "Err(WrongLength { kind: Some(2), got: 1, need: 4 })";
@@ -220,6 +220,6 @@ fn values_that_no_reader_gives(rt: HostRuntime) {
             type_word,
             Vec::from_slice(alloc, value).expect(&rt, "memory"),
         );
-        reads_back(&rt, alloc, &Nla::Other(nla), bytes, text);
+        round_trips(&rt, alloc, &Nla::Other(nla), bytes, text);
     }
 }

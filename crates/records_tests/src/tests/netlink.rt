@@ -8,7 +8,7 @@ use std::alloc::Global;
 use std::process::Abort;
 
 #[test]
-fn an_attribute_is_read_in_place(rt: HostRuntime) {
+fn an_attribute_is_borrowed(rt: HostRuntime) {
     let alloc = rt.alloc();
     let bytes: &[u8] = &[6, 0, 6, 0x80, 2, 3, 0xaa];
     let nla = NlaBuffer::new_checked(bytes).expect(&rt, "refused");
@@ -28,7 +28,7 @@ fn an_attribute_is_read_in_place(rt: HostRuntime) {
 }
 
 #[test]
-fn attributes_and_their_faults(rt: HostRuntime) {
+fn attributes_and_their_errors(rt: HostRuntime) {
     let two: &[u8] = &[5, 0, 7, 0x80, 1, 0xee, 0xee, 0xee, 4, 0, 8, 0, 1];
     let text = "[Ok(NlaBuffer { type_word: 32775, value: [1] }), \
         Ok(NlaBuffer { type_word: 8, value: [] }), Err(AttributeHeaderCut { left: 1 })]";
@@ -117,11 +117,11 @@ family: 5 })
 ";
 
 #[test]
-fn faults_tell_numbers_and_texts(rt: HostRuntime) {
+fn errors_have_codes_and_texts(rt: HostRuntime) {
     let mut lines = FAULTS.lines();
-    for fault in &faults() {
-        let text = format!(in rt.alloc(); "{fault}").expect(&rt, "memory");
-        let told = (fault.number(), text, fault);
+    for error in &faults() {
+        let text = format!(in rt.alloc(); "{error}").expect(&rt, "memory");
+        let told = (error.number(), text, error);
         shows(&rt, rt.alloc(), &told, lines.next().expect(&rt, "no line"));
     }
     let reasons = [CanonError::Unwritable, CanonError::Memory];

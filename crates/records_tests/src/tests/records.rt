@@ -130,7 +130,7 @@ fn words(rt: &impl Abort, alloc: Global, bytes: &[u8], end: &str, kept: &[u8]) {
 }
 
 #[test]
-fn memory_of_seven_to_nine_words(rt: HostRuntime) {
+fn memory_of_seven_to_nine_fields(rt: HostRuntime) {
     let places = places();
     let seven = "backlog_queue_length: None, drops: None }, MemInfoBuffer { bytes: Seven";
     let eight =
@@ -236,7 +236,7 @@ fn requests(rt: HostRuntime) {
 }
 
 #[test]
-fn durations_that_are_no_milliseconds_of_a_word(rt: HostRuntime) {
+fn durations_that_do_not_fit_milliseconds(rt: HostRuntime) {
     for (duration, expires) in [
         (Duration::from_nanos(1_500_000), [1, 0, 0, 0]),
         (Duration::from_millis(4_294_967_301), [5, 0, 0, 0]),
@@ -251,7 +251,7 @@ fn durations_that_are_no_milliseconds_of_a_word(rt: HostRuntime) {
 }
 
 #[test]
-fn values_that_no_reader_gives(rt: HostRuntime) {
+fn values_that_no_parser_returns(rt: HostRuntime) {
     let octets = [1, 2, 3, 4, 5, 6, 7, 8, 9, 10, 11, 12, 13, 14, 15, 16];
     let mut identity = SocketId::new_v4();
     identity.source_address = IpAddr::V6(Ipv6Addr::from(octets));

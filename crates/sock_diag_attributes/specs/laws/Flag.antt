@@ -14,15 +14,15 @@ truth_decides m n = (λ e. (λ z. grind arith, λ z. grind arith), λ h. grind a
 -- a flag satisfies the codec laws
 pub flag_laws : (k : ℕ) → KeepsCodecLaws (as_codec (flag_value k))
 flag_laws k = record {
-  answered = λ b p in_range. value_or_error ((flag_value k).reads tt b);
-  one_answer = λ b p v e h g. cc;
-  one_fault = λ b p e f h g. cc;
-  named_fault = λ b p h. grind arith;
-  same_value = λ b c p v w b-in_range c-in_range h g.
+  is_total = λ b p in_range. value_or_error ((flag_value k).parses tt b);
+  is_exclusive = λ b p v e h g. cc;
+  error_is_unique = λ b p e f h g. cc;
+  error_is_not_memory = λ b p h. grind arith;
+  equal_iff_equivalent = λ b c p v w b-in_range c-in_range h g.
       let left : not (slice_index b 0 == 0) ≡ v = grind (arith, h) in
       let right : not (slice_index c 0 == 0) ≡ w = grind (arith, g) in
       rw (← left, ← right) (truth_decides (slice_index b 0) (slice_index c 0));
-  reads_normal = λ b p v in_range h. (tt, tt);
-  written_bytes = λ v in_range. IsBytes-cons _ [] (grind arith) IsBytes-nil;
-  reads_back = λ p v in_range normal room. grind arith;
+  parsed_is_normal = λ b p v in_range h. (tt, tt);
+  serialized_in_range = λ v in_range. IsBytes-cons _ [] (grind arith) IsBytes-nil;
+  round_trips = λ p v in_range normal room. grind arith;
 }

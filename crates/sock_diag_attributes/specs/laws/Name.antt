@@ -19,9 +19,9 @@ use Rattle.std.proofs.Math.ListN.{get_or-append}
 use Rattle.std.proofs.Math.Seq.{take-append_seam}
 use Rattle.std.proofs.lemmas.List.Elements.{All-push}
 use Rattle.netlink_core.specs.Bytes.{IsBytes}
-use Rattle.netlink_core.specs.declared.fault.DecodeError.{DecodeError}
-use Rattle.netlink_core.specs.declared.fault.DecodeError.TheVariants.{Memory, NameInnerZero}
-use Rattle.netlink_core.specs.declared.fault.DecodeError.TheVariants.{NameWithoutEnd}
+use Rattle.netlink_core.specs.declared.error.DecodeError.{DecodeError}
+use Rattle.netlink_core.specs.declared.error.DecodeError.TheVariants.{Memory, NameInnerZero}
+use Rattle.netlink_core.specs.declared.error.DecodeError.TheVariants.{NameWithoutEnd}
 use Rattle.netlink_core.specs.laws.Byte.{IsBytes-append, IsBytes-cons, IsBytes-nil}
 use Rattle.sock_diag_attributes.specs.declared.unix.name.SocketName.{SocketName}
 use Rattle.sock_diag_attributes.specs.declared.unix.name.SocketName.TheVariants.{Pathname}
@@ -134,12 +134,12 @@ name_laws = whole_value_laws read_name name_bytes (λ u. IsBytes (name_bytes u))
 -- a name by itself satisfies the codec laws
 pub name_codec_laws : KeepsCodecLaws name_codec
 name_codec_laws = record {
-  answered = name_laws.answered;
-  one_answer = name_laws.one_answer;
-  one_fault = name_laws.one_fault;
-  named_fault = name_laws.named_fault;
-  same_value = name_laws.same_value;
-  reads_normal = name_laws.reads_normal;
-  written_bytes = name_laws.written_bytes;
-  reads_back = λ p v in_range normal room. name_laws.reads_back p v in_range normal tt;
+  is_total = name_laws.is_total;
+  is_exclusive = name_laws.is_exclusive;
+  error_is_unique = name_laws.error_is_unique;
+  error_is_not_memory = name_laws.error_is_not_memory;
+  equal_iff_equivalent = name_laws.equal_iff_equivalent;
+  parsed_is_normal = name_laws.parsed_is_normal;
+  serialized_in_range = name_laws.serialized_in_range;
+  round_trips = λ p v in_range normal room. name_laws.round_trips p v in_range normal tt;
 }

@@ -109,7 +109,7 @@ numbers_laws =
     )
 
 pub number_pair_laws : (k : ℕ) → KeepsCodecLaws (as_codec (number_pair_value k))
-number_pair_laws k = whole_value_laws ((number_pair_value k).reads tt) (number_pair_value k).bytes
+number_pair_laws k = whole_value_laws ((number_pair_value k).parses tt) (number_pair_value k).bytes
     (λ ns. (ns.0 < 2 ^ 32) × (ns.1 < 2 ^ 32)) (λ ns. ⊤) (λ x h. grind arith)
     (λ x u in_range h.
     let same : (little_number 4 x, little_number 4 (drop 4 x)) ≡ u = grind arith in

@@ -26,7 +26,7 @@ has_no_terminating_nul s = (
 -- two values have equal texts if and only if they are equivalent
 equal_texts_iff_equivalent : (b c : List ℕ)
     → (without_terminating_nul b ≡ without_terminating_nul c)
-    ↔ text_value.idle tt b c
+    ↔ text_value.equivalent tt b c
 equal_texts_iff_equivalent b c =
     grind (
       arith,
@@ -55,18 +55,18 @@ text_bytes_in_range b in_range =
 -- a text satisfies the codec laws
 pub text_value_laws : KeepsCodecLaws (as_codec text_value)
 text_value_laws = record {
-  answered = λ b p in_range. value_or_error (parse_text b);
-  one_answer = λ b p v e h k. cc;
-  one_fault = λ b p e f h k. cc;
-  named_fault = λ b p h. grind arith;
-  same_value = λ b c p v w b-in_range c-in_range h k.
+  is_total = λ b p in_range. value_or_error (parse_text b);
+  is_exclusive = λ b p v e h k. cc;
+  error_is_unique = λ b p e f h k. cc;
+  error_is_not_memory = λ b p h. grind arith;
+  equal_iff_equivalent = λ b c p v w b-in_range c-in_range h k.
       rw (← (text_is b v h).0, ← (text_is c w k).0) (equal_texts_iff_equivalent b c);
-  reads_normal = λ b p v in_range h.
+  parsed_is_normal = λ b p v in_range h.
       let read = text_is b v h in
       (rw (← read.0) (read.1, text_bytes_in_range b in_range), tt);
-  written_bytes = λ v in_range. IsBytes-append v (0 ∷ []) in_range.1
+  serialized_in_range = λ v in_range. IsBytes-append v (0 ∷ []) in_range.1
       (IsBytes-cons 0 [] (omega arith) IsBytes-nil);
-  reads_back = λ p v in_range normal room. valid_utf8_is_text (v ++ 0 ∷ []) v
+  round_trips = λ p v in_range normal room. valid_utf8_is_text (v ++ 0 ∷ []) v
       (sym (terminating_nul_is_removed v))
       (rw terminating_nul_is_removed in_range.0);
 }

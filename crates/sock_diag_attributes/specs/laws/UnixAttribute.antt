@@ -1,6 +1,6 @@
 -- The codec laws of the attributes of replies about UNIX sockets.
 use Rattle.std.proofs.Common.{refl}
-use Rattle.netlink_core.specs.laws.Shown.{AttributeSetLaws}
+use Rattle.netlink_core.specs.laws.ReplyObligations.{AttributeSetLaws}
 use Rattle.netlink_core.proofs.AttributeTypeLaws.{◌⊕◌, attribute_spec_laws}
 use Rattle.netlink_core.proofs.AttributeTypeLaws.{allocating_attribute_spec_laws}
 use Rattle.netlink_core.proofs.AttributeTypeLaws.{number_attribute_laws}

@@ -1,5 +1,5 @@
 //! Attributes of replies about IPv4 and IPv6 sockets.
 
-mod coded;
+mod codec;
 mod family;
 pub mod nlas;

@@ -7,7 +7,7 @@ ghost use Rattle.netlink_core.specs.AttributeSet.{NeedsNoMemoryIn, IsInRangeIn};
 ghost use Rattle.netlink_core.specs.Walk.{buffered_attribute};
 ghost use Rattle.sock_diag_attributes.specs.private.Value.{value_bytes, IsValueInRange};
 
-use crate::lent::OtherNla;
+use crate::borrowed::OtherNla;
 use crate::numbers::{exact_flag, exact_u8, exact_u32};
 use crate::value::Value;
 use netlink_core::{
@@ -129,7 +129,8 @@ impl Nla {
         ensures equal { IfOk result (λ copy. inet_nla_model copy ≡ inet_nla_model self.now) }
         // `spare`: cloning does not fail for types whose values need no memory: any variant except
         // `Congestion` and `Other`.
-        ensures spare { NeedsNoMemoryIn inet_attribute_set (inet_nla_model self.now) → IsOk result }
+        ensures needs_no_memory { NeedsNoMemoryIn inet_attribute_set (inet_nla_model self.now)
+            → IsOk result }
         // `empty`: cloning does not fail if the value serializes to no bytes: an `Other` without
         // bytes.
         ensures empty { (encode_attribute inet_attribute_set (inet_nla_model self.now)).value ≡ []
@@ -148,7 +149,7 @@ impl<T: AsStr, O: OtherNla> InetNla<T, O> {
     fn owned(&self, alloc: Global) -> Result<Nla, AllocError>
         ensures equal { IfOk result (λ nla. inet_nla_model nla
             ≡ inet_nla_value T.text O.attribute self.now) }
-        ensures spare { NeedsNoMemoryIn inet_attribute_set
+        ensures needs_no_memory { NeedsNoMemoryIn inet_attribute_set
             (inet_nla_value T.text O.attribute self.now)
             → IsOk result }
         ensures empty { (encode_attribute inet_attribute_set
@@ -169,7 +170,7 @@ impl<T: AsStr, O: OtherNla> InetNla<T, O> {
             InetNla::SkV6Only(only) => Nla::SkV6Only(*only),
             InetNla::Mark(mark) => Nla::Mark(*mark),
             InetNla::ClassId(class) => Nla::ClassId(*class),
-            InetNla::Other(nla) => Nla::Other(nla.to_kept(alloc)?),
+            InetNla::Other(nla) => Nla::Other(nla.to_owned_nla(alloc)?),
         })
     }
 
@@ -260,7 +261,7 @@ impl<'a> NlaView<'a> {
         ensures equal { IfOk result (λ nla. inet_nla_model nla ≡ inet_nla_view_model self.now) }
         // `spare`: cloning does not fail for types whose values need no memory: any variant except
         // `Congestion` and `Other`.
-        ensures spare { NeedsNoMemoryIn inet_attribute_set (inet_nla_view_model self.now)
+        ensures needs_no_memory { NeedsNoMemoryIn inet_attribute_set (inet_nla_view_model self.now)
             → IsOk result }
         // `empty`: cloning does not fail if the value serializes to no bytes: an `Other` without
         // bytes.

@@ -3,10 +3,10 @@
 ghost use Rattle.std.specs.Prelude.{refl};
 ghost use Rattle.sock_diag_attributes.specs.UnixAttributes.{unix_attribute_set};
 ghost use Rattle.sock_diag_attributes.specs.UnixModel.{unix_nla_model, unix_nla_view_model};
-ghost use Rattle.sock_diag_attributes.specs.contracts.unix.coded.NlaCoded.TheImpl.Laws.{eq_is_model-law as same_nla};
+ghost use Rattle.sock_diag_attributes.specs.contracts.unix.codec.NlaHasCodec.TheImpl.Laws.{eq_is_model-law as same_nla};
 
 use super::nlas::{Nla, NlaView};
-use netlink_core::{Coded, DecodeError, FamilyNla, FamilyView, NlaBuffer};
+use netlink_core::{DecodeError, FamilyNla, FamilyView, HasCodec, NlaBuffer};
 use std::alloc::{AllocError, Global};
 
 impl<'a> FamilyView<'a> for NlaView<'a> {
@@ -14,7 +14,7 @@ impl<'a> FamilyView<'a> for NlaView<'a> {
 
     ghost model = { unix_nla_view_model };
 
-    ghost written_as = { λ _. refl };
+    ghost attribute_by_model = { λ _. refl };
 
     #[inline(always)]
     fn read_view(nla: &NlaBuffer<'a>) -> Result<Self, DecodeError> {
@@ -41,11 +41,11 @@ impl FamilyNla for Nla {
         self.clone(alloc)
     }
 
-    fn value_in_range(&self) {
-        self.in_range();
+    fn prove_value_in_range(&self) {
+        self.prove_in_range();
     }
 
-    ghost written_as = { λ _. refl };
+    ghost attribute_by_model = { λ _. refl };
 
     ghost eq_is_model = { same_nla };
 }

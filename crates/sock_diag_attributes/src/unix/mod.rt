@@ -1,6 +1,6 @@
 //! Attributes of replies about UNIX sockets.
 
-mod coded;
+mod codec;
 mod family;
 mod name;
 pub mod nlas;

@@ -8,8 +8,8 @@ ghost use Rattle.sock_diag_attributes.specs.Name.{read_name, name_bytes, name_co
 ghost use Rattle.sock_diag_attributes.specs.laws.Name.{HasNoZero, name_codec_laws};
 
 use netlink_core::{
-    CanonError, Coded, DecodeError, Emitable, Parseable, Readable, Wire, bytes_in_range, copy_list,
-    write_new,
+    CanonError, DecodeError, Emitable, HasCodec, Parseable, Readable, Wire, copy_list,
+    prove_bytes_in_range, write_new,
 };
 use std::alloc::{AllocError, Global};
 
@@ -54,7 +54,7 @@ impl UnixDiagName {
         // name_bytes: the bytes that a name serializes to, including its zero.
         ensures equal { IfOk result (λ name. socket_name_model vec_items name
             ≡ socket_name_model vec_items self.now) }
-        ensures spare { length (name_bytes (socket_name_model vec_items self.now)) ≤ 1
+        ensures needs_no_memory { length (name_bytes (socket_name_model vec_items self.now)) ≤ 1
             → IsOk result }
     {
         self.view().to_owned(alloc)
@@ -148,12 +148,12 @@ impl<'a> NameView<'a> {
 
     // Proof only: puts the range of the bytes in scope. No run-time effect.
     #[tactic(auto, using(crate::specs::laws::Name::path_bytes_in_range, crate::specs::laws::Name::address_bytes_in_range))]
-    pub(crate) fn in_range(&self)
+    pub(crate) fn prove_in_range(&self)
         ensures { IsBytes (name_bytes (socket_name_model (λ b. b.now) self.now)) }
     {
         match self {
-            NameView::Pathname(path) => bytes_in_range(path),
-            NameView::Abstract(address) => bytes_in_range(address),
+            NameView::Pathname(path) => prove_bytes_in_range(path),
+            NameView::Abstract(address) => prove_bytes_in_range(address),
         }
     }
 
@@ -163,7 +163,7 @@ impl<'a> NameView<'a> {
     pub fn to_owned(&self, alloc: Global) -> Result<UnixDiagName, AllocError>
         ensures equal { IfOk result (λ name.
             socket_name_model vec_items name ≡ socket_name_model (λ b. b.now) self.now) }
-        ensures spare { length (name_bytes (socket_name_model (λ b. b.now) self.now)) ≤ 1
+        ensures needs_no_memory { length (name_bytes (socket_name_model (λ b. b.now) self.now)) ≤ 1
             → IsOk result }
     {
         Ok(match self {
@@ -231,10 +231,10 @@ impl Emitable for NameView<'_> {
     }
 }
 
-impl Coded for UnixDiagName {
+impl HasCodec for UnixDiagName {
     ghost use Rattle.sock_diag_attributes.specs.NameModel.{socket_name_model};
     ghost use Rattle.sock_diag_attributes.specs.laws.EqualName.{names_equal};
-    ghost use Rattle.sock_diag_attributes.specs.laws.Lent.{byte_list_row};
+    ghost use Rattle.sock_diag_attributes.specs.laws.AttributeParts.{byte_list_row};
 
     type Param = ();
 
@@ -242,10 +242,10 @@ impl Coded for UnixDiagName {
 
     ghost model = { socket_name_model vec_items };
 
-    ghost type_written = { λ _. 0 };
+    ghost serialized_type = { λ _. 0 };
 
-    fn in_range(&self) {
-        self.view().in_range();
+    fn prove_in_range(&self) {
+        self.view().prove_in_range();
     }
 
     ghost eq_is_model = { names_equal byte_list_row _ vec_items (λ _ _. refl) };
@@ -262,9 +262,9 @@ impl Wire for UnixDiagName {
         write_new(alloc, &NameView::parse(bytes)?)
     }
 
-    ghost written_is = { λ _. refl };
+    ghost bytes_by_codec = { λ _. refl };
 
-    ghost fits_is = { λ _. (λ h. h, λ h. h) };
+    ghost writable_by_codec = { λ _. (λ h. h, λ h. h) };
 }
 
 // Returns the index of the first zero. Usually there is none, which `contains` finds out faster

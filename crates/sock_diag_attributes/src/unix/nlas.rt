@@ -7,7 +7,7 @@ ghost use Rattle.netlink_core.specs.AttributeSet.{NeedsNoMemoryIn, IsInRangeIn};
 ghost use Rattle.netlink_core.specs.Walk.{buffered_attribute};
 ghost use Rattle.sock_diag_attributes.specs.private.Value.{value_bytes, IsValueInRange};
 
-use crate::lent::{LendsName, LendsNumbers, OtherNla};
+use crate::borrowed::{BorrowName, BorrowNumbers, OtherNla};
 pub use crate::numbers::{NumbersIterator, NumbersView};
 use crate::numbers::{exact_u8, exact_u32, exact_u32_pair};
 pub use crate::unix::name::{NameView, SocketName, UnixDiagName};
@@ -64,7 +64,7 @@ impl Readable for Nla {
     ghost TAKES_MEMORY = { true };
 }
 
-impl<N: LendsName, L: LendsNumbers, O: OtherNla> Emitable for UnixNla<N, L, O> {
+impl<N: BorrowName, L: BorrowNumbers, O: OtherNla> Emitable for UnixNla<N, L, O> {
     ghost use Rattle.sock_diag_attributes.specs.UnixAttributes.{unix_attribute_set};
     ghost use Rattle.sock_diag_attributes.specs.UnixModel.{unix_nla_value};
 
@@ -113,7 +113,8 @@ impl Nla {
         ensures equal { IfOk result (λ copy. unix_nla_model copy ≡ unix_nla_model self.now) }
         // `spare`: cloning does not fail for types whose values need no memory: any variant except
         // `Name`, `PendingConnections` and `Other`.
-        ensures spare { NeedsNoMemoryIn unix_attribute_set (unix_nla_model self.now) → IsOk result }
+        ensures needs_no_memory { NeedsNoMemoryIn unix_attribute_set (unix_nla_model self.now)
+            → IsOk result }
         // `empty`: cloning does not fail if the value serializes to no bytes: a
         // `PendingConnections` or an `Other` without bytes.
         ensures empty { (encode_attribute unix_attribute_set (unix_nla_model self.now)).value ≡ []
@@ -123,7 +124,7 @@ impl Nla {
     }
 }
 
-impl<N: LendsName, L: LendsNumbers, O: OtherNla> UnixNla<N, L, O> {
+impl<N: BorrowName, L: BorrowNumbers, O: OtherNla> UnixNla<N, L, O> {
     ghost use Rattle.sock_diag_attributes.specs.UnixAttributes.{unix_attribute_set};
     ghost use Rattle.sock_diag_attributes.specs.UnixModel.{unix_nla_value, unix_nla_model};
 
@@ -133,7 +134,7 @@ impl<N: LendsName, L: LendsNumbers, O: OtherNla> UnixNla<N, L, O> {
     fn owned(&self, alloc: Global) -> Result<Nla, AllocError>
         ensures equal { IfOk result (λ nla.
             unix_nla_model nla ≡ unix_nla_value N.name L.numbers O.attribute self.now) }
-        ensures spare { NeedsNoMemoryIn unix_attribute_set
+        ensures needs_no_memory { NeedsNoMemoryIn unix_attribute_set
             (unix_nla_value N.name L.numbers O.attribute self.now)
             → IsOk result }
         ensures empty { (encode_attribute unix_attribute_set
@@ -142,14 +143,14 @@ impl<N: LendsName, L: LendsNumbers, O: OtherNla> UnixNla<N, L, O> {
             → IsOk result }
     {
         Ok(match self {
-            UnixNla::Name(name) => Nla::Name(name.lent_name().to_owned(alloc)?),
+            UnixNla::Name(name) => Nla::Name(name.borrow_name().to_owned(alloc)?),
             UnixNla::Vfs(vfs) => Nla::Vfs(vfs.clone()?),
             UnixNla::Peer(inode) => Nla::Peer(*inode),
             UnixNla::PendingConnections(inodes) => Nla::PendingConnections(inodes.to_list(alloc)?),
             UnixNla::ReceiveQueueLength(first, second) => Nla::ReceiveQueueLength(*first, *second),
             UnixNla::MemInfo(info) => Nla::MemInfo(*info),
             UnixNla::Shutdown(state) => Nla::Shutdown(*state),
-            UnixNla::Other(nla) => Nla::Other(nla.to_kept(alloc)?),
+            UnixNla::Other(nla) => Nla::Other(nla.to_owned_nla(alloc)?),
         })
     }
 
@@ -167,10 +168,10 @@ impl<N: LendsName, L: LendsNumbers, O: OtherNla> UnixNla<N, L, O> {
             (unix_nla_value N.name L.numbers O.attribute self.now) }
     {
         match self {
-            UnixNla::Name(name) => (UNIX_DIAG_NAME, Value::Name(name.lent_name())),
+            UnixNla::Name(name) => (UNIX_DIAG_NAME, Value::Name(name.borrow_name())),
             UnixNla::Vfs(vfs) => (UNIX_DIAG_VFS, Value::Vfs(vfs)),
             UnixNla::Peer(inode) => (UNIX_DIAG_PEER, Value::Word(*inode)),
-            UnixNla::PendingConnections(inodes) => (UNIX_DIAG_ICONS, inodes.lent_value()),
+            UnixNla::PendingConnections(inodes) => (UNIX_DIAG_ICONS, inodes.borrow_value()),
             UnixNla::ReceiveQueueLength(first, second) => {
                 (UNIX_DIAG_RQLEN, Value::Pair(*first, *second))
             }
@@ -243,7 +244,7 @@ impl<'a> NlaView<'a> {
         ensures equal { IfOk result (λ nla. unix_nla_model nla ≡ unix_nla_view_model self.now) }
         // `spare`: cloning does not fail for types whose values need no memory: any variant except
         // `Name`, `PendingConnections` and `Other`.
-        ensures spare { NeedsNoMemoryIn unix_attribute_set (unix_nla_view_model self.now)
+        ensures needs_no_memory { NeedsNoMemoryIn unix_attribute_set (unix_nla_view_model self.now)
             → IsOk result }
         // `empty`: cloning does not fail if the value serializes to no bytes: a
         // `PendingConnections` or an `Other` without bytes.
@@ -262,7 +263,7 @@ impl<'a> Parseable<NlaBuffer<'a>> for Nla {
     }
 }
 
-impl<N: LendsName, L: LendsNumbers, O: OtherNla> NlaTrait for UnixNla<N, L, O> {
+impl<N: BorrowName, L: BorrowNumbers, O: OtherNla> NlaTrait for UnixNla<N, L, O> {
     ghost use Rattle.sock_diag_attributes.specs.UnixAttributes.{unix_attribute_set};
     ghost use Rattle.sock_diag_attributes.specs.UnixModel.{unix_nla_value};
 

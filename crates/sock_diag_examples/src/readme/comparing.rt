@@ -12,14 +12,14 @@ use netlink_packet_sock_diag::unix::UnixResponseView;
 /// Returns whether two replies about UNIX sockets have the same header and the same attributes in
 /// the same order, except for ignored bits such as padding. Returns the decode error of the first
 /// reply if it is invalid, or else the error of the second.
-pub fn tell_the_same(one: &[u8], other: &[u8]) -> Result<bool, DecodeError>
+pub fn are_same_reply(one: &[u8], other: &[u8]) -> Result<bool, DecodeError>
     ensures value { IfOk result (λ same.
-        IsTrue same ↔ (response_codec unix_response_spec).idle tt one.now
+        IsTrue same ↔ (response_codec unix_response_spec).equivalent tt one.now
         other.now) }
     ensures accepted { OnOk result (IsUnixReply one.now × IsUnixReply other.now) }
     // `IsUnixReply`: the bytes are a valid reply about a UNIX socket.
-    ensures fault { IfErr result (λ e. (response_codec unix_response_spec).refuses one.now tt e
-        ⊎ (IsUnixReply one.now × (response_codec unix_response_spec).refuses other.now tt e)) }
+    ensures error { IfErr result (λ e. (response_codec unix_response_spec).rejects one.now tt e
+        ⊎ (IsUnixReply one.now × (response_codec unix_response_spec).rejects other.now tt e)) }
 {
     Ok(UnixResponseView::parse(one)? == UnixResponseView::parse(other)?)
 }
@@ -32,15 +32,15 @@ pub fn rewrite(bytes: &[u8], buffer: &mut [u8]) -> Result<Option<usize>, DecodeE
     // `v`: the value that the reply parses as. If the result is `None` and `v` is writable, the
     // buffer is shorter than the bytes of `v`.
     ensures value { IfOk result (λ written. (v : ReplyValue unix_response_spec)
-        × (response_codec unix_response_spec).reads bytes.now tt v
+        × (response_codec unix_response_spec).parses bytes.now tt v
         × MatchOption written
         ((buffer.new ≡ buffer.old)
-        × ((response_codec unix_response_spec).fits v
+        × ((response_codec unix_response_spec).is_writable v
         → length buffer.old < length (response_bytes unix_response_spec v)))
         (λ count. (buffer.new ≡ response_bytes unix_response_spec v ++ drop count buffer.old)
-        × (response_codec unix_response_spec).fits v
+        × (response_codec unix_response_spec).is_writable v
         × (count ≡ length (response_bytes unix_response_spec v)))) }
-    ensures fault { IfErr result ((response_codec unix_response_spec).refuses bytes.now tt) }
+    ensures error { IfErr result ((response_codec unix_response_spec).rejects bytes.now tt) }
 {
     let reply = UnixResponseView::parse(bytes)?;
     if !reply.is_writable() || reply.buffer_len() > buffer.len() {

@@ -1,13 +1,13 @@
 //! The examples of the repository's README.
 
-mod asking;
 mod comparing;
 mod counting;
 mod reading;
-mod telling;
+mod replying;
+mod requesting;
 
-pub use asking::request;
-pub use comparing::{rewrite, tell_the_same};
+pub use comparing::{are_same_reply, rewrite};
 pub use counting::listening;
 pub use reading::path;
-pub use telling::listener;
+pub use replying::listener;
+pub use requesting::request;

@@ -15,9 +15,9 @@ use netlink_packet_sock_diag::unix::nlas::NameView;
 /// Returns the path that a UNIX socket is bound to, if the payload of this message type has one.
 pub fn path<'a>(payload: &'a [u8], message_type: u16) -> Result<Option<&'a [u8]>, DecodeError>
     ensures value { IfOk result (λ path. (m : Message)
-        × message_codec.reads payload.entry.now message_type m
+        × message_codec.parses payload.entry.now message_type m
         × (path_bytes path ≡ path_of m)) }
-    ensures fault { IfErr result (message_codec.refuses payload.entry.now message_type) }
+    ensures error { IfErr result (message_codec.rejects payload.entry.now message_type) }
 {
     match SockDiagView::parse(payload, message_type)? {
         SockDiagView::UnixResponse(reply) => match reply.name() {

@@ -1,7 +1,7 @@
 -- The layouts of the requests and of the headers are sound (`MeetsLayoutConditions`).
 use Rattle.std.proofs.Common.{◌<◌, ℕ, ◌%◌, IsTrue, lt-ltb, refl, arith}
 use Rattle.netlink_core.specs.Layout.{tag_fields}
-use Rattle.netlink_core.specs.laws.Sound.{MeetsLayoutConditions, fields_are_consecutive}
+use Rattle.netlink_core.specs.laws.LayoutObligations.{MeetsLayoutConditions, fields_are_consecutive}
 use Rattle.netlink_core.proofs.LayoutLaws.{plain_sound}
 use Rattle.sock_diag_families.specs.declared.request.TheConstants.{SHOW_REQUEST_LEN}
 use Rattle.sock_diag_families.specs.NetlinkResponseHeader.{netlink_header}

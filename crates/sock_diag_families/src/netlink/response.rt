@@ -6,7 +6,7 @@ ghost use Rattle.sock_diag_families.specs.NetlinkResponseHeader.{netlink_header}
 ghost use Rattle.sock_diag_families.specs.laws.Record.{netlink_header_sound};
 
 use byteorder::{ByteOrder, LittleEndian};
-use netlink_core::fields::{long_words_at, words_at};
+use netlink_core::fields::{u32s_at, u64s_at};
 use netlink_core::{DecodeError, Exact, Record, RecordName};
 use sock_diag_records::constants::AF_NETLINK;
 
@@ -63,8 +63,8 @@ impl Record for NetlinkResponseHeader {
     /// Parses the first 28 bytes, and ignores the bytes after them. There have to be 28 bytes: the
     /// caller checks this first, and reports [`DecodeError::BufferTooSmall`].
     fn from_fields(payload: &[u8], _param: ()) -> Result<Self, DecodeError> {
-        let [port, destination_port, destination_group, inode] = words_at::<4>(payload, 4);
-        let [cookie] = long_words_at::<1>(payload, 20);
+        let [port, destination_port, destination_group, inode] = u32s_at::<4>(payload, 4);
+        let [cookie] = u64s_at::<1>(payload, 20);
         Ok(NetlinkResponseHeader {
             kind: payload[1],
             protocol: payload[2],
@@ -91,7 +91,7 @@ impl Record for NetlinkResponseHeader {
         LittleEndian::write_u64(cookie, self.cookie);
     }
 
-    fn fields_in_range(&self) {
+    fn prove_fields_in_range(&self) {
         let (_kind, _protocol, _state) = (self.kind, self.protocol, self.state);
         let (_port, _to_port) = (self.port, self.destination_port);
         let (_group, _inode, _cookie) = (self.destination_group, self.inode, self.cookie);

@@ -6,7 +6,7 @@ ghost use Rattle.sock_diag_families.specs.PacketAttributes.{packet_info, packet_
 
 use super::PACKET_DIAG_INFO;
 use crate::values::enough_in;
-use netlink_core::fields::words_at;
+use netlink_core::fields::u32s_at;
 use netlink_core::{DecodeError, Exact};
 use sock_diag_records::constants::AF_PACKET;
 
@@ -53,7 +53,7 @@ impl PacketInfo {
             copy_threshold,
             timestamp,
             flags,
-        ] = words_at::<6>(value, 0);
+        ] = u32s_at::<6>(value, 0);
         Ok(PacketInfo {
             interface,
             version,
@@ -111,7 +111,7 @@ impl PacketRing {
             retire_timeout,
             private_size,
             features,
-        ] = words_at::<7>(value, 0);
+        ] = u32s_at::<7>(value, 0);
         Ok(PacketRing {
             block_size,
             blocks,

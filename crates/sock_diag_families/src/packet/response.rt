@@ -6,7 +6,7 @@ ghost use Rattle.sock_diag_families.specs.PacketResponseHeader.{packet_header};
 ghost use Rattle.sock_diag_families.specs.laws.Record.{packet_header_sound};
 
 use byteorder::{ByteOrder, LittleEndian};
-use netlink_core::fields::{long_words_at, words_at};
+use netlink_core::fields::{u32s_at, u64s_at};
 use netlink_core::{DecodeError, Exact, Record, RecordName};
 use sock_diag_records::constants::AF_PACKET;
 
@@ -54,8 +54,8 @@ impl Record for PacketResponseHeader {
     /// Parses the first 16 bytes, and ignores the bytes after them. There have to be 16 bytes: the
     /// caller checks this first, and reports [`DecodeError::BufferTooSmall`].
     fn from_fields(payload: &[u8], _param: ()) -> Result<Self, DecodeError> {
-        let [inode] = words_at::<1>(payload, 4);
-        let [cookie] = long_words_at::<1>(payload, 8);
+        let [inode] = u32s_at::<1>(payload, 4);
+        let [cookie] = u64s_at::<1>(payload, 8);
         Ok(PacketResponseHeader {
             kind: payload[1],
             protocol: LittleEndian::read_u16(&payload[2..]),
@@ -74,7 +74,7 @@ impl Record for PacketResponseHeader {
         LittleEndian::write_u64(cookie, self.cookie);
     }
 
-    fn fields_in_range(&self) {
+    fn prove_fields_in_range(&self) {
         let (_kind, _protocol) = (self.kind, self.protocol);
         let (_inode, _cookie) = (self.inode, self.cookie);
     }

@@ -7,7 +7,7 @@ ghost use Rattle.sock_diag_families.specs.VsockRequest.{vsock_request};
 
 use super::AF_VSOCK;
 use byteorder::{ByteOrder, LittleEndian};
-use netlink_core::fields::{long_words_at, words_at};
+use netlink_core::fields::{u32s_at, u64s_at};
 use netlink_core::{DecodeError, Exact, Record, RecordName};
 
 /// Size of `struct vsock_diag_req` in bytes.
@@ -49,8 +49,8 @@ impl Record for VsockRequest {
     /// Parses the first 24 bytes, and ignores the bytes after them. There have to be 24 bytes: the
     /// caller checks this first, and reports [`DecodeError::BufferTooSmall`].
     fn from_fields(payload: &[u8], _param: ()) -> Result<Self, DecodeError> {
-        let [states] = words_at::<1>(payload, 4);
-        let [cookie] = long_words_at::<1>(payload, 16);
+        let [states] = u32s_at::<1>(payload, 4);
+        let [cookie] = u64s_at::<1>(payload, 16);
         Ok(VsockRequest { states, cookie })
     }
 
@@ -60,7 +60,7 @@ impl Record for VsockRequest {
         LittleEndian::write_u64(cookie, self.cookie);
     }
 
-    fn fields_in_range(&self) {
+    fn prove_fields_in_range(&self) {
         let (_states, _cookie) = (self.states, self.cookie);
     }
 

@@ -7,7 +7,7 @@ ghost use Rattle.sock_diag_families.specs.laws.Record.{vsock_header_sound};
 
 use super::AF_VSOCK;
 use byteorder::{ByteOrder, LittleEndian};
-use netlink_core::fields::{long_words_at, long_words_in_range, words_at};
+use netlink_core::fields::{prove_u64s_in_range, u32s_at, u64s_at};
 use netlink_core::{DecodeError, Exact, Record, RecordName};
 
 /// Size of `struct vsock_diag_msg` in bytes.
@@ -71,8 +71,8 @@ impl Record for VsockResponseHeader {
             destination_context,
             destination_port,
             inode,
-        ] = words_at::<5>(payload, 4);
-        let [cookie] = long_words_at::<1>(payload, 24);
+        ] = u32s_at::<5>(payload, 4);
+        let [cookie] = u64s_at::<1>(payload, 24);
         Ok(VsockResponseHeader {
             kind: payload[1],
             state: payload[2],
@@ -101,7 +101,7 @@ impl Record for VsockResponseHeader {
         LittleEndian::write_u64(cookie, self.cookie);
     }
 
-    fn fields_in_range(&self) {
+    fn prove_fields_in_range(&self) {
         let VsockResponseHeader {
             kind: _a,
             state: _b,
@@ -113,7 +113,7 @@ impl Record for VsockResponseHeader {
             inode: _h,
             cookie: _,
         } = *self;
-        long_words_in_range(&[self.cookie]);
+        prove_u64s_in_range(&[self.cookie]);
     }
 
     ghost laws = { record_laws vsock_header vsock_header_sound };

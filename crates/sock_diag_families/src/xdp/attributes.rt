@@ -7,7 +7,7 @@ ghost use Rattle.sock_diag_families.specs.XdpAttributes.{xdp_statistics, xdp_sta
 
 use super::{AF_XDP, XDP_DIAG_INFO, XDP_DIAG_STATS, XDP_DIAG_UMEM};
 use crate::values::enough_in;
-use netlink_core::fields::{long_words_at, words_at};
+use netlink_core::fields::{u32s_at, u64s_at};
 use netlink_core::{DecodeError, Exact};
 
 /// The interface and the queue that an XDP socket is bound to: `struct xdp_diag_info` of
@@ -35,7 +35,7 @@ impl XdpInfo {
         ensures { result ≡ xdp_info value.now }
     {
         let value = enough_in(value, AF_XDP, XDP_DIAG_INFO, 8)?;
-        let [interface, queue] = words_at::<2>(value, 0);
+        let [interface, queue] = u32s_at::<2>(value, 0);
         Ok(XdpInfo { interface, queue })
     }
 }
@@ -129,7 +129,7 @@ fn umem_in(value: &[u8]) -> XdpUmem
     requires { 40 ≤ length value.now }
     ensures { result ≡ xdp_umem_fields value.now }
 {
-    let [size] = long_words_at::<1>(value, 0);
+    let [size] = u64s_at::<1>(value, 0);
     let [
         id,
         pages,
@@ -139,7 +139,7 @@ fn umem_in(value: &[u8]) -> XdpUmem
         queue,
         flags,
         references,
-    ] = words_at::<8>(value, 8);
+    ] = u32s_at::<8>(value, 8);
     XdpUmem {
         size,
         id,
@@ -165,7 +165,7 @@ fn statistics_in(value: &[u8]) -> XdpStatistics
         fill_ring_empty,
         sent_invalid,
         send_ring_empty,
-    ] = long_words_at::<6>(value, 0);
+    ] = u64s_at::<6>(value, 0);
     XdpStatistics {
         received_dropped,
         received_invalid,

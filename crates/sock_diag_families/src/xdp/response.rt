@@ -7,7 +7,7 @@ ghost use Rattle.sock_diag_families.specs.laws.Record.{xdp_header_sound};
 
 use super::AF_XDP;
 use byteorder::{ByteOrder, LittleEndian};
-use netlink_core::fields::{long_words_at, words_at};
+use netlink_core::fields::{u32s_at, u64s_at};
 use netlink_core::{DecodeError, Exact, Record, RecordName};
 
 /// Size of `struct xdp_diag_msg` in bytes.
@@ -51,8 +51,8 @@ impl Record for XdpResponseHeader {
     /// Parses the first 16 bytes, and ignores the bytes after them. There have to be 16 bytes: the
     /// caller checks this first, and reports [`DecodeError::BufferTooSmall`].
     fn from_fields(payload: &[u8], _param: ()) -> Result<Self, DecodeError> {
-        let [inode] = words_at::<1>(payload, 4);
-        let [cookie] = long_words_at::<1>(payload, 8);
+        let [inode] = u32s_at::<1>(payload, 4);
+        let [cookie] = u64s_at::<1>(payload, 8);
         Ok(XdpResponseHeader {
             kind: payload[1],
             inode,
@@ -68,7 +68,7 @@ impl Record for XdpResponseHeader {
         LittleEndian::write_u64(cookie, self.cookie);
     }
 
-    fn fields_in_range(&self) {
+    fn prove_fields_in_range(&self) {
         let (_kind, _inode, _cookie) = (self.kind, self.inode, self.cookie);
     }
 

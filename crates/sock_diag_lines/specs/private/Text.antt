@@ -2,8 +2,8 @@
 use Rattle.std.specs.Prelude.{◌≡◌, ◌==◌, ◌<◌, ◌+◌, ℕ, Bool, List, ◌∷◌, ◌++◌, length, take, drop}
 use Rattle.std.specs.Prelude.{codes, decimal}
 use Rattle.std.specs.List.{slice_split}
-use Rattle.netlink_core.specs.Faults.{error_code}
-use Rattle.netlink_core.specs.declared.fault.DecodeError.{DecodeError}
+use Rattle.netlink_core.specs.Errors.{error_code}
+use Rattle.netlink_core.specs.declared.error.DecodeError.{DecodeError}
 
 -- AppendsSome old new P: the text `new` is the text `old` and then bytes `more`, with `P more`
 abbrev pub AppendsSome : List ℕ → List ℕ → (List ℕ → Type 0) → Type 0
@@ -30,7 +30,7 @@ unwritable_text = codes "unwritable"
 
 -- `refused ` and the code of the error
 abbrev pub refused_text : DecodeError → List ℕ
-refused_text fault = codes "refused " ++ decimal (error_code fault)
+refused_text error = codes "refused " ++ decimal (error_code error)
 
 -- a number and a space, followed by the rest
 abbrev pub number_then_rest : ℕ → List ℕ → List ℕ

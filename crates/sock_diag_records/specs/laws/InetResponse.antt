@@ -5,10 +5,10 @@ use Rattle.std.proofs.Common.{List, ◌++◌, drop, length}
 use Rattle.std.proofs.Common.{slice_index, Option, Some, None, Result, Ok, refl}
 use Rattle.std.proofs.Common.{arith}
 use Rattle.netlink_core.specs.Table.{values_of}
-use Rattle.netlink_core.specs.laws.Sound.{fields_are_consecutive, MeetsLayoutConditions}
-use Rattle.netlink_core.specs.laws.Sound.{HasFixedSize}
+use Rattle.netlink_core.specs.laws.LayoutObligations.{fields_are_consecutive, MeetsLayoutConditions}
+use Rattle.netlink_core.specs.laws.LayoutObligations.{HasFixedSize}
 use Rattle.netlink_core.specs.Bytes.{IsBytes}
-use Rattle.netlink_core.specs.Faults.{map_ok}
+use Rattle.netlink_core.specs.Errors.{map_ok}
 use Rattle.netlink_core.proofs.Numbers.{number-fits, little_endian}
 use Rattle.netlink_core.specs.Layout.{record_bytes}
 use Rattle.netlink_core.proofs.TableLaws.{AreBytes-drop}
@@ -19,7 +19,7 @@ use Rattle.std.specs.declared.time.Duration.{Duration}
 use Rattle.sock_diag_records.specs.declared.inet.response.InetResponseHeader.{InetResponseHeader}
 use Rattle.sock_diag_records.specs.declared.inet.response.TheConstants.{INET_RESPONSE_HEADER_LEN}
 use Rattle.sock_diag_records.specs.declared.inet.socket_id.SocketId.{SocketId}
-use Rattle.netlink_core.specs.declared.fault.DecodeError.{DecodeError}
+use Rattle.netlink_core.specs.declared.error.DecodeError.{DecodeError}
 use Rattle.sock_diag_records.specs.laws.SocketId.{socket_id_fields, socket_id_values}
 use Rattle.netlink_core.specs.Layout.{tag_fields, field_numbers}
 use Rattle.sock_diag_records.specs.SocketId.{HasArrayLengths}

@@ -10,7 +10,7 @@ use Rattle.netlink_core.proofs.FieldReads.{first_numbers_are_all}
 use Rattle.std.specs.declared.net.ip_addr.IpAddr.{IpAddr}
 use Rattle.netlink_core.specs.Table.{values_of}
 use Rattle.netlink_core.specs.Table.{first_numbers, FitFields}
-use Rattle.netlink_core.specs.laws.Sound.{MeetsLayoutConditions, HasFixedSize}
+use Rattle.netlink_core.specs.laws.LayoutObligations.{MeetsLayoutConditions, HasFixedSize}
 use Rattle.netlink_core.specs.Layout.{IsInRange, record_bytes}
 use Rattle.sock_diag_records.specs.declared.inet.socket_id.SocketId.{SocketId}
 use Rattle.sock_diag_records.specs.declared.inet.socket_id.TheConstants.{SOCKET_ID_LEN}

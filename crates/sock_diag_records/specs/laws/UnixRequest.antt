@@ -1,7 +1,7 @@
 -- The layout `unix_request` is sound (`MeetsLayoutConditions`).
 use Rattle.std.proofs.Common.{refl, arith}
 use Rattle.netlink_core.proofs.LayoutLaws.{plain_sound}
-use Rattle.netlink_core.specs.laws.Sound.{MeetsLayoutConditions}
+use Rattle.netlink_core.specs.laws.LayoutObligations.{MeetsLayoutConditions}
 use Rattle.netlink_core.proofs.FieldReads.{first_numbers_are_all}
 use Rattle.sock_diag_records.specs.UnixRequest.{unix_request}
 

@@ -158,7 +158,7 @@ pub fn flags_have_their_bits()
 {}
 
 /// States the bits of each constant of [`StateFlags`].
-pub fn state_flags_have_their_numbers()
+pub fn state_flags_have_their_values()
     ensures established { StateFlags.ESTABLISHED.0 ≡ 0x2 }
     ensures syn_sent { StateFlags.SYN_SENT.0 ≡ 0x4 }
     ensures syn_recv { StateFlags.SYN_RECV.0 ≡ 0x8 }
@@ -173,7 +173,7 @@ pub fn state_flags_have_their_numbers()
 {}
 
 /// States the bits of each constant of [`ExtensionFlags`].
-pub fn extension_flags_have_their_numbers()
+pub fn extension_flags_have_their_values()
     ensures meminfo { ExtensionFlags.MEMINFO.0 ≡ 0x1 }
     ensures info { ExtensionFlags.INFO.0 ≡ 0x2 }
     ensures vegasinfo { ExtensionFlags.VEGASINFO.0 ≡ 0x4 }

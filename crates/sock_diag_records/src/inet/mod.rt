@@ -8,8 +8,8 @@ mod response;
 mod socket_id;
 
 pub use flags::{
-    ExtensionFlags, StateFlags, extension_flags_have_their_numbers, flags_have_their_bits,
-    state_flags_have_their_numbers,
+    ExtensionFlags, StateFlags, extension_flags_have_their_values, flags_have_their_bits,
+    state_flags_have_their_values,
 };
 pub use request::{
     INET_DIAG_REQ_BYTECODE, INET_DIAG_REQ_NONE, INET_DIAG_REQ_PROTOCOL,

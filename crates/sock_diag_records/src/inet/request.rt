@@ -9,7 +9,7 @@ ghost use Rattle.sock_diag_records.specs.laws.InetRequest.{inet_request_has_fixe
 use super::{ExtensionFlags, SocketId, StateFlags};
 use bitflags::Flags;
 use byteorder::{ByteOrder, LittleEndian};
-use netlink_core::fields::words_at;
+use netlink_core::fields::u32s_at;
 use netlink_core::{DecodeError, Fills, Record, RecordBuffer, RecordName};
 
 /// Kind of no attribute. The kinds `INET_DIAG_REQ_..` (linux/inet_diag.h) are those of attributes
@@ -74,7 +74,7 @@ impl Record for InetRequest {
     fn from_fields(payload: &[u8], _param: ()) -> Result<Self, DecodeError> {
         let family = payload[0];
         let socket_id = SocketId::from_fields(&payload[8..], family)?;
-        let [states] = words_at::<1>(payload, 4);
+        let [states] = u32s_at::<1>(payload, 4);
         Ok(InetRequest {
             family,
             protocol: payload[1],
@@ -94,12 +94,12 @@ impl Record for InetRequest {
     }
 
     #[tactic(auto, unfolding(crate::specs::InetRequest::inet_request, crate::specs::SocketId::socket_id), using(crate::specs::laws::SocketId::nested_socket_id_fits))]
-    fn fields_in_range(&self) {
+    fn prove_fields_in_range(&self) {
         let _family = self.family;
         let _protocol = self.protocol;
         let _extensions = self.extensions.bits();
         let _states = self.states.bits();
-        self.socket_id.fields_in_range();
+        self.socket_id.prove_fields_in_range();
     }
 
     ghost laws = { record_laws inet_request inet_request_sound };

@@ -2,7 +2,7 @@
 
 ghost use Rattle.std.proofs.Common.{rules};
 ghost use Rattle.std.specs.Prelude.{ℕ, ◌≡◌, ◌≢◌, ◌<◌, IfErr};
-ghost use Rattle.netlink_core.specs.declared.fault.DecodeError.TheVariants.{Memory};
+ghost use Rattle.netlink_core.specs.declared.error.DecodeError.TheVariants.{Memory};
 ghost use Rattle.netlink_core.specs.Layout.{parse_record};
 ghost use Rattle.netlink_core.proofs.LayoutLaws.{record_laws};
 ghost use Rattle.sock_diag_records.specs.IpVersions.{IpVersions};
@@ -14,7 +14,7 @@ ghost use Rattle.sock_diag_records.specs.laws.InetResponse.{inet_response_header
 
 use super::{SOCKET_ID_LEN, SocketId};
 use byteorder::{ByteOrder, LittleEndian};
-use netlink_core::fields::words_at;
+use netlink_core::fields::u32s_at;
 use netlink_core::{DecodeError, Exact, Fills, Record, RecordBuffer, RecordName, read_record};
 use std::time::Duration;
 
@@ -100,7 +100,7 @@ impl Record for InetResponseHeader {
     fn from_fields(payload: &[u8], _param: ()) -> Result<Self, DecodeError> {
         let family = payload[0];
         let socket_id = SocketId::from_fields(&payload[4..], family)?;
-        let [expires, recv_queue, send_queue, uid, inode] = words_at::<5>(payload, 52);
+        let [expires, recv_queue, send_queue, uid, inode] = u32s_at::<5>(payload, 52);
         Ok(InetResponseHeader {
             family,
             state: payload[1],
@@ -115,7 +115,7 @@ impl Record for InetResponseHeader {
 
     #[tactic(auto, unfolding(crate::specs::InetResponse::inet_response_header, crate::specs::SocketId::socket_id))]
     fn write_fields(&self, buffer: &mut [u8]) {
-        let (timer, retransmits, expires) = timer_words(&self.timer);
+        let (timer, retransmits, expires) = timer_fields(&self.timer);
         let (start, rest) = buffer.split_at_mut(4);
         let (socket_id, rest) = rest.split_at_mut(SOCKET_ID_LEN);
         start.copy_from_slice(&[self.family, self.state, timer, retransmits]);
@@ -131,11 +131,11 @@ impl Record for InetResponseHeader {
     }
 
     #[tactic(auto, unfolding(crate::specs::InetResponse::inet_response_header, crate::specs::SocketId::socket_id))]
-    fn fields_in_range(&self) {
+    fn prove_fields_in_range(&self) {
         let _family = self.family;
         let _state = self.state;
-        timer_in_range(&self.timer);
-        self.socket_id.fields_in_range();
+        prove_timer_in_range(&self.timer);
+        self.socket_id.prove_fields_in_range();
         let _recv_queue = self.recv_queue;
         let _send_queue = self.send_queue;
         let _uid = self.uid;
@@ -159,7 +159,7 @@ impl InetResponseHeader {
     pub fn from_prefix(payload: &[u8]) -> Result<Self, DecodeError>
         // parse_record layout param bytes: `Ok` of the value, or `Err` of the first error.
         ensures value { result ≡ parse_record inet_response_header tt payload.now }
-        ensures named { IfErr result (λ fault. fault ≢ Memory) }
+        ensures named { IfErr result (λ error. error ≢ Memory) }
     {
         read_record(payload, ())
     }
@@ -174,7 +174,7 @@ fn wrapped_milliseconds(time: Duration) -> u32
 
 // Returns the fields `idiag_timer`, `idiag_retrans` and `idiag_expires`, with 0 for each that the
 // timer does not have.
-fn timer_words(timer: &Option<Timer>) -> (u8, u8, u32)
+fn timer_fields(timer: &Option<Timer>) -> (u8, u8, u32)
     ensures byte { result.0 ≡ (timer_data timer.now).0 }
     ensures retransmits { result.1 ≡ (timer_data timer.now).1 }
     ensures expires { result.2 ≡ u32_milliseconds (timer_data timer.now).2 }
@@ -205,7 +205,7 @@ fn timer_from(timer: u8, retransmits: u8, milliseconds: u32) -> Option<Timer>
 }
 
 // Proof only: puts the range of the number of retransmits in scope. No run-time effect.
-fn timer_in_range(timer: &Option<Timer>)
+fn prove_timer_in_range(timer: &Option<Timer>)
     ensures { (timer_data timer.now).1 < 256 }
 {
     if let Some(Timer::Retransmit(_, retransmits)) = timer {

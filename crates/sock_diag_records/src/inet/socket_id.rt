@@ -5,7 +5,7 @@ ghost use Rattle.std.specs.Prelude.{◌≡◌, ◌≢◌, ◌≤◌, ◌+◌, le
 ghost use Rattle.std.specs.declared.net.ip_addr.IpAddr.TheVariants.{V4, V6};
 ghost use Rattle.std.specs.Net.Addr.{ipv4_octets, ipv6_segments};
 ghost use Rattle.netlink_core.specs.Table.{bytes_at, values_of};
-ghost use Rattle.netlink_core.specs.declared.fault.DecodeError.TheVariants.{Memory};
+ghost use Rattle.netlink_core.specs.declared.error.DecodeError.TheVariants.{Memory};
 ghost use Rattle.netlink_core.specs.Layout.{parse_record};
 ghost use Rattle.netlink_core.proofs.LayoutLaws.{record_laws};
 ghost use Rattle.std.specs.Prelude.{ℕ, slice_index, ◌<◌};
@@ -20,9 +20,9 @@ ghost use Rattle.netlink_core.specs.Table.{network, array};
 
 use crate::constants::{AF_INET, AF_INET6};
 use byteorder::{BigEndian, ByteOrder, LittleEndian};
-use netlink_core::fields::{array_at, big_shorts_at, words_at};
+use netlink_core::fields::{array_at, u16s_be_at, u32s_at};
 use netlink_core::{
-    DecodeError, Exact, Fills, Record, RecordBuffer, RecordName, bytes_in_range, read_record,
+    DecodeError, Exact, Fills, Record, RecordBuffer, RecordName, prove_bytes_in_range, read_record,
 };
 use std::net::{IpAddr, Ipv4Addr, Ipv6Addr};
 
@@ -122,7 +122,7 @@ fn ipv6_at(bytes: &[u8], offset: usize) -> Ipv6Addr
     requires { offset + 16 ≤ length bytes.now }
     ensures { ipv6_segments result ≡ values_of (array network offset 2 8) bytes.now }
 {
-    Ipv6Addr::from_segments(big_shorts_at(bytes, offset))
+    Ipv6Addr::from_segments(u16s_be_at(bytes, offset))
 }
 
 // Writes an address. Zeros follow the four bytes of an IPv4 address.
@@ -177,8 +177,8 @@ impl Record for SocketId {
             ),
             _ => return Err(DecodeError::UnsupportedFamily { family }),
         };
-        let [source_port, destination_port] = big_shorts_at::<2>(payload, 0);
-        let [interface_id] = words_at::<1>(payload, 36);
+        let [source_port, destination_port] = u16s_be_at::<2>(payload, 0);
+        let [interface_id] = u32s_at::<1>(payload, 36);
         Ok(SocketId {
             source_port,
             destination_port,
@@ -202,13 +202,13 @@ impl Record for SocketId {
         cookie.copy_from_slice(&self.cookie);
     }
 
-    fn fields_in_range(&self) {
+    fn prove_fields_in_range(&self) {
         let _source_port = self.source_port;
         let _destination_port = self.destination_port;
-        address_in_range(self.source_address);
-        address_in_range(self.destination_address);
+        prove_address_in_range(self.source_address);
+        prove_address_in_range(self.destination_address);
         let _interface_id = self.interface_id;
-        bytes_in_range(&self.cookie);
+        prove_bytes_in_range(&self.cookie);
     }
 
     ghost laws = { record_laws socket_id socket_id_sound };
@@ -223,7 +223,7 @@ impl SocketId {
     pub fn from_prefix(payload: &[u8], family: u8) -> Result<Self, DecodeError>
         // parse_record layout param bytes: `Ok` of the value, or `Err` of the first error.
         ensures value { result ≡ parse_record socket_id family payload.now }
-        ensures named { IfErr result (λ fault. fault ≢ Memory) }
+        ensures named { IfErr result (λ error. error ≢ Memory) }
     {
         read_record(payload, family)
     }
@@ -234,18 +234,18 @@ impl Fills<SOCKET_ID_LEN> for SocketId {
 }
 
 // Proof only: puts the range of the octets or segments in scope. No run-time effect.
-fn address_in_range(address: IpAddr)
+fn prove_address_in_range(address: IpAddr)
     ensures shaped { IsAddress address }
     ensures fit { (offset : ℕ)
         → FitFields (address_fields offset (address_data address).0) (address_values address) }
 {
     match address {
-        IpAddr::V4(ip) => bytes_in_range(&ip.octets()),
-        IpAddr::V6(ip) => shorts_in_range(&ip.segments()),
+        IpAddr::V4(ip) => prove_bytes_in_range(&ip.octets()),
+        IpAddr::V6(ip) => prove_u16s_in_range(&ip.segments()),
     }
 }
 
 // Proof only: puts the range of each number in scope. No run-time effect.
-fn shorts_in_range(_numbers: &[u16])
+fn prove_u16s_in_range(_numbers: &[u16])
     ensures { (i : ℕ) → slice_index _numbers.now i < 65536 }
 {}

@@ -133,13 +133,13 @@ pub fn flags_have_their_bits()
 {}
 
 /// States the bits of each constant of [`StateFlags`].
-pub fn state_flags_have_their_numbers()
+pub fn state_flags_have_their_values()
     ensures established { StateFlags.ESTABLISHED.0 ≡ 0x2 }
     ensures listen { StateFlags.LISTEN.0 ≡ 0x400 }
 {}
 
 /// States the bits of each constant of [`ShowFlags`].
-pub fn show_flags_have_their_numbers()
+pub fn show_flags_have_their_values()
     ensures name { ShowFlags.NAME.0 ≡ 0x1 }
     ensures vfs { ShowFlags.VFS.0 ≡ 0x2 }
     ensures peer { ShowFlags.PEER.0 ≡ 0x4 }

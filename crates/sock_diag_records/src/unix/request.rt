@@ -10,8 +10,10 @@ use super::{ShowFlags, StateFlags};
 use crate::constants::AF_UNIX;
 use bitflags::Flags;
 use byteorder::{ByteOrder, LittleEndian};
-use netlink_core::fields::{array_at, words_at};
-use netlink_core::{DecodeError, Exact, Fills, Record, RecordBuffer, RecordName, bytes_in_range};
+use netlink_core::fields::{array_at, u32s_at};
+use netlink_core::{
+    DecodeError, Exact, Fills, Record, RecordBuffer, RecordName, prove_bytes_in_range,
+};
 
 /// Size of `struct unix_diag_req` in bytes.
 pub const UNIX_REQUEST_LEN: usize = 24;
@@ -57,7 +59,7 @@ impl Record for UnixRequest {
     /// Parses the first 24 bytes, and ignores the bytes after them. There have to be 24 bytes: the
     /// caller checks this first, and reports [`DecodeError::BufferTooSmall`].
     fn from_fields(payload: &[u8], _param: ()) -> Result<Self, DecodeError> {
-        let [state_flags, inode, show_flags] = words_at::<3>(payload, 4);
+        let [state_flags, inode, show_flags] = u32s_at::<3>(payload, 4);
         Ok(UnixRequest {
             state_flags: StateFlags::from_bits_truncate(state_flags),
             inode,
@@ -77,11 +79,11 @@ impl Record for UnixRequest {
         cookie.copy_from_slice(&self.cookie);
     }
 
-    fn fields_in_range(&self) {
+    fn prove_fields_in_range(&self) {
         let _state_flags = self.state_flags.bits();
         let _inode = self.inode;
         let _show_flags = self.show_flags.bits();
-        bytes_in_range(&self.cookie);
+        prove_bytes_in_range(&self.cookie);
     }
 
     ghost laws = { record_laws unix_request unix_request_sound };

@@ -9,9 +9,9 @@ ghost use Rattle.sock_diag_records.specs.laws.UnixResponseHeader.{unix_response_
 
 use crate::constants::AF_UNIX;
 use byteorder::{ByteOrder, LittleEndian};
-use netlink_core::fields::{array_at, words_at};
+use netlink_core::fields::{array_at, u32s_at};
 use netlink_core::{
-    DecodeError, Exact, Fills, Record, RecordBuffer, RecordName, bytes_in_range, read_record,
+    DecodeError, Exact, Fills, Record, RecordBuffer, RecordName, prove_bytes_in_range, read_record,
 };
 
 /// Size of `struct unix_diag_msg` in bytes.
@@ -56,7 +56,7 @@ impl Record for UnixResponseHeader {
     /// Parses the first 16 bytes, and ignores the bytes after them. There have to be 16 bytes: the
     /// caller checks this first, and reports [`DecodeError::BufferTooSmall`].
     fn from_fields(payload: &[u8], _param: ()) -> Result<Self, DecodeError> {
-        let [inode] = words_at::<1>(payload, 4);
+        let [inode] = u32s_at::<1>(payload, 4);
         Ok(UnixResponseHeader {
             kind: payload[1],
             state: payload[2],
@@ -73,9 +73,9 @@ impl Record for UnixResponseHeader {
         cookie.copy_from_slice(&self.cookie);
     }
 
-    fn fields_in_range(&self) {
+    fn prove_fields_in_range(&self) {
         let (_kind, _state, _inode) = (self.kind, self.state, self.inode);
-        bytes_in_range(&self.cookie);
+        prove_bytes_in_range(&self.cookie);
     }
 
     ghost laws = { record_laws unix_response_header unix_response_header_sound };

@@ -3,8 +3,8 @@ use Rattle.std.proofs.Common.{◌≡◌, ℕ, ◌≤◌, List, ◌++◌, length,
 use Rattle.netlink_core.specs.Layout.{Layout, parse_record}
 use Rattle.netlink_core.specs.AttributeSet.{AttributeSet}
 use Rattle.netlink_core.specs.ValueCodec.{value_codec}
-use Rattle.netlink_core.specs.laws.Shown.{AttributeSetLaws, ResponseLaws}
-use Rattle.netlink_core.specs.laws.Sound.{MeetsLayoutConditions, HasFixedSize}
+use Rattle.netlink_core.specs.laws.ReplyObligations.{AttributeSetLaws, ResponseLaws}
+use Rattle.netlink_core.specs.laws.LayoutObligations.{MeetsLayoutConditions, HasFixedSize}
 use Rattle.netlink_core.proofs.LayoutLaws.{parsed_by_fields, layout_codec_laws}
 use Rattle.netlink_core.proofs.PrefixCodecs.{is_prefix_codec}
 

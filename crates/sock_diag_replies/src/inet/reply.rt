@@ -14,7 +14,7 @@ use crate::reply::{check_reply_len, emit_reply_view, reply_view_len, same_views}
 use crate::response::{Reply, ReplyOwned};
 use crate::view::{AttributeViews, ReplyHeader, ReplyView, ReplyViews};
 use attribute_lists::check_nlas;
-use netlink_core::{Coded, DecodeError};
+use netlink_core::{DecodeError, HasCodec};
 
 /// A reply about one IPv4 or IPv6 socket: the header (`inet_diag_msg`) and the attributes, in wire
 /// order.
@@ -96,15 +96,15 @@ impl ReplyOwned for InetResponseHeader {
 
     const REPLY: &'static str = "InetResponse";
 
-    fn header_in_range(&self) {
-        self.in_range();
+    fn prove_header_in_range(&self) {
+        self.prove_in_range();
     }
 
     ghost eq_is_model = { exact_header.0 };
 
-    ghost written = { λ _. refl };
+    ghost bytes_by_codec = { λ _. refl };
 
-    ghost fits = { λ _. tt };
+    ghost always_writable = { λ _. tt };
 
     ghost same = { (λ _ _ h. h, λ _ h. h, λ _. refl, λ _. refl) };
 

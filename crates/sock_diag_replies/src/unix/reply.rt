@@ -14,7 +14,7 @@ use crate::unix::nlas::{Nla, NlaView};
 use crate::unix::{UNIX_RESPONSE_HEADER_LEN, UnixResponseHeader};
 use crate::view::{AttributeViews, ReplyHeader, ReplyView, ReplyViews};
 use attribute_lists::check_nlas;
-use netlink_core::{Coded, DecodeError};
+use netlink_core::{DecodeError, HasCodec};
 
 /// A reply about one UNIX socket: the header (`unix_diag_msg`) and the attributes, in wire order.
 ///
@@ -93,15 +93,15 @@ impl ReplyOwned for UnixResponseHeader {
 
     const REPLY: &'static str = "UnixResponse";
 
-    fn header_in_range(&self) {
-        self.in_range();
+    fn prove_header_in_range(&self) {
+        self.prove_in_range();
     }
 
     ghost eq_is_model = { exact_header.0 };
 
-    ghost written = { λ _. refl };
+    ghost bytes_by_codec = { λ _. refl };
 
-    ghost fits = { λ _. tt };
+    ghost always_writable = { λ _. tt };
 
     ghost same = { (λ _ _ h. h, λ _ h. h, λ _. refl, λ _. refl) };
 

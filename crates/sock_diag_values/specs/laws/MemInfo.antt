@@ -1,6 +1,6 @@
 -- The layout `mem_info` is sound (`MeetsLayoutConditions`).
 use Rattle.std.proofs.Common.{arith, ◌*◌}
-use Rattle.netlink_core.specs.laws.Sound.{MeetsLayoutConditions}
+use Rattle.netlink_core.specs.laws.LayoutObligations.{MeetsLayoutConditions}
 use Rattle.sock_diag_values.specs.MemInfo.{mem_info}
 
 pub mem_info_sound : MeetsLayoutConditions mem_info

@@ -1,6 +1,6 @@
 -- The layout `tcp_info` is sound (`MeetsLayoutConditions`), and has a fixed length of 232 bytes.
 use Rattle.std.proofs.Common.{refl}
-use Rattle.netlink_core.specs.laws.Sound.{MeetsLayoutConditions, HasFixedSize}
+use Rattle.netlink_core.specs.laws.LayoutObligations.{MeetsLayoutConditions, HasFixedSize}
 use Rattle.netlink_core.proofs.LayoutLaws.{plain_sound}
 use Rattle.sock_diag_values.specs.TcpInfo.{tcp_info}
 use Rattle.sock_diag_values.specs.declared.inet.tcp_info.TheConstants.{TCP_INFO_LEN}

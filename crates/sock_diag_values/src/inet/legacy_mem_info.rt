@@ -7,7 +7,7 @@ ghost use Rattle.netlink_core.proofs.LayoutLaws.{plain_sound, record_laws};
 ghost use Rattle.sock_diag_values.specs.LegacyMemInfo.{legacy_mem_info};
 
 use byteorder::{ByteOrder, LittleEndian};
-use netlink_core::fields::words_at;
+use netlink_core::fields::u32s_at;
 use netlink_core::{DecodeError, Exact, Fills, Record, RecordBuffer, RecordName, read_record};
 
 /// Size of `struct inet_diag_meminfo` in bytes.
@@ -50,7 +50,7 @@ impl Record for LegacyMemInfo {
     }
 
     fn from_fields(payload: &[u8], _param: ()) -> Result<Self, DecodeError> {
-        let [receive_queue, bottom_send_queue, cache, send_queue] = words_at::<4>(payload, 0);
+        let [receive_queue, bottom_send_queue, cache, send_queue] = u32s_at::<4>(payload, 0);
         Ok(LegacyMemInfo {
             receive_queue,
             bottom_send_queue,
@@ -71,7 +71,7 @@ impl Record for LegacyMemInfo {
         );
     }
 
-    fn fields_in_range(&self) {
+    fn prove_fields_in_range(&self) {
         let LegacyMemInfo {
             receive_queue: _a,
             bottom_send_queue: _b,

@@ -15,8 +15,8 @@ ghost use Rattle.byteorder.specs.Endian.{little_number};
 ghost use Rattle.netlink_core.specs.Table.{number, array};
 
 use byteorder::{ByteOrder, LittleEndian};
-use netlink_core::fields::words_at;
-use netlink_core::{DecodeError, Exact, Record, RecordName, read_record, word_in_range};
+use netlink_core::fields::u32s_at;
+use netlink_core::{DecodeError, Exact, Record, RecordName, prove_u32_in_range, read_record};
 
 /// Size of the value of `INET_DIAG_SKMEMINFO` in bytes, with all nine `u32`.
 pub const MEM_INFO_LEN: usize = 36;
@@ -118,7 +118,7 @@ impl Record for MemInfo {
             cache,
             send_queue,
             options,
-        ] = words_at::<7>(payload, 0);
+        ] = u32s_at::<7>(payload, 0);
         Ok(MemInfo {
             receive_queue,
             receive_queue_max,
@@ -155,15 +155,15 @@ impl Record for MemInfo {
         }
     }
 
-    fn fields_in_range(&self) {
-        self.words_are_in_range();
+    fn prove_fields_in_range(&self) {
+        self.prove_fields_are_in_range();
         match (self.backlog_queue_length, self.drops) {
             (Some(backlog), Some(drops)) => {
-                word_in_range(backlog);
-                word_in_range(drops);
+                prove_u32_in_range(backlog);
+                prove_u32_in_range(drops);
             }
-            (None, Some(drops)) => word_in_range(drops),
-            (Some(backlog), None) => word_in_range(backlog),
+            (None, Some(drops)) => prove_u32_in_range(drops),
+            (Some(backlog), None) => prove_u32_in_range(backlog),
             (None, None) => {}
         }
     }
@@ -173,7 +173,7 @@ impl Record for MemInfo {
 
 impl MemInfo {
     // Proof only: puts the range of the first seven fields in scope. No run-time effect.
-    fn words_are_in_range(&self)
+    fn prove_fields_are_in_range(&self)
         ensures { FitFields (array number 0 4 7) (take 7 (field_numbers mem_info self.now)) }
     {
         let _receive_queue = self.receive_queue;

@@ -13,11 +13,9 @@ ghost use Rattle.sock_diag_values.specs.laws.TcpInfoEqual.{tcp_info_equal};
 ghost use Rattle.sock_diag_values.specs.laws.TcpInfo.{tcp_info_sound};
 
 use byteorder::{ByteOrder, LittleEndian};
-use netlink_core::fields::{
-    array_at, long_words_at, long_words_in_range, words_at, words_in_range,
-};
+use netlink_core::fields::{array_at, prove_u32s_in_range, prove_u64s_in_range, u32s_at, u64s_at};
 use netlink_core::{
-    DecodeError, Exact, Fills, Record, RecordBuffer, RecordName, bytes_in_range, read_record,
+    DecodeError, Exact, Fills, Record, RecordBuffer, RecordName, prove_bytes_in_range, read_record,
 };
 use std::alloc::AllocError;
 
@@ -200,16 +198,16 @@ impl Record for TcpInfo {
     #[tactic(auto, unfolding(crate::specs::TcpInfo::tcp_info))]
     fn from_fields(payload: &[u8], _param: ()) -> Result<Self, DecodeError> {
         let states = array_at::<8>(payload, 0);
-        let counts = words_at::<9>(payload, 8);
-        let ages = words_at::<4>(payload, 44);
-        let metrics = words_at::<8>(payload, 60);
-        let receiver = words_at::<3>(payload, 92);
-        let rates = long_words_at::<4>(payload, 104);
-        let segments = words_at::<6>(payload, 136);
-        let limits = long_words_at::<4>(payload, 160);
-        let deliveries = words_at::<2>(payload, 192);
-        let totals = long_words_at::<2>(payload, 200);
-        let reorderings = words_at::<4>(payload, 216);
+        let counts = u32s_at::<9>(payload, 8);
+        let ages = u32s_at::<4>(payload, 44);
+        let metrics = u32s_at::<8>(payload, 60);
+        let receiver = u32s_at::<3>(payload, 92);
+        let rates = u64s_at::<4>(payload, 104);
+        let segments = u32s_at::<6>(payload, 136);
+        let limits = u64s_at::<4>(payload, 160);
+        let deliveries = u32s_at::<2>(payload, 192);
+        let totals = u64s_at::<2>(payload, 200);
+        let reorderings = u32s_at::<4>(payload, 216);
         Ok(TcpInfo {
             state: states[0],
             ca_state: states[1],
@@ -277,18 +275,18 @@ impl Record for TcpInfo {
         self.write_back(back);
     }
 
-    fn fields_in_range(&self) {
-        bytes_in_range(&self.states());
-        words_in_range(&self.counts());
-        words_in_range(&self.ages());
-        words_in_range(&self.metrics());
-        words_in_range(&self.receiver());
-        long_words_in_range(&self.rates());
-        words_in_range(&self.segments());
-        long_words_in_range(&self.limits());
-        words_in_range(&self.deliveries());
-        long_words_in_range(&self.totals());
-        words_in_range(&self.reorderings());
+    fn prove_fields_in_range(&self) {
+        prove_bytes_in_range(&self.states());
+        prove_u32s_in_range(&self.counts());
+        prove_u32s_in_range(&self.ages());
+        prove_u32s_in_range(&self.metrics());
+        prove_u32s_in_range(&self.receiver());
+        prove_u64s_in_range(&self.rates());
+        prove_u32s_in_range(&self.segments());
+        prove_u64s_in_range(&self.limits());
+        prove_u32s_in_range(&self.deliveries());
+        prove_u64s_in_range(&self.totals());
+        prove_u32s_in_range(&self.reorderings());
     }
 
     ghost laws = { record_laws tcp_info tcp_info_sound };

@@ -7,7 +7,7 @@ ghost use Rattle.netlink_core.proofs.LayoutLaws.{plain_sound, record_laws};
 ghost use Rattle.sock_diag_values.specs.UnixMemInfo.{unix_mem_info};
 
 use byteorder::{ByteOrder, LittleEndian};
-use netlink_core::fields::words_at;
+use netlink_core::fields::u32s_at;
 use netlink_core::{DecodeError, Exact, Fills, Record, RecordBuffer, RecordName, read_record};
 
 /// Size of the value of `UNIX_DIAG_MEMINFO` in bytes.
@@ -53,7 +53,7 @@ impl Record for MemInfo {
     }
 
     fn from_fields(payload: &[u8], _param: ()) -> Result<Self, DecodeError> {
-        let [_, so_rcvbuf, _, max_datagram_size, _, alloc, _, _, _] = words_at::<9>(payload, 0);
+        let [_, so_rcvbuf, _, max_datagram_size, _, alloc, _, _, _] = u32s_at::<9>(payload, 0);
         Ok(MemInfo {
             so_rcvbuf,
             max_datagram_size,
@@ -76,7 +76,7 @@ impl Record for MemInfo {
         LittleEndian::write_u32_into(&words, buffer);
     }
 
-    fn fields_in_range(&self) {
+    fn prove_fields_in_range(&self) {
         let MemInfo {
             so_rcvbuf: _a,
             max_datagram_size: _b,

@@ -7,7 +7,7 @@ ghost use Rattle.netlink_core.proofs.LayoutLaws.{plain_sound, record_laws};
 ghost use Rattle.sock_diag_values.specs.Vfs.{vfs};
 
 use byteorder::{ByteOrder, LittleEndian};
-use netlink_core::fields::words_at;
+use netlink_core::fields::u32s_at;
 use netlink_core::{DecodeError, Exact, Fills, Record, RecordBuffer, RecordName, read_record};
 
 /// Size of `struct unix_diag_vfs` in bytes.
@@ -46,7 +46,7 @@ impl Record for Vfs {
     }
 
     fn from_fields(payload: &[u8], _param: ()) -> Result<Self, DecodeError> {
-        let [inode, device] = words_at::<2>(payload, 0);
+        let [inode, device] = u32s_at::<2>(payload, 0);
         Ok(Vfs { inode, device })
     }
 
@@ -54,7 +54,7 @@ impl Record for Vfs {
         LittleEndian::write_u32_into(&[self.inode, self.device], buffer);
     }
 
-    fn fields_in_range(&self) {
+    fn prove_fields_in_range(&self) {
         let (_inode, _device) = (self.inode, self.device);
     }
 

@@ -13,7 +13,7 @@ first_present None o = o
 -- `set_number_once old offered`: `old`, if its number is present, or if no number is offered
 -- (None); else the offered number
 abbrev pub set_number_once : Number → Option ℕ → Number
-set_number_once old (Some n) = if old.is_told == 0 then optional_number (Some n) else old
+set_number_once old (Some n) = if old.is_set == 0 then optional_number (Some n) else old
 set_number_once old None = old
 
 -- set_attribute_number F k part v old: the number after the attribute `v` of the set `F`. If `v` is

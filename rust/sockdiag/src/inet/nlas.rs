@@ -1,7 +1,7 @@
 //! Decoded attributes of a reply about an IPv4 or IPv6 socket.
 
 pub use super::TcpInfo;
-use crate::attribute::{word, Attribute};
+use crate::attribute::{u32_at, Attribute};
 use crate::calls;
 use crate::constants::*;
 
@@ -90,10 +90,10 @@ impl<'a> Nla<'a> {
         let value = attribute.value;
         Some(match attribute.kind() {
             INET_DIAG_MEMINFO => Nla::LegacyMemInfo(LegacyMemInfo {
-                receive_queue: word(value, 0)?,
-                bottom_send_queue: word(value, 1)?,
-                cache: word(value, 2)?,
-                send_queue: word(value, 3)?,
+                receive_queue: u32_at(value, 0)?,
+                bottom_send_queue: u32_at(value, 1)?,
+                cache: u32_at(value, 2)?,
+                send_queue: u32_at(value, 3)?,
             }),
             INET_DIAG_INFO => Nla::TcpInfo(calls::tcp_info_in(value.first_chunk()?)),
             INET_DIAG_CONG => {
@@ -106,8 +106,8 @@ impl<'a> Nla<'a> {
             INET_DIAG_SHUTDOWN => Nla::Shutdown(*value.first()?),
             INET_DIAG_PROTOCOL => Nla::Protocol(*value.first()?),
             INET_DIAG_SKV6ONLY => Nla::SkV6Only(*value.first()? != 0),
-            INET_DIAG_MARK => Nla::Mark(word(value, 0)?),
-            INET_DIAG_CLASS_ID => Nla::ClassId(word(value, 0)?),
+            INET_DIAG_MARK => Nla::Mark(u32_at(value, 0)?),
+            INET_DIAG_CLASS_ID => Nla::ClassId(u32_at(value, 0)?),
             _ => return None,
         })
     }
@@ -116,14 +116,14 @@ impl<'a> Nla<'a> {
 /// Parses socket memory of seven or more fields.
 fn memory(value: &[u8]) -> Option<MemInfo> {
     Some(MemInfo {
-        receive_queue: word(value, 0)?,
-        receive_queue_max: word(value, 1)?,
-        bottom_send_queues: word(value, 2)?,
-        send_queue_max: word(value, 3)?,
-        cache: word(value, 4)?,
-        send_queue: word(value, 5)?,
-        options: word(value, 6)?,
-        backlog_queue_length: word(value, 7),
-        drops: word(value, 8),
+        receive_queue: u32_at(value, 0)?,
+        receive_queue_max: u32_at(value, 1)?,
+        bottom_send_queues: u32_at(value, 2)?,
+        send_queue_max: u32_at(value, 3)?,
+        cache: u32_at(value, 4)?,
+        send_queue: u32_at(value, 5)?,
+        options: u32_at(value, 6)?,
+        backlog_queue_length: u32_at(value, 7),
+        drops: u32_at(value, 8),
     })
 }

@@ -1,7 +1,7 @@
 //! Decoded attributes of a reply about a UNIX socket.
 
 pub use super::{UnixDiagName, Vfs};
-use crate::attribute::{word, Attribute, Numbers};
+use crate::attribute::{u32_at, Attribute, Numbers};
 use crate::constants::*;
 
 /// Memory of a UNIX socket: three of the nine fields of `UNIX_DIAG_MEMINFO`, in bytes.
@@ -55,16 +55,16 @@ impl<'a> Nla<'a> {
         Some(match attribute.kind() {
             UNIX_DIAG_NAME => Nla::Name(UnixDiagName::read(value)?),
             UNIX_DIAG_VFS => Nla::Vfs(Vfs {
-                inode: word(value, 0)?,
-                device: word(value, 1)?,
+                inode: u32_at(value, 0)?,
+                device: u32_at(value, 1)?,
             }),
-            UNIX_DIAG_PEER => Nla::Peer(word(value, 0)?),
+            UNIX_DIAG_PEER => Nla::Peer(u32_at(value, 0)?),
             UNIX_DIAG_ICONS => Nla::PendingConnections(Numbers::new(value)),
-            UNIX_DIAG_RQLEN => Nla::ReceiveQueueLength(word(value, 0)?, word(value, 1)?),
+            UNIX_DIAG_RQLEN => Nla::ReceiveQueueLength(u32_at(value, 0)?, u32_at(value, 1)?),
             UNIX_DIAG_MEMINFO => Nla::MemInfo(MemInfo {
-                so_rcvbuf: word(value, 1)?,
-                max_datagram_size: word(value, 3)?,
-                alloc: word(value, 5)?,
+                so_rcvbuf: u32_at(value, 1)?,
+                max_datagram_size: u32_at(value, 3)?,
+                alloc: u32_at(value, 5)?,
             }),
             UNIX_DIAG_SHUTDOWN => Nla::Shutdown(*value.first()?),
             _ => return None,

@@ -13,24 +13,25 @@ push_accepted-requires g c =
     let room = rw first.2 at c.loop-item.invariant.room in
     (search rules, (simp first.1 cc, omega arith))
 
-pub returns-in_err-push_accepted-clause-spare : goal.returns-in_err-push_accepted-clause-spare
-returns-in_err-push_accepted-clause-spare g c = λ few each.
+pub returns-in_err-push_accepted-clause-needs_no_memory :
+    goal.returns-in_err-push_accepted-clause-needs_no_memory
+returns-in_err-push_accepted-clause-needs_no_memory g c = λ few each.
     let start = rw c.in-Ok.is at c.in-Some.ensures.steps in
     let first = first_value_is_found (decode_attribute g.T.FamilyNla.attribute_set) _ _ _
     c.loop-item.invariant.clean
     start in
     let spare = rw first.2 at (c.loop-item.invariant.spare each) in
-    let ok = c.in_err-push_accepted.ensures.spare first.0 first.1 spare.0 in
+    let ok = c.in_err-push_accepted.ensures.needs_no_memory first.0 first.1 spare.0 in
     absurd cc
 
 pub loop-item-preserved : goal.loop-item-preserved
 loop-item-preserved g c =
-    let reads = decode_attribute g.T.FamilyNla.attribute_set in
+    let parses = decode_attribute g.T.FamilyNla.attribute_set in
     let start = rw c.in-Ok.is at c.in-Some.ensures.steps in
     let pushed = c.in_ok-push_accepted.ensures.pushed in
-    let next = value_first reads _ _ _ _ start pushed.2 in
+    let next = value_first parses _ _ _ _ start pushed.2 in
     record {
-      clean = rest_has_no_error reads _ _ _ _ start pushed.2 c.loop-item.invariant.clean;
+      clean = rest_has_no_error parses _ _ _ _ start pushed.2 c.loop-item.invariant.clean;
       told = rw pushed.1 (simp (map_push, append_assoc) (rw next at c.loop-item.invariant.told));
       room = rw (pushed.1, length-append) (omega (arith, ap length next));
       spare = λ each. (rw next at (c.loop-item.invariant.spare each)).1;

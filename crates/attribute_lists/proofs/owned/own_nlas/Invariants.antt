@@ -8,12 +8,12 @@ use Rattle.attribute_lists.proofs.owned.own_nlas.Given as goal
 -- the list so far and the remaining values are all values, and the list has capacity for all
 abbrev pub invariant-loop-item : goal.invariant-loop-item
 invariant-loop-item g l =
-    let reads = decode_attribute g.T.FamilyNla.attribute_set in
+    let parses = decode_attribute g.T.FamilyNla.attribute_set in
     let spare = AllByRecursion (NeedsNoMemoryIn g.T.FamilyNla.attribute_set) in
-    let left = decoded_in reads (unread_bytes l.item-iterator) in
+    let left = decoded_in parses (unread_bytes l.item-iterator) in
     record {
-      clean : HasNoAttributeError reads (unread_bytes l.item-iterator);
-      told : map g.T.FamilyNla.model l.nlas.items ++ left ≡ decoded_in reads l.bytes;
+      clean : HasNoAttributeError parses (unread_bytes l.item-iterator);
+      told : map g.T.FamilyNla.model l.nlas.items ++ left ≡ decoded_in parses l.bytes;
       room : length l.nlas.items + length left ≤ l.nlas.capacity;
-      spare : spare (decoded_in reads l.bytes) → spare left;
+      spare : spare (decoded_in parses l.bytes) → spare left;
     }

@@ -4,18 +4,18 @@ use Rattle.std.proofs.lemmas.Result.{err_from_is_err_and}
 use Rattle.netlink_core.specs.Attribute.{Attribute}
 use Rattle.netlink_core.specs.AttributeSet.{decode_attribute, encode_attribute}
 use Rattle.netlink_core.specs.Walk.{unread_bytes}
-use Rattle.netlink_core.proofs.Walking.{error_of_rest, error_of_first_attribute}
-use Rattle.netlink_core.proofs.Walking.{StartsWithAttribute-nonempty, attribute_prefix_of_start}
-use Rattle.netlink_core.proofs.Cutting.{decoded_or_error_apart}
+use Rattle.netlink_core.proofs.Iterating.{error_of_rest, error_of_first_attribute}
+use Rattle.netlink_core.proofs.Iterating.{StartsWithAttribute-nonempty, attribute_prefix_of_start}
+use Rattle.netlink_core.proofs.Splitting.{decoded_or_error_apart}
 use Rattle.attribute_lists.proofs.Emitting.{encoded_attributes_in}
 use Rattle.attribute_lists.proofs.Finding.{value_first}
-use Rattle.attribute_lists.proofs.Standing.{no_attribute_is_found}
+use Rattle.attribute_lists.proofs.FirstAttribute.{no_attribute_is_found}
 use Rattle.attribute_lists.proofs.Measuring.{leaves_end, leaves_less, leaves_within}
 use Rattle.attribute_lists.proofs.views.check_nlas_len.Goals as goal
 
 pub loop-item-preserved : goal.loop-item-preserved
 loop-item-preserved g c =
-    let reads = decode_attribute g.V.FamilyView.attribute_set in
+    let parses = decode_attribute g.V.FamilyView.attribute_set in
     let start = rw c.in_ok-item.was at c.in-Some.ensures.steps in
     let read = c.in_ok-view.ensures.value in
     let kept = c.loop-item.invariant in
@@ -25,32 +25,32 @@ loop-item-preserved g c =
     search rules in
     let parts : encoded_attributes_in F (unread_bytes c.loop-item.item-iterator)
     ≡ a ∷ encoded_attributes_in F (unread_bytes c.next.new.self) =
-    rw (value_first reads _ _ _ _ start read, as_encoded) refl in
+    rw (value_first parses _ _ _ _ start read, as_encoded) refl in
     record {
       mean = λ later m. kept.mean (_ ∷ later) (_ ∷ m.0, (_, start, m.1), (read, m.2));
-      fault = λ e f. kept.fault e (error_of_rest reads _ _ _ _ e start read f);
-      many = omega (arith, ap length (value_first reads _ _ _ _ start read));
+      error = λ e f. kept.error e (error_of_rest parses _ _ _ _ e start read f);
+      many = omega (arith, ap length (value_first parses _ _ _ _ start read));
       few = grind (arith, ap length start.parts, length-append {A = ℕ});
       room = leaves_less _ _ _ a _ _ c.room_after-room.ensures (rw parts at kept.room);
     }
 
-pub returns-in_err-item-clause-fault : goal.returns-in_err-item-clause-fault
-returns-in_err-item-clause-fault g c =
+pub returns-in_err-item-clause-error : goal.returns-in_err-item-clause-error
+returns-in_err-item-clause-error g c =
     let p = err_from_is_err_and c.from_residual.result c.from_residual.ensures.1 in
     let stop = rw c.in_err-item.was at c.in-Some.ensures.steps in
-    rw (p.1, p.2) (c.loop-item.invariant.fault _
+    rw (p.1, p.2) (c.loop-item.invariant.error _
     (error_of_first_attribute (decode_attribute g.V.FamilyView.attribute_set) _ _ stop.0
     (inl stop.1)))
 
-pub returns-in_err-view-clause-fault : goal.returns-in_err-view-clause-fault
-returns-in_err-view-clause-fault g c =
+pub returns-in_err-view-clause-error : goal.returns-in_err-view-clause-error
+returns-in_err-view-clause-error g c =
     let p = err_from_is_err_and c.from_residual-in_err-view.result
     c.from_residual-in_err-view.ensures.1 in
     let start = rw c.in_ok-item.was at c.in-Some.ensures.steps in
-    rw (p.1, p.2) (c.loop-item.invariant.fault _
+    rw (p.1, p.2) (c.loop-item.invariant.error _
     (error_of_first_attribute (decode_attribute g.V.FamilyView.attribute_set) _ _
     (StartsWithAttribute-nonempty _ _ _ start)
-    (inr (_, attribute_prefix_of_start _ _ _ start, c.in_err-view.ensures.fault))))
+    (inr (_, attribute_prefix_of_start _ _ _ start, c.in_err-view.ensures.error))))
 
 pub returns-clause-clean : goal.returns-clause-clean
 returns-clause-clean g c =

@@ -1,5 +1,5 @@
 use Rattle.std.proofs.Common.{◌≡◌, ◌+◌, ◌*◌, ◌≤◌, List, length}
-use Rattle.netlink_core.specs.declared.fault.DecodeError.{DecodeError}
+use Rattle.netlink_core.specs.declared.error.DecodeError.{DecodeError}
 use Rattle.netlink_core.specs.Attribute.{DecodeTo, HasAttributeError}
 use Rattle.netlink_core.specs.Walk.{unread_bytes}
 use Rattle.netlink_core.specs.AttributeSet.{AttributeValue, decode_attribute}
@@ -17,7 +17,7 @@ invariant-loop-item g l =
     record {
       mean : (later : List (AttributeValue F)) → DecodeTo (decode_attribute F) left later
           → (all : List (AttributeValue F)) × DecodeTo (decode_attribute F) l.bytes all;
-      fault : (e : DecodeError) → HasAttributeError (decode_attribute F) left e
+      error : (e : DecodeError) → HasAttributeError (decode_attribute F) left e
           → HasAttributeError (decode_attribute F) l.bytes e;
       many : l.count + length (decoded_in (decode_attribute F) left)
           ≡ length (decoded_in (decode_attribute F) l.bytes);

@@ -1,4 +1,4 @@
-use Rattle.netlink_core.proofs.FaultEquality.{error_equal}
+use Rattle.netlink_core.proofs.ErrorEquality.{error_equal}
 use Rattle.netlink_core.proofs.laws.equal_errors.Goals as goal
 
 pub returns : goal.returns

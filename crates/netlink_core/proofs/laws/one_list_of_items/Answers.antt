@@ -3,5 +3,5 @@ use Rattle.netlink_core.proofs.laws.one_list_of_items.Goals as goal
 
 pub returns : goal.returns
 returns g c =
-    let law = c.one_message_or_fault.ensures in
-    one_list g.I.Coded.codec law.one_value law.one_answer law.one_fault
+    let law = c.one_message_or_error.ensures in
+    one_list g.I.HasCodec.codec law.one_value law.is_exclusive law.error_is_unique

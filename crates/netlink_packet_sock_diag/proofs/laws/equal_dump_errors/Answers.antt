@@ -1,7 +1,7 @@
 use Rattle.std.proofs.Common.{arith}
 use Rattle.std.proofs.Common.{◌≡◌, ◌↔◌, IsTrue, rules}
 use Rattle.netlink_core.proofs.Equality.{false_decides}
-use Rattle.netlink_core.proofs.FaultEquality.{decode_error_equal}
+use Rattle.netlink_core.proofs.ErrorEquality.{decode_error_equal}
 use Rattle.netlink_packet_sock_diag.specs.declared.dump.DumpError.{DumpError}
 use Rattle.netlink_packet_sock_diag.specs.declared.dump.DumpError.TheVariants.{Fault, Ended}
 use Rattle.netlink_packet_sock_diag.specs.contracts.dump.DumpErrorPartialEq.TheImpl.{ghosts}

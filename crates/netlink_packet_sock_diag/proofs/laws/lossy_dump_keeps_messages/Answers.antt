@@ -5,5 +5,5 @@ use Rattle.netlink_packet_sock_diag.proofs.laws.lossy_dump_keeps_messages.Goals 
 pub returns : goal.returns
 returns c = record {
   kept = lossy_entries_of_dump message_codec;
-  fault = lossy_dump_error message_codec;
+  error = lossy_dump_error message_codec;
 }

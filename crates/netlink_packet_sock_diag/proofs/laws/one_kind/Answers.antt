@@ -1,5 +1,5 @@
 use Rattle.netlink_packet_sock_diag.specs.Message.{apply_by_kind}
-use Rattle.netlink_packet_sock_diag.proofs.Envelopes.{one_of_four_kinds}
+use Rattle.netlink_packet_sock_diag.proofs.NetlinkMessages.{one_of_four_kinds}
 use Rattle.netlink_packet_sock_diag.proofs.laws.one_kind.Goals as goal
 
 pub returns : goal.returns

@@ -305,7 +305,7 @@ fn among_lines(rt: &impl Abort, alloc: Global, lines: &str, long: Repeated) -> S
 }
 
 #[test]
-fn pieces_of_any_size(rt: HostRuntime) {
+fn chunks_of_any_size(rt: HostRuntime) {
     let alloc = rt.alloc();
     for (long, answered) in LONG {
         let text = among_lines(&rt, alloc, INPUT, long);
@@ -376,7 +376,7 @@ fn many_lines_and_reads(rt: HostRuntime) {
 
 /// Checks reads of 1 byte, then of 8, of 15, and so on, to 8 KiB, and such writes.
 #[test]
-fn pieces_that_grow(rt: HostRuntime) {
+fn chunks_that_grow(rt: HostRuntime) {
     let growing = Pace {
         growth: 7,
         ..steady(1)
@@ -433,7 +433,7 @@ fn tells(rt: &impl Abort, alloc: Global, read_fails: usize, write_fails: usize, 
 }
 
 #[test]
-fn tells_on_errors_why_it_failed(rt: HostRuntime) {
+fn reports_on_errors_why_it_failed(rt: HostRuntime) {
     for (read_fails, write_fails, want) in [
         (0, NEVER, "sockdiag: reading failed\n"),
         (30, NEVER, "sockdiag: reading failed\n"),

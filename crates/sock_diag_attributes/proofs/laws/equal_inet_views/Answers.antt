@@ -1,7 +1,7 @@
 use Rattle.std.proofs.Common.{ℕ, List, Bor, refl}
 use Rattle.netlink_core.specs.Walk.{buffered_attribute}
 use Rattle.sock_diag_attributes.specs.laws.EqualInet.{inet_nlas_equal}
-use Rattle.sock_diag_attributes.specs.laws.Lent.{buffer_row, text_view_row}
+use Rattle.sock_diag_attributes.specs.laws.AttributeParts.{buffer_row, text_view_row}
 use Rattle.sock_diag_attributes.proofs.laws.equal_inet_views.Goals as goal
 
 pub returns : goal.returns

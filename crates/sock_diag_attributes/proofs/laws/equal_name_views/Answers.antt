@@ -1,6 +1,6 @@
 use Rattle.std.proofs.Common.{ℕ, List, Bor, refl}
 use Rattle.sock_diag_attributes.specs.laws.EqualName.{names_equal}
-use Rattle.sock_diag_attributes.specs.laws.Lent.{text_view_row}
+use Rattle.sock_diag_attributes.specs.laws.AttributeParts.{text_view_row}
 use Rattle.sock_diag_attributes.proofs.laws.equal_name_views.Goals as goal
 
 pub returns : goal.returns

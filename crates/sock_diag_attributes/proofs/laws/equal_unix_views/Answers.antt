@@ -2,8 +2,8 @@ use Rattle.std.proofs.Common.{ℕ, List, Bor, refl}
 use Rattle.netlink_core.specs.Walk.{buffered_attribute}
 use Rattle.sock_diag_attributes.specs.laws.EqualUnix.{unix_nlas_equal, list_views_model}
 use Rattle.sock_diag_attributes.specs.laws.EqualName.{same_names}
-use Rattle.sock_diag_attributes.specs.laws.Lent.{buffer_row, name_view_row, numbers_row}
-use Rattle.sock_diag_attributes.specs.laws.Lent.{text_view_row}
+use Rattle.sock_diag_attributes.specs.laws.AttributeParts.{buffer_row, name_view_row, numbers_row}
+use Rattle.sock_diag_attributes.specs.laws.AttributeParts.{text_view_row}
 use Rattle.sock_diag_attributes.specs.NameModel.{socket_name_model}
 use Rattle.sock_diag_attributes.specs.NumbersModel.{numbers_view_model}
 use Rattle.sock_diag_attributes.proofs.laws.equal_unix_views.Goals as goal

@@ -27,7 +27,8 @@ returns-in_ok-push_inet_lines-in-Ok-clause-lines c =
     (rw (take_rest c.args.payload.now 72, c.timer_of-timer.ensures) at
     c.in_ok-push_inet_lines-in-Ok.ensures)
 
-pub returns-in_ok-push_inet_lines-in-Ok-clause-fault :
-    goal.returns-in_ok-push_inet_lines-in-Ok-clause-fault
-returns-in_ok-push_inet_lines-in-Ok-clause-fault c =
-    rw (← c.in-Ok.ensures.value) (rw (take_rest c.args.payload.now 72) at c.find_fault.ensures)
+pub returns-in_ok-push_inet_lines-in-Ok-clause-error :
+    goal.returns-in_ok-push_inet_lines-in-Ok-clause-error
+returns-in_ok-push_inet_lines-in-Ok-clause-error c =
+    rw (← c.in-Ok.ensures.value)
+    (rw (take_rest c.args.payload.now 72) at c.find_framing_error.ensures)

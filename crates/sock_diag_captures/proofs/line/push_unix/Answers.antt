@@ -20,7 +20,7 @@ returns-in_ok-push_unix_lines-in-Ok-clause-lines c =
     rw (← c.in-Ok.ensures)
     (rw (take_rest c.args.payload.now 16) at c.in_ok-push_unix_lines-in-Ok.ensures)
 
-pub returns-in_ok-push_unix_lines-in-Ok-clause-fault :
-    goal.returns-in_ok-push_unix_lines-in-Ok-clause-fault
-returns-in_ok-push_unix_lines-in-Ok-clause-fault c =
-    rw (← c.in-Ok.ensures) (rw (take_rest c.args.payload.now 16) at c.find_fault.ensures)
+pub returns-in_ok-push_unix_lines-in-Ok-clause-error :
+    goal.returns-in_ok-push_unix_lines-in-Ok-clause-error
+returns-in_ok-push_unix_lines-in-Ok-clause-error c =
+    rw (← c.in-Ok.ensures) (rw (take_rest c.args.payload.now 16) at c.find_framing_error.ensures)

@@ -2,7 +2,7 @@ use Rattle.std.proofs.Common.{inl, List, ℕ, subst, ◌∙◌}
 use Rattle.std.proofs.lemmas.Result.{IfOk-weaker, on_ok_weaker}
 use Rattle.sock_diag_captures.specs.Diagnostics.{DiagnosesDatagram}
 use Rattle.sock_diag_captures.specs.Listing.{ListsDatagram}
-use Rattle.sock_diag_captures.proofs.Asking.{request_of_datagram}
+use Rattle.sock_diag_captures.proofs.RequestsAfterPacket.{request_of_datagram}
 use Rattle.sock_diag_captures.proofs.Diagnosing.{diagnosed_other, diagnosed_short}
 use Rattle.sock_diag_captures.proofs.list.list_content.Goals as goal
 
@@ -33,7 +33,8 @@ returns-in-SockDiag-clause-diagnosed c =
     (λ diagnosed. inl (
       (found.0, found.1),
       subst (λ (d : List ℕ). DiagnosesDatagram c.args.written.now.front.now c.args.number d
-          c.args.written.now.issues.items c.list_sock_diag.new.written.issues.items) found.2
+          c.args.written.now.diagnostics.items c.list_sock_diag.new.written.diagnostics.items)
+          found.2
           diagnosed,
     ))
     c.list_sock_diag.ensures.diagnosed
@@ -45,4 +46,4 @@ returns-in-Other-clause-diagnosed c =
 pub returns-in_ok-push_short-in-Short-clause-diagnosed :
     goal.returns-in_ok-push_short-in-Short-clause-diagnosed
 returns-in_ok-push_short-in-Short-clause-diagnosed c =
-    diagnosed_short _ _ _ _ _ c.in-Short.ensures c.in_ok-push_short-in-Short.ensures.issues
+    diagnosed_short _ _ _ _ _ c.in-Short.ensures c.in_ok-push_short-in-Short.ensures.diagnostics

@@ -54,11 +54,11 @@ returns-in-Err-clause-lists c =
     let stop = rw c.in-Err.is at c.in-Some.ensures.steps in
     let inv = c.loop-item.invariant.listing in record {
       messages = inv.passed;
-      end = Some c.in-Err.fault;
+      end = Some c.in-Err.error;
       cut = listing_stops (message_lines c.args.options c.args.requests.now.asked.items)
           IsCleanMessage
-          _ _ _ _ _ c.in-Err.fault inv stop.0 stop.1;
-      lines = c.in_ok-push_issue-in-Err.ensures.lines ∙ inv.lines;
+          _ _ _ _ _ c.in-Err.error inv stop.0 stop.1;
+      lines = c.in_ok-push_diagnostic-in-Err.ensures.lines ∙ inv.lines;
       clean = (λ wrong. absurd cc, λ both. absurd (let none = both.1 in cc));
     }
 
@@ -68,8 +68,8 @@ returns-in-Err-clause-diagnosed c =
     let inv = c.loop-item.invariant in
     let more = counted_on _ _ _ _ _ _ _ _ inv.diagnosed (has_bytes _ stop.0)
     c.next_number-count.ensures in
-    diagnosed_stops _ _ _ _ _ _ _ _ c.in-Err.fault inv.diagnosed stop.0 stop.1
-    (rw (more, inv.front) at c.in_ok-push_issue-in-Err.ensures.issues)
+    diagnosed_stops _ _ _ _ _ _ _ _ c.in-Err.error inv.diagnosed stop.0 stop.1
+    (rw (more, inv.front) at c.in_ok-push_diagnostic-in-Err.ensures.diagnostics)
 
 pub returns-clause-lists : goal.returns-clause-lists
 returns-clause-lists c =

@@ -13,6 +13,6 @@ invariant-loop-item l = record {
       l.fn.written.lines.items l.written.lines.items l.is_clean;
   diagnosed : Diagnosed l.fn.written.front.now l.number l.datagram
       (unread_datagram l.item-iterator)
-      l.fn.written.issues.items l.written.issues.items l.count;
+      l.fn.written.diagnostics.items l.written.diagnostics.items l.count;
   front : l.written.front ≡ l.fn.written.front;
 }

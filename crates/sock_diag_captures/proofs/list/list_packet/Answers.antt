@@ -8,5 +8,5 @@ returns-clause-lists c =
 
 pub returns-clause-diagnosed : goal.returns-clause-diagnosed
 returns-clause-diagnosed c =
-    rw (c.in_ok-is_whole.ensures.issues, c.in_ok-is_whole.ensures.front) at
+    rw (c.in_ok-is_whole.ensures.diagnostics, c.in_ok-is_whole.ensures.front) at
     c.in_ok-is_listed.ensures.diagnosed

@@ -15,11 +15,11 @@ returns-clause-lines c =
     ++ lines_by_type c.args.options (c.protocol_of.ensures i) (of_type i) (behind i)))
     c.push_payload.ensures.lines
 
-pub returns-clause-issue : goal.returns-clause-issue
-returns-clause-issue c =
+pub returns-clause-diagnostic : goal.returns-clause-diagnostic
+returns-clause-diagnostic c =
     let message = c.args.message.now in
     let of_type = c.read_u16.ensures ∙ ap (little_number 2) (take_rest message 4) in
     let behind = take_rest message 16 in
     IfOk-weaker c.push_payload.result _ _
-    (λ issue is. is ∙ (λ i. diagnostic_by_type (of_type i) (behind i)))
-    c.push_payload.ensures.issue
+    (λ diagnostic is. is ∙ (λ i. diagnostic_by_type (of_type i) (behind i)))
+    c.push_payload.ensures.diagnostic

@@ -1,9 +1,9 @@
 use Rattle.std.proofs.Common.{arith, ◌++◌, ◌∙◌, ap, List, ℕ, chars, flat_map}
 use Rattle.std.proofs.lemmas.Result.{on_ok_weaker}
 use Rattle.sock_diag_captures.specs.Escapes.{shown_character}
-use Rattle.sock_diag_captures.proofs.Showing.{utf8_is_shown_by_character}
-use Rattle.sock_diag_captures.proofs.Showing.{other_bytes_are_shown_by_byte}
-use Rattle.sock_diag_captures.proofs.Telling.{unescaped_shown_name}
+use Rattle.sock_diag_captures.proofs.Utf8Names.{utf8_is_shown_by_character}
+use Rattle.sock_diag_captures.proofs.Utf8Names.{other_bytes_are_shown_by_byte}
+use Rattle.sock_diag_captures.proofs.ShownNames.{unescaped_shown_name}
 use Rattle.sock_diag_captures.proofs.names.push_shown.Goals as goal
 
 pub returns-in-Ok-clause-shown : goal.returns-in-Ok-clause-shown
@@ -23,17 +23,17 @@ returns-in-Err-clause-shown c =
     (other_bytes_are_shown_by_byte c.args.utf8 c.args.bytes.now c.in-Err.ensures.cases.0))
     c.push_escaped-in-Err.ensures
 
-pub returns-then-not-utf8-clause-told : goal.returns-then-not-utf8-clause-told
-returns-then-not-utf8-clause-told c =
+pub returns-then-not-utf8-clause-unescapes : goal.returns-then-not-utf8-clause-unescapes
+returns-then-not-utf8-clause-unescapes c =
     λ behind. unescaped_shown_name c.args.utf8 c.args.bytes.now behind
     (λ i. omega (arith, c.type_inv.bytes i))
 
-pub returns-in-Ok-clause-told : goal.returns-in-Ok-clause-told
-returns-in-Ok-clause-told c =
+pub returns-in-Ok-clause-unescapes : goal.returns-in-Ok-clause-unescapes
+returns-in-Ok-clause-unescapes c =
     λ behind. unescaped_shown_name c.args.utf8 c.args.bytes.now behind
     (λ i. omega (arith, c.type_inv.bytes i))
 
-pub returns-in-Err-clause-told : goal.returns-in-Err-clause-told
-returns-in-Err-clause-told c =
+pub returns-in-Err-clause-unescapes : goal.returns-in-Err-clause-unescapes
+returns-in-Err-clause-unescapes c =
     λ behind. unescaped_shown_name c.args.utf8 c.args.bytes.now behind
     (λ i. omega (arith, c.type_inv.bytes i))

@@ -5,9 +5,9 @@ use Rattle.std.proofs.lemmas.Result.{err_from_is_err_and}
 use Rattle.netlink_core.specs.Walk.{buffered_attribute}
 use Rattle.sock_diag_examples.specs.Link.{decodes_link, name_attribute, mtu_attribute}
 use Rattle.sock_diag_examples.specs.Link.{other_attribute, name_in, mtu_in}
-use Rattle.netlink_core.proofs.Walking.{nothing_decoded_yet, all_attributes_decoded}
-use Rattle.netlink_core.proofs.Walking.{next_attribute_decoded, framing_error_of_all}
-use Rattle.netlink_core.proofs.Walking.{value_error_of_all}
+use Rattle.netlink_core.proofs.Iterating.{nothing_decoded_yet, all_attributes_decoded}
+use Rattle.netlink_core.proofs.Iterating.{next_attribute_decoded, framing_error_of_all}
+use Rattle.netlink_core.proofs.Iterating.{value_error_of_all}
 use Rattle.sock_diag_examples.proofs.LinkDecodes.{framing_error_is_not_memory, last_found}
 use Rattle.sock_diag_examples.proofs.LinkDecodes.{later_name, name_here, none_found}
 use Rattle.sock_diag_examples.proofs.LinkDecodes.{number_error_is_not_memory, rejects_mtu}
@@ -32,8 +32,8 @@ loop-item-init c = record {
   mtu = refl;
 }
 
-pub returns-in_err-attribute-clause-fault : goal.returns-in_err-attribute-clause-fault
-returns-in_err-attribute-clause-fault c =
+pub returns-in_err-attribute-clause-error : goal.returns-in_err-attribute-clause-error
+returns-in_err-attribute-clause-error c =
     let stop = rw c.in_err-attribute.was at c.in-Some.ensures.steps in
     let p = err_from_is_err_and c.from_residual.result c.from_residual.ensures.1 in
     let inv = c.loop-item.invariant in
@@ -44,20 +44,20 @@ returns-in_err-attribute-clause-fault c =
       λ memory. absurd (framing_error_is_not_memory _ _ stop.1 memory),
     )
 
-pub returns-in_err-parse_string-in-3-clause-fault :
-    goal.returns-in_err-parse_string-in-3-clause-fault
-returns-in_err-parse_string-in-3-clause-fault c =
+pub returns-in_err-parse_string-in-3-clause-error :
+    goal.returns-in_err-parse_string-in-3-clause-error
+returns-in_err-parse_string-in-3-clause-error c =
     let inv = c.loop-item.invariant in
     let a = buffered_attribute c.in_ok-attribute.attribute in
     let start = rw c.in_ok-attribute.was at c.in-Some.ensures.steps in
-    let fault = rw c.value.ensures at c.in_err-parse_string-in-3.ensures.fault in
+    let error = rw c.value.ensures at c.in_err-parse_string-in-3.ensures.error in
     let wanted = rw c.value.ensures at c.in_err-parse_string-in-3.ensures.memory in
     let p = err_from_is_err_and c.from_residual-in_err-parse_string-in-3.result
     c.from_residual-in_err-parse_string-in-3.ensures.1 in
     rw (p.1, p.2) (
       c.if-payload-lt-HEADER.false,
       λ named. value_error_of_all decodes_link _ _ _ inv.found a _ inv.walk start
-          (rejects_name a _ (sym c.kind.ensures ∙ c.in-3.is) (fault named)),
+          (rejects_name a _ (sym c.kind.ensures ∙ c.in-3.is) (error named)),
       λ memory. inv.later (name_here _ _ a start (sym c.kind.ensures ∙ c.in-3.is) (wanted memory)),
     )
 
@@ -96,19 +96,19 @@ loop-item-preserved-in_ok-parse_string-in-3-2 c =
       mtu = inv.mtu ∙ sym (none_found mtu_in inv.found (name_attribute name) refl);
     }
 
-pub returns-in_err-parse_u32-in-4-clause-fault : goal.returns-in_err-parse_u32-in-4-clause-fault
-returns-in_err-parse_u32-in-4-clause-fault c =
+pub returns-in_err-parse_u32-in-4-clause-error : goal.returns-in_err-parse_u32-in-4-clause-error
+returns-in_err-parse_u32-in-4-clause-error c =
     let inv = c.loop-item.invariant in
     let a = buffered_attribute c.in_ok-attribute.attribute in
     let start = rw c.in_ok-attribute.was at c.in-Some.ensures.steps in
-    let fault = rw c.value-in-4.ensures at c.in_err-parse_u32-in-4.ensures in
+    let error = rw c.value-in-4.ensures at c.in_err-parse_u32-in-4.ensures in
     let p = err_from_is_err_and c.from_residual-in_err-parse_u32-in-4.result
     c.from_residual-in_err-parse_u32-in-4.ensures.1 in
     rw (p.1, p.2) (
       c.if-payload-lt-HEADER.false,
       λ _. value_error_of_all decodes_link _ _ _ inv.found a _ inv.walk start
-          (rejects_mtu a _ (sym c.kind.ensures ∙ c.in-4.is) (sym fault)),
-      λ memory. absurd (number_error_is_not_memory _ _ (sym fault) memory),
+          (rejects_mtu a _ (sym c.kind.ensures ∙ c.in-4.is) (sym error)),
+      λ memory. absurd (number_error_is_not_memory _ _ (sym error) memory),
     )
 
 pub loop-item-preserved-in-4 : goal.loop-item-preserved-in-4

@@ -1,7 +1,7 @@
 use Rattle.std.proofs.Common.{◌≡◌, List, None, drop}
 use Rattle.std.specs.List.{filter_map, last_or}
 use Rattle.netlink_core.specs.Walk.{unread_bytes}
-use Rattle.netlink_core.proofs.Walking.{DecodedSoFar}
+use Rattle.netlink_core.proofs.Iterating.{DecodedSoFar}
 use Rattle.sock_diag_examples.specs.Link.{HasName, LinkAttribute, decodes_link, mtu_in, name_in}
 use Rattle.sock_diag_examples.specs.Link.{string_content}
 use Rattle.sock_diag_examples.proofs.link.parse_link.Given as goal

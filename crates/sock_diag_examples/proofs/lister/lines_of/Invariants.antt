@@ -1,7 +1,7 @@
 use Rattle.std.proofs.Common.{◌≡◌}
 use Rattle.std.specs.Prelude.{map}
 use Rattle.std.specs.List.{filter_map}
-use Rattle.netlink_core.specs.Faults.{map_ok}
+use Rattle.netlink_core.specs.Errors.{map_ok}
 use Rattle.netlink_packet_sock_diag.specs.PayloadViewModel.{payload_view_model}
 use Rattle.sock_diag_examples.specs.Lister.{line_of}
 use Rattle.sock_diag_examples.proofs.lister.lines_of.Given as goal

@@ -3,11 +3,11 @@ use Rattle.std.specs.Prelude.{IfOk, map, ℕ}
 use Rattle.std.specs.Iterator.{Drains}
 use Rattle.std.specs.List.{filter_map}
 use Rattle.netlink_core.specs.Items.{IsItemOf, AreItemsOf}
-use Rattle.netlink_core.specs.declared.fault.DecodeError.{DecodeError}
+use Rattle.netlink_core.specs.declared.error.DecodeError.{DecodeError}
 use Rattle.netlink_packet_sock_diag.specs.PayloadViewModel.{PayloadView}
 use Rattle.netlink_packet_sock_diag.specs.DumpWalk.{YieldsPayloadView}
 use Rattle.netlink_packet_sock_diag.specs.Message.{message_codec}
-use Rattle.netlink_core.specs.Faults.{map_ok}
+use Rattle.netlink_core.specs.Errors.{map_ok}
 use Rattle.netlink_packet_sock_diag.specs.PayloadViewModel.{payload_view_model}
 use Rattle.sock_diag_examples.specs.Lister.{AreLinesOf, line_of}
 use Rattle.sock_diag_examples.proofs.lister.list.Goals as goal
@@ -30,7 +30,7 @@ returns c = on_ok
       are = subst
           (λ (bytes : List ℕ). AreItemsOf (IsItemOf message_codec) bytes
           (map (map_ok payload_view_model) h.0))
-          c.new.ensures (c.whole_views_are_the_datagram.ensures c.new.result h.0 h.1);
+          c.new.ensures (c.complete_views_are_the_datagram.ensures c.new.result h.0 h.1);
       found = h.2;
     })
     c.lines_of.ensures

@@ -12,8 +12,8 @@ returns-clause-key c = IfOk-weaker c.canonical.result _ _
       written = written;
     }) c.canonical.ensures.written
 
-pub returns-clause-alike : goal.returns-clause-alike
-returns-clause-alike c = IfOk-weaker c.canonical.result _ _
+pub returns-clause-equal_bytes : goal.returns-clause-equal_bytes
+returns-clause-equal_bytes c = IfOk-weaker c.canonical.result _ _
     (λ key same other theirs k.
     let equal = same other theirs k.in_range (k.message, k.is, k.fits, k.written) in
     (λ e. equal.0 (sym e), λ i. sym (equal.1 i)))

@@ -16,4 +16,4 @@ returns-in_err-_asked-clause-refused c =
     c.from_residual-in_err-_asked.ensures.1 in
     rw (p.1, p.2) (no_request c.in_ok-header.header c.in_ok-header.ensures
     c.if-header-ne-SOCK_DIAG_BY_FAMILY.false
-    (c.in_err-_asked.ensures.fault (λ memory. cc (c.in_err-_asked.ensures.memory memory))))
+    (c.in_err-_asked.ensures.error (λ memory. cc (c.in_err-_asked.ensures.memory memory))))

@@ -20,7 +20,7 @@ holds_at P made (y ∷ xs) (suc i) x e all = holds_at P made xs i x e all.1
 -- if the message of one reply is too long, not all are writable
 of_one : {One All : Type 0} (e : AnswerError) → (All → One) → IsErrorFor (¬ One) e
     → IsErrorFor (¬ All) e
-of_one (Request fault) each none = none
+of_one (Request error) each none = none
 of_one Unwritable each none = λ all. none (each all)
 of_one Memory each none = tt
 

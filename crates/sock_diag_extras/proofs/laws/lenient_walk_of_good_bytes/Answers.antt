@@ -1,5 +1,5 @@
-use Rattle.sock_diag_extras.proofs.WholeLenientWalk.{drained_values_are_decoded}
-use Rattle.sock_diag_extras.proofs.WholeLenientWalk.{drained_items_are_values}
+use Rattle.sock_diag_extras.proofs.CompleteLenientIteration.{drained_values_are_decoded}
+use Rattle.sock_diag_extras.proofs.CompleteLenientIteration.{drained_items_are_values}
 use Rattle.sock_diag_extras.proofs.laws.lenient_walk_of_good_bytes.Goals as goal
 
 pub returns-clause-strict : goal.returns-clause-strict

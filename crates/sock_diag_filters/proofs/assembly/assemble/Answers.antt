@@ -43,8 +43,8 @@ returns-clause-runs c = λ found.
     (program_of filter 4) _ _ c.write_program.ensures (omega arith))
     (program_verdict_is_meaning found filter short)
 
-pub returns-clause-wanted : goal.returns-clause-wanted
-returns-clause-wanted c = λ socket.
+pub returns-clause-selects_by_filter : goal.returns-clause-selects_by_filter
+returns-clause-selects_by_filter c = λ socket.
     subst (Runs (kernel_evaluates socket) _)
-    (evaluation_is_meaning socket c.args.filter.now c.in_range.ensures)
+    (evaluation_is_meaning socket c.args.filter.now c.prove_in_range.ensures)
     (returns-clause-runs c (kernel_evaluates socket))

@@ -1,7 +1,8 @@
 use Rattle.std.proofs.Common.{List}
 use Rattle.netlink_core.specs.Walk.{unread_bytes}
-use Rattle.netlink_core.proofs.Walking.{DecodedSoFar}
-use Rattle.sock_diag_filters.specs.Asked.{HasLastContents, RequestContent, decode_request_attribute}
+use Rattle.netlink_core.proofs.Iterating.{DecodedSoFar}
+use Rattle.sock_diag_filters.specs.InetRequests.{HasLastContents, RequestContent}
+use Rattle.sock_diag_filters.specs.InetRequests.{decode_request_attribute}
 use Rattle.sock_diag_filters.proofs.view.find_attributes.Given as goal
 
 -- `found` has the last program and the last protocol of the attributes parsed so far.

@@ -21,8 +21,8 @@ returns-clause-same c = λ name all other bytes bytes' text' v w asked asked' r 
     (w, s, g) in
     (t.0 all, t.1)
 
-pub returns-clause-alike : goal.returns-clause-alike
-returns-clause-alike c = λ name other bytes bytes' text' v w asked asked' r f s g is'.
+pub returns-clause-equal_bytes : goal.returns-clause-equal_bytes
+returns-clause-equal_bytes c = λ name other bytes bytes' text' v w asked asked' r f s g is'.
     let is = whole c.args.line.now _ _ c.new-text.ensures.items c.in_ok-push_answer.ensures in
     (same_answer_iff_equivalent name _ other bytes bytes' _ text' is is' asked asked' (v, r, f) (
       w,

@@ -8,7 +8,8 @@ use Rattle.sock_diag_lines.proofs.dump_line.push_messages.Given as goal
 -- what was appended and what is left to append are the whole
 abbrev pub invariant-loop-message : goal.invariant-loop-message
 invariant-loop-message l = record {
-  fits : AllByRecursion message_codec.fits (map message_model (drop l.message-index l.messages));
+  fits : AllByRecursion message_codec.is_writable
+      (map message_model (drop l.message-index l.messages));
   all : l.text.items ++ flat_map message_text (map message_model (drop l.message-index l.messages))
       ≡ l.fn.text.items ++ flat_map message_text (map message_model l.messages);
 }

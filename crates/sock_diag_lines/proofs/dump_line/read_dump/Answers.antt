@@ -23,7 +23,7 @@ fields-init c = record {
         ap (λ (dump : DumpProgress Message). Ok (status_of_dump dump)) c.new.ensures,
       ),
     );
-    faultless = λ _. refl;
+    has_no_error = λ _. refl;
   };
   before = λ more each. each;
   behind = each_has_bytes (slice_split is_space c.args.fields.now);

@@ -9,12 +9,12 @@ use Rattle.sock_diag_lines.proofs.dump_line.take_datagram.Goals as goal
 pub returns-in-Ok : goal.returns-in-Ok
 returns-in-Ok c = λ datagrams read.
     let leaves = c.in-Ok.ensures.leaves in
-    let none = read.faultless leaves.0 in
+    let none = read.has_no_error leaves.0 in
     let (items, are, dump, flag) = leaves.1 in
     record {
       is = one_more_datagram datagrams c.args.datagram.now _ _ items are read.is
           (inl (rw (none, leaves.0), rw none dump));
-      faultless = λ _. none;
+      has_no_error = λ _. none;
     }
 
 pub returns-in-Err-Ended : goal.returns-in-Err-Ended
@@ -27,7 +27,7 @@ returns-in-Err-Ended c = λ datagrams read.
     record {
       is = one_more_datagram datagrams c.args.datagram.now _ _ items are read.is
           (inr (ended_dump_is_not_reading _ _ over, kept, rw state refl));
-      faultless = λ reading. absurd (over (sym state ∙ reading));
+      has_no_error = λ reading. absurd (over (sym state ∙ reading));
     }
 
 pub returns-in_default : goal.returns-in_default
@@ -36,6 +36,6 @@ returns-in_default c = λ datagrams read.
     let (items, are, dump, flag) = leaves.2 c.in_default.not-Memory in
     record {
       is = one_more_datagram datagrams c.args.datagram.now _ _ items are read.is
-          (inl (rw (read.faultless leaves.0, leaves.0), dump));
-      faultless = λ still. let is = ap (λ (s : DumpStatus). s.0) (sym leaves.1 ∙ still) in cc;
+          (inl (rw (read.has_no_error leaves.0, leaves.0), dump));
+      has_no_error = λ still. let is = ap (λ (s : DumpStatus). s.0) (sym leaves.1 ∙ still) in cc;
     }

@@ -10,4 +10,4 @@ returns-in-Ok c = on_ok_weaker c.push_reply.result
 
 pub returns-in-Err : goal.returns-in-Err
 returns-in-Err c = on_ok_weaker c.push_refused.result
-    (λ e. (_, e.1, inr (inr (c.in-Err.fault, c.in-Err.ensures.fault, refl)))) c.push_refused.ensures
+    (λ e. (_, e.1, inr (inr (c.in-Err.error, c.in-Err.ensures.error, refl)))) c.push_refused.ensures

@@ -1,5 +1,5 @@
 use Rattle.std.proofs.Common.{◌≡◌, ◌⊎◌, ◌≤◌, ℕ, List, length, Result, Ok, sym, ap, ◌∙◌, arith}
-use Rattle.netlink_core.specs.declared.fault.DecodeError.{DecodeError}
+use Rattle.netlink_core.specs.declared.error.DecodeError.{DecodeError}
 use Rattle.netlink_core.specs.Layout.{tag_fields}
 use Rattle.netlink_core.proofs.TableLaws.{significant_masks}
 use Rattle.netlink_core.proofs.SignificantBits.{equivalent_by_condition}

@@ -1,9 +1,10 @@
 use Rattle.std.proofs.Common.{[], ◌∷◌, ◌++◌, refl}
 use Rattle.std.proofs.lemmas.Result.{err_from_is_err_and}
-use Rattle.netlink_core.proofs.Walking.{nothing_decoded_yet, all_attributes_decoded}
-use Rattle.netlink_core.proofs.Walking.{next_attribute_decoded, framing_error_of_all}
-use Rattle.sockdiag_c.proofs.Filtered.{attributes_have_framing_error, attributes_are_complete}
-use Rattle.sockdiag_c.proofs.Filtered.{attribute_parses_as_itself}
+use Rattle.netlink_core.proofs.Iterating.{nothing_decoded_yet, all_attributes_decoded}
+use Rattle.netlink_core.proofs.Iterating.{next_attribute_decoded, framing_error_of_all}
+use Rattle.sockdiag_c.proofs.FilteredRequests.{attributes_have_framing_error}
+use Rattle.sockdiag_c.proofs.FilteredRequests.{attributes_are_complete}
+use Rattle.sockdiag_c.proofs.FilteredRequests.{attribute_parses_as_itself}
 use Rattle.sockdiag_c.proofs.filters.check_framing.Goals as goal
 
 pub loop-item-init : goal.loop-item-init
@@ -23,8 +24,8 @@ loop-item-preserved c =
           refl;
     }
 
-pub returns-in_err-_nla-clause-fault : goal.returns-in_err-_nla-clause-fault
-returns-in_err-_nla-clause-fault c =
+pub returns-in_err-_nla-clause-error : goal.returns-in_err-_nla-clause-error
+returns-in_err-_nla-clause-error c =
     let p = err_from_is_err_and c.from_residual.result c.from_residual.ensures.1 in
     let stop = rw c.in_err-_nla.was at c.in-Some.ensures.steps in
     let inv = c.loop-item.invariant in

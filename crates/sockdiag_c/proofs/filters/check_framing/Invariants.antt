@@ -1,8 +1,8 @@
 use Rattle.std.proofs.Common.{List}
 use Rattle.netlink_core.specs.Attribute.{Attribute}
 use Rattle.netlink_core.specs.Walk.{unread_bytes}
-use Rattle.netlink_core.proofs.Walking.{DecodedSoFar}
-use Rattle.sockdiag_c.proofs.Filtered.{attribute_parses_as_itself}
+use Rattle.netlink_core.proofs.Iterating.{DecodedSoFar}
+use Rattle.sockdiag_c.proofs.FilteredRequests.{attribute_parses_as_itself}
 use Rattle.sockdiag_c.proofs.filters.check_framing.Given as goal
 
 -- the bytes are split into the attributes seen so far and the bytes left

@@ -1,5 +1,5 @@
 use Rattle.std.proofs.Common.{arith}
-use Rattle.sockdiag_c.proofs.Filtered.{eight_bytes, no_bytes}
+use Rattle.sockdiag_c.proofs.FilteredRequests.{eight_bytes, no_bytes}
 use Rattle.sockdiag_c.proofs.filters.front_len.Goals as goal
 
 pub returns-then-protocol-lt256-clause-all : goal.returns-then-protocol-lt256-clause-all

@@ -7,5 +7,5 @@ returns-clause-next c = step_at_message
 pub returns-clause-end : goal.returns-clause-end
 returns-clause-end c = step_at_no_message
 
-pub returns-clause-fault : goal.returns-clause-fault
-returns-clause-fault c = step_at_framing_error
+pub returns-clause-error : goal.returns-clause-error
+returns-clause-error c = step_at_framing_error

@@ -1,11 +1,11 @@
 use Rattle.std.proofs.Common.{◌∙◌, List, ℕ, None, ap, inr, option_map}
 use Rattle.sock_diag_replies.specs.ViewModel.{view_model}
-use Rattle.sockdiag_c.proofs.ValueFaults.{first_error_before_value, stored_error_is_first}
-use Rattle.sockdiag_c.proofs.ValueFaults.{none_before, of_read}
+use Rattle.sockdiag_c.proofs.ValueErrors.{first_error_before_value, stored_error_is_first}
+use Rattle.sockdiag_c.proofs.ValueErrors.{none_before, of_read}
 use Rattle.sockdiag_c.proofs.netlink_details.read.Goals as goal
 
-pub returns-in-Some-clause-fault : goal.returns-in-Some-clause-fault
-returns-in-Some-clause-fault c =
+pub returns-in-Some-clause-error : goal.returns-in-Some-clause-error
+returns-in-Some-clause-error c =
     let first =
     first_error_before_value _ _ None _ _ _ c.memory.ensures c.keep.ensures.first
     (first_error_before_value _ _ _ _ _ _ c.flags.ensures c.keep-2.ensures.first

@@ -1,11 +1,11 @@
 use Rattle.std.proofs.Common.{◌∙◌, List, ℕ, None, ap, inr, option_map}
 use Rattle.sock_diag_replies.specs.ViewModel.{view_model}
-use Rattle.sockdiag_c.proofs.ValueFaults.{first_error_before_value, stored_error_is_first}
-use Rattle.sockdiag_c.proofs.ValueFaults.{none_before, of_read}
+use Rattle.sockdiag_c.proofs.ValueErrors.{first_error_before_value, stored_error_is_first}
+use Rattle.sockdiag_c.proofs.ValueErrors.{none_before, of_read}
 use Rattle.sockdiag_c.proofs.packet_details.read.Goals as goal
 
-pub returns-in-Some-clause-fault : goal.returns-in-Some-clause-fault
-returns-in-Some-clause-fault c =
+pub returns-in-Some-clause-error : goal.returns-in-Some-clause-error
+returns-in-Some-clause-error c =
     let first =
     first_error_before_value _ _ None _ _ _ c.info.ensures c.keep.ensures.first
     (first_error_before_value _ _ _ _ _ _ c.receive_ring.ensures c.keep-2.ensures.first
@@ -27,10 +27,10 @@ returns-in-None-clause-value c =
       c.in_ok-reply.ensures.value,
       (
         c.header.ensures,
-        of_read _ _ _ _ c.info.ensures (c.keep.ensures.value none1) c.tell.ensures,
+        of_read _ _ _ _ c.info.ensures (c.keep.ensures.value none1) c.store.ensures,
         c.from-found.ensures ∙ ap (option_map (λ (b : List ℕ). (3, b))) c.addresses.ensures,
-        of_read _ _ _ _ c.receive_ring.ensures (c.keep-2.ensures.value none2) c.tell-2.ensures,
-        of_read _ _ _ _ c.send_ring.ensures (c.keep-3.ensures.value none3) c.tell-3.ensures,
+        of_read _ _ _ _ c.receive_ring.ensures (c.keep-2.ensures.value none2) c.store-2.ensures,
+        of_read _ _ _ _ c.send_ring.ensures (c.keep-3.ensures.value none3) c.store-3.ensures,
         of_read _ _ _ _ c.fanout.ensures (c.keep-4.ensures.value none4) c.from-found-2.ensures,
         of_read _ _ _ _ c.owner.ensures (c.keep-5.ensures.value none5) c.from-found-3.ensures,
         of_read _ _ _ _ c.memory.ensures (c.keep-6.ensures.value c.in-None.is)

@@ -2,7 +2,7 @@ use Rattle.std.proofs.Common.{◌≡◌, ◌∙◌, [], ◌++◌, length, arith,
 use Rattle.byteorder.specs.Endian.{little_bytes}
 use Rattle.std.proofs.lemmas.List.{append-nil}
 use Rattle.sock_diag_records.specs.laws.InetRequest.{inet_request_length}
-use Rattle.sockdiag_c.proofs.Whole.{an_attribute, message_written, no_attribute}
+use Rattle.sockdiag_c.proofs.InetRequestBytes.{an_attribute, message_written, no_attribute}
 use Rattle.sockdiag_c.proofs.requests.write_inet.Goals as goal
 
 pub write_message-requires-clause-small : goal.write_message-requires-clause-small

@@ -1,6 +1,6 @@
 use Rattle.std.proofs.Common.{arith, inl}
 use Rattle.sock_diag_replies.specs.ViewModel.{view_model}
-use Rattle.sockdiag_c.proofs.Alike.{written_is_canonical}
+use Rattle.sockdiag_c.proofs.EquivalentReplies.{written_is_canonical}
 use Rattle.sockdiag_c.proofs.rewriting.rewrite.Goals as goal
 
 pub returns-in-Ok-clause-rewrites : goal.returns-in-Ok-clause-rewrites

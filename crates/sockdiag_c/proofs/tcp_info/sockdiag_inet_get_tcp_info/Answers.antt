@@ -5,7 +5,7 @@ use Rattle.sockdiag_c.proofs.tcp_info.sockdiag_inet_get_tcp_info.Goals as goal
 pub returns : goal.returns
 returns c = λ attributes cut.
     let cut_behind = subst (λ (b : List ℕ). AreAttributesIn b attributes)
-    (sym c.behind_header.ensures) cut
+    (sym c.bytes_after_inet_header.ensures) cut
     in
     let value = c.first_value-value.ensures attributes cut_behind in
     (ap length value, c.fill.ensures ∙ ap (padded_or_truncated 232) value)

@@ -1,5 +1,5 @@
 use Rattle.std.proofs.Common.{rules, refl, inl, inr}
-use Rattle.netlink_core.specs.Envelope.{IsInnerMessageType}
+use Rattle.netlink_core.specs.NetlinkMessage.{IsInnerMessageType}
 use Rattle.netlink_core.specs.declared.message.NetlinkPayload.TheVariants.{InnerMessage}
 use Rattle.netlink_packet_sock_diag.specs.MessageViewModel.{message_view_model}
 use Rattle.sockdiag_c.proofs.Steps.{control_payload_is_accepted}

@@ -8,7 +8,7 @@ use Rattle.sockdiag_c.proofs.walks.sockdiag_next_attribute.Goals as goal
 pub returns-in-Some-Ok : goal.returns-in-Some-Ok
 returns-in-Some-Ok c =
     let bytes = c.args.bytes.now in
-    let place = c.args.cursor.now.place in
+    let offset = c.args.cursor.now.offset in
     let rest = unread_bytes c.next.new.self in
     let given = rw c.in-Some-Ok.field-0-is at c.in-Some-Ok.ensures.steps in
     let a : Attribute = record {
@@ -20,14 +20,14 @@ returns-in-Some-Ok c =
       type_word = sym c.type_word-attribute.ensures i;
       value = sym c.value.ensures i;
     } in
-    let left : unread_bytes c.new-walk.result ≡ drop place bytes = c.new-walk.ensures
-    ∙ take_rest bytes place in
-    let start : StartsWithAttribute (drop place bytes) a rest =
+    let left : unread_bytes c.new-walk.result ≡ drop offset bytes = c.new-walk.ensures
+    ∙ take_rest bytes offset in
+    let start : StartsWithAttribute (drop offset bytes) a rest =
     subst (λ (b : List ℕ). StartsWithAttribute b a rest) left
     (subst (λ (x : Attribute). StartsWithAttribute (unread_bytes c.new-walk.result) x rest) same
     given) in
     inr (inl (
       refl,
-      attribute_passed bytes rest place c.padded.result a start c.padded.ensures,
+      attribute_passed bytes rest offset c.padded.result a start c.padded.ensures,
       refl,
     ))

@@ -7,15 +7,15 @@ use Rattle.sockdiag_c.proofs.walks.take_message.Goals as goal
 pub returns-in-Ok-clause-found : goal.returns-in-Ok-clause-found
 returns-in-Ok-clause-found c =
     let bytes = c.args.datagram.now in
-    let place = c.args.cursor.now.place in
+    let offset = c.args.cursor.now.offset in
     let h = c.in-Ok.header in
-    let all : take (length bytes - place) (drop place bytes) ≡ drop place bytes =
-    take_rest bytes place in
-    let head : HasHeader (drop place bytes) h =
+    let all : take (length bytes - offset) (drop offset bytes) ≡ drop offset bytes =
+    take_rest bytes offset in
+    let head : HasHeader (drop offset bytes) h =
     subst (λ (b : List ℕ). HasHeader b h) all c.in-Ok.ensures in (
-      take h.length (drop place bytes),
-      message_passed bytes place c.padded.result h head
+      take h.length (drop offset bytes),
+      message_passed bytes offset c.padded.result h head
           c.padded.ensures,
-      header_is_framed (drop place bytes) place h head,
+      header_is_framed (drop offset bytes) offset h head,
       refl,
     )

@@ -5,8 +5,8 @@ use Rattle.netlink_core.specs.laws.FirstAttribute.{raw_copy_is_parsed}
 use Rattle.netlink_core.specs.Walk.{buffered_attribute}
 use Rattle.netlink_core.proofs.nla.DefaultNlaParseableNlaBuffer.parse.Goals as goal
 
-pub returns-in_err-keep-clause-wanted : goal.returns-in_err-keep-clause-wanted
-returns-in_err-keep-clause-wanted c =
+pub returns-in_err-keep-clause-memory_needed : goal.returns-in_err-keep-clause-memory_needed
+returns-in_err-keep-clause-memory_needed c =
     let p = err_from_is_err_and c.from_residual.result c.from_residual.ensures.1 in
     let read = raw_copy_is_parsed (buffered_attribute c.args.buf) _
     (c.args.buf.word_fits, c.args.buf.value_fits) refl in

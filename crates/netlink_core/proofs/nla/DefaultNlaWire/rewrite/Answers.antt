@@ -16,11 +16,11 @@ returns-in_err-keep-clause-err g c =
 
 pub returns-clause-written : goal.returns-clause-written
 returns-clause-written g c =
-    let reads = ap Ok (sym c.in_ok-keep.ensures.equal) in
+    let parses = ap Ok (sym c.in_ok-keep.ensures.equal) in
     IfOk-weaker c.write_new.result _ _
     (λ w (fits, written). (
       raw_attribute c.in_ok-keep.field-0,
-      (buffered_attribute c.in_ok-new_checked.field-0, c.in_ok-new_checked.ensures, reads),
+      (buffered_attribute c.in_ok-new_checked.field-0, c.in_ok-new_checked.ensures, parses),
       fits,
       written,
     ))
@@ -33,6 +33,7 @@ returns-clause-err g c =
     let nla = buffered_attribute c.in_ok-new_checked.field-0 in
     let decoded = ap Ok (sym c.in_ok-keep.ensures.equal) in
     IfErr-weaker c.write_new.result _ _
-    (canonical_fails raw_attribute (codec.reads bytes tt) (codec.refuses bytes tt) codec.fits _
+    (canonical_fails raw_attribute (codec.parses bytes tt) (codec.rejects bytes tt)
+    codec.is_writable _
     c.in_ok-keep.field-0 (nla, c.in_ok-new_checked.ensures, decoded) (λ h. h, λ h. h))
     c.write_new.ensures.err

@@ -8,7 +8,7 @@ pub returns-in-Ok-true-clause-written : goal.returns-in-Ok-true-clause-written
 returns-in-Ok-true-clause-written g c =
     let found = rw c.in-Ok-true.field-0-test at c.in-Ok-true.ensures.kind in
     IfOk-weaker c.canonical.result _ _
-    (λ w (v, reads, fits, items). (message_of unix_response v, (found, reads), fits, items))
+    (λ w (v, parses, fits, items). (message_of unix_response v, (found, parses), fits, items))
     c.canonical.ensures.written
 
 pub returns-in-Ok-true-clause-err : goal.returns-in-Ok-true-clause-err
@@ -21,7 +21,7 @@ pub returns-in-Ok-false-clause-written : goal.returns-in-Ok-false-clause-written
 returns-in-Ok-false-clause-written g c =
     let found = rw c.in-Ok-false.field-0-test at c.in-Ok-false.ensures.kind in
     IfOk-weaker c.canonical-in-Ok-false.result _ _
-    (λ w (v, reads, fits, items). (message_of inet_response v, (found, reads), fits, items))
+    (λ w (v, parses, fits, items). (message_of inet_response v, (found, parses), fits, items))
     c.canonical-in-Ok-false.ensures.written
 
 pub returns-in-Ok-false-clause-err : goal.returns-in-Ok-false-clause-err

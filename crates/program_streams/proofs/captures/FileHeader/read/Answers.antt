@@ -1,7 +1,7 @@
 use Rattle.std.proofs.Common.{[], inl, refl, arith}
 use Rattle.std.proofs.lemmas.Result.{err_from_is_err_and}
 use Rattle.std.proofs.KnownBytes.{Consumes-kept, Consumes-nil}
-use Rattle.program_streams.proofs.Stops.{start_stops}
+use Rattle.program_streams.proofs.InputEnds.{start_stops}
 use Rattle.program_streams.proofs.captures.FileHeader.read.Goals as goal
 
 pub returns-in_err-fill_or_end-clause-stopped : goal.returns-in_err-fill_or_end-clause-stopped

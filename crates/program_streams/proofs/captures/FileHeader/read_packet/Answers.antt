@@ -1,5 +1,5 @@
 use Rattle.std.proofs.Common.{arith, rules}
-use Rattle.program_streams.proofs.Stops.{packet_stops}
+use Rattle.program_streams.proofs.InputEnds.{packet_stops}
 use Rattle.program_streams.proofs.captures.FileHeader.read_packet.Goals as goal
 
 pub returns-in-Err-clause-stopped : goal.returns-in-Err-clause-stopped

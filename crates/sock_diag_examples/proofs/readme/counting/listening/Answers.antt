@@ -10,7 +10,7 @@ use Rattle.netlink_core.specs.declared.message.NetlinkPayload.TheVariants.{Overr
 use Rattle.netlink_core.specs.declared.message.NetlinkPayload.TheVariants.{InnerMessage}
 use Rattle.netlink_packet_sock_diag.specs.declared.message.SockDiagView.TheVariants.{InetResponse}
 use Rattle.netlink_packet_sock_diag.specs.declared.message.SockDiagView.TheVariants.{UnixResponse}
-use Rattle.netlink_core.specs.Faults.{map_ok}
+use Rattle.netlink_core.specs.Errors.{map_ok}
 use Rattle.netlink_packet_sock_diag.specs.PayloadViewModel.{payload_view_model}
 use Rattle.sock_diag_examples.proofs.CountingListeners.{counting_begins, counts_all, counts_none}
 use Rattle.sock_diag_examples.proofs.CountingListeners.{counts_one, counts_to, step_of}

@@ -10,18 +10,18 @@ use Rattle.sock_diag_replies.proofs.view.ReplyView.parse.Goals as goal
 pub returns-in_err-_header-clause-named : goal.returns-in_err-_header-clause-named
 returns-in_err-_header-clause-named g c =
     let p = err_from_is_err_and c.from_residual.result c.from_residual.ensures.1 in
-    rw (p.1, p.2) (λ memory. g.met.H.ReplyHeader.keeps.named_fault _ tt
-    (inl (rw memory at c.in_err-_header.ensures.fault)))
+    rw (p.1, p.2) (λ memory. g.met.H.ReplyHeader.keeps.error_is_not_memory _ tt
+    (inl (rw memory at c.in_err-_header.ensures.error)))
 
-pub returns-in_err-count-clause-fault : goal.returns-in_err-count-clause-fault
-returns-in_err-count-clause-fault g c =
+pub returns-in_err-count-clause-error : goal.returns-in_err-count-clause-error
+returns-in_err-count-clause-error g c =
     let residual = c.from_residual-in_err-count in
     let p = err_from_is_err_and residual.result residual.ensures.1 in
     let bytes = c.args.bytes.now in
     let part = take_rest bytes _ ∙ ap (λ (n : ℕ). drop n bytes) c.length.ensures in
     rw (p.1, p.2)
     (error_after_header g.H.ReplyHeader.reply _ _ part _ _ c.in_ok-_header.ensures.value
-    c.in_err-count.ensures.fault)
+    c.in_err-count.ensures.error)
 
 pub returns-in_err-count-clause-named : goal.returns-in_err-count-clause-named
 returns-in_err-count-clause-named g c =
@@ -31,8 +31,9 @@ returns-in_err-count-clause-named g c =
     let part = take_rest bytes _ ∙ ap (λ (n : ℕ). drop n bytes) c.length.ensures in
     let refused = error_after_header g.H.ReplyHeader.reply _ _ part _ _
     c.in_ok-_header.ensures.value
-    c.in_err-count.ensures.fault in
-    rw (p.1, p.2) (λ memory. g.met.H.ReplyHeader.keeps.named_fault _ tt (rw memory at refused))
+    c.in_err-count.ensures.error in
+    rw (p.1, p.2) (λ memory. g.met.H.ReplyHeader.keeps.error_is_not_memory _ tt (rw memory at
+    refused))
 
 pub invariant_of-result : goal.invariant_of-result
 invariant_of-result g c =

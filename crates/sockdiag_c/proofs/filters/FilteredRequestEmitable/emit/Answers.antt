@@ -1,5 +1,6 @@
 use Rattle.std.proofs.Common.{arith}
-use Rattle.sockdiag_c.proofs.Filtered.{bytes_after_record_length, request_length_with_attributes}
+use Rattle.sockdiag_c.proofs.FilteredRequests.{bytes_after_record_length}
+use Rattle.sockdiag_c.proofs.FilteredRequests.{request_length_with_attributes}
 use Rattle.sockdiag_c.proofs.filters.FilteredRequestEmitable.emit.Goals as goal
 
 pub split_at_mut-front-requires : goal.split_at_mut-front-requires

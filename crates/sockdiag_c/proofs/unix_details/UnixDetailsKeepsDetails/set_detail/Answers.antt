@@ -11,8 +11,8 @@ returns-clause-value c = (
   λ h before found. unix_more _ _ _ before _ c.set.ensures.numbers c.set.ensures.name found,
 )
 
-pub returns-in_err-view-clause-fault : goal.returns-in_err-view-clause-fault
-returns-in_err-view-clause-fault c =
+pub returns-in_err-view-clause-error : goal.returns-in_err-view-clause-error
+returns-in_err-view-clause-error c =
     grind (
       arith,
       err_from_is_err_and c.from_residual.result c.from_residual.ensures.1,

@@ -5,18 +5,18 @@ use Rattle.sock_diag_attributes.specs.laws.InetAttribute.{inet_laws}
 use Rattle.sock_diag_attributes.proofs.Reading.{rejected_needs_no_memory, failed_copy_needed_memory}
 use Rattle.sock_diag_attributes.proofs.inet.nlas.NlaParseableNlaBuffer.parse.Goals as goal
 
-pub returns-in_err-parse-clause-wanted : goal.returns-in_err-parse-clause-wanted
-returns-in_err-parse-clause-wanted c =
+pub returns-in_err-parse-clause-memory_needed : goal.returns-in_err-parse-clause-memory_needed
+returns-in_err-parse-clause-memory_needed c =
     rejected_needs_no_memory inet_attribute_set inet_laws _
     (buffered_attribute c.args.buf) _ c.in_err-parse.ensures _
     c.from_residual.ensures.1
 
-pub returns-in_err-to_owned-clause-wanted : goal.returns-in_err-to_owned-clause-wanted
-returns-in_err-to_owned-clause-wanted c =
+pub returns-in_err-to_owned-clause-memory_needed : goal.returns-in_err-to_owned-clause-memory_needed
+returns-in_err-to_owned-clause-memory_needed c =
     let read = decoded_is_parsed inet_attribute_set (buffered_attribute c.args.buf)
     (c.args.buf.word_fits, c.args.buf.value_fits) _ c.in_ok-parse.ensures in
     failed_copy_needed_memory inet_attribute_set read.0 _ read.1 read.2 _ _ c.in_err-to_owned.was
-    c.to_owned.ensures.spare _ c.from_residual-in_err-to_owned.ensures.1
+    c.to_owned.ensures.needs_no_memory _ c.from_residual-in_err-to_owned.ensures.1
 
 pub returns-clause-value : goal.returns-clause-value
 returns-clause-value c =

@@ -6,7 +6,7 @@ use Rattle.std.proofs.Math.Nat.{mod-eq_of_lt}
 use Rattle.bitflags.proofs.OnLiterals.{bitflags_on_literals}
 use Rattle.netlink_core.proofs.LayoutLaws.{parses_by_fields, parsed_fields}
 use Rattle.netlink_core.proofs.Congruence.{◌⊛◌}
-use Rattle.netlink_core.specs.declared.fault.DecodeError.{DecodeError}
+use Rattle.netlink_core.specs.declared.error.DecodeError.{DecodeError}
 use Rattle.sock_diag_records.specs.SocketId.{socket_id}
 use Rattle.sock_diag_records.specs.laws.SocketId.{last_socket_id_values}
 use Rattle.sock_diag_records.specs.inverse.SocketId.{socket_id_of}
@@ -35,6 +35,6 @@ returns c =
     c.in_ok-socket_id.socket_id (rw take_rest at (sym c.in_ok-socket_id.ensures)) in
     (ap (found (slice_index payload 0) (slice_index payload 1)) (c.from_bits_truncate.ensures tt
     ∙ and_mask (slice_index payload 2) 8 ∙ mod-eq_of_lt below)
-    ⊛ rw c.words_at.ensures at (c.from_bits_truncate-2.ensures tt)
+    ⊛ rw c.u32s_at.ensures at (c.from_bits_truncate-2.ensures tt)
     ⊛ (h.2 ∙ ap (socket_id_of h.0) (last_socket_id_values 8 payload h.0)))
     ∙ sym (parses_by_fields inet_request tt payload h.0 h.1)

@@ -21,4 +21,4 @@ returns c =
     let read = parses_by_fields inet_response_header tt payload (h.0, class)
     (ap (versions_with_timer_class class) h.1)
     ∙ inet_response_header_is_from_fields payload h.0 class (class_lt (slice_index payload 2)) in
-    rw c.timer_from.ensures (rw socket (rw c.words_at.ensures (sym read)))
+    rw c.timer_from.ensures (rw socket (rw c.u32s_at.ensures (sym read)))

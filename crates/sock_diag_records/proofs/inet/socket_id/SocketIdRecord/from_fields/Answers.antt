@@ -6,7 +6,7 @@ use Rattle.netlink_core.proofs.Congruence.{◌⊛◌}
 use Rattle.sock_diag_records.specs.SocketId.{socket_id}
 use Rattle.sock_diag_records.specs.IpVersions.{ipv4, ipv6, versions_of_family}
 use Rattle.sock_diag_records.specs.declared.inet.socket_id.SocketId.{SocketId}
-use Rattle.netlink_core.specs.declared.fault.DecodeError.{DecodeError}
+use Rattle.netlink_core.specs.declared.error.DecodeError.{DecodeError}
 use Rattle.sock_diag_records.proofs.inet.socket_id.SocketIdRecord.from_fields.Goals as goal
 use Rattle.sock_diag_records.proofs.inet.socket_id.SocketIdRecord.from_fields.Goals.{in-2, in-10}
 
@@ -30,14 +30,14 @@ pub returns : goal.returns
 unfolding socket_id
 returns c =
     elim c.match-family.branch [
-      | in-2 w ↦ (ap found c.big_shorts_at.ensures
+      | in-2 w ↦ (ap found c.u16s_be_at.ensures
           ⊛ (w.source_address-is ∙ (ap v4 w.ipv4_at.ensures ⊛ w.ipv4_at-in-2.ensures))
-          ⊛ c.words_at.ensures ⊛ c.array_at.ensures)
+          ⊛ c.u32s_at.ensures ⊛ c.array_at.ensures)
           ∙ sym (parses_by_fields socket_id c.args.family c.args.payload.now (ipv4, ipv4)
           (ap versions_of_family w.in-2.is))
-      | in-10 w ↦ (ap found c.big_shorts_at.ensures
+      | in-10 w ↦ (ap found c.u16s_be_at.ensures
           ⊛ (w.source_address-is ∙ (ap v6 w.ipv6_at.ensures ⊛ w.ipv6_at-in-10.ensures))
-          ⊛ c.words_at.ensures ⊛ c.array_at.ensures)
+          ⊛ c.u32s_at.ensures ⊛ c.array_at.ensures)
           ∙ sym (parses_by_fields socket_id c.args.family c.args.payload.now (ipv6, ipv6)
           (ap versions_of_family w.in-10.is))
     ]

@@ -1,7 +1,7 @@
 use Rattle.std.proofs.Common.{arith}
 use Rattle.netlink_core.proofs.ValueTests.{value_test}
 use Rattle.sock_diag_attributes.specs.laws.EqualInet.{inet_tests, inet_test_is_model_test}
-use Rattle.sock_diag_attributes.specs.laws.Lent.{buffer_row, text_view_row}
+use Rattle.sock_diag_attributes.specs.laws.AttributeParts.{buffer_row, text_view_row}
 use Rattle.sock_diag_replies.specs.laws.EqualResponse.{attribute_test_decides_rest}
 use Rattle.sock_diag_replies.proofs.inet.reply.InetResponseHeaderReplyHeader.is_same.Goals as goal
 

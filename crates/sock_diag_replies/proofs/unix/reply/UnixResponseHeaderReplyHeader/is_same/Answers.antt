@@ -4,8 +4,8 @@ use Rattle.netlink_core.specs.Walk.{buffered_attribute}
 use Rattle.sock_diag_attributes.specs.laws.EqualName.{same_names}
 use Rattle.sock_diag_attributes.specs.laws.EqualUnix.{unix_tests, unix_test_is_model_test}
 use Rattle.sock_diag_attributes.specs.laws.EqualUnix.{list_views_model}
-use Rattle.sock_diag_attributes.specs.laws.Lent.{buffer_row, name_view_row, numbers_row}
-use Rattle.sock_diag_attributes.specs.laws.Lent.{text_view_row}
+use Rattle.sock_diag_attributes.specs.laws.AttributeParts.{buffer_row, name_view_row, numbers_row}
+use Rattle.sock_diag_attributes.specs.laws.AttributeParts.{text_view_row}
 use Rattle.sock_diag_attributes.specs.NameModel.{socket_name_model}
 use Rattle.sock_diag_attributes.specs.NumbersModel.{numbers_view_model}
 use Rattle.sock_diag_attributes.specs.UnixAttributes.{unix_attribute_set}

@@ -1,7 +1,8 @@
 use Rattle.std.proofs.Common.{option_map, refl, rules, tests}
 use Rattle.sock_diag_attributes.specs.NumbersModel.{numbers_view_model}
 use Rattle.sock_diag_replies.proofs.FirstFound.{first_in_view}
-use Rattle.sock_diag_replies.proofs.unix.view_getters.UnixResponseView.pending_connections.Goals as goal
+use Rattle.sock_diag_replies.proofs.unix.view_getters.UnixResponseView.pending_connections.Goals as
+    goal
 
 pub returns : goal.returns
 returns c = first_in_view 3 (option_map numbers_view_model) refl (λ y. refl) _ c.attributes.ensures

@@ -1,9 +1,0 @@
-use Rattle.std.proofs.Common.{arith}
-use Rattle.std.proofs.lemmas.List.{length-replicate}
-use Rattle.netlink_core.proofs.FieldReads.{fields_read}
-use Rattle.netlink_core.proofs.Numbers.{big_endian}
-use Rattle.netlink_core.proofs.fields.big_shorts_at.Goals as goal
-
-pub returns : goal.returns
-returns g c =
-    grind (arith, fields_read big_endian, length-replicate, c.read_u16_into.ensures)

@@ -1,7 +1,0 @@
-use Rattle.std.proofs.Common.{arith}
-use Rattle.netlink_packet_sock_diag.proofs.Envelopes.{normal_payload}
-use Rattle.netlink_packet_sock_diag.proofs.laws.finalized_message_reads_back.Goals as goal
-
-pub returns : goal.returns
-returns c =
-    grind (arith, normal_payload, c.finalized_message_reads_back.ensures)

@@ -1,5 +1,0 @@
-use Rattle.netlink_packet_sock_diag.proofs.WholeViews.{drained_views_are_all}
-use Rattle.netlink_packet_sock_diag.proofs.laws.whole_views_are_the_datagram.Goals as goal
-
-pub returns : goal.returns
-returns c = drained_views_are_all

@@ -1,0 +1,100 @@
+//! What the reader of a dump keeps of an inner message.
+
+ghost use Rattle.std.specs.Prelude.{◌≡◌, ◌≢◌, ℕ, List, Result as result, MatchResult, IfOk, IfErr};
+ghost use Rattle.std.specs.Prelude.{IsOk, ⊤};
+ghost use Rattle.netlink_core.specs.Errors.{map_ok};
+ghost use Rattle.netlink_core.specs.Items.{Item, IsItemOf};
+ghost use Rattle.netlink_core.specs.declared.error.DecodeError.{DecodeError as Fault};
+ghost use Rattle.netlink_core.specs.declared.error.DecodeError.TheVariants.{Memory};
+ghost use Rattle.netlink_packet_sock_diag.specs.private.DumpEntry.{DeterminesItems};
+ghost use Rattle.netlink_packet_sock_diag.specs.laws.DumpEntry.{entries_determine_items};
+ghost use Rattle.netlink_packet_sock_diag.specs.laws.DumpEntry.{messages_determine_items};
+ghost use Rattle.netlink_packet_sock_diag.specs.Lossy.{HasLossyEntry};
+ghost use Rattle.netlink_packet_sock_diag.specs.Message.{Message, message_codec};
+ghost use Rattle.netlink_packet_sock_diag.specs.laws.Message.{message_laws};
+ghost use Rattle.netlink_packet_sock_diag.specs.MessageModel.{message_model};
+
+use crate::message::SockDiagMessage;
+use netlink_core::{DecodeError, NetlinkDeserializable, NetlinkHeader};
+use std::alloc::Global;
+
+/// What the reader of a dump keeps of an inner message.
+pub(crate) trait DumpEntry: Drop + Sized {
+    // `Entry` is the model of what is kept. `parses b t m`: the payload `b` under the message type
+    // `t` is kept as `m`. `rejects b t e`: such a payload ends the dump with the error `e`.
+    // `item_is`: the item of the datagram that a message is. `needs_memory`: keeping the entry may
+    // need memory. `model`: the entry that a Rust value represents.
+    ghost Entry: { Type 0 };
+
+    ghost parses: { List ℕ → ℕ → Entry → Type 0 };
+
+    ghost rejects: { List ℕ → ℕ → Fault → Type 0 };
+
+    ghost item_is: { List ℕ → Item Entry → Type 0 };
+
+    ghost needs_memory: { Entry → Type 0 };
+
+    ghost model: { Self → Entry };
+
+    /// Parses the payload under the header's message type. Returns what is kept of it, or the error
+    /// that ends the dump.
+    fn take(alloc: Global, header: &NetlinkHeader, payload: &[u8]) -> Result<Self, DecodeError>
+        ensures value { IfOk result
+            (λ m. Self.parses payload.now header.now.message_type (Self.model m)) }
+        ensures error { IfErr result (λ e. e ≢ Memory
+            → Self.rejects payload.now header.now.message_type e) }
+        // `Memory` is returned only for a payload whose entry may need memory.
+        ensures memory_needed { IfErr result (λ e. e ≡ Memory → (m : Self.Entry)
+            × Self.parses payload.now header.now.message_type m × Self.needs_memory m) };
+
+    // The item of a message follows from what its payload is kept as, or from the error of the
+    // payload.
+    ghost laws: { DeterminesItems parses rejects item_is };
+}
+
+/// Keeps the message. An invalid message ends the dump.
+impl DumpEntry for SockDiagMessage {
+    ghost Entry = { Message };
+
+    ghost parses = { message_codec.parses };
+
+    ghost rejects = { message_codec.rejects };
+
+    ghost item_is = { IsItemOf message_codec };
+
+    ghost needs_memory = { λ message. ⊤ };
+
+    ghost model = { message_model };
+
+    fn take(alloc: Global, header: &NetlinkHeader, payload: &[u8]) -> Result<Self, DecodeError> {
+        SockDiagMessage::deserialize(alloc, header, payload)
+    }
+
+    ghost laws = { messages_determine_items message_codec message_laws };
+}
+
+/// Keeps the message, or its decode error. `take` fails only if an allocation for a valid message
+/// fails.
+impl DumpEntry for Result<SockDiagMessage, DecodeError> {
+    ghost Entry = { result Message Fault };
+
+    ghost parses = { λ b t entry. MatchResult entry (message_codec.parses b t)
+        (message_codec.rejects b t) };
+
+    ghost rejects = { λ b t e. ⊥ };
+
+    ghost item_is = { HasLossyEntry message_codec };
+
+    ghost needs_memory = { λ entry. IsOk entry };
+
+    ghost model = { map_ok message_model };
+
+    fn take(alloc: Global, header: &NetlinkHeader, payload: &[u8]) -> Result<Self, DecodeError> {
+        match SockDiagMessage::deserialize(alloc, header, payload) {
+            Err(DecodeError::Memory) => Err(DecodeError::Memory),
+            answer => Ok(answer),
+        }
+    }
+
+    ghost laws = { entries_determine_items message_codec message_laws };
+}

@@ -1,0 +1,165 @@
+//! What holds in each run, whichever allocations fail.
+
+use super::parse_twice::ParseTwice;
+use super::{INET, LISTENING, PATH};
+use hex::FromHexError;
+use netlink_core::{CanonError, DecodeError, NetlinkMessage};
+use netlink_packet_sock_diag::inet::InetResponse;
+use netlink_packet_sock_diag::unix::UnixResponse;
+use netlink_packet_sock_diag::{DumpReader, DumpState, LossyDump, SockDiagMessage};
+use std::alloc::Global;
+use std::process::Abort;
+
+/// Nine attributes, one more than a reply stores inline.
+const NINE: &str =
+    "050006000000000005000600000000000500060000000000050006000000000005000600000000000500\
+060000000000050006000000000005000600000000000500060000000000";
+
+/// An abstract name, two inodes and an attribute of an unknown kind.
+const OTHER: &str = "08000000006275730c00030005000000060000000500070002000000";
+
+/// The directions that are shut down, a text and an attribute of an unknown kind.
+const INET_OTHER: &str = "05000800000000000a000400637562696300000005000300aa000000";
+
+/// Returns the bytes of a header and attributes, or `None` if an allocation fails.
+fn reply(rt: &impl Abort, alloc: Global, header: &str, attributes: &str) -> Option<Vec<u8>> {
+    let digits = [header, attributes].concat(alloc).ok()?;
+    match hex::decode(alloc, digits.as_str()) {
+        Ok(bytes) => Some(bytes),
+        Err(error) => {
+            assert!(rt; error == FromHexError::OutOfMemory);
+            None
+        }
+    }
+}
+
+/// Returns whether the results are equal, or one of them is `Memory`.
+fn agree<T: PartialEq + Drop>(
+    first: Result<T, DecodeError>,
+    second: Result<T, DecodeError>,
+) -> bool {
+    match (first, second) {
+        (Err(DecodeError::Memory), _) | (_, Err(DecodeError::Memory)) => true,
+        (first, second) => first == second,
+    }
+}
+
+/// Asserts that both parsers return equal results, and that `canonical` returns the same bytes,
+/// unless an allocation fails.
+fn copes<T: ParseTwice>(rt: &impl Abort, alloc: Global, bytes: &[u8]) {
+    assert!(rt; agree(T::parse_once(alloc, bytes), T::parse_again(alloc, bytes)));
+    match T::rewritten(alloc, bytes) {
+        Ok(form) => assert!(rt; form.as_slice() == bytes),
+        Err(error) => assert!(rt; error == CanonError::Memory),
+    }
+}
+
+/// Asserts the same for a reply, and for the reply as a message.
+fn copes_with_reply<T: ParseTwice>(rt: &impl Abort, alloc: Global, header: &str, attributes: &str) {
+    if let Some(bytes) = reply(rt, alloc, header, attributes) {
+        copes::<T>(rt, alloc, &bytes);
+        copes::<SockDiagMessage>(rt, alloc, &bytes);
+    }
+}
+
+#[test]
+fn replies(rt: HostRuntime) {
+    for (header, attributes) in [(PATH, ""), (LISTENING, NINE), (LISTENING, OTHER)] {
+        copes_with_reply::<UnixResponse>(&rt, rt.alloc(), header, attributes);
+    }
+    copes_with_reply::<InetResponse>(&rt, rt.alloc(), INET, INET_OTHER);
+}
+
+/// A message of type `NLMSG_NOOP`.
+const NOOP: &[u8] = b"\x10\0\0\0\x01\0\x02\0\x07\0\0\0\0\0\0\0";
+
+/// Two replies, about a listening socket and a connected one.
+const BOTH: &[u8] = b"\x20\0\0\0\x14\0\x02\0\x07\0\0\0\0\0\0\0\
+\x01\x01\x0a\0\x0e\x4f\0\0\xa0\x02\0\0\0\0\0\0\
+\x20\0\0\0\x14\0\x02\0\x07\0\0\0\0\0\0\0\x01\x01\x01\0\xb7\x7c\0\0\x22\0\0\0\0\0\0\0";
+
+/// A message of type `NLMSG_DONE`.
+const DONE: &[u8] = b"\x14\0\0\0\x03\0\x02\0\x07\0\0\0\0\0\0\0\0\0\0\0";
+
+#[test]
+fn netlink_messages(rt: HostRuntime) {
+    let alloc = rt.alloc();
+    for bytes in [BOTH, DONE] {
+        let error = NetlinkMessage::<SockDiagMessage>::deserialize(alloc, bytes).err();
+        assert!(rt; error.is_none_or(|error| error == DecodeError::Memory));
+    }
+    assert!(rt; NetlinkMessage::<SockDiagMessage>::deserialize(alloc, NOOP).is_ok());
+}
+
+/// Returns the code of the error, or 0 for a value.
+fn number<T: Drop>(read: Result<T, DecodeError>) -> u8 {
+    match read {
+        Ok(_) => 0,
+        Err(error) => error.number(),
+    }
+}
+
+/// Asserts that in every run both parsers accept the first `count` bytes, if `want` is 0, or return
+/// the error with the code `want`.
+fn answers<T: ParseTwice>(
+    rt: &impl Abort,
+    alloc: Global,
+    (header, attributes): (&str, &str),
+    count: usize,
+    want: u8,
+) {
+    if let Some(bytes) = reply(rt, alloc, header, attributes) {
+        let bytes = bytes.get(..count).expect(rt, "so many bytes");
+        assert!(rt; number(T::parse_once(alloc, bytes)) == want);
+        assert!(rt; number(T::parse_again(alloc, bytes)) == want);
+    }
+}
+
+/// Checks inputs for which no parser allocates: invalid bytes, and replies of at most eight
+/// attributes that are neither a name nor a text nor a list.
+#[test]
+fn inputs_that_need_no_allocation(rt: HostRuntime) {
+    let nine = (LISTENING, NINE);
+    for (count, number) in [(15, 2), (53, 7), (56, 9)] {
+        answers::<UnixResponse>(&rt, rt.alloc(), (PATH, ""), count, number);
+    }
+    for count in [16, 80] {
+        answers::<UnixResponse>(&rt, rt.alloc(), nine, count, 0);
+    }
+    answers::<InetResponse>(&rt, rt.alloc(), (INET, INET_OTHER), 80, 0);
+}
+
+/// Checks that a dump is done and has all replies, or has failed because an allocation failed, and
+/// remains failed.
+#[test]
+fn dumps(rt: HostRuntime) {
+    let mut reader = DumpReader::new(rt.alloc());
+    for datagram in [BOTH, BOTH, DONE] {
+        let fed = reader.feed(datagram);
+        assert!(rt; fed.is_ok() == (reader.state() != DumpState::Failed));
+    }
+    let all = reader.state() == DumpState::Done && reader.messages().len() == 4;
+    assert!(rt; all || reader.state() == DumpState::Failed);
+}
+
+/// Checks that a failed allocation is not an entry.
+#[test]
+fn lossy_dumps(rt: HostRuntime) {
+    let mut dump = LossyDump::new(rt.alloc());
+    let fed = dump.feed(BOTH);
+    assert!(rt; fed.is_ok() == (dump.state() != DumpState::Failed) && !dump.is_interrupted());
+    assert!(rt; dump.entries().len() == 2 || dump.state() == DumpState::Failed);
+    for entry in dump.entries() {
+        assert!(rt; entry.is_ok());
+    }
+}
+
+/// Checks that a dump that keeps no message never fails, whichever allocations fail.
+#[test]
+fn dumps_that_need_no_allocation(rt: HostRuntime) {
+    let mut reader = DumpReader::new(rt.alloc());
+    for datagram in [NOOP, DONE] {
+        assert!(rt; reader.feed(datagram).is_ok());
+    }
+    assert!(rt; reader.state() == DumpState::Done);
+}

@@ -1,0 +1,54 @@
+//! The codec of one attribute of a reply about an IPv4 or IPv6 socket.
+
+ghost use Rattle.std.specs.Prelude.{refl, string_bytes};
+ghost use Rattle.netlink_core.specs.DefaultNla.{raw_attribute};
+ghost use Rattle.netlink_core.specs.FirstAttribute.{first_attribute_codec};
+ghost use Rattle.netlink_core.specs.laws.FirstAttribute.{first_attribute_codec_laws};
+ghost use Rattle.sock_diag_attributes.specs.InetAttributes.{inet_attribute_set};
+ghost use Rattle.sock_diag_attributes.specs.laws.InetAttribute.{inet_laws};
+ghost use Rattle.sock_diag_attributes.specs.InetModel.{inet_nla_model};
+ghost use Rattle.sock_diag_attributes.specs.laws.EqualInet.{inet_nlas_equal};
+ghost use Rattle.sock_diag_attributes.specs.laws.AttributeParts.{default_nla_row, text_row};
+
+use super::nlas::{Nla, NlaView};
+use netlink_core::{CanonError, DecodeError, HasCodec, NlaBuffer, Wire, WireNla, write_new};
+use std::alloc::Global;
+
+impl HasCodec for Nla {
+    type Param = ();
+
+    ghost codec = { first_attribute_codec inet_attribute_set };
+
+    ghost model = { inet_nla_model };
+
+    ghost serialized_type = { λ _. 0 };
+
+    fn prove_in_range(&self) {
+        self.parts().1.prove_in_range();
+    }
+
+    ghost eq_is_model = { inet_nlas_equal text_row default_nla_row _ _ string_bytes raw_attribute
+        (λ _ _. refl) (λ _ _. refl) };
+
+    ghost laws = { first_attribute_codec_laws inet_attribute_set inet_laws };
+}
+
+impl Wire for Nla {
+    fn read(alloc: Global, bytes: &[u8], _param: ()) -> Result<Self, DecodeError> {
+        Ok(NlaView::parse(&NlaBuffer::new_checked(bytes)?)?.to_owned(alloc)?)
+    }
+
+    fn rewrite(alloc: Global, bytes: &[u8], _param: ()) -> Result<Vec<u8>, CanonError> {
+        write_new(alloc, &NlaView::parse(&NlaBuffer::new_checked(bytes)?)?)
+    }
+
+    ghost bytes_by_codec = { λ _. refl };
+
+    ghost writable_by_codec = { λ _. (λ h. h, λ h. h) };
+}
+
+impl WireNla for Nla {
+    ghost bytes_by_attribute = { λ _. refl };
+
+    ghost writable_by_attribute = { λ _. (λ h. h, λ h. h) };
+}
