@@ -103,12 +103,15 @@ def broken_links(top, files):
 
 
 def wrong_versions(files):
-    """Yields the files that have another version than VERSION."""
+    """Yields the files that have another version than VERSION, or another licence."""
     version = (TOP / "VERSION").read_text(encoding="utf-8").strip()
     for name, pattern in VERSIONS.items():
         found = re.search(pattern, files[name])
         if not found or found[1] != version:
             yield f"{name}: {found[1] if found else 'no version'}, expected {version}"
+    # Cargo packs the files below rust/sockdiag only, so the crate has the licence once more.
+    if (TOP / "rust/sockdiag/LICENSE-MIT").read_bytes() != (TOP / "LICENSE-MIT").read_bytes():
+        yield "rust/sockdiag/LICENSE-MIT: not the text of LICENSE-MIT"
 
 
 def unusable_edits(files):
