@@ -22,7 +22,7 @@ def options(program):
     page = (TOP / f"man/{program}.1").read_text(encoding="utf-8")
     tags = re.findall(r"(?m)^\.It Fl (.*)$", page)
     named = [f"-{it}" for line in tags for it in re.findall(r"-?[\w=]+(?:-[\w]+)*", line)]
-    return named, [it for line in listed for it in re.findall(r"-+[\w=]+", line)]
+    return named, [it for line in listed for it in re.findall(r"-+[\w=]+(?:-[\w]+)*", line)]
 
 
 def functions():
