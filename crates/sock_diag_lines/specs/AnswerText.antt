@@ -13,7 +13,7 @@ abbrev pub IsAnswerText : {Value : Type 0} → (Value → Type 0) → (DecodeErr
     → (Value → Type 0) → (Value → List ℕ) → List ℕ → Type 0
 IsAnswerText {Value} parses rejects is_writable text_of text =
     ((value : Value) × parses value × is_writable value × (text ≡ codes "ok " ++ text_of value))
-    ⊎ (((value : Value) × parses value × ¬ is_writable value × (text ≡ codes "unwritable"))
+    ⊎ (((value : Value) × parses value × (¬ is_writable value) × (text ≡ codes "unwritable"))
     ⊎ ((e : DecodeError) × rejects e × (text ≡ codes "refused " ++ decimal (error_code e))))
 
 -- how bytes are parsed and shown: the type of the codec's parameter, the codec, its parameter, and

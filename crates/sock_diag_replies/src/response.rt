@@ -85,7 +85,7 @@ impl<H: ReplyOwned> Reply<H, H::Nla> {
     ghost use Rattle.sock_diag_replies.specs.ResponseModel.{response_model};
 
     /// Returns an equal reply. Fails only if an allocation fails. Cloning a reply of at most eight
-    /// attributes that need no memory never fails.
+    /// attributes that need no memory never fails. A raw attribute counts as one that needs memory.
     pub fn clone(&self, alloc: Global) -> Result<Self, AllocError>
         // `response_model of_header of reply`: the reply with the model `of_header` of its header,
         // and the model `of` of each of its attributes, in order.
@@ -169,7 +169,7 @@ impl<H: ReplyOwned> ReplyView<'_, H> {
 
     /// Returns the owned reply: the header, and each attribute after it, in order, as an owned
     /// attribute. Fails only if an allocation fails. Never fails for at most eight attributes that
-    /// need no memory.
+    /// need no memory. A raw attribute counts as one that needs memory.
     pub fn to_owned(&self, alloc: Global) -> Result<Reply<H, H::Nla>, AllocError>
         // `reply_after reply header bytes`: the reply with this header and what the attributes in
         // these bytes decode to. Here they are the header of the view,

@@ -62,6 +62,8 @@ impl DumpReader {
     /// Returns a reader that nothing was fed to: it has no messages, its state is `Reading`, it has
     /// no error number, and it is not interrupted. It keeps the allocator.
     pub fn new(alloc: Global) -> Self
+        // `reader_progress`: the messages, the state, the error number and the interruption of a
+        // reader.
         ensures { reader_progress result ≡ new_dump }
     {
         DumpReader {
@@ -75,13 +77,19 @@ impl DumpReader {
     ///
     /// - `Ok`: the datagram has no error up to its end or the end of the dump. The state is
     ///   `Reading`, `Done`, `Error` or `Overrun`.
-    /// - `Err(Fault(e))`: a message is invalid, the remaining bytes are not a message, or an
+    /// - `Err(Fault(e))`: a message is invalid (`e` is its decode error), the remaining bytes are
+    ///   not a message (`EnvelopeCut`, `EnvelopeLengthUnder16` or `EnvelopeLengthPast`), or an
     ///   allocation failed (`Memory`). The messages before it are kept. The state is `Failed`,
     ///   without an error number.
     /// - `Err(Ended)`: the dump had already ended. Nothing changes.
+    ///
+    /// Unless the dump had already ended, it is interrupted from then on if a message that was
+    /// read, up to and including the one that ends it or fails, has the flag `NLM_F_DUMP_INTR`.
     pub fn feed(&mut self, datagram: &[u8]) -> Result<(), DumpError>
-        // `FeedLeadsTo is old datagram new result`: what a call does to the progress of the reader.
-        // `IsItemOf`: the item of a message is its payload, or the decode error of its payload.
+        // `FeedLeadsTo is old datagram new result`, by the result. `Ok`: the inner messages up to
+        // the end are appended, and state and error number are those of the end. `Err Ended`: `new`
+        // is `old`. `Err (Fault e)`: the state is `Failed`, and the inner messages before the error
+        // are appended. `IsItemOf`: the item of a message is its payload, or its decode error.
         ensures leaves { FeedLeadsTo (IsItemOf message_codec)
             (reader_progress self.old) datagram.now
             (reader_progress self.new) result }
@@ -91,8 +99,7 @@ impl DumpReader {
 
     /// Returns the messages read so far, in order.
     pub fn messages(&self) -> &[SockDiagMessage]
-        // `message_model`: the kind of a message and the model of its content. `reader_progress`:
-        // the messages, the state, the error number and the interruption of a reader.
+        // `message_model`: the kind of a message and the model of its content.
         ensures { map message_model result.now ≡ (reader_progress self.now).messages }
     {
         self.dump.entries.as_slice()
