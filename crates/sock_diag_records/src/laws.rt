@@ -43,9 +43,9 @@ pub fn equivalent_socket_ids()
 
 /// States that two byte strings `b` and `c` are equivalent as [`InetRequest`] if and only if both
 /// have at least 56 bytes, the family of `b`, its first byte, is `AF_INET` or `AF_INET6`, and the
-/// bits that are significant for this family are equal: the family, the protocol, the byte
-/// of extensions, the state bits 1 to 11, the ports, the address bytes of the family, the interface and
-/// the cookie. The first byte is significant, so `c` has the same family.
+/// bits that are significant for this family are equal: the family, the protocol, the byte of
+/// extensions, the state bits 1 to 11, the ports, the address bytes of the family, the interface
+/// and the cookie. The first byte is significant, so `c` has the same family.
 pub fn equivalent_inet_requests()
     ensures { (b c : List ℕ) → IsBytes b → IsBytes c
         → ⟦<InetRequest as HasCodec>⟧.codec.equivalent tt b c
