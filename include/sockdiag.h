@@ -494,8 +494,10 @@ struct sockdiag_unix_details {
     struct sockdiag_text name;             /* Name that the socket is bound to (UNIX_DIAG_NAME). */
     struct sockdiag_number file_inode;     /* Inode of the file that the socket is bound to
                                               (udiag_vfs_ino of UNIX_DIAG_VFS). */
-    struct sockdiag_number file_device;    /* Device of that file, the major and minor number
-                                              combined (udiag_vfs_dev of UNIX_DIAG_VFS). */
+    struct sockdiag_number file_device;    /* Device of that file, major << 20 | minor
+                                              (udiag_vfs_dev of UNIX_DIAG_VFS). It is not the
+                                              st_dev of stat(2), which combines them in another
+                                              way: compare major(st_dev) and minor(st_dev). */
     struct sockdiag_number peer;           /* Inode of the peer (UNIX_DIAG_PEER). */
     struct sockdiag_number recv_queue;     /* Number of connections that wait to be accepted on a
                                               listening socket, else number of bytes that have
@@ -823,8 +825,9 @@ struct sockdiag_netlink_header {
 };
 
 /*
- * Everything that a reply contains about a netlink socket, by the attributes of
- * linux/netlink_diag.h.
+ * What a reply contains about a netlink socket, by the attributes of linux/netlink_diag.h, except
+ * the rings NETLINK_DIAG_RX_RING and NETLINK_DIAG_TX_RING, which Linux 4.6 removed. Attributes
+ * without a field are not an error: sockdiag_next_attribute returns them.
  */
 struct sockdiag_netlink_details {
     struct sockdiag_netlink_header header; /* The header. */
@@ -890,10 +893,13 @@ struct sockdiag_packet_details {
     uint32_t has_info;                        /* 1 if info is set, else 0. */
     struct sockdiag_packet_info info;         /* Settings of the socket (PACKET_DIAG_INFO, type
                                                  0). */
-    struct sockdiag_text addresses;           /* Addresses that the socket receives in addition
-                                                 to its interface's, 44 bytes each, struct
-                                                 packet_diag_mclist (PACKET_DIAG_MCLIST, type 1).
-                                                 The kind of the text is SOCKDIAG_BYTES. */
+    struct sockdiag_text addresses;           /* Memberships of the socket
+                                                 (PACKET_ADD_MEMBERSHIP, packet(7)), 44 bytes
+                                                 each, struct packet_diag_mclist
+                                                 (PACKET_DIAG_MCLIST, type 1): addresses that it
+                                                 also receives, and promiscuous or all-multicast
+                                                 mode, which have no address. The kind of the
+                                                 text is SOCKDIAG_BYTES. */
     uint32_t has_receive_ring;                /* 1 if receive_ring is set, else 0. */
     struct sockdiag_packet_ring receive_ring; /* Receive ring (PACKET_DIAG_RX_RING, type 2). */
     uint32_t has_send_ring;                   /* 1 if send_ring is set, else 0. */
@@ -1207,7 +1213,8 @@ struct sockdiag_unix_request {
                                               bit 1 << TCP_CLOSE, sockets that have no peer and
                                               do not listen are missing, as most datagram sockets
                                               are. */
-    uint32_t inode;                        /* Inode, to request a single socket (udiag_ino). */
+    uint32_t inode;                        /* Inode, to request a single socket (udiag_ino). With
+                                              NLM_F_DUMP the kernel ignores it. */
     uint32_t show;                         /* Attributes that the replies shall have, a set of
                                               UDIAG_SHOW_.. (udiag_show). */
     uint8_t cookie[8];                     /* Cookie that distinguishes sockets with the same

@@ -16,7 +16,8 @@ use std::marker::PhantomData;
 /// is yielded. It does not allocate, and reads each attribute once.
 ///
 /// The first error of the framing or of a value is the last item. So the bytes are valid if the
-/// iterator ends without an error.
+/// iterator ends without an error. `V` is the family's borrowed attribute (`FamilyView`), by whose
+/// set of types a value is checked.
 #[derive(Drop)]
 pub struct CheckedNlas<'a, V> {
     walk: NlasIterator<'a>,

@@ -182,7 +182,8 @@ pub fn prove_bytes_in_range(_bytes: &[u8])
     ensures { IsBytes _bytes.now }
 {}
 
-/// Proof only: puts in scope that the number is below 2^32. No run-time effect.
+/// Proof only: puts in scope that the number is below 2^32. No run-time effect. It is for
+/// implementations of [`HasCodec::prove_in_range`].
 pub fn prove_u32_in_range(_word: u32)
     ensures { _word < 256 ^ 4 }
 {}

@@ -53,8 +53,8 @@ use crate::unix::{UnixResponse, UnixResponseView};
 use netlink_core::{Emitable, NetlinkSerializable, Readable, laws};
 use std::alloc::{AllocError, Global};
 
-/// The length of a serialized reply, `buffer_len`, is a multiple of 4, for both families, if each
-/// number of the reply fits its field.
+/// The length of a serialized reply, `buffer_len`, is a multiple of 4, for replies about UNIX
+/// sockets and about IPv4 or IPv6 sockets, if each number of the reply fits its field.
 pub fn reply_lengths_are_multiples_of_four()
     // `response_codec spec`: the codec of the replies of this format. `response_bytes spec v`: the
     // bytes that the reply `v` serializes to.
@@ -400,7 +400,7 @@ pub fn copied_dump_error(v: &DumpError) -> Result<DumpError, AllocError>
     v.clone()
 }
 
-/// The clone of an iterator has the same bytes left, and cloning does not fail.
+/// The clone of a `DumpViews` has the same bytes left, and cloning does not fail.
 pub fn copied_views<'a>(walk: &Views<'a>) -> Result<Views<'a>, AllocError>
     ensures ok { IsOk result }
     ensures same { IfOk result

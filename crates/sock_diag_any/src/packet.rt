@@ -62,8 +62,9 @@ pub fn info(reply: &PacketResponseView<'_>) -> Result<Option<PacketInfo>, Decode
 }
 
 /// Returns the bytes of the first `PACKET_DIAG_MCLIST`, unchecked, or `None` if the reply has none.
-/// They are the link-layer addresses that the socket receives in addition to the addresses of its
-/// interface. The kernel sends 44 bytes for each, `struct packet_diag_mclist`.
+/// They are the socket's memberships (`PACKET_ADD_MEMBERSHIP`, packet(7)): link-layer addresses
+/// that it also receives, and promiscuous or all-multicast mode, which have no address
+/// (`pdmc_type`, `pdmc_alen`). The kernel sends 44 bytes for each, `struct packet_diag_mclist`.
 pub fn addresses<'a>(reply: &PacketResponseView<'a>) -> Option<&'a [u8]>
     // `option_map (λ value. value.now) result`: the bytes that the result borrows, as a list.
     ensures { option_map (λ value. value.now) result

@@ -28,7 +28,8 @@ pub struct Options {
     pub extended: bool,
     /// `-m`: show the memory.
     pub memory: bool,
-    /// `-i`: show the connection and its congestion control.
+    /// `-i`: show the information about the TCP connection (`INET_DIAG_INFO`), and the name and
+    /// measurements of its congestion control.
     pub connection: bool,
     /// `-O`: write the details on the same line as the columns.
     pub one_line: bool,
@@ -63,7 +64,8 @@ pub enum Detail {
     Extended,
     /// Memory (`-m`).
     Memory,
-    /// Connection and its congestion control (`-i`).
+    /// Information about the TCP connection (`INET_DIAG_INFO`), and the name and measurements of
+    /// its congestion control (`-i`).
     Connection,
 }
 

@@ -36,7 +36,8 @@ impl Exact for Family {
 }
 
 /// Returns the request for all listening TCP sockets of a family, and for none of their attributes.
-/// The kernel's replies repeat the sequence number.
+/// Its header is finalized, and has the flags `NLM_F_REQUEST` and `NLM_F_DUMP`. The kernel's
+/// replies repeat the sequence number.
 #[tactic(auto, unfolding(sock_diag_records::specs::InetRequest::inet_request))]
 pub fn listening_tcp(family: Family, sequence_number: u32) -> NetlinkMessage<SockDiagMessage>
     ensures { netlink_message_model message_model result

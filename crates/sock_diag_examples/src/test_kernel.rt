@@ -72,8 +72,9 @@ pub fn equal_answer_errors(v: &AnswerError, w: &AnswerError) -> bool
 /// select among the replies. Bytes after it are ignored.
 ///
 /// - `Request(e)`: the request does not start with a netlink message, its type is not
-///   `SOCK_DIAG_BY_FAMILY` (`UnknownMessageType`), or its payload is not a request for UNIX
-///   sockets.
+///   `SOCK_DIAG_BY_FAMILY` (`UnknownMessageType`), or its payload has fewer than 24 bytes
+///   (`BufferTooSmall`). The address family in the payload is not checked, so a request for other
+///   sockets is answered too.
 /// - `Unwritable`: the request is valid, and the message of a reply is not writable.
 /// - `Memory`: the request is valid, and an allocation failed.
 pub fn answer(

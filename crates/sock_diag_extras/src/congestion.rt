@@ -19,7 +19,8 @@ pub struct VegasInfo {
     pub enabled: u32,
     /// Number of round trips measured, `tcpv_rttcnt`, at offset 4.
     pub rtt_count: u32,
-    /// Round-trip time, `tcpv_rtt`, at offset 8, in microseconds.
+    /// Round-trip time, `tcpv_rtt`, at offset 8, in microseconds. Which one (the least, the mean or
+    /// the last) depends on the algorithm.
     pub rtt: u32,
     /// Minimum round-trip time, `tcpv_minrtt`, at offset 12, in microseconds.
     pub min_rtt: u32,

@@ -195,19 +195,21 @@ pub const SK_MEMINFO_DROPS: u8 = 8;
 
 // ---- attributes of the storages of BPF programs, in requests and in replies
 
-/// In a request: the file descriptor of a map whose storages are requested.
+/// In a request: the file descriptor of a map whose storages are requested, a `u32`.
 pub const SK_DIAG_BPF_STORAGE_REQ_MAP_FD: u16 = 1;
 
 /// In a reply: one storage, as nested attributes `SK_DIAG_BPF_STORAGE_MAP_..`.
 pub const SK_DIAG_BPF_STORAGE: u16 = 1;
 
-/// Padding.
+/// In `SK_DIAG_BPF_STORAGE`: kind of an attribute that is padding.
 pub const SK_DIAG_BPF_STORAGE_PAD: u16 = 1;
 
-/// The id of the map.
+/// In `SK_DIAG_BPF_STORAGE`: kind of the attribute with the id of the BPF map, a little-endian
+/// `u32`.
 pub const SK_DIAG_BPF_STORAGE_MAP_ID: u16 = 2;
 
-/// The bytes that the map stores for the socket.
+/// In `SK_DIAG_BPF_STORAGE`: kind of the attribute with the bytes that the map stores for the
+/// socket.
 pub const SK_DIAG_BPF_STORAGE_MAP_VALUE: u16 = 3;
 
 // ---- multicast groups of NETLINK_SOCK_DIAG, which report destroyed sockets

@@ -5,8 +5,8 @@ ghost use Rattle.byteorder.specs.Endian.{little_number};
 
 use byteorder::{ByteOrder, LittleEndian};
 
-/// Parses the value of `UNIX_DIAG_UID`, a little-endian `u32`: the id of the user who created the
-/// UNIX socket. Returns `None` if the length is not 4.
+/// Parses the value of `UNIX_DIAG_UID`, a little-endian `u32`: the user id of the UNIX socket's
+/// owner. Returns `None` if the length is not 4.
 pub fn parse_uid(value: &[u8]) -> Option<u32>
     ensures { SomeIff result (length value.now ≡ 4) (little_number 4 value.now) }
 {

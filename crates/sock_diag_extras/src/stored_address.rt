@@ -25,12 +25,13 @@ pub struct StoredAddress {
     /// Address family, `sin_family` or `sin6_family`, at offset 0, little-endian: 2 for `AF_INET`,
     /// 10 for `AF_INET6`.
     pub family: u16,
-    /// Port, `sin_port` or `sin6_port`, at offset 2, in network byte order.
+    /// Port, `sin_port` or `sin6_port`, at offset 2, parsed from network byte order.
     pub port: u16,
     /// IPv4 address (`sin_addr`), or flow information of IPv6 (`sin6_flowinfo`), at offset 4, in
     /// network byte order.
     pub front: [u8; 4],
-    /// IPv6 address, `sin6_addr`, at offset 8: eight segments of 16 bits in network byte order.
+    /// IPv6 address, `sin6_addr`, at offset 8: eight segments of 16 bits, parsed from network byte
+    /// order: 0x2001 for 2001:... For `AF_INET`, the bytes after `sin_addr`.
     pub segments: [u16; 8],
     /// Index of the interface of a link-local IPv6 address, `sin6_scope_id`, at offset 24,
     /// little-endian.

@@ -58,7 +58,7 @@ impl Prefix {
 pub struct Host {
     /// The prefix of the address.
     pub prefix: Option<Prefix>,
-    /// The port.
+    /// The port, which has to be equal.
     pub port: Option<u16>,
 }
 

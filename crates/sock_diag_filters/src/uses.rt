@@ -72,8 +72,9 @@ pub fn listening_on(
 
 /// Returns the request to close one TCP socket, a complete netlink message of 72 bytes: type
 /// `SOCK_DESTROY` (21), flags `NLM_F_REQUEST` and `NLM_F_ACK` (an acknowledgement is requested),
-/// all states, and no attributes. The socket is identified by its addresses, ports and cookie. The
-/// kernel requires `CAP_NET_ADMIN`.
+/// all states, and no attributes. The socket is identified by its addresses, ports, interface and
+/// cookie; the family of the request is that of `source_address`. The kernel requires
+/// `CAP_NET_ADMIN`.
 pub fn close_tcp(socket_id: SocketId, sequence_number: u32) -> [u8; REQUEST_FRONT]
     ensures written { result ≡ request_bytes (example_request_header 21 5 sequence_number)
         (tcp_request_with 0xffffffff socket_id) [] }

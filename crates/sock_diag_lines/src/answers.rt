@@ -68,6 +68,8 @@ const DUMP: &[u8] = b"dump";
 const BAD_LINE: &[u8] = b"bad line";
 
 /// Returns the answer to a line, without a line feed. Fails only if an allocation fails.
+/// docs/LINES.md lists the names, the form of a hex field, the values and states in the answers,
+/// and the codes.
 ///
 /// If the line is a name, one space and a hex field, the answer is `ok` and the text of the value
 /// that the bytes of the field have; or `unwritable` if this value is not writable; or `refused`

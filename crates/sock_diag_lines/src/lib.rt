@@ -1,5 +1,5 @@
 //! The line protocol of `sockdiag`: each input line has a name and the bytes of a message of
-//! sock_diag(7) in hex, and is answered by one line.
+//! sock_diag(7) in hex, and is answered by one line. See docs/LINES.md.
 #![tactic(auto)]
 
 ghost use Rattle.std.specs.Prelude.{◌≡◌, ◌≢◌, ◌&&◌, ◌++◌, ◌∷◌, [], if◌then◌else◌, not};

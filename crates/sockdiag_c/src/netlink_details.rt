@@ -15,8 +15,9 @@ use netlink_core::DecodeError;
 use sock_diag_any::netlink::{self, NetlinkResponseView};
 use sock_diag_families::netlink::NetlinkResponseHeader;
 
-/// Everything that a reply contains about a netlink socket, by the attributes of
-/// `linux/netlink_diag.h`.
+/// What a reply contains about a netlink socket, by the attributes of `linux/netlink_diag.h`,
+/// except the rings `NETLINK_DIAG_RX_RING` and `NETLINK_DIAG_TX_RING`, which Linux 4.6 removed.
+/// Attributes without a field are not an error: `sockdiag_next_attribute` returns them.
 #[repr(C)]
 #[derive(Clone, Copy)]
 pub struct NetlinkDetails<'a> {

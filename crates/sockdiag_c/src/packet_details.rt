@@ -26,8 +26,9 @@ pub struct PacketDetails<'a> {
     pub has_info: u32,
     /// Settings of the socket (`PACKET_DIAG_INFO`, type 0).
     pub info: PacketInfo,
-    /// Addresses that the socket receives in addition to its interface's, 44 bytes each, `struct
-    /// packet_diag_mclist` (`PACKET_DIAG_MCLIST`, type 1). The kind of the text is
+    /// Memberships of the socket (`PACKET_ADD_MEMBERSHIP`, packet(7)), 44 bytes each, `struct
+    /// packet_diag_mclist` (`PACKET_DIAG_MCLIST`, type 1): addresses that it also receives, and
+    /// promiscuous or all-multicast mode, which have no address. The kind of the text is
     /// `SOCKDIAG_BYTES`.
     pub addresses: Text<'a>,
     /// 1 if `receive_ring` is set, else 0.

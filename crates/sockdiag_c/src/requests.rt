@@ -46,7 +46,7 @@ pub struct UnixRequest {
     /// TCP_CLOSE`, sockets that have no peer and do not listen are missing, as most datagram
     /// sockets are.
     pub states: u32,
-    /// Inode, to request a single socket (`udiag_ino`).
+    /// Inode, to request a single socket (`udiag_ino`). With `NLM_F_DUMP` the kernel ignores it.
     pub inode: u32,
     /// Attributes that the replies shall have, a set of `UDIAG_SHOW_..` (`udiag_show`).
     pub show: u32,

@@ -26,8 +26,9 @@ pub struct UnixDetails<'a> {
     pub name: Text<'a>,
     /// Inode of the file that the socket is bound to (`udiag_vfs_ino` of `UNIX_DIAG_VFS`).
     pub file_inode: Number,
-    /// Device of that file, the major and minor number combined (`udiag_vfs_dev` of
-    /// `UNIX_DIAG_VFS`).
+    /// Device of that file, `major << 20 | minor` (`udiag_vfs_dev` of `UNIX_DIAG_VFS`). It is not
+    /// the `st_dev` of stat(2), which combines them in another way: compare `major(st_dev)` and
+    /// `minor(st_dev)`.
     pub file_device: Number,
     /// Inode of the peer (`UNIX_DIAG_PEER`).
     pub peer: Number,

@@ -24,8 +24,9 @@ pub struct PacketReply<'a> {
     pub header: PacketResponseHeader,
     /// Settings of the socket (`PACKET_DIAG_INFO`).
     pub info: Option<PacketInfo>,
-    /// Addresses that the socket receives in addition to its interface's (`PACKET_DIAG_MCLIST`): 44
-    /// bytes each, `struct packet_diag_mclist`.
+    /// Memberships of the socket (`PACKET_ADD_MEMBERSHIP`, packet(7)), in `PACKET_DIAG_MCLIST`: 44
+    /// bytes each, `struct packet_diag_mclist`. They are addresses that it also receives, and
+    /// promiscuous or all-multicast mode, which have no address.
     pub addresses: Option<&'a [u8]>,
     /// Receive ring (`PACKET_DIAG_RX_RING`).
     pub receive_ring: Option<PacketRing>,

@@ -127,8 +127,8 @@ impl Nla {
         // inet_nla_model: the decoded value of the variant. encode_attribute set value: the
         // attribute that a decoded value serializes as.
         ensures equal { IfOk result (λ copy. inet_nla_model copy ≡ inet_nla_model self.now) }
-        // `spare`: cloning does not fail for types whose values need no memory: any variant except
-        // `Congestion` and `Other`.
+        // `needs_no_memory`: cloning does not fail for types whose values need no memory: any
+        // variant except `Congestion` and `Other`.
         ensures needs_no_memory { NeedsNoMemoryIn inet_attribute_set (inet_nla_model self.now)
             → IsOk result }
         // `empty`: cloning does not fail if the value serializes to no bytes: an `Other` without
@@ -259,11 +259,11 @@ impl<'a> NlaView<'a> {
         // inet_nla_model and inet_nla_view_model: the decoded value of the variant, owned and
         // borrowed.
         ensures equal { IfOk result (λ nla. inet_nla_model nla ≡ inet_nla_view_model self.now) }
-        // `spare`: cloning does not fail for types whose values need no memory: any variant except
-        // `Congestion` and `Other`.
+        // `needs_no_memory`: the call does not fail for types whose values need no memory: any
+        // variant except `Congestion` and `Other`.
         ensures needs_no_memory { NeedsNoMemoryIn inet_attribute_set (inet_nla_view_model self.now)
             → IsOk result }
-        // `empty`: cloning does not fail if the value serializes to no bytes: an `Other` without
+        // `empty`: the call does not fail if the value serializes to no bytes: an `Other` without
         // bytes.
         ensures empty { (encode_attribute inet_attribute_set (inet_nla_view_model self.now)).value
             ≡ [] → IsOk result }

@@ -111,8 +111,8 @@ impl Nla {
         // unix_nla_model: the decoded value of the variant. encode_attribute set value: the
         // attribute that a decoded value serializes as.
         ensures equal { IfOk result (λ copy. unix_nla_model copy ≡ unix_nla_model self.now) }
-        // `spare`: cloning does not fail for types whose values need no memory: any variant except
-        // `Name`, `PendingConnections` and `Other`.
+        // `needs_no_memory`: cloning does not fail for types whose values need no memory: any
+        // variant except `Name`, `PendingConnections` and `Other`.
         ensures needs_no_memory { NeedsNoMemoryIn unix_attribute_set (unix_nla_model self.now)
             → IsOk result }
         // `empty`: cloning does not fail if the value serializes to no bytes: a
@@ -242,11 +242,11 @@ impl<'a> NlaView<'a> {
         // unix_nla_model and unix_nla_view_model: the decoded value of the variant, owned and
         // borrowed.
         ensures equal { IfOk result (λ nla. unix_nla_model nla ≡ unix_nla_view_model self.now) }
-        // `spare`: cloning does not fail for types whose values need no memory: any variant except
-        // `Name`, `PendingConnections` and `Other`.
+        // `needs_no_memory`: the call does not fail for types whose values need no memory: any
+        // variant except `Name`, `PendingConnections` and `Other`.
         ensures needs_no_memory { NeedsNoMemoryIn unix_attribute_set (unix_nla_view_model self.now)
             → IsOk result }
-        // `empty`: cloning does not fail if the value serializes to no bytes: a
+        // `empty`: the call does not fail if the value serializes to no bytes: a
         // `PendingConnections` or an `Other` without bytes.
         ensures empty { (encode_attribute unix_attribute_set (unix_nla_view_model self.now)).value
             ≡ [] → IsOk result }

@@ -27,8 +27,8 @@ pub const PACKET_SHOW_FILTER: u32 = 0x20;
 
 /// Kind of [`PacketInfo`].
 pub const PACKET_DIAG_INFO: u16 = 0;
-/// Kind of the multicast and other addresses that the socket also receives: an array of `struct
-/// packet_diag_mclist`.
+/// Kind of the memberships of the socket (`PACKET_ADD_MEMBERSHIP`, packet(7)): an array of `struct
+/// packet_diag_mclist`, 44 bytes each.
 pub const PACKET_DIAG_MCLIST: u16 = 1;
 /// Kind of the receive ring: [`PacketRing`].
 pub const PACKET_DIAG_RX_RING: u16 = 2;

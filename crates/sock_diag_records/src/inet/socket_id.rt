@@ -35,9 +35,9 @@ pub const SOCKET_ID_LEN: usize = 48;
 /// AF_INET6 (10). The serializer writes the addresses of either version.
 #[derive(Clone, Debug, Drop, PartialEq, Eq)]
 pub struct SocketId {
-    /// Local port (`idiag_sport`), in network byte order, at offset 0.
+    /// Local port (`idiag_sport`), parsed from network byte order, at offset 0.
     pub source_port: u16,
-    /// Remote port (`idiag_dport`), in network byte order, at offset 2.
+    /// Remote port (`idiag_dport`), parsed from network byte order, at offset 2.
     pub destination_port: u16,
     /// Local address (`idiag_src`), in network byte order, at offset 4: 4 bytes and 12 ignored
     /// bytes for IPv4, 16 bytes for IPv6.

@@ -66,9 +66,9 @@ impl UnixResponse {
         })
     }
 
-    /// Returns the directions that are shut down (1 for receiving, 2 for sending, 3 for both): the
-    /// value of the first `Shutdown` (`UNIX_DIAG_SHUTDOWN`). Returns `None` if there is no such
-    /// attribute.
+    /// Returns the directions that are shut down (0 for none, 1 for receiving, 2 for sending, 3 for
+    /// both): the value of the first `Shutdown` (`UNIX_DIAG_SHUTDOWN`). Returns `None` if there is
+    /// no such attribute.
     pub fn shutdown_state(&self) -> Option<u8>
         ensures { result
             ≡ first_content_of (value_of_kind unix_attribute_set UNIX_DIAG_SHUTDOWN)

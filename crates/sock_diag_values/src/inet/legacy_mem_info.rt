@@ -20,12 +20,18 @@ pub const LEGACY_MEM_INFO_LEN: usize = 16;
 pub struct LegacyMemInfo {
     /// Data in the receive queue in bytes (`idiag_rmem`), at offset 0.
     pub receive_queue: u32,
-    /// Data that TCP has queued and not yet sent, in bytes (`idiag_wmem`), at offset 4.
+    /// Memory that the send queue uses, in bytes (`idiag_wmem`), at offset 4. Linux sends the
+    /// number of `SK_MEMINFO_WMEM_QUEUED`, which is `send_queue` of [`MemInfo`](super::MemInfo);
+    /// sock_diag(7) calls it data that TCP has queued and not yet sent.
     pub bottom_send_queue: u32,
     /// Memory that is reserved for later use, in bytes (`idiag_fmem`), at offset 8. Only TCP has
     /// it.
     pub cache: u32,
-    /// Data in the send queue in bytes (`idiag_tmem`), at offset 12.
+    /// Memory of packets that were committed to the device queue, in bytes (`idiag_tmem`), at
+    /// offset
+    /// 12. Linux sends the number of `SK_MEMINFO_WMEM_ALLOC`, which is `bottom_send_queues` of
+    /// [`MemInfo`](super::MemInfo): the names are exchanged there. sock_diag(7) calls it the data
+    /// in the send queue.
     pub send_queue: u32,
 }
 

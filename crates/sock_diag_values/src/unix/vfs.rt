@@ -20,8 +20,8 @@ pub const VFS_LEN: usize = 8;
 pub struct Vfs {
     /// Inode number of the file (`udiag_vfs_ino`), at offset 0.
     inode: u32,
-    /// Device of the file (`udiag_vfs_dev`), at offset 4. The major and the minor number are
-    /// combined as in the kernel's `dev_t`.
+    /// Device of the file (`udiag_vfs_dev`), at offset 4: `major << 20 | minor`, the kernel's
+    /// `dev_t`, and not the `st_dev` of stat(2).
     device: u32,
 }
 

@@ -10,11 +10,13 @@ use crate::constants::*;
 pub struct LegacyMemInfo {
     /// Data in the receive queue (`idiag_rmem`).
     pub receive_queue: u32,
-    /// Data that TCP has queued and not yet sent (`idiag_wmem`).
+    /// Memory that the send queue uses (`idiag_wmem`): on Linux the number of
+    /// `SK_MEMINFO_WMEM_QUEUED`, `send_queue` of [`MemInfo`].
     pub bottom_send_queue: u32,
     /// Memory that is reserved for later use (`idiag_fmem`). Only TCP has it.
     pub cache: u32,
-    /// Data in the send queue (`idiag_tmem`).
+    /// Memory of packets that were committed to the device queue (`idiag_tmem`): on Linux the
+    /// number of `SK_MEMINFO_WMEM_ALLOC`, `bottom_send_queues` of [`MemInfo`].
     pub send_queue: u32,
 }
 
