@@ -705,9 +705,9 @@ struct sockdiag_tcp_info {
 };
 
 /*
- * Copies the value of the first INET_DIAG_INFO (2) after the header of a reply about an IPv4 or
- * IPv6 socket, which has 72 bytes: at most the 232 bytes of info. The remaining bytes of info are
- * set to 0. Returns the length of the value in bytes, or 0 if there is none.
+ * Copies the value of the first INET_DIAG_INFO after the header of a reply about an IPv4 or IPv6
+ * socket, which has 72 bytes: at most the 232 bytes of info. The remaining bytes of info are set to
+ * 0. Returns the length of the value in bytes, or 0 if there is none.
  *
  * Kernels before Linux 5.4 send fewer than 232 bytes: a field that ends after the returned length
  * is 0, and not known. Newer kernels send more; the bytes after 232 are not copied. The value is
@@ -745,8 +745,8 @@ struct sockdiag_inet_memory {
 };
 
 /*
- * Copies the value of the first INET_DIAG_SKMEMINFO (7) after the header of a reply about an IPv4
- * or IPv6 socket, which has 72 bytes: at most the 36 bytes of memory. The remaining bytes of memory
+ * Copies the value of the first INET_DIAG_SKMEMINFO after the header of a reply about an IPv4 or
+ * IPv6 socket, which has 72 bytes: at most the 36 bytes of memory. The remaining bytes of memory
  * are set to 0. Returns the length of the value in bytes, or 0 if there is none. Older kernels send
  * 28 or 32 bytes, without drops, or also without backlog_queue_length.
  *

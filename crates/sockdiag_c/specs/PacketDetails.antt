@@ -5,6 +5,14 @@ use Rattle.netlink_core.specs.Response.{ReplyValue}
 use Rattle.netlink_core.specs.declared.error.DecodeError.{DecodeError}
 use Rattle.sock_diag_families.specs.PacketAttributes.{packet_info, packet_ring}
 use Rattle.sock_diag_families.specs.PacketResponseHeader.{packet_header}
+use Rattle.sock_diag_families.specs.declared.packet.TheConstants.{PACKET_DIAG_FANOUT}
+use Rattle.sock_diag_families.specs.declared.packet.TheConstants.{PACKET_DIAG_FILTER}
+use Rattle.sock_diag_families.specs.declared.packet.TheConstants.{PACKET_DIAG_INFO}
+use Rattle.sock_diag_families.specs.declared.packet.TheConstants.{PACKET_DIAG_MCLIST}
+use Rattle.sock_diag_families.specs.declared.packet.TheConstants.{PACKET_DIAG_MEMINFO}
+use Rattle.sock_diag_families.specs.declared.packet.TheConstants.{PACKET_DIAG_RX_RING}
+use Rattle.sock_diag_families.specs.declared.packet.TheConstants.{PACKET_DIAG_TX_RING}
+use Rattle.sock_diag_families.specs.declared.packet.TheConstants.{PACKET_DIAG_UID}
 use Rattle.sock_diag_any.specs.RawReply.{raw_reply_spec}
 use Rattle.sockdiag_c.specs.Answers.{IsGetterResult}
 use Rattle.sockdiag_c.specs.Details.{optional_number, text_parts}
@@ -13,16 +21,8 @@ use Rattle.sockdiag_c.specs.FamilyValues.{parse_first, parse_u32_value}
 use Rattle.sockdiag_c.specs.declared.packet_details.PacketDetails.{PacketDetails}
 
 -- IsPacketDetailsOf old v d: the struct `d` has the header of the reply `v`, and the first value of
--- each attribute type; `old` is the struct before the call:
--- - `info`: type 0, PACKET_DIAG_INFO
--- - `addresses`: type 1, PACKET_DIAG_MCLIST, the bytes unchecked
--- - `receive_ring`: type 2, PACKET_DIAG_RX_RING
--- - `send_ring`: type 3, PACKET_DIAG_TX_RING
--- - `fanout`: type 4, PACKET_DIAG_FANOUT
--- - `owner`: type 5, PACKET_DIAG_UID
--- - `memory`: type 6, PACKET_DIAG_MEMINFO
--- - `filter`: type 7, PACKET_DIAG_FILTER, the bytes unchecked
--- The values of types 0 and 2 to 6 parse, if they are present. `IsOkAnd r P`: `r` is `Ok o`, and
+-- each attribute type; `old` is the struct before the call. The bytes of `addresses` and `filter`
+-- are not checked. The other values parse, if they are present. `IsOkAnd r P`: `r` is `Ok o`, and
 -- `P o`. Here `o` is None if the reply has no attribute of this type. Then a number is not present
 -- (`optional_number`), and for a record `has_..` is 0 and the record is unchanged from `old`
 -- (`IsGetterResult`); else `has_..` is 1. `packet_ring k` parses the record of a ring, with the
@@ -32,16 +32,20 @@ abbrev pub IsPacketDetailsOf : PacketDetails → ReplyValue (raw_reply_spec pack
     → Type 0
 IsPacketDetailsOf old v d =
     (d.header ≡ v.header)
-    × IsOkAnd (parse_first packet_info 0 v.nlas) (λ o. IsGetterResult o old.info d.info d.has_info)
-    × (text_parts d.addresses ≡ first_value_as_text 1 v.nlas)
-    × IsOkAnd (parse_first (packet_ring 2) 2 v.nlas)
+    × IsOkAnd (parse_first packet_info PACKET_DIAG_INFO v.nlas)
+    (λ o. IsGetterResult o old.info d.info d.has_info)
+    × (text_parts d.addresses ≡ first_value_as_text PACKET_DIAG_MCLIST v.nlas)
+    × IsOkAnd (parse_first (packet_ring PACKET_DIAG_RX_RING) PACKET_DIAG_RX_RING v.nlas)
     (λ o. IsGetterResult o old.receive_ring d.receive_ring d.has_receive_ring)
-    × IsOkAnd (parse_first (packet_ring 3) 3 v.nlas)
+    × IsOkAnd (parse_first (packet_ring PACKET_DIAG_TX_RING) PACKET_DIAG_TX_RING v.nlas)
     (λ o. IsGetterResult o old.send_ring d.send_ring d.has_send_ring)
-    × IsOkAnd (parse_first parse_u32_value 4 v.nlas) (λ o. d.fanout ≡ optional_number o)
-    × IsOkAnd (parse_first parse_u32_value 5 v.nlas) (λ o. d.owner ≡ optional_number o)
-    × IsOkAnd (parse_first parse_socket_memory 6 v.nlas) (λ o. d.memory ≡ memory_struct o)
-    × (text_parts d.filter ≡ first_value_as_text 7 v.nlas)
+    × IsOkAnd (parse_first parse_u32_value PACKET_DIAG_FANOUT v.nlas)
+    (λ o. d.fanout ≡ optional_number o)
+    × IsOkAnd (parse_first parse_u32_value PACKET_DIAG_UID v.nlas)
+    (λ o. d.owner ≡ optional_number o)
+    × IsOkAnd (parse_first parse_socket_memory PACKET_DIAG_MEMINFO v.nlas)
+    (λ o. d.memory ≡ memory_struct o)
+    × (text_parts d.filter ≡ first_value_as_text PACKET_DIAG_FILTER v.nlas)
 
 -- `packet_value_errors v`: for each value that is parsed, in the order of the attribute types, its
 -- error, or None if it parses or is not present. If the reply is accepted, the call returns the
@@ -49,9 +53,9 @@ IsPacketDetailsOf old v d =
 abbrev pub packet_value_errors : ReplyValue (raw_reply_spec packet_header)
     → List (Option DecodeError)
 packet_value_errors v =
-    result_err (parse_first packet_info 0 v.nlas)
-    ∷ result_err (parse_first (packet_ring 2) 2 v.nlas)
-    ∷ result_err (parse_first (packet_ring 3) 3 v.nlas)
-    ∷ result_err (parse_first parse_u32_value 4 v.nlas)
-    ∷ result_err (parse_first parse_u32_value 5 v.nlas)
-    ∷ result_err (parse_first parse_socket_memory 6 v.nlas) ∷ []
+    result_err (parse_first packet_info PACKET_DIAG_INFO v.nlas)
+    ∷ result_err (parse_first (packet_ring PACKET_DIAG_RX_RING) PACKET_DIAG_RX_RING v.nlas)
+    ∷ result_err (parse_first (packet_ring PACKET_DIAG_TX_RING) PACKET_DIAG_TX_RING v.nlas)
+    ∷ result_err (parse_first parse_u32_value PACKET_DIAG_FANOUT v.nlas)
+    ∷ result_err (parse_first parse_u32_value PACKET_DIAG_UID v.nlas)
+    ∷ result_err (parse_first parse_socket_memory PACKET_DIAG_MEMINFO v.nlas) ∷ []

@@ -13,6 +13,9 @@ use Rattle.netlink_core.specs.Layout.{record_bytes}
 use Rattle.netlink_core.specs.Header.{header_bytes}
 use Rattle.sock_diag_records.specs.InetRequest.{inet_request}
 use Rattle.sock_diag_records.specs.UnixRequest.{unix_request}
+use Rattle.sock_diag_records.specs.declared.constants.TheConstants.{AF_INET, AF_INET6}
+use Rattle.sock_diag_records.specs.declared.constants.TheConstants.{SOCK_DIAG_BY_FAMILY}
+use Rattle.sock_diag_records.specs.declared.inet.request.TheConstants.{INET_DIAG_REQ_PROTOCOL}
 use Rattle.sock_diag_records.specs.declared.inet.request.InetRequest as inet
 use Rattle.sock_diag_records.specs.declared.unix.request.UnixRequest as unix
 use Rattle.sockdiag_c.specs.declared.requests.InetRequest.{InetRequest}
@@ -41,11 +44,11 @@ unix_request_from_c r = record {
   cookie = r.cookie;
 }
 
--- address_of_family family octets: for AF_INET, 2, the IPv4 address of the first four octets; else
--- the IPv6 address of the sixteen octets
+-- address_of_family family octets: for AF_INET, the IPv4 address of the first four octets; else the
+-- IPv6 address of the sixteen octets
 abbrev pub address_of_family : ℕ → List ℕ → IpAddr
 address_of_family family octets =
-    if family == 2 then V4 record {
+    if family == AF_INET then V4 record {
       octets = slice_index octets 0 ∷ slice_index octets 1 ∷ slice_index octets 2
           ∷ slice_index octets 3 ∷ [];
     }
@@ -72,21 +75,22 @@ inet_request_from_c r = record {
 }
 
 -- `protocol_attribute p`: no bytes if the protocol `p` is below 256; else the 8 bytes of an
--- attribute INET_DIAG_REQ_PROTOCOL (3) whose value is `p` as a little-endian `__u32`
+-- attribute INET_DIAG_REQ_PROTOCOL whose value is `p` as a little-endian `__u32`
 abbrev pub protocol_attribute : ℕ → List ℕ
 protocol_attribute p =
-    if nat_lt p 256 then [] else attribute_bytes record { type_word = 3; value = little_bytes 4 p }
+    if nat_lt p 256 then []
+    else attribute_bytes record { type_word = INET_DIAG_REQ_PROTOCOL; value = little_bytes 4 p }
 
 -- `unix_message t r`: the netlink message of the request `r` for UNIX sockets, with the type `t`:
--- 20 (SOCK_DIAG_BY_FAMILY) or 21 (SOCK_DESTROY). It has 40 bytes: a header of 16 bytes
--- (`header_bytes`), then the record of 24 bytes (`record_bytes`).
+-- SOCK_DIAG_BY_FAMILY or SOCK_DESTROY. It has 40 bytes: a header of 16 bytes (`header_bytes`), then
+-- the record of 24 bytes (`record_bytes`).
 abbrev pub unix_message : ℕ → UnixRequest → List ℕ
 unix_message t r = header_bytes (request_header_of 40 t r.header)
     ++ record_bytes unix_request (unix_request_from_c r)
 
 -- `inet_message t r`: the netlink message of the request `r` for IPv4 or IPv6 sockets, with the
--- type `t`: 20 (SOCK_DIAG_BY_FAMILY) or 21 (SOCK_DESTROY). It has 72 bytes, a header of 16 and a
--- record of 56 bytes; and 8 bytes more, those of the attribute, if the protocol is above 255.
+-- type `t`: SOCK_DIAG_BY_FAMILY or SOCK_DESTROY. It has 72 bytes, a header of 16 and a record of 56
+-- bytes; and 8 bytes more, those of the attribute, if the protocol is above 255.
 abbrev pub inet_message : ℕ → InetRequest → List ℕ
 inet_message t r =
     header_bytes (request_header_of (72 + length (protocol_attribute r.protocol)) t r.header)
@@ -112,19 +116,20 @@ with_padding attributes = attributes ++ replicate (padding_length (length attrib
 abbrev pub bytes_after_record : InetRequest → List ℕ → List ℕ
 bytes_after_record r attributes = protocol_attribute r.protocol ++ with_padding attributes
 
--- `request_with_attributes r attributes`: the netlink message, of type 20 (SOCK_DIAG_BY_FAMILY), of
--- the request `r` for IPv4 or IPv6 sockets: its header, whose `nlmsg_len` counts all bytes of the
--- message; its record; and `bytes_after_record`
+-- `request_with_attributes r attributes`: the netlink message of the request `r` for IPv4 or IPv6
+-- sockets: its header, whose `nlmsg_len` counts all bytes of the message; its record; and
+-- `bytes_after_record`
 abbrev pub request_with_attributes : InetRequest → List ℕ → List ℕ
 request_with_attributes r attributes =
-    header_bytes (request_header_of (72 + length (bytes_after_record r attributes)) 20 r.header)
+    header_bytes (request_header_of (72 + length (bytes_after_record r attributes))
+    SOCK_DIAG_BY_FAMILY r.header)
     ++ record_bytes inet_request (inet_request_from_c r) ++ bytes_after_record r attributes
 
--- `IsWritableRequest r attributes`: the family is 2 (AF_INET) or 10 (AF_INET6), and the length of
--- the message with these attributes fits `nlmsg_len`
+-- `IsWritableRequest r attributes`: the family is AF_INET or AF_INET6, and the length of the
+-- message with these attributes fits `nlmsg_len`
 abbrev pub IsWritableRequest : InetRequest → List ℕ → Type 0
 IsWritableRequest r attributes =
-    ((r.family ≡ 2) ⊎ (r.family ≡ 10))
+    ((r.family ≡ AF_INET) ⊎ (r.family ≡ AF_INET6))
     × (72 + length (bytes_after_record r attributes) ≤ 4294967295)
 
 -- HasFramingError bytes e: after zero or more attributes, bytes are left that do not begin with an

@@ -51,16 +51,16 @@ pub struct VsockRequest {
 /// if the family is none of `AF_NETLINK`, `AF_PACKET` and `AF_XDP`; then nothing is written.
 #[unsafe(no_mangle)]
 pub extern "C" fn sockdiag_write_show_request(request: &ShowRequest, buffer: &mut [u8]) -> usize
-    // 16: AF_NETLINK. 17: AF_PACKET. 44: AF_XDP. show_message family r: a netlink header (length
-    // 36, type 20, the rest from r.header), then the family, the protocol, two zeros, inode, show
-    // and cookie, little-endian. WritesMessage len all old new answer: `all` is at the start of
-    // `new`, the rest is as in `old`, and `answer` is `len`; if `old` has fewer than `len` bytes,
-    // `new` is `old` and `answer` is 0.
-    ensures written { (request.now.family ≡ 16) ⊎ ((request.now.family ≡ 17)
-        ⊎ (request.now.family ≡ 44)) → WritesMessage 36
+    // show_message family r: a netlink header (length 36, type SOCK_DIAG_BY_FAMILY, the rest from
+    // r.header), then the family, the protocol, two zeros, inode, show and cookie, little-endian.
+    // WritesMessage len all old new answer: `all` is at the start of `new`, the rest is as in
+    // `old`, and `answer` is `len`; if `old` has fewer than `len` bytes, `new` is `old` and
+    // `answer` is 0.
+    ensures written { (request.now.family ≡ AF_NETLINK) ⊎ ((request.now.family ≡ AF_PACKET)
+        ⊎ (request.now.family ≡ AF_XDP)) → WritesMessage 36
         (show_message request.now.family request.now) buffer.old buffer.new result }
-    ensures family { request.now.family ≢ 16 → request.now.family ≢ 17
-        → request.now.family ≢ 44 → (result ≡ 0) × (buffer.new ≡ buffer.old) }
+    ensures family { request.now.family ≢ AF_NETLINK → request.now.family ≢ AF_PACKET
+        → request.now.family ≢ AF_XDP → (result ≡ 0) × (buffer.new ≡ buffer.old) }
 {
     match request.family {
         AF_NETLINK => write_show::<AF_NETLINK>(request, buffer),

@@ -125,9 +125,10 @@ fn front_len(protocol: u32) -> usize
 
 // Writes the request as the start of a message of `len` bytes.
 fn write_front(len: u32, request: &InetRequest, front: &mut [u8])
-    requires family { (request.now.family ≡ 2) ⊎ (request.now.family ≡ 10) }
+    requires family { (request.now.family ≡ AF_INET) ⊎ (request.now.family ≡ AF_INET6) }
     requires whole { length front.old ≡ 72 + length (protocol_attribute request.now.protocol) }
-    ensures { front.new ≡ header_bytes (request_header_of len 20 request.now.header)
+    ensures { front.new
+        ≡ header_bytes (request_header_of len SOCK_DIAG_BY_FAMILY request.now.header)
         ++ record_bytes inet_request (inet_request_from_c request.now)
         ++ protocol_attribute request.now.protocol }
 {

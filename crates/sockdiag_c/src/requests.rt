@@ -101,8 +101,8 @@ const PROTOCOL: u8 = 3;
 /// written.
 #[unsafe(no_mangle)]
 pub extern "C" fn sockdiag_write_unix_request(request: &UnixRequest, buffer: &mut [u8]) -> usize
-    // 20: SOCK_DIAG_BY_FAMILY.
-    ensures { WritesMessage 40 (unix_message 20 request.now) buffer.old buffer.new result }
+    ensures { WritesMessage 40 (unix_message SOCK_DIAG_BY_FAMILY request.now)
+        buffer.old buffer.new result }
 {
     write_unix(SOCK_DIAG_BY_FAMILY, request, buffer)
 }
@@ -113,8 +113,8 @@ pub extern "C" fn sockdiag_write_unix_request(request: &UnixRequest, buffer: &mu
 /// then nothing is written. Linux answers it with `EOPNOTSUPP`.
 #[unsafe(no_mangle)]
 pub extern "C" fn sockdiag_write_unix_destroy(request: &UnixRequest, buffer: &mut [u8]) -> usize
-    // 21: SOCK_DESTROY.
-    ensures { WritesMessage 40 (unix_message 21 request.now) buffer.old buffer.new result }
+    ensures { WritesMessage 40 (unix_message SOCK_DESTROY request.now)
+        buffer.old buffer.new result }
 {
     write_unix(SOCK_DESTROY, request, buffer)
 }
@@ -125,11 +125,11 @@ pub extern "C" fn sockdiag_write_unix_destroy(request: &UnixRequest, buffer: &mu
 /// neither `AF_INET` nor `AF_INET6`; then nothing is written.
 #[unsafe(no_mangle)]
 pub extern "C" fn sockdiag_write_inet_request(request: &InetRequest, buffer: &mut [u8]) -> usize
-    // protocol_attribute: 8 bytes if the protocol is above 255, else none. 20: SOCK_DIAG_BY_FAMILY.
-    ensures written { (request.now.family ≡ 2) ⊎ (request.now.family ≡ 10)
+    // protocol_attribute: 8 bytes if the protocol is above 255, else none.
+    ensures written { (request.now.family ≡ AF_INET) ⊎ (request.now.family ≡ AF_INET6)
         → WritesMessage (72 + length (protocol_attribute request.now.protocol))
-        (inet_message 20 request.now) buffer.old buffer.new result }
-    ensures family { request.now.family ≢ 2 → request.now.family ≢ 10 → (result ≡ 0)
+        (inet_message SOCK_DIAG_BY_FAMILY request.now) buffer.old buffer.new result }
+    ensures family { request.now.family ≢ AF_INET → request.now.family ≢ AF_INET6 → (result ≡ 0)
         × (buffer.new ≡ buffer.old) }
 {
     write_inet(SOCK_DIAG_BY_FAMILY, request, buffer)
@@ -145,11 +145,11 @@ pub extern "C" fn sockdiag_write_inet_request(request: &InetRequest, buffer: &mu
 /// UDP and raw sockets if the caller has `CAP_NET_ADMIN`.
 #[unsafe(no_mangle)]
 pub extern "C" fn sockdiag_write_inet_destroy(request: &InetRequest, buffer: &mut [u8]) -> usize
-    // protocol_attribute: 8 bytes if the protocol is above 255, else none. 21: SOCK_DESTROY.
-    ensures written { (request.now.family ≡ 2) ⊎ (request.now.family ≡ 10)
+    // protocol_attribute: 8 bytes if the protocol is above 255, else none.
+    ensures written { (request.now.family ≡ AF_INET) ⊎ (request.now.family ≡ AF_INET6)
         → WritesMessage (72 + length (protocol_attribute request.now.protocol))
-        (inet_message 21 request.now) buffer.old buffer.new result }
-    ensures family { request.now.family ≢ 2 → request.now.family ≢ 10 → (result ≡ 0)
+        (inet_message SOCK_DESTROY request.now) buffer.old buffer.new result }
+    ensures family { request.now.family ≢ AF_INET → request.now.family ≢ AF_INET6 → (result ≡ 0)
         × (buffer.new ≡ buffer.old) }
 {
     write_inet(SOCK_DESTROY, request, buffer)
@@ -172,10 +172,10 @@ fn write_unix(message_type: u16, request: &UnixRequest, buffer: &mut [u8]) -> us
 
 // Writes a request for IPv4 or IPv6 sockets with this message type.
 pub(crate) fn write_inet(message_type: u16, request: &InetRequest, buffer: &mut [u8]) -> usize
-    ensures written { (request.now.family ≡ 2) ⊎ (request.now.family ≡ 10)
+    ensures written { (request.now.family ≡ AF_INET) ⊎ (request.now.family ≡ AF_INET6)
         → WritesMessage (72 + length (protocol_attribute request.now.protocol))
         (inet_message message_type request.now) buffer.old buffer.new result }
-    ensures family { request.now.family ≢ 2 → request.now.family ≢ 10 → (result ≡ 0)
+    ensures family { request.now.family ≢ AF_INET → request.now.family ≢ AF_INET6 → (result ≡ 0)
         × (buffer.new ≡ buffer.old) }
 {
     if request.family != AF_INET && request.family != AF_INET6 {

@@ -11,9 +11,9 @@ use netlink_packet_sock_diag::constants::{INET_DIAG_INFO, INET_DIAG_SKMEMINFO};
 use netlink_packet_sock_diag::inet::INET_RESPONSE_HEADER_LEN;
 use netlink_packet_sock_diag::inet::nlas::{MEM_INFO_LEN, TCP_INFO_LEN};
 
-/// Copies the value of the first `INET_DIAG_INFO` (2) after the header of a reply about an IPv4 or
-/// IPv6 socket, which has 72 bytes: at most the 232 bytes of `info`. The remaining bytes of `info`
-/// are set to 0. Returns the length of the value in bytes, or 0 if there is none.
+/// Copies the value of the first `INET_DIAG_INFO` after the header of a reply about an IPv4 or IPv6
+/// socket, which has 72 bytes: at most the 232 bytes of `info`. The remaining bytes of `info` are
+/// set to 0. Returns the length of the value in bytes, or 0 if there is none.
 ///
 /// Kernels before Linux 5.4 send fewer than 232 bytes: a field that ends after the returned length
 /// is 0, and not known. Newer kernels send more; the bytes after 232 are not copied. The value is
@@ -26,7 +26,8 @@ use netlink_packet_sock_diag::inet::nlas::{MEM_INFO_LEN, TCP_INFO_LEN};
 pub extern "C" fn sockdiag_inet_get_tcp_info(payload: &[u8], info: &mut [u8; TCP_INFO_LEN]) -> usize
     // attributes: those after the header, up to the end or to a framing error.
     ensures { (attributes : List Attribute) → AreAttributesIn (drop 72 payload.now) attributes
-        → let value = unwrap_or (first_content_of (value_of_type 2) attributes) [] in
+        → let value =
+        unwrap_or (first_content_of (value_of_type INET_DIAG_INFO) attributes) [] in
         (result ≡ length value) × (info.new ≡ padded_or_truncated 232 value) }
 {
     let value = first_value(bytes_after_inet_header(payload), INET_DIAG_INFO);
@@ -34,9 +35,9 @@ pub extern "C" fn sockdiag_inet_get_tcp_info(payload: &[u8], info: &mut [u8; TCP
     value.len()
 }
 
-/// Copies the value of the first `INET_DIAG_SKMEMINFO` (7) after the header of a reply about an
-/// IPv4 or IPv6 socket, which has 72 bytes: at most the 36 bytes of `memory`. The remaining bytes
-/// of `memory` are set to 0. Returns the length of the value in bytes, or 0 if there is none. Older
+/// Copies the value of the first `INET_DIAG_SKMEMINFO` after the header of a reply about an IPv4 or
+/// IPv6 socket, which has 72 bytes: at most the 36 bytes of `memory`. The remaining bytes of
+/// `memory` are set to 0. Returns the length of the value in bytes, or 0 if there is none. Older
 /// kernels send 28 or 32 bytes, without `drops`, or also without `backlog_queue_length`.
 ///
 /// The values of attributes are not checked. So this call also works for a reply that is rejected
@@ -45,7 +46,8 @@ pub extern "C" fn sockdiag_inet_get_tcp_info(payload: &[u8], info: &mut [u8; TCP
 pub extern "C" fn sockdiag_inet_get_memory(payload: &[u8], memory: &mut [u8; MEM_INFO_LEN]) -> usize
     // attributes: those after the header, up to the end or to a framing error.
     ensures { (attributes : List Attribute) → AreAttributesIn (drop 72 payload.now) attributes
-        → let value = unwrap_or (first_content_of (value_of_type 7) attributes) [] in
+        → let value =
+        unwrap_or (first_content_of (value_of_type INET_DIAG_SKMEMINFO) attributes) [] in
         (result ≡ length value) × (memory.new ≡ padded_or_truncated 36 value) }
 {
     let value = first_value(bytes_after_inet_header(payload), INET_DIAG_SKMEMINFO);
