@@ -10,6 +10,10 @@ use Rattle.netlink_packet_sock_diag.specs.MessageViewModel.{message_view_model}
 use Rattle.sock_diag_families.specs.NetlinkResponseHeader.{netlink_header}
 use Rattle.sock_diag_families.specs.PacketResponseHeader.{packet_header}
 use Rattle.sock_diag_families.specs.VsockResponseHeader.{vsock_header}
+use Rattle.sock_diag_records.specs.declared.constants.TheConstants.{AF_NETLINK, AF_PACKET}
+use Rattle.sock_diag_records.specs.declared.constants.TheConstants.{SOCK_DIAG_BY_FAMILY}
+use Rattle.sock_diag_families.specs.declared.vsock.TheConstants.{AF_VSOCK}
+use Rattle.sock_diag_families.specs.declared.xdp.TheConstants.{AF_XDP}
 use Rattle.sock_diag_any.specs.RawReply.{raw_reply_spec}
 use Rattle.sock_diag_families.specs.XdpResponseHeader.{xdp_header}
 use Rattle.sock_diag_any.specs.declared.any.AnySockDiagView.{AnySockDiagView}
@@ -28,16 +32,15 @@ extension_codec_of vsock = response_codec (raw_reply_spec vsock_header)
 extension_codec_of xdp = response_codec (raw_reply_spec xdp_header)
 
 -- The family of the bytes `b` of a message of type `t`, if the port does not parse them. There must
--- be at least two bytes, and the type must be 20 (SOCK_DIAG_BY_FAMILY). The first byte is the
--- family: 16 (AF_NETLINK), 17 (AF_PACKET), 40 (AF_VSOCK) or 44 (AF_XDP). In all other cases it is
--- `None`, and the port parses the bytes.
+-- be at least two bytes, and the type must be SOCK_DIAG_BY_FAMILY. The first byte is the number of
+-- the family. In all other cases it is `None`, and the port parses the bytes.
 abbrev pub extension_family_of : List ℕ → ℕ → Option ExtensionFamily
 extension_family_of b t =
-    if nat_lt (length b) 2 || not (t == 20) then None
-    else if slice_index b 0 == 16 then Some netlink
-    else if slice_index b 0 == 17 then Some packet
-    else if slice_index b 0 == 40 then Some vsock
-    else if slice_index b 0 == 44 then Some xdp
+    if nat_lt (length b) 2 || not (t == SOCK_DIAG_BY_FAMILY) then None
+    else if slice_index b 0 == AF_NETLINK then Some netlink
+    else if slice_index b 0 == AF_PACKET then Some packet
+    else if slice_index b 0 == AF_VSOCK then Some vsock
+    else if slice_index b 0 == AF_XDP then Some xdp
     else None
 
 -- The value of a message: a message of the port, or a reply of another family.

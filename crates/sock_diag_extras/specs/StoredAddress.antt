@@ -6,6 +6,7 @@ use Rattle.std.specs.declared.net.ip_addr.IpAddr.TheVariants.{V4, V6}
 use Rattle.sock_diag_extras.specs.RecordTable.{RecordTable}
 use Rattle.sock_diag_extras.specs.declared.stored_address.StoredAddress.{StoredAddress}
 use Rattle.netlink_core.specs.Rows.{u16, u32, be16, be16s, u8s}
+use Rattle.sock_diag_records.specs.declared.constants.TheConstants.{AF_INET, AF_INET6}
 
 -- `struct sockaddr_storage` (linux/socket.h). By the family it starts with one of two structs:
 -- `struct sockaddr_in` (ip(7)) with `sin_port` at 2 and `sin_addr` at 4; or `struct sockaddr_in6`
@@ -33,10 +34,10 @@ stored_address = record {
   is_shaped = λ v. (length v.front ≡ 4) × (length v.segments ≡ 8) × (length v.rest ≡ 100);
 }
 
--- `ip_of a`: the IP address. If the family is 2 (AF_INET), it is the IPv4 address with the octets
--- `front`; if it is 10 (AF_INET6), the IPv6 address with the segments `segments`; None for any
--- other family.
+-- `ip_of a`: the IP address. If the family is AF_INET, it is the IPv4 address with the octets
+-- `front`; if it is AF_INET6, the IPv6 address with the segments `segments`; None for any other
+-- family.
 abbrev pub ip_of : StoredAddress → Option IpAddr
 ip_of a =
-    if a.family == 2 then Some (V4 record { octets = a.front })
-    else if a.family == 10 then Some (V6 record { segments = a.segments }) else None
+    if a.family == AF_INET then Some (V4 record { octets = a.front })
+    else if a.family == AF_INET6 then Some (V6 record { segments = a.segments }) else None

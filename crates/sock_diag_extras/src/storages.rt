@@ -27,7 +27,7 @@ impl<'a> BpfStorage<'a> {
     /// in the value, if there is one.
     pub fn parse(nla: &NlaBuffer<'a>) -> Result<Option<BpfStorage<'a>>, DecodeError>
         ensures kept { IfOk result (λ found. MatchOption found
-            (attribute_kind (buffered_attribute nla.now) ≢ 1)
+            (attribute_kind (buffered_attribute nla.now) ≢ SK_DIAG_BPF_STORAGE)
             (λ storage. (attribute_kind (buffered_attribute nla.now) ≡ SK_DIAG_BPF_STORAGE)
             × (nested_bytes storage.0 ≡ (buffered_attribute nla.now).value))) }
         // `decode_attribute []`: no attribute type is known, so every value is accepted.

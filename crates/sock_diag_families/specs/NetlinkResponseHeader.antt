@@ -4,6 +4,7 @@ use Rattle.netlink_core.specs.Layout.{Layout, plain}
 use Rattle.netlink_core.specs.Rows.{skip, u8, u32, u64}
 use Rattle.netlink_core.specs.declared.error.RecordName.TheVariants as name
 use Rattle.sock_diag_families.specs.declared.netlink.response.NetlinkResponseHeader.{NetlinkResponseHeader}
+use Rattle.sock_diag_records.specs.declared.constants.TheConstants.{AF_NETLINK}
 
 -- the header with these numbers in the fields that are not ignored, in the order of the rows below
 abbrev pub netlink_header_of : List ℕ → NetlinkResponseHeader
@@ -19,12 +20,12 @@ netlink_header_of values = record {
 }
 
 -- `struct netlink_diag_msg` (linux/netlink_diag.h): `ndiag_family`, which is ignored and serialized
--- as AF_NETLINK (16), `ndiag_type`, `ndiag_protocol`, `ndiag_state`, `ndiag_portid`,
--- `ndiag_dst_portid`, `ndiag_dst_group`, `ndiag_ino`, `ndiag_cookie`. Arguments of `plain`: the
--- name in errors, the length in bytes, the rows, their inverse, and the condition on arrays (none).
+-- as AF_NETLINK, `ndiag_type`, `ndiag_protocol`, `ndiag_state`, `ndiag_portid`, `ndiag_dst_portid`,
+-- `ndiag_dst_group`, `ndiag_ino`, `ndiag_cookie`. Arguments of `plain`: the name in errors, the
+-- length in bytes, the rows, their inverse, and the condition on arrays (none).
 abbrev pub netlink_header : Layout (Unit {0}) (Unit {0}) NetlinkResponseHeader
-netlink_header = plain (name.FamilyResponseHeader 16) 28 (
-    skip 0 (16 ∷ []) ∷
+netlink_header = plain (name.FamilyResponseHeader AF_NETLINK) 28 (
+    skip 0 (AF_NETLINK ∷ []) ∷
     u8 1 NetlinkResponseHeader.kind ∷
     u8 2 NetlinkResponseHeader.protocol ∷
     u8 3 NetlinkResponseHeader.state ∷

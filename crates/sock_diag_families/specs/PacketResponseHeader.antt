@@ -4,6 +4,7 @@ use Rattle.netlink_core.specs.Layout.{Layout, plain}
 use Rattle.netlink_core.specs.Rows.{skip, u8, u16, u32, u64}
 use Rattle.netlink_core.specs.declared.error.RecordName.TheVariants as name
 use Rattle.sock_diag_families.specs.declared.packet.response.PacketResponseHeader.{PacketResponseHeader}
+use Rattle.sock_diag_records.specs.declared.constants.TheConstants.{AF_PACKET}
 
 -- the header with these numbers in the fields that are not ignored, in the order of the rows below
 abbrev pub packet_header_of : List ℕ → PacketResponseHeader
@@ -15,12 +16,12 @@ packet_header_of values = record {
 }
 
 -- `struct packet_diag_msg` (linux/packet_diag.h): `pdiag_family`, which is ignored and serialized
--- as AF_PACKET (17), `pdiag_type`, `pdiag_num`, `pdiag_ino`, `pdiag_cookie`. Arguments of `plain`:
+-- as AF_PACKET, `pdiag_type`, `pdiag_num`, `pdiag_ino`, `pdiag_cookie`. Arguments of `plain`:
 -- the name in errors, the length in bytes, the rows, their inverse, and the condition on arrays
 -- (none).
 abbrev pub packet_header : Layout (Unit {0}) (Unit {0}) PacketResponseHeader
-packet_header = plain (name.FamilyResponseHeader 17) 16 (
-    skip 0 (17 ∷ []) ∷
+packet_header = plain (name.FamilyResponseHeader AF_PACKET) 16 (
+    skip 0 (AF_PACKET ∷ []) ∷
     u8 1 PacketResponseHeader.kind ∷
     u16 2 PacketResponseHeader.protocol ∷
     u32 4 PacketResponseHeader.inode ∷

@@ -15,8 +15,8 @@ show_request_of values = record {
 }
 
 -- `struct netlink_diag_req` (linux/netlink_diag.h), `struct packet_diag_req` (linux/packet_diag.h)
--- or `struct xdp_diag_req` (linux/xdp_diag.h), by the family AF_NETLINK (16), AF_PACKET (17) or
--- AF_XDP (44). `sdiag_family` at 0 and `pad` at 2 are ignored, and serialized as the family and 0;
+-- or `struct xdp_diag_req` (linux/xdp_diag.h), by the family AF_NETLINK, AF_PACKET or AF_XDP.
+-- `sdiag_family` at 0 and `pad` at 2 are ignored, and serialized as the family and 0;
 -- `family % 256` is the family, which has one byte. The others are `sdiag_protocol` at 1, `*_ino`
 -- at 4, `*_show` at 8 and `*_cookie` at 12. Arguments of `plain`: the name in errors, the length in
 -- bytes, the rows, their inverse, and the condition on arrays (none).

@@ -4,6 +4,7 @@ use Rattle.netlink_core.specs.Layout.{Layout, plain}
 use Rattle.netlink_core.specs.Rows.{skip, u8, u32, u64}
 use Rattle.netlink_core.specs.declared.error.RecordName.TheVariants as name
 use Rattle.sock_diag_families.specs.declared.vsock.response.VsockResponseHeader.{VsockResponseHeader}
+use Rattle.sock_diag_families.specs.declared.vsock.TheConstants.{AF_VSOCK}
 
 -- the header with these numbers in the fields that are not ignored, in the order of the rows below
 abbrev pub vsock_header_of : List ℕ → VsockResponseHeader
@@ -20,13 +21,13 @@ vsock_header_of values = record {
 }
 
 -- `struct vsock_diag_msg` (linux/vm_sockets_diag.h): `vdiag_family`, which is ignored and
--- serialized as AF_VSOCK (40), `vdiag_type`, `vdiag_state`, `vdiag_shutdown`, `vdiag_src_cid`,
+-- serialized as AF_VSOCK, `vdiag_type`, `vdiag_state`, `vdiag_shutdown`, `vdiag_src_cid`,
 -- `vdiag_src_port`, `vdiag_dst_cid`, `vdiag_dst_port`, `vdiag_ino`, `vdiag_cookie`. Arguments of
 -- `plain`: the name in errors, the length in bytes, the rows, their inverse, and the condition on
 -- arrays (none).
 abbrev pub vsock_header : Layout (Unit {0}) (Unit {0}) VsockResponseHeader
-vsock_header = plain (name.FamilyResponseHeader 40) 32 (
-    skip 0 (40 ∷ []) ∷
+vsock_header = plain (name.FamilyResponseHeader AF_VSOCK) 32 (
+    skip 0 (AF_VSOCK ∷ []) ∷
     u8 1 VsockResponseHeader.kind ∷
     u8 2 VsockResponseHeader.state ∷
     u8 3 VsockResponseHeader.shutdown ∷

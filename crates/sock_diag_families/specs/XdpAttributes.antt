@@ -1,17 +1,18 @@
--- The values of attributes of a reply about an XDP socket. Arguments of `fields`: the family AF_XDP
--- (44), the kind of the attribute, the length of the record in bytes, and its members. More bytes
--- may follow each record: newer kernels append members.
+-- The values of attributes of a reply about an XDP socket. Arguments of `fields`: the family, the
+-- kind of the attribute, the length of the record in bytes, and its members. More bytes may follow
+-- each record: newer kernels append members.
 use Rattle.std.specs.Prelude.{ℕ, List, Result}
 use Rattle.netlink_core.specs.declared.error.DecodeError.{DecodeError}
 use Rattle.sock_diag_families.specs.AttributeGetters.{fields, u32_at, u64_at}
+use Rattle.sock_diag_families.specs.declared.xdp.TheConstants.{AF_XDP, XDP_DIAG_INFO}
+use Rattle.sock_diag_families.specs.declared.xdp.TheConstants.{XDP_DIAG_STATS, XDP_DIAG_UMEM}
 use Rattle.sock_diag_families.specs.declared.xdp.attributes.XdpInfo.{XdpInfo}
 use Rattle.sock_diag_families.specs.declared.xdp.attributes.XdpStatistics.{XdpStatistics}
 use Rattle.sock_diag_families.specs.declared.xdp.attributes.XdpUmem.{XdpUmem}
 
--- `struct xdp_diag_info` (linux/xdp_diag.h), the value of `XDP_DIAG_INFO` (1): `ifindex`,
--- `queue_id`
+-- `struct xdp_diag_info` (linux/xdp_diag.h), the value of `XDP_DIAG_INFO`: `ifindex`, `queue_id`
 abbrev pub xdp_info : List ℕ → Result XdpInfo DecodeError
-xdp_info = fields 44 1 8 (λ bytes. record {
+xdp_info = fields AF_XDP XDP_DIAG_INFO 8 (λ bytes. record {
   interface = u32_at 0 bytes;
   queue = u32_at 4 bytes;
 })
@@ -31,9 +32,9 @@ xdp_umem_fields bytes = record {
   references = u32_at 36 bytes;
 }
 
--- the value of `XDP_DIAG_UMEM` (5), if it has at least 40 bytes
+-- the value of `XDP_DIAG_UMEM`, if it has at least 40 bytes
 abbrev pub xdp_umem : List ℕ → Result XdpUmem DecodeError
-xdp_umem = fields 44 5 40 xdp_umem_fields
+xdp_umem = fields AF_XDP XDP_DIAG_UMEM 40 xdp_umem_fields
 
 -- `struct xdp_diag_stats` (linux/xdp_diag.h), in at least 48 bytes: `n_rx_dropped`, `n_rx_invalid`,
 -- `n_rx_full`, `n_fill_ring_empty`, `n_tx_invalid`, `n_tx_ring_empty`
@@ -47,6 +48,6 @@ xdp_statistics_fields bytes = record {
   send_ring_empty = u64_at 40 bytes;
 }
 
--- the value of `XDP_DIAG_STATS` (9), if it has at least 48 bytes
+-- the value of `XDP_DIAG_STATS`, if it has at least 48 bytes
 abbrev pub xdp_statistics : List ℕ → Result XdpStatistics DecodeError
-xdp_statistics = fields 44 9 48 xdp_statistics_fields
+xdp_statistics = fields AF_XDP XDP_DIAG_STATS 48 xdp_statistics_fields

@@ -4,6 +4,7 @@ use Rattle.netlink_core.specs.Layout.{Layout, plain}
 use Rattle.netlink_core.specs.Rows.{skip, u8, u32, u64}
 use Rattle.netlink_core.specs.declared.error.RecordName.TheVariants as name
 use Rattle.sock_diag_families.specs.declared.xdp.response.XdpResponseHeader.{XdpResponseHeader}
+use Rattle.sock_diag_families.specs.declared.xdp.TheConstants.{AF_XDP}
 
 -- the header with these numbers in the fields that are not ignored, in the order of the rows below
 abbrev pub xdp_header_of : List ℕ → XdpResponseHeader
@@ -14,11 +15,11 @@ xdp_header_of values = record {
 }
 
 -- `struct xdp_diag_msg` (linux/xdp_diag.h): `xdiag_family` and `pad` are ignored, and serialized as
--- AF_XDP (44) and 0; `xdiag_type`, `xdiag_ino`, `xdiag_cookie`. Arguments of `plain`: the name in
+-- AF_XDP and 0; `xdiag_type`, `xdiag_ino`, `xdiag_cookie`. Arguments of `plain`: the name in
 -- errors, the length in bytes, the rows, their inverse, and the condition on arrays (none).
 abbrev pub xdp_header : Layout (Unit {0}) (Unit {0}) XdpResponseHeader
-xdp_header = plain (name.FamilyResponseHeader 44) 16 (
-    skip 0 (44 ∷ []) ∷
+xdp_header = plain (name.FamilyResponseHeader AF_XDP) 16 (
+    skip 0 (AF_XDP ∷ []) ∷
     u8 1 XdpResponseHeader.kind ∷
     skip 2 (0 ∷ 0 ∷ []) ∷
     u32 4 XdpResponseHeader.inode ∷

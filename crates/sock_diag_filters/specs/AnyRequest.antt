@@ -11,6 +11,13 @@ use Rattle.netlink_core.specs.declared.header.NetlinkHeader.{NetlinkHeader}
 use Rattle.sock_diag_records.specs.UnixRequest.{unix_request}
 use Rattle.sock_diag_families.specs.ShowRequest.{show_request}
 use Rattle.sock_diag_families.specs.VsockRequest.{vsock_request}
+use Rattle.sock_diag_records.specs.declared.constants.TheConstants.{AF_INET, AF_INET6}
+use Rattle.sock_diag_records.specs.declared.constants.TheConstants.{AF_NETLINK, AF_PACKET}
+use Rattle.sock_diag_records.specs.declared.constants.TheConstants.{AF_UNIX}
+use Rattle.sock_diag_records.specs.declared.constants.TheConstants.{SOCK_DESTROY}
+use Rattle.sock_diag_records.specs.declared.constants.TheConstants.{SOCK_DIAG_BY_FAMILY}
+use Rattle.sock_diag_families.specs.declared.vsock.TheConstants.{AF_VSOCK}
+use Rattle.sock_diag_families.specs.declared.xdp.TheConstants.{AF_XDP}
 use Rattle.sock_diag_filters.specs.declared.any.AnyRequestView.{AnyRequestView}
 use Rattle.sock_diag_filters.specs.declared.any.AnyRequestView.TheVariants as view
 use Rattle.sock_diag_filters.specs.declared.view.RequestView.{RequestView}
@@ -21,14 +28,13 @@ use Rattle.sock_diag_filters.specs.InetRequests.{message_payload}
 pub data RecordFamily : Type 0 where
   unix netlink packet vsock xdp : RecordFamily
 
--- The codec of each family's record. The argument of `show_request` is the family: 16 AF_NETLINK,
--- 17 AF_PACKET, 44 AF_XDP.
+-- The codec of each family's record. The argument of `show_request` is the family.
 abbrev pub record_request_codec : RecordFamily → ValueCodec (Unit {0})
 record_request_codec unix = value_codec unix_request
-record_request_codec netlink = value_codec (show_request 16)
-record_request_codec packet = value_codec (show_request 17)
+record_request_codec netlink = value_codec (show_request AF_NETLINK)
+record_request_codec packet = value_codec (show_request AF_PACKET)
 record_request_codec vsock = value_codec vsock_request
-record_request_codec xdp = value_codec (show_request 44)
+record_request_codec xdp = value_codec (show_request AF_XDP)
 
 -- The size of each family's record in bytes: of `struct unix_diag_req`, `netlink_diag_req`,
 -- `packet_diag_req`, `vsock_diag_req` and `xdp_diag_req`.
@@ -44,26 +50,26 @@ pub data RequestedFamily : Type 0 where
   inet : RequestedFamily
   of_record : RecordFamily → RequestedFamily
 
--- The family by the first byte of the payload: 2 AF_INET, 10 AF_INET6, 1 AF_UNIX, 16 AF_NETLINK, 17
--- AF_PACKET, 40 AF_VSOCK, 44 AF_XDP. Any other byte is UnknownFamily.
+-- The family by the first byte of the payload. Any byte other than these seven is UnknownFamily.
 abbrev pub family_by_byte : ℕ → Result RequestedFamily DecodeError
 family_by_byte first =
-    if (first == 2) || (first == 10) then Ok inet
-    else if first == 1 then Ok (of_record unix)
-    else if first == 16 then Ok (of_record netlink)
-    else if first == 17 then Ok (of_record packet)
-    else if first == 40 then Ok (of_record vsock)
-    else if first == 44 then Ok (of_record xdp)
+    if (first == AF_INET) || (first == AF_INET6) then Ok inet
+    else if first == AF_UNIX then Ok (of_record unix)
+    else if first == AF_NETLINK then Ok (of_record netlink)
+    else if first == AF_PACKET then Ok (of_record packet)
+    else if first == AF_VSOCK then Ok (of_record vsock)
+    else if first == AF_XDP then Ok (of_record xdp)
     else Err (UnknownFamily first)
 
 -- `family_of_request_payload payload t`: the family of the payload of a message of type `t`, or the
 -- first error of one that is not a request: fewer than 2 bytes are MessageTooShort; a type other
--- than 20 (SOCK_DIAG_BY_FAMILY) and 21 (SOCK_DESTROY) is UnknownMessageType; then UnknownFamily by
--- the first byte.
+-- than SOCK_DIAG_BY_FAMILY and SOCK_DESTROY is UnknownMessageType; then UnknownFamily by the first
+-- byte.
 abbrev pub family_of_request_payload : List ℕ → ℕ → Result RequestedFamily DecodeError
 family_of_request_payload payload t =
     if nat_lt (length payload) 2 then Err (MessageTooShort (length payload))
-    else if not ((t == 20) || (t == 21)) then Err (UnknownMessageType t)
+    else if not ((t == SOCK_DIAG_BY_FAMILY) || (t == SOCK_DESTROY))
+    then Err (UnknownMessageType t)
     else family_by_byte (slice_index payload 0)
 
 -- The family of a message with the netlink header `h`, or its error.

@@ -9,6 +9,8 @@ use Rattle.std.specs.Prelude.{◌≡◌, ◌≢◌, ℕ, ◌+◌, ◌-◌, ◌*�
 use Rattle.std.specs.Prelude.{List, [], ◌∷◌, length, drop, slice_index, slice_get, Option, Some}
 use Rattle.std.specs.Prelude.{None, option_map}
 use Rattle.byteorder.specs.Endian.{little_number}
+use Rattle.sock_diag_records.specs.declared.constants.TheConstants.{AF_INET, AF_INET6}
+use Rattle.sock_diag_records.specs.declared.constants.TheConstants.{AF_UNSPEC}
 
 -- `code` of the operation at the start: INET_DIAG_BC_..
 abbrev pub code_at : List ℕ → ℕ
@@ -24,13 +26,12 @@ yes_at left = slice_index left 1
 abbrev pub no_at : List ℕ → ℕ
 no_at left = little_number 2 (drop 2 left)
 
--- The length of an address in bytes by its family: 0 AF_UNSPEC, 2 AF_INET, 10 AF_INET6. `None` for
--- other families.
+-- The length of an address in bytes by its family. `None` for other families.
 abbrev pub address_length : ℕ → Option ℕ
 address_length family =
-    if family == 0 then Some 0
-    else if family == 2 then Some 4
-    else if family == 10 then Some 16
+    if family == AF_UNSPEC then Some 0
+    else if family == AF_INET then Some 4
+    else if family == AF_INET6 then Some 16
     else None
 
 -- The minimum length of the operation at the start in bytes (`min_len` in the kernel), or `None` if

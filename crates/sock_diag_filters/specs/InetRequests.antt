@@ -12,6 +12,10 @@ use Rattle.netlink_core.specs.declared.error.DecodeError.TheVariants.{UnknownMes
 use Rattle.netlink_core.specs.declared.header.NetlinkHeader.{NetlinkHeader}
 use Rattle.sock_diag_records.specs.InetRequest.{inet_request}
 use Rattle.sock_diag_records.specs.declared.inet.request.InetRequest.{InetRequest}
+use Rattle.sock_diag_records.specs.declared.constants.TheConstants.{SOCK_DESTROY}
+use Rattle.sock_diag_records.specs.declared.constants.TheConstants.{SOCK_DIAG_BY_FAMILY}
+use Rattle.sock_diag_records.specs.declared.inet.request.TheConstants.{INET_DIAG_REQ_BYTECODE}
+use Rattle.sock_diag_records.specs.declared.inet.request.TheConstants.{INET_DIAG_REQ_PROTOCOL}
 use Rattle.sock_diag_filters.specs.declared.request.RequestAttribute.{RequestAttribute}
 use Rattle.sock_diag_filters.specs.declared.request.RequestAttribute.TheVariants.{Program, Protocol}
 use Rattle.sock_diag_filters.specs.declared.view.Found.{Found}
@@ -23,14 +27,14 @@ pub data RequestContent : Type 0 where
   protocol_asked : ℕ → RequestContent
   nothing_asked : RequestContent
 
--- The content of an attribute, by its type without the two flag bits. Type 1
--- (INET_DIAG_REQ_BYTECODE) is a program: the bytes of the value. Type 3 (INET_DIAG_REQ_PROTOCOL) is
--- a protocol: a little-endian u32; a length other than 4 is WrongLength. Other types have no
--- content.
+-- The content of an attribute, by its type without the two flag bits. INET_DIAG_REQ_BYTECODE is a
+-- program: the bytes of the value. INET_DIAG_REQ_PROTOCOL is a protocol: a little-endian u32; a
+-- length other than 4 is WrongLength. Other types have no content.
 abbrev pub decode_request_attribute : Attribute → Result RequestContent DecodeError
 decode_request_attribute a =
-    if attribute_kind a == 1 then Ok (program_asked a.value)
-    else if attribute_kind a == 3 then map_ok protocol_asked (number_of_width None 4 a.value)
+    if attribute_kind a == INET_DIAG_REQ_BYTECODE then Ok (program_asked a.value)
+    else if attribute_kind a == INET_DIAG_REQ_PROTOCOL
+    then map_ok protocol_asked (number_of_width None 4 a.value)
     else Ok nothing_asked
 
 -- The content of a `RequestAttribute`.
@@ -62,16 +66,16 @@ pub record HasLastContents (found : Found) (decoded : List RequestContent) : Typ
 abbrev pub message_payload : List ℕ → NetlinkHeader → List ℕ
 message_payload message h = take (h.length - 16) (drop 16 message)
 
--- The message type is 20 (SOCK_DIAG_BY_FAMILY) or 21 (SOCK_DESTROY).
+-- The message type is SOCK_DIAG_BY_FAMILY or SOCK_DESTROY.
 abbrev pub IsRequestType : ℕ → Type 0
-IsRequestType t = (t ≡ 20) ⊎ (t ≡ 21)
+IsRequestType t = (t ≡ SOCK_DIAG_BY_FAMILY) ⊎ (t ≡ SOCK_DESTROY)
 
 -- `ParsesAsRequest message view`: the message at the start of the bytes parses as the view. Bytes
 -- after it are ignored.
 pub record ParsesAsRequest (message : List ℕ) (view : RequestView) : Type 0 where
   -- the message starts with the netlink header of the view
   pub framed : HasHeader message view.header
-  -- the message type is 20 or 21
+  -- the message type is SOCK_DIAG_BY_FAMILY or SOCK_DESTROY
   pub kind : IsRequestType view.header.message_type
   -- the payload starts with the record of the view, `struct inet_diag_req_v2` of 56 bytes
   pub asked : parse_record inet_request tt (message_payload message view.header) ≡ Ok view.request
@@ -93,7 +97,7 @@ pub record ParsesAsRequest (message : List ℕ) (view : RequestView) : Type 0 wh
 pub data IsRejectedRequest (message : List ℕ) (e : DecodeError) : Type 0 where
   -- the bytes do not start with a netlink message
   no_message : IsMessageError message e → IsRejectedRequest message e
-  -- the message type is neither 20 nor 21
+  -- the message type is neither SOCK_DIAG_BY_FAMILY nor SOCK_DESTROY
   other_type : (h : NetlinkHeader) → HasHeader message h → ¬ IsRequestType h.message_type
       → e ≡ UnknownMessageType h.message_type → IsRejectedRequest message e
   -- the payload does not start with a valid `struct inet_diag_req_v2`

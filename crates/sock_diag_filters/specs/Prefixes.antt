@@ -5,16 +5,17 @@ use Rattle.byteorder.specs.Endian.{big_bytes, little_bytes}
 use Rattle.std.specs.declared.net.ip_addr.IpAddr.{IpAddr}
 use Rattle.std.specs.declared.net.ip_addr.IpAddr.TheVariants.{V4, V6}
 use Rattle.netlink_core.specs.Table.{first_numbers}
+use Rattle.sock_diag_records.specs.declared.constants.TheConstants.{AF_INET, AF_INET6}
 
 -- The length of an address in bits.
 abbrev pub bits_of : IpAddr → ℕ
 bits_of (V4 ip) = 32
 bits_of (V6 ip) = 128
 
--- The family of an address: 2 AF_INET, 10 AF_INET6.
+-- The family of an address.
 abbrev pub family_of : IpAddr → ℕ
-family_of (V4 ip) = 2
-family_of (V6 ip) = 10
+family_of (V4 ip) = AF_INET
+family_of (V6 ip) = AF_INET6
 
 -- The octets of an address in network byte order: four, or two for each of eight segments.
 abbrev pub octets_of : IpAddr → List ℕ

@@ -8,14 +8,18 @@ use Rattle.netlink_core.specs.Layout.{record_bytes}
 use Rattle.netlink_core.specs.Header.{header_bytes}
 use Rattle.sock_diag_records.specs.InetRequest.{inet_request}
 use Rattle.sock_diag_records.specs.declared.inet.request.InetRequest.{InetRequest}
+use Rattle.sock_diag_records.specs.declared.inet.request.TheConstants.{INET_DIAG_REQ_BYTECODE}
+use Rattle.sock_diag_records.specs.declared.inet.request.TheConstants.{INET_DIAG_REQ_PROTOCOL}
 use Rattle.sock_diag_filters.specs.declared.request.RequestAttribute.{RequestAttribute}
 use Rattle.sock_diag_filters.specs.declared.request.RequestAttribute.TheVariants.{Program, Protocol}
 
--- The attribute of a request: type 1 (INET_DIAG_REQ_BYTECODE) with the bytes of a program, or type
--- 3 (INET_DIAG_REQ_PROTOCOL) with the protocol as a little-endian u32.
+-- The attribute of a request: INET_DIAG_REQ_BYTECODE with the bytes of a program, or
+-- INET_DIAG_REQ_PROTOCOL with the protocol as a little-endian u32.
 abbrev pub request_attribute : RequestAttribute → Attribute
-request_attribute (Program program) = record { type_word = 1; value = program.now }
-request_attribute (Protocol protocol) = record { type_word = 3; value = little_bytes 4 protocol }
+request_attribute (Program program) =
+    record { type_word = INET_DIAG_REQ_BYTECODE; value = program.now }
+request_attribute (Protocol protocol) =
+    record { type_word = INET_DIAG_REQ_PROTOCOL; value = little_bytes 4 protocol }
 
 -- The header with its length replaced by `len`.
 abbrev pub header_with_length : NetlinkHeader → ℕ → NetlinkHeader

@@ -5,6 +5,8 @@ use Rattle.std.specs.Prelude.{Option, Some, None}
 use Rattle.byteorder.specs.Endian.{big_number, little_number}
 use Rattle.std.specs.declared.net.ip_addr.IpAddr.{IpAddr}
 use Rattle.std.specs.declared.net.ip_addr.IpAddr.TheVariants.{V4, V6}
+use Rattle.sock_diag_records.specs.declared.constants.TheConstants.{AF_INET, AF_INET6}
+use Rattle.sock_diag_records.specs.declared.constants.TheConstants.{AF_UNSPEC}
 use Rattle.sock_diag_filters.specs.declared.condition.Comparison.{Comparison}
 use Rattle.sock_diag_filters.specs.declared.condition.Comparison.TheVariants.{AtLeast, AtMost}
 use Rattle.sock_diag_filters.specs.declared.condition.Comparison.TheVariants.{Equal}
@@ -22,7 +24,7 @@ use Rattle.sock_diag_filters.specs.Prefixes.{octets_of}
 
 -- A socket, as `struct inet_diag_entry` of the kernel's include/linux/inet_diag.h describes it.
 pub record Socket : Type 0 where
-  -- `family`: 2 for AF_INET, 10 for AF_INET6
+  -- `family`: AF_INET or AF_INET6
   pub family : ℕ
   -- `sport`, the local port, as a number
   pub source_port : ℕ
@@ -65,15 +67,16 @@ compared_port args = little_number 2 (drop 2 args)
 
 -- `kernel_matches_address family octets asked bits prefix`: the address `octets`, of the family
 -- `family`, matches a condition: it starts with the first `bits` bits of `prefix`. The condition's
--- family is `asked`. If it is 0 (AF_UNSPEC), it matches each family. If it is 2 (AF_INET), it also
--- matches an IPv4-mapped address of family 10 (AF_INET6) by its last four octets.
+-- family is `asked`. If it is AF_UNSPEC, it matches each family. If it is AF_INET, it also matches
+-- an IPv4-mapped address of family AF_INET6 by its last four octets.
 abbrev pub kernel_matches_address : ℕ → List ℕ → ℕ → ℕ → List ℕ → Bool
 kernel_matches_address family octets asked bits prefix =
-    if asked == 0 then bits == 0 || have_equal_prefix bits octets prefix
+    if asked == AF_UNSPEC then bits == 0 || have_equal_prefix bits octets prefix
     else if asked == family then bits == 0 || have_equal_prefix bits octets prefix
     else
-    asked == 2
-    && (family == 10 && (is_ipv4_mapped octets && have_equal_prefix bits (drop 12 octets) prefix))
+    asked == AF_INET
+    && (family == AF_INET6
+    && (is_ipv4_mapped octets && have_equal_prefix bits (drop 12 octets) prefix))
 
 -- `kernel_matches_host family port octets args`: a port and an address of the family `family` match
 -- the arguments of S_COND or D_COND, a `struct inet_diag_hostcond`: `family` at 0, `prefix_len` at
@@ -123,12 +126,13 @@ has_port (Some asked) port = asked == port
 -- four octets of an IPv4-mapped IPv6 address. Other pairs of families do not match.
 abbrev pub address_has_prefix : IpAddr → ℕ → ℕ → List ℕ → Bool
 address_has_prefix (V4 ip) bits family octets =
-    if 2 == family then bits == 0 || have_equal_prefix bits octets (octets_of (V4 ip))
+    if AF_INET == family then bits == 0 || have_equal_prefix bits octets (octets_of (V4 ip))
     else
-    family == 10
+    family == AF_INET6
     && (is_ipv4_mapped octets && have_equal_prefix bits (drop 12 octets) (octets_of (V4 ip)))
 address_has_prefix (V6 ip) bits family octets =
-    if 10 == family then bits == 0 || have_equal_prefix bits octets (octets_of (V6 ip)) else false
+    if AF_INET6 == family then bits == 0 || have_equal_prefix bits octets (octets_of (V6 ip))
+    else false
 
 -- The address `octets`, of the family `family`, has the prefix. True if there is no prefix.
 abbrev pub address_has_optional_prefix : Option Prefix → ℕ → List ℕ → Bool

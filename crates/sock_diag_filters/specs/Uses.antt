@@ -8,6 +8,7 @@ use Rattle.netlink_core.specs.Layout.{record_bytes}
 use Rattle.netlink_core.specs.declared.header.NetlinkHeader.{NetlinkHeader}
 use Rattle.sock_diag_records.specs.SocketId.{socket_id as identity}
 use Rattle.sock_diag_records.specs.declared.inet.request.InetRequest.{InetRequest}
+use Rattle.sock_diag_records.specs.declared.inet.request.TheConstants.{INET_DIAG_REQ_BYTECODE}
 use Rattle.sock_diag_records.specs.declared.inet.socket_id.SocketId.{SocketId}
 use Rattle.sock_diag_filters.specs.Prefixes.{family_of}
 
@@ -48,9 +49,9 @@ tcp_request_with states socket_id = record {
   socket_id = socket_id;
 }
 
--- An attribute INET_DIAG_REQ_BYTECODE (1) with a program.
+-- An attribute INET_DIAG_REQ_BYTECODE with a program.
 abbrev pub program_attribute : List ℕ → Attribute
-program_attribute program = record { type_word = 1; value = program }
+program_attribute program = record { type_word = INET_DIAG_REQ_BYTECODE; value = program }
 
 -- The bytes of the request to close a TCP socket. The netlink header: length 72, type 21
 -- (SOCK_DESTROY), flags 5 (NLM_F_REQUEST and NLM_F_ACK), the sequence number, and port 0. The

@@ -3,6 +3,8 @@ use Rattle.std.specs.Prelude.{ℕ, List, Option, option_map}
 use Rattle.netlink_core.specs.declared.header.NetlinkHeader.{NetlinkHeader}
 use Rattle.sock_diag_families.specs.declared.request.ShowRequest.{ShowRequest}
 use Rattle.sock_diag_families.specs.declared.vsock.request.VsockRequest.{VsockRequest}
+use Rattle.sock_diag_records.specs.declared.constants.TheConstants.{AF_NETLINK, AF_PACKET}
+use Rattle.sock_diag_families.specs.declared.xdp.TheConstants.{AF_XDP}
 use Rattle.sock_diag_records.specs.declared.inet.request.InetRequest.{InetRequest}
 use Rattle.sock_diag_records.specs.declared.unix.request.UnixRequest.{UnixRequest}
 use Rattle.sock_diag_filters.specs.declared.any.AnyRequestView.{AnyRequestView}
@@ -42,15 +44,14 @@ record_request_view_model v = record {
   attributes = v.attributes.now;
 }
 
--- The model of a request for sockets of any family. The argument of `ShowRequest` is the family: 16
--- AF_NETLINK, 17 AF_PACKET, 44 AF_XDP.
+-- The model of a request for sockets of any family. The argument of `ShowRequest` is the family.
 pub data AnyRequestModel : Type 0 where
   of_inet : InetRequestModel → AnyRequestModel
   of_unix : RecordRequestModel UnixRequest → AnyRequestModel
-  of_netlink : RecordRequestModel (ShowRequest 16) → AnyRequestModel
-  of_packet : RecordRequestModel (ShowRequest 17) → AnyRequestModel
+  of_netlink : RecordRequestModel (ShowRequest AF_NETLINK) → AnyRequestModel
+  of_packet : RecordRequestModel (ShowRequest AF_PACKET) → AnyRequestModel
   of_vsock : RecordRequestModel VsockRequest → AnyRequestModel
-  of_xdp : RecordRequestModel (ShowRequest 44) → AnyRequestModel
+  of_xdp : RecordRequestModel (ShowRequest AF_XDP) → AnyRequestModel
 
 -- The model of an `AnyRequestView`.
 abbrev pub any_request_view_model : AnyRequestView → AnyRequestModel

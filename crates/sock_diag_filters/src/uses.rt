@@ -41,14 +41,14 @@ pub fn listening_on(
     // operation, `port_bytes` are the arguments of a comparison with a port, and
     // `Runs found program verdict` is a run with these results.
     //
-    // `request_bytes header request attributes`: the bytes of the message. The header has the type
-    // 20 (SOCK_DIAG_BY_FAMILY), the flags NLM_F_REQUEST and NLM_F_DUMP, and the sequence number.
-    // The request has the state LISTEN (bit 10) and a socket id of zeros. The attribute is this
-    // program.
+    // `request_bytes header request attributes`: the bytes of the message. The header has the
+    // flags NLM_F_REQUEST and NLM_F_DUMP, and the sequence number. The request has the state LISTEN
+    // (bit 10) and a socket id of zeros. The attribute is this program.
     ensures asked { IfOk result (λ message. (program : List ℕ) × IsAudited program
         × ((found : ℕ → List ℕ → Bool)
         → Runs found program (found 2 (port_bytes first) && found 3 (port_bytes last)))
-        × (message.items ≡ request_bytes (example_request_header 20 0x301 sequence_number)
+        × (message.items
+        ≡ request_bytes (example_request_header SOCK_DIAG_BY_FAMILY 0x301 sequence_number)
         (tcp_request_with 0x400 zero_socket_id) (program_attribute program ∷ []))) }
     ensures fails { IfErr result (λ e. e ≡ Memory) }
 {
@@ -76,7 +76,7 @@ pub fn listening_on(
 /// cookie; the family of the request is that of `source_address`. The kernel requires
 /// `CAP_NET_ADMIN`.
 pub fn close_tcp(socket_id: SocketId, sequence_number: u32) -> [u8; REQUEST_FRONT]
-    ensures written { result ≡ request_bytes (example_request_header 21 5 sequence_number)
+    ensures written { result ≡ request_bytes (example_request_header SOCK_DESTROY 5 sequence_number)
         (tcp_request_with 0xffffffff socket_id) [] }
     ensures bytes { result ≡ close_request_bytes socket_id sequence_number }
 {
