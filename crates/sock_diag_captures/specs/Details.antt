@@ -43,6 +43,19 @@ use Rattle.sock_diag_attributes.specs.UnixAttributes.{unix_attribute_set}
 use Rattle.sock_diag_attributes.specs.UnixModel.{unix_variant}
 use Rattle.sock_diag_families.specs.PacketAttributes.{packet_info}
 use Rattle.sock_diag_families.specs.declared.packet.attributes.PacketInfo.{PacketInfo}
+use Rattle.sock_diag_records.specs.declared.constants.TheConstants.{INET_DIAG_BBRINFO}
+use Rattle.sock_diag_records.specs.declared.constants.TheConstants.{INET_DIAG_CONG}
+use Rattle.sock_diag_records.specs.declared.constants.TheConstants.{INET_DIAG_DCTCPINFO}
+use Rattle.sock_diag_records.specs.declared.constants.TheConstants.{INET_DIAG_INFO}
+use Rattle.sock_diag_records.specs.declared.constants.TheConstants.{INET_DIAG_MEMINFO}
+use Rattle.sock_diag_records.specs.declared.constants.TheConstants.{INET_DIAG_SKMEMINFO}
+use Rattle.sock_diag_records.specs.declared.constants.TheConstants.{INET_DIAG_VEGASINFO}
+use Rattle.sock_diag_records.specs.declared.constants.TheConstants.{UNIX_DIAG_MEMINFO}
+use Rattle.sock_diag_families.specs.declared.netlink.TheConstants.{NETLINK_DIAG_GROUPS}
+use Rattle.sock_diag_families.specs.declared.netlink.TheConstants.{NETLINK_DIAG_MEMINFO}
+use Rattle.sock_diag_families.specs.declared.packet.TheConstants.{PACKET_DIAG_INFO}
+use Rattle.sock_diag_families.specs.declared.packet.TheConstants.{PACKET_DIAG_MEMINFO}
+use Rattle.sock_diag_families.specs.declared.xdp.TheConstants.{XDP_DIAG_MEMINFO}
 use Rattle.sock_diag_captures.specs.Pieces.{AttributeOrError}
 use Rattle.sock_diag_captures.specs.declared.details.Format.{Format}
 use Rattle.sock_diag_captures.specs.declared.details.Format.TheVariants.{Always, Nonzero, Part}
@@ -204,13 +217,12 @@ unix_text a (unix_nla.MemInfo m) = memory_value_text a
 unix_text a (unix_nla.Shutdown n) = directions n
 unix_text a (unix_nla.Other other) = unknown_attribute_text a
 
--- The type of the attribute with the memory: NETLINK_DIAG_MEMINFO (0), PACKET_DIAG_MEMINFO (6) or
--- XDP_DIAG_MEMINFO (8). Vsock sockets have none.
+-- The type of the attribute with the memory. Vsock sockets have none.
 abbrev pub memory_kind : Family → Option ℕ
-memory_kind Netlink = Some 0
-memory_kind Packet = Some 6
+memory_kind Netlink = Some NETLINK_DIAG_MEMINFO
+memory_kind Packet = Some PACKET_DIAG_MEMINFO
 memory_kind Vsock = None
-memory_kind Xdp = Some 8
+memory_kind Xdp = Some XDP_DIAG_MEMINFO
 
 -- an attribute of this type has the memory of a socket of this family
 abbrev pub is_memory_kind : Family → ℕ → Bool
@@ -224,15 +236,15 @@ packet_text p =
     ++ packet_flags (p.flags % 256)
 
 -- The text of an attribute other than the memory of a netlink, packet, vsock or XDP socket. Only
--- NETLINK_DIAG_GROUPS (1), whose first four bytes are little-endian and have a bit for each of 32
--- groups, and PACKET_DIAG_INFO (0) are decoded. A value that is too short for them is shown as an
+-- NETLINK_DIAG_GROUPS, whose first four bytes are little-endian and have a bit for each of 32
+-- groups, and PACKET_DIAG_INFO are decoded. A value that is too short for them is shown as an
 -- unknown attribute.
 abbrev pub family_text : Family → Attribute → List ℕ
 family_text Netlink a =
-    if (attribute_kind a == 1) && nat_le 4 (length a.value)
+    if (attribute_kind a == NETLINK_DIAG_GROUPS) && nat_le 4 (length a.value)
     then hex_detail (codes "groups") (little_number 4 a.value) else unknown_attribute_text a
 family_text Packet a =
-    if attribute_kind a == 0
+    if attribute_kind a == PACKET_DIAG_INFO
     then option_map_or packet_text (result_ok (packet_info a.value)) (unknown_attribute_text a)
     else unknown_attribute_text a
 family_text _ a = unknown_attribute_text a
@@ -250,15 +262,14 @@ attribute_text o Inet a =
     text_or_reason (λ v. inet_text o a (inet_variant v)) a (decode_attribute inet_attribute_set a)
 attribute_text o (Other family) a = other_text family a
 
--- The group of details of an attribute, by the kind of sockets that the reply is about. Memory:
--- UNIX_DIAG_MEMINFO (5), INET_DIAG_MEMINFO (1), INET_DIAG_SKMEMINFO (7) and `memory_kind`.
--- Connection: INET_DIAG_INFO (2), INET_DIAG_VEGASINFO (3), INET_DIAG_CONG (4), INET_DIAG_DCTCPINFO
--- (9) and INET_DIAG_BBRINFO (16).
+-- The group of details of an attribute, by the kind of sockets that the reply is about and the type
+-- of the attribute.
 abbrev pub detail_group : Sockets → ℕ → Detail
-detail_group Unix kind = if kind == 5 then Memory else Extended
+detail_group Unix kind = if kind == UNIX_DIAG_MEMINFO then Memory else Extended
 detail_group Inet kind =
-    if (kind == 1) || (kind == 7) then Memory
-    else if (kind == 2) || (kind == 3) || (kind == 4) || (kind == 9) || (kind == 16)
+    if (kind == INET_DIAG_MEMINFO) || (kind == INET_DIAG_SKMEMINFO) then Memory
+    else if (kind == INET_DIAG_INFO) || (kind == INET_DIAG_VEGASINFO) || (kind == INET_DIAG_CONG)
+    || (kind == INET_DIAG_DCTCPINFO) || (kind == INET_DIAG_BBRINFO)
     then Connection else Extended
 detail_group (Other family) kind = if is_memory_kind family kind then Memory else Extended
 

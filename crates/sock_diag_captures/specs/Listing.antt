@@ -20,6 +20,7 @@ use Rattle.netlink_core.specs.declared.error.DecodeError.{DecodeError}
 use Rattle.netlink_core.specs.declared.error.DecodeError.TheVariants.{UnknownFamily}
 use Rattle.netlink_core.specs.declared.header.NetlinkHeader.{NetlinkHeader}
 use Rattle.netlink_core.specs.NetlinkMessage.{leading_error_number}
+use Rattle.netlink_core.specs.declared.message.TheConstants.{NLMSG_NOOP, NLMSG_OVERRUN}
 use Rattle.sock_diag_records.specs.InetResponse.{inet_response_header}
 use Rattle.sock_diag_records.specs.UnixResponseHeader.{unix_response_header}
 use Rattle.sock_diag_records.specs.ResponseKind.{MessageKind, inet_response, response_kind}
@@ -127,9 +128,9 @@ abbrev pub type_of : List ℕ → ℕ
 type_of message = little_number 2 (drop 4 message)
 
 -- `is_control t`: the type `t` is the one of a control message: NLMSG_NOOP (1), NLMSG_ERROR (2),
--- NLMSG_DONE (3) or NLMSG_OVERRUN (4)
+-- NLMSG_DONE (3) or NLMSG_OVERRUN (4), which are consecutive
 abbrev pub is_control : ℕ → Bool
-is_control t = nat_le 1 t && nat_le t 4
+is_control t = nat_le NLMSG_NOOP t && nat_le t NLMSG_OVERRUN
 
 -- `lines_by_type o protocol t payload`: the lines of a message with the type `t` and this payload.
 -- A control message has none. `protocol` is the protocol of the request.
@@ -165,12 +166,12 @@ errno_diagnostic n =
     if n == 0 then None else if n == 2 then Some NoEntry else if n == 22 then Some Invalid
     else Some (Answered n)
 
--- `control_diagnostic t payload`: the diagnostic of a control message: none for NLMSG_NOOP (1),
--- Lost for NLMSG_OVERRUN (4); for NLMSG_ERROR (2) and NLMSG_DONE (3) that of the error number in
--- the payload
+-- `control_diagnostic t payload`: the diagnostic of a control message: none for NLMSG_NOOP, Lost
+-- for NLMSG_OVERRUN; for NLMSG_ERROR and NLMSG_DONE that of the error number in the payload
 abbrev pub control_diagnostic : ℕ → List ℕ → Option Diagnostic
 control_diagnostic t payload =
-    if t == 1 then None else if t == 4 then Some Lost else errno_diagnostic (errno_in payload)
+    if t == NLMSG_NOOP then None else if t == NLMSG_OVERRUN then Some Lost
+    else errno_diagnostic (errno_in payload)
 
 -- `diagnostic_by_type t payload`: the diagnostic of a message with the type `t` and this payload,
 -- except for Interrupted: that of a control message, or the decode error of any other message

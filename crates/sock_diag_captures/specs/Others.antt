@@ -14,6 +14,10 @@ use Rattle.sock_diag_families.specs.declared.netlink.response.NetlinkResponseHea
 use Rattle.sock_diag_families.specs.declared.packet.response.PacketResponseHeader.{PacketResponseHeader}
 use Rattle.sock_diag_families.specs.declared.vsock.response.VsockResponseHeader.{VsockResponseHeader}
 use Rattle.sock_diag_families.specs.declared.xdp.response.XdpResponseHeader.{XdpResponseHeader}
+use Rattle.sock_diag_records.specs.declared.constants.TheConstants.{AF_NETLINK, AF_PACKET}
+use Rattle.sock_diag_families.specs.declared.packet.TheConstants.{PACKET_DIAG_INFO, PACKET_DIAG_UID}
+use Rattle.sock_diag_families.specs.declared.vsock.TheConstants.{AF_VSOCK}
+use Rattle.sock_diag_families.specs.declared.xdp.TheConstants.{AF_XDP, XDP_DIAG_INFO, XDP_DIAG_UID}
 use Rattle.sock_diag_captures.specs.Details.{details, memory_kind}
 use Rattle.sock_diag_captures.specs.Pieces.{AttributeOrError, first_of_kind}
 use Rattle.sock_diag_captures.specs.declared.details.Sockets.TheVariants.{Other}
@@ -21,12 +25,11 @@ use Rattle.sock_diag_captures.specs.declared.others.OtherSocket.{OtherSocket}
 
 -- ---- families
 
--- `family_numbered n`: the family with the number `n`: AF_NETLINK (16), AF_PACKET (17), AF_VSOCK
--- (40) or AF_XDP (44); None for any other number
+-- `family_numbered n`: the family with the number `n`; None for any number other than these four
 abbrev pub family_numbered : ℕ → Option Family
 family_numbered n =
-    if n == 16 then Some Netlink else if n == 17 then Some Packet
-    else if n == 40 then Some Vsock else if n == 44 then Some Xdp else None
+    if n == AF_NETLINK then Some Netlink else if n == AF_PACKET then Some Packet
+    else if n == AF_VSOCK then Some Vsock else if n == AF_XDP then Some Xdp else None
 
 -- ---- values of attributes
 
@@ -55,11 +58,11 @@ abbrev pub interface_number : ℕ → List AttributeOrError → Option ℕ
 interface_number kind given = option_and_then (none_if_equal 0)
     (u32_of_first_attribute (Some kind) 0 given)
 
--- `user_kind family`: the type of the attribute with the user id of the owner: PACKET_DIAG_UID (5)
--- or XDP_DIAG_UID (2); None for a family without one
+-- `user_kind family`: the type of the attribute with the user id of the owner; None for a family
+-- without one
 abbrev pub user_kind : Family → Option ℕ
-user_kind Packet = Some 5
-user_kind Xdp = Some 2
+user_kind Packet = Some PACKET_DIAG_UID
+user_kind Xdp = Some XDP_DIAG_UID
 user_kind _ = None
 
 -- ---- sockets of each family
@@ -77,8 +80,8 @@ netlink_socket h given = record {
   peer = if h.state == 1 then Some (Some h.destination_group, Some h.destination_port) else None;
 }
 
--- A packet socket. Local: protocol, and interface number at 0 of the attribute PACKET_DIAG_INFO
--- (0). The column State has UNCONN (7).
+-- A packet socket. Local: protocol, and interface number at 0 of the attribute PACKET_DIAG_INFO.
+-- The column State has UNCONN (7).
 abbrev pub packet_socket : PacketResponseHeader → List AttributeOrError → OtherSocket
 packet_socket h given = record {
   family = Packet;
@@ -86,7 +89,7 @@ packet_socket h given = record {
   state = 7;
   inode = h.inode;
   cookie = h.cookie;
-  local = (Some h.protocol, interface_number 0 given);
+  local = (Some h.protocol, interface_number PACKET_DIAG_INFO given);
   peer = None;
 }
 
@@ -106,7 +109,7 @@ vsock_socket h given = record {
   );
 }
 
--- An XDP socket. Local: interface number at 0 and queue at 4 of the attribute XDP_DIAG_INFO (1).
+-- An XDP socket. Local: interface number at 0 and queue at 4 of the attribute XDP_DIAG_INFO.
 -- The column State has UNCONN (7).
 abbrev pub xdp_socket : XdpResponseHeader → List AttributeOrError → OtherSocket
 xdp_socket h given = record {
@@ -115,7 +118,10 @@ xdp_socket h given = record {
   state = 7;
   inode = h.inode;
   cookie = h.cookie;
-  local = (interface_number 1 given, u32_of_first_attribute (Some 1) 4 given);
+  local = (
+    interface_number XDP_DIAG_INFO given,
+    u32_of_first_attribute (Some XDP_DIAG_INFO) 4 given,
+  );
   peer = None;
 }
 

@@ -9,28 +9,29 @@ use Rattle.sock_diag_captures.specs.declared.options.Family.{Family}
 use Rattle.sock_diag_captures.specs.declared.options.Family.TheVariants.{Netlink, Packet, Vsock}
 use Rattle.sock_diag_captures.specs.declared.options.Family.TheVariants.{Xdp}
 use Rattle.sock_diag_captures.specs.declared.options.Options.{Options}
+use Rattle.sock_diag_records.specs.declared.constants.TheConstants.{AF_UNIX, SOCK_DIAG_BY_FAMILY}
 use Rattle.sock_diag_captures.specs.Requests.{inet_request_in_datagram}
 use Rattle.sock_diag_captures.specs.Table.{inet_kind}
 use Rattle.sock_diag_captures.specs.Others.{family_numbered}
 use Rattle.sock_diag_captures.specs.declared.requests.Query.{Query}
 
 -- `requested_unix_states b`: the requested states of UNIX sockets, a bit for each, if the datagram
--- `b` begins with such a request: it has at least 40 bytes, a netlink header with `nlmsg_type` 20
--- (SOCK_DIAG_BY_FAMILY) at 4, and a `struct unix_diag_req` of 24 bytes, with the family 1 (AF_UNIX)
--- at 16 and `udiag_states` at 20. None for any other datagram. The other fields are not considered.
+-- `b` begins with such a request: it has at least 40 bytes, a netlink header with `nlmsg_type` at
+-- 4, and a `struct unix_diag_req` of 24 bytes, with the family at 16 and `udiag_states` at 20. None
+-- for any other datagram. The other fields are not considered.
 abbrev pub requested_unix_states : List ℕ → Option ℕ
 requested_unix_states b =
-    if nat_lt (length b) 40 || not (little_number 2 (drop 4 b) == 20)
-    || not (slice_index b 16 == 1)
+    if nat_lt (length b) 40 || not (little_number 2 (drop 4 b) == SOCK_DIAG_BY_FAMILY)
+    || not (slice_index b 16 == AF_UNIX)
     then None else Some (little_number 4 (drop 20 b))
 
 -- `requested_family b`: the netlink, packet, vsock or XDP family, if the datagram `b` begins with a
--- request for its sockets: it has at least 17 bytes, `nlmsg_type` at 4 is 20 (SOCK_DIAG_BY_FAMILY),
--- and the family (`sdiag_family`) is at 16. None for any other datagram. The other fields are not
+-- request for its sockets: it has at least 17 bytes, `nlmsg_type` at 4 is SOCK_DIAG_BY_FAMILY, and
+-- the family (`sdiag_family`) is at 16. None for any other datagram. The other fields are not
 -- considered.
 abbrev pub requested_family : List ℕ → Option Family
 requested_family b =
-    if nat_lt (length b) 17 || not (little_number 2 (drop 4 b) == 20) then None
+    if nat_lt (length b) 17 || not (little_number 2 (drop 4 b) == SOCK_DIAG_BY_FAMILY) then None
     else family_numbered (slice_index b 16)
 
 -- the name of a requested family

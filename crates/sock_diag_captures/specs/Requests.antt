@@ -4,6 +4,9 @@ use Rattle.std.specs.Prelude.{ℕ, ◌==◌, ◌||◌, not, nat_lt, if◌then◌
 use Rattle.std.specs.Prelude.{length, bit_and, slice_index, ◌&&◌, Option, None, Some}
 use Rattle.byteorder.specs.Endian.{little_number}
 use Rattle.netlink_core.specs.Attribute.{Attribute}
+use Rattle.sock_diag_records.specs.declared.constants.TheConstants.{AF_INET, AF_INET6}
+use Rattle.sock_diag_records.specs.declared.constants.TheConstants.{SOCK_DIAG_BY_FAMILY}
+use Rattle.sock_diag_records.specs.declared.inet.request.TheConstants.{INET_DIAG_REQ_PROTOCOL}
 use Rattle.sock_diag_captures.specs.Pieces.{first_of_kind, attributes_or_error}
 use Rattle.sock_diag_captures.specs.declared.requests.Query.{Query}
 
@@ -16,27 +19,27 @@ protocol_by byte (Some a) = if length a.value == 4 then little_number 4 a.value 
 
 -- `inet_request_fields r`: the fields of a request in the message `r` of at least 72 bytes:
 -- `nlmsg_seq` at 8, `nlmsg_pid` at 12, `sdiag_family` at 16, `sdiag_protocol` at 17, `idiag_states`
--- at 20, and attributes from 72 on, of which type 3 is INET_DIAG_REQ_PROTOCOL. Numbers are
--- little-endian.
+-- at 20, and attributes from 72 on. Numbers are little-endian.
 abbrev pub inet_request_fields : List ℕ → Query
 inet_request_fields r = record {
   sequence_number = little_number 4 (drop 8 r);
   port_number = little_number 4 (drop 12 r);
-  protocol = protocol_by (slice_index r 17) (first_of_kind 3 (attributes_or_error 0 (drop 72 r)));
+  protocol = protocol_by (slice_index r 17)
+      (first_of_kind INET_DIAG_REQ_PROTOCOL (attributes_or_error 0 (drop 72 r)));
   family = slice_index r 16;
   states = little_number 4 (drop 20 r);
 }
 
 -- `inet_request_in_message r`: the request in the message `r` of at least 72 bytes, if it is one
--- for IPv4 or IPv6 sockets: `nlmsg_type` at 4 is 20 (SOCK_DIAG_BY_FAMILY), `nlmsg_flags` at 6 have
--- bit 0 (NLM_F_REQUEST, 1), and the family at 16 is 2 (AF_INET) or 10 (AF_INET6). None for any
--- other message.
+-- for IPv4 or IPv6 sockets: `nlmsg_type` at 4 is SOCK_DIAG_BY_FAMILY, `nlmsg_flags` at 6 have bit 0
+-- (NLM_F_REQUEST, 1), and the family at 16 is AF_INET or AF_INET6. None for any other message.
 abbrev pub inet_request_in_message : List ℕ → Option Query
 inet_request_in_message r =
-    if not (little_number 2 (drop 4 r) == 20) || (bit_and (little_number 2 (drop 6 r)) 1 == 0)
+    if not (little_number 2 (drop 4 r) == SOCK_DIAG_BY_FAMILY)
+    || (bit_and (little_number 2 (drop 6 r)) 1 == 0)
     then None
-    else if (slice_index r 16 == 2) || (slice_index r 16 == 10) then Some (inet_request_fields r)
-    else None
+    else if (slice_index r 16 == AF_INET) || (slice_index r 16 == AF_INET6)
+    then Some (inet_request_fields r) else None
 
 -- `inet_request_in_datagram b`: the request in the first message of the datagram `b`, or None.
 -- `nlmsg_len` at 0 must be at least 72, and at most the length of the datagram.

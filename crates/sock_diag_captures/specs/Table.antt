@@ -10,6 +10,8 @@ use Rattle.sock_diag_captures.specs.declared.parts.TimerFields.{TimerFields}
 use Rattle.sock_diag_captures.specs.declared.options.Options.{Options}
 use Rattle.sock_diag_records.specs.declared.inet.response.InetResponseHeader.{InetResponseHeader}
 use Rattle.sock_diag_records.specs.declared.unix.response.UnixResponseHeader.{UnixResponseHeader}
+use Rattle.sock_diag_records.specs.declared.constants.TheConstants.{AF_INET6, UNIX_DIAG_NAME}
+use Rattle.sock_diag_records.specs.declared.constants.TheConstants.{UNIX_DIAG_PEER, UNIX_DIAG_RQLEN}
 use Rattle.sock_diag_attributes.specs.declared.unix.name.SocketName.{SocketName}
 use Rattle.sock_diag_attributes.specs.declared.unix.name.SocketName.TheVariants.{Abstract, Pathname}
 use Rattle.sock_diag_attributes.specs.UnixAttributes.{unix_attribute_set}
@@ -57,9 +59,9 @@ name_of_cell cell =
 
 -- ---- IPv4 and IPv6 sockets
 
--- the name of a family: `inet6` for 10 (AF_INET6), or else `inet`
+-- the name of a family: `inet6` for AF_INET6, or else `inet`
 abbrev pub family_name : ℕ → List ℕ
-family_name family = if family == 10 then codes "inet6" else codes "inet"
+family_name family = if family == AF_INET6 then codes "inet6" else codes "inet"
 
 -- `inet_kind protocol family`: the column Netid of an IPv4 or IPv6 socket: the name of the protocol
 -- by its number IPPROTO_.., as ss(8) prints it. If the protocol is not known (None) or has no name
@@ -75,12 +77,12 @@ inet_kind (Some protocol) family =
 -- ---- lines
 
 -- `unix_line o h given`: the columns of a UNIX socket, whose header is `h`. The name is in the
--- attribute UNIX_DIAG_NAME (0), the inode of the peer in UNIX_DIAG_PEER (2), and the lengths of the
--- queues in UNIX_DIAG_RQLEN (4): first the receive queue, then the send queue. The first attribute
--- of each type counts.
+-- attribute UNIX_DIAG_NAME, the inode of the peer in UNIX_DIAG_PEER, and the lengths of the queues
+-- in UNIX_DIAG_RQLEN: first the receive queue, then the send queue. The first attribute of each
+-- type counts.
 abbrev pub unix_line : Options → UnixResponseHeader → List AttributeOrError → List ℕ
 unix_line o h given =
-    let queues = first_content unix_attribute_set 4 given in
+    let queues = first_content unix_attribute_set UNIX_DIAG_RQLEN given in
     table_line (record {
       kind = unix_kind h.kind;
       state = h.state;
@@ -88,8 +90,8 @@ unix_line o h given =
       send_queue = option_map (λ ns. ns.1) queues;
       inode = h.inode;
       uid = None;
-    }) (name_cell o.utf8 (first_content unix_attribute_set 0 given))
-    (peer_cell (first_content unix_attribute_set 2 given))
+    }) (name_cell o.utf8 (first_content unix_attribute_set UNIX_DIAG_NAME given))
+    (peer_cell (first_content unix_attribute_set UNIX_DIAG_PEER given))
 
 -- `inet_line protocol h`: the columns of an IPv4 or IPv6 socket, whose header is `h`. `protocol` is
 -- the protocol of the request. The interface number is shown after the local address only, so that

@@ -158,7 +158,8 @@ fn unix_cells(header: &UnixResponseHeader, queues: Option<(u32, u32)>) -> Cells
 /// Returns the name of a UNIX socket, if the first `UNIX_DIAG_NAME` attribute is valid.
 fn name_in<'a>(attributes: &'a [u8]) -> Option<NameView<'a>>
     ensures { option_map (socket_name_model (λ b. b.now)) result
-        ≡ first_content unix_attribute_set 0 (attributes_or_error 0 attributes.entry.now) }
+        ≡ first_content unix_attribute_set UNIX_DIAG_NAME
+        (attributes_or_error 0 attributes.entry.now) }
 {
     match find_kind(attributes, UNIX_DIAG_NAME) {
         Some(nla) => match NlaView::parse(&nla) {
@@ -171,7 +172,8 @@ fn name_in<'a>(attributes: &'a [u8]) -> Option<NameView<'a>>
 
 /// Returns the inode of the peer, if the first `UNIX_DIAG_PEER` attribute is valid.
 fn peer_in(attributes: &[u8]) -> Option<u32>
-    ensures { result ≡ first_content unix_attribute_set 2 (attributes_or_error 0 attributes.now) }
+    ensures { result
+        ≡ first_content unix_attribute_set UNIX_DIAG_PEER (attributes_or_error 0 attributes.now) }
 {
     match find_kind(attributes, UNIX_DIAG_PEER) {
         Some(nla) => match NlaView::parse(&nla) {
@@ -184,7 +186,8 @@ fn peer_in(attributes: &[u8]) -> Option<u32>
 
 /// Returns the lengths of the two queues, if the first `UNIX_DIAG_RQLEN` attribute is valid.
 fn queues_in(attributes: &[u8]) -> Option<(u32, u32)>
-    ensures { result ≡ first_content unix_attribute_set 4 (attributes_or_error 0 attributes.now) }
+    ensures { result
+        ≡ first_content unix_attribute_set UNIX_DIAG_RQLEN (attributes_or_error 0 attributes.now) }
 {
     match find_kind(attributes, UNIX_DIAG_RQLEN) {
         Some(nla) => match NlaView::parse(&nla) {

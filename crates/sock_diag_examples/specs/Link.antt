@@ -11,6 +11,7 @@ use Rattle.netlink_core.specs.Attribute.{HasAttributePrefix, attribute_kind}
 use Rattle.netlink_core.specs.Parse.{number_of_width, parse_text}
 use Rattle.sock_diag_examples.specs.declared.link.LinkError.{LinkError}
 use Rattle.sock_diag_examples.specs.declared.link.LinkError.TheVariants as errors
+use Rattle.sock_diag_examples.specs.declared.link.TheConstants.{IFLA_IFNAME, IFLA_MTU}
 
 -- what an attribute of a message about an interface decodes to: the bytes of the interface's name,
 -- its MTU, or nothing that is used
@@ -25,15 +26,14 @@ abbrev pub map_decoded : {A : Type 0} → (A → LinkAttribute) → Result A Dec
 map_decoded made (Ok x) = Ok (made x)
 map_decoded made (Err e) = Err e
 
--- `decodes_link a`: what the attribute `a` decodes to, by its type. IFLA_IFNAME (3) is a UTF-8
--- text, without one terminating NUL if it has one. IFLA_MTU (4) is a little-endian `__u32`; any
--- length other than four bytes is WrongLength, without an attribute type (`None`). Any other type
--- is not used.
+-- `decodes_link a`: what the attribute `a` decodes to, by its type. IFLA_IFNAME is a UTF-8 text,
+-- without one terminating NUL if it has one. IFLA_MTU is a little-endian `__u32`; any length other
+-- than four bytes is WrongLength, without an attribute type (`None`). Any other type is not used.
 abbrev pub decodes_link : Attribute → Result LinkAttribute DecodeError
 decodes_link a =
-    if attribute_kind a == 3 then map_decoded name_attribute (parse_text a.value)
-    else if attribute_kind a == 4 then map_decoded mtu_attribute (number_of_width None 4 a.value)
-    else Ok other_attribute
+    if attribute_kind a == IFLA_IFNAME then map_decoded name_attribute (parse_text a.value)
+    else if attribute_kind a == IFLA_MTU
+    then map_decoded mtu_attribute (number_of_width None 4 a.value) else Ok other_attribute
 
 -- `name_in decoded`: the name, if the attribute decodes to one
 abbrev pub name_in : LinkAttribute → Option (List ℕ)

@@ -12,6 +12,7 @@ use Rattle.netlink_core.specs.NetlinkMessage.{payload_type}
 use Rattle.netlink_core.specs.Layout.{parse_record}
 use Rattle.sock_diag_records.specs.declared.unix.request.UnixRequest.{UnixRequest}
 use Rattle.sock_diag_records.specs.UnixRequest.{unix_request}
+use Rattle.sock_diag_records.specs.declared.constants.TheConstants.{SOCK_DIAG_BY_FAMILY}
 use Rattle.netlink_core.specs.Response.{ReplyValue, response_bytes, response_codec}
 use Rattle.netlink_packet_sock_diag.specs.declared.dump.DumpState.TheVariants.{Done}
 use Rattle.netlink_core.specs.Items.{IsItemOf}
@@ -26,14 +27,14 @@ use Rattle.sock_diag_examples.specs.declared.test_kernel.AnswerError.TheVariants
 use Rattle.sock_diag_examples.specs.declared.test_kernel.AnswerError.TheVariants.{Memory}
 
 -- `numbered_message_bytes sequence_number payload`: the bytes of the netlink message with this
--- payload and sequence number. Its length and its type are those of the payload (20,
--- SOCK_DIAG_BY_FAMILY, for an inner message), its flags are 2 (NLM_F_MULTI: one of several
+-- payload and sequence number. Its length and its type are those of the payload
+-- (SOCK_DIAG_BY_FAMILY for an inner message), its flags are 2 (NLM_F_MULTI: one of several
 -- messages), and its port id is 0.
 unfoldable pub numbered_message_bytes : ℕ → Payload Message → List ℕ
 numbered_message_bytes sequence_number payload = netlink_message_codec.serialized (record {
   header = record {
     length = 16 + length (payload_bytes message_codec.serialized payload);
-    message_type = payload_type (λ _. 20) payload;
+    message_type = payload_type (λ _. SOCK_DIAG_BY_FAMILY) payload;
     flags = 2;
     sequence_number = sequence_number;
     port_number = 0;
@@ -52,8 +53,8 @@ abbrev pub done_message_bytes : ℕ → List ℕ
 done_message_bytes sequence_number =
     numbered_message_bytes sequence_number (netlink.Done (0 ∷ 0 ∷ 0 ∷ 0 ∷ []))
 
--- `IsAnswer request replies datagram`: the request starts with a netlink message of type 20
--- (SOCK_DIAG_BY_FAMILY), whose payload parses as a request for UNIX sockets. The datagram is the
+-- `IsAnswer request replies datagram`: the request starts with a netlink message of type
+-- SOCK_DIAG_BY_FAMILY, whose payload parses as a request for UNIX sockets. The datagram is the
 -- messages of the replies, in order, and then NLMSG_DONE, all with the sequence number of the
 -- request.
 pub record IsAnswer (request : List ℕ) (replies : List (ReplyValue unix_response_spec))
@@ -63,7 +64,7 @@ pub record IsAnswer (request : List ℕ) (replies : List (ReplyValue unix_respon
   -- the request for UNIX sockets; it does not select among the replies
   pub asked : UnixRequest
   pub framed : HasHeader request header
-  pub kind : header.message_type ≡ 20
+  pub kind : header.message_type ≡ SOCK_DIAG_BY_FAMILY
   -- the payload, as long as the header's length field says, parses as this request
   pub asks : parse_record unix_request tt (take (header.length - 16) (drop 16 request)) ≡ Ok asked
   -- one message for each reply, then the end
@@ -71,13 +72,13 @@ pub record IsAnswer (request : List ℕ) (replies : List (ReplyValue unix_respon
       ++ done_message_bytes header.sequence_number
 
 -- `RejectsUnixRequest request e`: the request is rejected with the error `e`: its bytes do not
--- start with a netlink message; or the message has another type than 20; or its payload, the bytes
--- from offset 16 to its length, is rejected as a request for UNIX sockets.
+-- start with a netlink message; or the message has another type than SOCK_DIAG_BY_FAMILY; or its
+-- payload, the bytes from offset 16 to its length, is rejected as a request for UNIX sockets.
 pub data RejectsUnixRequest (request : List ℕ) (e : DecodeError) : Type 0 where
   no_message : IsMessageError request e → RejectsUnixRequest request e
-  other_type : (h : NetlinkHeader) → HasHeader request h → h.message_type ≢ 20
+  other_type : (h : NetlinkHeader) → HasHeader request h → h.message_type ≢ SOCK_DIAG_BY_FAMILY
       → e ≡ UnknownMessageType h.message_type → RejectsUnixRequest request e
-  no_request : (h : NetlinkHeader) → HasHeader request h → h.message_type ≡ 20
+  no_request : (h : NetlinkHeader) → HasHeader request h → h.message_type ≡ SOCK_DIAG_BY_FAMILY
       → parse_record unix_request tt (take (h.length - 16) (drop 16 request)) ≡ Err e
       → RejectsUnixRequest request e
 
@@ -99,11 +100,12 @@ IsErrorFor reason (Request e) = ⊥
 IsErrorFor reason Unwritable = reason
 IsErrorFor reason Memory = ⊤
 
--- `IsUnixRequestMessage request`: the request starts with a netlink message of type 20 whose
--- payload, the bytes from offset 16 to its length, parses as a request for UNIX sockets
+-- `IsUnixRequestMessage request`: the request starts with a netlink message of type
+-- SOCK_DIAG_BY_FAMILY whose payload, the bytes from offset 16 to its length, parses as a request
+-- for UNIX sockets
 abbrev pub IsUnixRequestMessage : List ℕ → Type 0
 IsUnixRequestMessage request = (h : NetlinkHeader) × (asked : UnixRequest)
-    × HasHeader request h × (h.message_type ≡ 20)
+    × HasHeader request h × (h.message_type ≡ SOCK_DIAG_BY_FAMILY)
     × (parse_record unix_request tt (take (h.length - 16) (drop 16 request)) ≡ Ok asked)
 
 -- `AnswerFails request replies e`: why there is no answer, by the error:

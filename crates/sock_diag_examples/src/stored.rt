@@ -10,7 +10,7 @@ use netlink_packet_sock_diag::constants::SOCK_DIAG_BY_FAMILY;
 use std::alloc::Global;
 
 /// Returns the key under which a reply is stored: its canonical form. The reply is the payload of a
-/// netlink message of type 20.
+/// netlink message of type `SOCK_DIAG_BY_FAMILY`.
 ///
 /// Two replies with keys have the same key if and only if they are equivalent: they differ
 /// only in ignored bits and bytes, such as padding, undefined flag bits and bytes that no parser
@@ -21,7 +21,7 @@ use std::alloc::Global;
 pub fn key(alloc: Global, reply: &[u8]) -> Result<Vec<u8>, CanonError>
     ensures key { IfOk result (λ key. IsKey reply.now key.items) }
     ensures equal_bytes { IfOk result (λ key. (other theirs : List ℕ) → IsKey other theirs
-        → ((key.items ≡ theirs) ↔ message_codec.equivalent 20 reply.now other)) }
+        → ((key.items ≡ theirs) ↔ message_codec.equivalent SOCK_DIAG_BY_FAMILY reply.now other)) }
     ensures err { IfErr result (KeyFails reply.now) }
 {
     canonical::<SockDiagMessage>(alloc, reply, SOCK_DIAG_BY_FAMILY)
@@ -32,7 +32,7 @@ pub fn key(alloc: Global, reply: &[u8]) -> Result<Vec<u8>, CanonError>
 /// key. An error is the one of [`key`].
 pub fn same_reply(alloc: Global, one: &[u8], other: &[u8]) -> Result<bool, CanonError>
     ensures value { IfOk result (λ same. IsTrue same
-        ↔ message_codec.equivalent 20 one.now other.now) }
+        ↔ message_codec.equivalent SOCK_DIAG_BY_FAMILY one.now other.now) }
     ensures keys { OnOk result (HasKey one.now × HasKey other.now) }
     ensures err { IfErr result
         (λ e. KeyFails one.now e ⊎ (HasKey one.now × KeyFails other.now e)) }
