@@ -23,7 +23,7 @@ attributes_after zero (byte ∷ bytes) = let word = little_number 2 (byte ∷ by
     record { type_word = little_number 2 (drop 1 bytes); value = take (word - 4) (drop 3 bytes) }
     ∷ attributes_after (word + padding_length word - 1) bytes
 
--- HasNoAttributeError reads bytes: the bytes have no error, neither in their framing nor in a
+-- HasNoAttributeError parses bytes: the bytes have no error, neither in their framing nor in a
 -- value; `parses` decodes an attribute, or returns the error of its value. The member `none` says
 -- this of each error `e`.
 pub record HasNoAttributeError {A : Type 0} (parses : Attribute
@@ -31,7 +31,7 @@ pub record HasNoAttributeError {A : Type 0} (parses : Attribute
     : Type 0 where
   pub none : (e : DecodeError) → HasAttributeError parses bytes e → ⊥
 
--- decoded_in reads bytes: what the attributes in the bytes decode to by `parses`, in order;
+-- decoded_in parses bytes: what the attributes in the bytes decode to by `parses`, in order;
 -- attributes that are rejected are skipped
 abbrev pub decoded_in : {A : Type 0} → (Attribute → Result A DecodeError) → List ℕ → List A
 decoded_in parses bytes = filter_map (λ a. result_ok (parses a)) (attributes_after 0 bytes)

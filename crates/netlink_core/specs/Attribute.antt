@@ -93,20 +93,20 @@ SplitsUntilError faulty bytes given e =
 -- `Err` of the error that rejects it. Elsewhere it is the first argument of each definition below,
 -- most often `decode_attribute set`.
 module _ {A : Type 0} (parses : Attribute → Result A DecodeError) where
-  -- DecodeTo reads bytes values: the bytes are split into attributes without any bytes left, and
+  -- DecodeTo parses bytes values: the bytes are split into attributes without any bytes left, and
   -- these parse as the values, in order, one value for each attribute
   abbrev pub DecodeTo : List ℕ → List A → Type 0
   DecodeTo bytes values = (attributes : List Attribute) × SplitsIntoAttributes bytes attributes []
       × AllZip (λ a value. parses a ≡ Ok value) attributes values
 
-  -- IsFirstAttributeError reads b e: `e` is the first error at the start of the bytes `b`. Either
+  -- IsFirstAttributeError parses b e: `e` is the first error at the start of the bytes `b`. Either
   -- they do not begin with an attribute, and `e` is the error of the framing; or they begin with an
   -- attribute, and `e` is the error of its value.
   abbrev pub IsFirstAttributeError : List ℕ → DecodeError → Type 0
   IsFirstAttributeError b e = IsFramingError b e
       ⊎ ((a : Attribute) × HasAttributePrefix b a × (parses a ≡ Err e))
 
-  -- HasAttributeError reads bytes e: `e` is the first error of the bytes, in the framing or in the
+  -- HasAttributeError parses bytes e: `e` is the first error of the bytes, in the framing or in the
   -- value of an attribute; only accepted attributes, each with its padding, precede it
   abbrev pub HasAttributeError : List ℕ → DecodeError → Type 0
   HasAttributeError bytes e = (attributes : List Attribute)

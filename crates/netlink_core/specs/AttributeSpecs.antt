@@ -16,9 +16,9 @@ attribute_spec k value = record { number = k; value = value; needs_no_memory = �
 abbrev pub allocating_attribute_spec : ℕ → ValueCodec (Unit {0}) → AttributeSpec
 allocating_attribute_spec k value = record { number = k; value = value; needs_no_memory = ⊥ }
 
--- whole_value_codec reads bytes is_in_range is_normal: the codec of values that take all bytes, all
--- bits of which are significant, given the parser, the serializer, which values are in range, and
--- which are in normal form
+-- whole_value_codec parses bytes is_in_range is_normal: the codec of values that take all bytes,
+-- all bits of which are significant, given the parser, the serializer, which values are in range,
+-- and which are in normal form
 abbrev pub whole_value_codec : {A : Type 0} → (List ℕ → Result A DecodeError) → (A → List ℕ)
     → (A → Type 0) → (A → Type 0) → ValueCodec (Unit {0})
 whole_value_codec {A} parses bytes is_in_range is_normal = record {

@@ -13,20 +13,20 @@ pub record Codec (Param : Type 0) : Type 1 where
   pub Value : Type 0
   -- is_in_range v: each number of `v` fits its field
   pub is_in_range : Value → Type 0
-  -- reads b p v: `b` is accepted, and parses as `v`
+  -- parses b p v: `b` is accepted, and parses as `v`
   pub parses : List ℕ → Param → Value → Type 0
-  -- refuses b p e: `b` is rejected, and `e` is its first error
+  -- rejects b p e: `b` is rejected, and `e` is its first error
   pub rejects : List ℕ → Param → DecodeError → Type 0
-  -- is_spare v: `v` is stored without an allocation
+  -- needs_no_memory v: `v` is stored without an allocation
   pub needs_no_memory : Value → Type 0
-  -- idle p b c: the accepted byte strings `b` and `c` are equivalent: they differ only in ignored
-  -- bits
+  -- equivalent p b c: the accepted byte strings `b` and `c` are equivalent: they differ only in
+  -- ignored bits
   pub equivalent : Param → List ℕ → List ℕ → Type 0
   -- is_normal p v: `v` is in normal form, the form of every parsed value
   pub is_normal : Param → Value → Type 0
-  -- written v: the bytes that `v` serializes to
+  -- serialized v: the bytes that `v` serializes to
   pub serialized : Value → List ℕ
-  -- fits v: `v` is writable: its lengths fit their length fields
+  -- is_writable v: `v` is writable: its lengths fit their length fields
   pub is_writable : Value → Type 0
 
 -- KeepsCodecLaws C: the codec laws hold of `C`, for all byte strings, parameters, values and errors

@@ -29,7 +29,7 @@ pub record NetlinkMessageModel (A : Type 0) : Type 0 where
 abbrev pub IsInnerMessageType : ℕ → Type 0
 IsInnerMessageType t = (t ≡ 0) ⊎ (NLMSG_OVERRUN < t)
 
--- ParsesAsPayload reads bytes t payload: the bytes parse as this payload under the message type
+-- ParsesAsPayload parses bytes t payload: the bytes parse as this payload under the message type
 -- `t`; `parses` says how inner messages parse. The raw bytes of NLMSG_ERROR, NLMSG_DONE and
 -- NLMSG_OVERRUN are all bytes. NLMSG_NOOP accepts any bytes, and drops them.
 abbrev pub ParsesAsPayload : {A : Type 0} → (List ℕ → ℕ → A → Type 0) → List ℕ → ℕ → Payload A

@@ -61,8 +61,8 @@ module _ {Value : Type 0} where
   abbrev pub be16s : (offset count : ℕ) → (Value → List ℕ) → Row Value
   be16s offset count get = (array network offset 2 count, λ value. first_numbers count (get value))
 
-  -- skip offset written: bytes that the parser ignores, as many as `serialized`, which the
-  -- serializer writes there
+  -- skip offset written: bytes that the parser ignores, as many as `written`, which the serializer
+  -- writes there
   abbrev pub skip : (offset : ℕ) → (written : List ℕ) → Row Value
   skip offset written = (unread offset written ∷ [], λ value. [])
 

@@ -11,12 +11,12 @@ use Rattle.netlink_core.specs.Layout.{IsNormal}
 pub record ValueCodec (Param : Type 0) : Type 1 where
   -- the type of the values
   pub Value : Type 0
-  -- reads p b: `Ok` of the value of `b`, or `Err` of its first error
+  -- parses p b: `Ok` of the value of `b`, or `Err` of its first error
   pub parses : Param → List ℕ → Result Value DecodeError
   -- bytes v: the bytes that `v` serializes to
   pub bytes : Value → List ℕ
-  -- idle p b c: the accepted byte strings `b` and `c` are equivalent: they differ only in ignored
-  -- bits
+  -- equivalent p b c: the accepted byte strings `b` and `c` are equivalent: they differ only in
+  -- ignored bits
   pub equivalent : Param → List ℕ → List ℕ → Type 0
   -- is_in_range v: each number of `v` fits its field
   pub is_in_range : Value → Type 0

@@ -146,7 +146,7 @@ abbrev pub is_host : Host → ℕ → ℕ → List ℕ → Bool
 is_host h family port octets =
     has_port h.port port && address_has_optional_prefix h.prefix family octets
 
--- `meets socket condition`: the socket meets the condition. `Mark mark mask`: the bits of the
+-- `meets s condition`: the socket `s` meets the condition. `Mark mark mask`: the bits of the
 -- socket's mark that are in `mask` are equal to `mark`. `AutoBound`: the kernel chose the socket's
 -- local port.
 abbrev pub meets : Socket → Condition → Bool

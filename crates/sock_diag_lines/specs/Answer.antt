@@ -40,7 +40,8 @@ name_entry Message = (codes "message", answer_codec message_codec SOCK_DIAG_BY_F
 name_entry NetlinkMessage = (codes "netlink", (_, netlink_message_codec, tt, netlink_message_text))
 -- thirteen values of a reply about a UNIX socket; never `unwritable`, since each value counts as
 -- writable (`is_writable`)
-name_entry UnixView = let replies = record (response_codec unix_response_spec) { fits = λ v. ⊤ } in
+name_entry UnixView =
+    let replies = record (response_codec unix_response_spec) { is_writable = λ v. ⊤ } in
     (codes "unixview", (_, replies, tt, reply_text))
 
 -- IsRequest line name b: the line is the spelling of this name, one space (32) and a hex field of
@@ -51,7 +52,7 @@ IsRequest line name b = (hex : List ℕ) × (line ≡ (name_entry name).0 ++ 32 
 -- The text answers the line. A line `NAME HEX` is answered by `ok ` and the text of the value of
 -- these bytes, by `unwritable`, or by `refused ` and the code of the first error (`IsAnswerUnder`;
 -- `(name_entry n).1` is the codec, its parameter, and the text of a value). A line `dump HEX HEX
--- ..` is is_total by `ok `, the state, the number of messages and the messages, or by `unwritable`
+-- ..` is answered by `ok `, the state, the number of messages and the messages, or by `unwritable`
 -- (`IsDumpAnswer`). Every other line is answered by `bad line`.
 pub record IsAnswerOf (line text : List ℕ) : Type 0 where
   -- if the line is a name and a hex field

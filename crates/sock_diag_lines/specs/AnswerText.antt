@@ -5,10 +5,11 @@ use Rattle.netlink_core.specs.Codec.{Codec}
 use Rattle.netlink_core.specs.Errors.{error_code}
 use Rattle.netlink_core.specs.declared.error.DecodeError.{DecodeError}
 
--- IsAnswerText reads refuses fits text_of text: given are the values that the bytes parse as
--- (`parses`), the errors that reject them (`rejects`), whether a value is writable (`is_writable`),
--- and the text of a value. The answer is `ok ` and the text of a writable value; `unwritable`, for
--- a value that is not writable; or `refused ` and the code of an error in decimal.
+-- IsAnswerText parses rejects is_writable text_of text: given are the values that the bytes parse
+-- as (`parses`), the errors that reject them (`rejects`), whether a value is writable
+-- (`is_writable`), and the text of a value. The answer is `ok ` and the text of a writable value;
+-- `unwritable`, for a value that is not writable; or `refused ` and the code of an error in
+-- decimal.
 abbrev pub IsAnswerText : {Value : Type 0} → (Value → Type 0) → (DecodeError → Type 0)
     → (Value → Type 0) → (Value → List ℕ) → List ℕ → Type 0
 IsAnswerText {Value} parses rejects is_writable text_of text =

@@ -3,7 +3,7 @@ use Rattle.std.specs.Prelude.{◌≡◌, ℕ, ◌⊎◌, Option, Some, None}
 use Rattle.netlink_core.specs.declared.error.DecodeError.{DecodeError}
 use Rattle.netlink_core.specs.Errors.{error_code}
 
--- IsCheckResultBy reads refuses describes old new answer: `answer` is the return value; `old` and
+-- IsCheckResultBy parses rejects describes old new answer: `answer` is the return value; `old` and
 -- `new` are the contents of the output struct before and after the call. Either `answer` is 0, the
 -- bytes have a value `v` (`parses`), and `new` describes it. Or `answer` is the code of the first
 -- error of the bytes (`rejects`), and the struct is unchanged.
@@ -14,7 +14,7 @@ IsCheckResultBy {V} {T} parses rejects describes old new answer =
     ((answer ≡ 0) × ((v : V) × parses v × describes v new))
     ⊎ ((e : DecodeError) × rejects e × (answer ≡ error_code e) × (new ≡ old))
 
--- IsCheckResult reads refuses found old new answer: as IsCheckResultBy; if `answer` is 0, `new` is
+-- IsCheckResult parses rejects found old new answer: as IsCheckResultBy; if `answer` is 0, `new` is
 -- `found v`
 abbrev pub IsCheckResult : {V T : Type 0} → (V → Type 0) → (DecodeError → Type 0) → (V → T) → T → T
     → ℕ

@@ -14,7 +14,7 @@ use Rattle.sock_diag_values.specs.declared.inet.mem_info.MemInfo.{MemInfo}
 use Rattle.sockdiag_c.specs.Details.{optional_number}
 use Rattle.sockdiag_c.specs.declared.family_values.Memory.{Memory}
 
--- parse_first reads kind attributes: `parses` parses the value of the first attribute of the type
+-- parse_first parses kind attributes: `parses` parses the value of the first attribute of the type
 -- `kind`, whatever its two flag bits; `Ok None` if there is no such attribute
 abbrev pub parse_first : {A : Type 0} → (List ℕ → Result A DecodeError) → ℕ → List Attribute
     → Result (Option A) DecodeError
@@ -54,7 +54,7 @@ memory_struct m = record {
   drops = optional_number (option_and_then (λ (m : MemInfo). m.drops) m);
 }
 
--- RejectsReplyOrValue R faults payload e: `e` is the error with which the reply in `payload` is
+-- RejectsReplyOrValue R errors payload e: `e` is the error with which the reply in `payload` is
 -- rejected; or the reply is accepted, and `e` is the first error in `errors v`. `errors v` has, for
 -- each value of the accepted reply `v` in the order in which they are checked, its error, or None
 -- if it parses or is not present.

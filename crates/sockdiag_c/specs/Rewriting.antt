@@ -15,9 +15,9 @@ outcome_struct error needed = record { error = error; needed = needed }
 abbrev pub WritesNothing : List ℕ → List ℕ → ℕ → Type 0
 WritesNothing old new answer = (answer ≡ 0) × (new ≡ old)
 
--- WritesValue fits bytes old new outcome answer: `is_writable` states that the value is writable,
--- and `bytes` are the bytes that it serializes to; `old` and `new` are the buffer before and after
--- the call; `answer` is the return value. One of three holds:
+-- WritesValue is_writable bytes old new outcome answer: `is_writable` states that the value is
+-- writable, and `bytes` are the bytes that it serializes to; `old` and `new` are the buffer before
+-- and after the call; `answer` is the return value. One of three holds:
 -- - The value is writable and the buffer is long enough. The bytes are written at its start, the
 --   bytes after them are unchanged, and `answer` and `outcome.needed` are their number.
 -- - The value is writable and the buffer is too short. Nothing is written, `answer` is 0, and
@@ -25,21 +25,21 @@ WritesNothing old new answer = (answer ≡ 0) × (new ≡ old)
 -- - The value is not writable. Nothing is written, and `answer` and `outcome.needed` are 0.
 -- In each case `outcome.error` is 0.
 abbrev pub WritesValue : Type 0 → List ℕ → List ℕ → List ℕ → Outcome → ℕ → Type 0
-WritesValue fits bytes old new outcome answer =
-    (fits × (length bytes ≤ length old) × (outcome ≡ outcome_struct 0 (length bytes))
+WritesValue is_writable bytes old new outcome answer =
+    (is_writable × (length bytes ≤ length old) × (outcome ≡ outcome_struct 0 (length bytes))
     × (answer ≡ length bytes) × (new ≡ bytes ++ drop (length bytes) old))
-    ⊎ ((fits × (length old < length bytes) × (outcome ≡ outcome_struct 0 (length bytes))
+    ⊎ ((is_writable × (length old < length bytes) × (outcome ≡ outcome_struct 0 (length bytes))
     × WritesNothing old new answer)
-    ⊎ (¬ fits × (outcome ≡ outcome_struct 0 0) × WritesNothing old new answer))
+    ⊎ (¬ is_writable × (outcome ≡ outcome_struct 0 0) × WritesNothing old new answer))
 
--- ParsesAndWrites reads refuses fits bytes old new outcome answer: either the input parses as a
--- value `v` (`parses v`), and WritesValue holds of it: it is writable if `is_writable v`, and
+-- ParsesAndWrites parses rejects is_writable bytes old new outcome answer: either the input parses
+-- as a value `v` (`parses v`), and WritesValue holds of it: it is writable if `is_writable v`, and
 -- serializes to `bytes v`. Or the input is rejected with the first error `e` (`rejects e`):
 -- `outcome.error` is its code, `outcome.needed` is 0, and nothing is written.
 abbrev pub ParsesAndWrites : {V : Type 0} → (V → Type 0) → (DecodeError → Type 0) → (V → Type 0)
     → (V → List ℕ) → List ℕ → List ℕ → Outcome → ℕ → Type 0
-ParsesAndWrites {V} parses rejects fits bytes old new outcome answer =
-    ((v : V) × parses v × WritesValue (fits v) (bytes v) old new outcome answer)
+ParsesAndWrites {V} parses rejects is_writable bytes old new outcome answer =
+    ((v : V) × parses v × WritesValue (is_writable v) (bytes v) old new outcome answer)
     ⊎ ((e : DecodeError) × rejects e × (outcome ≡ outcome_struct (error_code e) 0)
     × WritesNothing old new answer)
 

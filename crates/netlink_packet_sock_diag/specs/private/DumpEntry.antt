@@ -8,8 +8,8 @@ use Rattle.netlink_core.specs.declared.error.DecodeError.{DecodeError}
 use Rattle.netlink_core.specs.declared.header.NetlinkHeader.{NetlinkHeader}
 use Rattle.netlink_core.proofs.Datagrams.{IsOfOwnLength}
 
--- `parses b t entry`: the payload `b` under the message type `t` is kept as `entry`. `refuses b t
--- e`: it is rejected with `e`. `item_is message item`: the message has this item.
+-- `parses b t entry`: the payload `b` under the message type `t` is kept as `entry`.
+-- `rejects b t e`: it is rejected with `e`. `item_is message item`: the message has this item.
 pub record DeterminesItems {Entry : Type 0} (parses : List ℕ → ℕ → Entry → Type 0)
     (rejects : List ℕ → ℕ → DecodeError → Type 0) (item_is : List ℕ → Item Entry → Type 0)
     : Type 0 where
