@@ -54,9 +54,9 @@ appended_known None more = tt
 appended_known (Some xs) more = refl
 
 -- The error of a packet that could not be read is not a failed write.
-pub no_write : (number : ℕ) (error : CaptureError) (e : ListError) (P : WriteError → Type 0)
-    → e ≡ Packet number error → (error : WriteError) → e ≡ Write error → P error
-no_write number error e P is error write = absurd cc
+pub no_write : (number : ℕ) (reason : CaptureError) (e : ListError) (P : WriteError → Type 0)
+    → e ≡ Packet number reason → (error : WriteError) → e ≡ Write error → P error
+no_write number reason e P is error write = absurd cc
 
 -- A failed allocation is not a failed write.
 pub no_memory : (e : ListError) (P : WriteError → Type 0) → e ≡ Memory
