@@ -1,11 +1,13 @@
 #!/usr/bin/env python3
-"""Compares the public items of the libraries with the list tests/surface.txt.
+"""Compares public items with two lists: tests/surface.txt has those of the libraries, and
+tests/surface_rust.txt those of the Cargo crate rust/sockdiag.
 
     tests/surface.py             prints the differences, and exits with status 1 if there are any
-    tests/surface.py --write     writes a new list
+    tests/surface.py --write     writes new lists
 
-The libraries are the crates of crates.txt, except programs and crates of tests. A line of the list
-has the path of a declaration and an item. The list has
+The libraries are the crates of crates.txt, except programs and crates of tests. A line of a list
+has the path of a declaration and an item. An item of a private module is listed too, since a
+`pub use` may export it. The lists have
 
 - functions, methods and the items of traits, by their signatures without the clauses;
 - types with their public fields, or their variants in order, and their attributes;
@@ -25,7 +27,6 @@ from itertools import accumulate, islice
 from pathlib import Path
 
 TOP = Path(__file__).resolve().parent.parent
-LIST = TOP / "tests" / "surface.txt"
 # Comments, string literals, character literals, words, blanks, and other single characters.
 TOKEN = r"""//[^\n]*|/\*.*?\*/|b?"(?:\\.|[^"\\])*"|b?'(?:\\[^']+|[^\\'\s])'|[\w']+|\s+|."""
 # Placeholder for a blank inside a string literal, so that `text_of` keeps it.
@@ -36,7 +37,8 @@ ITEM = re.compile(
     r"(mod|use|fn|struct|enum|union|trait|type|const|static|impl|ghost|extern|[\w:]+!)\s*(\w*)"
 )
 # The trait and the type of an impl, and the last name of such a path.
-IMPL = re.compile(r"(?:unsafe )?impl(?:<(?:[^<>]|<[^<>]*>)*>)? (?:(\S.*) for )?(.*)")
+GENERICS = r"<(?:[^<>]|<(?:[^<>]|<[^<>]*>)*>)*>"
+IMPL = re.compile(rf"(?:unsafe )?impl(?:{GENERICS})? (?:(\S.*) for )?(.*)")
 NAME = re.compile(r"(?:&|'\w+ |mut )*(?:\w+::)*([^<]+)")
 # The text before a brace that opens no body: a clause, or an item that ends with a semicolon.
 CLAUSE = r" (?:ghost|requires|ensures)\*?(?: \w+)?"
@@ -138,11 +140,11 @@ def names_of_use(tokens, before=""):
 
 
 class Surface:
-    """The lines of one crate."""
+    """The lines of one crate, in Rattle or in Rust (`.rs`)."""
 
-    def __init__(self, crate):
-        folder, self.lines = TOP / "crates" / crate / "src", []
-        texts = [path.read_text(encoding="utf-8") for path in folder.rglob("*.rt")]
+    def __init__(self, folder, suffix=".rt"):
+        crate, folder, self.lines, self.suffix = folder.name, folder / "src", [], suffix
+        texts = [path.read_text(encoding="utf-8") for path in folder.rglob(f"*{suffix}")]
         for path in folder.rglob("*.rt"):
             text = path.read_text(encoding="utf-8")
             lines = [line.partition("//")[0] for line in text.splitlines()]
@@ -152,7 +154,7 @@ class Surface:
                 self.lines.append(f"{crate}/{where}: names a failed allocation {named} times")
         declared = {found for text in texts for found in DECLARED.findall(text)}
         self.private = {name for public, name in declared if ("pub ", name) not in declared}
-        self.read(list(tokens_of(folder / "lib.rt")), folder, crate)
+        self.read(list(tokens_of(folder / f"lib{suffix}")), folder, crate)
 
     def read(self, tokens, folder, module):
         self.lines += [f"{module}: {cfg}" for cfg in CFG.findall(text_of(tokens))]
@@ -162,14 +164,16 @@ class Surface:
             public, kind, path = found[1] == "pub ", found[2], f"{module}::{found[3]}"
             if kind == "mod":
                 self.lines += [f"{path}: pub mod"] * public
-                inner, file = folder / found[3], folder / f"{found[3]}.rt"
-                file = file if file.exists() else inner / "mod.rt"
+                inner, file = folder / found[3], folder / f"{found[3]}{self.suffix}"
+                file = file if file.exists() else inner / f"mod{self.suffix}"
                 self.read(list(tokens_of(file)) if body is None else body, inner, path)
             elif kind == "impl":
                 self.read_impl(module, text, body)
             elif kind == "use" and public:
                 names = names_of_use(head[head.index("use") + 1 :])
                 self.lines += [f"{module}::{name}: pub use {whole}" for name, whole in names]
+            elif kind == "extern" and self.suffix == ".rs":
+                continue  # The functions of the C library: tools/bindings writes and compares them.
             elif kind == "extern" or kind.endswith("!"):
                 whole = " ".join([*attributes, text, text_of(body or [])])
                 self.lines.append(f"{module}: {whole}".rstrip())
@@ -218,19 +222,29 @@ class Surface:
                 self.read_public(f"{path}::{member}", kind, attributes, text)
 
 
+def is_current(name, crates, writes):
+    """Returns whether a list has the lines of these crates, after it is written if `writes`. If
+    not, prints the differences."""
+    path, lines = TOP / "tests" / name, sorted(line for crate in crates for line in crate.lines)
+    if writes:
+        path.write_text("\n".join(lines) + "\n", encoding="utf-8")
+    listed = path.read_text(encoding="utf-8").splitlines()
+    if lines != listed:
+        print(*difflib.unified_diff(listed, lines, "list", "crates", n=0, lineterm=""), sep="\n")
+        print(f"surface.py: tests/{name} is out of date; if the change is intended, run "
+            "tests/surface.py --write")
+    return lines == listed
+
+
 def main():
     if sys.argv[1:] not in ([], ["--write"]):
         print("usage: tests/surface.py [--write]", file=sys.stderr)
         return 2
-    lines = sorted(line for crate in libraries() for line in Surface(crate).lines)
-    if sys.argv[1:]:
-        LIST.write_text("\n".join(lines) + "\n", encoding="utf-8")
-    listed = LIST.read_text(encoding="utf-8").splitlines()
-    if lines != listed:
-        print(*difflib.unified_diff(listed, lines, "list", "crates", n=0, lineterm=""), sep="\n")
-        print("surface.py: tests/surface.txt is out of date; if the change is intended, run "
-            "tests/surface.py --write")
-    return int(lines != listed)
+    writes = len(sys.argv) > 1
+    crates = [Surface(TOP / "crates" / crate) for crate in libraries()]
+    are_current = is_current("surface.txt", crates, writes)
+    rust = Surface(TOP / "rust" / "sockdiag", ".rs")
+    return 0 if is_current("surface_rust.txt", [rust], writes) and are_current else 1
 
 
 if __name__ == "__main__":
