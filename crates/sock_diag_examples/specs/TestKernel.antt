@@ -27,14 +27,14 @@ use Rattle.sock_diag_examples.specs.declared.test_kernel.AnswerError.TheVariants
 use Rattle.sock_diag_examples.specs.declared.test_kernel.AnswerError.TheVariants.{Memory}
 
 -- `numbered_message_bytes sequence_number payload`: the bytes of the netlink message with this
--- payload and sequence number. Its length and its type are those of the payload
--- (SOCK_DIAG_BY_FAMILY for an inner message), its flags are 2 (NLM_F_MULTI: one of several
+-- payload and sequence number. Its length and its type are those of the payload (20,
+-- SOCK_DIAG_BY_FAMILY, for an inner message), its flags are 2 (NLM_F_MULTI: one of several
 -- messages), and its port id is 0.
 unfoldable pub numbered_message_bytes : ℕ → Payload Message → List ℕ
 numbered_message_bytes sequence_number payload = netlink_message_codec.serialized (record {
   header = record {
     length = 16 + length (payload_bytes message_codec.serialized payload);
-    message_type = payload_type (λ _. SOCK_DIAG_BY_FAMILY) payload;
+    message_type = payload_type (λ _. 20) payload;
     flags = 2;
     sequence_number = sequence_number;
     port_number = 0;

@@ -25,7 +25,7 @@ pub returns-clause-answered : goal.returns-clause-answered
 returns-clause-answered g c = λ f right. (
   c.answer_and_report-outcome.result,
   c.exit_code.ensures,
-  c.answer_and_report-outcome.ensures.is_total f right,
+  c.answer_and_report-outcome.ensures.answered f right,
   reported_as _ _ _ c.answer_and_report-outcome.result
       c.answer_and_report-outcome.ensures.reported,
 )

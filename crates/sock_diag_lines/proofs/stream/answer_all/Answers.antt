@@ -10,8 +10,8 @@ serve-requires g c = record { start = (refl, refl, tt); right = answer_of-is }
 pub returns-clause-complete : goal.returns-clause-complete
 returns-clause-complete g c = run_complete IsAnswerOf is_good answer_of
     one_function _ _ _ _
-    c.serve.result c.serve.ensures.ended c.serve.ensures.is_total
+    c.serve.result c.serve.ensures.ended c.serve.ensures.answered
 
 pub returns-clause-answered : goal.returns-clause-answered
 returns-clause-answered g c =
-    λ f right. rw (← one_function f right) c.serve.ensures.is_total
+    λ f right. rw (← one_function f right) c.serve.ensures.answered

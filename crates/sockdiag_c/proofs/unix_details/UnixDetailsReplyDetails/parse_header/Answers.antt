@@ -1,6 +1,6 @@
 use Rattle.std.proofs.Common.{arith}
 use Rattle.std.proofs.lemmas.List.{take_rest}
-use Rattle.sockdiag_c.proofs.unix_details.UnixDetailsKeepsDetails.parse_header.Goals as goal
+use Rattle.sockdiag_c.proofs.unix_details.UnixDetailsReplyDetails.parse_header.Goals as goal
 
 pub returns-clause-value : goal.returns-clause-value
 returns-clause-value c =
