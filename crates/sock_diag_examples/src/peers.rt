@@ -4,6 +4,7 @@ ghost use Rattle.std.specs.Prelude.{◌≡◌, length, SomeIff};
 ghost use Rattle.byteorder.specs.Endian.{little_number};
 ghost use Rattle.netlink_core.specs.Attribute.{attribute_kind};
 ghost use Rattle.netlink_core.specs.Walk.{buffered_attribute};
+ghost use Rattle.sock_diag_records.specs.declared.constants.TheConstants.{UNIX_DIAG_PEER};
 
 use netlink_core::NlaBuffer;
 use sock_diag_attributes::unix::nlas::NlaView;
@@ -13,7 +14,7 @@ use sock_diag_attributes::unix::nlas::NlaView;
 /// `None`.
 pub fn peer(nla: &NlaBuffer<'_>) -> Option<u32>
     ensures { SomeIff result
-        ((attribute_kind (buffered_attribute nla.now) ≡ 2)
+        ((attribute_kind (buffered_attribute nla.now) ≡ UNIX_DIAG_PEER)
         × (length (buffered_attribute nla.now).value ≡ 4))
         (little_number 4 (buffered_attribute nla.now).value) }
 {
