@@ -96,7 +96,7 @@ fn what_linux_sent(rt: HostRuntime) -> Result<(), Fail> {
     let alloc = rt.alloc();
     let bytes = hex::decode(alloc, NETLINK)?;
     let reply = NetlinkResponseView::parse(&bytes)?;
-    let text = "Whole(NetlinkResponseHeader { kind: 3, protocol: 0, state: 7, port: 6250, \
+    let text = "RawHeader(NetlinkResponseHeader { kind: 3, protocol: 0, state: 7, port: 6250, \
         destination_port: 0, destination_group: 0, inode: 87039, cookie: 4097 })";
     shows(&rt, alloc, &reply.header(), text)?;
     assert!(&rt; equal_raw_reply_views(&reply, &reply));
@@ -109,7 +109,7 @@ fn what_linux_sent(rt: HostRuntime) -> Result<(), Fail> {
     shows(&rt, alloc, &dropped_packets(&bytes)?, "Some(0)")?;
     let bytes = hex::decode(alloc, PACKET)?;
     let reply = PacketResponseView::parse(&bytes)?;
-    let text = "Whole(PacketResponseHeader { kind: 3, protocol: 2048, inode: 87040, \
+    let text = "RawHeader(PacketResponseHeader { kind: 3, protocol: 2048, inode: 87040, \
         cookie: 4099 })";
     shows(&rt, alloc, &reply.header(), text)?;
     let text = "Some(PacketInfo { interface: 1, version: 0, reserve: 0, copy_threshold: 0, \
@@ -128,13 +128,14 @@ fn fields_of_headers(rt: HostRuntime) -> Result<(), Fail> {
     let alloc = rt.alloc();
     let bytes = hex::decode(alloc, VSOCK)?;
     let reply = VsockResponseView::parse(&bytes)?;
-    let text = "Whole(VsockResponseHeader { kind: 1, state: 10, shutdown: 0, source_context: 2, \
+    let text =
+        "RawHeader(VsockResponseHeader { kind: 1, state: 10, shutdown: 0, source_context: 2, \
         source_port: 22, destination_context: 4294967295, destination_port: 4294967295, \
         inode: 20490, cookie: 5 })";
     shows(&rt, alloc, &reply.header(), text)?;
     let bytes = hex::decode(alloc, XDP)?;
     let reply = XdpResponseView::parse(&bytes)?;
-    let text = "Whole(XdpResponseHeader { kind: 3, inode: 11, cookie: 6 })";
+    let text = "RawHeader(XdpResponseHeader { kind: 3, inode: 11, cookie: 6 })";
     shows(&rt, alloc, &reply.header(), text)?;
     let text = "Some(XdpUmem { size: 4194304, id: 2, pages: 1024, chunk_size: 4096, headroom: 0, \
         interface: 3, queue: 1, flags: 1, references: 1 })";
