@@ -253,7 +253,7 @@ def test_out_of_memory(program, arguments, given, status, output):
     status and output are as always."""
     with tempfile.TemporaryDirectory() as folder:
         library = os.path.join(folder, "fail_malloc.so")
-        source = Path(__file__).parent / "api/refuse.c"
+        source = Path(__file__).parent / "api/fail_malloc.c"
         subprocess.run(["gcc", "-shared", "-fPIC", "-O1", "-o", library, source], check=True)
         for first in range(1, 10_000):
             refused = {"LD_PRELOAD": library, "REFUSE_FIRST": str(first), "REFUSE_LAST": str(first)}
