@@ -13,6 +13,7 @@ use netlink_core::fields::{u32s_at, u64s_at};
 
 /// The measurements of TCP Vegas, and of other algorithms that report in the same format:
 /// `struct tcpvegas_info` of `linux/inet_diag.h`, 16 bytes, four little-endian `u32` fields.
+#[repr(C)]
 #[derive(Clone, Copy, Debug, PartialEq, Eq)]
 pub struct VegasInfo {
     /// Whether the algorithm is in use, `tcpv_enabled`, at offset 0: 0 for no.
@@ -55,6 +56,7 @@ impl AttributeRecord for VegasInfo {
 
 /// The measurements of DCTCP: `struct tcp_dctcp_info` of `linux/inet_diag.h`, 16 bytes,
 /// little-endian.
+#[repr(C)]
 #[derive(Clone, Copy, Debug, PartialEq, Eq)]
 pub struct DctcpInfo {
     /// Whether the algorithm is in use, `dctcp_enabled`, at offset 0: 0 for no.
@@ -101,6 +103,7 @@ impl AttributeRecord for DctcpInfo {
 }
 
 /// The measurements of BBR: `struct tcp_bbr_info` of `linux/inet_diag.h`, 20 bytes, little-endian.
+#[repr(C)]
 #[derive(Clone, Copy, Debug, PartialEq, Eq)]
 pub struct BbrInfo {
     /// Estimated bandwidth, in bytes per second: `bbr_bw_lo`, at offset 0, is its low half, and

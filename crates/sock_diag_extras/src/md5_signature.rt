@@ -13,6 +13,7 @@ use netlink_core::fields::array_at;
 /// An MD5 signature key for the segments of some peers: one of the records in the value of
 /// `INET_DIAG_MD5SIG`, `struct tcp_diag_md5sig` of `linux/tcp.h`, 100 bytes. The kernel sends it
 /// only to processes with `CAP_NET_ADMIN`.
+#[repr(C)]
 #[derive(Clone, Copy, Debug, PartialEq, Eq)]
 pub struct Md5Signature {
     /// Address family, `tcpm_family`, at offset 0: 2 for `AF_INET`, 10 for `AF_INET6`.

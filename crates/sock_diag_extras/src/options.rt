@@ -38,6 +38,7 @@ pub enum SocketOption {
 }
 
 /// The options of an IPv4 or IPv6 socket: the two bytes of `INET_DIAG_SOCKOPT`.
+#[repr(C)]
 #[derive(Clone, Copy, Debug, PartialEq, Eq)]
 pub struct SocketOptions {
     /// Both bytes as a little-endian number: bits 0 to 7 are the first byte.

@@ -20,6 +20,7 @@ const INET6: u16 = 10;
 /// An address of an SCTP association: one of the records in the values of `INET_DIAG_LOCALS` and
 /// `INET_DIAG_PEERS`. It is a `struct sockaddr_storage`, 128 bytes. By its family, it starts with a
 /// `struct sockaddr_in` (ip(7)) or a `struct sockaddr_in6` (ipv6(7)). No byte is ignored.
+#[repr(C)]
 #[derive(Clone, Copy, Debug, PartialEq, Eq)]
 pub struct StoredAddress {
     /// Address family, `sin_family` or `sin6_family`, at offset 0, little-endian: 2 for `AF_INET`,

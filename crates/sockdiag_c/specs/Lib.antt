@@ -6,6 +6,9 @@ pub mod Rewriting
 pub mod Details
 pub mod UnixDetails
 pub mod InetDetails
+pub mod LenientDetails
+pub mod AttributeValues
+pub mod ErrorDetails
 pub mod TcpInfo
 pub mod FamilyValues
 pub mod NetlinkDetails

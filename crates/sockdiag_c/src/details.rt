@@ -52,6 +52,12 @@ pub(crate) const ABSTRACT: u32 = 2;
 /// Kind of bytes that are not text.
 pub(crate) const BYTES: u32 = 3;
 
+/// The text of a reply that contains none.
+pub(crate) const NO_TEXT: Text<'static> = Text {
+    kind: 0,
+    bytes: &[],
+};
+
 /// The number of a reply that contains none.
 pub(crate) const NO_NUMBER: Number = Number {
     is_set: 0,

@@ -40,7 +40,7 @@ pub struct Memory {
 }
 
 /// The memory of a reply that contains none.
-const NO_MEMORY: Memory = Memory {
+pub(crate) const NO_MEMORY: Memory = Memory {
     receive_queue: NO_NUMBER,
     receive_queue_max: NO_NUMBER,
     bottom_send_queues: NO_NUMBER,

@@ -2,10 +2,12 @@
 //! `tests/c_layout.c` asserts them in C, and the offset of each field.
 
 use crate::details::{Number, Text};
+use crate::error_details::ErrorDetails;
 use crate::family_requests::{ShowRequest, VsockRequest};
 use crate::family_values::Memory;
 use crate::headers::{InetHeader, Reply, UnixHeader};
 use crate::inet_details::InetDetails;
+use crate::lenient::Rejections;
 use crate::netlink_details::NetlinkDetails;
 use crate::packet_details::PacketDetails;
 use crate::requests::{InetRequest, RequestHeader, UnixRequest};
@@ -17,6 +19,9 @@ use sock_diag_families::netlink::NetlinkResponseHeader;
 use sock_diag_families::packet::{PacketInfo, PacketResponseHeader, PacketRing};
 use sock_diag_families::vsock::VsockResponseHeader;
 use sock_diag_families::xdp::{XdpInfo, XdpResponseHeader, XdpStatistics, XdpUmem};
+use sock_diag_extras::{
+    BbrInfo, DctcpInfo, Md5Signature, SocketOptions, StoredAddress, VegasInfo,
+};
 use std::mem::size_of;
 
 const _: () = prove!(size_of::<UnixHeader>() == 16);
@@ -76,3 +81,19 @@ const _: () = prove!(size_of::<XdpDetails>() == 240);
 const _: () = prove!(size_of::<ShowRequest>() == 32);
 
 const _: () = prove!(size_of::<VsockRequest>() == 24);
+
+const _: () = prove!(size_of::<Rejections>() == 40);
+
+const _: () = prove!(size_of::<ErrorDetails>() == 56);
+
+const _: () = prove!(size_of::<SocketOptions>() == 2);
+
+const _: () = prove!(size_of::<VegasInfo>() == 16);
+
+const _: () = prove!(size_of::<DctcpInfo>() == 16);
+
+const _: () = prove!(size_of::<BbrInfo>() == 24);
+
+const _: () = prove!(size_of::<Md5Signature>() == 100);
+
+const _: () = prove!(size_of::<StoredAddress>() == 128);

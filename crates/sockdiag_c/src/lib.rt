@@ -4,8 +4,10 @@
 //! structs. None of them allocates.
 #![tactic(auto)]
 
+mod attribute_values;
 mod check;
 mod details;
+mod error_details;
 mod family_requests;
 mod family_values;
 mod filters;
@@ -13,6 +15,7 @@ mod headers;
 mod inet_details;
 pub mod laws;
 mod layout;
+mod lenient;
 mod netlink_details;
 mod packet_details;
 mod pending;

@@ -9,8 +9,8 @@ ghost use Rattle.sockdiag_c.specs.FamilyValues.{RejectsReplyOrValue};
 ghost use Rattle.sockdiag_c.specs.PacketDetails.{IsPacketDetailsOf, packet_value_errors};
 
 use crate::check::OK;
-use crate::details::{Number, Text};
-use crate::family_values::{FirstError, Memory, store};
+use crate::details::{NO_NUMBER, NO_TEXT, Number, Text};
+use crate::family_values::{FirstError, Memory, NO_MEMORY, store};
 use netlink_core::DecodeError;
 use sock_diag_any::packet::{self, PacketResponseView};
 use sock_diag_families::packet::{PacketInfo, PacketResponseHeader, PacketRing};
@@ -51,6 +51,48 @@ pub struct PacketDetails<'a> {
     pub filter: Text<'a>,
 }
 
+/// The information of a reply that has none.
+const NO_INFO: PacketInfo = PacketInfo {
+    interface: 0,
+    version: 0,
+    reserve: 0,
+    copy_threshold: 0,
+    timestamp: 0,
+    flags: 0,
+};
+
+/// The ring of a reply that has none.
+const NO_RING: PacketRing = PacketRing {
+    block_size: 0,
+    blocks: 0,
+    frame_size: 0,
+    frames: 0,
+    retire_timeout: 0,
+    private_size: 0,
+    features: 0,
+};
+
+/// Details in which nothing is set.
+pub(crate) const NO_DETAILS: PacketDetails<'static> = PacketDetails {
+    header: PacketResponseHeader {
+        kind: 0,
+        protocol: 0,
+        inode: 0,
+        cookie: 0,
+    },
+    has_info: 0,
+    info: NO_INFO,
+    addresses: NO_TEXT,
+    has_receive_ring: 0,
+    receive_ring: NO_RING,
+    has_send_ring: 0,
+    send_ring: NO_RING,
+    fanout: NO_NUMBER,
+    owner: NO_NUMBER,
+    memory: NO_MEMORY,
+    filter: NO_TEXT,
+};
+
 /// Checks a whole reply about a packet socket, and returns its contents. The bytes are the payload
 /// of the netlink message. Returns 0, or the code of the first error; then the details are
 /// unchanged. If the reply has several attributes of a kind, the first one counts. The framing of
@@ -81,8 +123,8 @@ pub extern "C" fn sockdiag_packet_get_details<'a>(
     }
 }
 
-// Parses the reply over the old details, and returns its contents or the first error.
-fn read<'a>(payload: &'a [u8], old: &PacketDetails<'a>) -> Result<PacketDetails<'a>, DecodeError>
+/// Parses the reply over the old details, and returns its contents or the first error.
+pub(crate) fn read<'a>(payload: &'a [u8], old: &PacketDetails<'a>) -> Result<PacketDetails<'a>, DecodeError>
     ensures value { IfOk result (λ found. (v : ReplyValue (raw_reply_spec packet_header))
         × (response_codec (raw_reply_spec packet_header)).parses payload.entry.now tt v
         × IsPacketDetailsOf old.now v found) }

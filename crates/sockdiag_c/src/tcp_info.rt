@@ -11,6 +11,9 @@ use netlink_packet_sock_diag::constants::{INET_DIAG_INFO, INET_DIAG_SKMEMINFO};
 use netlink_packet_sock_diag::inet::INET_RESPONSE_HEADER_LEN;
 use netlink_packet_sock_diag::inet::nlas::{MEM_INFO_LEN, TCP_INFO_LEN};
 
+/// Length of `struct tcp_info` of Linux 6.18 in bytes.
+pub(crate) const LONG_TCP_INFO_LEN: usize = 280;
+
 /// Copies the value of the first `INET_DIAG_INFO` after the header of a reply about an IPv4 or IPv6
 /// socket, which has 72 bytes: at most the 232 bytes of `info`. The remaining bytes of `info` are
 /// set to 0. Returns the length of the value in bytes, or 0 if there is none.
@@ -29,6 +32,26 @@ pub extern "C" fn sockdiag_inet_get_tcp_info(payload: &[u8], info: &mut [u8; TCP
         → let value =
         unwrap_or (first_content_of (value_of_type INET_DIAG_INFO) attributes) [] in
         (result ≡ length value) × (info.new ≡ padded_or_truncated 232 value) }
+{
+    let value = first_value(bytes_after_inet_header(payload), INET_DIAG_INFO);
+    fill(value, info);
+    value.len()
+}
+
+/// Copies the value of the first `INET_DIAG_INFO` after the header of a reply about an IPv4 or IPv6
+/// socket, as `sockdiag_inet_get_tcp_info` does, into the longer struct of Linux 6.18: at most the
+/// 280 bytes of `info`. The remaining bytes of `info` are set to 0. Returns the length of the value
+/// in bytes, or 0 if there is none: a field that ends after it is 0, and not known.
+#[unsafe(no_mangle)]
+pub extern "C" fn sockdiag_inet_get_long_tcp_info(
+    payload: &[u8],
+    info: &mut [u8; LONG_TCP_INFO_LEN],
+) -> usize
+    // attributes: those after the header, up to the end or to a framing error.
+    ensures { (attributes : List Attribute) → AreAttributesIn (drop 72 payload.now) attributes
+        → let value =
+        unwrap_or (first_content_of (value_of_type INET_DIAG_INFO) attributes) [] in
+        (result ≡ length value) × (info.new ≡ padded_or_truncated 280 value) }
 {
     let value = first_value(bytes_after_inet_header(payload), INET_DIAG_INFO);
     fill(value, info);

@@ -9,8 +9,8 @@ ghost use Rattle.sockdiag_c.specs.FamilyValues.{RejectsReplyOrValue};
 ghost use Rattle.sockdiag_c.specs.XdpDetails.{IsXdpDetailsOf, xdp_value_errors};
 
 use crate::check::OK;
-use crate::details::Number;
-use crate::family_values::{FirstError, Memory, store};
+use crate::details::{NO_NUMBER, Number};
+use crate::family_values::{FirstError, Memory, NO_MEMORY, store};
 use netlink_core::DecodeError;
 use sock_diag_any::RawAttributes;
 use sock_diag_any::xdp::{self, XdpResponseView};
@@ -53,6 +53,47 @@ pub struct XdpDetails {
     pub statistics: XdpStatistics,
 }
 
+/// Details in which nothing is set.
+pub(crate) const NO_DETAILS: XdpDetails = XdpDetails {
+    header: XdpResponseHeader {
+        kind: 0,
+        inode: 0,
+        cookie: 0,
+    },
+    has_info: 0,
+    info: XdpInfo {
+        interface: 0,
+        queue: 0,
+    },
+    owner: NO_NUMBER,
+    receive_ring: NO_NUMBER,
+    send_ring: NO_NUMBER,
+    has_umem: 0,
+    umem: XdpUmem {
+        size: 0,
+        id: 0,
+        pages: 0,
+        chunk_size: 0,
+        headroom: 0,
+        interface: 0,
+        queue: 0,
+        flags: 0,
+        references: 0,
+    },
+    fill_ring: NO_NUMBER,
+    completion_ring: NO_NUMBER,
+    memory: NO_MEMORY,
+    has_statistics: 0,
+    statistics: XdpStatistics {
+        received_dropped: 0,
+        received_invalid: 0,
+        received_full: 0,
+        fill_ring_empty: 0,
+        sent_invalid: 0,
+        send_ring_empty: 0,
+    },
+};
+
 /// Checks a whole reply about an XDP socket, and returns its contents. The bytes are the payload of
 /// the netlink message. Returns 0, or the code of the first error; then the details are unchanged.
 /// If the reply has several attributes of a kind, the first one counts. The framing of all
@@ -78,8 +119,8 @@ pub extern "C" fn sockdiag_xdp_get_details(payload: &[u8], details: &mut XdpDeta
     }
 }
 
-// Parses the reply over the old details, and returns its contents or the first error.
-fn read(payload: &[u8], old: &XdpDetails) -> Result<XdpDetails, DecodeError>
+/// Parses the reply over the old details, and returns its contents or the first error.
+pub(crate) fn read(payload: &[u8], old: &XdpDetails) -> Result<XdpDetails, DecodeError>
     ensures value { IfOk result (λ found. (v : ReplyValue (raw_reply_spec xdp_header))
         × (response_codec (raw_reply_spec xdp_header)).parses payload.now tt v
         × IsXdpDetailsOf old.now v found) }

@@ -1,0 +1,72 @@
+-- Lenient parsing for C: the valid attributes of a reply, and the errors of the rejected ones.
+use Rattle.std.specs.Prelude.{◌≡◌, ◌<◌, ℕ, ◌⊎◌, ◌==◌, if◌then◌else◌, List, drop, Option, Some, None}
+use Rattle.std.specs.Prelude.{option_and_then, unwrap_or, is_none, slice_index, Result, Ok, Err}
+use Rattle.std.specs.List.{filter_map}
+use Rattle.std.specs.Result.{result_ok, result_err}
+use Rattle.netlink_core.specs.declared.error.DecodeError.{DecodeError}
+use Rattle.netlink_core.specs.Attribute.{attribute_kind}
+use Rattle.netlink_core.specs.AttributeSet.{AttributeSet, AttributeValue}
+use Rattle.netlink_core.specs.Errors.{error_code}
+use Rattle.netlink_core.specs.Response.{ResponseSpec}
+use Rattle.sock_diag_extras.specs.Lenient.{HasLenientItems, RejectionModel}
+use Rattle.sock_diag_replies.specs.UnixGetters.{first_content_of}
+use Rattle.sockdiag_c.specs.declared.lenient.Rejections.{Rejections}
+use Rattle.sockdiag_c.specs.declared.lenient.TheConstants.{REJECTION_KINDS}
+
+-- A lenient item of a reply: the value of an attribute, or why it is rejected. The last item may be
+-- a framing error, which has no attribute.
+abbrev pub LenientItem : AttributeSet → Type 0
+LenientItem F = Result (AttributeValue F) RejectionModel
+
+-- `accepted_values items`: the values of the attributes that are not rejected, in order
+abbrev pub accepted_values : {F : AttributeSet} → List (LenientItem F) → List (AttributeValue F)
+accepted_values items = filter_map result_ok items
+
+-- `first_code code items`: `code r` of the first rejection `r` for which it is present; 0 if there
+-- is none
+abbrev pub first_code : {F : AttributeSet} → (RejectionModel → Option ℕ) → List (LenientItem F) → ℕ
+first_code code items =
+    unwrap_or (first_content_of (λ item. option_and_then code (result_err item)) items) 0
+
+-- `code_of_any r`: the code of the error, of an attribute or of the framing
+abbrev pub code_of_any : RejectionModel → Option ℕ
+code_of_any r = Some (error_code r.error)
+
+-- `code_of_framing r`: the code of a framing error; None if `r` is about an attribute
+abbrev pub code_of_framing : RejectionModel → Option ℕ
+code_of_framing r = if is_none r.attribute then Some (error_code r.error) else None
+
+-- `code_of_kind k r`: the code of the error of an attribute of the kind `k`; None for another kind
+-- and for a framing error
+abbrev pub code_of_kind : ℕ → RejectionModel → Option ℕ
+code_of_kind k r =
+    option_and_then (λ a. if attribute_kind a == k then Some (error_code r.error) else None)
+    r.attribute
+
+-- `HasRejections it items`: the struct `it` has the code of the first error of all, the code of the
+-- framing error, and for each kind below 32 the code of the first error of an attribute of this
+-- kind. Each is 0 if there is no such error.
+abbrev pub HasRejections : {F : AttributeSet} → Rejections → List (LenientItem F) → Type 0
+HasRejections it items =
+    (it.first ≡ first_code code_of_any items)
+    × (it.framing ≡ first_code code_of_framing items)
+    × ((k : ℕ) → k < REJECTION_KINDS
+    → slice_index it.errors k ≡ first_code (code_of_kind k) items)
+
+-- IsLenientResult R describes payload old new was now answer: `answer` is the return value; `old`
+-- and `new` are the details before and after the call, `was` and `now` the rejections. One of:
+-- - The header of the reply in `payload` parses (`R.header.parses`), and `answer` is 0. `items` are
+--   the items of the bytes after the header, whose number is `R.size`. The details describe the
+--   header and the values of the accepted attributes, and the rejections have the errors of the
+--   others.
+-- - The header has the error `e`. `answer` is its code, and both structs are unchanged.
+abbrev pub IsLenientResult : {T : Type 0} (R : ResponseSpec)
+    → (R.header.Value → T → List (AttributeValue R.attribute_set) → Type 0) → List ℕ → T → T
+    → Rejections → Rejections → ℕ → Type 0
+IsLenientResult R describes payload old new was now answer =
+    ((answer ≡ 0) × ((h : R.header.Value) × (R.header.parses tt payload ≡ Ok h)
+    × ((items : List (LenientItem R.attribute_set))
+    × HasLenientItems R.attribute_set (drop R.size payload) items
+    × describes h new (accepted_values items) × HasRejections now items)))
+    ⊎ ((e : DecodeError) × (R.header.parses tt payload ≡ Err e) × (answer ≡ error_code e)
+    × (new ≡ old) × (now ≡ was))

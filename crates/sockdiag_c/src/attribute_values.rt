@@ -1,0 +1,162 @@
+//! Values of single attributes that the structs of a reply lack. `sockdiag_next_attribute` returns
+//! them.
+
+ghost use Rattle.std.specs.Prelude.{◌≡◌, ◌≤◌, SomeIff, length, option_map};
+ghost use Rattle.byteorder.specs.Endian.{little_number};
+ghost use Rattle.sock_diag_extras.specs.Congestion.{bbr_info, dctcp_info, vegas_info};
+ghost use Rattle.sock_diag_extras.specs.Md5Signature.{md5_signature};
+ghost use Rattle.sock_diag_extras.specs.RecordTable.{parse_by_table};
+ghost use Rattle.sock_diag_extras.specs.SocketOptions.{socket_options};
+ghost use Rattle.sock_diag_extras.specs.StoredAddress.{stored_address};
+ghost use Rattle.sockdiag_c.specs.AttributeValues.{IsStoredIf, NextItem};
+ghost use Rattle.sockdiag_c.specs.Walks.{bytes_after_cursor};
+
+use crate::family_values::store;
+use crate::walks::{Cursor, END, ITEM};
+use byteorder::{ByteOrder, LittleEndian};
+use sock_diag_extras::{
+    AttributeRecord, BbrInfo, DctcpInfo, Md5Signature, SocketOptions, StoredAddress, VegasInfo,
+    parse_cgroup_id, parse_uid, read_attribute_record,
+};
+
+/// Stores the user id of a UNIX socket's owner: the value of `UNIX_DIAG_UID`, 4 bytes. Returns 1;
+/// or 0 if the value has another length, and then the user id is unchanged.
+#[unsafe(no_mangle)]
+pub extern "C" fn sockdiag_get_uid(value: &[u8], uid: &mut u32) -> u32
+    ensures { IsStoredIf (length value.now ≡ 4) (little_number 4 value.now) uid.old uid.new result }
+{
+    store(parse_uid(value), uid)
+}
+
+/// Stores the id of the control group (cgroup v2) of an IPv4 or IPv6 socket: the value of
+/// `INET_DIAG_CGROUP_ID`, 8 bytes. Returns 1; or 0 if the value has another length, and then the id
+/// is unchanged.
+#[unsafe(no_mangle)]
+pub extern "C" fn sockdiag_get_cgroup_id(value: &[u8], id: &mut u64) -> u32
+    ensures { IsStoredIf (length value.now ≡ 8) (little_number 8 value.now) id.old id.new result }
+{
+    store(parse_cgroup_id(value), id)
+}
+
+/// Stores the options of an IPv4 or IPv6 socket: the value of `INET_DIAG_SOCKOPT`, at least 2 bytes.
+/// Returns 1; or 0 if the value is shorter, and then the options are unchanged.
+#[unsafe(no_mangle)]
+pub extern "C" fn sockdiag_get_socket_options(value: &[u8], options: &mut SocketOptions) -> u32
+    ensures { IsStoredIf (socket_options.size ≤ length value.now)
+        (parse_by_table socket_options value.now) options.old options.new result }
+{
+    store(read_attribute_record(value), options)
+}
+
+/// Stores the measurements of TCP Vegas and of similar algorithms: the value of
+/// `INET_DIAG_VEGASINFO`, at least 16 bytes. Returns 1; or 0 if the value is shorter, and then the
+/// struct is unchanged.
+#[unsafe(no_mangle)]
+pub extern "C" fn sockdiag_get_vegas_info(value: &[u8], info: &mut VegasInfo) -> u32
+    ensures { IsStoredIf (vegas_info.size ≤ length value.now)
+        (parse_by_table vegas_info value.now) info.old info.new result }
+{
+    store(read_attribute_record(value), info)
+}
+
+/// Stores the measurements of DCTCP: the value of `INET_DIAG_DCTCPINFO`, at least 16 bytes. Returns
+/// 1; or 0 if the value is shorter, and then the struct is unchanged.
+#[unsafe(no_mangle)]
+pub extern "C" fn sockdiag_get_dctcp_info(value: &[u8], info: &mut DctcpInfo) -> u32
+    ensures { IsStoredIf (dctcp_info.size ≤ length value.now)
+        (parse_by_table dctcp_info value.now) info.old info.new result }
+{
+    store(read_attribute_record(value), info)
+}
+
+/// Stores the measurements of BBR: the value of `INET_DIAG_BBRINFO`, at least 20 bytes. Returns 1;
+/// or 0 if the value is shorter, and then the struct is unchanged.
+#[unsafe(no_mangle)]
+pub extern "C" fn sockdiag_get_bbr_info(value: &[u8], info: &mut BbrInfo) -> u32
+    ensures { IsStoredIf (bbr_info.size ≤ length value.now)
+        (parse_by_table bbr_info value.now) info.old info.new result }
+{
+    store(read_attribute_record(value), info)
+}
+
+/// Stores the MD5 signature key at the cursor, and advances the cursor by its 100 bytes. The bytes
+/// are the value of `INET_DIAG_MD5SIG`, an array of such keys. Returns 1; or 0 if fewer bytes are
+/// left, and then nothing is written. The kernel sends keys only to processes with `CAP_NET_ADMIN`.
+#[unsafe(no_mangle)]
+pub extern "C" fn sockdiag_next_md5_signature(
+    value: &[u8],
+    cursor: &mut Cursor,
+    signature: &mut Md5Signature,
+) -> u32
+    ensures { NextItem md5_signature.size (parse_by_table md5_signature) value.now cursor.old
+        cursor.new signature.old signature.new result }
+{
+    next_record(value, cursor, signature)
+}
+
+/// Stores the address at the cursor, and advances the cursor by its 128 bytes. The bytes are the
+/// value of `INET_DIAG_LOCALS` or `INET_DIAG_PEERS`, an array of the addresses of an SCTP
+/// association. Returns 1; or 0 if fewer bytes are left, and then nothing is written.
+#[unsafe(no_mangle)]
+pub extern "C" fn sockdiag_next_address(
+    value: &[u8],
+    cursor: &mut Cursor,
+    address: &mut StoredAddress,
+) -> u32
+    ensures { NextItem stored_address.size (parse_by_table stored_address) value.now cursor.old
+        cursor.new address.old address.new result }
+{
+    next_record(value, cursor, address)
+}
+
+/// Stores the inode at the cursor, and advances the cursor by its 4 bytes. The bytes are the value
+/// of `UNIX_DIAG_ICONS`: the inodes of the connections that wait to be accepted on a UNIX socket.
+/// Returns 1; or 0 if fewer bytes are left, and then nothing is written. The time for a whole list
+/// is proportional to its length.
+#[unsafe(no_mangle)]
+pub extern "C" fn sockdiag_next_pending(
+    value: &[u8],
+    cursor: &mut Cursor,
+    inode: &mut u32,
+) -> u32
+    ensures { NextItem 4 (little_number 4) value.now cursor.old cursor.new inode.old inode.new
+        result }
+{
+    match left_at(value, cursor, 4) {
+        Some(left) => {
+            *inode = LittleEndian::read_u32(left);
+            cursor.offset = cursor.offset + 4;
+            ITEM
+        }
+        None => END,
+    }
+}
+
+// Stores the record at the cursor, and advances the cursor past it. Returns 1, or 0 if fewer bytes
+// are left.
+fn next_record<T: AttributeRecord + Copy>(value: &[u8], cursor: &mut Cursor, found: &mut T) -> u32
+    ensures { NextItem T.layout.size (parse_by_table T.layout) value.now cursor.old cursor.new
+        found.old found.new result }
+{
+    match left_at(value, cursor, T::size()) {
+        Some(left) => {
+            *found = T::from_fields(left);
+            cursor.offset = cursor.offset + T::size();
+            ITEM
+        }
+        None => END,
+    }
+}
+
+// Returns the bytes from the cursor on, if at least `size` bytes are left.
+fn left_at<'a>(value: &'a [u8], cursor: &Cursor, size: usize) -> Option<&'a [u8]>
+    ensures { SomeIff (option_map (λ bytes. bytes.now) result)
+        (size ≤ length (bytes_after_cursor value.entry.now cursor.now))
+        (bytes_after_cursor value.entry.now cursor.now) }
+{
+    let left = value.get(cursor.offset..)?;
+    if left.len() < size {
+        return None;
+    }
+    Some(left)
+}

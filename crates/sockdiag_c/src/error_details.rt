@@ -1,0 +1,352 @@
+//! Decode errors with their fields, as a C struct. The other calls return the code only.
+
+ghost use Rattle.std.specs.Prelude.{◌≡◌, MatchResult};
+ghost use Rattle.netlink_core.specs.Errors.{error_code};
+ghost use Rattle.netlink_core.specs.Header.{HasHeader, IsMessageError};
+ghost use Rattle.netlink_core.specs.Response.{response_codec};
+ghost use Rattle.netlink_packet_sock_diag.specs.Message.{message_codec};
+ghost use Rattle.sock_diag_any.specs.RawReply.{raw_reply_spec};
+ghost use Rattle.sock_diag_families.specs.NetlinkResponseHeader.{netlink_header};
+ghost use Rattle.sock_diag_families.specs.PacketResponseHeader.{packet_header};
+ghost use Rattle.sock_diag_families.specs.VsockResponseHeader.{vsock_header};
+ghost use Rattle.sock_diag_families.specs.XdpResponseHeader.{xdp_header};
+ghost use Rattle.sock_diag_replies.specs.InetResponseSpec.{inet_response_spec};
+ghost use Rattle.sock_diag_replies.specs.UnixResponseSpec.{unix_response_spec};
+ghost use Rattle.sock_diag_attributes.specs.InetAttributes.{inet_attribute_set};
+ghost use Rattle.sock_diag_attributes.specs.UnixAttributes.{unix_attribute_set};
+ghost use Rattle.sockdiag_c.specs.Details.{optional_number};
+ghost use Rattle.sockdiag_c.specs.ErrorDetails.{IsExplained, IsItemExplained, error_details_of};
+ghost use Rattle.sockdiag_c.specs.ErrorDetails.{no_details, record_code, record_family, record_kind};
+ghost use Rattle.sockdiag_c.specs.FamilyValues.{RejectsReplyOrValue};
+ghost use Rattle.sockdiag_c.specs.NetlinkDetails.{netlink_value_errors};
+ghost use Rattle.sockdiag_c.specs.PacketDetails.{packet_value_errors};
+ghost use Rattle.sockdiag_c.specs.XdpDetails.{xdp_value_errors};
+
+use crate::check::OK;
+use crate::details::{NO_NUMBER, Number};
+use crate::{netlink_details, packet_details, xdp_details};
+use netlink_core::{DecodeError, FamilyView, NetlinkHeader, RecordName};
+use netlink_packet_sock_diag::SockDiagView;
+use netlink_packet_sock_diag::inet::InetResponseView;
+use netlink_packet_sock_diag::unix::UnixResponseView;
+use sock_diag_any::vsock::VsockResponseView;
+use sock_diag_attributes::inet::nlas::NlaView as InetNlaView;
+use sock_diag_attributes::unix::nlas::NlaView as UnixNlaView;
+use sock_diag_extras::LenientNlas;
+
+/// A decode error with its fields. A field that the error does not have is 0.
+#[repr(C)]
+#[derive(Clone, Copy)]
+pub struct ErrorDetails {
+    /// Code of the error, one of `enum sockdiag_error`.
+    pub code: u32,
+    /// Record that has too few bytes, one of `SOCKDIAG_RECORD_..`
+    /// (`SOCKDIAG_BUFFER_TOO_SMALL`).
+    pub record_name: u32,
+    /// Address family that is not supported or not known, or that the record belongs to.
+    pub family: u32,
+    /// Message type (`SOCKDIAG_UNKNOWN_MESSAGE_TYPE`).
+    pub message_type: u32,
+    /// Kind of the attribute whose value has a wrong length (`SOCKDIAG_WRONG_LENGTH`), or too few
+    /// bytes for its record.
+    pub kind: Number,
+    /// Number of bytes that were found: of the record, value or message; or, for an attribute whose
+    /// header or length field is invalid, up to the end.
+    pub got: usize,
+    /// Number of bytes that are needed.
+    pub need: usize,
+    /// Length field of the attribute or of the message.
+    pub length: usize,
+    /// Index of the first NUL in a pathname (`SOCKDIAG_NAME_INNER_ZERO`).
+    pub index: usize,
+}
+
+/// Record `inet_diag_sockid`, 48 bytes.
+pub(crate) const RECORD_SOCKET_ID: u32 = 1;
+
+/// Record `inet_diag_req_v2`, 56 bytes.
+pub(crate) const RECORD_INET_REQUEST: u32 = 2;
+
+/// Record `inet_diag_msg`, 72 bytes: the header of a reply about an IPv4 or IPv6 socket.
+pub(crate) const RECORD_INET_RESPONSE_HEADER: u32 = 3;
+
+/// Record `unix_diag_req`, 24 bytes.
+pub(crate) const RECORD_UNIX_REQUEST: u32 = 4;
+
+/// Record `unix_diag_msg`, 16 bytes: the header of a reply about a UNIX socket.
+pub(crate) const RECORD_UNIX_RESPONSE_HEADER: u32 = 5;
+
+/// Value of `INET_DIAG_MEMINFO`, 16 bytes.
+pub(crate) const RECORD_LEGACY_MEM_INFO: u32 = 6;
+
+/// Value of `INET_DIAG_SKMEMINFO`, 28 bytes or more.
+pub(crate) const RECORD_MEM_INFO: u32 = 7;
+
+/// Value of `INET_DIAG_INFO`, 232 bytes.
+pub(crate) const RECORD_TCP_INFO: u32 = 8;
+
+/// Value of `UNIX_DIAG_VFS`, 8 bytes.
+pub(crate) const RECORD_VFS: u32 = 9;
+
+/// Value of `UNIX_DIAG_MEMINFO`, 36 bytes.
+pub(crate) const RECORD_UNIX_MEM_INFO: u32 = 10;
+
+/// Request for sockets of the family in `family`.
+pub(crate) const RECORD_FAMILY_REQUEST: u32 = 11;
+
+/// Header of a reply about a socket of the family in `family`.
+pub(crate) const RECORD_FAMILY_RESPONSE_HEADER: u32 = 12;
+
+/// Value of the attribute `kind` in a reply about a socket of the family in `family`.
+pub(crate) const RECORD_FAMILY_ATTRIBUTE: u32 = 13;
+
+// Returns the code of the error, and 0 in all other fields.
+fn without_fields(code: u8) -> ErrorDetails
+    ensures { result ≡ no_details code }
+{
+    ErrorDetails {
+        code: u32::from(code),
+        record_name: 0,
+        family: 0,
+        message_type: 0,
+        kind: NO_NUMBER,
+        got: 0,
+        need: 0,
+        length: 0,
+        index: 0,
+    }
+}
+
+// Returns the number of the record, the family that it belongs to, and the kind of the attribute.
+fn record_fields(which: RecordName) -> (u32, u8, Option<u16>)
+    ensures { result ≡ (record_code which, record_family which, record_kind which) }
+{
+    match which {
+        RecordName::SocketId => (RECORD_SOCKET_ID, 0, None),
+        RecordName::InetRequest => (RECORD_INET_REQUEST, 0, None),
+        RecordName::InetResponseHeader => (RECORD_INET_RESPONSE_HEADER, 0, None),
+        RecordName::UnixRequest => (RECORD_UNIX_REQUEST, 0, None),
+        RecordName::UnixResponseHeader => (RECORD_UNIX_RESPONSE_HEADER, 0, None),
+        RecordName::LegacyMemInfo => (RECORD_LEGACY_MEM_INFO, 0, None),
+        RecordName::MemInfo => (RECORD_MEM_INFO, 0, None),
+        RecordName::TcpInfo => (RECORD_TCP_INFO, 0, None),
+        RecordName::Vfs => (RECORD_VFS, 0, None),
+        RecordName::UnixMemInfo => (RECORD_UNIX_MEM_INFO, 0, None),
+        RecordName::FamilyRequest { family } => (RECORD_FAMILY_REQUEST, family, None),
+        RecordName::FamilyResponseHeader { family } => {
+            (RECORD_FAMILY_RESPONSE_HEADER, family, None)
+        }
+        RecordName::FamilyAttribute { family, kind } => {
+            (RECORD_FAMILY_ATTRIBUTE, family, Some(kind))
+        }
+    }
+}
+
+// Returns the number of an optional kind.
+fn kind_number(kind: Option<u16>) -> Number
+    ensures { result ≡ optional_number kind }
+{
+    match kind {
+        Some(kind) => Number {
+            is_set: 1,
+            value: u32::from(kind),
+        },
+        None => NO_NUMBER,
+    }
+}
+
+impl From<DecodeError> for ErrorDetails {
+    ghost from_gives = { λ e details. details ≡ error_details_of e };
+
+    fn from(error: DecodeError) -> ErrorDetails {
+        let mut details = without_fields(error.number());
+        match error {
+            DecodeError::BufferTooSmall { which, got, need } => {
+                let (record_name, family, kind) = record_fields(which);
+                details.record_name = record_name;
+                details.family = u32::from(family);
+                details.kind = kind_number(kind);
+                details.got = got;
+                details.need = need;
+            }
+            DecodeError::UnsupportedFamily { family } | DecodeError::UnknownFamily { family } => {
+                details.family = u32::from(family);
+            }
+            DecodeError::UnknownMessageType { message_type } => {
+                details.message_type = u32::from(message_type);
+            }
+            DecodeError::MessageTooShort { got }
+            | DecodeError::AttributeHeaderCut { left: got }
+            | DecodeError::NotMultipleOfFour { got }
+            | DecodeError::EnvelopeCut { got } => details.got = got,
+            DecodeError::AttributeLengthUnder4 { length } => details.length = usize::from(length),
+            DecodeError::AttributeLengthPast { length, left } => {
+                details.length = usize::from(length);
+                details.got = left;
+            }
+            DecodeError::WrongLength { kind, got, need } => {
+                details.kind = kind_number(kind);
+                details.got = got;
+                details.need = need;
+            }
+            DecodeError::NameInnerZero { index } => details.index = index,
+            DecodeError::EnvelopeLengthUnder16 { length } => details.length = length as usize,
+            DecodeError::EnvelopeLengthPast { length, got } => {
+                details.length = length as usize;
+                details.got = got;
+            }
+            DecodeError::Memory
+            | DecodeError::NotUtf8
+            | DecodeError::NameEmpty
+            | DecodeError::NameWithoutEnd => {}
+        }
+        details
+    }
+}
+
+// Stores the fields of the error, if there is one. Returns its code, or 0.
+fn explain<T>(parsed: Result<T, DecodeError>, error: &mut ErrorDetails) -> u32
+    ensures { MatchResult parsed (λ _. (result ≡ 0) × (error.new ≡ error.old))
+        (λ e. (result ≡ error_code e) × (error.new ≡ error_details_of e)) }
+{
+    match parsed {
+        Ok(_) => OK,
+        Err(found) => {
+            *error = ErrorDetails::from(found);
+            error.code
+        }
+    }
+}
+
+/// Stores the error of a reply about a UNIX socket that `sockdiag_unix_get_details` or
+/// `sockdiag_check_unix_reply` rejects, with its fields. The bytes are the payload of the netlink
+/// message. Returns its code; or 0 if the reply is accepted, and then the error is unchanged.
+#[unsafe(no_mangle)]
+pub extern "C" fn sockdiag_unix_explain(payload: &[u8], error: &mut ErrorDetails) -> u32
+    ensures { IsExplained ((response_codec unix_response_spec).parses payload.now tt)
+        ((response_codec unix_response_spec).rejects payload.now tt) error.old error.new result }
+{
+    explain(UnixResponseView::parse(payload), error)
+}
+
+/// Stores the error of a reply about an IPv4 or IPv6 socket that `sockdiag_inet_get_details` or
+/// `sockdiag_check_inet_reply` rejects, with its fields. The bytes are the payload of the netlink
+/// message. Returns its code; or 0 if the reply is accepted, and then the error is unchanged.
+#[unsafe(no_mangle)]
+pub extern "C" fn sockdiag_inet_explain(payload: &[u8], error: &mut ErrorDetails) -> u32
+    ensures { IsExplained ((response_codec inet_response_spec).parses payload.now tt)
+        ((response_codec inet_response_spec).rejects payload.now tt) error.old error.new result }
+{
+    explain(InetResponseView::parse(payload), error)
+}
+
+/// Stores the error of a reply about a netlink socket that `sockdiag_netlink_get_details` rejects,
+/// with its fields. Returns its code; or 0 if the reply is accepted, and then the error is
+/// unchanged.
+#[unsafe(no_mangle)]
+pub extern "C" fn sockdiag_netlink_explain(payload: &[u8], error: &mut ErrorDetails) -> u32
+    ensures { IsExplained ((response_codec (raw_reply_spec netlink_header)).parses payload.now tt)
+        (RejectsReplyOrValue (raw_reply_spec netlink_header) netlink_value_errors payload.now)
+        error.old error.new result }
+{
+    explain(netlink_details::read(payload), error)
+}
+
+/// Stores the error of a reply about a packet socket that `sockdiag_packet_get_details` rejects,
+/// with its fields. Returns its code; or 0 if the reply is accepted, and then the error is
+/// unchanged.
+#[unsafe(no_mangle)]
+pub extern "C" fn sockdiag_packet_explain(payload: &[u8], error: &mut ErrorDetails) -> u32
+    ensures { IsExplained ((response_codec (raw_reply_spec packet_header)).parses payload.now tt)
+        (RejectsReplyOrValue (raw_reply_spec packet_header) packet_value_errors payload.now)
+        error.old error.new result }
+{
+    explain(packet_details::read(payload, &packet_details::NO_DETAILS), error)
+}
+
+/// Stores the error of a reply about a vsock socket that `sockdiag_vsock_get_details` rejects, with
+/// its fields. Returns its code; or 0 if the reply is accepted, and then the error is unchanged.
+#[unsafe(no_mangle)]
+pub extern "C" fn sockdiag_vsock_explain(payload: &[u8], error: &mut ErrorDetails) -> u32
+    ensures { IsExplained ((response_codec (raw_reply_spec vsock_header)).parses payload.now tt)
+        ((response_codec (raw_reply_spec vsock_header)).rejects payload.now tt) error.old error.new
+        result }
+{
+    explain(VsockResponseView::parse(payload), error)
+}
+
+/// Stores the error of a reply about an XDP socket that `sockdiag_xdp_get_details` rejects, with
+/// its fields. Returns its code; or 0 if the reply is accepted, and then the error is unchanged.
+#[unsafe(no_mangle)]
+pub extern "C" fn sockdiag_xdp_explain(payload: &[u8], error: &mut ErrorDetails) -> u32
+    ensures { IsExplained ((response_codec (raw_reply_spec xdp_header)).parses payload.now tt)
+        (RejectsReplyOrValue (raw_reply_spec xdp_header) xdp_value_errors payload.now)
+        error.old error.new result }
+{
+    explain(xdp_details::read(payload, &xdp_details::NO_DETAILS), error)
+}
+
+/// Stores the error with which `sockdiag_next_message` rejects the payload of a message of this
+/// type, with its fields. Returns its code; or 0 if the payload is accepted, and then the error is
+/// unchanged. Only pass types other than the four `NLMSG_..` types, whose payload is not checked.
+#[unsafe(no_mangle)]
+pub extern "C" fn sockdiag_message_explain(
+    payload: &[u8],
+    message_type: u16,
+    error: &mut ErrorDetails,
+) -> u32
+    ensures { IsExplained (message_codec.parses payload.now message_type)
+        (message_codec.rejects payload.now message_type) error.old error.new result }
+{
+    explain(SockDiagView::parse(payload, message_type), error)
+}
+
+/// Stores the framing error with which `sockdiag_next_message` and `sockdiag_next_any_message`
+/// reject these bytes, which start at the cursor, with its fields. Returns its code; or 0 if the
+/// bytes begin with a message, and then the error is unchanged.
+#[unsafe(no_mangle)]
+pub extern "C" fn sockdiag_framing_explain(bytes: &[u8], error: &mut ErrorDetails) -> u32
+    ensures { IsExplained (HasHeader bytes.now) (IsMessageError bytes.now) error.old error.new
+        result }
+{
+    explain(NetlinkHeader::from_prefix(bytes), error)
+}
+
+/// Stores the error of the attribute of a UNIX socket at the start of the bytes, which are a part of
+/// a reply, with its fields: its framing error, or the error of its value. Returns its code; or 0 if
+/// the attribute is accepted or there are no bytes, and then the error is unchanged.
+#[unsafe(no_mangle)]
+pub extern "C" fn sockdiag_unix_explain_attribute<'a>(
+    bytes: &'a [u8],
+    error: &mut ErrorDetails,
+) -> u32
+    ensures { IsItemExplained unix_attribute_set bytes.entry.now error.old error.new result }
+{
+    explain_item::<UnixNlaView<'a>>(bytes, error)
+}
+
+/// Stores the error of the attribute of an IPv4 or IPv6 socket at the start of the bytes, which are
+/// a part of a reply, with its fields: its framing error, or the error of its value. Returns its
+/// code; or 0 if the attribute is accepted or there are no bytes, and then the error is unchanged.
+#[unsafe(no_mangle)]
+pub extern "C" fn sockdiag_inet_explain_attribute<'a>(
+    bytes: &'a [u8],
+    error: &mut ErrorDetails,
+) -> u32
+    ensures { IsItemExplained inet_attribute_set bytes.entry.now error.old error.new result }
+{
+    explain_item::<InetNlaView<'a>>(bytes, error)
+}
+
+// Stores the fields of the error of the first attribute. Returns its code, or 0.
+fn explain_item<'a, V: FamilyView<'a>>(bytes: &'a [u8], error: &mut ErrorDetails) -> u32
+    ensures { IsItemExplained V.attribute_set bytes.entry.now error.old error.new result }
+{
+    match LenientNlas::<V>::new(bytes).next() {
+        Some(Err(rejection)) => {
+            *error = ErrorDetails::from(rejection.error());
+            error.code
+        }
+        Some(Ok(_)) | None => OK,
+    }
+}

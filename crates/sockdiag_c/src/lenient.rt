@@ -1,0 +1,160 @@
+//! The contents of a reply of which attributes may be rejected: the valid attributes, and the
+//! errors of the others.
+
+ghost use Rattle.std.specs.Prelude.{◌≡◌, List, []};
+ghost use Rattle.netlink_core.specs.AttributeSet.{AttributeValue};
+ghost use Rattle.sock_diag_replies.specs.InetResponseSpec.{inet_response_spec};
+ghost use Rattle.sock_diag_replies.specs.UnixResponseSpec.{unix_response_spec};
+ghost use Rattle.sockdiag_c.specs.Headers.{inet_header_of, unix_header_of};
+ghost use Rattle.sockdiag_c.specs.InetDetails.{HasInetDetails};
+ghost use Rattle.sockdiag_c.specs.UnixDetails.{HasUnixDetails};
+ghost use Rattle.sockdiag_c.specs.LenientDetails.{HasRejections, IsLenientResult, LenientItem};
+ghost use Rattle.sockdiag_c.specs.LenientDetails.{accepted_values};
+
+use crate::check::OK;
+use crate::details::ReplyDetails;
+use crate::inet_details::InetDetails;
+use crate::unix_details::UnixDetails;
+use netlink_core::{DecodeError, NlasIterator};
+
+/// Number of the elements of `errors` of `struct sockdiag_rejections`. All kinds that can be
+/// rejected are less.
+pub const REJECTION_KINDS: usize = 32;
+
+/// Why attributes of a reply are rejected: codes of errors, as `sockdiag_error_text` takes them. A
+/// code is 0 if there is no such error.
+#[repr(C)]
+#[derive(Clone, Copy)]
+pub struct Rejections {
+    /// Code of the first error. If it is 0, the whole reply is accepted.
+    /// `sockdiag_unix_get_details` or `sockdiag_inet_get_details` returns the same code.
+    pub first: u32,
+    /// Code of the framing error after the last attribute, 7 to 9. What follows is not parsed.
+    pub framing: u32,
+    /// Codes of the errors of attributes, by kind: the element `INET_DIAG_INFO` is the error of the
+    /// first `INET_DIAG_INFO` that is rejected. Its bytes are returned by
+    /// `sockdiag_next_attribute`.
+    pub errors: [u8; REJECTION_KINDS],
+}
+
+/// The rejections of a reply that has none.
+const NO_REJECTIONS: Rejections = Rejections {
+    first: 0,
+    framing: 0,
+    errors: [0; REJECTION_KINDS],
+};
+
+impl Rejections {
+    // Sets the code of the first error, unless it is set already.
+    fn set_first(&mut self, error: DecodeError) {
+        if self.first == 0 {
+            self.first = u32::from(error.number());
+        }
+    }
+
+    // Adds the error of an attribute of this kind.
+    fn add_attribute(&mut self, kind: u16, error: DecodeError) {
+        let index = usize::from(kind);
+        if index < REJECTION_KINDS && self.errors[index] == 0 {
+            self.errors[index] = error.number();
+        }
+        self.set_first(error);
+    }
+
+    // Adds the framing error, which is the last error.
+    fn add_framing(&mut self, error: DecodeError) {
+        self.framing = u32::from(error.number());
+        self.set_first(error);
+    }
+}
+
+/// Returns the header of a reply about a UNIX socket and the valid ones of its attributes, in one
+/// pass over the attributes, and the errors of the others. The bytes are the payload of the netlink
+/// message. Returns 0, and sets all fields of the details and of the rejections; or the code of the
+/// error of the header, and then both are unchanged. The previous contents of both are not read.
+/// What is not rejected is as `sockdiag_unix_get_details` describes it.
+///
+/// Use this call to list sockets: a value that this library does not accept, such as the
+/// `UNIX_DIAG_MEMINFO` of an old kernel, hides only itself, and not its socket.
+#[unsafe(no_mangle)]
+pub extern "C" fn sockdiag_unix_get_lenient_details<'a>(
+    payload: &'a [u8],
+    details: &mut UnixDetails<'a>,
+    rejections: &mut Rejections,
+) -> u32
+    // In order: the layout of the reply, what the struct has for a header and attributes, the
+    // payload, and both structs before and after the call.
+    ensures { IsLenientResult unix_response_spec (λ h found vs. HasUnixDetails (unix_header_of h)
+        found vs) payload.entry.now details.old details.new rejections.old rejections.new result }
+{
+    store_lenient_details(payload, details, rejections)
+}
+
+/// Returns the header of a reply about an IPv4 or IPv6 socket and the valid ones of its attributes
+/// that are a text or a number, in one pass over the attributes, and the errors of all attributes
+/// that are rejected. The bytes are the payload of the netlink message. Returns 0, and sets all
+/// fields of the details and of the rejections; or the code of the error of the header, and then
+/// both are unchanged. The previous contents of both are not read. What is not rejected is as
+/// `sockdiag_inet_get_details` describes it.
+///
+/// Use this call to list sockets: a value that this library does not accept, such as the
+/// `INET_DIAG_INFO` of an old kernel or of MPTCP, hides only itself, and not its socket.
+/// `sockdiag_inet_get_tcp_info_bytes` returns such a value as far as it goes.
+#[unsafe(no_mangle)]
+pub extern "C" fn sockdiag_inet_get_lenient_details<'a>(
+    payload: &'a [u8],
+    details: &mut InetDetails<'a>,
+    rejections: &mut Rejections,
+) -> u32
+    // In order: the layout of the reply, what the struct has for a header and attributes, the
+    // payload, and both structs before and after the call.
+    ensures { IsLenientResult inet_response_spec (λ h found vs. HasInetDetails (inet_header_of h)
+        found vs) payload.entry.now details.old details.new rejections.old rejections.new result }
+{
+    store_lenient_details(payload, details, rejections)
+}
+
+// Stores the header and the valid attributes in the details, and the errors of the others in the
+// rejections. Returns 0, or the code of the error of the header; then both are unchanged.
+fn store_lenient_details<'a, T: ReplyDetails<'a>>(
+    payload: &'a [u8],
+    details: &mut T,
+    rejections: &mut Rejections,
+) -> u32
+    ensures { IsLenientResult T.reply T.describes payload.entry.now details.old details.new
+        rejections.old rejections.new result }
+{
+    match T::parse_header(payload) {
+        Ok((mut found, rest)) => {
+            *rejections = set_valid_details(rest, &mut found);
+            *details = found;
+            OK
+        }
+        Err(error) => u32::from(error.number()),
+    }
+}
+
+// Parses each attribute. Sets the fields of the valid ones, and returns the errors of the others.
+fn set_valid_details<'a, T: ReplyDetails<'a>>(bytes: &'a [u8], details: &mut T) -> Rejections
+    ensures { (items : List (LenientItem T.reply.attribute_set))
+        × HasLenientItems T.reply.attribute_set bytes.entry.now items
+        × ((h : T.reply.header.Value) → T.describes h details.old []
+        → T.describes h details.new (accepted_values items))
+        × HasRejections result items }
+{
+    let mut rejections = NO_REJECTIONS;
+    for item in NlasIterator::new(bytes) {
+        match item {
+            Ok(nla) => {
+                if let Err(error) = details.set_detail(&nla) {
+                    rejections.add_attribute(nla.kind(), error);
+                }
+            }
+            Err(error) => {
+                rejections.add_framing(error);
+                return rejections;
+            }
+        }
+    }
+    rejections
+}
