@@ -24,7 +24,7 @@ module _ (F : AttributeSet) where
 
   -- The items of bytes are the item of their first attribute, and then the items of the bytes after
   -- it.
-  items_from_first : (bytes rest : List ℕ) (a : Attribute) (items : Items)
+  pub items_from_first : (bytes rest : List ℕ) (a : Attribute) (items : Items)
       → StartsWithAttribute bytes a rest
       → HasLenientItems F rest items → HasLenientItems F bytes (lenient_item_of F a ∷ items)
   items_from_first bytes rest a items s (later, how) = (
@@ -40,7 +40,7 @@ module _ (F : AttributeSet) where
   )
 
   -- Bytes that start with a framing error have one item, this error.
-  framing_error_is_last : (bytes : List ℕ) (e : DecodeError)
+  pub framing_error_is_last : (bytes : List ℕ) (e : DecodeError)
       (item : Result (AttributeValue F) RejectionModel)
       (later : Items)
       → bytes ≢ [] → IsFramingError bytes e

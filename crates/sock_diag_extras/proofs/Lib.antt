@@ -1,1 +1,1 @@
-mod CompleteLenientIteration
+pub mod CompleteLenientIteration

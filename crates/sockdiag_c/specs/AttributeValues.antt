@@ -1,7 +1,5 @@
 -- Getters over the value of one attribute, and steps over a value that is an array.
-use Rattle.std.specs.Prelude.{◌≡◌, ◌<◌, ◌≤◌, ¬, ℕ, ◌+◌, ◌⊎◌, List, length, drop}
-use Rattle.byteorder.specs.Endian.{little_number}
-use Rattle.sock_diag_extras.specs.RecordTable.{RecordTable, parse_by_table}
+use Rattle.std.specs.Prelude.{◌≡◌, ◌<◌, ◌≤◌, ℕ, ◌+◌, ◌⊎◌, List, length}
 use Rattle.sockdiag_c.specs.declared.walks.Cursor.{Cursor}
 use Rattle.sockdiag_c.specs.Walks.{bytes_after_cursor}
 

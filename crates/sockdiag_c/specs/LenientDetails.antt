@@ -4,8 +4,8 @@ use Rattle.std.specs.Prelude.{option_and_then, unwrap_or, is_none, slice_index, 
 use Rattle.std.specs.List.{filter_map}
 use Rattle.std.specs.Result.{result_ok, result_err}
 use Rattle.netlink_core.specs.declared.error.DecodeError.{DecodeError}
-use Rattle.netlink_core.specs.Attribute.{attribute_kind}
-use Rattle.netlink_core.specs.AttributeSet.{AttributeSet, AttributeValue}
+use Rattle.netlink_core.specs.Attribute.{DecodeTo, HasAttributeError, attribute_kind}
+use Rattle.netlink_core.specs.AttributeSet.{AttributeSet, AttributeValue, decode_attribute}
 use Rattle.netlink_core.specs.Errors.{error_code}
 use Rattle.netlink_core.specs.Response.{ResponseSpec}
 use Rattle.sock_diag_extras.specs.Lenient.{HasLenientItems, RejectionModel}
@@ -19,12 +19,14 @@ abbrev pub LenientItem : AttributeSet → Type 0
 LenientItem F = Result (AttributeValue F) RejectionModel
 
 -- `accepted_values items`: the values of the attributes that are not rejected, in order
-abbrev pub accepted_values : {F : AttributeSet} → List (LenientItem F) → List (AttributeValue F)
+abbrev pub accepted_values : {V : Type 0} → List (Result V RejectionModel) → List V
 accepted_values items = filter_map result_ok items
 
 -- `first_code code items`: `code r` of the first rejection `r` for which it is present; 0 if there
 -- is none
-abbrev pub first_code : {F : AttributeSet} → (RejectionModel → Option ℕ) → List (LenientItem F) → ℕ
+abbrev pub first_code : {V : Type 0} → (RejectionModel → Option ℕ)
+    → List (Result V RejectionModel)
+    → ℕ
 first_code code items =
     unwrap_or (first_content_of (λ item. option_and_then code (result_err item)) items) 0
 
@@ -46,12 +48,22 @@ code_of_kind k r =
 -- `HasRejections it items`: the struct `it` has the code of the first error of all, the code of the
 -- framing error, and for each kind below 32 the code of the first error of an attribute of this
 -- kind. Each is 0 if there is no such error.
-abbrev pub HasRejections : {F : AttributeSet} → Rejections → List (LenientItem F) → Type 0
+abbrev pub HasRejections : {V : Type 0} → Rejections → List (Result V RejectionModel) → Type 0
 HasRejections it items =
     (it.first ≡ first_code code_of_any items)
     × (it.framing ≡ first_code code_of_framing items)
     × ((k : ℕ) → k < REJECTION_KINDS
     → slice_index it.errors k ≡ first_code (code_of_kind k) items)
+
+-- AgreesWithStrictParse F bytes items: the lenient items of the bytes agree with the strict parse.
+-- Either there is no rejection, and the bytes decode to the accepted values. Or the code of the
+-- first rejection is the code of the error with which the strict parse rejects the bytes.
+abbrev pub AgreesWithStrictParse : (F : AttributeSet) → List ℕ → List (LenientItem F) → Type 0
+AgreesWithStrictParse F bytes items =
+    ((first_code code_of_any items ≡ 0)
+    × DecodeTo (decode_attribute F) bytes (accepted_values items))
+    ⊎ ((e : DecodeError) × HasAttributeError (decode_attribute F) bytes e
+    × (first_code code_of_any items ≡ error_code e))
 
 -- IsLenientResult R describes payload old new was now answer: `answer` is the return value; `old`
 -- and `new` are the details before and after the call, `was` and `now` the rejections. One of:

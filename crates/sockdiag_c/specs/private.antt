@@ -2,3 +2,4 @@
 pub mod FirstNumber
 pub mod UnixDetails
 pub mod InetDetails
+pub mod Rejections

@@ -1,7 +1,7 @@
 //! Values of single attributes that the structs of a reply lack. `sockdiag_next_attribute` returns
 //! them.
 
-ghost use Rattle.std.specs.Prelude.{◌≡◌, ◌≤◌, SomeIff, length, option_map};
+ghost use Rattle.std.specs.Prelude.{◌≡◌, ◌≤◌, length};
 ghost use Rattle.byteorder.specs.Endian.{little_number};
 ghost use Rattle.sock_diag_extras.specs.Congestion.{bbr_info, dctcp_info, vegas_info};
 ghost use Rattle.sock_diag_extras.specs.Md5Signature.{md5_signature};
@@ -114,22 +114,17 @@ pub extern "C" fn sockdiag_next_address(
 /// Returns 1; or 0 if fewer bytes are left, and then nothing is written. The time for a whole list
 /// is proportional to its length.
 #[unsafe(no_mangle)]
-pub extern "C" fn sockdiag_next_pending(
-    value: &[u8],
-    cursor: &mut Cursor,
-    inode: &mut u32,
-) -> u32
+pub extern "C" fn sockdiag_next_pending(value: &[u8], cursor: &mut Cursor, inode: &mut u32) -> u32
     ensures { NextItem 4 (little_number 4) value.now cursor.old cursor.new inode.old inode.new
         result }
 {
-    match left_at(value, cursor, 4) {
-        Some(left) => {
-            *inode = LittleEndian::read_u32(left);
-            cursor.offset = cursor.offset + 4;
-            ITEM
-        }
-        None => END,
+    let left = left_at(value, cursor);
+    if left.len() < 4 {
+        return END;
     }
+    *inode = LittleEndian::read_u32(left);
+    cursor.offset = cursor.offset + 4;
+    ITEM
 }
 
 // Stores the record at the cursor, and advances the cursor past it. Returns 1, or 0 if fewer bytes
@@ -138,25 +133,21 @@ fn next_record<T: AttributeRecord + Copy>(value: &[u8], cursor: &mut Cursor, fou
     ensures { NextItem T.layout.size (parse_by_table T.layout) value.now cursor.old cursor.new
         found.old found.new result }
 {
-    match left_at(value, cursor, T::size()) {
-        Some(left) => {
-            *found = T::from_fields(left);
-            cursor.offset = cursor.offset + T::size();
-            ITEM
-        }
-        None => END,
+    let left = left_at(value, cursor);
+    if left.len() < T::size() {
+        return END;
     }
+    *found = T::from_fields(left);
+    cursor.offset = cursor.offset + T::size();
+    ITEM
 }
 
-// Returns the bytes from the cursor on, if at least `size` bytes are left.
-fn left_at<'a>(value: &'a [u8], cursor: &Cursor, size: usize) -> Option<&'a [u8]>
-    ensures { SomeIff (option_map (λ bytes. bytes.now) result)
-        (size ≤ length (bytes_after_cursor value.entry.now cursor.now))
-        (bytes_after_cursor value.entry.now cursor.now) }
+// Returns the bytes from the cursor on.
+fn left_at<'a>(value: &'a [u8], cursor: &Cursor) -> &'a [u8]
+    ensures { result.now ≡ bytes_after_cursor value.entry.now cursor.now }
 {
-    let left = value.get(cursor.offset..)?;
-    if left.len() < size {
-        return None;
+    if cursor.offset > value.len() {
+        return &[];
     }
-    Some(left)
+    &value[cursor.offset..]
 }

@@ -123,7 +123,8 @@ pub(crate) trait ReplyDetails<'a>: Copy {
             × ((h : reply.header.Value) (before : List (AttributeValue reply.attribute_set))
             → describes h self.old before → describes h self.new (before ++ v ∷ []))) }
         ensures error { IfErr result (λ e.
-            decode_attribute reply.attribute_set (buffered_attribute nla.now) ≡ Err e) };
+            decode_attribute reply.attribute_set (buffered_attribute nla.now) ≡ Err e) }
+        ensures unchanged { IfErr result (λ _. self.new ≡ self.old) };
 }
 
 /// Checks a whole reply about a UNIX socket, as `sockdiag_check_unix_reply` does, and returns its

@@ -205,7 +205,7 @@ impl From<DecodeError> for ErrorDetails {
 }
 
 // Stores the fields of the error, if there is one. Returns its code, or 0.
-fn explain<T>(parsed: Result<T, DecodeError>, error: &mut ErrorDetails) -> u32
+fn explain<T: Drop>(parsed: Result<T, DecodeError>, error: &mut ErrorDetails) -> u32
     ensures { MatchResult parsed (λ _. (result ≡ 0) × (error.new ≡ error.old))
         (λ e. (result ≡ error_code e) × (error.new ≡ error_details_of e)) }
 {
@@ -261,7 +261,10 @@ pub extern "C" fn sockdiag_packet_explain(payload: &[u8], error: &mut ErrorDetai
         (RejectsReplyOrValue (raw_reply_spec packet_header) packet_value_errors payload.now)
         error.old error.new result }
 {
-    explain(packet_details::read(payload, &packet_details::NO_DETAILS), error)
+    explain(
+        packet_details::read(payload, &packet_details::NO_DETAILS),
+        error,
+    )
 }
 
 /// Stores the error of a reply about a vsock socket that `sockdiag_vsock_get_details` rejects, with
@@ -339,7 +342,7 @@ pub extern "C" fn sockdiag_inet_explain_attribute<'a>(
 }
 
 // Stores the fields of the error of the first attribute. Returns its code, or 0.
-fn explain_item<'a, V: FamilyView<'a>>(bytes: &'a [u8], error: &mut ErrorDetails) -> u32
+fn explain_item<'a, V: FamilyView<'a> + Drop>(bytes: &'a [u8], error: &mut ErrorDetails) -> u32
     ensures { IsItemExplained V.attribute_set bytes.entry.now error.old error.new result }
 {
     match LenientNlas::<V>::new(bytes).next() {

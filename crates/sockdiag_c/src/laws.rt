@@ -6,6 +6,10 @@ ghost use Rattle.netlink_core.specs.Bytes.{IsBytes};
 ghost use Rattle.netlink_core.specs.Datagram.{SplitsIntoMessages};
 ghost use Rattle.netlink_core.specs.declared.error.DecodeError.{DecodeError};
 ghost use Rattle.netlink_core.specs.Errors.{error_code};
+ghost use Rattle.sock_diag_attributes.specs.InetAttributes.{inet_attribute_set};
+ghost use Rattle.sock_diag_attributes.specs.UnixAttributes.{unix_attribute_set};
+ghost use Rattle.sock_diag_extras.specs.Lenient.{HasLenientItems};
+ghost use Rattle.sockdiag_c.specs.LenientDetails.{AgreesWithStrictParse, LenientItem};
 ghost use Rattle.sockdiag_c.specs.declared.walks.AttributeRange.{AttributeRange};
 ghost use Rattle.sockdiag_c.specs.declared.walks.Cursor.{Cursor};
 ghost use Rattle.sockdiag_c.specs.declared.walks.MessageRange.{MessageRange};
@@ -57,4 +61,19 @@ pub fn a_step_passes_the_first_message()
         → SplitsIntoMessages (bytes_after_cursor bytes old) [] (Some e)
         → NextMessage bytes old new was now answer
         → (answer ≡ error_code e) × (bytes_after_cursor bytes new ≡ []) }
+{}
+
+/// States that a lenient call agrees with the strict call: its rejections have the code 0 in `first`
+/// if and only if the attributes are accepted, and then it has the same values. Otherwise `first`
+/// is the code of the error that the strict call returns.
+///
+/// `bytes`: the bytes after the header of a reply. `items`: their lenient items, as in the contracts
+/// of both calls.
+pub fn lenient_calls_agree_with_strict_calls()
+    ensures unix { (bytes : List ℕ) (items : List (LenientItem unix_attribute_set))
+        → HasLenientItems unix_attribute_set bytes items
+        → AgreesWithStrictParse unix_attribute_set bytes items }
+    ensures inet { (bytes : List ℕ) (items : List (LenientItem inet_attribute_set))
+        → HasLenientItems inet_attribute_set bytes items
+        → AgreesWithStrictParse inet_attribute_set bytes items }
 {}

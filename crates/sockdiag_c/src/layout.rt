@@ -15,13 +15,11 @@ use crate::rewriting::Outcome;
 use crate::unix_details::UnixDetails;
 use crate::walks::{AttributeRange, Cursor, MessageRange};
 use crate::xdp_details::XdpDetails;
+use sock_diag_extras::{BbrInfo, DctcpInfo, Md5Signature, SocketOptions, StoredAddress, VegasInfo};
 use sock_diag_families::netlink::NetlinkResponseHeader;
 use sock_diag_families::packet::{PacketInfo, PacketResponseHeader, PacketRing};
 use sock_diag_families::vsock::VsockResponseHeader;
 use sock_diag_families::xdp::{XdpInfo, XdpResponseHeader, XdpStatistics, XdpUmem};
-use sock_diag_extras::{
-    BbrInfo, DctcpInfo, Md5Signature, SocketOptions, StoredAddress, VegasInfo,
-};
 use std::mem::size_of;
 
 const _: () = prove!(size_of::<UnixHeader>() == 16);

@@ -1,8 +1,10 @@
 //! The contents of a reply of which attributes may be rejected: the valid attributes, and the
 //! errors of the others.
 
-ghost use Rattle.std.specs.Prelude.{◌≡◌, List, []};
+ghost use Rattle.std.specs.Prelude.{◌≡◌, ◌<◌, ◌==◌, if◌then◌else◌, ℕ, List, [], slice_index};
+ghost use Rattle.netlink_core.specs.Errors.{error_code};
 ghost use Rattle.netlink_core.specs.AttributeSet.{AttributeValue};
+ghost use Rattle.sock_diag_extras.specs.Lenient.{HasLenientItems};
 ghost use Rattle.sock_diag_replies.specs.InetResponseSpec.{inet_response_spec};
 ghost use Rattle.sock_diag_replies.specs.UnixResponseSpec.{unix_response_spec};
 ghost use Rattle.sockdiag_c.specs.Headers.{inet_header_of, unix_header_of};
@@ -10,6 +12,7 @@ ghost use Rattle.sockdiag_c.specs.InetDetails.{HasInetDetails};
 ghost use Rattle.sockdiag_c.specs.UnixDetails.{HasUnixDetails};
 ghost use Rattle.sockdiag_c.specs.LenientDetails.{HasRejections, IsLenientResult, LenientItem};
 ghost use Rattle.sockdiag_c.specs.LenientDetails.{accepted_values};
+ghost use Rattle.sockdiag_c.specs.private.Rejections.{kept_code};
 
 use crate::check::OK;
 use crate::details::ReplyDetails;
@@ -44,27 +47,40 @@ const NO_REJECTIONS: Rejections = Rejections {
     errors: [0; REJECTION_KINDS],
 };
 
-impl Rejections {
-    // Sets the code of the first error, unless it is set already.
-    fn set_first(&mut self, error: DecodeError) {
-        if self.first == 0 {
-            self.first = u32::from(error.number());
-        }
+// Sets the code of the error, unless it is set already.
+fn keep_first(code: &mut u32, error: DecodeError)
+    ensures { code.new ≡ kept_code code.old (error_code error) }
+{
+    if *code == 0 {
+        *code = u32::from(error.number());
     }
+}
 
+impl Rejections {
     // Adds the error of an attribute of this kind.
-    fn add_attribute(&mut self, kind: u16, error: DecodeError) {
+    fn add_attribute(&mut self, kind: u16, error: DecodeError)
+        ensures first { self.new.first ≡ kept_code self.old.first (error_code error) }
+        ensures framing { self.new.framing ≡ self.old.framing }
+        ensures errors { (k : ℕ) → k < REJECTION_KINDS
+            → slice_index self.new.errors k ≡ (if kind == k
+            then kept_code (slice_index self.old.errors k) (error_code error)
+            else slice_index self.old.errors k) }
+    {
         let index = usize::from(kind);
         if index < REJECTION_KINDS && self.errors[index] == 0 {
             self.errors[index] = error.number();
         }
-        self.set_first(error);
+        keep_first(&mut self.first, error);
     }
 
-    // Adds the framing error, which is the last error.
-    fn add_framing(&mut self, error: DecodeError) {
-        self.framing = u32::from(error.number());
-        self.set_first(error);
+    // Adds the framing error.
+    fn add_framing(&mut self, error: DecodeError)
+        ensures first { self.new.first ≡ kept_code self.old.first (error_code error) }
+        ensures framing { self.new.framing ≡ kept_code self.old.framing (error_code error) }
+        ensures errors { self.new.errors ≡ self.old.errors }
+    {
+        keep_first(&mut self.framing, error);
+        keep_first(&mut self.first, error);
     }
 }
 
@@ -145,11 +161,10 @@ fn set_valid_details<'a, T: ReplyDetails<'a>>(bytes: &'a [u8], details: &mut T) 
     let mut rejections = NO_REJECTIONS;
     for item in NlasIterator::new(bytes) {
         match item {
-            Ok(nla) => {
-                if let Err(error) = details.set_detail(&nla) {
-                    rejections.add_attribute(nla.kind(), error);
-                }
-            }
+            Ok(nla) => match details.set_detail(&nla) {
+                Ok(()) => {}
+                Err(error) => rejections.add_attribute(nla.kind(), error),
+            },
             Err(error) => {
                 rejections.add_framing(error);
                 return rejections;

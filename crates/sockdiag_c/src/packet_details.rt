@@ -124,7 +124,10 @@ pub extern "C" fn sockdiag_packet_get_details<'a>(
 }
 
 /// Parses the reply over the old details, and returns its contents or the first error.
-pub(crate) fn read<'a>(payload: &'a [u8], old: &PacketDetails<'a>) -> Result<PacketDetails<'a>, DecodeError>
+pub(crate) fn read<'a>(
+    payload: &'a [u8],
+    old: &PacketDetails<'a>,
+) -> Result<PacketDetails<'a>, DecodeError>
     ensures value { IfOk result (λ found. (v : ReplyValue (raw_reply_spec packet_header))
         × (response_codec (raw_reply_spec packet_header)).parses payload.entry.now tt v
         × IsPacketDetailsOf old.now v found) }
