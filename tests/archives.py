@@ -173,12 +173,14 @@ def cases():
 
 
 def make_repository(top):
-    for tool in ("install", "libraries", "pack", "release", "start"):
+    for tool in ("arguments", "install", "libraries", "pack", "release", "start"):
         (top / "tools").mkdir(parents=True, exist_ok=True)
         shutil.copy(TOP / "tools" / tool, top / "tools")
     write(top.parent / "bin/rt", RT, 0o755)
     for name, text in {"VERSION": VERSION, "LOGIC": LOGIC, "LICENSE-MIT": "licence"}.items():
         write(top / name, f"{text}\n")
+    # Without [FILE ..] no argument is taken as a file.
+    write(top / "tests/help/sslist", "Usage: sslist [WORD ..]\n")
     write(top / "crates.txt", "".join(f"{crate}: {low}\n" for crate, low in CRATES.items()))
     for crate in CRATES:
         write(top / f"crates/{crate}/src/lib.rt", f"source of {crate}\n")
