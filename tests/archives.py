@@ -173,12 +173,14 @@ def cases():
 
 
 def make_repository(top):
-    for tool in ("install", "libraries", "pack", "release", "start"):
+    for tool in ("arguments", "install", "libraries", "pack", "release", "start"):
         (top / "tools").mkdir(parents=True, exist_ok=True)
         shutil.copy(TOP / "tools" / tool, top / "tools")
     write(top.parent / "bin/rt", RT, 0o755)
     for name, text in {"VERSION": VERSION, "LOGIC": LOGIC, "LICENSE-MIT": "licence"}.items():
         write(top / name, f"{text}\n")
+    # Without [FILE ..] no argument is taken as a file.
+    write(top / "tests/help/sslist", "Usage: sslist [WORD ..]\n")
     write(top / "crates.txt", "".join(f"{crate}: {low}\n" for crate, low in CRATES.items()))
     for crate in CRATES:
         write(top / f"crates/{crate}/src/lib.rt", f"source of {crate}\n")
@@ -246,8 +248,8 @@ def check_release(folder):
     make_repository(other)
     for name in ("INSTALL.md", "SECURITY.md", "docs/C.md", "docs/CAPTURE.md", "docs/KERNELS.md",
                  "docs/LINES.md", "docs/MIGRATING.md", "docs/RUST.md", "docs/STABILITY.md",
-                 "examples/Makefile",
-                 "examples/list_sockets.c", "include/sockdiag.h", "man/sockdiag.1",
+                 "examples/Makefile", "examples/list_sockets.c", "examples/sockdump.c",
+                 "include/sockdiag.h", "man/sockdiag.1",
                  "man/sockdiag.3", "man/sslist.1", "rust/sockdiag/code", "tests/tidy.py",
                  "crates/sockdiag_c/out/libsockdiag_c.a"):
         write(top / name, "")

@@ -2,7 +2,7 @@
 """Compiles the C header and rust/sockdiag, and runs their tests if the library is soon built.
 
 - With a C compiler, `$CC` or `cc`, it compiles the header with tests/c_layout.c, which asserts the
-  offset of each field and the size of each struct, and as C99 the example and the C files in
+  offset of each field and the size of each struct, and as C99 the examples and the C files in
   tests/api that use it. Some are also compiled as C++.
 - If the library is built and is newer than the sources, tests/api/c_api.sh runs the calls from C,
   and tests/api/rust_api.sh runs the tests of rust/sockdiag. Otherwise rust/sockdiag is only
@@ -44,6 +44,8 @@ def compile_c(compiler):
         ("c", "c99", "tests/api/fake_kernel.c"),
         ("c", "c99", "examples/list_sockets.c"),
         ("c++", "c++11", "examples/list_sockets.c"),
+        ("c", "c99", "examples/sockdump.c"),
+        ("c++", "c++11", "examples/sockdump.c"),
     ]:
         if language == "c++" and not has_plus:
             print(f"skipped: the header as C++: {compiler} does not support C++")

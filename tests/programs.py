@@ -7,6 +7,7 @@ import os
 import re
 import select
 import shutil
+import socket
 import subprocess
 import sys
 import tempfile
@@ -123,6 +124,55 @@ def test_sslist(program):
     check(program, [], capture, 0, table, note)
     check_failed_writes(program, [], capture, b"", b"sslist: writing failed\n")
     check_failed_writes(program, ["--help"], b"", b"", b"")
+
+
+def test_early_check(program):
+    """Compares a run with what tools/arguments reports, which checks the arguments before the
+    program is built."""
+    script = CRATES.parent / "tools/arguments"
+    for arguments in (
+        ["-q"], ["--nope"], ["-tq", "--help"], ["--utf8=1"], ["/nowhere", "-q"], ["/nowhere"],
+        ["/", "/nowhere"], [""], [f"{CAPTURE}/x"], ["-tun", "/nowhere"], ["--family=nope"],
+    ):
+        status, _, errors = run(program, arguments, b"")
+        assert status in (1, 2), (arguments, status)
+        check(script, ["sslist", *arguments], b"", status, b"", re.escape(errors))
+    for arguments, answer in (["--help", "-q"], b"help\n"), (["-t", "--version"], b"version\n"):
+        assert run(program, arguments, b"")[0] == 0, arguments
+        check(script, ["sslist", *arguments], b"", 0, answer)
+    check(script, ["sslist", "-t", CAPTURE], b"", 0, b"")
+
+
+def test_sockdump(program):
+    """Compiles examples/sockdump.c, and lists what it writes: among others a listening TCP socket
+    and a UNIX socket that are open here. Skipped if the kernel does not allow to ask it."""
+    source = CRATES.parent / "examples/sockdump.c"
+    listening, named = socket.socket(), socket.socket(socket.AF_UNIX)
+    listening.bind(("127.0.0.1", 0))
+    listening.listen(7)
+    with tempfile.TemporaryDirectory() as folder, listening, named:
+        named.bind(f"{folder}/named")
+        dump = f"{folder}/sockdump"
+        words = "-std=c99 -O2 -Wall -Wextra -pedantic -Werror -o".split()
+        subprocess.run(["gcc", *words, dump, source], check=True)
+        status, usage, errors = run(dump, ["-h"], b"")
+        assert (status, errors) == (0, b"") and usage.startswith(b"usage: sockdump"), usage
+        check(dump, ["tcp", "nope"], b"", 2, b"", b"sockdump: unknown kind; try sockdump -h\n")
+        check(dump, [], b"", 1, b"", b"sockdump: .*\n", os.open("/dev/full", os.O_WRONLY))
+        status, capture, errors = run(dump, [], b"")
+        if errors.startswith(b"sockdump: socket: "):
+            print("skipped: sockdump:", errors.decode().strip())
+            return
+        header = b"\xd4\xc3\xb2\xa1\2\0\4\0" + bytes(8) + b"\0\0\4\0\xfd\0\0\0"
+        assert (status, errors, capture[:24]) == (0, b"", header), (status, errors, capture[:24])
+        status, table, errors = run(program, ["-O"], capture)
+        rows = [line.split() for line in table.splitlines()]
+        port = b"127.0.0.1:%d" % listening.getsockname()[1]
+        assert (status, errors) == (0, b""), errors
+        tcp = [row for row in rows if row[0] == b"tcp" and row[6] == port]
+        assert [row[:4] for row in tcp] == [[b"tcp", b"LISTEN", b"0", b"7"]], tcp
+        assert any(row[6] == f"{folder}/named".encode() for row in rows), "UNIX socket"
+        assert run(dump, ["unix"], b"")[1].startswith(header)
 
 
 def test_unreadable_file(program):
@@ -278,7 +328,9 @@ if __name__ == "__main__":
     test_diagnostics(sslist)
     test_long_inputs(sslist)
     test_unreadable_file(sslist)
+    test_early_check(sslist)
     if shutil.which("gcc"):
+        test_sockdump(sslist)
         test_out_of_memory(sockdiag, ["--strict"], b"unix 00\n", 3, b"refused 2\n")
         expected = run(sslist, ["-t"], CAPTURE.read_bytes())[:2]
         test_out_of_memory(sslist, ["-t", CAPTURE], b"", *expected)

@@ -8,6 +8,10 @@
 The script creates sockets of many kinds. A library that is preloaded into ss (record.c) records
 what ss sends and receives on AF_NETLINK as a capture, which sslist lists. sslist has to list each
 socket that ss shows, print the same value wherever both print one, and end with status 0.
+
+Then it compares what ss lists with what sslist lists of the capture that examples/sockdump.c
+writes. Each has to list the sockets of the other, with equal columns.
+
 Differences are printed, and the exit status is 1 if there is one.
 
 It is not part of the gate. It needs gcc, iproute2 and the built sslist. As root it uses a new
@@ -27,6 +31,8 @@ TOP = Path(__file__).resolve().parents[2]
 LISTER = TOP / "crates/sslist/out/sslist"
 OPTIONS = ["-tanioem", "-uanioem", "-xanem", "-anMei", "-s"]
 OPTIONS += ["-0anem", "-anemf netlink", "-anem --vsock", "-anem --xdp", "-an", "-anem"]
+# Options for both programs, of the comparisons with sockdump.
+OF_DUMPS = ["-tan", "-uan", "-xan", "-Man", "-0an", "-an"]
 INET, INET6, UNIX = socket.AF_INET, socket.AF_INET6, socket.AF_UNIX
 STREAM, DATAGRAM, PACKETS = socket.SOCK_STREAM, socket.SOCK_DGRAM, socket.SOCK_SEQPACKET
 MPTCP = 262
@@ -123,10 +129,10 @@ def timer(milliseconds):
     return text + (f"{rest:03}ms" if rest else "")
 
 
-def listed(capture):
+def listed(capture, *options):
     """Returns the sockets that sslist lists, by key and in order, its standard error and its exit
     status."""
-    run = subprocess.run([LISTER, capture], capture_output=True, check=False)
+    run = subprocess.run([LISTER, *options, capture], capture_output=True, check=False)
     sockets, last = {}, None
     for line in run.stdout.decode("ascii").splitlines()[1:]:
         if not line.startswith("\t"):
@@ -252,6 +258,49 @@ def compare(option, folder, recorder):
     return wrong + missing + status
 
 
+def is_own(columns):
+    """Returns whether a socket is one by which a program asks the kernel (NETLINK_SOCK_DIAG)."""
+    return columns["netid"] == "nl" and columns["local"].startswith(("4:", "tcpdiag:"))
+
+
+def compare_dump(option, capture):
+    """Compares the columns of ss and of sslist over a capture of sockdump. Prints the differences,
+    and returns their number."""
+    ss = ["ss", option, "-OH"]
+    theirs = subprocess.run(ss, capture_output=True, check=True).stdout.decode().splitlines()
+    sockets, errors, status = listed(capture, option)
+    wrong = found = 0
+    for line in theirs:
+        key, columns, _ = shown(line)
+        if columns.get("netid") == "nl" and key[0].startswith("4:"):
+            continue
+        ours = sockets.get(key)
+        values = {name: ours[0][name] for name in columns} if ours else None
+        found += 1
+        if values != columns:
+            wrong += 1
+            print(f"sockdump {option}: {line}: sslist prints {values}")
+        if ours:
+            ours.pop(0)
+    extra = [it for them in sockets.values() for it in them if not is_own(it)]
+    print(f"sockdump {option}: {found} sockets, {wrong} differ, status {status}", errors,
+          *(f"not listed by ss: {it}" for it in extra), sep="\n  ")
+    return wrong + len(extra) + status
+
+
+def compare_dumps(folder):
+    """Compares ss with sockdump, for each list of options. Returns the number of differences."""
+    program, capture = f"{folder}/sockdump", f"{folder}/dump"
+    source = TOP / "examples/sockdump.c"
+    subprocess.run(["gcc", "-std=c99", "-o", program, source], check=True)
+    wrong = 0
+    for option in OF_DUMPS:
+        with open(capture, "wb") as output:
+            subprocess.run([program], stdout=output, check=True)
+        wrong += compare_dump(option, capture)
+    return wrong
+
+
 def main():
     if not LISTER.exists():
         sys.exit("compare_ss.py: sslist is not built; run ./sslist </dev/null")
@@ -263,6 +312,7 @@ def main():
         subprocess.run(["gcc", "-shared", "-fPIC", "-o", recorder, source], check=True)
         kept = make_sockets(folder)
         wrong = sum(compare(option, folder, recorder) for option in sys.argv[1:] or OPTIONS)
+        wrong += compare_dumps(folder) if not sys.argv[1:] else 0
         del kept
     return 1 if wrong else 0
 
