@@ -67,8 +67,8 @@ pub fn a_step_passes_the_first_message()
 /// if and only if the attributes are accepted, and then it has the same values. Otherwise `first`
 /// is the code of the error that the strict call returns.
 ///
-/// `bytes`: the bytes after the header of a reply. `items`: their lenient items, as in the contracts
-/// of both calls.
+/// `bytes`: the bytes after the header of a reply. `items`: their lenient items, as in the
+/// contracts of both calls.
 pub fn lenient_calls_agree_with_strict_calls()
     ensures unix { (bytes : List ℕ) (items : List (LenientItem unix_attribute_set))
         → HasLenientItems unix_attribute_set bytes items
