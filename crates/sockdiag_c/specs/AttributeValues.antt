@@ -11,9 +11,9 @@ IsStoredIf P item old new answer =
     (P × (answer ≡ 1) × (new ≡ item)) ⊎ ((¬ P) × (answer ≡ 0) × (new ≡ old))
 
 -- NextItem size parses bytes old new was now answer: `old` and `new` are the cursor before and
--- after a step, `was` and `now` the item. If `size` bytes or more are left, the item that they begin
--- with (`parses`) is stored, the cursor is advanced by `size`, and the return value is 1. Otherwise
--- nothing changes and the return value is 0.
+-- after a step, `was` and `now` the item. If `size` bytes or more are left, the item that they
+-- begin with (`parses`) is stored, the cursor is advanced by `size`, and the return value is 1.
+-- Otherwise nothing changes and the return value is 0.
 abbrev pub NextItem : {T : Type 0} → ℕ → (List ℕ → T) → List ℕ → Cursor → Cursor → T → T → ℕ
     → Type 0
 NextItem size parses bytes old new was now answer =

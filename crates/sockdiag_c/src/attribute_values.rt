@@ -38,8 +38,8 @@ pub extern "C" fn sockdiag_get_cgroup_id(value: &[u8], id: &mut u64) -> u32
     store(parse_cgroup_id(value), id)
 }
 
-/// Stores the options of an IPv4 or IPv6 socket: the value of `INET_DIAG_SOCKOPT`, at least 2 bytes.
-/// Returns 1; or 0 if the value is shorter, and then the options are unchanged.
+/// Stores the options of an IPv4 or IPv6 socket: the value of `INET_DIAG_SOCKOPT`, at least 2
+/// bytes. Returns 1; or 0 if the value is shorter, and then the options are unchanged.
 #[unsafe(no_mangle)]
 pub extern "C" fn sockdiag_get_socket_options(value: &[u8], options: &mut SocketOptions) -> u32
     ensures { IsStoredIf (socket_options.size ≤ length value.now)

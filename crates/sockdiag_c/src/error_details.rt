@@ -16,7 +16,8 @@ ghost use Rattle.sock_diag_attributes.specs.InetAttributes.{inet_attribute_set};
 ghost use Rattle.sock_diag_attributes.specs.UnixAttributes.{unix_attribute_set};
 ghost use Rattle.sockdiag_c.specs.Details.{optional_number};
 ghost use Rattle.sockdiag_c.specs.ErrorDetails.{IsExplained, IsItemExplained, error_details_of};
-ghost use Rattle.sockdiag_c.specs.ErrorDetails.{no_details, record_code, record_family, record_kind};
+ghost use Rattle.sockdiag_c.specs.ErrorDetails.{no_details, record_code, record_family};
+ghost use Rattle.sockdiag_c.specs.ErrorDetails.{record_kind};
 ghost use Rattle.sockdiag_c.specs.FamilyValues.{RejectsReplyOrValue};
 ghost use Rattle.sockdiag_c.specs.NetlinkDetails.{netlink_value_errors};
 ghost use Rattle.sockdiag_c.specs.PacketDetails.{packet_value_errors};
@@ -315,9 +316,9 @@ pub extern "C" fn sockdiag_framing_explain(bytes: &[u8], error: &mut ErrorDetail
     explain(NetlinkHeader::from_prefix(bytes), error)
 }
 
-/// Stores the error of the attribute of a UNIX socket at the start of the bytes, which are a part of
-/// a reply, with its fields: its framing error, or the error of its value. Returns its code; or 0 if
-/// the attribute is accepted or there are no bytes, and then the error is unchanged.
+/// Stores the error of the attribute of a UNIX socket at the start of the bytes, which are a part
+/// of a reply, with its fields: its framing error, or the error of its value. Returns its code; or
+/// 0 if the attribute is accepted or there are no bytes, and then the error is unchanged.
 #[unsafe(no_mangle)]
 pub extern "C" fn sockdiag_unix_explain_attribute<'a>(
     bytes: &'a [u8],

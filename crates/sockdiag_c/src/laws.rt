@@ -63,9 +63,9 @@ pub fn a_step_passes_the_first_message()
         → (answer ≡ error_code e) × (bytes_after_cursor bytes new ≡ []) }
 {}
 
-/// States that a lenient call agrees with the strict call: its rejections have the code 0 in `first`
-/// if and only if the attributes are accepted, and then it has the same values. Otherwise `first`
-/// is the code of the error that the strict call returns.
+/// States that a lenient call agrees with the strict call: its rejections have the code 0 in
+/// `first` if and only if the attributes are accepted, and then it has the same values. Otherwise
+/// `first` is the code of the error that the strict call returns.
 ///
 /// `bytes`: the bytes after the header of a reply. `items`: their lenient items, as in the
 /// contracts of both calls.
