@@ -109,7 +109,8 @@ module _ {V : Type 0} where
   -- the first code is not 0 if it is present
   first_is_not_zero : (code : RejectionModel → Option ℕ) → IsPositive code
       → (items : List (Result V RejectionModel)) (c : ℕ)
-      → first_content_of (λ (item : Result V RejectionModel). option_and_then code (result_err item)) items
+      → first_content_of (λ (x : Result V RejectionModel). option_and_then code (result_err x))
+      items
       ≡ Some c
       → c ≢ 0
   first_is_not_zero code positive [] c is = absurd cc
@@ -127,7 +128,8 @@ module _ {V : Type 0} where
       grind (
         arith,
         first_present,
-        first_more (λ (x : Result V RejectionModel). option_and_then code (result_err x)) items item,
+        first_more (λ (x : Result V RejectionModel). option_and_then code (result_err x)) items
+            item,
         first_is_not_zero code positive items,
       )
 
