@@ -23,16 +23,19 @@
  *
  * A struct or number that a call returns need not be initialized, or set to zeros: no return value
  * depends on its contents. What the call does not set is unchanged. That is:
- * - all of it, if a check or a sockdiag_.._get_details returns the code of an error, if
- *   sockdiag_unix_get_pending or sockdiag_get_error_number returns 0, and if an iteration returns 0
- *   or the code of a framing error;
+ * - all of it, if a check, a sockdiag_.._get_details or a sockdiag_.._get_lenient_details returns
+ *   the code of an error; if a getter of a single value, which is sockdiag_unix_get_pending,
+ *   sockdiag_get_error_number and each call of the section "values of single attributes", returns
+ *   0; if a sockdiag_.._explain or sockdiag_.._explain_attribute returns 0; and if an iteration
+ *   returns 0 or the code of a framing error;
  * - if sockdiag_check_message returns 0, the header of the other kind;
  * - if sockdiag_packet_get_details or sockdiag_xdp_get_details returns 0, each record whose field
  *   has_.. is 0.
  *
- * All other fields are set. sockdiag_inet_get_tcp_info and sockdiag_inet_get_memory set all fields
- * in any case, and so does each call with a struct sockdiag_outcome. The padding between fields may
- * have any contents, so do not compare structs by memcmp.
+ * All other fields are set. sockdiag_inet_get_tcp_info, sockdiag_inet_get_long_tcp_info and
+ * sockdiag_inet_get_memory set all fields in any case, and so does each call with a struct
+ * sockdiag_outcome. The padding between fields may have any contents, so do not compare structs by
+ * memcmp.
  *
  * Numbers in structs are in the byte order of the host, ports included. Addresses are in network
  * byte order, as inet_ntop expects them. A cookie of eight bytes is a copy of the bytes in the
@@ -720,6 +723,170 @@ struct sockdiag_tcp_info {
 size_t sockdiag_inet_get_tcp_info(const uint8_t *payload, size_t length,
                                   struct sockdiag_tcp_info *info);
 
+/* The state of a TCP connection: struct tcp_info of linux/tcp.h in Linux 6.18. */
+struct sockdiag_long_tcp_info {
+    uint8_t state;                     /* TCP state (tcpi_state), TCP_ESTABLISHED to TCP_CLOSING,
+                                          at offset 0. */
+    uint8_t ca_state;                  /* State of congestion control (tcpi_ca_state),
+                                          TCP_CA_OPEN to TCP_CA_LOSS, at offset 1. */
+    uint8_t retransmits;               /* Number of times that the retransmission timer has
+                                          retransmitted the oldest segment (tcpi_retransmits), at
+                                          offset 2. */
+    uint8_t probes;                    /* Number of unanswered zero-window or keepalive probes
+                                          (tcpi_probes), at offset 3. */
+    uint8_t backoff;                   /* Number of times that the timer was doubled, by
+                                          exponential backoff (tcpi_backoff), at offset 4. */
+    uint8_t options;                   /* Options of the connection (tcpi_options), bits
+                                          TCPI_OPT_*, at offset 5. */
+    uint8_t wscale;                    /* Window scale shifts, at offset 6: tcpi_snd_wscale in
+                                          bits 0 to 3, tcpi_rcv_wscale in bits 4 to 7. */
+    uint8_t delivery_rate_app_limited; /* Bit fields at offset 7. Bit 0 is set if the sending
+                                          program limits delivery_rate
+                                          (tcpi_delivery_rate_app_limited). Bits 1 and 2 are
+                                          tcpi_fastopen_client_fail. */
+    uint32_t rto;                      /* Retransmission timeout in microseconds (tcpi_rto), at
+                                          offset 8. */
+    uint32_t ato;                      /* Timeout of delayed acknowledgements in microseconds
+                                          (tcpi_ato), at offset 12. */
+    uint32_t snd_mss;                  /* Maximum size of sent segments in bytes (tcpi_snd_mss),
+                                          at offset 16. */
+    uint32_t rcv_mss;                  /* Estimated maximum size of received segments in bytes
+                                          (tcpi_rcv_mss), at offset 20. */
+    uint32_t unacked;                  /* Number of segments that are sent and not acknowledged
+                                          (tcpi_unacked), at offset 24. For a listening socket,
+                                          the number of pending connections. */
+    uint32_t sacked;                   /* Number of segments that are selectively acknowledged
+                                          (tcpi_sacked), at offset 28. For a listening socket,
+                                          the backlog limit. */
+    uint32_t lost;                     /* Number of segments that are considered lost
+                                          (tcpi_lost), at offset 32. */
+    uint32_t retrans;                  /* Number of retransmitted segments in flight
+                                          (tcpi_retrans), at offset 36. */
+    uint32_t fackets;                  /* Number of segments up to the highest one that is
+                                          selectively acknowledged (tcpi_fackets), at offset 40.
+                                          Newer kernels write 0. */
+    uint32_t last_data_sent;           /* Time since data was last sent, in milliseconds
+                                          (tcpi_last_data_sent), at offset 44. */
+    uint32_t last_ack_sent;            /* Time since an acknowledgement was last sent
+                                          (tcpi_last_ack_sent), at offset 48. The kernel does not
+                                          record it, and writes 0. */
+    uint32_t last_data_recv;           /* Time since data was last received, in milliseconds
+                                          (tcpi_last_data_recv), at offset 52. */
+    uint32_t last_ack_recv;            /* Time since an acknowledgement was last received, in
+                                          milliseconds (tcpi_last_ack_recv), at offset 56. */
+    uint32_t pmtu;                     /* Path MTU in bytes (tcpi_pmtu), at offset 60. */
+    uint32_t rcv_ssthresh;             /* Current limit on the growth of the receive window, in
+                                          bytes (tcpi_rcv_ssthresh), at offset 64. */
+    uint32_t rtt;                      /* Smoothed round-trip time in microseconds (tcpi_rtt), at
+                                          offset 68. */
+    uint32_t rttvar;                   /* Mean deviation of the round-trip time in microseconds
+                                          (tcpi_rttvar), at offset 72. */
+    uint32_t snd_ssthresh;             /* Slow start threshold in segments (tcpi_snd_ssthresh),
+                                          at offset 76. */
+    uint32_t snd_cwnd;                 /* Congestion window in segments (tcpi_snd_cwnd), at
+                                          offset 80. */
+    uint32_t advmss;                   /* Maximum segment size that was advertised to the peer,
+                                          in bytes (tcpi_advmss), at offset 84. */
+    uint32_t reordering;               /* Reordering metric in segments (tcpi_reordering), at
+                                          offset 88: how far segments may be out of order before
+                                          one is considered lost. */
+    uint32_t rcv_rtt;                  /* Round-trip time that the receiver estimates, in
+                                          microseconds (tcpi_rcv_rtt), at offset 92. */
+    uint32_t rcv_space;                /* Space that receive buffer auto-tuning provides for, in
+                                          bytes (tcpi_rcv_space), at offset 96. */
+    uint32_t total_retrans;            /* Total number of retransmitted segments
+                                          (tcpi_total_retrans), at offset 100. */
+    uint64_t pacing_rate;              /* Pacing rate in bytes per second (tcpi_pacing_rate), at
+                                          offset 104. */
+    uint64_t max_pacing_rate;          /* Limit on the pacing rate in bytes per second
+                                          (tcpi_max_pacing_rate), at offset 112. */
+    uint64_t bytes_acked;              /* Number of acknowledged bytes (tcpi_bytes_acked), at
+                                          offset 120. */
+    uint64_t bytes_received;           /* Number of bytes that were received in order
+                                          (tcpi_bytes_received), at offset 128. */
+    uint32_t segs_out;                 /* Number of sent segments (tcpi_segs_out), at offset 136. */
+    uint32_t segs_in;                  /* Number of received segments (tcpi_segs_in), at offset
+                                          140. */
+    uint32_t notsent_bytes;            /* Number of bytes in the send queue that are not yet sent
+                                          (tcpi_notsent_bytes), at offset 144. */
+    uint32_t min_rtt;                  /* Minimum round-trip time in microseconds (tcpi_min_rtt),
+                                          at offset 148. */
+    uint32_t data_segs_in;             /* Number of received segments with data
+                                          (tcpi_data_segs_in), at offset 152. */
+    uint32_t data_segs_out;            /* Number of sent segments with data (tcpi_data_segs_out),
+                                          at offset 156. */
+    uint64_t delivery_rate;            /* Most recent rate at which data was delivered to the
+                                          peer, in bytes per second (tcpi_delivery_rate), at
+                                          offset 160. */
+    uint64_t busy_time;                /* Time with data to send, in microseconds
+                                          (tcpi_busy_time), at offset 168. */
+    uint64_t rwnd_limited;             /* Part of the busy time in which the peer's receive
+                                          window was the limit, in microseconds
+                                          (tcpi_rwnd_limited), at offset 176. */
+    uint64_t sndbuf_limited;           /* Part of the busy time in which the send buffer was the
+                                          limit, in microseconds (tcpi_sndbuf_limited), at offset
+                                          184. */
+    uint32_t delivered;                /* Number of segments that were delivered to the peer,
+                                          including retransmitted ones (tcpi_delivered), at
+                                          offset 192. */
+    uint32_t delivered_ce;             /* Number of delivered segments that the peer reported as
+                                          marked for congestion, by ECN (tcpi_delivered_ce), at
+                                          offset 196. */
+    uint64_t bytes_sent;               /* Number of sent bytes of data, including retransmitted
+                                          ones (tcpi_bytes_sent), at offset 200. */
+    uint64_t bytes_retrans;            /* Number of retransmitted bytes of data
+                                          (tcpi_bytes_retrans), at offset 208. */
+    uint32_t dsack_dups;               /* Number of segments that the peer reported as received
+                                          twice, by DSACK (tcpi_dsack_dups), at offset 216. */
+    uint32_t reord_seen;               /* Number of times that reordering was observed
+                                          (tcpi_reord_seen), at offset 220. */
+    uint32_t rcv_ooopack;              /* Number of segments that were received out of order
+                                          (tcpi_rcv_ooopack), at offset 224. */
+    uint32_t snd_wnd;                  /* Receive window that the peer advertises, after scaling,
+                                          in bytes (tcpi_snd_wnd), at offset 228. */
+    uint32_t rcv_wnd;                  /* The receive window that the local end advertises, after
+                                          scaling, in bytes. tcpi_rcv_wnd at 232. */
+    uint32_t rehash;                   /* Number of attempts to take another path by a new flow
+                                          hash, after a timeout or by PLB (protective load
+                                          balancing). tcpi_rehash at 236. */
+    uint16_t total_rto;                /* Total number of retransmission timeouts, including
+                                          timeouts of SYN and SYN-ACK segments. tcpi_total_rto at
+                                          240. */
+    uint16_t total_rto_recoveries;     /* Total number of recoveries after a retransmission
+                                          timeout, including an unfinished one.
+                                          tcpi_total_rto_recoveries at 242. */
+    uint32_t total_rto_time;           /* Total time spent in these recoveries, including an
+                                          unfinished one, in milliseconds. tcpi_total_rto_time at
+                                          244. */
+    uint32_t received_ce;              /* Number of received segments with the ECN mark CE
+                                          (congestion experienced). tcpi_received_ce at 248. */
+    uint32_t delivered_e1_bytes;       /* Number of bytes delivered to the peer with the ECN mark
+                                          ECT(1). tcpi_delivered_e1_bytes at 252. */
+    uint32_t delivered_e0_bytes;       /* Number of bytes delivered to the peer with the ECN mark
+                                          ECT(0). tcpi_delivered_e0_bytes at 256. */
+    uint32_t delivered_ce_bytes;       /* Number of bytes delivered to the peer with the ECN mark
+                                          CE. tcpi_delivered_ce_bytes at 260. */
+    uint32_t received_e1_bytes;        /* Number of bytes received with the ECN mark ECT(1).
+                                          tcpi_received_e1_bytes at 264. */
+    uint32_t received_e0_bytes;        /* Number of bytes received with the ECN mark ECT(0).
+                                          tcpi_received_e0_bytes at 268. */
+    uint32_t received_ce_bytes;        /* Number of bytes received with the ECN mark CE.
+                                          tcpi_received_ce_bytes at 272. */
+    uint16_t accecn_fail_mode;         /* Bits for the ways in which accurate ECN failed.
+                                          tcpi_accecn_fail_mode at 276. */
+    uint16_t accecn_opt_seen;          /* Which TCP options of accurate ECN were seen.
+                                          tcpi_accecn_opt_seen at 278. */
+};
+
+/*
+ * Copies the value of the first INET_DIAG_INFO after the header of a reply about an IPv4 or IPv6
+ * socket, as sockdiag_inet_get_tcp_info does, into the longer struct of Linux 6.18: at most the 280
+ * bytes of info. The remaining bytes of info are set to 0. Returns the length of the value in
+ * bytes, or 0 if there is none: a field that ends after it is 0, and not known.
+ */
+size_t sockdiag_inet_get_long_tcp_info(const uint8_t *payload, size_t length,
+                                       struct sockdiag_long_tcp_info *info);
+
 /*
  * The memory of an IPv4 or IPv6 socket (INET_DIAG_SKMEMINFO): the fields SK_MEMINFO_* of
  * linux/sock_diag.h.
@@ -755,6 +922,64 @@ struct sockdiag_inet_memory {
  */
 size_t sockdiag_inet_get_memory(const uint8_t *payload, size_t length,
                                 struct sockdiag_inet_memory *memory);
+
+/* ---- lenient: list every socket
+ *
+ * A call of this section rejects a reply only if its header is invalid. Of its attributes it
+ * returns those that are valid, and the errors of the others. Use these calls to list sockets. Real
+ * kernels send values that the library does not accept: an INET_DIAG_INFO of fewer than 232 bytes
+ * (before Linux 5.4, and of MPTCP), and a UNIX_DIAG_MEMINFO of fewer than 36 bytes. By the calls of
+ * the previous section, one of them hides its whole socket.
+ */
+
+#define SOCKDIAG_REJECTION_KINDS 32 /* Number of the elements of errors of struct
+                                       sockdiag_rejections. All kinds that can be rejected are
+                                       less. */
+
+/*
+ * Why attributes of a reply are rejected: codes of errors, as sockdiag_error_text takes them. A
+ * code is 0 if there is no such error.
+ */
+struct sockdiag_rejections {
+    uint32_t first;     /* Code of the first error. If it is 0, the whole reply is accepted.
+                           sockdiag_unix_get_details or sockdiag_inet_get_details returns the
+                           same code. */
+    uint32_t framing;   /* Code of the framing error after the last attribute, 7 to 9. What
+                           follows is not parsed. */
+    uint8_t errors[32]; /* Codes of the errors of attributes, by kind: the element INET_DIAG_INFO
+                           is the error of the first INET_DIAG_INFO that is rejected. Its bytes
+                           are returned by sockdiag_next_attribute. */
+};
+
+/*
+ * Returns the header of a reply about a UNIX socket and the valid ones of its attributes, in one
+ * pass over the attributes, and the errors of the others. The bytes are the payload of the netlink
+ * message. Returns 0, and sets all fields of the details and of the rejections; or the code of the
+ * error of the header, and then both are unchanged. The previous contents of both are not read.
+ * What is not rejected is as sockdiag_unix_get_details describes it.
+ *
+ * Use this call to list sockets: a value that this library does not accept, such as the
+ * UNIX_DIAG_MEMINFO of an old kernel, hides only itself, and not its socket.
+ */
+uint32_t sockdiag_unix_get_lenient_details(const uint8_t *payload, size_t length,
+                                           struct sockdiag_unix_details *details,
+                                           struct sockdiag_rejections *rejections);
+
+/*
+ * Returns the header of a reply about an IPv4 or IPv6 socket and the valid ones of its attributes
+ * that are a text or a number, in one pass over the attributes, and the errors of all attributes
+ * that are rejected. The bytes are the payload of the netlink message. Returns 0, and sets all
+ * fields of the details and of the rejections; or the code of the error of the header, and then
+ * both are unchanged. The previous contents of both are not read. What is not rejected is as
+ * sockdiag_inet_get_details describes it.
+ *
+ * Use this call to list sockets: a value that this library does not accept, such as the
+ * INET_DIAG_INFO of an old kernel or of MPTCP, hides only itself, and not its socket.
+ * sockdiag_inet_get_tcp_info_bytes returns such a value as far as it goes.
+ */
+uint32_t sockdiag_inet_get_lenient_details(const uint8_t *payload, size_t length,
+                                           struct sockdiag_inet_details *details,
+                                           struct sockdiag_rejections *rejections);
 
 /* ---- netlink, packet, vsock and XDP sockets
  *
@@ -1181,6 +1406,310 @@ static inline int sockdiag_ends_answer(const struct sockdiag_message *message)
     return message->message_type == SOCKDIAG_NLMSG_DONE ||
            message->message_type == SOCKDIAG_NLMSG_ERROR;
 }
+
+/* ---- values of single attributes
+ *
+ * These attributes are not in the details of a reply. sockdiag_next_attribute returns them: pass
+ * the bytes of its value, which are payload + attribute.offset and attribute.length. The caller
+ * chooses the call by the kind, attribute.type_word & 0x3fff. A value that is longer than the
+ * struct is accepted, since newer kernels may append fields; a number has exactly its length.
+ *
+ * A value that is an array is read by steps, from a cursor with the offset 0, while the call
+ * returns SOCKDIAG_ITEM. The time for all items of a value is proportional to its length.
+ */
+
+/*
+ * Stores the inode at the cursor, and advances the cursor by its 4 bytes. The bytes are the value
+ * of UNIX_DIAG_ICONS: the inodes of the connections that wait to be accepted on a UNIX socket.
+ * Returns 1; or 0 if fewer bytes are left, and then nothing is written. The time for a whole list
+ * is proportional to its length.
+ */
+uint32_t sockdiag_next_pending(const uint8_t *value, size_t length, struct sockdiag_cursor *cursor,
+                               uint32_t *inode);
+
+/*
+ * Stores the user id of a UNIX socket's owner: the value of UNIX_DIAG_UID, 4 bytes. Returns 1; or 0
+ * if the value has another length, and then the user id is unchanged.
+ */
+uint32_t sockdiag_get_uid(const uint8_t *value, size_t length, uint32_t *uid);
+
+/*
+ * Stores the id of the control group (cgroup v2) of an IPv4 or IPv6 socket: the value of
+ * INET_DIAG_CGROUP_ID, 8 bytes. Returns 1; or 0 if the value has another length, and then the id is
+ * unchanged.
+ */
+uint32_t sockdiag_get_cgroup_id(const uint8_t *value, size_t length, uint64_t *id);
+
+/* The options of an IPv4 or IPv6 socket: the two bytes of INET_DIAG_SOCKOPT. */
+struct sockdiag_socket_options {
+    uint16_t bits; /* Both bytes as a little-endian number: bits 0 to 7 are the first byte. */
+};
+
+/* The bits of struct sockdiag_socket_options. */
+enum sockdiag_socket_option {
+    SOCKDIAG_OPTION_RECV_ERR = 1,               /* IP_RECVERR: recverr, bit 0. */
+    SOCKDIAG_OPTION_IS_ICSK = 2,                /* The socket is of a connection-oriented
+                                                   protocol: is_icsk, bit 1. */
+    SOCKDIAG_OPTION_FREE_BIND = 4,              /* IP_FREEBIND: freebind, bit 2. */
+    SOCKDIAG_OPTION_HDR_INCL = 8,               /* IP_HDRINCL: hdrincl, bit 3. */
+    SOCKDIAG_OPTION_MC_LOOP = 16,               /* IP_MULTICAST_LOOP: mc_loop, bit 4. */
+    SOCKDIAG_OPTION_TRANSPARENT = 32,           /* IP_TRANSPARENT: transparent, bit 5. */
+    SOCKDIAG_OPTION_MC_ALL = 64,                /* IP_MULTICAST_ALL: mc_all, bit 6. */
+    SOCKDIAG_OPTION_NO_DEFRAG = 128,            /* IP_NODEFRAG: nodefrag, bit 7. */
+    SOCKDIAG_OPTION_BIND_ADDRESS_NO_PORT = 256, /* IP_BIND_ADDRESS_NO_PORT: bind_address_no_port,
+                                                   bit 0 of the second byte. */
+    SOCKDIAG_OPTION_RECV_ERR_RFC4884 = 512,     /* IP_RECVERR_RFC4884: recverr_rfc4884, bit 1 of
+                                                   the second byte. */
+    SOCKDIAG_OPTION_DEFER_CONNECT = 1024        /* connect is deferred until data is written, by
+                                                   TCP_FASTOPEN_CONNECT: defer_connect, bit 2 of
+                                                   the second byte. */
+};
+
+/*
+ * Stores the options of an IPv4 or IPv6 socket: the value of INET_DIAG_SOCKOPT, at least 2 bytes.
+ * Returns 1; or 0 if the value is shorter, and then the options are unchanged.
+ */
+uint32_t sockdiag_get_socket_options(const uint8_t *value, size_t length,
+                                     struct sockdiag_socket_options *options);
+
+/*
+ * The measurements of TCP Vegas, and of other algorithms that report in the same format: struct
+ * tcpvegas_info of linux/inet_diag.h, 16 bytes, four little-endian u32 fields.
+ */
+struct sockdiag_vegas_info {
+    uint32_t enabled;   /* Whether the algorithm is in use, tcpv_enabled, at offset 0: 0 for no. */
+    uint32_t rtt_count; /* Number of round trips measured, tcpv_rttcnt, at offset 4. */
+    uint32_t rtt;       /* Round-trip time, tcpv_rtt, at offset 8, in microseconds. Which one
+                           (the least, the mean or the last) depends on the algorithm. */
+    uint32_t min_rtt;   /* Minimum round-trip time, tcpv_minrtt, at offset 12, in microseconds. */
+};
+
+/*
+ * Stores the measurements of TCP Vegas and of similar algorithms: the value of INET_DIAG_VEGASINFO,
+ * at least 16 bytes. Returns 1; or 0 if the value is shorter, and then the struct is unchanged.
+ */
+uint32_t sockdiag_get_vegas_info(const uint8_t *value, size_t length,
+                                 struct sockdiag_vegas_info *info);
+
+/*
+ * The measurements of DCTCP: struct tcp_dctcp_info of linux/inet_diag.h, 16 bytes, little-endian.
+ */
+struct sockdiag_dctcp_info {
+    uint16_t enabled;      /* Whether the algorithm is in use, dctcp_enabled, at offset 0: 0 for
+                              no. */
+    uint16_t ce_state;     /* Whether the last received segment had the ECN mark CE,
+                              dctcp_ce_state, at offset 2: 0 for no. */
+    uint32_t alpha;        /* Estimated fraction of the bytes that are marked, dctcp_alpha, at
+                              offset 4, in 1024ths. */
+    uint32_t marked_bytes; /* Number of acknowledged bytes that the peer reported as marked,
+                              dctcp_ab_ecn, at offset 8. */
+    uint32_t acked_bytes;  /* Number of acknowledged bytes, dctcp_ab_tot, at offset 12. */
+};
+
+/*
+ * Stores the measurements of DCTCP: the value of INET_DIAG_DCTCPINFO, at least 16 bytes. Returns 1;
+ * or 0 if the value is shorter, and then the struct is unchanged.
+ */
+uint32_t sockdiag_get_dctcp_info(const uint8_t *value, size_t length,
+                                 struct sockdiag_dctcp_info *info);
+
+/* The measurements of BBR: struct tcp_bbr_info of linux/inet_diag.h, 20 bytes, little-endian. */
+struct sockdiag_bbr_info {
+    uint64_t bandwidth;   /* Estimated bandwidth, in bytes per second: bbr_bw_lo, at offset 0, is
+                             its low half, and bbr_bw_hi, at offset 4, its high half. */
+    uint32_t min_rtt;     /* Minimum round-trip time, bbr_min_rtt, at offset 8, in microseconds. */
+    uint32_t pacing_gain; /* Factor from the bandwidth to the pacing rate, bbr_pacing_gain, at
+                             offset 12, in 256ths. */
+    uint32_t window_gain; /* Factor from the bandwidth-delay product to the congestion window,
+                             bbr_cwnd_gain, at offset 16, in 256ths. */
+};
+
+/*
+ * Stores the measurements of BBR: the value of INET_DIAG_BBRINFO, at least 20 bytes. Returns 1; or
+ * 0 if the value is shorter, and then the struct is unchanged.
+ */
+uint32_t sockdiag_get_bbr_info(const uint8_t *value, size_t length, struct sockdiag_bbr_info *info);
+
+/*
+ * An MD5 signature key for the segments of some peers: one of the records in the value of
+ * INET_DIAG_MD5SIG, struct tcp_diag_md5sig of linux/tcp.h, 100 bytes. The kernel sends it only to
+ * processes with CAP_NET_ADMIN.
+ */
+struct sockdiag_md5_signature {
+    uint8_t family;        /* Address family, tcpm_family, at offset 0: 2 for AF_INET, 10 for
+                              AF_INET6. */
+    uint8_t prefix_length; /* Length of the address prefix of the peers, tcpm_prefixlen, at
+                              offset 1, in bits. */
+    uint16_t key_length;   /* Length of the key, tcpm_keylen, at offset 2, in bytes,
+                              little-endian. */
+    uint8_t address[16];   /* Address, tcpm_addr, at offset 4, in network byte order. An IPv4
+                              address is in the first four bytes. */
+    uint8_t key[80];       /* Key, tcpm_key, at offset 20. Only the first key_length bytes are
+                              used. */
+};
+
+/*
+ * Stores the MD5 signature key at the cursor, and advances the cursor by its 100 bytes. The bytes
+ * are the value of INET_DIAG_MD5SIG, an array of such keys. Returns 1; or 0 if fewer bytes are
+ * left, and then nothing is written. The kernel sends keys only to processes with CAP_NET_ADMIN.
+ */
+uint32_t sockdiag_next_md5_signature(const uint8_t *value, size_t length,
+                                     struct sockdiag_cursor *cursor,
+                                     struct sockdiag_md5_signature *signature);
+
+/*
+ * An address of an SCTP association: one of the records in the values of INET_DIAG_LOCALS and
+ * INET_DIAG_PEERS. It is a struct sockaddr_storage, 128 bytes. By its family, it starts with a
+ * struct sockaddr_in (ip(7)) or a struct sockaddr_in6 (ipv6(7)). No byte is ignored.
+ */
+struct sockdiag_stored_address {
+    uint16_t family;      /* Address family, sin_family or sin6_family, at offset 0,
+                             little-endian: 2 for AF_INET, 10 for AF_INET6. */
+    uint16_t port;        /* Port, sin_port or sin6_port, at offset 2, parsed from network byte
+                             order. */
+    uint8_t front[4];     /* IPv4 address (sin_addr), or flow information of IPv6
+                             (sin6_flowinfo), at offset 4, in network byte order. */
+    uint16_t segments[8]; /* IPv6 address, sin6_addr, at offset 8: eight segments of 16 bits,
+                             parsed from network byte order: 0x2001 for 2001:... For AF_INET, the
+                             bytes after sin_addr. */
+    uint32_t scope_id;    /* Index of the interface of a link-local IPv6 address, sin6_scope_id,
+                             at offset 24, little-endian. */
+    uint8_t rest[100];    /* The bytes from offset 28 on, which neither struct sockaddr_in nor
+                             struct sockaddr_in6 has. */
+};
+
+/*
+ * Stores the address at the cursor, and advances the cursor by its 128 bytes. The bytes are the
+ * value of INET_DIAG_LOCALS or INET_DIAG_PEERS, an array of the addresses of an SCTP association.
+ * Returns 1; or 0 if fewer bytes are left, and then nothing is written.
+ */
+uint32_t sockdiag_next_address(const uint8_t *value, size_t length, struct sockdiag_cursor *cursor,
+                               struct sockdiag_stored_address *address);
+
+/* ---- errors with their fields
+ *
+ * All other calls return the code of an error, and no more. If a call rejected bytes, pass the same
+ * bytes to a call of this section. It checks them again, and returns the error with the lengths,
+ * kinds and numbers that belong to it.
+ */
+
+/* Records of which a message has too few bytes, by the field record_name. */
+enum sockdiag_record {
+    SOCKDIAG_RECORD_SOCKET_ID = 1,               /* Record inet_diag_sockid, 48 bytes. */
+    SOCKDIAG_RECORD_INET_REQUEST = 2,            /* Record inet_diag_req_v2, 56 bytes. */
+    SOCKDIAG_RECORD_INET_RESPONSE_HEADER = 3,    /* Record inet_diag_msg, 72 bytes: the header of
+                                                    a reply about an IPv4 or IPv6 socket. */
+    SOCKDIAG_RECORD_UNIX_REQUEST = 4,            /* Record unix_diag_req, 24 bytes. */
+    SOCKDIAG_RECORD_UNIX_RESPONSE_HEADER = 5,    /* Record unix_diag_msg, 16 bytes: the header of
+                                                    a reply about a UNIX socket. */
+    SOCKDIAG_RECORD_LEGACY_MEM_INFO = 6,         /* Value of INET_DIAG_MEMINFO, 16 bytes. */
+    SOCKDIAG_RECORD_MEM_INFO = 7,                /* Value of INET_DIAG_SKMEMINFO, 28 bytes or
+                                                    more. */
+    SOCKDIAG_RECORD_TCP_INFO = 8,                /* Value of INET_DIAG_INFO, 232 bytes. */
+    SOCKDIAG_RECORD_VFS = 9,                     /* Value of UNIX_DIAG_VFS, 8 bytes. */
+    SOCKDIAG_RECORD_UNIX_MEM_INFO = 10,          /* Value of UNIX_DIAG_MEMINFO, 36 bytes. */
+    SOCKDIAG_RECORD_FAMILY_REQUEST = 11,         /* Request for sockets of the family in family. */
+    SOCKDIAG_RECORD_FAMILY_RESPONSE_HEADER = 12, /* Header of a reply about a socket of the
+                                                    family in family. */
+    SOCKDIAG_RECORD_FAMILY_ATTRIBUTE = 13        /* Value of the attribute kind in a reply about
+                                                    a socket of the family in family. */
+};
+
+/* A decode error with its fields. A field that the error does not have is 0. */
+struct sockdiag_error_details {
+    uint32_t code;               /* Code of the error, one of enum sockdiag_error. */
+    uint32_t record_name;        /* Record that has too few bytes, one of SOCKDIAG_RECORD_..
+                                    (SOCKDIAG_BUFFER_TOO_SMALL). */
+    uint32_t family;             /* Address family that is not supported or not known, or that
+                                    the record belongs to. */
+    uint32_t message_type;       /* Message type (SOCKDIAG_UNKNOWN_MESSAGE_TYPE). */
+    struct sockdiag_number kind; /* Kind of the attribute whose value has a wrong length
+                                    (SOCKDIAG_WRONG_LENGTH), or too few bytes for its record. */
+    size_t got;                  /* Number of bytes that were found: of the record, value or
+                                    message; or, for an attribute whose header or length field is
+                                    invalid, up to the end. */
+    size_t need;                 /* Number of bytes that are needed. */
+    size_t length;               /* Length field of the attribute or of the message. */
+    size_t index;                /* Index of the first NUL in a pathname
+                                    (SOCKDIAG_NAME_INNER_ZERO). */
+};
+
+/*
+ * Stores the error of a reply about a UNIX socket that sockdiag_unix_get_details or
+ * sockdiag_check_unix_reply rejects, with its fields. The bytes are the payload of the netlink
+ * message. Returns its code; or 0 if the reply is accepted, and then the error is unchanged.
+ */
+uint32_t sockdiag_unix_explain(const uint8_t *payload, size_t length,
+                               struct sockdiag_error_details *error);
+
+/*
+ * Stores the error of a reply about an IPv4 or IPv6 socket that sockdiag_inet_get_details or
+ * sockdiag_check_inet_reply rejects, with its fields. The bytes are the payload of the netlink
+ * message. Returns its code; or 0 if the reply is accepted, and then the error is unchanged.
+ */
+uint32_t sockdiag_inet_explain(const uint8_t *payload, size_t length,
+                               struct sockdiag_error_details *error);
+
+/*
+ * Stores the error of a reply about a netlink socket that sockdiag_netlink_get_details rejects,
+ * with its fields. Returns its code; or 0 if the reply is accepted, and then the error is
+ * unchanged.
+ */
+uint32_t sockdiag_netlink_explain(const uint8_t *payload, size_t length,
+                                  struct sockdiag_error_details *error);
+
+/*
+ * Stores the error of a reply about a packet socket that sockdiag_packet_get_details rejects, with
+ * its fields. Returns its code; or 0 if the reply is accepted, and then the error is unchanged.
+ */
+uint32_t sockdiag_packet_explain(const uint8_t *payload, size_t length,
+                                 struct sockdiag_error_details *error);
+
+/*
+ * Stores the error of a reply about a vsock socket that sockdiag_vsock_get_details rejects, with
+ * its fields. Returns its code; or 0 if the reply is accepted, and then the error is unchanged.
+ */
+uint32_t sockdiag_vsock_explain(const uint8_t *payload, size_t length,
+                                struct sockdiag_error_details *error);
+
+/*
+ * Stores the error of a reply about an XDP socket that sockdiag_xdp_get_details rejects, with its
+ * fields. Returns its code; or 0 if the reply is accepted, and then the error is unchanged.
+ */
+uint32_t sockdiag_xdp_explain(const uint8_t *payload, size_t length,
+                              struct sockdiag_error_details *error);
+
+/*
+ * Stores the error with which sockdiag_next_message rejects the payload of a message of this type,
+ * with its fields. Returns its code; or 0 if the payload is accepted, and then the error is
+ * unchanged. Only pass types other than the four NLMSG_.. types, whose payload is not checked.
+ */
+uint32_t sockdiag_message_explain(const uint8_t *payload, size_t length, uint16_t message_type,
+                                  struct sockdiag_error_details *error);
+
+/*
+ * Stores the framing error with which sockdiag_next_message and sockdiag_next_any_message reject
+ * these bytes, which start at the cursor, with its fields. Returns its code; or 0 if the bytes
+ * begin with a message, and then the error is unchanged.
+ */
+uint32_t sockdiag_framing_explain(const uint8_t *bytes, size_t length,
+                                  struct sockdiag_error_details *error);
+
+/*
+ * Stores the error of the attribute of a UNIX socket at the start of the bytes, which are a part of
+ * a reply, with its fields: its framing error, or the error of its value. Returns its code; or 0 if
+ * the attribute is accepted or there are no bytes, and then the error is unchanged.
+ */
+uint32_t sockdiag_unix_explain_attribute(const uint8_t *bytes, size_t length,
+                                         struct sockdiag_error_details *error);
+
+/*
+ * Stores the error of the attribute of an IPv4 or IPv6 socket at the start of the bytes, which are
+ * a part of a reply, with its fields: its framing error, or the error of its value. Returns its
+ * code; or 0 if the attribute is accepted or there are no bytes, and then the error is unchanged.
+ */
+uint32_t sockdiag_inet_explain_attribute(const uint8_t *bytes, size_t length,
+                                         struct sockdiag_error_details *error);
 
 /* ---- requests
  *

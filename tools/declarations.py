@@ -16,8 +16,26 @@ RECORDS = {
     "TCP_INFO_LEN": ("TcpInfo", "inet/tcp_info.rt", "TcpInfo"),
     "MEM_INFO_LEN": ("InetMemory", "inet/mem_info.rt", "Memory"),
 }
+# The longer struct tcp_info, which C gets as a byte array too: the length of the array, and the
+# name of the struct. It has the fields of `TcpInfo`, and after them the others of `TcpField`.
+LONG_TCP_INFO = ("LONG_TCP_INFO_LEN", "LongTcpInfo")
+# The types of fields that have a width of this many bytes.
+TYPES = {1: "u8", 2: "u16", 4: "u32", 8: "u64"}
 # Variants of `DecodeError` that no call returns.
 NOT_RETURNED = {"Memory"}
+# The fields of `DecodeError` and of `RecordName`, which have no comments: their documentation, and
+# the value that `ErrorDetails` has for them, without its type.
+ERROR_FIELDS = {
+    "which": ("Record that has too few bytes.", "RecordName::from_details(details)?"),
+    "family": ("Address family.", "details.family"),
+    "kind": ("Kind of the attribute.", "details.kind"),
+    "got": ("Number of bytes that were found.", "details.got"),
+    "need": ("Number of bytes that are needed.", "details.need"),
+    "message_type": ("Message type (`nlmsg_type`).", "details.message_type"),
+    "left": ("Number of bytes that are left.", "details.got"),
+    "length": ("Length field, in bytes.", "details.length"),
+    "index": ("Index of the first NUL.", "details.index"),
+}
 # The parts of `#[error]` texts that need other words if their values are left out.
 WITHOUT_VALUES = {
     "{which}: ": "",
@@ -37,7 +55,10 @@ FUNCTION = re.compile(
     re.M,
 )
 CONSTANT = re.compile(DOC + r"^pub(?:\(crate\))? const (\w+): (\w+) = (\S+);$", re.M)
-VARIANT = re.compile(DOC + r'^    #\[error\("(.*)"\)\]\s+(\w+)', re.M)
+VARIANT = re.compile(DOC + r'^    #\[error\("(.*)"\)\]\s+(\w+)(?: \{((?s:.*?))\})?,', re.M)
+PLAIN_VARIANT = re.compile(DOC + r"^    (\w+)(?: \{(.*?)\})?,$", re.M)
+SPAN = re.compile(r"TcpField::(\w+) => \((\d+), (\d+)\),")
+BIT = re.compile(r"SocketOption::(\w+) => (\d+),")
 SIZE = re.compile(r"prove!\(size_of::<(\w+)(?:<'static>)?>\(\) == (\d+)\)")
 CODE = re.compile(r"DecodeError::(\w+)(?: \{ \.\. \})? => (\d+),")
 
@@ -79,11 +100,22 @@ class Constant(NamedTuple):
     doc: list
 
 
+class Variant(NamedTuple):
+    """A variant of an enum, with its number: a code, a bit, or an offset."""
+
+    name: str
+    number: str
+    fields: list
+    doc: list
+
+
 class DecodeError(NamedTuple):
-    """A decode error, with its code, and its text without values."""
+    """A decode error, with its code, its text as a format string, and its text without values."""
 
     name: str
     code: str
+    fields: list
+    shown: str
     text: str
     doc: list
 
@@ -122,12 +154,13 @@ def parameters_of(text):
     for name, kind in re.findall(r"(\w+): ([^,]+?)(?:,|\s*$)", text):
         part = re.fullmatch(r"&(?:'a )?(mut )?\[u8\]", kind)
         array = re.fullmatch(r"&mut \[u8; (\w+)\]", kind)
+        structs = {length: record[0] for length, record in RECORDS.items()} | dict([LONG_TCP_INFO])
         if part:
             yield Field(name, f"&{part[1] or ''}u8")
             yield Field(f"{name}_length" if slices else "length", "usize")
             slices += 1
         else:
-            yield Field(name, f"&mut {RECORDS[array[1]][0]}" if array else kind)
+            yield Field(name, f"&mut {structs[array[1]]}" if array else kind)
 
 
 def structs_in(text, is_public):
@@ -141,14 +174,57 @@ def constants_in(text):
     return {it[1]: Constant(*it[1:], doc_of(it[0])) for it in CONSTANT.findall(text)}
 
 
+def snake(name):
+    """Returns a name of Rust's types in the style of Rust's fields."""
+    return re.sub(r"(?<=[a-z0-9])(?=[A-Z])", "_", name).lower()
+
+
+def variant_fields(body):
+    """Returns the fields of a variant, with the documentation of ERROR_FIELDS."""
+    found = re.findall(r"(\w+): ([^,{}]+?)\s*(?:,|$)", body.strip())
+    return [Field(name, kind, [ERROR_FIELDS[name][0]]) for name, kind in found]
+
+
 def decode_errors():
     """Yields each decode error that a call returns."""
     text = text_of(CRATES / "netlink_core/src/error.rt")
     codes = dict(CODE.findall(code_of(text)))
-    for comment, shown, name in VARIANT.findall(text):
+    for comment, shown, name, body in VARIANT.findall(text):
         if name not in NOT_RETURNED:
-            doc = summary(doc_of(comment))
-            yield DecodeError(name, codes[name], without_values(shown), doc)
+            doc, fields = summary(doc_of(comment)), variant_fields(body)
+            yield DecodeError(name, codes[name], fields, shown, without_values(shown), doc)
+
+
+def enum_in(text, name):
+    """Returns the text between the braces of an enum."""
+    return re.search(rf"^pub enum {name} \{{\n((?s:.*?))^\}}", text, re.M)[1]
+
+
+def record_names():
+    """Yields the records of decode errors, with their numbers in C."""
+    numbers = constants_in(text_of(CRATES / "sockdiag_c/src/error_details.rt"))
+    text = enum_in(text_of(CRATES / "netlink_core/src/error.rt"), "RecordName")
+    for comment, name, body in PLAIN_VARIANT.findall(text):
+        number = numbers[f"RECORD_{snake(name).upper()}"].value
+        yield Variant(name, number, variant_fields(body), doc_of(comment))
+
+
+def socket_options():
+    """Yields the options of a socket, with their bits."""
+    text = text_of(CRATES / "sock_diag_extras/src/options.rt")
+    bits = dict(BIT.findall(code_of(text)))
+    for comment, name, _ in PLAIN_VARIANT.findall(enum_in(text, "SocketOption")):
+        yield Variant(name, bits[name], [], doc_of(comment))
+
+
+def tcp_fields():
+    """Yields the fields of struct tcp_info, with their offsets. The only field of each is its
+    type."""
+    text = text_of(CRATES / "sock_diag_extras/src/tcp_info.rt")
+    spans = {it[0]: it[1:] for it in SPAN.findall(code_of(text))}
+    for comment, name, _ in PLAIN_VARIANT.findall(enum_in(text, "TcpField")):
+        offset, width = spans[name]
+        yield Variant(name, offset, [Field(snake(name), TYPES[int(width)])], doc_of(comment))
 
 
 def without_values(text):
@@ -166,20 +242,48 @@ class Library:
         own = (CRATES / "sockdiag_c/src").glob("*.rt")
         text = text_of(*(path for path in own if path.name != "tests.rt"))
         shared = text_of(*(CRATES / "sock_diag_families/src").rglob("*.rt"))
+        shared += text_of(*(CRATES / "sock_diag_extras/src").rglob("*.rt"))
         records = CRATES / "sock_diag_records/src"
         headers = text_of(records / "inet/response.rt", records / "unix/response.rt")
         self.code = code_of(text)
+        self.constants = constants_in(text + shared + headers)
         self.structs = {it.name: it for it in structs_in(text, False)}
         self.structs |= {it.name: it for it in structs_in(shared, True)}
+        self.structs = {name: self.with_lengths(it) for name, it in self.structs.items()}
         self.sizes = dict(SIZE.findall(self.code))
         for length, (name, path, documented) in RECORDS.items():
             self.structs[name] = self.record(length, name, path, documented)
+        self.structs[LONG_TCP_INFO[1]] = self.long_tcp_info(*LONG_TCP_INFO)
         self.functions = {it[2]: self.function(*it) for it in FUNCTION.findall(text)}
-        self.constants = constants_in(text + shared + headers)
         for name, struct in self.structs.items():
             size = self.layout(struct.fields)["the end"]
             if self.sizes.get(name) != str(size):
                 sys.exit(f"the source does not state that {name} has {size} bytes")
+
+    def with_lengths(self, struct):
+        """Returns a struct with numbers in place of the constants that are lengths of arrays."""
+
+        def number(found):
+            return f"; {self.constants[found[1]].value}]"
+
+        kinds = [re.sub(r"; ([A-Z]\w*)\]", number, it.kind) for it in struct.fields]
+        fields = [it._replace(kind=kind) for it, kind in zip(struct.fields, kinds)]
+        return struct._replace(fields=fields)
+
+    def long_tcp_info(self, length, name):
+        """Returns the struct with all fields of struct tcp_info: those of `TcpInfo`, whose offsets
+        are those of `TcpField`, and after them the other ones of `TcpField`."""
+        self.sizes[name] = self.constants[length].value
+        fields = [*self.structs["TcpInfo"].fields]
+        found = [*tcp_fields()]
+        fields += [it.fields[0]._replace(doc=it.doc) for it in found[len(fields):]]
+        offsets = self.layout(fields)
+        for field, it in zip(fields, found, strict=True):
+            own = (field.name, field.kind, str(offsets[field.name]))
+            if own != (*it.fields[0][:2], it.number):
+                sys.exit(f"{field.name} of TcpInfo is not {it.name} of TcpField")
+        doc = "The state of a TCP connection: `struct tcp_info` of `linux/tcp.h` in Linux 6.18."
+        return Struct(name, "", fields, False, [doc])
 
     def record(self, length, name, path, documented):
         """Returns the struct of a record that C gets as a byte array. Each byte of the array belongs

@@ -344,6 +344,24 @@ pub const INET_DIAG_CLASS_ID: u16 = 17;
 /// Keys of TCP MD5 signatures.
 pub const INET_DIAG_MD5SIG: u16 = 18;
 
+/// Kind of the attribute of the upper layer protocol on TCP (ULP), such as TLS or MPTCP: nested
+/// attributes `INET_ULP_INFO_..`.
+pub const INET_DIAG_ULP_INFO: u16 = 19;
+
+/// Kind of the attribute of the local storage of BPF programs for the socket: nested attributes
+/// `SK_DIAG_BPF_STORAGE`.
+pub const INET_DIAG_SK_BPF_STORAGES: u16 = 20;
+
+/// Kind of the attribute with the id of the socket's control group.
+///
+/// See `parse_cgroup_id`.
+pub const INET_DIAG_CGROUP_ID: u16 = 21;
+
+/// Kind of the attribute with the options of the socket.
+///
+/// See `SocketOptions`.
+pub const INET_DIAG_SOCKOPT: u16 = 22;
+
 // ---- Socket states.
 
 /// The connection is open.
@@ -379,6 +397,10 @@ pub const TCP_LISTEN: u8 = 10;
 /// Both sides have closed at the same time, and wait for the acknowledgement.
 pub const TCP_CLOSING: u8 = 11;
 
+/// Bound and not connected. A request selects this state by bit 13; replies have the state 7
+/// (`TCP_CLOSE`).
+pub const TCP_BOUND_INACTIVE: u8 = 13;
+
 // ---- Attributes requested in replies about UNIX sockets.
 
 /// Requests `UNIX_DIAG_NAME`.
@@ -398,6 +420,9 @@ pub const UDIAG_SHOW_RQLEN: u32 = 16;
 
 /// Requests `UNIX_DIAG_MEMINFO`.
 pub const UDIAG_SHOW_MEMINFO: u32 = 32;
+
+/// Flag of a UNIX request: requests `UNIX_DIAG_UID`.
+pub const UDIAG_SHOW_UID: u32 = 64;
 
 // ---- Attribute kinds of replies about UNIX sockets.
 
@@ -421,6 +446,11 @@ pub const UNIX_DIAG_MEMINFO: u16 = 5;
 
 /// Directions that are shut down, a `u8`: bit 0 for receiving, bit 1 for sending. See shutdown(2).
 pub const UNIX_DIAG_SHUTDOWN: u16 = 6;
+
+/// Kind of the attribute with the id of the user who created the UNIX socket.
+///
+/// See `parse_uid`.
+pub const UNIX_DIAG_UID: u16 = 7;
 
 // ---- Socket types.
 

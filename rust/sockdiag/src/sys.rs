@@ -89,6 +89,20 @@ pub(crate) struct Text<'a> {
 
 #[repr(C)]
 #[derive(Clone, Copy, Debug, Default, PartialEq, Eq)]
+pub(crate) struct ErrorDetails {
+    pub(crate) code: u32,
+    pub(crate) record_name: u32,
+    pub(crate) family: u32,
+    pub(crate) message_type: u32,
+    pub(crate) kind: Number,
+    pub(crate) got: usize,
+    pub(crate) need: usize,
+    pub(crate) length: usize,
+    pub(crate) index: usize,
+}
+
+#[repr(C)]
+#[derive(Clone, Copy, Debug, Default, PartialEq, Eq)]
 pub(crate) struct ShowRequest {
     pub(crate) header: RequestHeader,
     pub(crate) family: u8,
@@ -169,6 +183,14 @@ pub(crate) struct InetDetails<'a> {
     pub(crate) v6only: Number,
     pub(crate) mark: Number,
     pub(crate) class_id: Number,
+}
+
+#[repr(C)]
+#[derive(Clone, Copy, Debug, Default, PartialEq, Eq)]
+pub(crate) struct Rejections {
+    pub(crate) first: u32,
+    pub(crate) framing: u32,
+    pub(crate) errors: [u8; 32],
 }
 
 #[repr(C)]
@@ -477,6 +499,108 @@ pub struct XdpResponseHeader {
     pub cookie: u64,
 }
 
+/// The measurements of TCP Vegas, and of other algorithms that report in the same format:
+/// `struct tcpvegas_info` of `linux/inet_diag.h`, 16 bytes, four little-endian `u32` fields.
+#[repr(C)]
+#[derive(Clone, Copy, Debug, Default, PartialEq, Eq)]
+pub struct VegasInfo {
+    /// Whether the algorithm is in use, `tcpv_enabled`, at offset 0: 0 for no.
+    pub enabled: u32,
+    /// Number of round trips measured, `tcpv_rttcnt`, at offset 4.
+    pub rtt_count: u32,
+    /// Round-trip time, `tcpv_rtt`, at offset 8, in microseconds. Which one (the least, the mean or
+    /// the last) depends on the algorithm.
+    pub rtt: u32,
+    /// Minimum round-trip time, `tcpv_minrtt`, at offset 12, in microseconds.
+    pub min_rtt: u32,
+}
+
+/// The measurements of DCTCP: `struct tcp_dctcp_info` of `linux/inet_diag.h`, 16 bytes,
+/// little-endian.
+#[repr(C)]
+#[derive(Clone, Copy, Debug, Default, PartialEq, Eq)]
+pub struct DctcpInfo {
+    /// Whether the algorithm is in use, `dctcp_enabled`, at offset 0: 0 for no.
+    pub enabled: u16,
+    /// Whether the last received segment had the ECN mark CE, `dctcp_ce_state`, at offset 2: 0 for
+    /// no.
+    pub ce_state: u16,
+    /// Estimated fraction of the bytes that are marked, `dctcp_alpha`, at offset 4, in 1024ths.
+    pub alpha: u32,
+    /// Number of acknowledged bytes that the peer reported as marked, `dctcp_ab_ecn`, at offset 8.
+    pub marked_bytes: u32,
+    /// Number of acknowledged bytes, `dctcp_ab_tot`, at offset 12.
+    pub acked_bytes: u32,
+}
+
+/// The measurements of BBR: `struct tcp_bbr_info` of `linux/inet_diag.h`, 20 bytes, little-endian.
+#[repr(C)]
+#[derive(Clone, Copy, Debug, Default, PartialEq, Eq)]
+pub struct BbrInfo {
+    /// Estimated bandwidth, in bytes per second: `bbr_bw_lo`, at offset 0, is its low half, and
+    /// `bbr_bw_hi`, at offset 4, its high half.
+    pub bandwidth: u64,
+    /// Minimum round-trip time, `bbr_min_rtt`, at offset 8, in microseconds.
+    pub min_rtt: u32,
+    /// Factor from the bandwidth to the pacing rate, `bbr_pacing_gain`, at offset 12, in 256ths.
+    pub pacing_gain: u32,
+    /// Factor from the bandwidth-delay product to the congestion window, `bbr_cwnd_gain`, at offset
+    /// 16, in 256ths.
+    pub window_gain: u32,
+}
+
+/// An MD5 signature key for the segments of some peers: one of the records in the value of
+/// `INET_DIAG_MD5SIG`, `struct tcp_diag_md5sig` of `linux/tcp.h`, 100 bytes. The kernel sends it
+/// only to processes with `CAP_NET_ADMIN`.
+#[repr(C)]
+#[derive(Clone, Copy, Debug, PartialEq, Eq)]
+pub struct Md5Signature {
+    /// Address family, `tcpm_family`, at offset 0: 2 for `AF_INET`, 10 for `AF_INET6`.
+    pub family: u8,
+    /// Length of the address prefix of the peers, `tcpm_prefixlen`, at offset 1, in bits.
+    pub prefix_length: u8,
+    /// Length of the key, `tcpm_keylen`, at offset 2, in bytes, little-endian.
+    pub key_length: u16,
+    /// Address, `tcpm_addr`, at offset 4, in network byte order. An IPv4 address is in the first
+    /// four bytes.
+    pub address: [u8; 16],
+    /// Key, `tcpm_key`, at offset 20. Only the first `key_length` bytes are used.
+    pub key: [u8; 80],
+}
+
+/// The options of an IPv4 or IPv6 socket: the two bytes of `INET_DIAG_SOCKOPT`.
+#[repr(C)]
+#[derive(Clone, Copy, Debug, Default, PartialEq, Eq)]
+pub struct SocketOptions {
+    /// Both bytes as a little-endian number: bits 0 to 7 are the first byte.
+    pub bits: u16,
+}
+
+/// An address of an SCTP association: one of the records in the values of `INET_DIAG_LOCALS` and
+/// `INET_DIAG_PEERS`. It is a `struct sockaddr_storage`, 128 bytes. By its family, it starts with a
+/// `struct sockaddr_in` (ip(7)) or a `struct sockaddr_in6` (ipv6(7)). No byte is ignored.
+#[repr(C)]
+#[derive(Clone, Copy, Debug, PartialEq, Eq)]
+pub struct StoredAddress {
+    /// Address family, `sin_family` or `sin6_family`, at offset 0, little-endian: 2 for `AF_INET`,
+    /// 10 for `AF_INET6`.
+    pub family: u16,
+    /// Port, `sin_port` or `sin6_port`, at offset 2, parsed from network byte order.
+    pub port: u16,
+    /// IPv4 address (`sin_addr`), or flow information of IPv6 (`sin6_flowinfo`), at offset 4, in
+    /// network byte order.
+    pub front: [u8; 4],
+    /// IPv6 address, `sin6_addr`, at offset 8: eight segments of 16 bits, parsed from network byte
+    /// order: 0x2001 for 2001:... For `AF_INET`, the bytes after `sin_addr`.
+    pub segments: [u16; 8],
+    /// Index of the interface of a link-local IPv6 address, `sin6_scope_id`, at offset 24,
+    /// little-endian.
+    pub scope_id: u32,
+    /// The bytes from offset 28 on, which neither `struct sockaddr_in` nor `struct sockaddr_in6`
+    /// has.
+    pub rest: [u8; 100],
+}
+
 /// The state of a TCP connection: `struct tcp_info` of `linux/tcp.h`, without the prefix `tcpi_`.
 #[repr(C)]
 #[derive(Clone, Copy, Debug, Default, PartialEq, Eq)]
@@ -627,9 +751,83 @@ pub(crate) struct InetMemory {
     pub(crate) drops: u32,
 }
 
+#[repr(C)]
+#[derive(Clone, Copy, Debug, Default, PartialEq, Eq)]
+pub(crate) struct LongTcpInfo {
+    pub(crate) state: u8,
+    pub(crate) ca_state: u8,
+    pub(crate) retransmits: u8,
+    pub(crate) probes: u8,
+    pub(crate) backoff: u8,
+    pub(crate) options: u8,
+    pub(crate) wscale: u8,
+    pub(crate) delivery_rate_app_limited: u8,
+    pub(crate) rto: u32,
+    pub(crate) ato: u32,
+    pub(crate) snd_mss: u32,
+    pub(crate) rcv_mss: u32,
+    pub(crate) unacked: u32,
+    pub(crate) sacked: u32,
+    pub(crate) lost: u32,
+    pub(crate) retrans: u32,
+    pub(crate) fackets: u32,
+    pub(crate) last_data_sent: u32,
+    pub(crate) last_ack_sent: u32,
+    pub(crate) last_data_recv: u32,
+    pub(crate) last_ack_recv: u32,
+    pub(crate) pmtu: u32,
+    pub(crate) rcv_ssthresh: u32,
+    pub(crate) rtt: u32,
+    pub(crate) rttvar: u32,
+    pub(crate) snd_ssthresh: u32,
+    pub(crate) snd_cwnd: u32,
+    pub(crate) advmss: u32,
+    pub(crate) reordering: u32,
+    pub(crate) rcv_rtt: u32,
+    pub(crate) rcv_space: u32,
+    pub(crate) total_retrans: u32,
+    pub(crate) pacing_rate: u64,
+    pub(crate) max_pacing_rate: u64,
+    pub(crate) bytes_acked: u64,
+    pub(crate) bytes_received: u64,
+    pub(crate) segs_out: u32,
+    pub(crate) segs_in: u32,
+    pub(crate) notsent_bytes: u32,
+    pub(crate) min_rtt: u32,
+    pub(crate) data_segs_in: u32,
+    pub(crate) data_segs_out: u32,
+    pub(crate) delivery_rate: u64,
+    pub(crate) busy_time: u64,
+    pub(crate) rwnd_limited: u64,
+    pub(crate) sndbuf_limited: u64,
+    pub(crate) delivered: u32,
+    pub(crate) delivered_ce: u32,
+    pub(crate) bytes_sent: u64,
+    pub(crate) bytes_retrans: u64,
+    pub(crate) dsack_dups: u32,
+    pub(crate) reord_seen: u32,
+    pub(crate) rcv_ooopack: u32,
+    pub(crate) snd_wnd: u32,
+    pub(crate) rcv_wnd: u32,
+    pub(crate) rehash: u32,
+    pub(crate) total_rto: u16,
+    pub(crate) total_rto_recoveries: u16,
+    pub(crate) total_rto_time: u32,
+    pub(crate) received_ce: u32,
+    pub(crate) delivered_e1_bytes: u32,
+    pub(crate) delivered_e0_bytes: u32,
+    pub(crate) delivered_ce_bytes: u32,
+    pub(crate) received_e1_bytes: u32,
+    pub(crate) received_e0_bytes: u32,
+    pub(crate) received_ce_bytes: u32,
+    pub(crate) accecn_fail_mode: u16,
+    pub(crate) accecn_opt_seen: u16,
+}
+
 // The sizes that `crates/sockdiag_c/src/layout.rt` proves.
 const _: () = assert!(size_of::<Number>() == 8);
 const _: () = assert!(size_of::<Text>() == 24);
+const _: () = assert!(size_of::<ErrorDetails>() == 56);
 const _: () = assert!(size_of::<ShowRequest>() == 32);
 const _: () = assert!(size_of::<VsockRequest>() == 24);
 const _: () = assert!(size_of::<Memory>() == 72);
@@ -637,6 +835,7 @@ const _: () = assert!(size_of::<UnixHeader>() == 16);
 const _: () = assert!(size_of::<InetHeader>() == 72);
 const _: () = assert!(size_of::<Reply>() == 92);
 const _: () = assert!(size_of::<InetDetails>() == 152);
+const _: () = assert!(size_of::<Rejections>() == 40);
 const _: () = assert!(size_of::<NetlinkDetails>() == 136);
 const _: () = assert!(size_of::<PacketDetails>() == 248);
 const _: () = assert!(size_of::<RequestHeader>() == 12);
@@ -657,10 +856,53 @@ const _: () = assert!(size_of::<XdpInfo>() == 8);
 const _: () = assert!(size_of::<XdpUmem>() == 40);
 const _: () = assert!(size_of::<XdpStatistics>() == 48);
 const _: () = assert!(size_of::<XdpResponseHeader>() == 16);
+const _: () = assert!(size_of::<VegasInfo>() == 16);
+const _: () = assert!(size_of::<DctcpInfo>() == 16);
+const _: () = assert!(size_of::<BbrInfo>() == 24);
+const _: () = assert!(size_of::<Md5Signature>() == 100);
+const _: () = assert!(size_of::<SocketOptions>() == 2);
+const _: () = assert!(size_of::<StoredAddress>() == 128);
 const _: () = assert!(size_of::<TcpInfo>() == 232);
 const _: () = assert!(size_of::<InetMemory>() == 36);
+const _: () = assert!(size_of::<LongTcpInfo>() == 280);
 
 extern "C" {
+    pub(crate) fn sockdiag_get_uid(value: *const u8, length: usize, uid: *mut u32) -> u32;
+    pub(crate) fn sockdiag_get_cgroup_id(value: *const u8, length: usize, id: *mut u64) -> u32;
+    pub(crate) fn sockdiag_get_socket_options(
+        value: *const u8,
+        length: usize,
+        options: *mut SocketOptions,
+    ) -> u32;
+    pub(crate) fn sockdiag_get_vegas_info(
+        value: *const u8,
+        length: usize,
+        info: *mut VegasInfo,
+    ) -> u32;
+    pub(crate) fn sockdiag_get_dctcp_info(
+        value: *const u8,
+        length: usize,
+        info: *mut DctcpInfo,
+    ) -> u32;
+    pub(crate) fn sockdiag_get_bbr_info(value: *const u8, length: usize, info: *mut BbrInfo) -> u32;
+    pub(crate) fn sockdiag_next_md5_signature(
+        value: *const u8,
+        length: usize,
+        cursor: *mut Cursor,
+        signature: *mut Md5Signature,
+    ) -> u32;
+    pub(crate) fn sockdiag_next_address(
+        value: *const u8,
+        length: usize,
+        cursor: *mut Cursor,
+        address: *mut StoredAddress,
+    ) -> u32;
+    pub(crate) fn sockdiag_next_pending(
+        value: *const u8,
+        length: usize,
+        cursor: *mut Cursor,
+        inode: *mut u32,
+    ) -> u32;
     pub(crate) fn sockdiag_check_unix_reply(
         payload: *const u8,
         length: usize,
@@ -687,6 +929,57 @@ extern "C" {
         length: usize,
         details: *mut InetDetails<'a>,
     ) -> u32;
+    pub(crate) fn sockdiag_unix_explain(
+        payload: *const u8,
+        length: usize,
+        error: *mut ErrorDetails,
+    ) -> u32;
+    pub(crate) fn sockdiag_inet_explain(
+        payload: *const u8,
+        length: usize,
+        error: *mut ErrorDetails,
+    ) -> u32;
+    pub(crate) fn sockdiag_netlink_explain(
+        payload: *const u8,
+        length: usize,
+        error: *mut ErrorDetails,
+    ) -> u32;
+    pub(crate) fn sockdiag_packet_explain(
+        payload: *const u8,
+        length: usize,
+        error: *mut ErrorDetails,
+    ) -> u32;
+    pub(crate) fn sockdiag_vsock_explain(
+        payload: *const u8,
+        length: usize,
+        error: *mut ErrorDetails,
+    ) -> u32;
+    pub(crate) fn sockdiag_xdp_explain(
+        payload: *const u8,
+        length: usize,
+        error: *mut ErrorDetails,
+    ) -> u32;
+    pub(crate) fn sockdiag_message_explain(
+        payload: *const u8,
+        length: usize,
+        message_type: u16,
+        error: *mut ErrorDetails,
+    ) -> u32;
+    pub(crate) fn sockdiag_framing_explain(
+        bytes: *const u8,
+        length: usize,
+        error: *mut ErrorDetails,
+    ) -> u32;
+    pub(crate) fn sockdiag_unix_explain_attribute(
+        bytes: *const u8,
+        length: usize,
+        error: *mut ErrorDetails,
+    ) -> u32;
+    pub(crate) fn sockdiag_inet_explain_attribute(
+        bytes: *const u8,
+        length: usize,
+        error: *mut ErrorDetails,
+    ) -> u32;
     pub(crate) fn sockdiag_write_show_request(
         request: *const ShowRequest,
         buffer: *mut u8,
@@ -705,6 +998,18 @@ extern "C" {
         buffer_length: usize,
         outcome: *mut Outcome,
     ) -> usize;
+    pub(crate) fn sockdiag_unix_get_lenient_details<'a>(
+        payload: *const u8,
+        length: usize,
+        details: *mut UnixDetails<'a>,
+        rejections: *mut Rejections,
+    ) -> u32;
+    pub(crate) fn sockdiag_inet_get_lenient_details<'a>(
+        payload: *const u8,
+        length: usize,
+        details: *mut InetDetails<'a>,
+        rejections: *mut Rejections,
+    ) -> u32;
     pub(crate) fn sockdiag_netlink_get_details<'a>(
         payload: *const u8,
         length: usize,
@@ -759,6 +1064,11 @@ extern "C" {
         payload: *const u8,
         length: usize,
         info: *mut TcpInfo,
+    ) -> usize;
+    pub(crate) fn sockdiag_inet_get_long_tcp_info(
+        payload: *const u8,
+        length: usize,
+        info: *mut LongTcpInfo,
     ) -> usize;
     pub(crate) fn sockdiag_inet_get_memory(
         payload: *const u8,

@@ -1,0 +1,358 @@
+//! The fields of `struct tcp_info`, and the options of a socket.
+//
+// tools/bindings writes this file from the source of the proved crates.
+
+use super::{SocketOptions, TcpInfo};
+
+/// A field of `struct tcp_info` of `linux/tcp.h`, as Linux 6.18 defines it: 280 bytes,
+/// little-endian. The number after `at` is the offset in bytes. [`TcpInfo`] documents the fields
+/// that it also has.
+#[derive(Clone, Copy, Debug, PartialEq, Eq, Hash)]
+pub enum TcpField {
+    /// `tcpi_state` at 0.
+    State,
+    /// `tcpi_ca_state` at 1.
+    CaState,
+    /// `tcpi_retransmits` at 2.
+    Retransmits,
+    /// `tcpi_probes` at 3.
+    Probes,
+    /// `tcpi_backoff` at 4.
+    Backoff,
+    /// `tcpi_options` at 5.
+    Options,
+    /// `tcpi_snd_wscale` at 6 in the low four bits, and `tcpi_rcv_wscale` in the high four bits.
+    Wscale,
+    /// `tcpi_delivery_rate_app_limited` at 7 in bit 0, and `tcpi_fastopen_client_fail` in bits 1
+    /// and 2.
+    DeliveryRateAppLimited,
+    /// `tcpi_rto` at 8, in microseconds.
+    Rto,
+    /// `tcpi_ato` at 12, in microseconds.
+    Ato,
+    /// `tcpi_snd_mss` at 16, in bytes.
+    SndMss,
+    /// `tcpi_rcv_mss` at 20, in bytes.
+    RcvMss,
+    /// `tcpi_unacked` at 24.
+    Unacked,
+    /// `tcpi_sacked` at 28.
+    Sacked,
+    /// `tcpi_lost` at 32.
+    Lost,
+    /// `tcpi_retrans` at 36.
+    Retrans,
+    /// `tcpi_fackets` at 40.
+    Fackets,
+    /// `tcpi_last_data_sent` at 44, in milliseconds.
+    LastDataSent,
+    /// `tcpi_last_ack_sent` at 48. The kernel does not set it.
+    LastAckSent,
+    /// `tcpi_last_data_recv` at 52, in milliseconds.
+    LastDataRecv,
+    /// `tcpi_last_ack_recv` at 56, in milliseconds.
+    LastAckRecv,
+    /// `tcpi_pmtu` at 60, in bytes.
+    Pmtu,
+    /// `tcpi_rcv_ssthresh` at 64, in bytes.
+    RcvSsthresh,
+    /// `tcpi_rtt` at 68, in microseconds.
+    Rtt,
+    /// `tcpi_rttvar` at 72, in microseconds.
+    Rttvar,
+    /// `tcpi_snd_ssthresh` at 76, in segments.
+    SndSsthresh,
+    /// `tcpi_snd_cwnd` at 80, in segments.
+    SndCwnd,
+    /// `tcpi_advmss` at 84, in bytes.
+    Advmss,
+    /// `tcpi_reordering` at 88, in segments.
+    Reordering,
+    /// `tcpi_rcv_rtt` at 92, in microseconds.
+    RcvRtt,
+    /// `tcpi_rcv_space` at 96, in bytes.
+    RcvSpace,
+    /// `tcpi_total_retrans` at 100.
+    TotalRetrans,
+    /// `tcpi_pacing_rate` at 104, in bytes per second.
+    PacingRate,
+    /// `tcpi_max_pacing_rate` at 112, in bytes per second.
+    MaxPacingRate,
+    /// `tcpi_bytes_acked` at 120.
+    BytesAcked,
+    /// `tcpi_bytes_received` at 128.
+    BytesReceived,
+    /// `tcpi_segs_out` at 136.
+    SegsOut,
+    /// `tcpi_segs_in` at 140.
+    SegsIn,
+    /// `tcpi_notsent_bytes` at 144.
+    NotsentBytes,
+    /// `tcpi_min_rtt` at 148, in microseconds.
+    MinRtt,
+    /// `tcpi_data_segs_in` at 152.
+    DataSegsIn,
+    /// `tcpi_data_segs_out` at 156.
+    DataSegsOut,
+    /// `tcpi_delivery_rate` at 160, in bytes per second.
+    DeliveryRate,
+    /// `tcpi_busy_time` at 168, in microseconds.
+    BusyTime,
+    /// `tcpi_rwnd_limited` at 176, in microseconds.
+    RwndLimited,
+    /// `tcpi_sndbuf_limited` at 184, in microseconds.
+    SndbufLimited,
+    /// `tcpi_delivered` at 192.
+    Delivered,
+    /// `tcpi_delivered_ce` at 196.
+    DeliveredCe,
+    /// `tcpi_bytes_sent` at 200.
+    BytesSent,
+    /// `tcpi_bytes_retrans` at 208.
+    BytesRetrans,
+    /// `tcpi_dsack_dups` at 216.
+    DsackDups,
+    /// `tcpi_reord_seen` at 220.
+    ReordSeen,
+    /// `tcpi_rcv_ooopack` at 224.
+    RcvOoopack,
+    /// `tcpi_snd_wnd` at 228, in bytes.
+    SndWnd,
+    /// The receive window that the local end advertises, after scaling, in bytes. `tcpi_rcv_wnd` at
+    /// 232.
+    RcvWnd,
+    /// Number of attempts to take another path by a new flow hash, after a timeout or by PLB
+    /// (protective load balancing). `tcpi_rehash` at 236.
+    Rehash,
+    /// Total number of retransmission timeouts, including timeouts of SYN and SYN-ACK segments.
+    /// `tcpi_total_rto` at 240.
+    TotalRto,
+    /// Total number of recoveries after a retransmission timeout, including an unfinished one.
+    /// `tcpi_total_rto_recoveries` at 242.
+    TotalRtoRecoveries,
+    /// Total time spent in these recoveries, including an unfinished one, in milliseconds.
+    /// `tcpi_total_rto_time` at 244.
+    TotalRtoTime,
+    /// Number of received segments with the ECN mark CE (congestion experienced).
+    /// `tcpi_received_ce` at 248.
+    ReceivedCe,
+    /// Number of bytes delivered to the peer with the ECN mark ECT(1). `tcpi_delivered_e1_bytes` at
+    /// 252.
+    DeliveredE1Bytes,
+    /// Number of bytes delivered to the peer with the ECN mark ECT(0). `tcpi_delivered_e0_bytes` at
+    /// 256.
+    DeliveredE0Bytes,
+    /// Number of bytes delivered to the peer with the ECN mark CE. `tcpi_delivered_ce_bytes` at
+    /// 260.
+    DeliveredCeBytes,
+    /// Number of bytes received with the ECN mark ECT(1). `tcpi_received_e1_bytes` at 264.
+    ReceivedE1Bytes,
+    /// Number of bytes received with the ECN mark ECT(0). `tcpi_received_e0_bytes` at 268.
+    ReceivedE0Bytes,
+    /// Number of bytes received with the ECN mark CE. `tcpi_received_ce_bytes` at 272.
+    ReceivedCeBytes,
+    /// Bits for the ways in which accurate ECN failed. `tcpi_accecn_fail_mode` at 276.
+    AccecnFailMode,
+    /// Which TCP options of accurate ECN were seen. `tcpi_accecn_opt_seen` at 278.
+    AccecnOptSeen,
+}
+
+impl TcpField {
+    /// All fields, by their offsets.
+    pub const ALL: [TcpField; 68] = [
+        TcpField::State,
+        TcpField::CaState,
+        TcpField::Retransmits,
+        TcpField::Probes,
+        TcpField::Backoff,
+        TcpField::Options,
+        TcpField::Wscale,
+        TcpField::DeliveryRateAppLimited,
+        TcpField::Rto,
+        TcpField::Ato,
+        TcpField::SndMss,
+        TcpField::RcvMss,
+        TcpField::Unacked,
+        TcpField::Sacked,
+        TcpField::Lost,
+        TcpField::Retrans,
+        TcpField::Fackets,
+        TcpField::LastDataSent,
+        TcpField::LastAckSent,
+        TcpField::LastDataRecv,
+        TcpField::LastAckRecv,
+        TcpField::Pmtu,
+        TcpField::RcvSsthresh,
+        TcpField::Rtt,
+        TcpField::Rttvar,
+        TcpField::SndSsthresh,
+        TcpField::SndCwnd,
+        TcpField::Advmss,
+        TcpField::Reordering,
+        TcpField::RcvRtt,
+        TcpField::RcvSpace,
+        TcpField::TotalRetrans,
+        TcpField::PacingRate,
+        TcpField::MaxPacingRate,
+        TcpField::BytesAcked,
+        TcpField::BytesReceived,
+        TcpField::SegsOut,
+        TcpField::SegsIn,
+        TcpField::NotsentBytes,
+        TcpField::MinRtt,
+        TcpField::DataSegsIn,
+        TcpField::DataSegsOut,
+        TcpField::DeliveryRate,
+        TcpField::BusyTime,
+        TcpField::RwndLimited,
+        TcpField::SndbufLimited,
+        TcpField::Delivered,
+        TcpField::DeliveredCe,
+        TcpField::BytesSent,
+        TcpField::BytesRetrans,
+        TcpField::DsackDups,
+        TcpField::ReordSeen,
+        TcpField::RcvOoopack,
+        TcpField::SndWnd,
+        TcpField::RcvWnd,
+        TcpField::Rehash,
+        TcpField::TotalRto,
+        TcpField::TotalRtoRecoveries,
+        TcpField::TotalRtoTime,
+        TcpField::ReceivedCe,
+        TcpField::DeliveredE1Bytes,
+        TcpField::DeliveredE0Bytes,
+        TcpField::DeliveredCeBytes,
+        TcpField::ReceivedE1Bytes,
+        TcpField::ReceivedE0Bytes,
+        TcpField::ReceivedCeBytes,
+        TcpField::AccecnFailMode,
+        TcpField::AccecnOptSeen,
+    ];
+
+    /// Returns the offset of the field and its width, both in bytes.
+    pub const fn span(self) -> (usize, usize) {
+        match self {
+            TcpField::State => (0, 1),
+            TcpField::CaState => (1, 1),
+            TcpField::Retransmits => (2, 1),
+            TcpField::Probes => (3, 1),
+            TcpField::Backoff => (4, 1),
+            TcpField::Options => (5, 1),
+            TcpField::Wscale => (6, 1),
+            TcpField::DeliveryRateAppLimited => (7, 1),
+            TcpField::Rto => (8, 4),
+            TcpField::Ato => (12, 4),
+            TcpField::SndMss => (16, 4),
+            TcpField::RcvMss => (20, 4),
+            TcpField::Unacked => (24, 4),
+            TcpField::Sacked => (28, 4),
+            TcpField::Lost => (32, 4),
+            TcpField::Retrans => (36, 4),
+            TcpField::Fackets => (40, 4),
+            TcpField::LastDataSent => (44, 4),
+            TcpField::LastAckSent => (48, 4),
+            TcpField::LastDataRecv => (52, 4),
+            TcpField::LastAckRecv => (56, 4),
+            TcpField::Pmtu => (60, 4),
+            TcpField::RcvSsthresh => (64, 4),
+            TcpField::Rtt => (68, 4),
+            TcpField::Rttvar => (72, 4),
+            TcpField::SndSsthresh => (76, 4),
+            TcpField::SndCwnd => (80, 4),
+            TcpField::Advmss => (84, 4),
+            TcpField::Reordering => (88, 4),
+            TcpField::RcvRtt => (92, 4),
+            TcpField::RcvSpace => (96, 4),
+            TcpField::TotalRetrans => (100, 4),
+            TcpField::PacingRate => (104, 8),
+            TcpField::MaxPacingRate => (112, 8),
+            TcpField::BytesAcked => (120, 8),
+            TcpField::BytesReceived => (128, 8),
+            TcpField::SegsOut => (136, 4),
+            TcpField::SegsIn => (140, 4),
+            TcpField::NotsentBytes => (144, 4),
+            TcpField::MinRtt => (148, 4),
+            TcpField::DataSegsIn => (152, 4),
+            TcpField::DataSegsOut => (156, 4),
+            TcpField::DeliveryRate => (160, 8),
+            TcpField::BusyTime => (168, 8),
+            TcpField::RwndLimited => (176, 8),
+            TcpField::SndbufLimited => (184, 8),
+            TcpField::Delivered => (192, 4),
+            TcpField::DeliveredCe => (196, 4),
+            TcpField::BytesSent => (200, 8),
+            TcpField::BytesRetrans => (208, 8),
+            TcpField::DsackDups => (216, 4),
+            TcpField::ReordSeen => (220, 4),
+            TcpField::RcvOoopack => (224, 4),
+            TcpField::SndWnd => (228, 4),
+            TcpField::RcvWnd => (232, 4),
+            TcpField::Rehash => (236, 4),
+            TcpField::TotalRto => (240, 2),
+            TcpField::TotalRtoRecoveries => (242, 2),
+            TcpField::TotalRtoTime => (244, 4),
+            TcpField::ReceivedCe => (248, 4),
+            TcpField::DeliveredE1Bytes => (252, 4),
+            TcpField::DeliveredE0Bytes => (256, 4),
+            TcpField::DeliveredCeBytes => (260, 4),
+            TcpField::ReceivedE1Bytes => (264, 4),
+            TcpField::ReceivedE0Bytes => (268, 4),
+            TcpField::ReceivedCeBytes => (272, 4),
+            TcpField::AccecnFailMode => (276, 2),
+            TcpField::AccecnOptSeen => (278, 2),
+        }
+    }
+}
+
+// The first field that `TcpInfo` does not have.
+const _: () = assert!(TcpField::RcvWnd.span().0 == size_of::<TcpInfo>());
+
+/// An option of an IPv4 or IPv6 socket: a bit of `struct inet_diag_sockopt` of `linux/inet_diag.h`.
+/// Bits of the first byte are counted from its least significant bit. ip(7) describes most options.
+#[derive(Clone, Copy, Debug, PartialEq, Eq, Hash)]
+pub enum SocketOption {
+    /// `IP_RECVERR`: `recverr`, bit 0.
+    RecvErr,
+    /// The socket is of a connection-oriented protocol: `is_icsk`, bit 1.
+    IsIcsk,
+    /// `IP_FREEBIND`: `freebind`, bit 2.
+    FreeBind,
+    /// `IP_HDRINCL`: `hdrincl`, bit 3.
+    HdrIncl,
+    /// `IP_MULTICAST_LOOP`: `mc_loop`, bit 4.
+    McLoop,
+    /// `IP_TRANSPARENT`: `transparent`, bit 5.
+    Transparent,
+    /// `IP_MULTICAST_ALL`: `mc_all`, bit 6.
+    McAll,
+    /// `IP_NODEFRAG`: `nodefrag`, bit 7.
+    NoDefrag,
+    /// `IP_BIND_ADDRESS_NO_PORT`: `bind_address_no_port`, bit 0 of the second byte.
+    BindAddressNoPort,
+    /// `IP_RECVERR_RFC4884`: `recverr_rfc4884`, bit 1 of the second byte.
+    RecvErrRfc4884,
+    /// `connect` is deferred until data is written, by `TCP_FASTOPEN_CONNECT`: `defer_connect`, bit
+    /// 2 of the second byte.
+    DeferConnect,
+}
+
+impl SocketOptions {
+    /// Returns whether the option is set: whether `bits` has the bit of the option.
+    pub const fn has(self, option: SocketOption) -> bool {
+        let bit = match option {
+            SocketOption::RecvErr => 1,
+            SocketOption::IsIcsk => 2,
+            SocketOption::FreeBind => 4,
+            SocketOption::HdrIncl => 8,
+            SocketOption::McLoop => 16,
+            SocketOption::Transparent => 32,
+            SocketOption::McAll => 64,
+            SocketOption::NoDefrag => 128,
+            SocketOption::BindAddressNoPort => 256,
+            SocketOption::RecvErrRfc4884 => 512,
+            SocketOption::DeferConnect => 1024,
+        };
+        self.bits & bit != 0
+    }
+}
