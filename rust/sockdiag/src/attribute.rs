@@ -1,8 +1,9 @@
 //! Attributes of a reply.
 
 use crate::calls;
-use crate::sys::Cursor;
+use crate::sys::{Cursor, Rejections};
 use crate::DecodeError;
+use core::fmt;
 use core::marker::PhantomData;
 
 /// An attribute, as its kind and its bytes: `struct nlattr` of the kernel.
@@ -60,18 +61,104 @@ impl<'a> Iterator for Attributes<'a> {
     type Item = Result<Attribute<'a>, DecodeError>;
 
     fn next(&mut self) -> Option<Self::Item> {
-        match calls::next_attribute(self.bytes, &mut self.cursor) {
-            Ok(part) => Some(Ok(Attribute {
-                type_word: part.type_word,
-                value: self.bytes.get(part.offset..part.offset + part.length)?,
-            })),
-            Err(0) => None,
-            Err(code) => Some(Err(DecodeError::from_code(code))),
-        }
+        let part = match calls::next_attribute(self.bytes, &mut self.cursor)? {
+            Ok(part) => part,
+            Err(error) => return Some(Err(error)),
+        };
+        Some(Ok(Attribute {
+            type_word: part.type_word,
+            value: self.bytes.get(part.offset..part.offset + part.length)?,
+        }))
     }
 }
 
 impl core::iter::FusedIterator for Attributes<'_> {}
+
+/// An attribute of a reply that was rejected, or bytes that are not an attribute. It displays the
+/// text of the error.
+#[derive(Clone, Copy, Debug, PartialEq, Eq)]
+pub struct RejectedAttribute<'a> {
+    /// The reason.
+    pub error: DecodeError,
+    /// The kind of the attribute: the type field without its two flag bits. `None` for a framing
+    /// error: the bytes are not an attribute, and the iteration ends.
+    pub kind: Option<u16>,
+    /// The value that was rejected. For a framing error, the remaining bytes of the reply.
+    pub value: &'a [u8],
+}
+
+impl fmt::Display for RejectedAttribute<'_> {
+    fn fmt(&self, f: &mut fmt::Formatter<'_>) -> fmt::Result {
+        self.error.fmt(f)
+    }
+}
+
+impl core::error::Error for RejectedAttribute<'_> {}
+
+impl From<RejectedAttribute<'_>> for DecodeError {
+    fn from(rejected: RejectedAttribute<'_>) -> Self {
+        rejected.error
+    }
+}
+
+/// An iterator over the rejected attributes of a reply, in order. A framing error is the last item.
+#[derive(Clone, Debug)]
+pub struct RejectedAttributes<'a> {
+    attributes: Attributes<'a>,
+    rejections: Rejections,
+    /// Returns the error of the attribute at the start of bytes.
+    error_of: fn(&[u8]) -> Option<DecodeError>,
+}
+
+impl<'a> RejectedAttributes<'a> {
+    /// Returns an iterator over those of the attributes after a header of this length that the
+    /// function rejects. `rejections` has their kinds.
+    pub(crate) fn after_header(
+        bytes: &'a [u8],
+        header_length: usize,
+        rejections: Rejections,
+        error_of: fn(&[u8]) -> Option<DecodeError>,
+    ) -> Self {
+        RejectedAttributes {
+            attributes: Attributes::after_header(bytes, header_length),
+            rejections,
+            error_of,
+        }
+    }
+
+    /// Returns whether an attribute of this kind was rejected. All kinds that can be rejected have
+    /// an element.
+    fn has_rejected(&self, kind: u16) -> bool {
+        let code = self.rejections.errors.get(usize::from(kind));
+        code.is_some_and(|code| *code != 0)
+    }
+}
+
+impl<'a> Iterator for RejectedAttributes<'a> {
+    type Item = RejectedAttribute<'a>;
+
+    fn next(&mut self) -> Option<Self::Item> {
+        if self.rejections.first == 0 {
+            return None;
+        }
+        loop {
+            let remaining = self.attributes.bytes.get(self.attributes.cursor.offset..)?;
+            let (error, kind, value) = match self.attributes.next()? {
+                Ok(attribute) if self.has_rejected(attribute.kind()) => {
+                    let error = (self.error_of)(remaining);
+                    (error, Some(attribute.kind()), attribute.value)
+                }
+                Ok(_) => (None, None, remaining),
+                Err(error) => (Some(error), None, remaining),
+            };
+            if let Some(error) = error {
+                return Some(RejectedAttribute { error, kind, value });
+            }
+        }
+    }
+}
+
+impl core::iter::FusedIterator for RejectedAttributes<'_> {}
 
 /// The decoded attributes of a reply, each an `N`, in order.
 #[derive(Clone, Copy, Debug, PartialEq, Eq)]
@@ -149,15 +236,32 @@ pub(crate) fn u32_at(bytes: &[u8], index: usize) -> Option<u32> {
     Some(u32::from_le_bytes(*bytes))
 }
 
-/// An iterator over consecutive numbers of four bytes each.
+/// Returns the number in a value of four bytes, or `None` if the value has another length.
+pub(crate) fn u32_in(value: &[u8]) -> Option<u32> {
+    value.try_into().ok().map(u32::from_le_bytes)
+}
+
+/// Returns the byte of a value, or `None` if the value has another length.
+pub(crate) fn u8_in(value: &[u8]) -> Option<u8> {
+    match value {
+        [byte] => Some(*byte),
+        _ => None,
+    }
+}
+
+/// An iterator over consecutive numbers of four bytes each. The time for all is proportional to
+/// their number.
 #[derive(Clone, Copy, Debug, PartialEq, Eq)]
 pub struct Numbers<'a> {
     bytes: &'a [u8],
+    cursor: Cursor,
 }
 
 impl<'a> Numbers<'a> {
+    /// Returns an iterator over the numbers in these bytes.
     pub(crate) fn new(bytes: &'a [u8]) -> Self {
-        Numbers { bytes }
+        let cursor = Cursor::default();
+        Numbers { bytes, cursor }
     }
 }
 
@@ -165,9 +269,7 @@ impl Iterator for Numbers<'_> {
     type Item = u32;
 
     fn next(&mut self) -> Option<u32> {
-        let number = u32_at(self.bytes, 0)?;
-        self.bytes = &self.bytes[4..];
-        Some(number)
+        calls::next_pending(self.bytes, &mut self.cursor)
     }
 }
 

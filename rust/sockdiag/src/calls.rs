@@ -8,8 +8,10 @@
 
 use crate::inet::nlas::MemInfo;
 use crate::sys::*;
+use crate::DecodeError;
 use core::fmt;
 use core::marker::PhantomData;
+use core::mem::MaybeUninit;
 
 impl Number {
     /// Returns the number, or `None` if the reply does not contain it.
@@ -41,9 +43,9 @@ impl<'a> Text<'a> {
         if self.kind == 0 {
             return None;
         }
-        // SAFETY: only a details call sets a text, and `details` returns it only if the call
-        // returned 0. By the type `Text<'a>` in the contract, the bytes are then a part of the
-        // payload, which is borrowed for 'a, and their number is `length`.
+        // SAFETY: only a details call sets a text, and `details` and `lenient_details` return it
+        // only if the call returned 0. By the type `Text<'a>` in the contract, the bytes are then a
+        // part of the payload, which is borrowed for 'a, and their number is `length`.
         Some(unsafe { core::slice::from_raw_parts(self.bytes, self.length) })
     }
 }
@@ -79,68 +81,236 @@ impl Memory {
     }
 }
 
-/// Returns the contents of a reply by a details call, or the code of the error.
+/// A call of `sockdiag.h` that returns the error of bytes, with its fields.
+type Explain = unsafe extern "C" fn(*const u8, usize, *mut ErrorDetails) -> u32;
+
+/// Returns the error that a call returned the code of, with its fields.
 ///
 /// # Safety
 ///
-/// `call` is a details call of `sockdiag.h`, and texts in `D` are borrowed as long as the payload.
+/// `explain` is one of the calls `.._explain` and `.._explain_attribute` of `sockdiag.h`.
+#[cold]
+unsafe fn explained(bytes: &[u8], code: u32, explain: Explain) -> DecodeError {
+    let mut error = ErrorDetails::default();
+    // SAFETY: the pointer and the length are from one slice, and the struct is an initialized
+    // local. The contracts of these calls require nothing else.
+    unsafe { explain(bytes.as_ptr(), bytes.len(), &mut error) };
+    DecodeError::explained(code, &error)
+}
+
+/// Returns the contents of a reply by a details call, or the error by the other call.
+///
+/// # Safety
+///
+/// `call` is a details call of `sockdiag.h`, texts in `D` are borrowed as long as the payload, and
+/// `explain` is the call `.._explain` of the family.
 unsafe fn details<D: Default>(
     payload: &[u8],
     call: unsafe extern "C" fn(*const u8, usize, *mut D) -> u32,
-) -> Result<D, u32> {
+    explain: Explain,
+) -> Result<D, DecodeError> {
     let mut details = D::default();
     // SAFETY: the pointer and the length are from one slice, and the struct is an initialized
     // local. The contract of a details call requires nothing else. The call writes only the struct.
     match unsafe { call(payload.as_ptr(), payload.len(), &mut details) } {
         0 => Ok(details),
-        error => Err(error),
+        // SAFETY: `explain` is such a call.
+        code => Err(unsafe { explained(payload, code, explain) }),
     }
 }
 
 /// Returns the contents of a reply about a UNIX socket.
-pub(crate) fn unix_details(payload: &[u8]) -> Result<UnixDetails<'_>, u32> {
+pub(crate) fn unix_details(payload: &[u8]) -> Result<UnixDetails<'_>, DecodeError> {
     // SAFETY: `sockdiag_unix_get_details` is a details call.
-    unsafe { details(payload, sockdiag_unix_get_details) }
+    unsafe { details(payload, sockdiag_unix_get_details, sockdiag_unix_explain) }
 }
 
 /// Returns the contents of a reply about an internet socket.
-pub(crate) fn inet_details(payload: &[u8]) -> Result<InetDetails<'_>, u32> {
+pub(crate) fn inet_details(payload: &[u8]) -> Result<InetDetails<'_>, DecodeError> {
     // SAFETY: `sockdiag_inet_get_details` is a details call.
-    unsafe { details(payload, sockdiag_inet_get_details) }
+    unsafe { details(payload, sockdiag_inet_get_details, sockdiag_inet_explain) }
 }
 
 /// Returns the contents of a reply about a netlink socket.
-pub(crate) fn netlink_details(payload: &[u8]) -> Result<NetlinkDetails<'_>, u32> {
+pub(crate) fn netlink_details(payload: &[u8]) -> Result<NetlinkDetails<'_>, DecodeError> {
     // SAFETY: `sockdiag_netlink_get_details` is a details call.
-    unsafe { details(payload, sockdiag_netlink_get_details) }
+    unsafe { details(payload, sockdiag_netlink_get_details, sockdiag_netlink_explain) }
 }
 
 /// Returns the contents of a reply about a packet socket.
-pub(crate) fn packet_details(payload: &[u8]) -> Result<PacketDetails<'_>, u32> {
+pub(crate) fn packet_details(payload: &[u8]) -> Result<PacketDetails<'_>, DecodeError> {
     // SAFETY: `sockdiag_packet_get_details` is a details call.
-    unsafe { details(payload, sockdiag_packet_get_details) }
+    unsafe { details(payload, sockdiag_packet_get_details, sockdiag_packet_explain) }
 }
 
 /// Returns the contents of a reply about a vsock socket.
-pub(crate) fn vsock_details(payload: &[u8]) -> Result<VsockResponseHeader, u32> {
+pub(crate) fn vsock_details(payload: &[u8]) -> Result<VsockResponseHeader, DecodeError> {
     // SAFETY: `sockdiag_vsock_get_details` is a details call.
-    unsafe { details(payload, sockdiag_vsock_get_details) }
+    unsafe { details(payload, sockdiag_vsock_get_details, sockdiag_vsock_explain) }
 }
 
 /// Returns the contents of a reply about an XDP socket.
-pub(crate) fn xdp_details(payload: &[u8]) -> Result<XdpDetails, u32> {
+pub(crate) fn xdp_details(payload: &[u8]) -> Result<XdpDetails, DecodeError> {
     // SAFETY: `sockdiag_xdp_get_details` is a details call.
-    unsafe { details(payload, sockdiag_xdp_get_details) }
+    unsafe { details(payload, sockdiag_xdp_get_details, sockdiag_xdp_explain) }
 }
 
-/// Returns the inode at this index among the connections that wait to be accepted.
-pub(crate) fn pending(payload: &[u8], index: usize) -> Option<u32> {
-    let mut inode = 0;
-    // SAFETY: the pointer and the length are from one slice, and the number is a local. The
-    // contract of `sockdiag_unix_get_pending` requires nothing else, for any index.
-    let answer =
-        unsafe { sockdiag_unix_get_pending(payload.as_ptr(), payload.len(), index, &mut inode) };
-    (answer == 1).then_some(inode)
+/// Returns the header and the valid attributes of a reply, with the codes of the other attributes;
+/// or the error of the header.
+///
+/// # Safety
+///
+/// `call` is a lenient details call of `sockdiag.h`, texts in `D` are borrowed as long as the
+/// payload, and `explain` is the call `.._explain` of the family.
+unsafe fn lenient_details<D: Default>(
+    payload: &[u8],
+    call: unsafe extern "C" fn(*const u8, usize, *mut D, *mut Rejections) -> u32,
+    explain: Explain,
+) -> Result<(D, Rejections), DecodeError> {
+    let (mut details, mut rejections) = (D::default(), Rejections::default());
+    // SAFETY: the pointer and the length are from one slice, and the structs are initialized
+    // locals. The contract of a lenient details call requires nothing else.
+    match unsafe { call(payload.as_ptr(), payload.len(), &mut details, &mut rejections) } {
+        0 => Ok((details, rejections)),
+        // SAFETY: `explain` is such a call. The first error of a reply is that of its header.
+        code => Err(unsafe { explained(payload, code, explain) }),
+    }
+}
+
+/// Returns the valid contents of a reply about a UNIX socket.
+pub(crate) fn unix_lenient_details(
+    payload: &[u8],
+) -> Result<(UnixDetails<'_>, Rejections), DecodeError> {
+    // SAFETY: `sockdiag_unix_get_lenient_details` is a lenient details call.
+    unsafe { lenient_details(payload, sockdiag_unix_get_lenient_details, sockdiag_unix_explain) }
+}
+
+/// Returns the valid contents of a reply about an internet socket.
+pub(crate) fn inet_lenient_details(
+    payload: &[u8],
+) -> Result<(InetDetails<'_>, Rejections), DecodeError> {
+    // SAFETY: `sockdiag_inet_get_lenient_details` is a lenient details call.
+    unsafe { lenient_details(payload, sockdiag_inet_get_lenient_details, sockdiag_inet_explain) }
+}
+
+/// Returns the error of the attribute at the start of the bytes by an `.._explain_attribute` call,
+/// or `None` if it is accepted.
+///
+/// # Safety
+///
+/// `explain` is one of the calls `.._explain_attribute` of `sockdiag.h`.
+unsafe fn attribute_error(bytes: &[u8], explain: Explain) -> Option<DecodeError> {
+    let mut error = ErrorDetails::default();
+    // SAFETY: the pointer and the length are from one slice, and the struct is an initialized
+    // local. The contracts of these calls require nothing else.
+    match unsafe { explain(bytes.as_ptr(), bytes.len(), &mut error) } {
+        0 => None,
+        code => Some(DecodeError::explained(code, &error)),
+    }
+}
+
+/// Returns the error of the attribute of a UNIX socket at the start of the bytes.
+pub(crate) fn unix_attribute_error(bytes: &[u8]) -> Option<DecodeError> {
+    // SAFETY: `sockdiag_unix_explain_attribute` is such a call.
+    unsafe { attribute_error(bytes, sockdiag_unix_explain_attribute) }
+}
+
+/// Returns the error of the attribute of an internet socket at the start of the bytes.
+pub(crate) fn inet_attribute_error(bytes: &[u8]) -> Option<DecodeError> {
+    // SAFETY: `sockdiag_inet_explain_attribute` is such a call.
+    unsafe { attribute_error(bytes, sockdiag_inet_explain_attribute) }
+}
+
+/// Returns the value of an attribute by a getter, or `None` if the getter rejects it.
+///
+/// # Safety
+///
+/// `call` is one of the calls of `sockdiag.h` that store the value of an attribute and return 1, or
+/// return 0.
+unsafe fn value_by<T>(
+    value: &[u8],
+    call: unsafe extern "C" fn(*const u8, usize, *mut T) -> u32,
+) -> Option<T> {
+    let mut found = MaybeUninit::uninit();
+    // SAFETY: the pointer and the length are from one slice. The target is a local, and need not be
+    // initialized. The contracts of these calls require nothing else.
+    let answer = unsafe { call(value.as_ptr(), value.len(), found.as_mut_ptr()) };
+    // SAFETY: the call sets the whole target if it returns 1.
+    (answer == 1).then(|| unsafe { found.assume_init() })
+}
+
+/// Returns the user id in the value of `UNIX_DIAG_UID`.
+pub(crate) fn uid(value: &[u8]) -> Option<u32> {
+    // SAFETY: `sockdiag_get_uid` is such a call.
+    unsafe { value_by(value, sockdiag_get_uid) }
+}
+
+/// Returns the id in the value of `INET_DIAG_CGROUP_ID`.
+pub(crate) fn cgroup_id(value: &[u8]) -> Option<u64> {
+    // SAFETY: `sockdiag_get_cgroup_id` is such a call.
+    unsafe { value_by(value, sockdiag_get_cgroup_id) }
+}
+
+/// Returns the options in the value of `INET_DIAG_SOCKOPT`.
+pub(crate) fn socket_options(value: &[u8]) -> Option<SocketOptions> {
+    // SAFETY: `sockdiag_get_socket_options` is such a call.
+    unsafe { value_by(value, sockdiag_get_socket_options) }
+}
+
+/// Returns the measurements in the value of `INET_DIAG_VEGASINFO`.
+pub(crate) fn vegas_info(value: &[u8]) -> Option<VegasInfo> {
+    // SAFETY: `sockdiag_get_vegas_info` is such a call.
+    unsafe { value_by(value, sockdiag_get_vegas_info) }
+}
+
+/// Returns the measurements in the value of `INET_DIAG_DCTCPINFO`.
+pub(crate) fn dctcp_info(value: &[u8]) -> Option<DctcpInfo> {
+    // SAFETY: `sockdiag_get_dctcp_info` is such a call.
+    unsafe { value_by(value, sockdiag_get_dctcp_info) }
+}
+
+/// Returns the measurements in the value of `INET_DIAG_BBRINFO`.
+pub(crate) fn bbr_info(value: &[u8]) -> Option<BbrInfo> {
+    // SAFETY: `sockdiag_get_bbr_info` is such a call.
+    unsafe { value_by(value, sockdiag_get_bbr_info) }
+}
+
+/// Returns the next item of an array in the value of an attribute, and advances the cursor.
+///
+/// # Safety
+///
+/// `call` is one of the calls of `sockdiag.h` that step through the value of an attribute: they
+/// store an item, advance the cursor and return 1, or return 0.
+unsafe fn next_item<T>(
+    value: &[u8],
+    cursor: &mut Cursor,
+    call: unsafe extern "C" fn(*const u8, usize, *mut Cursor, *mut T) -> u32,
+) -> Option<T> {
+    let mut found = MaybeUninit::uninit();
+    // SAFETY: the pointer and the length are from one slice. Neither the cursor, which is borrowed
+    // mutably, nor the target, which is a local and need not be initialized, overlaps anything
+    // else. The contracts of these calls allow any offset.
+    let answer = unsafe { call(value.as_ptr(), value.len(), cursor, found.as_mut_ptr()) };
+    // SAFETY: the call sets the whole target if it returns 1.
+    (answer == 1).then(|| unsafe { found.assume_init() })
+}
+
+/// Returns the next inode in the value of `UNIX_DIAG_ICONS`.
+pub(crate) fn next_pending(value: &[u8], cursor: &mut Cursor) -> Option<u32> {
+    // SAFETY: `sockdiag_next_pending` is such a call.
+    unsafe { next_item(value, cursor, sockdiag_next_pending) }
+}
+
+/// Returns the next key in the value of `INET_DIAG_MD5SIG`.
+pub(crate) fn next_md5_signature(value: &[u8], cursor: &mut Cursor) -> Option<Md5Signature> {
+    // SAFETY: `sockdiag_next_md5_signature` is such a call.
+    unsafe { next_item(value, cursor, sockdiag_next_md5_signature) }
+}
+
+/// Returns the next address in the value of `INET_DIAG_LOCALS` or `INET_DIAG_PEERS`.
+pub(crate) fn next_address(value: &[u8], cursor: &mut Cursor) -> Option<StoredAddress> {
+    // SAFETY: `sockdiag_next_address` is such a call.
+    unsafe { next_item(value, cursor, sockdiag_next_address) }
 }
 
 /// Fills the struct, and returns the length of the value in bytes.
@@ -157,36 +327,51 @@ pub(crate) fn tcp_info_in(bytes: &[u8; size_of::<TcpInfo>()]) -> TcpInfo {
     unsafe { core::ptr::read_unaligned(bytes.as_ptr().cast()) }
 }
 
-/// Returns the next attribute and advances the cursor, or returns the return value of the call as
-/// an error: 0 at the end, else the code of the error.
-pub(crate) fn next_attribute(bytes: &[u8], cursor: &mut Cursor) -> Result<AttributeRange, u32> {
+/// Returns the next attribute and advances the cursor, or returns the framing error. Returns `None`
+/// at the end.
+pub(crate) fn next_attribute(
+    bytes: &[u8],
+    cursor: &mut Cursor,
+) -> Option<Result<AttributeRange, DecodeError>> {
+    let start = cursor.offset;
     let mut attribute = AttributeRange::default();
     // SAFETY: the pointer and the length are from one slice. Neither the cursor, which is
     // borrowed mutably, nor the struct, which is a local, overlaps anything else. The contract of
     // `sockdiag_next_attribute` allows any offset.
-    let answer =
-        unsafe { sockdiag_next_attribute(bytes.as_ptr(), bytes.len(), cursor, &mut attribute) };
-    if answer == 1 {
-        Ok(attribute)
-    } else {
-        Err(answer)
+    match unsafe { sockdiag_next_attribute(bytes.as_ptr(), bytes.len(), cursor, &mut attribute) } {
+        0 => None,
+        1 => Some(Ok(attribute)),
+        // Framing errors do not depend on the family.
+        code => Some(Err(bytes
+            .get(start..)
+            .and_then(unix_attribute_error)
+            .unwrap_or(DecodeError::Other(code)))),
     }
 }
 
-/// Returns the next message and advances the cursor, or returns the return value of the call as an
-/// error: 0 at the end, else the code of the error.
-pub(crate) fn next_message(datagram: &[u8], cursor: &mut Cursor) -> Result<MessageRange, u32> {
+/// Returns the next message and advances the cursor, or returns the framing error. Returns `None`
+/// at the end.
+pub(crate) fn next_message(
+    datagram: &[u8],
+    cursor: &mut Cursor,
+) -> Option<Result<MessageRange, DecodeError>> {
+    let start = cursor.offset;
     let mut message = MessageRange::default();
     // SAFETY: the pointer and the length are from one slice. Neither the cursor, which is
     // borrowed mutably, nor the struct, which is a local, overlaps anything else. The contract of
     // `sockdiag_next_any_message` allows any offset.
-    let answer = unsafe {
+    match unsafe {
         sockdiag_next_any_message(datagram.as_ptr(), datagram.len(), cursor, &mut message)
-    };
-    if answer == 1 {
-        Ok(message)
-    } else {
-        Err(answer)
+    } {
+        0 => None,
+        1 => Some(Ok(message)),
+        code => {
+            let remaining = datagram.get(start..).unwrap_or_default();
+            // SAFETY: `sockdiag_framing_explain` is a call `.._explain`.
+            Some(Err(unsafe {
+                explained(remaining, code, sockdiag_framing_explain)
+            }))
+        }
     }
 }
 
@@ -240,7 +425,7 @@ pub(crate) fn write_vsock(request: &VsockRequest, buffer: &mut [u8]) -> usize {
 }
 
 /// Writes a request for internet sockets, followed by attributes, and returns the number of bytes
-/// that were written.
+/// that were written. `error` of the outcome is the code of a framing error of the attributes.
 pub(crate) fn write_inet_with_attributes(
     request: &InetRequest,
     attributes: &[u8],

@@ -4,6 +4,7 @@ use crate::calls;
 use crate::constants::{AF_INET, AF_INET6, AF_NETLINK, AF_PACKET, AF_UNIX, AF_VSOCK, AF_XDP};
 use crate::constants::{NLMSG_DONE, NLMSG_ERROR, NLMSG_NOOP, NLMSG_OVERRUN, SOCK_DIAG_BY_FAMILY};
 use crate::inet::{InetReply, InetRequest, RequestBytes};
+use crate::lenient::LenientMessage;
 use crate::netlink::NetlinkReply;
 use crate::packet::PacketReply;
 use crate::sys::{Cursor, MessageRange};
@@ -71,7 +72,7 @@ impl<'a> NetlinkMessage<SockDiagMessage<'a>> {
     pub fn deserialize(bytes: &'a [u8]) -> Result<Self, DecodeError> {
         match Dump::new(bytes).next() {
             Some(message) => Ok(message?),
-            None => Err(DecodeError::EnvelopeCut),
+            None => Err(DecodeError::EnvelopeCut { got: 0 }),
         }
     }
 
@@ -183,17 +184,25 @@ impl<'a> SockDiagMessage<'a> {
     /// family than `AF_UNIX`, `AF_INET` and `AF_INET6` is rejected with `UnknownFamily`;
     /// [`AnySockDiagMessage::parse`] parses four more.
     pub fn parse(payload: &'a [u8], message_type: u16) -> Result<Self, DecodeError> {
-        let [family, _, ..] = *payload else {
-            return Err(DecodeError::MessageTooShort);
-        };
-        if message_type != SOCK_DIAG_BY_FAMILY {
-            return Err(DecodeError::UnknownMessageType);
-        }
-        match family {
+        match family_of(payload, message_type)? {
             AF_UNIX => UnixReply::parse(payload).map(SockDiagMessage::UnixResponse),
-            AF_INET | AF_INET6 => InetReply::parse(payload).map(SockDiagMessage::InetResponse),
-            _ => Err(DecodeError::UnknownFamily),
+            _ => InetReply::parse(payload).map(SockDiagMessage::InetResponse),
         }
+    }
+}
+
+/// Returns the family of a reply: `AF_UNIX`, `AF_INET` or `AF_INET6`.
+pub(crate) fn family_of(payload: &[u8], message_type: u16) -> Result<u8, DecodeError> {
+    let [family, _, ..] = *payload else {
+        let got = payload.len();
+        return Err(DecodeError::MessageTooShort { got });
+    };
+    if message_type != SOCK_DIAG_BY_FAMILY {
+        return Err(DecodeError::UnknownMessageType { message_type });
+    }
+    match family {
+        AF_UNIX | AF_INET | AF_INET6 => Ok(family),
+        _ => Err(DecodeError::UnknownFamily { family }),
     }
 }
 
@@ -240,7 +249,8 @@ impl<'a> AnySockDiagMessage<'a> {
 }
 
 /// A message that was rejected. It contains everything that is known of the message, so that a
-/// program can report the message, or parse parts of it. It displays the text of the error.
+/// program can report the message. [`lenient`](Self::lenient) returns the part of a reply that is
+/// valid. It displays the text of the error.
 #[derive(Clone, Copy, Debug, PartialEq, Eq)]
 pub struct RejectedMessage<'a> {
     /// The reason.
@@ -250,6 +260,16 @@ pub struct RejectedMessage<'a> {
     pub header: Option<NetlinkHeader>,
     /// The payload that was rejected. For a framing error, the remaining bytes of the datagram.
     pub payload: &'a [u8],
+}
+
+impl<'a> RejectedMessage<'a> {
+    /// Returns the reply with those of its attributes that are valid, if it is about a UNIX, IPv4
+    /// or IPv6 socket. Returns `None` for another message, for a header that is rejected, and for a
+    /// framing error.
+    pub fn lenient(&self) -> Option<LenientMessage<'a>> {
+        let message_type = self.header?.message_type;
+        LenientMessage::parse(self.payload, message_type).ok()
+    }
 }
 
 impl fmt::Display for RejectedMessage<'_> {
@@ -269,7 +289,8 @@ impl From<RejectedMessage<'_>> for DecodeError {
 /// An iterator over the messages of a datagram, in order. It checks each reply once.
 ///
 /// If a payload is rejected, it yields the error with the header and the payload, and continues. So
-/// do not write `message?` in a loop: one rejected reply would end the list. After a framing error
+/// do not write `message?` in a loop: one rejected reply would end the list. One rejected attribute
+/// makes a reply invalid; [`RejectedMessage::lenient`] returns its socket. After a framing error
 /// it yields nothing. Kernels put whole messages into a datagram, so a message that is split
 /// between two datagrams is a framing error.
 ///
@@ -277,7 +298,7 @@ impl From<RejectedMessage<'_>> for DecodeError {
 /// `NLM_F_DUMP_INTR` are not checked: [`AnswerCheck`](crate::AnswerCheck) does that.
 ///
 /// ```
-/// use sockdiag::{DecodeError, Dump};
+/// use sockdiag::Dump;
 ///
 /// // A reply about a UNIX socket that is 4 bytes too short, and a message that ends a dump.
 /// let datagram = [
@@ -286,7 +307,7 @@ impl From<RejectedMessage<'_>> for DecodeError {
 /// ];
 /// let mut dump = Dump::new(&datagram);
 /// let rejected = dump.next().unwrap().unwrap_err();
-/// assert_eq!(rejected.error, DecodeError::BufferTooSmall);
+/// assert_eq!(rejected.error.code(), 2);
 /// assert_eq!(rejected.header.map(|header| header.sequence_number), Some(7));
 /// assert_eq!(rejected.payload, &datagram[16..28]);
 /// assert!(dump.next().is_some_and(|message| message.is_ok()));
@@ -370,12 +391,11 @@ fn next_message<'a, I>(
     parse: fn(&'a [u8], u16) -> Result<I, DecodeError>,
 ) -> Option<Result<NetlinkMessage<I>, RejectedMessage<'a>>> {
     let remaining = datagram.get(cursor.offset..)?;
-    let part = match calls::next_message(datagram, cursor) {
+    let part = match calls::next_message(datagram, cursor)? {
         Ok(part) => part,
-        Err(0) => return None,
-        Err(code) => {
+        Err(error) => {
             return Some(Err(RejectedMessage {
-                error: DecodeError::from_code(code),
+                error,
                 header: None,
                 payload: remaining,
             }))

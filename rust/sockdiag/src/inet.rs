@@ -3,15 +3,22 @@
 use crate::calls;
 use crate::constants::*;
 use crate::dump::NetlinkHeader;
+use crate::lenient::LenientReply;
 use crate::sys;
 use crate::unix::request_header;
 use crate::{Attributes, DecodeError, Nlas};
 use core::net::{IpAddr, Ipv4Addr, Ipv6Addr};
 use core::time::Duration;
 
-pub use crate::sys::TcpInfo;
+pub use crate::sys::{
+    BbrInfo, DctcpInfo, Md5Signature, SocketOptions, StoredAddress, TcpInfo, VegasInfo,
+};
+pub use fields::{SocketOption, TcpField};
+pub use values::{parse_cgroup_id, AttributeRecords, TcpInfoBytes};
 
+mod fields;
 pub mod nlas;
+mod values;
 
 crate::flags! {
     /// A set of states, with the bit `1 << state` for each state.
@@ -51,8 +58,9 @@ crate::flags! {
         /// `INET_DIAG_MEMINFO`.
         MEMINFO = 1 << (INET_DIAG_MEMINFO - 1);
         /// `INET_DIAG_INFO`. A reply is rejected with `BufferTooSmall` if this attribute has fewer
-        /// than 232 bytes, as Linux before 5.4 sends it, and any version for MPTCP. Then do not
-        /// request it, or use [`tcp_info`].
+        /// than 232 bytes, as Linux before 5.4 sends it, and any version for MPTCP.
+        /// [`LenientInetReply`] has its other attributes, and
+        /// [`tcp_info_bytes`](InetReply::tcp_info_bytes) the value.
         INFO = 1 << (INET_DIAG_INFO - 1);
         /// `INET_DIAG_VEGASINFO`.
         VEGASINFO = 1 << (INET_DIAG_VEGASINFO - 1);
@@ -254,7 +262,9 @@ impl InetRequest {
         let (written, outcome) = calls::write_inet_with_attributes(&request, attributes, buffer);
         match outcome.error {
             0 => Ok((written != 0).then_some(&buffer[..written])),
-            code => Err(DecodeError::from_code(code)),
+            code => Err(Attributes::new(attributes)
+                .find_map(Result::err)
+                .unwrap_or(DecodeError::Other(code))),
         }
     }
 
@@ -408,19 +418,26 @@ pub struct InetReply<'a> {
 /// Alias of [`InetReply`] with the name in `netlink-packet-sock-diag`.
 pub type InetResponse<'a> = InetReply<'a>;
 
+/// The reply about one IPv4 or IPv6 socket, of which attributes may be rejected.
+pub type LenientInetReply<'a> = LenientReply<'a, InetReply<'a>>;
+
 impl<'a> InetReply<'a> {
     /// Checks the whole reply, which is the payload of its message, and parses it. Does not
     /// allocate. One rejected attribute makes the whole reply invalid, such as an `INET_DIAG_INFO`
-    /// of fewer than 232 bytes. The first 72 bytes by themselves are a reply without attributes,
-    /// [`tcp_info`] accepts a value of any length, and [`Attributes::new`] does not check values.
+    /// of fewer than 232 bytes; [`LenientInetReply::parse`] returns the others.
     pub fn parse(payload: &'a [u8]) -> Result<Self, DecodeError> {
-        let details = calls::inet_details(payload).map_err(DecodeError::from_code)?;
-        Ok(InetReply {
+        let details = calls::inet_details(payload)?;
+        Ok(InetReply::of_details(details, payload))
+    }
+
+    /// Returns the reply with these contents.
+    pub(crate) fn of_details(details: sys::InetDetails<'a>, payload: &'a [u8]) -> Self {
+        InetReply {
             header: InetResponseHeader::from(details.header),
             details,
             nlas: Nlas::after_header(payload, sys::INET_ATTRIBUTES),
             payload,
-        })
+        }
     }
 
     /// Returns an iterator over all attributes, in order.
@@ -450,10 +467,78 @@ impl<'a> InetReply<'a> {
         self.nlas.iter()
     }
 
-    /// Returns the TCP connection (`INET_DIAG_INFO`). The value is taken for `struct tcp_info`
-    /// whatever the protocol is: for SCTP the fields are meaningless.
+    /// Returns the TCP connection (`INET_DIAG_INFO`), if the value has the 232 bytes of
+    /// [`TcpInfo`]. The value is taken for `struct tcp_info` whatever the protocol is: for SCTP the
+    /// fields are meaningless.
     pub fn tcp_info(&self) -> Option<TcpInfo> {
-        tcp_info(self.payload).map(|(info, _)| info)
+        match tcp_info(self.payload)? {
+            (info, length) if length >= size_of::<TcpInfo>() => Some(info),
+            // A rejected value: only `LenientInetReply` has one. Another one may follow.
+            _ => self.nlas.iter().find_map(|nla| match nla {
+                nlas::Nla::TcpInfo(info) => Some(info),
+                _ => None,
+            }),
+        }
+    }
+
+    /// Returns the value of the first `INET_DIAG_INFO`, of any length, with all fields of
+    /// `struct tcp_info` that it contains.
+    pub fn tcp_info_bytes(&self) -> Option<TcpInfoBytes<'a>> {
+        self.values(INET_DIAG_INFO).next().map(TcpInfoBytes::new)
+    }
+
+    /// Returns the id of the control group (cgroup v2) of the socket (`INET_DIAG_CGROUP_ID`).
+    pub fn cgroup_id(&self) -> Option<u64> {
+        self.values(INET_DIAG_CGROUP_ID).find_map(parse_cgroup_id)
+    }
+
+    /// Returns the options of the socket (`INET_DIAG_SOCKOPT`).
+    pub fn socket_options(&self) -> Option<SocketOptions> {
+        let mut values = self.values(INET_DIAG_SOCKOPT);
+        values.find_map(SocketOptions::parse)
+    }
+
+    /// Returns the measurements of TCP Vegas, or of another algorithm that reports in this format
+    /// (`INET_DIAG_VEGASINFO`).
+    pub fn vegas_info(&self) -> Option<VegasInfo> {
+        self.values(INET_DIAG_VEGASINFO).find_map(VegasInfo::parse)
+    }
+
+    /// Returns the measurements of DCTCP (`INET_DIAG_DCTCPINFO`).
+    pub fn dctcp_info(&self) -> Option<DctcpInfo> {
+        self.values(INET_DIAG_DCTCPINFO).find_map(DctcpInfo::parse)
+    }
+
+    /// Returns the measurements of BBR (`INET_DIAG_BBRINFO`).
+    pub fn bbr_info(&self) -> Option<BbrInfo> {
+        self.values(INET_DIAG_BBRINFO).find_map(BbrInfo::parse)
+    }
+
+    /// Returns an iterator over the MD5 signature keys of the socket (`INET_DIAG_MD5SIG`), which
+    /// the kernel sends only to processes with `CAP_NET_ADMIN`.
+    pub fn md5_signatures(&self) -> AttributeRecords<'a, Md5Signature> {
+        AttributeRecords::md5_signatures(self.first_value(INET_DIAG_MD5SIG))
+    }
+
+    /// Returns an iterator over the local addresses of an SCTP association (`INET_DIAG_LOCALS`).
+    pub fn local_addresses(&self) -> AttributeRecords<'a, StoredAddress> {
+        AttributeRecords::addresses(self.first_value(INET_DIAG_LOCALS))
+    }
+
+    /// Returns an iterator over the remote addresses of an SCTP association (`INET_DIAG_PEERS`).
+    pub fn peer_addresses(&self) -> AttributeRecords<'a, StoredAddress> {
+        AttributeRecords::addresses(self.first_value(INET_DIAG_PEERS))
+    }
+
+    /// Returns an iterator over the values of the attributes of a kind.
+    fn values(&self, kind: u16) -> impl Iterator<Item = &'a [u8]> {
+        let attributes = self.attributes().flatten();
+        attributes.filter_map(move |it| (it.kind() == kind).then_some(it.value))
+    }
+
+    /// Returns the value of the first attribute of a kind, or no bytes.
+    fn first_value(&self, kind: u16) -> &'a [u8] {
+        self.values(kind).next().unwrap_or_default()
     }
 
     /// Returns the name of the congestion control algorithm.

@@ -130,6 +130,7 @@ pub mod constants;
 mod dump;
 mod error;
 pub mod inet;
+mod lenient;
 pub mod netlink;
 pub mod packet;
 mod show;
@@ -140,10 +141,12 @@ pub mod xdp;
 
 pub use answer::{AnswerCheck, UnrelatedMessage};
 pub use attribute::{Attribute, Attributes, NlaWalk, Nlas, Numbers};
+pub use attribute::{RejectedAttribute, RejectedAttributes};
 pub use constants::*;
 pub use dump::{AnyDump, AnySockDiagMessage, Dump, Message, RejectedMessage, SockDiagMessage};
 pub use dump::{NetlinkHeader, NetlinkMessage, NetlinkPayload};
-pub use error::DecodeError;
+pub use error::{DecodeError, RecordName};
+pub use lenient::{LenientMessage, LenientReply};
 pub use show::ShowRequest;
 
 /// A set of flags, with the bits that the kernel uses.

@@ -36,7 +36,7 @@ impl<'a> NetlinkReply<'a> {
     /// Checks the whole reply, which is the payload of its message, and parses it. Does not
     /// allocate.
     pub fn parse(payload: &'a [u8]) -> Result<Self, DecodeError> {
-        let details = calls::netlink_details(payload).map_err(DecodeError::from_code)?;
+        let details = calls::netlink_details(payload)?;
         Ok(NetlinkReply {
             header: details.header,
             memory: details.memory.get(),

@@ -51,7 +51,7 @@ impl<'a> PacketReply<'a> {
     /// Checks the whole reply, which is the payload of its message, and parses it. Does not
     /// allocate.
     pub fn parse(payload: &'a [u8]) -> Result<Self, DecodeError> {
-        let details = calls::packet_details(payload).map_err(DecodeError::from_code)?;
+        let details = calls::packet_details(payload)?;
         Ok(PacketReply {
             header: details.header,
             info: (details.has_info != 0).then_some(details.info),

@@ -3,8 +3,9 @@
 use crate::calls;
 use crate::constants::*;
 use crate::dump::NetlinkHeader;
+use crate::lenient::LenientReply;
 use crate::sys;
-use crate::{Attributes, DecodeError, Nlas};
+use crate::{Attributes, DecodeError, Nlas, Numbers};
 
 pub mod nlas;
 
@@ -26,8 +27,8 @@ crate::flags! {
 crate::flags! {
     /// The attributes that the replies shall have.
     ///
-    /// Bit 6 of the kernel, `UDIAG_SHOW_UID`, has no name here. `from_bits_retain(0x7f)` sets it.
-    /// The reply then has the attribute `UNIX_DIAG_UID`, of kind 7, as [`nlas::Nla::Other`].
+    /// Bit 6 of the kernel, [`UDIAG_SHOW_UID`], has no name here. `from_bits_retain(0x7f)` sets it.
+    /// The reply then has the attribute `UNIX_DIAG_UID`, which [`UnixReply::uid`] returns.
     ShowFlags: u32 {
         /// `UDIAG_SHOW_NAME`.
         NAME = UDIAG_SHOW_NAME;
@@ -40,7 +41,8 @@ crate::flags! {
         /// `UDIAG_SHOW_RQLEN`.
         RQLEN = UDIAG_SHOW_RQLEN;
         /// `UDIAG_SHOW_MEMINFO`. A reply is rejected with `BufferTooSmall` if this attribute has
-        /// fewer than 36 bytes, as old kernels send it.
+        /// fewer than 36 bytes, as old kernels send it. [`LenientUnixReply`] has its other
+        /// attributes.
         MEMINFO = UDIAG_SHOW_MEMINFO;
     }
 }
@@ -142,11 +144,11 @@ pub enum UnixDiagName<'a> {
 }
 
 impl<'a> UnixDiagName<'a> {
-    /// Returns the name in the value of a checked attribute.
+    /// Returns the name in the value of an attribute, or `None` if the value is invalid.
     fn read(value: &'a [u8]) -> Option<Self> {
         match value {
             [0, address @ ..] => Some(UnixDiagName::Abstract(address)),
-            [path @ .., 0] => Some(UnixDiagName::Pathname(path)),
+            [path @ .., 0] if !path.contains(&0) => Some(UnixDiagName::Pathname(path)),
             _ => None,
         }
     }
@@ -190,14 +192,28 @@ pub struct UnixReply<'a> {
 /// Alias of [`UnixReply`] with the name in `netlink-packet-sock-diag`.
 pub type UnixResponse<'a> = UnixReply<'a>;
 
+/// The reply about one UNIX socket, of which attributes may be rejected.
+pub type LenientUnixReply<'a> = LenientReply<'a, UnixReply<'a>>;
+
+/// Returns the user id in the value of `UNIX_DIAG_UID`, or `None` if the value does not have 4
+/// bytes. [`UnixReply::uid`] returns it for a reply.
+pub fn parse_uid(value: &[u8]) -> Option<u32> {
+    calls::uid(value)
+}
+
 impl<'a> UnixReply<'a> {
     /// Checks the whole reply, which is the payload of its message, and parses it. Does not
-    /// allocate. One rejected attribute makes the whole reply invalid. The first 16 bytes by
-    /// themselves are a reply without attributes, and [`Attributes::new`] does not check values.
+    /// allocate. One rejected attribute makes the whole reply invalid; [`LenientUnixReply::parse`]
+    /// returns the others.
     pub fn parse(payload: &'a [u8]) -> Result<Self, DecodeError> {
-        let details = calls::unix_details(payload).map_err(DecodeError::from_code)?;
+        let details = calls::unix_details(payload)?;
+        Ok(UnixReply::of_details(details, payload))
+    }
+
+    /// Returns the reply with these contents.
+    pub(crate) fn of_details(details: sys::UnixDetails<'a>, payload: &'a [u8]) -> Self {
         let header = details.header;
-        Ok(UnixReply {
+        UnixReply {
             header: UnixResponseHeader {
                 kind: header.kind,
                 state: header.state,
@@ -207,7 +223,7 @@ impl<'a> UnixReply<'a> {
             details,
             nlas: Nlas::after_header(payload, sys::UNIX_ATTRIBUTES),
             payload,
-        })
+        }
     }
 
     /// Returns an iterator over all attributes, in order.
@@ -242,10 +258,20 @@ impl<'a> UnixReply<'a> {
         self.details.peer.get()
     }
 
-    /// Returns an iterator over the inodes of the connections that wait to be accepted.
+    /// Returns an iterator over the inodes of the connections that wait to be accepted. The time to
+    /// find them and for all of them is proportional to the length of the reply.
     pub fn pending_connections(&self) -> impl Iterator<Item = u32> + 'a {
-        let payload = self.payload;
-        (0..).map_while(move |index| calls::pending(payload, index))
+        let inodes = self.nlas.iter().find_map(|nla| match nla {
+            nlas::Nla::PendingConnections(inodes) => Some(inodes),
+            _ => None,
+        });
+        inodes.unwrap_or(Numbers::new(&[]))
+    }
+
+    /// Returns the user id of the owner, if it was requested by [`UDIAG_SHOW_UID`].
+    pub fn uid(&self) -> Option<u32> {
+        let mut attributes = self.attributes().flatten();
+        attributes.find_map(|it| parse_uid(it.value).filter(|_| it.kind() == UNIX_DIAG_UID))
     }
 
     /// Returns the directions that are shut down: 1 for receiving, 2 for sending, 3 for both.

@@ -50,7 +50,7 @@ impl<'a> VsockReply<'a> {
     /// Checks the whole reply, which is the payload of its message, and parses it. Does not
     /// allocate.
     pub fn parse(payload: &'a [u8]) -> Result<Self, DecodeError> {
-        let header = calls::vsock_details(payload).map_err(DecodeError::from_code)?;
+        let header = calls::vsock_details(payload)?;
         Ok(VsockReply { header, payload })
     }
 

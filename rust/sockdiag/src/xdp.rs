@@ -50,7 +50,7 @@ impl<'a> XdpReply<'a> {
     /// Checks the whole reply, which is the payload of its message, and parses it. Does not
     /// allocate.
     pub fn parse(payload: &'a [u8]) -> Result<Self, DecodeError> {
-        let details = calls::xdp_details(payload).map_err(DecodeError::from_code)?;
+        let details = calls::xdp_details(payload)?;
         Ok(XdpReply {
             header: details.header,
             info: (details.has_info != 0).then_some(details.info),

@@ -1,7 +1,7 @@
 //! Decoded attributes of a reply about an IPv4 or IPv6 socket.
 
 pub use super::TcpInfo;
-use crate::attribute::{u32_at, Attribute};
+use crate::attribute::{u32_at, u32_in, u8_in, Attribute};
 use crate::calls;
 use crate::constants::*;
 
@@ -75,13 +75,15 @@ pub enum Nla<'a> {
     ClassId(u32),
     /// An attribute of another kind. Its value may be an array or nested attributes, as those of
     /// `INET_DIAG_MD5SIG`, `INET_DIAG_LOCALS`, `INET_DIAG_PEERS`, `INET_DIAG_ULP_INFO` and
-    /// `INET_DIAG_SK_BPF_STORAGES` are.
+    /// `INET_DIAG_SK_BPF_STORAGES` are. Getters of [`InetReply`](crate::inet::InetReply) return the
+    /// first three, and the values of `INET_DIAG_CGROUP_ID`, `INET_DIAG_SOCKOPT` and of congestion
+    /// control algorithms.
     Other(Attribute<'a>),
 }
 
 impl<'a> From<Attribute<'a>> for Nla<'a> {
-    /// Decodes an attribute. If its value is invalid, the result is `Other`. A checked reply has no
-    /// such attribute.
+    /// Decodes an attribute. If its value is invalid, the result is `Other`. A reply that is
+    /// accepted has no such attribute; [`LenientInetReply`](crate::inet::LenientInetReply) may.
     fn from(attribute: Attribute<'a>) -> Self {
         Nla::known(attribute).unwrap_or(Nla::Other(attribute))
     }
@@ -102,14 +104,14 @@ impl<'a> Nla<'a> {
                 let text = value.strip_suffix(&[0]).unwrap_or(value);
                 Nla::Congestion(core::str::from_utf8(text).ok()?)
             }
-            INET_DIAG_TOS => Nla::Tos(*value.first()?),
-            INET_DIAG_TCLASS => Nla::Tc(*value.first()?),
+            INET_DIAG_TOS => Nla::Tos(u8_in(value)?),
+            INET_DIAG_TCLASS => Nla::Tc(u8_in(value)?),
             INET_DIAG_SKMEMINFO => Nla::MemInfo(memory(value)?),
-            INET_DIAG_SHUTDOWN => Nla::Shutdown(*value.first()?),
-            INET_DIAG_PROTOCOL => Nla::Protocol(*value.first()?),
-            INET_DIAG_SKV6ONLY => Nla::SkV6Only(*value.first()? != 0),
-            INET_DIAG_MARK => Nla::Mark(u32_at(value, 0)?),
-            INET_DIAG_CLASS_ID => Nla::ClassId(u32_at(value, 0)?),
+            INET_DIAG_SHUTDOWN => Nla::Shutdown(u8_in(value)?),
+            INET_DIAG_PROTOCOL => Nla::Protocol(u8_in(value)?),
+            INET_DIAG_SKV6ONLY => Nla::SkV6Only(u8_in(value)? != 0),
+            INET_DIAG_MARK => Nla::Mark(u32_in(value)?),
+            INET_DIAG_CLASS_ID => Nla::ClassId(u32_in(value)?),
             _ => return None,
         })
     }

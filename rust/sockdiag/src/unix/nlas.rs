@@ -1,7 +1,7 @@
 //! Decoded attributes of a reply about a UNIX socket.
 
 pub use super::{UnixDiagName, Vfs};
-use crate::attribute::{u32_at, Attribute, Numbers};
+use crate::attribute::{u32_at, u32_in, u8_in, Attribute, Numbers};
 use crate::constants::*;
 
 /// Memory of a UNIX socket: three of the nine fields of `UNIX_DIAG_MEMINFO`, in bytes.
@@ -42,8 +42,8 @@ pub enum Nla<'a> {
 }
 
 impl<'a> From<Attribute<'a>> for Nla<'a> {
-    /// Decodes an attribute. If its value is invalid, the result is `Other`. A checked reply has no
-    /// such attribute.
+    /// Decodes an attribute. If its value is invalid, the result is `Other`. A reply that is
+    /// accepted has no such attribute; [`LenientUnixReply`](crate::unix::LenientUnixReply) may.
     fn from(attribute: Attribute<'a>) -> Self {
         Nla::known(attribute).unwrap_or(Nla::Other(attribute))
     }
@@ -58,15 +58,19 @@ impl<'a> Nla<'a> {
                 inode: u32_at(value, 0)?,
                 device: u32_at(value, 1)?,
             }),
-            UNIX_DIAG_PEER => Nla::Peer(u32_at(value, 0)?),
-            UNIX_DIAG_ICONS => Nla::PendingConnections(Numbers::new(value)),
-            UNIX_DIAG_RQLEN => Nla::ReceiveQueueLength(u32_at(value, 0)?, u32_at(value, 1)?),
-            UNIX_DIAG_MEMINFO => Nla::MemInfo(MemInfo {
+            UNIX_DIAG_PEER => Nla::Peer(u32_in(value)?),
+            UNIX_DIAG_ICONS if value.len() % 4 == 0 => {
+                Nla::PendingConnections(Numbers::new(value))
+            }
+            UNIX_DIAG_RQLEN if value.len() == 8 => {
+                Nla::ReceiveQueueLength(u32_at(value, 0)?, u32_at(value, 1)?)
+            }
+            UNIX_DIAG_MEMINFO if value.len() >= 36 => Nla::MemInfo(MemInfo {
                 so_rcvbuf: u32_at(value, 1)?,
                 max_datagram_size: u32_at(value, 3)?,
                 alloc: u32_at(value, 5)?,
             }),
-            UNIX_DIAG_SHUTDOWN => Nla::Shutdown(*value.first()?),
+            UNIX_DIAG_SHUTDOWN => Nla::Shutdown(u8_in(value)?),
             _ => return None,
         })
     }

@@ -1,0 +1,150 @@
+//! Replies of which attributes may be rejected.
+
+use crate::calls;
+use crate::constants::AF_UNIX;
+use crate::dump::family_of;
+use crate::inet::{InetReply, LenientInetReply};
+use crate::sys::{Rejections, INET_ATTRIBUTES, UNIX_ATTRIBUTES};
+use crate::unix::{LenientUnixReply, UnixReply};
+use crate::{DecodeError, RejectedAttributes};
+use core::ops::Deref;
+
+/// The family of a lenient reply, which determines how attributes are parsed.
+#[derive(Clone, Copy, Debug, PartialEq, Eq)]
+enum Family {
+    Unix,
+    Inet,
+}
+
+/// A reply of which attributes may be rejected: a [`LenientUnixReply`] or a [`LenientInetReply`].
+/// Its header was accepted.
+///
+/// Use it to list sockets: a value that this crate does not accept, such as the `INET_DIAG_INFO` of
+/// an old kernel or of MPTCP, hides only itself, and not its socket.
+///
+/// It has the fields and methods of the reply `R`, with the valid attributes:
+///
+/// - a getter returns the first valid attribute, or `None` if there is none;
+/// - `nlas` yields a rejected attribute as `Other`;
+/// - `attributes` yields all attributes, and a framing error last;
+/// - `canonical` returns `None` if an attribute is rejected.
+///
+/// ```
+/// use sockdiag::inet::{LenientInetReply, TcpField};
+/// use sockdiag::{DecodeError, RecordName};
+///
+/// // The TCP connection of an old kernel, here with 8 bytes instead of 104, and a mark.
+/// let mut payload = [0; 92];
+/// payload[0] = 2;
+/// payload[72..84].copy_from_slice(&[12, 0, 2, 0, 1, 2, 3, 4, 5, 6, 7, 8]);
+/// payload[84..92].copy_from_slice(&[8, 0, 15, 0, 42, 0, 0, 0]);
+/// assert!(sockdiag::inet::InetReply::parse(&payload).is_err());
+///
+/// let reply = LenientInetReply::parse(&payload)?;
+/// assert_eq!((reply.header.family, reply.mark(), reply.tcp_info()), (2, Some(42), None));
+/// let info = reply.tcp_info_bytes().unwrap();
+/// assert_eq!((info.get(TcpField::Backoff), info.get(TcpField::Rto)), (Some(5), None));
+///
+/// let rejected: Vec<_> = reply.rejected().collect();
+/// assert_eq!((rejected.len(), rejected[0].kind), (1, Some(2)));
+/// let which = RecordName::TcpInfo;
+/// assert_eq!(rejected[0].error, DecodeError::BufferTooSmall { which, got: 8, need: 232 });
+/// # Ok::<(), DecodeError>(())
+/// ```
+#[derive(Clone, Copy, Debug, PartialEq, Eq)]
+pub struct LenientReply<'a, R> {
+    reply: R,
+    rejections: Rejections,
+    family: Family,
+    payload: &'a [u8],
+}
+
+impl<'a> LenientUnixReply<'a> {
+    /// Parses the reply, which is the payload of its message, in one pass over the attributes. Does
+    /// not allocate. Returns an error only if there are fewer than the 16 bytes of the header.
+    pub fn parse(payload: &'a [u8]) -> Result<Self, DecodeError> {
+        let (details, rejections) = calls::unix_lenient_details(payload)?;
+        Ok(LenientReply {
+            reply: UnixReply::of_details(details, payload),
+            rejections,
+            family: Family::Unix,
+            payload,
+        })
+    }
+}
+
+impl<'a> LenientInetReply<'a> {
+    /// Parses the reply, which is the payload of its message, in one pass over the attributes. Does
+    /// not allocate. Returns an error only if there are fewer than the 72 bytes of the header, or
+    /// if the family is neither `AF_INET` nor `AF_INET6`.
+    pub fn parse(payload: &'a [u8]) -> Result<Self, DecodeError> {
+        let (details, rejections) = calls::inet_lenient_details(payload)?;
+        Ok(LenientReply {
+            reply: InetReply::of_details(details, payload),
+            rejections,
+            family: Family::Inet,
+            payload,
+        })
+    }
+}
+
+impl<'a, R> LenientReply<'a, R> {
+    /// Returns whether no attribute is rejected. Then `parse` of the reply `R` accepts it too.
+    pub fn is_accepted(&self) -> bool {
+        self.rejections.first == 0
+    }
+
+    /// Returns an iterator over the rejected attributes, in order, with their values and errors. A
+    /// framing error is the last item. The time for all is proportional to the length of the reply.
+    pub fn rejected(&self) -> RejectedAttributes<'a> {
+        let (header_length, error_of): (_, fn(&[u8]) -> _) = match self.family {
+            Family::Unix => (UNIX_ATTRIBUTES, calls::unix_attribute_error),
+            Family::Inet => (INET_ATTRIBUTES, calls::inet_attribute_error),
+        };
+        RejectedAttributes::after_header(self.payload, header_length, self.rejections, error_of)
+    }
+}
+
+impl<R> Deref for LenientReply<'_, R> {
+    type Target = R;
+
+    fn deref(&self) -> &R {
+        &self.reply
+    }
+}
+
+/// A reply about a UNIX, IPv4 or IPv6 socket, of which attributes may be rejected.
+/// [`RejectedMessage::lenient`](crate::RejectedMessage::lenient) returns that of a rejected message.
+///
+/// ```
+/// use sockdiag::{Dump, LenientMessage};
+///
+/// # let datagram: &[u8] = &[
+/// #     48, 0, 0, 0, 20, 0, 2, 0, 7, 0, 0, 0, 9, 0, 0, 0, 1, 1, 10, 0, 78, 0, 0, 0, 1, 2, 3, 4,
+/// #     5, 6, 7, 8, 8, 0, 5, 0, 0, 0, 0, 0, 8, 0, 2, 0, 77, 0, 0, 0,
+/// # ];
+/// // A reply about a UNIX socket with four bytes of memory instead of 36, and a peer.
+/// let rejected = Dump::new(datagram).next().unwrap().unwrap_err();
+/// let Some(LenientMessage::Unix(reply)) = rejected.lenient() else { panic!("{rejected}") };
+/// assert_eq!((reply.header.inode, reply.peer()), (78, Some(77)));
+/// ```
+#[derive(Clone, Copy, Debug, PartialEq, Eq)]
+// The variants are not boxed, since this crate does not allocate.
+#[allow(clippy::large_enum_variant)]
+pub enum LenientMessage<'a> {
+    /// A reply describing one UNIX socket.
+    Unix(LenientUnixReply<'a>),
+    /// A reply describing one IPv4 or IPv6 socket.
+    Inet(LenientInetReply<'a>),
+}
+
+impl<'a> LenientMessage<'a> {
+    /// Parses the payload of a message of the given type. Returns an error only if the header of
+    /// the reply is rejected, or if it is not a reply about a UNIX, IPv4 or IPv6 socket.
+    pub fn parse(payload: &'a [u8], message_type: u16) -> Result<Self, DecodeError> {
+        match family_of(payload, message_type)? {
+            AF_UNIX => LenientReply::<UnixReply>::parse(payload).map(LenientMessage::Unix),
+            _ => LenientReply::<InetReply>::parse(payload).map(LenientMessage::Inet),
+        }
+    }
+}
