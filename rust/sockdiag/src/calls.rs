@@ -134,13 +134,25 @@ pub(crate) fn inet_details(payload: &[u8]) -> Result<InetDetails<'_>, DecodeErro
 /// Returns the contents of a reply about a netlink socket.
 pub(crate) fn netlink_details(payload: &[u8]) -> Result<NetlinkDetails<'_>, DecodeError> {
     // SAFETY: `sockdiag_netlink_get_details` is a details call.
-    unsafe { details(payload, sockdiag_netlink_get_details, sockdiag_netlink_explain) }
+    unsafe {
+        details(
+            payload,
+            sockdiag_netlink_get_details,
+            sockdiag_netlink_explain,
+        )
+    }
 }
 
 /// Returns the contents of a reply about a packet socket.
 pub(crate) fn packet_details(payload: &[u8]) -> Result<PacketDetails<'_>, DecodeError> {
     // SAFETY: `sockdiag_packet_get_details` is a details call.
-    unsafe { details(payload, sockdiag_packet_get_details, sockdiag_packet_explain) }
+    unsafe {
+        details(
+            payload,
+            sockdiag_packet_get_details,
+            sockdiag_packet_explain,
+        )
+    }
 }
 
 /// Returns the contents of a reply about a vsock socket.
@@ -170,7 +182,14 @@ unsafe fn lenient_details<D: Default>(
     let (mut details, mut rejections) = (D::default(), Rejections::default());
     // SAFETY: the pointer and the length are from one slice, and the structs are initialized
     // locals. The contract of a lenient details call requires nothing else.
-    match unsafe { call(payload.as_ptr(), payload.len(), &mut details, &mut rejections) } {
+    match unsafe {
+        call(
+            payload.as_ptr(),
+            payload.len(),
+            &mut details,
+            &mut rejections,
+        )
+    } {
         0 => Ok((details, rejections)),
         // SAFETY: `explain` is such a call. The first error of a reply is that of its header.
         code => Err(unsafe { explained(payload, code, explain) }),
@@ -182,7 +201,13 @@ pub(crate) fn unix_lenient_details(
     payload: &[u8],
 ) -> Result<(UnixDetails<'_>, Rejections), DecodeError> {
     // SAFETY: `sockdiag_unix_get_lenient_details` is a lenient details call.
-    unsafe { lenient_details(payload, sockdiag_unix_get_lenient_details, sockdiag_unix_explain) }
+    unsafe {
+        lenient_details(
+            payload,
+            sockdiag_unix_get_lenient_details,
+            sockdiag_unix_explain,
+        )
+    }
 }
 
 /// Returns the valid contents of a reply about an internet socket.
@@ -190,7 +215,13 @@ pub(crate) fn inet_lenient_details(
     payload: &[u8],
 ) -> Result<(InetDetails<'_>, Rejections), DecodeError> {
     // SAFETY: `sockdiag_inet_get_lenient_details` is a lenient details call.
-    unsafe { lenient_details(payload, sockdiag_inet_get_lenient_details, sockdiag_inet_explain) }
+    unsafe {
+        lenient_details(
+            payload,
+            sockdiag_inet_get_lenient_details,
+            sockdiag_inet_explain,
+        )
+    }
 }
 
 /// Returns the error of the attribute at the start of the bytes by an `.._explain_attribute` call,

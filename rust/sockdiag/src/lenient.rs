@@ -113,8 +113,8 @@ impl<R> Deref for LenientReply<'_, R> {
     }
 }
 
-/// A reply about a UNIX, IPv4 or IPv6 socket, of which attributes may be rejected.
-/// [`RejectedMessage::lenient`](crate::RejectedMessage::lenient) returns that of a rejected message.
+/// A reply about a UNIX, IPv4 or IPv6 socket, of which attributes may be rejected. For a rejected
+/// message of a dump, [`RejectedMessage::lenient`](crate::RejectedMessage::lenient) returns it.
 ///
 /// ```
 /// use sockdiag::{Dump, LenientMessage};

@@ -884,7 +884,8 @@ extern "C" {
         length: usize,
         info: *mut DctcpInfo,
     ) -> u32;
-    pub(crate) fn sockdiag_get_bbr_info(value: *const u8, length: usize, info: *mut BbrInfo) -> u32;
+    pub(crate) fn sockdiag_get_bbr_info(value: *const u8, length: usize, info: *mut BbrInfo)
+        -> u32;
     pub(crate) fn sockdiag_next_md5_signature(
         value: *const u8,
         length: usize,

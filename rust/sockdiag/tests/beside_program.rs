@@ -4,7 +4,7 @@
 
 mod common;
 
-use common::{attribute, counted, inet_reply, message, unix_reply};
+use common::{message, Random};
 use sockdiag::inet::{InetReply, InetResponseHeader, Timer};
 use sockdiag::unix::nlas::Nla;
 use sockdiag::unix::{UnixDiagName, UnixReply};
@@ -16,91 +16,23 @@ use std::time::Duration;
 
 const LINES: usize = 10_000;
 
-/// A generator of random numbers (xorshift), so that each run tests the same messages.
-struct Random(u64);
-
-impl Random {
-    /// Returns a number below the limit.
-    fn below(&mut self, limit: usize) -> usize {
-        self.0 ^= self.0 << 13;
-        self.0 ^= self.0 >> 7;
-        self.0 ^= self.0 << 17;
-        (self.0 >> 11) as usize % limit
-    }
-
-    /// Returns one of these values.
-    fn one_of<T: Copy>(&mut self, values: &[T]) -> T {
-        values[self.below(values.len())]
-    }
-
-    /// Returns the value of an attribute.
-    fn value(&mut self) -> Vec<u8> {
-        let length = self.one_of(&[0, 1, 2, 4, 5, 8, 12, 16, 28, 32, 36, 231, 232, 240]);
-        let first = self.below(256) as u8;
-        match self.below(4) {
-            0 => b"/tmp/a\0"[..self.below(8)].to_vec(),
-            1 => vec![0; length],
-            _ => counted(first, length),
-        }
-    }
-
-    /// Returns a reply of this family, changed at random.
-    fn reply(&mut self, family: u8) -> Vec<u8> {
-        let (mut bytes, header_length) = match family {
-            1 => (unix_reply(), 16),
-            _ => (inet_reply(), 72),
-        };
-        bytes[0] = family;
-        if self.below(2) == 0 {
-            bytes.truncate(header_length);
-        }
-        for _ in 0..self.below(4) {
-            self.change(&mut bytes, header_length);
-        }
-        bytes
-    }
-
-    /// Makes one change: another byte, fewer bytes or one more attribute.
-    fn change(&mut self, bytes: &mut Vec<u8>, header_length: usize) {
-        match self.below(8) {
-            0 => {
-                let length = self.below(bytes.len() + 1);
-                bytes.truncate(length.max(1));
+/// Returns the name of a line and its bytes.
+fn line(random: &mut Random) -> (&'static str, Vec<u8>) {
+    let family = random.one_of(&[1, 2, 10]);
+    let of_inet = random.one_of(&[2, 10]);
+    match random.below(8) {
+        0 => ("message", random.reply(family)),
+        1 => {
+            let message_type = random.one_of(&[1, 2, 3, 4, 20, 20, 20]);
+            let mut bytes = message(message_type, &random.reply(family));
+            if random.below(2) == 0 {
+                random.change(&mut bytes, 16);
             }
-            1 if bytes.len() >= header_length => {
-                // The state of a UNIX socket, and the timer of an internet socket.
-                bytes[2] = self.one_of(&[0, 1, 2, 3, 4, 5, 7, 10]);
-            }
-            2 | 3 => {
-                let index = self.below(bytes.len());
-                bytes[index] = self.one_of(&[0, 1, 2, 3, 4, 5, 8, 10, 0x7f, 0x80, 0xff]);
-            }
-            _ => {
-                let kind = self.one_of(&[0, 1, 2, 3, 4, 5, 6, 7, 8, 10, 11, 15, 17, 20, 0x8002]);
-                let value = self.value();
-                attribute(bytes, kind, &value);
-            }
+            ("netlink", bytes)
         }
-    }
-
-    /// Returns the name of a line and its bytes.
-    fn line(&mut self) -> (&'static str, Vec<u8>) {
-        let family = self.one_of(&[1, 2, 10]);
-        let of_inet = self.one_of(&[2, 10]);
-        match self.below(8) {
-            0 => ("message", self.reply(family)),
-            1 => {
-                let mut bytes =
-                    message(self.one_of(&[1, 2, 3, 4, 20, 20, 20]), &self.reply(family));
-                if self.below(2) == 0 {
-                    self.change(&mut bytes, 16);
-                }
-                ("netlink", bytes)
-            }
-            2 | 3 => ("inet", self.reply(of_inet)),
-            4 => ("unix", self.reply(1)),
-            _ => ("unixview", self.reply(1)),
-        }
+        2 | 3 => ("inet", random.reply(of_inet)),
+        4 => ("unix", random.reply(1)),
+        _ => ("unixview", random.reply(1)),
     }
 }
 
@@ -314,7 +246,7 @@ fn answers_as_the_program_does() {
         return std::io::stderr().write_all(text).unwrap();
     };
     let mut random = Random(0x5eed_0f50_c4d1_a600);
-    let lines: Vec<_> = (0..LINES).map(|_| random.line()).collect();
+    let lines: Vec<_> = (0..LINES).map(|_| line(&mut random)).collect();
     let mut child = Command::new(program)
         .stdin(Stdio::piped())
         .stdout(Stdio::piped())

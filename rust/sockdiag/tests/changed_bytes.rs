@@ -5,10 +5,11 @@ mod common;
 
 use common::{bytes_of, inet_reply, message, unix_reply, NETLINK, PACKET, VSOCK, XDP};
 use sockdiag::constants::SOCK_DIAG_BY_FAMILY;
-use sockdiag::inet::{self, InetReply};
+use sockdiag::inet::{self, AttributeRecords, BbrInfo, DctcpInfo, InetReply, LenientInetReply};
+use sockdiag::inet::{SocketOptions, TcpField, TcpInfoBytes, VegasInfo};
 use sockdiag::netlink::NetlinkReply;
 use sockdiag::packet::PacketReply;
-use sockdiag::unix::{self, UnixDiagName, UnixReply};
+use sockdiag::unix::{self, LenientUnixReply, UnixDiagName, UnixReply};
 use sockdiag::vsock::VsockReply;
 use sockdiag::xdp::XdpReply;
 use sockdiag::{AnyDump, Attributes, Dump};
@@ -56,6 +57,45 @@ fn parse_all(bytes: &[u8]) {
     let _ = sockdiag::inet::tcp_info(bytes);
     let _ = Attributes::new(bytes).count();
     let _ = Dump::new(bytes).count();
+    parse_leniently(bytes);
+    parse_values(bytes);
+}
+
+/// Parses bytes as each kind of lenient reply. Values that are returned lie within the bytes.
+fn parse_leniently(bytes: &[u8]) {
+    let parts = bytes.as_ptr_range();
+    let is_part = |value: &[u8]| value.is_empty() || parts.contains(&value.as_ptr());
+    if let Ok(reply) = LenientUnixReply::parse(bytes) {
+        assert!(reply.rejected().all(|it| is_part(it.value)));
+        assert_eq!(reply.is_accepted(), UnixReply::parse(bytes).is_ok());
+        let _ = (reply.pending_connections().count(), reply.uid());
+        if let Some(UnixDiagName::Pathname(name) | UnixDiagName::Abstract(name)) = reply.name() {
+            assert!(is_part(name));
+        }
+    }
+    if let Ok(reply) = LenientInetReply::parse(bytes) {
+        assert!(reply.rejected().all(|it| is_part(it.value)));
+        assert_eq!(reply.is_accepted(), InetReply::parse(bytes).is_ok());
+        assert!(reply
+            .congestion()
+            .is_none_or(|name| is_part(name.as_bytes())));
+        let _ = (reply.tcp_info(), reply.cgroup_id(), reply.md5_signatures());
+    }
+}
+
+/// Parses bytes as each kind of value.
+fn parse_values(bytes: &[u8]) {
+    let info = TcpInfoBytes::new(bytes);
+    assert!(TcpField::ALL.map(|it| info.get(it)).len() == 68);
+    let _ = (info.whole(), SocketOptions::parse(bytes));
+    let _ = (
+        VegasInfo::parse(bytes),
+        DctcpInfo::parse(bytes),
+        BbrInfo::parse(bytes),
+    );
+    let _ = (unix::parse_uid(bytes), inet::parse_cgroup_id(bytes));
+    assert!(AttributeRecords::addresses(bytes).count() == bytes.len() / 128);
+    assert!(AttributeRecords::md5_signatures(bytes).count() == bytes.len() / 100);
 }
 
 #[test]

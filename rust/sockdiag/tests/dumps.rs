@@ -112,14 +112,18 @@ fn yields_rejected_messages_with_their_contents() {
         (rejected.header, rejected.payload),
         (Some(header), &[17, 5][..])
     );
-    assert_eq!(rejected.error, DecodeError::UnknownFamily);
+    assert_eq!(rejected.error, DecodeError::UnknownFamily { family: 17 });
     let rejected = next().unwrap_err();
     let message_type = rejected.header.map(|header| header.message_type);
     assert_eq!(
         (message_type, rejected.payload),
         (Some(99), &unix_reply()[..])
     );
-    assert_eq!(DecodeError::from(rejected), DecodeError::UnknownMessageType);
+    let message_type = 99;
+    assert_eq!(
+        DecodeError::from(rejected),
+        DecodeError::UnknownMessageType { message_type }
+    );
     assert_eq!(kind_of(next().unwrap().payload), ("done", Some(0)));
     // A message that ends a dump does not end the iteration.
     assert_eq!(kind_of(next().unwrap().payload), ("unix", None));
@@ -133,16 +137,16 @@ fn ends_after_a_framing_error() {
     let mut dump = Dump::new(&datagram);
     assert!(dump.next().unwrap().is_ok());
     let rejected = RejectedMessage {
-        error: DecodeError::EnvelopeCut,
+        error: DecodeError::EnvelopeCut { got: 3 },
         header: None,
         payload: &end,
     };
     assert_eq!(dump.next().unwrap().unwrap_err(), rejected);
-    assert_eq!(rejected.to_string(), DecodeError::EnvelopeCut.to_string());
+    assert_eq!(rejected.to_string(), "message header cut: 3 bytes");
     assert!(dump.next().is_none() && dump.next().is_none());
     for bytes in [&end[..], &[]] {
         let error = NetlinkMessage::<SockDiagMessage>::deserialize(bytes).unwrap_err();
-        assert_eq!(error, DecodeError::EnvelopeCut);
+        assert_eq!(error, DecodeError::EnvelopeCut { got: bytes.len() });
     }
 }
 
@@ -186,7 +190,7 @@ fn yields_replies_of_any_family() {
         Ok(("xdp", 11)),
         Ok(("unix", 78)),
         Ok(("inet", inet_inode)),
-        Err((DecodeError::UnknownFamily, &[29, 0][..])),
+        Err((DecodeError::UnknownFamily { family: 29 }, &[29, 0][..])),
     ];
     assert_eq!(found, expected);
 }
@@ -195,9 +199,9 @@ fn yields_replies_of_any_family() {
 fn checks_the_message_type_of_any_family() {
     for payload in [NETLINK, PACKET, VSOCK, XDP].map(bytes_of) {
         let error = AnySockDiagMessage::parse(&payload, 21).unwrap_err();
-        assert_eq!(error, DecodeError::UnknownMessageType);
+        assert_eq!(error, DecodeError::UnknownMessageType { message_type: 21 });
         let error = AnySockDiagMessage::parse(&payload[..1], 20).unwrap_err();
-        assert_eq!(error, DecodeError::MessageTooShort);
+        assert_eq!(error, DecodeError::MessageTooShort { got: 1 });
     }
 }
 

@@ -8,7 +8,7 @@ use sockdiag::netlink::NetlinkReply;
 use sockdiag::packet::{PacketReply, PacketRing};
 use sockdiag::vsock::VsockReply;
 use sockdiag::xdp::XdpReply;
-use sockdiag::DecodeError;
+use sockdiag::{DecodeError, RecordName};
 
 /// The value of an attribute with socket memory: `SK_MEMINFO_..` of `linux/sock_diag.h`.
 fn memory_value() -> Vec<u8> {
@@ -231,6 +231,10 @@ fn decodes_replies_of_linux() {
     );
     assert_eq!(
         XdpReply::parse(&bytes[..15]),
-        Err(DecodeError::BufferTooSmall)
+        Err(DecodeError::BufferTooSmall {
+            which: RecordName::FamilyResponseHeader { family: 44 },
+            got: 15,
+            need: 16
+        })
     );
 }

@@ -5,7 +5,7 @@ mod common;
 use common::{attribute, counted, inet_reply, u32_at};
 use sockdiag::inet::nlas::{LegacyMemInfo, MemInfo, Nla};
 use sockdiag::inet::{self, InetReply, TcpInfo, Timer};
-use sockdiag::{Attribute, DecodeError};
+use sockdiag::{Attribute, DecodeError, RecordName};
 use std::net::{IpAddr, Ipv4Addr, Ipv6Addr};
 use std::time::Duration;
 
@@ -208,7 +208,12 @@ fn decodes_short_connections_by_a_separate_call() {
     for length in [1, 104, 231] {
         let mut value = counted(1, length);
         let bytes = reply_with(2, &value);
-        assert_eq!(InetReply::parse(&bytes), Err(DecodeError::BufferTooSmall));
+        let error = DecodeError::BufferTooSmall {
+            which: RecordName::TcpInfo,
+            got: length,
+            need: 232,
+        };
+        assert_eq!(InetReply::parse(&bytes), Err(error));
         let (info, found) = inet::tcp_info(&bytes).unwrap();
         value.resize(232, 0);
         assert_tcp_info(&info, &value);

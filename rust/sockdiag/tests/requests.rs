@@ -130,7 +130,12 @@ fn writes_requests_with_attributes() {
         let written = request.write_with_attributes(&HEADER, &attributes, short);
         assert_eq!(written, Ok(None));
         let written = request.write_with_attributes(&HEADER, &attributes[..3], &mut buffer);
-        assert_eq!(written, Err(DecodeError::AttributeHeaderCut));
+        assert_eq!(written, Err(DecodeError::AttributeHeaderCut { left: 3 }));
+        // The fields are those of the attribute that is rejected, here the second one.
+        let attributes = [8, 0, 1, 0, 1, 2, 3, 4, 9, 0, 1, 0];
+        let written = request.write_with_attributes(&HEADER, &attributes, &mut buffer);
+        let error = DecodeError::AttributeLengthPast { length: 9, left: 4 };
+        assert_eq!(written, Err(error));
     }
 }
 

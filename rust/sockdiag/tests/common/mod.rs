@@ -135,3 +135,71 @@ pub fn inet_reply() -> Vec<u8> {
     attribute(&mut bytes, 2, &counted(1, 232));
     bytes
 }
+
+/// A generator of random numbers (xorshift), so that each run tests the same messages.
+pub struct Random(pub u64);
+
+impl Random {
+    /// Returns a number below the limit.
+    pub fn below(&mut self, limit: usize) -> usize {
+        self.0 ^= self.0 << 13;
+        self.0 ^= self.0 >> 7;
+        self.0 ^= self.0 << 17;
+        (self.0 >> 11) as usize % limit
+    }
+
+    /// Returns one of these values.
+    pub fn one_of<T: Copy>(&mut self, values: &[T]) -> T {
+        values[self.below(values.len())]
+    }
+
+    /// Returns the value of an attribute.
+    pub fn value(&mut self) -> Vec<u8> {
+        let length = self.one_of(&[0, 1, 2, 4, 5, 8, 12, 16, 28, 32, 36, 231, 232, 240]);
+        let first = self.below(256) as u8;
+        match self.below(4) {
+            0 => b"/tmp/a\0"[..self.below(8)].to_vec(),
+            1 => vec![0; length],
+            _ => counted(first, length),
+        }
+    }
+
+    /// Returns a reply of this family, changed at random.
+    pub fn reply(&mut self, family: u8) -> Vec<u8> {
+        let (mut bytes, header_length) = match family {
+            1 => (unix_reply(), 16),
+            _ => (inet_reply(), 72),
+        };
+        bytes[0] = family;
+        if self.below(2) == 0 {
+            bytes.truncate(header_length);
+        }
+        for _ in 0..self.below(4) {
+            self.change(&mut bytes, header_length);
+        }
+        bytes
+    }
+
+    /// Makes one change: another byte, fewer bytes or one more attribute.
+    pub fn change(&mut self, bytes: &mut Vec<u8>, header_length: usize) {
+        match self.below(8) {
+            0 => {
+                let length = self.below(bytes.len() + 1);
+                bytes.truncate(length.max(1));
+            }
+            1 if bytes.len() >= header_length => {
+                // The state of a UNIX socket, and the timer of an internet socket.
+                bytes[2] = self.one_of(&[0, 1, 2, 3, 4, 5, 7, 10]);
+            }
+            2 | 3 => {
+                let index = self.below(bytes.len());
+                bytes[index] = self.one_of(&[0, 1, 2, 3, 4, 5, 8, 10, 0x7f, 0x80, 0xff]);
+            }
+            _ => {
+                let kind = self.one_of(&[0, 1, 2, 3, 4, 5, 6, 7, 8, 10, 11, 15, 17, 20, 0x8002]);
+                let value = self.value();
+                attribute(bytes, kind, &value);
+            }
+        }
+    }
+}
