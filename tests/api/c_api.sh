@@ -1,6 +1,7 @@
 #!/bin/sh
-# Builds the static library of include/sockdiag.h, and calls it from C: tests/api/c_api.c compares
-# what the calls return, and tests/api/fuzz_c.c calls them with changed replies. Then installs the
+# Builds the static library of include/sockdiag.h, and calls it from C: tests/api/c_api.c and
+# tests/api/c_lenient.c compare what the calls return, tests/api/cost.c measures that the time of
+# each call is linear, and tests/api/fuzz_c.c calls them with changed replies. Then installs the
 # library, and lists the sockets of this machine by examples/list_sockets.c, if the kernel permits
 # it. Needs the kit's rt and a C compiler. tools/release runs this script. So does
 # tests/bindings.py, which the gate runs, if the library takes only seconds to build.
@@ -26,8 +27,10 @@ build() {
         -o "$work/$name" "$source" "$top/crates/sockdiag_c/out/libsockdiag_c.a"
 }
 
-build c_api "$top/tests/api/c_api.c"
-"$work/c_api"
+for name in c_api c_lenient cost; do
+    build "$name" "$top/tests/api/$name.c"
+    "$work/$name"
+done
 
 # The sanitizers check the test itself, and what the library passes to functions like memcpy.
 set -- -fsanitize=address,undefined

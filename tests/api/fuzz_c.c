@@ -163,6 +163,169 @@ static void expect_text(const struct sockdiag_text *text, const uint8_t *payload
                                          it##_fault <= SOCKDIAG_NAME_WITHOUT_END), #call);     \
     expect(it##_fault == SOCKDIAG_OK || is_untouched(it, sizeof(type)), "a rejected " #call)
 
+typedef uint32_t explain(const uint8_t *, size_t, struct sockdiag_error_details *);
+
+/* The error of bytes has the code that another call returned, and no field that is too large. */
+static void try_explaining(explain *call, const uint8_t *bytes, size_t length, uint32_t code) {
+    struct sockdiag_error_details *it =
+        (struct sockdiag_error_details *)(void *)bytes_in(output_area, sizeof *it);
+    expect(call(bytes, length, it) == code, "the code of an explained error");
+    if (code == SOCKDIAG_OK) {
+        expect(is_untouched(it, sizeof *it), "an error that is not there");
+        return;
+    }
+    expect(it->code == code && it->got <= length && it->index <= length &&
+           it->record_name <= SOCKDIAG_RECORD_FAMILY_ATTRIBUTE && it->kind.is_set <= 1,
+           "an explained error");
+    expect((it->record_name != 0) == (code == SOCKDIAG_BUFFER_TOO_SMALL), "the record of an error");
+    expect(code != SOCKDIAG_BUFFER_TOO_SMALL || it->got < it->need, "a record that is too small");
+}
+
+/* The rejections of a reply agree with the attributes, explained one by one. */
+static void try_rejections(const struct sockdiag_rejections *it, const uint8_t *bytes,
+                           size_t length, size_t index, explain *call) {
+    struct sockdiag_rejections expected;
+    struct sockdiag_error_details error;
+    struct sockdiag_attribute attribute;
+    struct sockdiag_cursor cursor;
+    memset(&expected, 0, sizeof expected);
+    cursor.offset = index;
+    for (;;) {
+        const size_t start = cursor.offset;
+        const uint32_t answer = sockdiag_next_attribute(bytes, length, &cursor, &attribute);
+        const uint32_t code = start > length ? 0 : call(bytes + start, length - start, &error);
+        if (answer == SOCKDIAG_END)
+            break;
+        if (expected.first == 0)
+            expected.first = code;
+        if (answer != SOCKDIAG_ITEM) {
+            expect(code == answer, "an explained framing error");
+            expected.framing = code;
+            break;
+        }
+        if (code != 0)
+            expect((attribute.type_word & 0x3fff) < SOCKDIAG_REJECTION_KINDS, "a kind");
+        if (code != 0 && expected.errors[attribute.type_word & 0x3fff] == 0)
+            expected.errors[attribute.type_word & 0x3fff] = (uint8_t)code;
+    }
+    expect(it->first == expected.first && it->framing == expected.framing &&
+           memcmp(it->errors, expected.errors, sizeof it->errors) == 0, "the rejections");
+}
+
+/* Two numbers, or two texts, are the same. */
+static int is_same(struct sockdiag_number one, struct sockdiag_number other) {
+    return one.is_set == other.is_set && one.value == other.value;
+}
+
+static int is_same_text(const struct sockdiag_text *one, const struct sockdiag_text *other) {
+    return one->kind == other->kind && (one->kind == 0 || (one->bytes == other->bytes &&
+                                                           one->length == other->length));
+}
+
+/* A lenient call accepts the header if the strict one accepts the first bytes of the reply. If it
+ * accepts all attributes, both return the same. `error` is the error of the reply. */
+static void try_unix_leniently(const uint8_t *payload, size_t length, uint32_t error) {
+    struct sockdiag_unix_details strict;
+    struct sockdiag_rejections *rejections =
+        (struct sockdiag_rejections *)(void *)bytes_in(buffer_area, sizeof *rejections);
+    CALL(it, struct sockdiag_unix_details,
+         sockdiag_unix_get_lenient_details(payload, length, it, rejections));
+    expect((it_fault == SOCKDIAG_OK) == (length >= SOCKDIAG_UNIX_ATTRIBUTES), "a UNIX header");
+    if (it_fault != SOCKDIAG_OK) {
+        expect(is_untouched(rejections, sizeof *rejections), "rejections of a rejected header");
+        return;
+    }
+    expect(rejections->first == error, "the first error of a UNIX reply");
+    try_rejections(rejections, payload, length, SOCKDIAG_UNIX_ATTRIBUTES,
+                   sockdiag_unix_explain_attribute);
+    expect_text(&it->name, payload, length);
+    expect(it->name.kind == 0 || it->name.length + 20 <= length, "a name after a header");
+    if (sockdiag_unix_get_details(payload, length, &strict) == SOCKDIAG_OK)
+        expect(is_same_text(&it->name, &strict.name) && is_same(it->peer, strict.peer) &&
+               is_same(it->file_inode, strict.file_inode) &&
+               is_same(it->file_device, strict.file_device) &&
+               is_same(it->recv_queue, strict.recv_queue) &&
+               is_same(it->send_queue, strict.send_queue) &&
+               is_same(it->receive_buffer, strict.receive_buffer) &&
+               is_same(it->send_buffer, strict.send_buffer) &&
+               is_same(it->queued, strict.queued) && is_same(it->shutdown, strict.shutdown) &&
+               it->header.inode == strict.header.inode, "lenient details of a UNIX reply");
+}
+
+static void try_inet_leniently(const uint8_t *payload, size_t length, uint32_t error) {
+    struct sockdiag_inet_details strict;
+    struct sockdiag_rejections *rejections =
+        (struct sockdiag_rejections *)(void *)bytes_in(buffer_area, sizeof *rejections);
+    CALL(it, struct sockdiag_inet_details,
+         sockdiag_inet_get_lenient_details(payload, length, it, rejections));
+    expect((it_fault == SOCKDIAG_OK) ==
+               (length >= SOCKDIAG_INET_ATTRIBUTES && (payload[0] == 2 || payload[0] == 10)),
+           "an internet header");
+    if (it_fault != SOCKDIAG_OK) {
+        expect(is_untouched(rejections, sizeof *rejections), "rejections of a rejected header");
+        return;
+    }
+    expect(rejections->first == error, "the first error of an internet reply");
+    try_rejections(rejections, payload, length, SOCKDIAG_INET_ATTRIBUTES,
+                   sockdiag_inet_explain_attribute);
+    expect_text(&it->congestion, payload, length);
+    if (sockdiag_inet_get_details(payload, length, &strict) == SOCKDIAG_OK)
+        expect(is_same_text(&it->congestion, &strict.congestion) && is_same(it->tos, strict.tos) &&
+               is_same(it->tclass, strict.tclass) && is_same(it->shutdown, strict.shutdown) &&
+               is_same(it->protocol, strict.protocol) && is_same(it->v6only, strict.v6only) &&
+               is_same(it->mark, strict.mark) && is_same(it->class_id, strict.class_id) &&
+               it->header.inode == strict.header.inode, "lenient details of an internet reply");
+}
+
+/* Calls a getter of a single value, which accepts these lengths. */
+#define VALUE(type, call, accepts)                                                         \
+    do {                                                                                   \
+        type *it = (type *)(void *)bytes_in(output_area, sizeof(type));                    \
+        expect(call(bytes, length, it) == (accepts), #call);                               \
+        expect((accepts) || is_untouched(it, sizeof(type)), #call " of a rejected value"); \
+    } while (0)
+
+/* Steps through a value by a call, from an offset. Each item has `size` bytes. */
+#define STEPS(type, call, size)                                                        \
+    do {                                                                               \
+        type *it = (type *)(void *)bytes_in(output_area, sizeof(type));                \
+        struct sockdiag_cursor cursor = {start};                                       \
+        const size_t left = start > length ? 0 : length - start;                       \
+        size_t items = 0;                                                              \
+        while (call(bytes, length, &cursor, it) == SOCKDIAG_ITEM)                      \
+            expect(cursor.offset == start + ++items * (size), #call);                  \
+        expect(items == left / (size) && cursor.offset == start + items * (size),      \
+               #call " at the end");                                                   \
+        expect(items > 0 || is_untouched(it, sizeof(type)), #call " without an item"); \
+    } while (0)
+
+static void try_values(const uint8_t *bytes, size_t length) {
+    const size_t start = random_below(4) ? 0 : random_below(200);
+    VALUE(uint32_t, sockdiag_get_uid, length == 4);
+    VALUE(uint64_t, sockdiag_get_cgroup_id, length == 8);
+    VALUE(struct sockdiag_socket_options, sockdiag_get_socket_options, length >= 2);
+    VALUE(struct sockdiag_vegas_info, sockdiag_get_vegas_info, length >= 16);
+    VALUE(struct sockdiag_dctcp_info, sockdiag_get_dctcp_info, length >= 16);
+    VALUE(struct sockdiag_bbr_info, sockdiag_get_bbr_info, length >= 20);
+    STEPS(uint32_t, sockdiag_next_pending, 4);
+    STEPS(struct sockdiag_md5_signature, sockdiag_next_md5_signature, 100);
+    STEPS(struct sockdiag_stored_address, sockdiag_next_address, 128);
+}
+
+/* The longer struct begins with the shorter one. */
+static void try_tcp_info(const uint8_t *payload, size_t length) {
+    struct sockdiag_tcp_info *info =
+        (struct sockdiag_tcp_info *)(void *)bytes_in(output_area, sizeof *info);
+    struct sockdiag_long_tcp_info *longer =
+        (struct sockdiag_long_tcp_info *)(void *)bytes_in(buffer_area, sizeof *longer);
+    const size_t found = sockdiag_inet_get_tcp_info(payload, length, info);
+    expect(found <= length, "the length of tcp_info");
+    expect(sockdiag_inet_get_long_tcp_info(payload, length, longer) == found &&
+           memcmp(info, longer, sizeof *info) == 0, "the longer tcp_info");
+    expect(found > 232 || (longer->rcv_wnd == 0 && longer->accecn_opt_seen == 0),
+           "fields after the end of tcp_info");
+}
+
 static uint32_t try_unix(const uint8_t *payload, size_t length) {
     uint32_t *inode;
     size_t index;
@@ -176,21 +339,23 @@ static uint32_t try_unix(const uint8_t *payload, size_t length) {
          index++)
         expect(it_fault == SOCKDIAG_OK && index < length / 4, "connections of a reply");
     expect(index > 0 || is_untouched(inode, sizeof *inode), "no connection");
+    try_explaining(sockdiag_unix_explain, payload, length, it_fault);
+    try_unix_leniently(payload, length, it_fault);
     return it_fault;
 }
 
 static uint32_t try_inet(const uint8_t *payload, size_t length) {
-    struct sockdiag_tcp_info *info;
     struct sockdiag_inet_memory *memory;
     CALL(header, struct sockdiag_inet_header, sockdiag_check_inet_reply(payload, length, header));
     CALL(it, struct sockdiag_inet_details, sockdiag_inet_get_details(payload, length, it));
     expect(it_fault == header_fault, "the error of the details of an internet reply");
     if (it_fault == SOCKDIAG_OK)
         expect_text(&it->congestion, payload, length);
-    info = (struct sockdiag_tcp_info *)(void *)bytes_in(output_area, sizeof *info);
-    expect(sockdiag_inet_get_tcp_info(payload, length, info) <= length, "the length of tcp_info");
     memory = (struct sockdiag_inet_memory *)(void *)bytes_in(output_area, sizeof *memory);
     expect(sockdiag_inet_get_memory(payload, length, memory) <= length, "the length of memory");
+    try_tcp_info(payload, length);
+    try_explaining(sockdiag_inet_explain, payload, length, it_fault);
+    try_inet_leniently(payload, length, it_fault);
     return it_fault;
 }
 
@@ -200,6 +365,7 @@ static void try_families(const uint8_t *payload, size_t length) {
              sockdiag_netlink_get_details(payload, length, it));
         if (it_fault == SOCKDIAG_OK)
             expect_text(&it->groups, payload, length);
+        try_explaining(sockdiag_netlink_explain, payload, length, it_fault);
     }
     {
         CALL(it, struct sockdiag_packet_details, sockdiag_packet_get_details(payload, length, it));
@@ -208,14 +374,17 @@ static void try_families(const uint8_t *payload, size_t length) {
             expect_text(&it->filter, payload, length);
             expect(it->has_info || is_untouched(&it->info, sizeof it->info), "an absent record");
         }
+        try_explaining(sockdiag_packet_explain, payload, length, it_fault);
     }
     {
         CALL(it, struct sockdiag_xdp_details, sockdiag_xdp_get_details(payload, length, it));
         expect(it_fault != SOCKDIAG_OK || it->has_umem || is_untouched(&it->umem, sizeof it->umem),
                "an absent record of an XDP socket");
+        try_explaining(sockdiag_xdp_explain, payload, length, it_fault);
     }
     {
         CALL(it, struct sockdiag_vsock_header, sockdiag_vsock_get_details(payload, length, it));
+        try_explaining(sockdiag_vsock_explain, payload, length, it_fault);
     }
 }
 
@@ -256,13 +425,21 @@ static void try_attributes(const uint8_t *bytes, size_t length, size_t index) {
     expect(sockdiag_next_attribute(bytes, length, &cursor, it) == SOCKDIAG_END, "nothing is left");
 }
 
+/* The type of the message that explain_message explains. */
+static uint16_t explained_type;
+
+static uint32_t explain_message(const uint8_t *payload, size_t length,
+                                struct sockdiag_error_details *error) {
+    return sockdiag_message_explain(payload, length, explained_type, error);
+}
+
 /* Both iterations over messages have the same items. */
 static void try_messages(const uint8_t *bytes, size_t length) {
     struct sockdiag_cursor cursor = {0}, checked = {0};
     struct sockdiag_message message, *it;
     uint32_t answer, other;
-    size_t items = 0;
-    it = (struct sockdiag_message *)(void *)bytes_in(output_area, sizeof *it);
+    size_t items = 0, end = 0;
+    it = (struct sockdiag_message *)(void *)bytes_in(buffer_area, sizeof *it);
     while ((answer = sockdiag_next_any_message(bytes, length, &cursor, it)) == SOCKDIAG_ITEM) {
         expect(++items <= length / 16 && it->offset <= length && it->length <= length - it->offset,
                "a message in the bytes");
@@ -270,10 +447,17 @@ static void try_messages(const uint8_t *bytes, size_t length) {
         expect(other >= SOCKDIAG_ITEM && other <= SOCKDIAG_NAME_WITHOUT_END &&
                message.offset == it->offset && message.length == it->length &&
                checked.offset == cursor.offset, "the same message, checked");
+        explained_type = message.message_type;
+        if (explained_type > SOCKDIAG_NLMSG_OVERRUN || explained_type == 0)
+            try_explaining(explain_message, bytes + it->offset, it->length,
+                           other == SOCKDIAG_ITEM ? SOCKDIAG_OK : other);
+        end = cursor.offset;
     }
     expect(answer == SOCKDIAG_END || (answer >= SOCKDIAG_ENVELOPE_CUT &&
                                       answer <= SOCKDIAG_ENVELOPE_LENGTH_PAST),
            "the end of an iteration over messages");
+    if (answer != SOCKDIAG_END)
+        try_explaining(sockdiag_framing_explain, bytes + end, length - end, answer);
     expect(sockdiag_next_message(bytes, length, &checked, &message) == answer, "the same end");
 }
 
@@ -340,6 +524,8 @@ static void try_all(const uint8_t *bytes, size_t length) {
     try_families(bytes, length);
     try_attributes(bytes, length, random_below(80));
     try_messages(bytes, length);
+    try_values(bytes, length);
+    try_values(bytes, length % 25);
     try_requests(bytes, length);
     try_attributes_of_request(bytes, length);
 }

@@ -1,0 +1,608 @@
+/*
+ * Calls the functions of three sections of include/sockdiag.h, with input that they accept and
+ * input that they reject: "lenient: list every socket", "values of single attributes", and "errors
+ * with their fields". Each field of each struct is compared with bytes that no other field has, and
+ * what a call leaves unchanged with its contents before. The expected numbers are worked out by
+ * hand from sock_diag(7) and the kernel's headers. tests/api/c_api.sh builds and runs this program.
+ */
+#include "sockdiag.h"
+
+#include <stdio.h>
+#include <string.h>
+
+#define UNTOUCHED 0xaa
+
+static int failures;
+
+static void check(int holds, const char *what) {
+    if (!holds) {
+        fprintf(stderr, "c_lenient: failed: %s\n", what);
+        failures++;
+    }
+}
+
+/* Sets each byte to the low byte of its offset, so that fields at different offsets differ. */
+static void number_bytes(uint8_t *bytes, size_t length) {
+    size_t index;
+    for (index = 0; index < length; index++)
+        bytes[index] = (uint8_t)index;
+}
+
+static uint64_t number_at(const uint8_t *bytes, size_t size) {
+    uint64_t number = 0;
+    while (size-- > 0)
+        number = number << 8 | bytes[size];
+    return number;
+}
+
+/* The field has the little-endian number at these bytes. */
+#define FIELD(field, bytes) check((field) == number_at(bytes, sizeof(field)), #field)
+
+static int is_untouched(const void *found, size_t length) {
+    const uint8_t *bytes = (const uint8_t *)found;
+    size_t index;
+    for (index = 0; index < length && bytes[index] == UNTOUCHED; index++)
+        ;
+    return index == length;
+}
+
+/* Writes an attribute at an offset with zeros as padding, and returns the offset after it. The
+ * bytes of its value are those at `value`. */
+static size_t put(uint8_t *bytes, size_t at, uint16_t kind, const void *value, size_t length) {
+    const uint8_t header[4] = {(uint8_t)(4 + length), (uint8_t)((4 + length) >> 8), (uint8_t)kind,
+                               (uint8_t)(kind >> 8)};
+    memset(bytes + at, 0, length + 7);
+    memcpy(bytes + at, header, 4);
+    memcpy(bytes + at + 4, value, length);
+    return at + (length + 7) / 4 * 4;
+}
+
+/* The header of a reply about a UNIX socket in state 10 with the inode 78, and of one about an IPv4
+ * socket with the inode 12345. */
+static const uint8_t unix_header[16] = {1, 1, 10, 0, 78, 0, 0, 0, 1, 2, 3, 4, 5, 6, 7, 8};
+static const uint8_t inet_header[72] = {
+    2, 1, 0, 0, 0, 80, 0, 0, 0, 0, 0, 0, 0, 0, 0, 0, 0, 0, 0, 0, 0, 0, 0, 0, 0, 0, 0, 0, 0, 0, 0, 0,
+    0, 0, 0, 0, 0, 0, 0, 0, 0, 0, 0, 0, 0, 0, 0, 0, 0, 0, 0, 0, 0, 0, 0, 0, 0, 0, 0, 0, 0, 0, 0, 0,
+    0, 0, 0, 0, 0x39, 0x30, 0, 0,
+};
+
+static int is(struct sockdiag_number number, uint32_t value) {
+    return number.is_set == 1 && number.value == value;
+}
+
+static int is_absent(struct sockdiag_number number) {
+    return number.is_set == 0 && number.value == 0;
+}
+
+/* The rejections have this code for this kind, and none for another kind. */
+static int has_one(const struct sockdiag_rejections *it, uint32_t kind, uint32_t code) {
+    uint32_t other;
+    for (other = 0; other < SOCKDIAG_REJECTION_KINDS; other++)
+        if (it->errors[other] != (other == kind ? code : 0))
+            return 0;
+    return it->first == code && it->framing == 0;
+}
+
+/* Each kind of attribute of a UNIX socket that can be rejected, by itself, with its error; and
+ * valid attributes after it. */
+static void rejects_each_unix_attribute(void) {
+    static const struct {
+        uint16_t kind;
+        size_t length;
+        uint32_t error;
+    } rows[7] = {
+        {0, 0, SOCKDIAG_NAME_EMPTY},        {1, 7, SOCKDIAG_BUFFER_TOO_SMALL},
+        {2, 5, SOCKDIAG_WRONG_LENGTH},      {3, 6, SOCKDIAG_NOT_MULTIPLE_OF_FOUR},
+        {4, 12, SOCKDIAG_WRONG_LENGTH},     {5, 35, SOCKDIAG_BUFFER_TOO_SMALL},
+        {6, 4, SOCKDIAG_WRONG_LENGTH},
+    };
+    uint8_t bytes[256], value[40];
+    size_t row;
+    number_bytes(value, sizeof value);
+    memcpy(bytes, unix_header, 16);
+    for (row = 0; row < 7; row++) {
+        struct sockdiag_unix_details it, strict;
+        struct sockdiag_rejections rejections;
+        size_t end = put(bytes, 16, rows[row].kind | 0x8000, value, rows[row].length);
+        end = put(bytes, end, 0, "/a", 3);
+        end = put(bytes, end, 2, "\3\0\0\0", 4);
+        memset(&it, UNTOUCHED, sizeof it);
+        memset(&rejections, UNTOUCHED, sizeof rejections);
+        check(sockdiag_unix_get_details(bytes, end, &strict) == rows[row].error, "a strict call");
+        check(sockdiag_unix_get_lenient_details(bytes, end, &it, &rejections) == SOCKDIAG_OK,
+              "a reply with a rejected attribute");
+        check(has_one(&rejections, rows[row].kind, rows[row].error), "its error");
+        check(it.header.kind == 1 && it.header.state == 10 && it.header.inode == 78, "its header");
+        check(it.name.kind == SOCKDIAG_TEXT && it.name.length == 2 && it.name.bytes[1] == 'a' &&
+              is(it.peer, 3), "its valid attributes");
+        check(is_absent(it.file_inode) && is_absent(it.recv_queue) && is_absent(it.queued) &&
+              is_absent(it.shutdown), "its other attributes");
+    }
+}
+
+static void rejects_each_inet_attribute(void) {
+    static const struct {
+        uint16_t kind;
+        size_t length;
+        uint32_t error;
+    } rows[11] = {
+        {1, 15, SOCKDIAG_BUFFER_TOO_SMALL}, {2, 224, SOCKDIAG_BUFFER_TOO_SMALL},
+        {4, 240, SOCKDIAG_NOT_UTF8},        {5, 4, SOCKDIAG_WRONG_LENGTH},
+        {6, 0, SOCKDIAG_WRONG_LENGTH},      {7, 24, SOCKDIAG_BUFFER_TOO_SMALL},
+        {8, 2, SOCKDIAG_WRONG_LENGTH},      {10, 4, SOCKDIAG_WRONG_LENGTH},
+        {11, 2, SOCKDIAG_WRONG_LENGTH},     {15, 8, SOCKDIAG_WRONG_LENGTH},
+        {17, 3, SOCKDIAG_WRONG_LENGTH},
+    };
+    uint8_t bytes[512], value[240];
+    size_t row;
+    number_bytes(value, sizeof value);
+    memcpy(bytes, inet_header, 72);
+    for (row = 0; row < 11; row++) {
+        struct sockdiag_inet_details it, strict;
+        struct sockdiag_rejections rejections;
+        size_t end = put(bytes, 72, rows[row].kind, value, rows[row].length);
+        end = put(bytes, end, 4, "cubic", 6);
+        end = put(bytes, end, 15, "\6\0\0\0", 4);
+        memset(&it, UNTOUCHED, sizeof it);
+        memset(&rejections, UNTOUCHED, sizeof rejections);
+        check(sockdiag_inet_get_details(bytes, end, &strict) == rows[row].error, "a strict call");
+        check(sockdiag_inet_get_lenient_details(bytes, end, &it, &rejections) == SOCKDIAG_OK,
+              "an internet reply with a rejected attribute");
+        check(has_one(&rejections, rows[row].kind, rows[row].error), "its error");
+        check(it.header.family == 2 && it.header.source_port == 80 && it.header.inode == 12345,
+              "its header");
+        check(it.congestion.length == 5 && memcmp(it.congestion.bytes, "cubic", 5) == 0 &&
+              is(it.mark, 6), "its valid attributes");
+        check(is_absent(it.tos) && is_absent(it.tclass) && is_absent(it.shutdown) &&
+              is_absent(it.protocol) && is_absent(it.v6only) && is_absent(it.class_id),
+              "its other attributes");
+    }
+}
+
+/* The first error of a kind, the first of all, and the framing error. */
+static void has_the_first_errors(void) {
+    uint8_t bytes[128];
+    struct sockdiag_unix_details it;
+    struct sockdiag_rejections rejections;
+    size_t end;
+    memcpy(bytes, unix_header, 16);
+    end = put(bytes, 16, 6, "\3", 1);
+    end = put(bytes, end, 5, "", 0);
+    end = put(bytes, end, 0, "/a", 2);
+    end = put(bytes, end, 0, "", 0);
+    end = put(bytes, end, 99, "", 0);
+    memcpy(bytes + end, "\3\0\2\0\0", 5);
+    end += 5;
+    check(sockdiag_unix_get_lenient_details(bytes, end, &it, &rejections) == SOCKDIAG_OK,
+          "a reply with three rejected attributes");
+    check(rejections.first == SOCKDIAG_BUFFER_TOO_SMALL, "the first error");
+    check(rejections.framing == SOCKDIAG_ATTRIBUTE_LENGTH_UNDER_4, "the framing error");
+    check(rejections.errors[5] == SOCKDIAG_BUFFER_TOO_SMALL &&
+          rejections.errors[0] == SOCKDIAG_NAME_WITHOUT_END && rejections.errors[6] == 0 &&
+          rejections.errors[2] == 0, "the first error of each kind");
+    check(it.name.kind == 0 && is(it.shutdown, 3), "what is valid");
+    check(sockdiag_unix_get_lenient_details(bytes, 16 + 8 + 3, &it, &rejections) == SOCKDIAG_OK &&
+          rejections.first == SOCKDIAG_ATTRIBUTE_HEADER_CUT &&
+          rejections.framing == SOCKDIAG_ATTRIBUTE_HEADER_CUT && is(it.shutdown, 3),
+          "a framing error by itself");
+    check(sockdiag_unix_get_lenient_details(bytes, 16, &it, &rejections) == SOCKDIAG_OK &&
+          has_one(&rejections, 0, 0) && it.shutdown.is_set == 0, "a header by itself");
+}
+
+/* A rejected header leaves both structs unchanged. */
+static void rejects_headers(void) {
+    struct sockdiag_unix_details unix_details;
+    struct sockdiag_inet_details inet_details;
+    struct sockdiag_rejections rejections;
+    uint8_t other[72];
+    memset(&unix_details, UNTOUCHED, sizeof unix_details);
+    memset(&inet_details, UNTOUCHED, sizeof inet_details);
+    memset(&rejections, UNTOUCHED, sizeof rejections);
+    memcpy(other, inet_header, 72);
+    other[0] = 1;
+    check(sockdiag_unix_get_lenient_details(unix_header, 15, &unix_details, &rejections) ==
+              SOCKDIAG_BUFFER_TOO_SMALL, "a truncated UNIX header");
+    check(sockdiag_unix_get_lenient_details(NULL, 0, &unix_details, &rejections) ==
+              SOCKDIAG_BUFFER_TOO_SMALL, "no bytes at a null pointer");
+    check(sockdiag_inet_get_lenient_details(inet_header, 71, &inet_details, &rejections) ==
+              SOCKDIAG_BUFFER_TOO_SMALL, "a truncated internet header");
+    check(sockdiag_inet_get_lenient_details(other, 72, &inet_details, &rejections) ==
+              SOCKDIAG_UNSUPPORTED_FAMILY, "another family");
+    check(is_untouched(&unix_details, sizeof unix_details) &&
+          is_untouched(&inet_details, sizeof inet_details) &&
+          is_untouched(&rejections, sizeof rejections), "structs of a rejected header");
+}
+
+/* Each field of struct sockdiag_long_tcp_info after the fields of struct sockdiag_tcp_info. */
+static void check_later_fields(const struct sockdiag_long_tcp_info *it, const uint8_t *bytes) {
+    FIELD(it->rcv_wnd, bytes + 232);
+    FIELD(it->rehash, bytes + 236);
+    FIELD(it->total_rto, bytes + 240);
+    FIELD(it->total_rto_recoveries, bytes + 242);
+    FIELD(it->total_rto_time, bytes + 244);
+    FIELD(it->received_ce, bytes + 248);
+    FIELD(it->delivered_e1_bytes, bytes + 252);
+    FIELD(it->delivered_e0_bytes, bytes + 256);
+    FIELD(it->delivered_ce_bytes, bytes + 260);
+    FIELD(it->received_e1_bytes, bytes + 264);
+    FIELD(it->received_e0_bytes, bytes + 268);
+    FIELD(it->received_ce_bytes, bytes + 272);
+    FIELD(it->accecn_fail_mode, bytes + 276);
+    FIELD(it->accecn_opt_seen, bytes + 278);
+}
+
+/* The fields of struct sockdiag_tcp_info are at the same offsets in the longer struct, which
+ * tests/c_layout.c asserts. Here the bytes of both are compared. */
+static void reads_long_tcp_info(void) {
+    uint8_t bytes[400], value[300];
+    const size_t lengths[8] = {1, 104, 224, 232, 248, 279, 280, 290};
+    size_t row;
+    memcpy(bytes, inet_header, 72);
+    number_bytes(value, sizeof value);
+    for (row = 0; row < 8; row++) {
+        struct sockdiag_long_tcp_info it;
+        struct sockdiag_tcp_info shorter;
+        uint8_t padded[280];
+        const size_t length = lengths[row], end = put(bytes, 72, 2, value, length);
+        memset(padded, 0, sizeof padded);
+        memcpy(padded, value, length < 280 ? length : 280);
+        memset(&it, UNTOUCHED, sizeof it);
+        check(sockdiag_inet_get_long_tcp_info(bytes, end, &it) == length, "a length of tcp_info");
+        check(memcmp(&it, padded, 280) == 0, "the bytes of the longer tcp_info");
+        check_later_fields(&it, padded);
+        check(sockdiag_inet_get_tcp_info(bytes, end, &shorter) == length &&
+              memcmp(&shorter, &it, sizeof shorter) == 0, "the bytes of the shorter tcp_info");
+        check(it.rto == (length >= 12 ? 0x0b0a0908 : 0) && it.state == value[0], "two fields");
+    }
+    {
+        static const uint8_t zeros[280] = {0};
+        struct sockdiag_long_tcp_info it;
+        memset(&it, UNTOUCHED, sizeof it);
+        check(sockdiag_inet_get_long_tcp_info(inet_header, 72, &it) == 0 &&
+              memcmp(&it, zeros, 280) == 0, "no tcp_info");
+        check(sockdiag_inet_get_long_tcp_info(NULL, 0, &it) == 0, "no tcp_info at a null pointer");
+    }
+}
+
+/* Calls a getter with each length up to 24 of a value. It accepts lengths from `least` to `most`,
+ * and leaves the target unchanged otherwise. */
+#define GETTER(it, type, call, least, most)                                                      \
+    type it;                                                                                     \
+    do {                                                                                         \
+        size_t length_;                                                                          \
+        for (length_ = 0; length_ <= 24; length_++) {                                            \
+            const uint32_t accepted = length_ >= (least) && length_ <= (most);                   \
+            memset(&it, UNTOUCHED, sizeof it);                                                   \
+            check(call(bytes, length_, &it) == accepted, #call);                                 \
+            check(accepted || is_untouched(&it, sizeof it), #call " with a rejected value");     \
+        }                                                                                        \
+        check(call(NULL, 0, &it) == SOCKDIAG_END, #call " with a null pointer");                 \
+        call(bytes, (most) < 24 ? (most) : 24, &it);                                             \
+    } while (0)
+
+static void reads_single_values(void) {
+    uint8_t bytes[24];
+    number_bytes(bytes, sizeof bytes);
+    {
+        GETTER(uid, uint32_t, sockdiag_get_uid, 4, 4);
+        FIELD(uid, bytes);
+    }
+    {
+        GETTER(id, uint64_t, sockdiag_get_cgroup_id, 8, 8);
+        FIELD(id, bytes);
+    }
+    {
+        GETTER(it, struct sockdiag_socket_options, sockdiag_get_socket_options, 2, SIZE_MAX);
+        FIELD(it.bits, bytes);
+    }
+    {
+        GETTER(it, struct sockdiag_vegas_info, sockdiag_get_vegas_info, 16, SIZE_MAX);
+        FIELD(it.enabled, bytes);
+        FIELD(it.rtt_count, bytes + 4);
+        FIELD(it.rtt, bytes + 8);
+        FIELD(it.min_rtt, bytes + 12);
+    }
+    {
+        GETTER(it, struct sockdiag_dctcp_info, sockdiag_get_dctcp_info, 16, SIZE_MAX);
+        FIELD(it.enabled, bytes);
+        FIELD(it.ce_state, bytes + 2);
+        FIELD(it.alpha, bytes + 4);
+        FIELD(it.marked_bytes, bytes + 8);
+        FIELD(it.acked_bytes, bytes + 12);
+    }
+    {
+        GETTER(it, struct sockdiag_bbr_info, sockdiag_get_bbr_info, 20, SIZE_MAX);
+        FIELD(it.bandwidth, bytes);
+        FIELD(it.min_rtt, bytes + 8);
+        FIELD(it.pacing_gain, bytes + 12);
+        FIELD(it.window_gain, bytes + 16);
+    }
+}
+
+static void reads_pending_connections(void) {
+    uint8_t bytes[15];
+    struct sockdiag_cursor cursor = {0};
+    uint32_t inode = 0, index;
+    number_bytes(bytes, sizeof bytes);
+    for (index = 0; index < 3; index++) {
+        check(sockdiag_next_pending(bytes, 15, &cursor, &inode) == SOCKDIAG_ITEM &&
+              cursor.offset == 4 * (index + 1), "a pending connection");
+        FIELD(inode, bytes + 4 * index);
+    }
+    inode = 7;
+    check(sockdiag_next_pending(bytes, 15, &cursor, &inode) == SOCKDIAG_END && inode == 7 &&
+          cursor.offset == 12, "three bytes after the connections");
+    cursor.offset = SIZE_MAX;
+    check(sockdiag_next_pending(bytes, 15, &cursor, &inode) == SOCKDIAG_END && inode == 7 &&
+          cursor.offset == SIZE_MAX, "an offset after the connections");
+    cursor.offset = 0;
+    check(sockdiag_next_pending(NULL, 0, &cursor, &inode) == SOCKDIAG_END && cursor.offset == 0,
+          "connections at a null pointer");
+}
+
+static void reads_md5_signatures(void) {
+    uint8_t bytes[250];
+    struct sockdiag_md5_signature it;
+    struct sockdiag_cursor cursor = {0};
+    size_t index;
+    number_bytes(bytes, sizeof bytes);
+    for (index = 0; index < 200; index += 100) {
+        memset(&it, UNTOUCHED, sizeof it);
+        check(sockdiag_next_md5_signature(bytes, 250, &cursor, &it) == SOCKDIAG_ITEM &&
+              cursor.offset == index + 100, "an MD5 signature");
+        FIELD(it.family, bytes + index);
+        FIELD(it.prefix_length, bytes + index + 1);
+        FIELD(it.key_length, bytes + index + 2);
+        check(memcmp(it.address, bytes + index + 4, 16) == 0, "it.address");
+        check(memcmp(it.key, bytes + index + 20, 80) == 0, "it.key");
+    }
+    memset(&it, UNTOUCHED, sizeof it);
+    check(sockdiag_next_md5_signature(bytes, 250, &cursor, &it) == SOCKDIAG_END &&
+          cursor.offset == 200 && is_untouched(&it, sizeof it), "50 bytes after the signatures");
+    cursor.offset = 251;
+    check(sockdiag_next_md5_signature(bytes, 250, &cursor, &it) == SOCKDIAG_END &&
+          cursor.offset == 251, "an offset after the signatures");
+}
+
+static void reads_addresses(void) {
+    uint8_t bytes[300];
+    struct sockdiag_stored_address it;
+    struct sockdiag_cursor cursor = {0};
+    size_t index, segment;
+    number_bytes(bytes, sizeof bytes);
+    for (index = 0; index < 256; index += 128) {
+        const uint8_t *at = bytes + index;
+        memset(&it, UNTOUCHED, sizeof it);
+        check(sockdiag_next_address(bytes, 300, &cursor, &it) == SOCKDIAG_ITEM &&
+              cursor.offset == index + 128, "an address");
+        FIELD(it.family, at);
+        check(it.port == (at[2] << 8 | at[3]), "it.port");
+        check(memcmp(it.front, at + 4, 4) == 0, "it.front");
+        for (segment = 0; segment < 8; segment++)
+            check(it.segments[segment] == (at[8 + 2 * segment] << 8 | at[9 + 2 * segment]),
+                  "it.segments");
+        FIELD(it.scope_id, at + 24);
+        check(memcmp(it.rest, at + 28, 100) == 0, "it.rest");
+    }
+    memset(&it, UNTOUCHED, sizeof it);
+    check(sockdiag_next_address(bytes, 300, &cursor, &it) == SOCKDIAG_END &&
+          cursor.offset == 256 && is_untouched(&it, sizeof it), "44 bytes after the addresses");
+    cursor.offset = 0;
+    check(sockdiag_next_address(NULL, 0, &cursor, &it) == SOCKDIAG_END, "no addresses");
+}
+
+/* An error with these fields. `kind` is below 0 if there is none. */
+struct expected {
+    uint32_t code, record_name, family, message_type;
+    int kind;
+    size_t got, need, length, index;
+};
+
+/* The call returned the code, and the error has these fields. */
+static void check_error(uint32_t answer, const struct sockdiag_error_details *it,
+                        const struct expected *expected, const char *what) {
+    const uint32_t is_set = expected->kind >= 0;
+    check(answer == expected->code && it->code == expected->code, what);
+    check(it->record_name == expected->record_name && it->family == expected->family &&
+          it->message_type == expected->message_type, what);
+    check(it->kind.is_set == is_set && it->kind.value == (is_set ? (uint32_t)expected->kind : 0),
+          what);
+    check(it->got == expected->got && it->need == expected->need &&
+          it->length == expected->length && it->index == expected->index, what);
+}
+
+/* Calls a function that explains the bytes, which are rejected with this error. */
+#define EXPLAINS(call, bytes, length, ...)                          \
+    do {                                                            \
+        struct sockdiag_error_details it;                           \
+        const struct expected expected = {__VA_ARGS__};             \
+        uint32_t answer;                                            \
+        memset(&it, UNTOUCHED, sizeof it);                          \
+        answer = call(bytes, length, &it);                          \
+        check_error(answer, &it, &expected, #call ": " #__VA_ARGS__); \
+    } while (0)
+
+/* Calls a function that explains the bytes, which are accepted. */
+#define ACCEPTS(call, bytes, length)                                             \
+    do {                                                                         \
+        struct sockdiag_error_details it;                                        \
+        memset(&it, UNTOUCHED, sizeof it);                                       \
+        check(call(bytes, length, &it) == SOCKDIAG_OK, #call " of accepted bytes"); \
+        check(is_untouched(&it, sizeof it), #call " is written");                \
+    } while (0)
+
+static void explains_unix_replies(void) {
+    uint8_t bytes[128];
+    memcpy(bytes, unix_header, 16);
+    ACCEPTS(sockdiag_unix_explain, bytes, 16);
+    EXPLAINS(sockdiag_unix_explain, bytes, 15, SOCKDIAG_BUFFER_TOO_SMALL,
+             SOCKDIAG_RECORD_UNIX_RESPONSE_HEADER, 0, 0, -1, 15, 16, 0, 0);
+    EXPLAINS(sockdiag_unix_explain, NULL, 0, SOCKDIAG_BUFFER_TOO_SMALL,
+             SOCKDIAG_RECORD_UNIX_RESPONSE_HEADER, 0, 0, -1, 0, 16, 0, 0);
+    EXPLAINS(sockdiag_unix_explain, bytes, put(bytes, 16, 1, "", 0), SOCKDIAG_BUFFER_TOO_SMALL,
+             SOCKDIAG_RECORD_VFS, 0, 0, -1, 0, 8, 0, 0);
+    EXPLAINS(sockdiag_unix_explain, bytes, put(bytes, 16, 5, bytes, 12),
+             SOCKDIAG_BUFFER_TOO_SMALL, SOCKDIAG_RECORD_UNIX_MEM_INFO, 0, 0, -1, 12, 36, 0, 0);
+    EXPLAINS(sockdiag_unix_explain, bytes, put(bytes, 16, 4, bytes, 9), SOCKDIAG_WRONG_LENGTH, 0,
+             0, 0, 4, 9, 8, 0, 0);
+    EXPLAINS(sockdiag_unix_explain, bytes, put(bytes, 16, 3, bytes, 9),
+             SOCKDIAG_NOT_MULTIPLE_OF_FOUR, 0, 0, 0, -1, 9, 0, 0, 0);
+    EXPLAINS(sockdiag_unix_explain, bytes, put(bytes, 16, 0, "/a\0b", 5),
+             SOCKDIAG_NAME_INNER_ZERO, 0, 0, 0, -1, 0, 0, 0, 2);
+    EXPLAINS(sockdiag_unix_explain, bytes, put(bytes, 16, 0, "", 0), SOCKDIAG_NAME_EMPTY, 0, 0, 0,
+             -1, 0, 0, 0, 0);
+    EXPLAINS(sockdiag_unix_explain, bytes, put(bytes, 16, 0, "/a", 2), SOCKDIAG_NAME_WITHOUT_END,
+             0, 0, 0, -1, 0, 0, 0, 0);
+    memcpy(bytes + 16, "\3\0\0\0\11\1\0\0\0", 9);
+    EXPLAINS(sockdiag_unix_explain, bytes, 19, SOCKDIAG_ATTRIBUTE_HEADER_CUT, 0, 0, 0, -1, 3, 0, 0,
+             0);
+    EXPLAINS(sockdiag_unix_explain, bytes, 21, SOCKDIAG_ATTRIBUTE_LENGTH_UNDER_4, 0, 0, 0, -1, 0,
+             0, 3, 0);
+    memcpy(bytes + 16, "\11\1\0\0", 4);
+    EXPLAINS(sockdiag_unix_explain, bytes, 25, SOCKDIAG_ATTRIBUTE_LENGTH_PAST, 0, 0, 0, -1, 9, 0,
+             265, 0);
+}
+
+static void explains_inet_replies(void) {
+    uint8_t bytes[400], value[232];
+    number_bytes(value, sizeof value);
+    memcpy(bytes, inet_header, 72);
+    ACCEPTS(sockdiag_inet_explain, bytes, 72);
+    EXPLAINS(sockdiag_inet_explain, bytes, 71, SOCKDIAG_BUFFER_TOO_SMALL,
+             SOCKDIAG_RECORD_INET_RESPONSE_HEADER, 0, 0, -1, 71, 72, 0, 0);
+    EXPLAINS(sockdiag_inet_explain, bytes, put(bytes, 72, 1, value, 4), SOCKDIAG_BUFFER_TOO_SMALL,
+             SOCKDIAG_RECORD_LEGACY_MEM_INFO, 0, 0, -1, 4, 16, 0, 0);
+    EXPLAINS(sockdiag_inet_explain, bytes, put(bytes, 72, 2, value, 224),
+             SOCKDIAG_BUFFER_TOO_SMALL, SOCKDIAG_RECORD_TCP_INFO, 0, 0, -1, 224, 232, 0, 0);
+    EXPLAINS(sockdiag_inet_explain, bytes, put(bytes, 72, 7, value, 24), SOCKDIAG_BUFFER_TOO_SMALL,
+             SOCKDIAG_RECORD_MEM_INFO, 0, 0, -1, 24, 28, 0, 0);
+    EXPLAINS(sockdiag_inet_explain, bytes, put(bytes, 72, 4, "\377", 1), SOCKDIAG_NOT_UTF8, 0, 0,
+             0, -1, 0, 0, 0, 0);
+    EXPLAINS(sockdiag_inet_explain, bytes, put(bytes, 72, 17, value, 3), SOCKDIAG_WRONG_LENGTH, 0,
+             0, 0, 17, 3, 4, 0, 0);
+    bytes[0] = 1;
+    EXPLAINS(sockdiag_inet_explain, bytes, 72, SOCKDIAG_UNSUPPORTED_FAMILY, 0, 1, 0, -1, 0, 0, 0,
+             0);
+}
+
+static void explains_other_replies(void) {
+    uint8_t bytes[128], value[48];
+    number_bytes(value, sizeof value);
+    memset(bytes, 0, sizeof bytes);
+    ACCEPTS(sockdiag_netlink_explain, bytes, SOCKDIAG_NETLINK_ATTRIBUTES);
+    ACCEPTS(sockdiag_packet_explain, bytes, SOCKDIAG_PACKET_ATTRIBUTES);
+    ACCEPTS(sockdiag_vsock_explain, bytes, SOCKDIAG_VSOCK_ATTRIBUTES);
+    ACCEPTS(sockdiag_xdp_explain, bytes, SOCKDIAG_XDP_ATTRIBUTES);
+    EXPLAINS(sockdiag_netlink_explain, bytes, 27, SOCKDIAG_BUFFER_TOO_SMALL,
+             SOCKDIAG_RECORD_FAMILY_RESPONSE_HEADER, 16, 0, -1, 27, 28, 0, 0);
+    EXPLAINS(sockdiag_packet_explain, bytes, 1, SOCKDIAG_BUFFER_TOO_SMALL,
+             SOCKDIAG_RECORD_FAMILY_RESPONSE_HEADER, 17, 0, -1, 1, 16, 0, 0);
+    EXPLAINS(sockdiag_vsock_explain, bytes, 31, SOCKDIAG_BUFFER_TOO_SMALL,
+             SOCKDIAG_RECORD_FAMILY_RESPONSE_HEADER, 40, 0, -1, 31, 32, 0, 0);
+    EXPLAINS(sockdiag_xdp_explain, bytes, 15, SOCKDIAG_BUFFER_TOO_SMALL,
+             SOCKDIAG_RECORD_FAMILY_RESPONSE_HEADER, 44, 0, -1, 15, 16, 0, 0);
+    EXPLAINS(sockdiag_netlink_explain, bytes, put(bytes, 28, 4, value, 3), SOCKDIAG_WRONG_LENGTH,
+             0, 0, 0, 4, 3, 4, 0, 0);
+    EXPLAINS(sockdiag_packet_explain, bytes, put(bytes, 16, 3, value, 27),
+             SOCKDIAG_BUFFER_TOO_SMALL, SOCKDIAG_RECORD_FAMILY_ATTRIBUTE, 17, 0, 3, 27, 28, 0, 0);
+    EXPLAINS(sockdiag_xdp_explain, bytes, put(bytes, 16, 9, value, 47), SOCKDIAG_BUFFER_TOO_SMALL,
+             SOCKDIAG_RECORD_FAMILY_ATTRIBUTE, 44, 0, 9, 47, 48, 0, 0);
+    memset(bytes + 32, 0, 4);
+    EXPLAINS(sockdiag_vsock_explain, bytes, 36, SOCKDIAG_ATTRIBUTE_LENGTH_UNDER_4, 0, 0, 0, -1, 0,
+             0, 0, 0);
+}
+
+static uint32_t explain_reply(const uint8_t *bytes, size_t length,
+                              struct sockdiag_error_details *error) {
+    return sockdiag_message_explain(bytes, length, SOCKDIAG_SOCK_DIAG_BY_FAMILY, error);
+}
+
+static uint32_t explain_destroy(const uint8_t *bytes, size_t length,
+                                struct sockdiag_error_details *error) {
+    return sockdiag_message_explain(bytes, length, SOCKDIAG_SOCK_DESTROY, error);
+}
+
+static void explains_messages(void) {
+    static const uint8_t other[16] = {17};
+    ACCEPTS(explain_reply, unix_header, 16);
+    ACCEPTS(explain_reply, inet_header, 72);
+    EXPLAINS(explain_reply, unix_header, 1, SOCKDIAG_MESSAGE_TOO_SHORT, 0, 0, 0, -1, 1, 0, 0, 0);
+    EXPLAINS(explain_reply, other, 16, SOCKDIAG_UNKNOWN_FAMILY, 0, 17, 0, -1, 0, 0, 0, 0);
+    EXPLAINS(explain_destroy, unix_header, 16, SOCKDIAG_UNKNOWN_MESSAGE_TYPE, 0, 0,
+             SOCKDIAG_SOCK_DESTROY, -1, 0, 0, 0, 0);
+    EXPLAINS(explain_reply, unix_header, 12, SOCKDIAG_BUFFER_TOO_SMALL,
+             SOCKDIAG_RECORD_UNIX_RESPONSE_HEADER, 0, 0, -1, 12, 16, 0, 0);
+    EXPLAINS(explain_reply, inet_header, 12, SOCKDIAG_BUFFER_TOO_SMALL,
+             SOCKDIAG_RECORD_INET_RESPONSE_HEADER, 0, 0, -1, 12, 72, 0, 0);
+}
+
+static void explains_framing(void) {
+    uint8_t bytes[20] = {20, 0, 0, 0, 3};
+    ACCEPTS(sockdiag_framing_explain, bytes, 20);
+    EXPLAINS(sockdiag_framing_explain, bytes, 15, SOCKDIAG_ENVELOPE_CUT, 0, 0, 0, -1, 15, 0, 0, 0);
+    EXPLAINS(sockdiag_framing_explain, bytes, 19, SOCKDIAG_ENVELOPE_LENGTH_PAST, 0, 0, 0, -1, 19,
+             0, 20, 0);
+    bytes[0] = 15;
+    EXPLAINS(sockdiag_framing_explain, bytes, 20, SOCKDIAG_ENVELOPE_LENGTH_UNDER_16, 0, 0, 0, -1,
+             0, 0, 15, 0);
+    memset(bytes, 0xff, 4);
+    EXPLAINS(sockdiag_framing_explain, bytes, 20, SOCKDIAG_ENVELOPE_LENGTH_PAST, 0, 0, 0, -1, 20,
+             0, UINT32_MAX, 0);
+}
+
+/* The kind 3 is a list of inodes in one family, and not parsed in the other. */
+static void explains_attributes(void) {
+    static const uint8_t inodes[12] = {9, 0, 3, 0, 1}, mark[16] = {9, 0, 15, 0, 1};
+    ACCEPTS(sockdiag_inet_explain_attribute, inodes, 12);
+    EXPLAINS(sockdiag_unix_explain_attribute, inodes, 12, SOCKDIAG_NOT_MULTIPLE_OF_FOUR, 0, 0, 0,
+             -1, 5, 0, 0, 0);
+    ACCEPTS(sockdiag_unix_explain_attribute, mark, 16);
+    EXPLAINS(sockdiag_inet_explain_attribute, mark, 16, SOCKDIAG_WRONG_LENGTH, 0, 0, 0, 15, 5, 4,
+             0, 0);
+    ACCEPTS(sockdiag_unix_explain_attribute, NULL, 0);
+    ACCEPTS(sockdiag_inet_explain_attribute, NULL, 0);
+    EXPLAINS(sockdiag_unix_explain_attribute, mark, 8, SOCKDIAG_ATTRIBUTE_LENGTH_PAST, 0, 0, 0, -1,
+             8, 0, 9, 0);
+    EXPLAINS(sockdiag_inet_explain_attribute, mark, 3, SOCKDIAG_ATTRIBUTE_HEADER_CUT, 0, 0, 0, -1,
+             3, 0, 0, 0);
+    EXPLAINS(sockdiag_inet_explain_attribute, mark + 5, 8, SOCKDIAG_ATTRIBUTE_LENGTH_UNDER_4, 0, 0,
+             0, -1, 0, 0, 0, 0);
+}
+
+/* Bits of the options, as struct inet_diag_sockopt of linux/inet_diag.h has them. */
+static void has_numbers(void) {
+    check(SOCKDIAG_OPTION_RECV_ERR == 1 && SOCKDIAG_OPTION_IS_ICSK == 2 &&
+          SOCKDIAG_OPTION_FREE_BIND == 4 && SOCKDIAG_OPTION_HDR_INCL == 8 &&
+          SOCKDIAG_OPTION_MC_LOOP == 16 && SOCKDIAG_OPTION_TRANSPARENT == 32 &&
+          SOCKDIAG_OPTION_MC_ALL == 64 && SOCKDIAG_OPTION_NO_DEFRAG == 128 &&
+          SOCKDIAG_OPTION_BIND_ADDRESS_NO_PORT == 256 && SOCKDIAG_OPTION_RECV_ERR_RFC4884 == 512 &&
+          SOCKDIAG_OPTION_DEFER_CONNECT == 1024, "options of a socket");
+    check(SOCKDIAG_RECORD_SOCKET_ID == 1 && SOCKDIAG_RECORD_INET_REQUEST == 2 &&
+          SOCKDIAG_RECORD_UNIX_REQUEST == 4 && SOCKDIAG_RECORD_FAMILY_REQUEST == 11,
+          "records of requests");
+    check(SOCKDIAG_REJECTION_KINDS == 32 &&
+          sizeof(((struct sockdiag_rejections *)0)->errors) == SOCKDIAG_REJECTION_KINDS,
+          "the number of kinds");
+}
+
+int main(void) {
+    rejects_each_unix_attribute();
+    rejects_each_inet_attribute();
+    has_the_first_errors();
+    rejects_headers();
+    reads_long_tcp_info();
+    reads_single_values();
+    reads_pending_connections();
+    reads_md5_signatures();
+    reads_addresses();
+    explains_unix_replies();
+    explains_inet_replies();
+    explains_other_replies();
+    explains_messages();
+    explains_framing();
+    explains_attributes();
+    has_numbers();
+    if (failures == 0)
+        puts("c_lenient: all tests pass");
+    return failures != 0;
+}
