@@ -5,10 +5,11 @@
  * port.
  *
  * Each kind is requested from NETLINK_SOCK_DIAG by a dump request, as sock_diag(7) shows. Replies
- * are parsed in the buffer that recv(2) filled. A reply that is rejected is reported, and the dump
- * continues. A dump that was interrupted is requested again; its lines are not printed. The exit
- * status is 0 if all sockets were listed, 1 if not, and 2 for wrong arguments. The program is valid
- * C99 and C++.
+ * are parsed in the buffer that recv(2) filled. An attribute that is rejected does not hide its
+ * socket: the line ends with its kind and its error. A reply whose header is rejected is reported,
+ * and the dump continues. A dump that was interrupted is requested again; its lines are not
+ * printed. The exit status is 0 if all sockets were listed, 1 if not, and 2 for wrong arguments.
+ * The program is valid C99 and C++.
  */
 #include "sockdiag.h"
 
@@ -77,11 +78,39 @@ static void print_number(FILE *lines, const char *name, struct sockdiag_number n
         fprintf(lines, " %s %u", name, number.value);
 }
 
+/* Prints the inodes of the connections that wait to be accepted. They are the value of an attribute
+ * that the details lack. */
+static void print_pending(FILE *lines, const uint8_t *payload, size_t length) {
+    struct sockdiag_cursor cursor = {SOCKDIAG_UNIX_ATTRIBUTES}, step = {0};
+    struct sockdiag_attribute it;
+    uint32_t inode;
+    while (sockdiag_next_attribute(payload, length, &cursor, &it) == SOCKDIAG_ITEM) {
+        if ((it.type_word & 0x3fff) != SOCKDIAG_UNIX_DIAG_ICONS)
+            continue;
+        while (sockdiag_next_pending(payload + it.offset, it.length, &step, &inode)
+               == SOCKDIAG_ITEM)
+            fprintf(lines, " pending %u", inode);
+        return;
+    }
+}
+
+/* Ends a line: prints the kinds of the attributes that are rejected, with their errors. */
+static void end_line(FILE *lines, const struct sockdiag_rejections *rejections) {
+    unsigned kind;
+    for (kind = 0; kind < SOCKDIAG_REJECTION_KINDS; kind++) {
+        const uint32_t error = rejections->errors[kind];
+        if (error != 0)
+            fprintf(lines, " rejected %u (%s)", kind, sockdiag_error_text(error));
+    }
+    if (rejections->framing != 0)
+        fprintf(lines, " rejected (%s)", sockdiag_error_text(rejections->framing));
+    putc('\n', lines);
+}
+
 static uint32_t print_unix(FILE *lines, const uint8_t *payload, size_t length) {
     struct sockdiag_unix_details it;
-    uint32_t pending;
-    size_t index;
-    const uint32_t error = sockdiag_unix_get_details(payload, length, &it);
+    struct sockdiag_rejections rejections;
+    const uint32_t error = sockdiag_unix_get_lenient_details(payload, length, &it, &rejections);
     if (error != SOCKDIAG_OK)
         return error;
     fprintf(lines, "unix type %u state %u inode %u ", it.header.kind, it.header.state,
@@ -90,10 +119,9 @@ static uint32_t print_unix(FILE *lines, const uint8_t *payload, size_t length) {
     print_number(lines, "peer", it.peer);
     print_number(lines, "received", it.recv_queue);
     print_number(lines, "sent", it.send_queue);
-    for (index = 0; sockdiag_unix_get_pending(payload, length, index, &pending) == SOCKDIAG_ITEM;
-         index++)
-        fprintf(lines, " pending %u", pending);
-    putc('\n', lines);
+    if (rejections.errors[SOCKDIAG_UNIX_DIAG_ICONS] == 0)
+        print_pending(lines, payload, length);
+    end_line(lines, &rejections);
     return SOCKDIAG_OK;
 }
 
@@ -101,8 +129,9 @@ static uint32_t print_inet(FILE *lines, const char *protocol, const uint8_t *pay
                            size_t length) {
     char source[INET6_ADDRSTRLEN] = "", destination[INET6_ADDRSTRLEN] = "";
     struct sockdiag_inet_details it;
-    struct sockdiag_tcp_info info;
-    const uint32_t error = sockdiag_inet_get_details(payload, length, &it);
+    struct sockdiag_rejections rejections;
+    struct sockdiag_long_tcp_info info;
+    const uint32_t error = sockdiag_inet_get_lenient_details(payload, length, &it, &rejections);
     if (error != SOCKDIAG_OK)
         return error;
     inet_ntop(it.header.family, it.header.source_address, source, sizeof source);
@@ -112,9 +141,11 @@ static uint32_t print_inet(FILE *lines, const char *protocol, const uint8_t *pay
             it.header.inode);
     print_text(lines, &it.congestion);
     print_number(lines, "mark", it.mark);
-    if (sockdiag_inet_get_tcp_info(payload, length, &info) != 0)
+    /* Each kernel sends struct tcp_info in its own size. Does it contain this field? */
+    if (sockdiag_inet_get_long_tcp_info(payload, length, &info)
+        >= offsetof(struct sockdiag_long_tcp_info, rtt) + sizeof info.rtt)
         fprintf(lines, " rtt %u", info.rtt);
-    putc('\n', lines);
+    end_line(lines, &rejections);
     return SOCKDIAG_OK;
 }
 
@@ -130,7 +161,7 @@ static enum progress end(const char *protocol, const uint8_t *payload, size_t le
     return number == -ENOENT || number == -EINVAL ? COMPLETE : FAILED;
 }
 
-/* Prints the reply in a message. Reports one that is rejected. */
+/* Prints the reply in a message. Reports one whose header is rejected. */
 static void print_reply(struct dump *dump, const uint8_t *payload, size_t length) {
     const uint32_t error = length > 0 && payload[0] == AF_UNIX
                                ? print_unix(dump->lines, payload, length)

@@ -4,8 +4,9 @@
  *
  * The first request is answered by a dump that is interrupted. The second one, which has to be the
  * same with another sequence number, is answered by the end of another dump, a reply that is too
- * short, and a reply about a socket; then by the end of the dump. Each other request is answered by
- * ENOENT. The state of the sockets shows which states were requested.
+ * short, a reply about a socket, and a reply with an attribute that is too short; then by the end
+ * of the dump. Each other request is answered by ENOENT. The state of the sockets shows which
+ * states were requested.
  */
 #include "sockdiag.h"
 
@@ -69,6 +70,9 @@ ssize_t recv(int fd, void *buffer, size_t capacity, int flags) {
     static const int32_t success = 0, failure = -ENOENT;
     const uint8_t state = request[21] == 4 ? SOCKDIAG_TCP_LISTEN : SOCKDIAG_TCP_CLOSE;
     const uint8_t reply[16] = {AF_UNIX, SOCK_STREAM, state, 0, (uint8_t)requests};
+    /* The memory of a socket, of 4 bytes instead of 36. */
+    static const uint8_t memory[8] = {8, 0, SOCKDIAG_UNIX_DIAG_MEMINFO};
+    uint8_t short_memory[24];
     uint8_t *bytes = (uint8_t *)buffer;
     uint32_t number;
     size_t end = 0;
@@ -87,5 +91,8 @@ ssize_t recv(int fd, void *buffer, size_t capacity, int flags) {
     end += put(bytes, NLMSG_DONE, NLM_F_MULTI, number - 1, &success, 4);
     end += put(bytes + end, SOCKDIAG_SOCK_DIAG_BY_FAMILY, NLM_F_MULTI, number, reply, 8);
     end += put(bytes + end, SOCKDIAG_SOCK_DIAG_BY_FAMILY, NLM_F_MULTI, number, reply, 16);
+    memcpy(short_memory, reply, 16);
+    memcpy(short_memory + 16, memory, 8);
+    end += put(bytes + end, SOCKDIAG_SOCK_DIAG_BY_FAMILY, NLM_F_MULTI, number, short_memory, 24);
     return (ssize_t)end;
 }

@@ -1,14 +1,16 @@
 //! Lists the sockets of this machine: one line for each UNIX socket, and for each TCP, UDP and
 //! MPTCP socket over IPv4 and IPv6.
 //!
-//! A reply that is rejected is reported, and the list continues. An interrupted dump is requested
-//! again. The crate opens no socket. This example does, by calls of the C library.
+//! An attribute that is rejected does not hide its socket: the line ends with its kind and its
+//! error. A reply whose header is rejected is reported, and the list continues. An interrupted dump
+//! is requested again. The crate opens no socket. This example does, by calls of the C library.
 
 use sockdiag::constants::{AF_INET, AF_INET6, IPPROTO_MPTCP, IPPROTO_TCP, IPPROTO_UDP};
 use sockdiag::constants::{NLM_F_DUMP, NLM_F_REQUEST};
-use sockdiag::inet::{ExtensionFlags, InetReply, InetRequest, SocketId};
+use sockdiag::inet::{ExtensionFlags, InetReply, InetRequest, SocketId, TcpField};
 use sockdiag::unix::{ShowFlags, UnixDiagName, UnixReply, UnixRequest};
-use sockdiag::{inet, unix, AnswerCheck, Dump, NetlinkHeader, NetlinkPayload, SockDiagMessage};
+use sockdiag::{inet, unix, AnswerCheck, Dump, LenientMessage, NetlinkHeader, NetlinkPayload};
+use sockdiag::{RejectedAttributes, RejectedMessage, SockDiagMessage};
 use std::fs::File;
 use std::io::{self, Read, Write};
 use std::os::fd::FromRawFd;
@@ -77,10 +79,21 @@ fn inet_line(protocol: &str, reply: &InetReply<'_>) -> String {
     if let Some(algorithm) = reply.congestion() {
         line += &format!(" {algorithm}");
     }
-    if let Some(info) = reply.tcp_info() {
-        line += &format!(" rtt {}", info.rtt);
+    // Each kernel sends `struct tcp_info` in its own size. Does it contain this field?
+    let info = reply.tcp_info_bytes();
+    if let Some(rtt) = info.and_then(|info| info.get(TcpField::Rtt)) {
+        line += &format!(" rtt {rtt}");
     }
     line
+}
+
+/// Returns the end of a line: the kinds of the attributes that are rejected, with their errors.
+fn rejected_text(rejected: RejectedAttributes<'_>) -> String {
+    let text = |it: sockdiag::RejectedAttribute<'_>| match it.kind {
+        Some(kind) => format!(" rejected {kind} ({it})"),
+        None => format!(" rejected ({it})"),
+    };
+    rejected.map(text).collect()
 }
 
 /// The answer to one request.
@@ -102,12 +115,29 @@ impl Answer<'_> {
             match message {
                 Ok(message) if self.take(message.payload)? => return Ok(true),
                 Ok(_) => {}
-                Err(rejected) => {
-                    eprintln!("list_sockets: {}: invalid reply: {rejected}", self.protocol)
-                }
+                Err(rejected) => self.take_rejected(&rejected),
             }
         }
         Ok(false)
+    }
+
+    /// Adds the line about the socket of a rejected reply, whose other attributes are valid.
+    /// Reports a message that has no such socket.
+    fn take_rejected(&mut self, rejected: &RejectedMessage<'_>) {
+        let line = match rejected.lenient() {
+            Some(LenientMessage::Unix(reply)) => {
+                unix_line(&reply) + &rejected_text(reply.rejected())
+            }
+            Some(LenientMessage::Inet(reply)) => {
+                inet_line(self.protocol, &reply) + &rejected_text(reply.rejected())
+            }
+            None => {
+                eprintln!("list_sockets: {}: invalid reply: {rejected}", self.protocol);
+                return;
+            }
+        };
+        self.lines += &line;
+        self.lines.push('\n');
     }
 
     /// Adds the line about a socket. Returns whether the payload ends the answer. A kernel that
@@ -161,7 +191,7 @@ impl<K: Read + Write, W: Write> Lister<K, W> {
         self.list("unix", |header| unix.to_message(header).to_vec())?;
         let v4 = (AF_INET, SocketId::new_v4());
         let v6 = (AF_INET6, SocketId::new_v6());
-        // The `INET_DIAG_INFO` of MPTCP is another struct, and its replies would be rejected.
+        // The `INET_DIAG_INFO` of MPTCP is another struct.
         let of_tcp = ExtensionFlags::INFO | ExtensionFlags::CONG;
         let none = ExtensionFlags::empty();
         for (name, protocol, extensions, (family, socket_id)) in [
