@@ -8,13 +8,16 @@
 //! # A dump
 //!
 //! A program sends a request on a netlink socket, and reads datagrams until a message ends the
-//! answer. A loop over the messages continues after a reply that is rejected. After the end, repeat
-//! the request if the dump was interrupted. `examples/list_sockets.rs` is a complete program.
+//! answer. A loop over the messages continues after a reply that is rejected. One rejected
+//! attribute makes a reply invalid: [`RejectedMessage::lenient`] returns its socket with the other
+//! attributes, so that no socket is lost on old kernels. After the end, repeat the request if the
+//! dump was interrupted. `examples/list_sockets.rs` is a complete program.
 //!
 //! ```
 //! use sockdiag::constants::{NLM_F_DUMP, NLM_F_REQUEST, TCP_LISTEN};
 //! use sockdiag::unix::{ShowFlags, StateFlags, UnixRequest};
-//! use sockdiag::{AnswerCheck, Dump, NetlinkHeader, NetlinkPayload, SockDiagMessage};
+//! use sockdiag::{AnswerCheck, Dump, LenientMessage, NetlinkHeader, NetlinkPayload};
+//! use sockdiag::SockDiagMessage;
 //!
 //! let request = UnixRequest {
 //!     state_flags: StateFlags::every_state(),
@@ -32,7 +35,13 @@
 //! #     4, 5, 6, 7, 8, 11, 0, 0, 0, b'/', b't', b'm', b'p', b'/', b'a', 0, 0, 20, 0, 0, 0, 3, 0,
 //! #     2, 0, 7, 0, 0, 0, 9, 0, 0, 0, 0, 0, 0, 0,
 //! # ];
-//! // This datagram has a reply that is too short, another reply, and the end of the dump.
+//! # let memory: &[u8] = &[
+//! #     40, 0, 0, 0, 20, 0, 2, 0, 7, 0, 0, 0, 9, 0, 0, 0, 1, 1, 10, 0, 0x4e, 0, 0, 0, 1, 2, 3,
+//! #     4, 5, 6, 7, 8, 8, 0, 5, 0, 0, 0, 0, 0,
+//! # ];
+//! # let datagram = &[memory, datagram].concat()[..];
+//! // This datagram has a reply with a short UNIX_DIAG_MEMINFO, a reply whose header is too short,
+//! // another reply, and the end of the dump.
 //! let mut answer = AnswerCheck::new(header.sequence_number, 0);
 //! let mut listening = 0;
 //! for message in Dump::new(datagram) {
@@ -51,10 +60,17 @@
 //!             panic!("the request failed: {number:?}")
 //!         }
 //!         Ok(NetlinkPayload::Overrun) => panic!("the kernel lost data"),
-//!         Err(rejected) => eprintln!("invalid reply: {rejected}"),
+//!         Err(rejected) => match rejected.lenient() {
+//!             Some(LenientMessage::Unix(reply)) => {
+//!                 assert_eq!((reply.header.inode, reply.rejected().count()), (78, 1));
+//!                 listening += usize::from(reply.header.state == TCP_LISTEN);
+//!             }
+//!             Some(LenientMessage::Inet(_)) => {}
+//!             None => eprintln!("invalid reply: {rejected}"),
+//!         },
 //!     }
 //! }
-//! assert_eq!((listening, answer.is_interrupted()), (1, false));
+//! assert_eq!((listening, answer.is_interrupted()), (2, false));
 //! ```
 //!
 //! # From `netlink-packet-sock-diag`
@@ -100,13 +116,23 @@
 //! | an `InetRequest` with a family other than `AF_INET` and `AF_INET6` is serialized | such a request has a message of zero bytes |
 //! | `SocketId::new_v4()` has a cookie of zeros | its cookie is `[0xff; 8]`, which matches any, as is that of `UnixRequest::default()`. The kernel compares it if a single socket is requested |
 //! | flags have the methods of `bitflags` | flags have `empty`, `all`, `from_bits`, `from_bits_retain`, `from_bits_truncate`, `bits`, `is_empty`, `contains`, `insert`, `remove`, `\|` and `\|=` |
-//! | `DecodeError` contains texts | [`DecodeError`] is an enum of the errors; both implement `Display`. The texts here are those of `sockdiag_error_text`, without values, and the variants have no fields |
+//! | `DecodeError` contains texts | [`DecodeError`] is an enum of the errors with their lengths, kinds and numbers; both implement `Display` |
 //! | panics on some input | does not panic |
 //!
 //! In addition, [`Dump`] iterates over a whole datagram, [`AnswerCheck`] checks that its messages
 //! belong to the answer, and [`Attributes`] iterates over attributes as kinds and bytes.
 //! `to_message` and `to_destroy` serialize a request in one call. `StateFlags::every_state()`
 //! selects all states, which `StateFlags::all()` does not do in either crate.
+//!
+//! # Replies of old kernels, and newer attributes
+//!
+//! [`unix::LenientUnixReply`] and [`inet::LenientInetReply`] accept a reply of which attributes are
+//! rejected: they have the getters of the strict replies, and
+//! [`rejected`](LenientReply::rejected), which yields the other attributes with their errors.
+//! [`inet::TcpInfoBytes`] has the 68 fields of `struct tcp_info` of Linux 6.18, as far as a kernel
+//! sends them. Getters of replies have the values that `nlas` yields as `Other`: the cgroup, the
+//! options of the socket, the measurements of Vegas, DCTCP and BBR, MD5 signature keys, SCTP
+//! addresses, and the user id of a UNIX socket.
 //!
 //! # Sockets of four more families
 //!
