@@ -263,7 +263,7 @@ fn without_rejected(
     rejected: &[RejectedAttribute<'_>],
 ) -> (Vec<u8>, usize) {
     let mut rest = bytes[..header_length].to_vec();
-    let mut items = rejected.iter().peekable();
+    let mut items = rejected.iter().filter(|it| it.kind.is_some()).peekable();
     let mut count = 0;
     for it in Attributes::new(&bytes[header_length..]).flatten() {
         // A value is the same one if it is at the same address.
