@@ -237,8 +237,8 @@ fn getters_return_the_values_of_a_reply() {
     attribute(&mut bytes, 9, &counted(8, 16));
     attribute(&mut bytes, 16, &counted(9, 20));
     attribute(&mut bytes, 18, &key);
-    attribute(&mut bytes, 13, &address);
-    attribute(&mut bytes, 14, &[address.clone(), address.clone()].concat());
+    attribute(&mut bytes, 12, &address);
+    attribute(&mut bytes, 13, &[address.clone(), address.clone()].concat());
     let reply = InetReply::parse(&bytes).unwrap();
     // The first value is too short.
     assert_eq!(reply.cgroup_id(), Some(0x0807060504030201));
