@@ -98,6 +98,18 @@ unsafe fn explained(bytes: &[u8], code: u32, explain: Explain) -> DecodeError {
     DecodeError::explained(code, &error)
 }
 
+/// Returns the error of a payload that is not a reply about a UNIX, IPv4 or IPv6 socket in a message
+/// of this type.
+#[cold]
+pub(crate) fn message_error(payload: &[u8], message_type: u16) -> DecodeError {
+    let mut error = ErrorDetails::default();
+    let (bytes, length) = (payload.as_ptr(), payload.len());
+    // SAFETY: the pointer and the length are from one slice, and the struct is an initialized
+    // local. The contract of `sockdiag_message_explain` requires nothing else.
+    let code = unsafe { sockdiag_message_explain(bytes, length, message_type, &mut error) };
+    DecodeError::explained(code, &error)
+}
+
 /// Returns the contents of a reply by a details call, or the error by the other call.
 ///
 /// # Safety

@@ -193,16 +193,9 @@ impl<'a> SockDiagMessage<'a> {
 
 /// Returns the family of a reply: `AF_UNIX`, `AF_INET` or `AF_INET6`.
 pub(crate) fn family_of(payload: &[u8], message_type: u16) -> Result<u8, DecodeError> {
-    let [family, _, ..] = *payload else {
-        let got = payload.len();
-        return Err(DecodeError::MessageTooShort { got });
-    };
-    if message_type != SOCK_DIAG_BY_FAMILY {
-        return Err(DecodeError::UnknownMessageType { message_type });
-    }
-    match family {
-        AF_UNIX | AF_INET | AF_INET6 => Ok(family),
-        _ => Err(DecodeError::UnknownFamily { family }),
+    match (message_type, payload) {
+        (SOCK_DIAG_BY_FAMILY, [family @ (AF_UNIX | AF_INET | AF_INET6), _, ..]) => Ok(*family),
+        _ => Err(calls::message_error(payload, message_type)),
     }
 }
 
