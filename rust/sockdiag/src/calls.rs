@@ -98,8 +98,8 @@ unsafe fn explained(bytes: &[u8], code: u32, explain: Explain) -> DecodeError {
     DecodeError::explained(code, &error)
 }
 
-/// Returns the error of a payload that is not a reply about a UNIX, IPv4 or IPv6 socket in a message
-/// of this type.
+/// Returns the error of a payload that is not a reply about a UNIX, IPv4 or IPv6 socket, in a
+/// message of this type.
 #[cold]
 pub(crate) fn message_error(payload: &[u8], message_type: u16) -> DecodeError {
     let mut error = ErrorDetails::default();
