@@ -1593,7 +1593,7 @@ uint32_t sockdiag_next_address(const uint8_t *value, size_t length, struct sockd
  * kinds and numbers that belong to it.
  */
 
-/* Records of which a message has too few bytes, by the field record_name. */
+/* Records that can have too few bytes: the numbers of the field record_name. */
 enum sockdiag_record {
     SOCKDIAG_RECORD_SOCKET_ID = 1,               /* Record inet_diag_sockid, 48 bytes. */
     SOCKDIAG_RECORD_INET_REQUEST = 2,            /* Record inet_diag_req_v2, 56 bytes. */

@@ -114,6 +114,24 @@ static void read_capture(const char *path) {
     expect(sample_count > 0, "a capture with datagrams");
 }
 
+/* Appends an attribute of one of the first 24 kinds, with some of the lengths of their values. */
+static size_t append_attribute(uint8_t *bytes, size_t length) {
+    static const uint16_t lengths[16] = {0,  1,  2,  3,  4,   5,   8,   12,
+                                         16, 28, 36, 100, 128, 224, 232, 280};
+    const size_t value = lengths[random_below(16)], start = (length + 3) / 4 * 4;
+    size_t index;
+    if (start + 4 + value > AREA / 2)
+        return length;
+    memset(bytes + length, 0, start - length);
+    bytes[start] = (uint8_t)(4 + value);
+    bytes[start + 1] = (uint8_t)((4 + value) >> 8);
+    bytes[start + 2] = (uint8_t)random_below(24);
+    bytes[start + 3] = random_below(8) ? 0 : 0x80;
+    for (index = 0; index < value; index++)
+        bytes[start + 4 + index] = (uint8_t)(index + 1 < value ? random_below(128) : 0);
+    return start + 4 + value;
+}
+
 /* Changes one thing of the bytes, which have a capacity of AREA / 2. Returns their length. */
 static size_t change(uint8_t *bytes, size_t length) {
     static const uint8_t numbers[8] = {0, 1, 2, 4, 8, 16, 0x7f, 0xff};
@@ -123,7 +141,7 @@ static size_t change(uint8_t *bytes, size_t length) {
     const size_t index = length > 0 ? random_below((uint32_t)length) : 0;
     const struct sample *other = &samples[random_below((uint32_t)sample_count)];
     const size_t room = AREA / 2 - length;
-    switch (length > 0 ? random_below(6) : 5) {
+    switch (length > 0 ? random_below(8) : 7) {
     case 0:
         bytes[index] ^= (uint8_t)(1u << random_below(8));
         return length;
@@ -138,6 +156,9 @@ static size_t change(uint8_t *bytes, size_t length) {
     case 4:
         memset(bytes + index, random_below(2) ? 0 : 0xff, (length - index) % 5);
         return length;
+    case 5:
+    case 6:
+        return append_attribute(bytes, length);
     default:
         if (other->length > room)
             return length;
