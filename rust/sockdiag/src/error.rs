@@ -7,6 +7,7 @@ use core::fmt;
 
 /// The records that have a minimal length, named by sock_diag(7) and the kernel's headers.
 #[derive(Clone, Copy, Debug, PartialEq, Eq, Hash)]
+#[non_exhaustive]
 pub enum RecordName {
     /// `inet_diag_sockid`, 48 bytes.
     SocketId,

@@ -86,7 +86,8 @@ fn parse_leniently(bytes: &[u8]) {
 /// Parses bytes as each kind of value.
 fn parse_values(bytes: &[u8]) {
     let info = TcpInfoBytes::new(bytes);
-    assert!(TcpField::ALL.map(|it| info.get(it)).len() == 68);
+    let found = TcpField::ALL.iter().filter(|it| info.get(**it).is_some());
+    assert_eq!(found.count() == 68, bytes.len() >= 280);
     let _ = (info.whole(), SocketOptions::parse(bytes));
     let _ = (
         VegasInfo::parse(bytes),

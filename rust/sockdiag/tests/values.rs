@@ -41,7 +41,7 @@ fn has_each_field_of_tcp_info() {
     let spans = spans();
     assert_eq!((spans.len(), spans.last()), (68, Some(&(278, 2))));
     let bytes = counted(1, 300);
-    for (field, (offset, width)) in TcpField::ALL.into_iter().zip(spans) {
+    for (field, (offset, width)) in TcpField::ALL.iter().zip(spans) {
         assert_eq!(field.span(), (offset, width), "{field:?}");
         let mut number = [0; 8];
         number[..width].copy_from_slice(&bytes[offset..offset + width]);
@@ -49,7 +49,7 @@ fn has_each_field_of_tcp_info() {
         for length in 0..=300 {
             let info = TcpInfoBytes::new(&bytes[..length]);
             let expected = (length >= offset + width).then_some(number);
-            assert_eq!(info.get(field), expected, "{field:?} in {length} bytes");
+            assert_eq!(info.get(*field), expected, "{field:?} in {length} bytes");
         }
     }
 }
@@ -88,7 +88,7 @@ fn names_the_fields_of_tcp_info_as_the_kernel_does() {
         assert_eq!(field.span().0, offset, "{field:?}");
     }
     let names: BTreeSet<_> = TcpField::ALL.iter().map(|it| format!("{it:?}")).collect();
-    assert_eq!(names.len(), 68);
+    assert_eq!((names.len(), TcpField::ALL.len()), (68, 68));
 }
 
 #[test]

@@ -8,6 +8,7 @@ use super::{SocketOptions, TcpInfo};
 /// little-endian. The number after `at` is the offset in bytes. [`TcpInfo`] documents the fields
 /// that it also has.
 #[derive(Clone, Copy, Debug, PartialEq, Eq, Hash)]
+#[non_exhaustive]
 pub enum TcpField {
     /// `tcpi_state` at 0.
     State,
@@ -158,8 +159,8 @@ pub enum TcpField {
 }
 
 impl TcpField {
-    /// All fields, by their offsets.
-    pub const ALL: [TcpField; 68] = [
+    /// All fields, in the order of their offsets.
+    pub const ALL: &'static [TcpField] = &[
         TcpField::State,
         TcpField::CaState,
         TcpField::Retransmits,
@@ -311,6 +312,7 @@ const _: () = assert!(TcpField::RcvWnd.span().0 == size_of::<TcpInfo>());
 /// An option of an IPv4 or IPv6 socket: a bit of `struct inet_diag_sockopt` of `linux/inet_diag.h`.
 /// Bits of the first byte are counted from its least significant bit. ip(7) describes most options.
 #[derive(Clone, Copy, Debug, PartialEq, Eq, Hash)]
+#[non_exhaustive]
 pub enum SocketOption {
     /// `IP_RECVERR`: `recverr`, bit 0.
     RecvErr,
