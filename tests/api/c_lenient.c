@@ -501,8 +501,9 @@ static void explains_other_replies(void) {
              SOCKDIAG_RECORD_FAMILY_RESPONSE_HEADER, 40, 0, -1, 31, 32, 0, 0);
     EXPLAINS(sockdiag_xdp_explain, bytes, 15, SOCKDIAG_BUFFER_TOO_SMALL,
              SOCKDIAG_RECORD_FAMILY_RESPONSE_HEADER, 44, 0, -1, 15, 16, 0, 0);
+    /* A number of another family has no kind. */
     EXPLAINS(sockdiag_netlink_explain, bytes, put(bytes, 28, 4, value, 3), SOCKDIAG_WRONG_LENGTH,
-             0, 0, 0, 4, 3, 4, 0, 0);
+             0, 0, 0, -1, 3, 4, 0, 0);
     EXPLAINS(sockdiag_packet_explain, bytes, put(bytes, 16, 3, value, 27),
              SOCKDIAG_BUFFER_TOO_SMALL, SOCKDIAG_RECORD_FAMILY_ATTRIBUTE, 17, 0, 3, 27, 28, 0, 0);
     EXPLAINS(sockdiag_xdp_explain, bytes, put(bytes, 16, 9, value, 47), SOCKDIAG_BUFFER_TOO_SMALL,
