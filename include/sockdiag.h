@@ -424,11 +424,9 @@ struct sockdiag_reply {
  * header is unchanged.
  *
  * An attribute with an invalid value makes the whole reply invalid. UNIX_DIAG_MEMINFO with fewer
- * than 36 bytes, which old kernels send, has SOCKDIAG_BUFFER_TOO_SMALL: do not request it with
- * UDIAG_SHOW_MEMINFO from such kernels. To parse a reply in spite of an invalid attribute, pass 16
- * (SOCKDIAG_UNIX_ATTRIBUTES) as the length if the payload has 16 bytes or more: a header is a reply
- * without attributes. Then iterate over the attributes by sockdiag_next_attribute, which does not
- * check their values.
+ * than 36 bytes, which old kernels send, has SOCKDIAG_BUFFER_TOO_SMALL.
+ * sockdiag_unix_get_lenient_details returns the header and all valid attributes of such a reply,
+ * and sockdiag_next_attribute all attributes, without a check of their values.
  */
 uint32_t sockdiag_check_unix_reply(const uint8_t *payload, size_t length,
                                    struct sockdiag_unix_header *header);
@@ -440,12 +438,10 @@ uint32_t sockdiag_check_unix_reply(const uint8_t *payload, size_t length,
  *
  * An attribute with an invalid value makes the whole reply invalid. INET_DIAG_INFO with fewer than
  * 232 bytes has SOCKDIAG_BUFFER_TOO_SMALL. TCP sockets of kernels before Linux 5.4 have such
- * values, and MPTCP sockets of all kernels. Either do not request it: leave INET_DIAG_INFO out of
- * the extensions of the request. Or parse the reply in parts:
- * - the header: if the payload has 72 bytes or more, pass 72 (SOCKDIAG_INET_ATTRIBUTES) as the
- *   length, since a header is a reply without attributes;
- * - the connection: sockdiag_inet_get_tcp_info, which accepts any length;
- * - the memory: sockdiag_inet_get_memory, in the same way;
+ * values, and MPTCP sockets of all kernels. sockdiag_inet_get_lenient_details returns the header
+ * and all valid attributes of such a reply. These calls accept a value of any length:
+ * - the connection: sockdiag_inet_get_long_tcp_info and sockdiag_inet_get_tcp_info;
+ * - the memory: sockdiag_inet_get_memory;
  * - other attributes: sockdiag_next_attribute, which does not check their values.
  */
 uint32_t sockdiag_check_inet_reply(const uint8_t *payload, size_t length,
@@ -550,8 +546,8 @@ struct sockdiag_inet_details {
  * of a kind, the first one counts. Texts point into the payload, and are valid as long as it is.
  *
  * Attributes without a field, such as UNIX_DIAG_UID, are not an error: sockdiag_next_attribute
- * returns them. sockdiag_check_unix_reply has a remark on attributes of old kernels that are
- * rejected.
+ * returns them. Old kernels send values that are rejected: sockdiag_unix_get_lenient_details
+ * returns the other attributes.
  */
 uint32_t sockdiag_unix_get_details(const uint8_t *payload, size_t length,
                                    struct sockdiag_unix_details *details);
@@ -567,7 +563,7 @@ uint32_t sockdiag_unix_get_details(const uint8_t *payload, size_t length,
  *
  * Attributes without a field, such as INET_DIAG_MD5SIG and others that are arrays or nested, are
  * not an error: sockdiag_next_attribute returns them. A reply with a short INET_DIAG_INFO is
- * rejected: sockdiag_check_inet_reply has a remark on what to do.
+ * rejected: sockdiag_inet_get_lenient_details returns its other attributes.
  */
 uint32_t sockdiag_inet_get_details(const uint8_t *payload, size_t length,
                                    struct sockdiag_inet_details *details);
@@ -578,8 +574,8 @@ uint32_t sockdiag_inet_get_details(const uint8_t *payload, size_t length,
  * first connection has index 0. Returns 1. Returns 0 if the reply is rejected, or has no connection
  * at this index; then the inode is unchanged.
  *
- * Each call checks the whole reply. For a long list, find UNIX_DIAG_ICONS once by
- * sockdiag_next_attribute: its value has an inode every four bytes, in the byte order of the host.
+ * Each call checks the whole reply. To read all connections, find UNIX_DIAG_ICONS once by
+ * sockdiag_next_attribute, and step through its value by sockdiag_next_pending.
  */
 uint32_t sockdiag_unix_get_pending(const uint8_t *payload, size_t length, size_t index,
                                    uint32_t *inode);
@@ -975,7 +971,7 @@ uint32_t sockdiag_unix_get_lenient_details(const uint8_t *payload, size_t length
  *
  * Use this call to list sockets: a value that this library does not accept, such as the
  * INET_DIAG_INFO of an old kernel or of MPTCP, hides only itself, and not its socket.
- * sockdiag_inet_get_tcp_info_bytes returns such a value as far as it goes.
+ * sockdiag_inet_get_long_tcp_info returns such a value as far as it goes.
  */
 uint32_t sockdiag_inet_get_lenient_details(const uint8_t *payload, size_t length,
                                            struct sockdiag_inet_details *details,

@@ -20,11 +20,9 @@ pub(crate) const OK: u32 = 0;
 /// header is unchanged.
 ///
 /// An attribute with an invalid value makes the whole reply invalid. `UNIX_DIAG_MEMINFO` with fewer
-/// than 36 bytes, which old kernels send, has `SOCKDIAG_BUFFER_TOO_SMALL`: do not request it with
-/// `UDIAG_SHOW_MEMINFO` from such kernels. To parse a reply in spite of an invalid attribute, pass
-/// 16 (`SOCKDIAG_UNIX_ATTRIBUTES`) as the length if the payload has 16 bytes or more: a header is a
-/// reply without attributes. Then iterate over the attributes by `sockdiag_next_attribute`, which
-/// does not check their values.
+/// than 36 bytes, which old kernels send, has `SOCKDIAG_BUFFER_TOO_SMALL`.
+/// `sockdiag_unix_get_lenient_details` returns the header and all valid attributes of such a reply,
+/// and `sockdiag_next_attribute` all attributes, without a check of their values.
 #[unsafe(no_mangle)]
 pub extern "C" fn sockdiag_check_unix_reply(payload: &[u8], header: &mut UnixHeader) -> u32
     // In order: how the payload parses, its errors, the header that is stored, and the header
@@ -48,12 +46,10 @@ pub extern "C" fn sockdiag_check_unix_reply(payload: &[u8], header: &mut UnixHea
 ///
 /// An attribute with an invalid value makes the whole reply invalid. `INET_DIAG_INFO` with fewer
 /// than 232 bytes has `SOCKDIAG_BUFFER_TOO_SMALL`. TCP sockets of kernels before Linux 5.4 have
-/// such values, and MPTCP sockets of all kernels. Either do not request it: leave `INET_DIAG_INFO`
-/// out of the extensions of the request. Or parse the reply in parts:
-/// - the header: if the payload has 72 bytes or more, pass 72 (`SOCKDIAG_INET_ATTRIBUTES`) as the
-///   length, since a header is a reply without attributes;
-/// - the connection: `sockdiag_inet_get_tcp_info`, which accepts any length;
-/// - the memory: `sockdiag_inet_get_memory`, in the same way;
+/// such values, and MPTCP sockets of all kernels. `sockdiag_inet_get_lenient_details` returns the
+/// header and all valid attributes of such a reply. These calls accept a value of any length:
+/// - the connection: `sockdiag_inet_get_long_tcp_info` and `sockdiag_inet_get_tcp_info`;
+/// - the memory: `sockdiag_inet_get_memory`;
 /// - other attributes: `sockdiag_next_attribute`, which does not check their values.
 #[unsafe(no_mangle)]
 pub extern "C" fn sockdiag_check_inet_reply(payload: &[u8], header: &mut InetHeader) -> u32

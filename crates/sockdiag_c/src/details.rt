@@ -135,8 +135,8 @@ pub(crate) trait ReplyDetails<'a>: Copy {
 /// as it is.
 ///
 /// Attributes without a field, such as `UNIX_DIAG_UID`, are not an error: `sockdiag_next_attribute`
-/// returns them. `sockdiag_check_unix_reply` has a remark on attributes of old kernels that are
-/// rejected.
+/// returns them. Old kernels send values that are rejected: `sockdiag_unix_get_lenient_details`
+/// returns the other attributes.
 #[unsafe(no_mangle)]
 pub extern "C" fn sockdiag_unix_get_details<'a>(
     payload: &'a [u8],
@@ -162,7 +162,7 @@ pub extern "C" fn sockdiag_unix_get_details<'a>(
 ///
 /// Attributes without a field, such as `INET_DIAG_MD5SIG` and others that are arrays or nested, are
 /// not an error: `sockdiag_next_attribute` returns them. A reply with a short `INET_DIAG_INFO` is
-/// rejected: `sockdiag_check_inet_reply` has a remark on what to do.
+/// rejected: `sockdiag_inet_get_lenient_details` returns its other attributes.
 #[unsafe(no_mangle)]
 pub extern "C" fn sockdiag_inet_get_details<'a>(
     payload: &'a [u8],

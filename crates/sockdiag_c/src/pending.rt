@@ -15,9 +15,8 @@ use netlink_packet_sock_diag::unix::UnixResponseView;
 /// first connection has index 0. Returns 1. Returns 0 if the reply is rejected, or has no
 /// connection at this index; then the inode is unchanged.
 ///
-/// Each call checks the whole reply. For a long list, find `UNIX_DIAG_ICONS` once by
-/// `sockdiag_next_attribute`: its value has an inode every four bytes, in the byte order of the
-/// host.
+/// Each call checks the whole reply. To read all connections, find `UNIX_DIAG_ICONS` once by
+/// `sockdiag_next_attribute`, and step through its value by `sockdiag_next_pending`.
 #[unsafe(no_mangle)]
 pub extern "C" fn sockdiag_unix_get_pending(payload: &[u8], index: usize, inode: &mut u32) -> u32
     // Either the reply is accepted, and the inode at the index is stored, if there is one. Or it is
