@@ -44,6 +44,7 @@ def compile_c(compiler):
         ("c++", "c++11", "tests/api/c_lenient.c"),
         ("c", "c99", "tests/api/cost.c"),
         ("c", "c99", "tests/api/fuzz_c.c"),
+        ("c", "c99", "tests/api/print_lenient.c"),
         ("c", "c99", "tests/api/fake_kernel.c"),
         ("c", "c99", "examples/list_sockets.c"),
         ("c++", "c++11", "examples/list_sockets.c"),

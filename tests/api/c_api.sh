@@ -42,6 +42,10 @@ ${CC:-cc} "$@" -o "$work/empty" "$work/empty.c" 2>/dev/null || shift
 build fuzz_c "$top/tests/api/fuzz_c.c" "$@"
 "$work/fuzz_c" 20000 "$top/crates/sslist/stdin"
 
+# The lenient calls, compared with an independent reader.
+CFLAGS="$*" SOCKDIAG_LIB_DIR="$top/crates/sockdiag_c/out" \
+    "$top/tests/live/compare_lenient.sh" 20000
+
 # The example with answers that a kernel seldom sends: an interrupted dump is requested again, a
 # rejected reply does not end a dump, and a rejected attribute does not hide its socket, such as the
 # struct tcp_info of an old kernel.
@@ -79,6 +83,8 @@ if command -v pkg-config >/dev/null && command -v make >/dev/null; then
 else
     build list_sockets "$top/examples/list_sockets.c"
 fi
+# With the replies of old and new kernels, made by hand.
+LD_LIBRARY_PATH="$work/prefix/lib" "$top/tests/api/kernels.py" "$work/list_sockets"
 if LD_LIBRARY_PATH="$work/prefix/lib" "$work/list_sockets" >"$work/sockets" 2>"$work/errors"; then
     echo "c_api: list_sockets: $(wc -l <"$work/sockets") sockets, beginning with:"
     head -n 5 "$work/sockets"

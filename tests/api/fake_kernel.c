@@ -1,31 +1,54 @@
 /*
- * Calls of the C library for examples/list_sockets.c, with answers that a kernel seldom sends. The
- * linker takes these in place of those of the library. tests/api/c_api.sh compares the output.
+ * Calls of the C library for the example listers, with answers that a kernel seldom sends. Linked
+ * with a lister, or preloaded, they take the place of those of the C library.
  *
- * The first request is answered by a dump that is interrupted. The second one, which has to be the
- * same with another sequence number, is answered by the end of another dump, a reply that is too
- * short, a reply about a socket, and a reply with an attribute that is too short; then by the end
- * of the dump. The request for TCP sockets over IPv4 is answered by replies with struct tcp_info in
- * the sizes of several kernels. Each other request is answered by ENOENT. The state of the sockets
- * shows which states were requested.
+ * If the environment variable FAKE_KERNEL_REPLIES is the name of a file, requests are answered with
+ * its replies, by a datagram each. A line is a protocol, which is unix, tcp, udp or mptcp, a space,
+ * and the payload in hexadecimal digits. Other lines are comments. A dump has the replies with the
+ * protocol, the family and the states of the request. If no line has the protocol, the answer is
+ * EINVAL. tests/api/kernels.py runs listers in this way.
+ *
+ * Otherwise the first request is answered by a dump that is interrupted. The second one, which has
+ * to be the same with another sequence number, is answered by the end of another dump, a reply that
+ * is too short, a reply about a socket, and a reply with an attribute that is too short; then by
+ * the end of the dump. The request for TCP sockets over IPv4 is answered by replies with struct
+ * tcp_info in the sizes of several kernels. Each other request is answered by ENOENT. The state of
+ * the sockets shows which states were requested. tests/api/c_api.sh compares the output.
  */
+#define _DEFAULT_SOURCE /* For syscall. */
 #include "sockdiag.h"
 
 #include <errno.h>
 #include <linux/netlink.h>
 #include <netinet/in.h>
+#include <stdio.h>
+#include <stdlib.h>
 #include <string.h>
 #include <sys/socket.h>
+#include <sys/syscall.h>
 #include <unistd.h>
 
 #define OWN_PORT 77
+/* IPPROTO_MPTCP, which older headers of the C library lack. */
+#define PROTOCOL_MPTCP 262
+
+/* Maximum length of a reply in a file, in bytes. */
+#define MOST_REPLY 4096
 
 static uint8_t request[128], first_request[128];
-static int requests, datagrams;
+static int requests, datagrams, kernel = -1;
+/* The file of replies, or null; and whether it has replies of the requested protocol. */
+static FILE *replies;
+static int has_protocol;
 
 int socket(int family, int type, int protocol) {
+    const char *path = getenv("FAKE_KERNEL_REPLIES");
     (void)type;
-    return family == AF_NETLINK && protocol == NETLINK_SOCK_DIAG ? dup(1) : -1;
+    if (family != AF_NETLINK || protocol != NETLINK_SOCK_DIAG)
+        return -1;
+    if (path != NULL && (replies = fopen(path, "r")) == NULL)
+        return -1;
+    return kernel = dup(1);
 }
 
 int connect(int fd, const struct sockaddr *address, socklen_t length) {
@@ -47,6 +70,9 @@ ssize_t send(int fd, const void *bytes, size_t length, int flags) {
     memcpy(request, bytes, length < sizeof request ? length : sizeof request);
     requests++;
     datagrams = 0;
+    has_protocol = 0;
+    if (replies != NULL)
+        rewind(replies);
     if (requests == 1)
         memcpy(first_request, request, sizeof request);
     return (ssize_t)length;
@@ -87,6 +113,73 @@ static size_t put_tcp(uint8_t *bytes, uint32_t number) {
     return end;
 }
 
+/* Returns the name of the protocol of the request. A protocol above 255 is an attribute after the
+ * record, which starts at 72. */
+static const char *requested_protocol(void) {
+    uint32_t protocol = request[17];
+    if (request[16] == AF_UNIX)
+        return "unix";
+    if (request[0] >= 80 && request[74] == SOCKDIAG_INET_DIAG_REQ_PROTOCOL)
+        memcpy(&protocol, request + 76, sizeof protocol);
+    switch (protocol) {
+    case IPPROTO_TCP:
+        return "tcp";
+    case IPPROTO_UDP:
+        return "udp";
+    case PROTOCOL_MPTCP:
+        return "mptcp";
+    default:
+        return "";
+    }
+}
+
+/* Returns whether the reply has the family of the request and one of its states. */
+static int is_requested(const uint8_t *reply) {
+    const uint8_t state = reply[0] == AF_UNIX ? reply[2] : reply[1];
+    uint32_t states;
+    memcpy(&states, request + 20, sizeof states);
+    return reply[0] == request[16] && (states >> state & 1) != 0;
+}
+
+/* Stores the bytes of hexadecimal digits. Returns their number. */
+static size_t put_digits(uint8_t *bytes, const char *digits) {
+    size_t length = 0;
+    unsigned byte;
+    while (length < MOST_REPLY && sscanf(digits + 2 * length, "%2x", &byte) == 1)
+        bytes[length++] = (uint8_t)byte;
+    return length;
+}
+
+/* Stores the next reply of the file that the request selects. Returns its length, or 0 if there is
+ * none. */
+static size_t next_reply(uint8_t *reply) {
+    static char line[2 * MOST_REPLY + 16];
+    const char *protocol = requested_protocol();
+    const size_t length = strlen(protocol);
+    while (fgets(line, sizeof line, replies) != NULL) {
+        size_t got;
+        if (length == 0 || strncmp(line, protocol, length) != 0 || line[length] != ' ')
+            continue;
+        has_protocol = 1;
+        got = put_digits(reply, line + length + 1);
+        if (got > 2 && is_requested(reply))
+            return got;
+    }
+    return 0;
+}
+
+/* Writes the next datagram of an answer by the replies of the file. Returns its length. */
+static size_t put_from_file(uint8_t *bytes, uint32_t number) {
+    static const int32_t success = 0, failure = -EINVAL;
+    static uint8_t reply[MOST_REPLY];
+    const size_t length = next_reply(reply);
+    if (length > 0)
+        return put(bytes, SOCKDIAG_SOCK_DIAG_BY_FAMILY, NLM_F_MULTI, number, reply, length);
+    if (!has_protocol)
+        return put(bytes, NLMSG_ERROR, 0, number, &failure, 4);
+    return put(bytes, NLMSG_DONE, NLM_F_MULTI, number, &success, 4);
+}
+
 ssize_t recv(int fd, void *buffer, size_t capacity, int flags) {
     static const int32_t success = 0, failure = -ENOENT;
     const uint8_t state = request[21] == 4 ? SOCKDIAG_TCP_LISTEN : SOCKDIAG_TCP_CLOSE;
@@ -101,6 +194,8 @@ ssize_t recv(int fd, void *buffer, size_t capacity, int flags) {
     (void)capacity;
     (void)flags;
     memcpy(&number, request + 8, 4);
+    if (replies != NULL)
+        return (ssize_t)put_from_file(bytes, number);
     datagrams++;
     if (requests == 3 && request[16] == AF_INET && request[17] == IPPROTO_TCP)
         return (ssize_t)(datagrams == 1 ? put_tcp(bytes, number)
@@ -119,4 +214,13 @@ ssize_t recv(int fd, void *buffer, size_t capacity, int flags) {
     memcpy(short_memory + 16, memory, 8);
     end += put(bytes + end, SOCKDIAG_SOCK_DIAG_BY_FAMILY, NLM_F_MULTI, number, short_memory, 24);
     return (ssize_t)end;
+}
+
+/* The example lister in Rust uses read and write. */
+ssize_t read(int fd, void *buffer, size_t capacity) {
+    return fd == kernel ? recv(fd, buffer, capacity, 0) : syscall(SYS_read, fd, buffer, capacity);
+}
+
+ssize_t write(int fd, const void *bytes, size_t length) {
+    return fd == kernel ? send(fd, bytes, length, 0) : syscall(SYS_write, fd, bytes, length);
 }

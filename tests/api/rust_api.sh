@@ -29,6 +29,7 @@ fi
 quiet cargo test --offline
 echo "rust_api: all tests pass"
 quiet cargo build --offline --example list_sockets
+"$top/tests/api/kernels.py" "${CARGO_TARGET_DIR:-target}/debug/examples/list_sockets"
 if cargo run --offline --quiet --example list_sockets >"$work/sockets" 2>"$work/errors"; then
     echo "rust_api: list_sockets: $(wc -l <"$work/sockets") sockets, beginning with:"
     head -n 5 "$work/sockets"

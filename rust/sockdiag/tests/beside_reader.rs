@@ -1,0 +1,186 @@
+//! Compares lenient replies with the answers of an independent reader, if `SOCKDIAG_REPLIES` and
+//! `SOCKDIAG_ANSWERS` are the paths of its replies and answers. In the sources, the script
+//! `compare_lenient.sh` of `tests/live` makes both files and runs this test. `lenient_reader.py`
+//! next to it describes the lines.
+
+mod common;
+
+use common::bytes_of;
+use sockdiag::inet::{InetResponseHeader, LenientInetReply, Timer};
+use sockdiag::unix::{LenientUnixReply, UnixDiagName};
+use sockdiag::{DecodeError, RejectedAttribute};
+use std::collections::BTreeMap;
+use std::net::IpAddr;
+
+fn digits(bytes: &[u8]) -> String {
+    bytes.iter().map(|byte| format!("{byte:02x}")).collect()
+}
+
+fn number(value: Option<impl Into<u64>>) -> String {
+    value.map_or("-".into(), |number| number.into().to_string())
+}
+
+fn text(kind: &str, bytes: &[u8]) -> String {
+    format!("{kind}:{}", digits(bytes))
+}
+
+/// Returns the words about the rejected attributes: the code of the first error, of the framing
+/// error, and of the first error of each kind.
+fn rejections<'v>(rejected: impl Iterator<Item = RejectedAttribute<'v>>) -> String {
+    let (mut first, mut framing, mut errors) = (0, 0, BTreeMap::new());
+    for it in rejected {
+        let code = it.error.code();
+        if first == 0 {
+            first = code;
+        }
+        match it.kind {
+            Some(kind) => {
+                errors.entry(kind).or_insert(code);
+            }
+            None => framing = code,
+        }
+    }
+    let errors: Vec<_> = errors
+        .iter()
+        .map(|(kind, code)| format!("{kind}:{code}"))
+        .collect();
+    let errors = if errors.is_empty() {
+        "-".into()
+    } else {
+        errors.join(",")
+    };
+    format!("first={first} framing={framing} errors={errors}")
+}
+
+fn unix_answer(payload: &[u8]) -> Result<String, DecodeError> {
+    let it = LenientUnixReply::parse(payload)?;
+    let name = match it.name() {
+        Some(UnixDiagName::Pathname(path)) => text("text", path),
+        Some(UnixDiagName::Abstract(name)) => text("abstract", name),
+        None => "-".into(),
+    };
+    let file = it.file();
+    Ok([
+        format!("kind={} state={}", it.header.kind, it.header.state),
+        format!(
+            "inode={} cookie={}",
+            it.header.inode,
+            digits(&it.header.cookie)
+        ),
+        format!("name={name}"),
+        format!("file_inode={}", number(file.map(|file| file.inode))),
+        format!("file_device={}", number(file.map(|file| file.device))),
+        format!("peer={}", number(it.peer())),
+        // A getter returns a queue length only of a socket that listens, or only of another one.
+        format!(
+            "recv_queue={}",
+            number(
+                it.number_of_pending_connection()
+                    .or(it.receive_queue_size())
+            )
+        ),
+        format!(
+            "send_queue={}",
+            number(
+                it.max_number_of_pending_connection()
+                    .or(it.send_queue_size())
+            )
+        ),
+        format!("receive_buffer={}", number(it.receive_buffer_size())),
+        format!("send_buffer={}", number(it.max_datagram_size())),
+        format!("queued={}", number(it.memory_used_for_outgoing_data())),
+        format!("shutdown={}", number(it.shutdown_state())),
+        rejections(it.rejected()),
+    ]
+    .join(" "))
+}
+
+/// Returns `idiag_timer`, `idiag_retrans` and `idiag_expires`; 0 for each that the timer lacks.
+fn timer_words(timer: Option<Timer>) -> String {
+    let (timer, retransmits, expires) = match timer {
+        Some(Timer::Retransmit(expires, count)) => (1, count, expires.as_millis()),
+        Some(Timer::KeepAlive(expires)) => (2, 0, expires.as_millis()),
+        Some(Timer::TimeWait) => (3, 0, 0),
+        Some(Timer::Probe(expires)) => (4, 0, expires.as_millis()),
+        None => (0, 0, 0),
+    };
+    format!("timer={timer} retransmits={retransmits} expires={expires}")
+}
+
+/// Returns the digits of the 16 bytes of an address field.
+fn address(address: IpAddr) -> String {
+    match address {
+        IpAddr::V4(it) => format!("{:0<32}", digits(&it.octets())),
+        IpAddr::V6(it) => digits(&it.octets()),
+    }
+}
+
+fn inet_header_words(it: &InetResponseHeader) -> String {
+    let id = &it.socket_id;
+    [
+        format!(
+            "family={} state={} {}",
+            it.family,
+            it.state,
+            timer_words(it.timer)
+        ),
+        format!(
+            "source_port={} destination_port={}",
+            id.source_port, id.destination_port
+        ),
+        format!("source_address={}", address(id.source_address)),
+        format!("destination_address={}", address(id.destination_address)),
+        format!(
+            "interface_id={} cookie={}",
+            id.interface_id,
+            digits(&id.cookie)
+        ),
+        format!("recv_queue={} send_queue={}", it.recv_queue, it.send_queue),
+        format!("uid={} inode={}", it.uid, it.inode),
+    ]
+    .join(" ")
+}
+
+fn inet_answer(payload: &[u8]) -> Result<String, DecodeError> {
+    let it = LenientInetReply::parse(payload)?;
+    let congestion = it.congestion().map(|name| text("text", name.as_bytes()));
+    Ok([
+        inet_header_words(&it.header),
+        format!("congestion={}", congestion.unwrap_or("-".into())),
+        format!("tos={} tclass={}", number(it.tos()), number(it.tc())),
+        format!("shutdown={}", number(it.shutdown_state())),
+        format!("protocol={}", number(it.protocol())),
+        format!("v6only={}", number(it.v6only())),
+        format!(
+            "mark={} class_id={}",
+            number(it.mark()),
+            number(it.class_id())
+        ),
+        rejections(it.rejected()),
+    ]
+    .join(" "))
+}
+
+/// Returns the answer to a line of the reader: `unix` or `inet`, and the payload.
+fn answer(line: &str) -> String {
+    let (name, payload) = line.split_once(' ').unwrap();
+    let payload = bytes_of(payload);
+    let answer = match name {
+        "unix" => unix_answer(&payload),
+        _ => inet_answer(&payload),
+    };
+    answer.unwrap_or_else(|error| format!("error {}", error.code()))
+}
+
+#[test]
+fn lenient_replies_are_those_of_an_independent_reader() {
+    let read = |name| std::env::var(name).map(|path| std::fs::read_to_string(path).unwrap());
+    let (Ok(replies), Ok(answers)) = (read("SOCKDIAG_REPLIES"), read("SOCKDIAG_ANSWERS")) else {
+        println!("skipped: no replies to compare");
+        return;
+    };
+    assert_eq!(replies.lines().count(), answers.lines().count());
+    for (line, expected) in replies.lines().zip(answers.lines()) {
+        assert_eq!(answer(line), expected, "{line}");
+    }
+}

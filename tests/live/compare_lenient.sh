@@ -1,0 +1,52 @@
+#!/bin/sh
+# compare_lenient.sh [COUNT [SEED]]: compares what the lenient calls of the C library return with
+# what lenient_reader.py reads from the same replies: COUNT replies that it makes (100000 by
+# default), and every prefix of each stored reply. Prints one line with the numbers of replies, and
+# the first lines that differ, if any.
+#
+# The library is libsockdiag.a or libsockdiag_c.a of the folder SOCKDIAG_LIB_DIR, or the one that
+# crates/sockdiag_c has built. CFLAGS are flags for the compiler, -fsanitize=address,undefined by
+# default; CC is the compiler.
+set -eu
+count=${1:-100000} seed=${2:-1}
+top=$(CDPATH='' cd -- "$(dirname -- "$0")/../.." && pwd)
+folder=$(CDPATH='' cd -- "${SOCKDIAG_LIB_DIR:-$top/crates/sockdiag_c/out}" && pwd)
+library=$folder/libsockdiag.a
+[ -f "$library" ] || library=$folder/libsockdiag_c.a
+[ -f "$library" ] || { echo "compare_lenient: no library in $folder" >&2; exit 1; }
+work=$(mktemp -d)
+trap 'rm -rf "$work"' EXIT
+trap 'exit 130' INT TERM HUP
+
+# CFLAGS are several words.
+# shellcheck disable=SC2086
+${CC:-cc} -std=c99 -g -O1 -Wall -Wextra -Wpedantic -Werror \
+    ${CFLAGS--fsanitize=address,undefined -fno-sanitize-recover=all} -I"$top/include" \
+    -o "$work/print_lenient" "$top/tests/api/print_lenient.c" "$library"
+
+reader() {
+    python3 "$top/tests/live/lenient_reader.py" "$@"
+}
+
+reader cuts >"$work/replies"
+cuts=$(wc -l <"$work/replies")
+reader make "$count" "$seed" >>"$work/replies"
+reader read <"$work/replies" >"$work/expected"
+"$work/print_lenient" <"$work/replies" >"$work/found"
+if ! cmp -s "$work/expected" "$work/found"; then
+    echo "compare_lenient: the reader's lines (<) and those of the library (>) differ, seed $seed:"
+    diff "$work/expected" "$work/found" | head -n 20
+    exit 1
+fi
+rejected=$(grep -c '^error ' "$work/found" || true)
+whole=$(grep -c ' first=0 ' "$work/found" || true)
+echo "compare_lenient: $count replies with seed $seed and $cuts prefixes of stored ones," \
+    "all equal: $whole accepted, $rejected without a header," \
+    "$((count + cuts - whole - rejected)) with rejected attributes"
+
+command -v cargo >/dev/null || exit 0
+cd "$top/rust/sockdiag"
+export SOCKDIAG_LIB_DIR="$folder" SOCKDIAG_REPLIES="$work/replies"
+SOCKDIAG_ANSWERS="$work/expected" cargo test --offline --quiet --test beside_reader >"$work/log" \
+    2>&1 || { tail -n 20 "$work/log"; exit 1; }
+echo "compare_lenient: the same with rust/sockdiag"

@@ -1,0 +1,363 @@
+#!/usr/bin/env python3
+"""An independent reader of replies of sock_diag(7), and replies to compare it with the library.
+
+    lenient_reader.py read              reads replies from standard input, a line each, and prints
+                                        a line for each: what a lenient reading returns
+    lenient_reader.py make COUNT SEED   prints COUNT replies: stored ones, built ones, and changed
+                                        copies of both
+    lenient_reader.py cuts              prints each stored reply, and each of its prefixes
+
+The line of a reply is `unix HEX` or `inet HEX`, with the payload of the netlink message. Its answer
+is `error CODE` if the header is rejected. Otherwise it has each field of the header, each detail,
+and the rejections: the codes of the first error and of the framing error, and the code of the first
+error for each kind below 32. A detail that the reply does not contain is `-`.
+
+The tables are written from sock_diag(7), linux/unix_diag.h, linux/inet_diag.h, linux/sock_diag.h
+and the pages in docs. The reader shares no code with the crates. compare_lenient.sh compares its
+answers with those of tests/api/print_lenient.c and of rust/sockdiag.
+"""
+
+import random
+import struct
+import sys
+from pathlib import Path
+
+TOP = Path(__file__).resolve().parent.parent.parent
+SOCK_DIAG_BY_FAMILY = 20
+NLM_F_REQUEST = 1
+# The two flags in the type field of an attribute, NLA_F_NESTED and NLA_F_NET_BYTEORDER.
+NLA_FLAGS = 0xC000
+REPORTED_KINDS = 32
+# Codes of decode errors. The codes of framing errors are 7 to 9.
+TOO_SHORT, UNSUPPORTED_FAMILY, HEADER_CUT, LENGTH_UNDER_4, LENGTH_PAST = 2, 3, 7, 8, 9
+WRONG_LENGTH, NO_MULTIPLE_OF_4, NOT_UTF8 = 10, 11, 12
+NAME_EMPTY, NAME_INNER_ZERO, NAME_WITHOUT_END = 13, 14, 15
+
+
+def exactly(length):
+    """Returns a function that returns the error of a value, which has to have this length."""
+    return lambda value: 0 if len(value) == length else WRONG_LENGTH
+
+
+def at_least(length):
+    """Returns a function that returns the error of a value, which may be longer."""
+    return lambda value: 0 if len(value) >= length else TOO_SHORT
+
+
+def list_error(value):
+    """Returns the error of a list of u32."""
+    return NO_MULTIPLE_OF_4 if len(value) % 4 else 0
+
+
+def name_error(value):
+    """Returns the error of a name: it has a NUL at its start, or else only at its end."""
+    if not value:
+        return NAME_EMPTY
+    zero = value.find(0)
+    if zero < 0:
+        return NAME_WITHOUT_END
+    return 0 if zero in (0, len(value) - 1) else NAME_INNER_ZERO
+
+
+def text_error(value):
+    """Returns the error of a text. A NUL at its end is valid UTF-8 too."""
+    try:
+        value.decode("utf-8")
+    except UnicodeDecodeError:
+        return NOT_UTF8
+    return 0
+
+
+def name_text(value):
+    """Returns the word for a valid name, without the NUL at its start or at its end."""
+    is_abstract = value[0] == 0
+    return f"abstract:{value[1:].hex()}" if is_abstract else f"text:{value[:-1].hex()}"
+
+
+def number(start, end):
+    """Returns a function that takes the little-endian number at these offsets of a value."""
+    return lambda value: int.from_bytes(value[start:end], "little")
+
+
+# The attributes that are parsed, by kind: the error of a value, and the details in a valid value.
+# The error is 0 if the value is valid.
+UNIX_ATTRIBUTES = {
+    0: (name_error, {"name": name_text}),
+    1: (at_least(8), {"file_inode": number(0, 4), "file_device": number(4, 8)}),
+    2: (exactly(4), {"peer": number(0, 4)}),
+    3: (list_error, {}),
+    4: (exactly(8), {"recv_queue": number(0, 4), "send_queue": number(4, 8)}),
+    # u32, indexed by SK_MEMINFO_RCVBUF 1, SK_MEMINFO_SNDBUF 3 and SK_MEMINFO_WMEM_QUEUED 5.
+    5: (at_least(36), {
+        "receive_buffer": number(4, 8), "send_buffer": number(12, 16), "queued": number(20, 24),
+    }),
+    6: (exactly(1), {"shutdown": number(0, 1)}),
+}
+INET_ATTRIBUTES = {
+    1: (at_least(16), {}),
+    2: (at_least(232), {}),
+    4: (text_error, {"congestion": lambda value: f"text:{value.removesuffix(bytes(1)).hex()}"}),
+    5: (exactly(1), {"tos": number(0, 1)}),
+    6: (exactly(1), {"tclass": number(0, 1)}),
+    7: (at_least(28), {}),
+    8: (exactly(1), {"shutdown": number(0, 1)}),
+    10: (exactly(1), {"protocol": number(0, 1)}),
+    11: (exactly(1), {"v6only": lambda value: int(value != bytes(1))}),
+    15: (exactly(4), {"mark": number(0, 4)}),
+    17: (exactly(4), {"class_id": number(0, 4)}),
+}
+
+
+def unix_header(payload):
+    """Returns the error of a struct unix_diag_msg, and its fields if the error is 0."""
+    if len(payload) < 16:
+        return TOO_SHORT, {}
+    _, kind, state, _, inode, cookie = struct.unpack_from("<4BI8s", payload)
+    return 0, {"kind": kind, "state": state, "inode": inode, "cookie": cookie.hex()}
+
+
+def inet_header(payload):
+    """Returns the error of a struct inet_diag_msg, and its fields if the error is 0."""
+    if len(payload) < 72:
+        return TOO_SHORT, {}
+    family, state, timer, retransmits = payload[:4]
+    if family not in (2, 10):
+        return UNSUPPORTED_FAMILY, {}
+    source_port, destination_port = struct.unpack_from(">HH", payload, 4)
+    width = 4 if family == 2 else 16
+    addresses = [payload[at : at + width].ljust(16, b"\0").hex() for at in (8, 24)]
+    interface_id, cookie, expires = struct.unpack_from("<I8sI", payload, 40)
+    recv_queue, send_queue, uid, inode = struct.unpack_from("<4I", payload, 56)
+    return 0, {
+        "family": family,
+        "state": state,
+        "timer": timer if timer <= 4 else 0,
+        "retransmits": retransmits if timer == 1 else 0,
+        "expires": expires if timer in (1, 2, 4) else 0,
+        "source_port": source_port,
+        "destination_port": destination_port,
+        "source_address": addresses[0],
+        "destination_address": addresses[1],
+        "interface_id": interface_id,
+        "cookie": cookie.hex(),
+        "recv_queue": recv_queue,
+        "send_queue": send_queue,
+        "uid": uid,
+        "inode": inode,
+    }
+
+
+# For each kind of reply: the size of its header, how it is parsed, and the attributes.
+REPLIES = {"unix": (16, unix_header, UNIX_ATTRIBUTES), "inet": (72, inet_header, INET_ATTRIBUTES)}
+
+
+def split(data, offset):
+    """Yields (kind, value) for each attribute from the offset on. A framing error is yielded last,
+    as (None, code)."""
+    while offset < len(data):
+        left = len(data) - offset
+        if left < 4:
+            yield None, HEADER_CUT
+            return
+        length, kind = struct.unpack_from("<HH", data, offset)
+        if length < 4 or length > left:
+            yield None, LENGTH_UNDER_4 if length < 4 else LENGTH_PAST
+            return
+        yield kind & ~NLA_FLAGS, data[offset + 4 : offset + length]
+        offset += (length + 3) // 4 * 4
+
+
+def answer(name, payload):
+    """Returns the answer to a reply."""
+    size, parse_header, attributes = REPLIES[name]
+    code, fields = parse_header(payload)
+    if code:
+        return f"error {code}"
+    # A field of the header and a detail may have the same name, so the details are separate.
+    details = {detail: "-" for _, parts in attributes.values() for detail in parts}
+    first, framing, errors = 0, 0, {}
+    for kind, value in split(payload, size):
+        if kind is None:
+            framing = value
+            first = first or value
+            continue
+        error_of, parts = attributes.get(kind, (lambda _: 0, {}))
+        code = error_of(value)
+        first = first or code
+        if code and kind < REPORTED_KINDS:
+            errors.setdefault(kind, code)
+        for detail, part in parts.items() if not code else []:
+            if details[detail] == "-":
+                details[detail] = part(value)
+    words = [f"{key}={value}" for part in (fields, details) for key, value in part.items()]
+    rejected = ",".join(f"{kind}:{code}" for kind, code in sorted(errors.items()))
+    return " ".join([*words, f"first={first}", f"framing={framing}", f"errors={rejected or '-'}"])
+
+
+def messages(datagram):
+    """Yields (type, flags, payload) for each message of a datagram, as far as it is well-formed."""
+    offset = 0
+    while offset + 16 <= len(datagram):
+        length, kind, flags = struct.unpack_from("<IHH", datagram, offset)
+        if length < 16:
+            return
+        yield kind, flags, datagram[offset + 16 : offset + length]
+        offset += (length + 3) // 4 * 4
+
+
+def captured_datagrams():
+    """Yields the datagrams of the stored capture: pcap, with a cooked header of 16 bytes."""
+    data = (TOP / "crates/sslist/stdin").read_bytes()
+    offset = 24
+    while offset < len(data):
+        (length,) = struct.unpack_from("<I", data, offset + 8)
+        yield data[offset + 32 : offset + 16 + length]
+        offset += 16 + length
+
+
+def named(payload):
+    """Returns the reply as (name, payload), or None if its family is of another kind of socket."""
+    name = {1: "unix", 2: "inet", 10: "inet"}.get(payload[0] if payload else 0)
+    return (name, payload) if name else None
+
+
+def stored_replies():
+    """Returns the replies that kernels sent, in the stored capture, and those of the stored lines
+    and of tests/api/kernels."""
+    found = [
+        named(payload) for datagram in captured_datagrams()
+        for kind, flags, payload in messages(datagram)
+        if kind == SOCK_DIAG_BY_FAMILY and not flags & NLM_F_REQUEST
+    ]
+    files = [TOP / "crates/sockdiag/stdin", *sorted((TOP / "tests/api/kernels").glob("*"))]
+    for line in "\n".join(file.read_text() for file in files).splitlines():
+        name, _, rest = line.partition(" ")
+        if name in ("unix", "unixview", "inet", "message", "tcp", "udp", "mptcp"):
+            try:
+                payload = bytes.fromhex(rest)
+            except ValueError:
+                continue
+            is_any = name not in ("unix", "unixview", "inet")
+            found.append(named(payload) if is_any else (name[:4], payload))
+    return sorted({it for it in found if it and len(it[1]) <= 2048})
+
+
+# Lengths of values that kernels send, or that are close to a limit, by kind of reply and attribute.
+# Each other attribute has up to 12 bytes.
+LENGTHS = {
+    ("unix", 1): (4, 7, 8, 9, 12),
+    ("unix", 2): (3, 4, 5),
+    ("unix", 3): (0, 4, 6, 8, 400),
+    ("unix", 4): (4, 7, 8, 9),
+    ("unix", 5): range(41),
+    ("inet", 1): (12, 15, 16, 17),
+    ("inet", 2): (48, 96, 104, 192, 224, 231, 232, 233, 240, 248, 280, 368),
+    ("inet", 7): (24, 27, 28, 32, 36, 40),
+}
+NAMES = (
+    b"", b"\0", b"\0\0", b"\0abstract", b"\0a\0b", b"\0\xff\xfe", b"/run/a\0", b"/run/a", b"x\0",
+    b"a\0b\0", b"/a\0b", b"/\xff\0", b"x" * 108, b"x" * 107 + b"\0",
+)
+TEXTS = (
+    b"", b"\0", b"cubic\0", b"cubic", b"bbr\0\0", b"re\0no\0", b"\xc3\xa9\0", b"\xc3\0", b"\xff\0",
+    b"\xed\xa0\x80", b"\xf4\x8f\xbf\xbf", b"\xf4\x90\x80\x80", b"\xc0\x80", b"\xe2\x82",
+    b"\xe0\x9f\xbf", b"\xe0\xa0\x80", b"\xf0\x8f\xbf\xbf", b"\xf0\x90\x80\x80",
+)
+
+
+def built_value(rng, name, kind):
+    """Returns a value for an attribute of this kind, which may be invalid."""
+    if (name, kind) == ("unix", 0):
+        return rng.choice(NAMES)
+    if (name, kind) == ("inet", 4):
+        return rng.choice(TEXTS)
+    default = (0, 1, 1, 1, 2, 4, 4, 4, 5, 8, 12)
+    value = rng.randbytes(rng.choice(LENGTHS.get((name, kind), default)))
+    return bytes(len(value)) if rng.random() < 0.1 else value
+
+
+def built_attribute(rng, name):
+    """Returns an attribute of a random kind, mostly a known one, with padding."""
+    others = rng.randrange(24), rng.choice((31, 32, 33, 0x3FFF))
+    kind = rng.choice((*others, *REPLIES[name][2]))
+    value = built_value(rng, name, kind)
+    flags = rng.choice((0, 0, 0, 0, 0x4000, 0x8000, NLA_FLAGS))
+    padding = rng.randbytes(-len(value) % 4)
+    return struct.pack("<HH", 4 + len(value), kind | flags) + value + padding
+
+
+def built_reply(rng):
+    """Returns a reply with a random header and up to eight attributes."""
+    name = rng.choice(("unix", "inet", "inet"))
+    header = bytearray(rng.randbytes(REPLIES[name][0]))
+    if name == "inet" and rng.random() < 0.97:
+        header[0], header[2] = rng.choice((2, 10)), rng.randrange(7)
+    elif name == "unix":
+        header[0] = 1
+    return name, bytes(header) + b"".join(
+        built_attribute(rng, name) for _ in range(rng.randrange(9))
+    )
+
+
+def changed(rng, name, payload):
+    """Returns a copy with one change: truncated, extended, with other bytes, with another length or
+    type field, or with one attribute more."""
+    size = REPLIES[name][0]
+    starts, offset = [], size
+    for kind, value in split(payload, size):
+        if kind is not None:
+            starts.append(offset)
+            offset += (len(value) + 7) // 4 * 4
+    copy, at = bytearray(payload), rng.choice(starts) if starts else None
+    choice = rng.randrange(6 if starts else 3)
+    if choice == 0:
+        return bytes(copy[: rng.randrange(len(copy) + 1)])
+    if choice == 1:
+        more = rng.randbytes(rng.randrange(9)), built_attribute(rng, name)
+        return bytes(copy) + rng.choice(more)
+    if choice == 2:
+        for _ in range(rng.randrange(1, 4) if copy else 0):
+            byte = rng.choice((0, 1, 4, 0x7F, 0x80, 0xFF, rng.randrange(256)))
+            copy[rng.randrange(len(copy))] = byte
+    elif choice == 3:
+        (length,) = struct.unpack_from("<H", copy, at)
+        length = rng.choice((length - 1, length + 1, length ^ 4, rng.randrange(12), 0xFFFF))
+        struct.pack_into("<H", copy, at, length & 0xFFFF)
+    elif choice == 4:
+        copy[at + 2] = rng.choice((copy[at + 2], *REPLIES[name][2]))
+        copy[at + 3] ^= rng.choice((0x40, 0x80, 0xC0))
+    else:
+        copy[at:at] = built_attribute(rng, name)
+    return bytes(copy)
+
+
+def made_replies(count, seed):
+    """Yields replies: a stored or a built one each, two of three with one to three changes."""
+    rng, stored = random.Random(seed), stored_replies()
+    for _ in range(count):
+        name, payload = rng.choice(stored) if rng.random() < 0.4 else built_reply(rng)
+        for _ in range(rng.choice((0, 1, 1, 1, 2, 3)) if rng.random() < 0.8 else 0):
+            payload = changed(rng, name, payload)
+        yield name, payload
+
+
+def main():
+    command, *words = sys.argv[1:] or ["help"]
+    if command == "read" and not words:
+        for line in sys.stdin:
+            name, _, digits = line.rstrip("\n").partition(" ")
+            print(answer(name, bytes.fromhex(digits)))
+        return
+    if command == "make" and len(words) == 2:
+        replies = made_replies(int(words[0]), int(words[1]))
+    elif command == "cuts" and not words:
+        replies = sorted({(name, it[:end]) for name, it in stored_replies()
+                          for end in range(len(it) + 1)})
+    else:
+        sys.exit("usage: lenient_reader.py read | make COUNT SEED | cuts")
+    for name, payload in replies:
+        print(name, payload.hex())
+
+
+if __name__ == "__main__":
+    main()
