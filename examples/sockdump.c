@@ -9,7 +9,7 @@
  * answers ENOENT or EINVAL. Such an answer is written only if KIND names the kind.
  *
  * Each kind is requested from NETLINK_SOCK_DIAG by a dump request, as sock_diag(7) shows, in all
- * states and with all attributes. The capture is in pcap format with link type 253
+ * states and with the attributes that sslist decodes. The capture is in pcap format with link type 253
  * (LINKTYPE_NETLINK), as tcpdump writes it for an nlmon device. The exit status is 0 if the whole
  * answers were written, 1 if not, and 2 for wrong arguments. The program is valid C99 and C++.
  */
@@ -113,14 +113,13 @@ static size_t fill_inet(struct request *request, const struct kind *kind) {
 static size_t fill_netlink(struct request *request, const struct kind *kind) {
     request->body.netlink.sdiag_family = kind->family;
     request->body.netlink.sdiag_protocol = NDIAG_PROTO_ALL;
-    request->body.netlink.ndiag_show = NDIAG_SHOW_MEMINFO | NDIAG_SHOW_GROUPS | NDIAG_SHOW_FLAGS;
+    request->body.netlink.ndiag_show = NDIAG_SHOW_MEMINFO | NDIAG_SHOW_GROUPS;
     return sizeof request->body.netlink;
 }
 
 static size_t fill_packet(struct request *request, const struct kind *kind) {
     request->body.packet.sdiag_family = kind->family;
-    request->body.packet.pdiag_show = PACKET_SHOW_INFO | PACKET_SHOW_RING_CFG | PACKET_SHOW_FANOUT
-                                    | PACKET_SHOW_MEMINFO;
+    request->body.packet.pdiag_show = PACKET_SHOW_INFO | PACKET_SHOW_MEMINFO;
     return sizeof request->body.packet;
 }
 
@@ -132,8 +131,7 @@ static size_t fill_vsock(struct request *request, const struct kind *kind) {
 
 static size_t fill_xdp(struct request *request, const struct kind *kind) {
     request->body.xdp.sdiag_family = kind->family;
-    request->body.xdp.xdiag_show = XDP_SHOW_INFO | XDP_SHOW_RING_CFG | XDP_SHOW_UMEM
-                                 | XDP_SHOW_MEMINFO | XDP_SHOW_STATS;
+    request->body.xdp.xdiag_show = XDP_SHOW_INFO | XDP_SHOW_MEMINFO;
     return sizeof request->body.xdp;
 }
 
