@@ -11,7 +11,8 @@
  * Each kind is requested from NETLINK_SOCK_DIAG by a dump request, as sock_diag(7) shows, in all
  * states and with the attributes that sslist decodes. The capture is in pcap format with link type
  * 253 (LINKTYPE_NETLINK), as tcpdump writes it for an nlmon device. The exit status is 0 if the
- * whole answers were written, 1 if not, and 2 for wrong arguments. The program is valid C99 and C++.
+ * answers were written to their end, 1 if not, and 2 for wrong arguments. The program is valid C99
+ * and C++.
  */
 #define _POSIX_C_SOURCE 200809L
 
