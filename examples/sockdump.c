@@ -1,17 +1,18 @@
 /*
- * sockdump [KIND ..]: asks the kernel for the sockets of this machine, and writes the requests and
- * the answers as a capture to standard output, for sslist:
+ * sockdump [KIND ..]: requests the sockets of this machine from the kernel, and writes the requests
+ * and the answers as a capture to standard output, for sslist:
  *
  *     sockdump | sslist
  *
  * It needs no privileges, no module and no library. With KIND, only sockets of these kinds are
- * requested: unix, tcp, udp, mptcp, raw, netlink, packet, vsock and xdp. If a kernel does not have
- * a kind, it answers ENOENT or EINVAL. Such an answer is written only if KIND names the kind.
+ * requested: unix, tcp, udp, mptcp, raw, netlink, packet, vsock and xdp. A kernel without a kind
+ * answers ENOENT or EINVAL. Such an answer is written only if KIND names the kind.
  *
  * Each kind is requested from NETLINK_SOCK_DIAG by a dump request, as sock_diag(7) shows, in all
- * states and with all attributes. The capture is in pcap format with link type 253
- * (LINKTYPE_NETLINK), as tcpdump writes it for an nlmon device. The exit status is 0 if the whole
- * answers were written, 1 if not, and 2 for wrong arguments. The program is valid C99 and C++.
+ * states and with the attributes that sslist decodes. The capture is in pcap format with link type
+ * 253 (LINKTYPE_NETLINK), as tcpdump writes it for an nlmon device. The exit status is 0 if the
+ * answers were written to their end, 1 if not, and 2 for wrong arguments. The program is valid C99
+ * and C++.
  */
 #define _POSIX_C_SOURCE 200809L
 
@@ -40,7 +41,7 @@
 /* Largest length of a packet that sslist reads, in bytes. */
 #define SNAPSHOT_LENGTH 262144
 
-/* Length of the cooked header in front of each datagram, in bytes. */
+/* Length of the cooked header before each datagram, in bytes. */
 #define COOKED_LENGTH 16
 
 /* A request for the sockets of one kind. */
@@ -113,14 +114,13 @@ static size_t fill_inet(struct request *request, const struct kind *kind) {
 static size_t fill_netlink(struct request *request, const struct kind *kind) {
     request->body.netlink.sdiag_family = kind->family;
     request->body.netlink.sdiag_protocol = NDIAG_PROTO_ALL;
-    request->body.netlink.ndiag_show = NDIAG_SHOW_MEMINFO | NDIAG_SHOW_GROUPS | NDIAG_SHOW_FLAGS;
+    request->body.netlink.ndiag_show = NDIAG_SHOW_MEMINFO | NDIAG_SHOW_GROUPS;
     return sizeof request->body.netlink;
 }
 
 static size_t fill_packet(struct request *request, const struct kind *kind) {
     request->body.packet.sdiag_family = kind->family;
-    request->body.packet.pdiag_show = PACKET_SHOW_INFO | PACKET_SHOW_RING_CFG | PACKET_SHOW_FANOUT
-                                    | PACKET_SHOW_MEMINFO;
+    request->body.packet.pdiag_show = PACKET_SHOW_INFO | PACKET_SHOW_MEMINFO;
     return sizeof request->body.packet;
 }
 
@@ -132,13 +132,12 @@ static size_t fill_vsock(struct request *request, const struct kind *kind) {
 
 static size_t fill_xdp(struct request *request, const struct kind *kind) {
     request->body.xdp.sdiag_family = kind->family;
-    request->body.xdp.xdiag_show = XDP_SHOW_INFO | XDP_SHOW_RING_CFG | XDP_SHOW_UMEM
-                                 | XDP_SHOW_MEMINFO | XDP_SHOW_STATS;
+    request->body.xdp.xdiag_show = XDP_SHOW_INFO | XDP_SHOW_MEMINFO;
     return sizeof request->body.xdp;
 }
 
-/* A reply about an IPv4 or IPv6 socket does not have the protocol. sslist takes it from the
- * request, and remembers 16 requests. */
+/* A reply about an IPv4 or IPv6 socket does not contain the protocol. sslist takes it from the
+ * request, which it finds among the last 16. */
 static const struct kind kinds[] = {
     {"unix", AF_UNIX, 0, fill_unix},
     {"tcp", AF_INET, IPPROTO_TCP, fill_inet},
@@ -157,7 +156,7 @@ static const struct kind kinds[] = {
 
 enum { KINDS = sizeof kinds / sizeof kinds[0] };
 
-/* Writes the header of the capture. */
+/* Writes the header of the capture, in the byte order of this machine. */
 static void write_file_header(void) {
     const uint32_t magic = 0xa1b2c3d4;
     const uint16_t version[2] = {2, 4};
@@ -222,7 +221,7 @@ static const struct nlmsghdr *find_end(const struct datagram *it) {
     return NULL;
 }
 
-/* Returns whether a datagram is the answer of a kernel that does not have the kind. */
+/* Returns whether a datagram is the answer of a kernel without the kind. */
 static int is_unknown_kind(const struct datagram *it) {
     const struct nlmsghdr *message = &it->data.aligned;
     int32_t error = 0;
@@ -271,10 +270,10 @@ static int open_kernel(void) {
 
 static int print_usage(FILE *stream, int status) {
     fputs("usage: sockdump [KIND ..]\n\n"
-          "Asks the kernel for the sockets of this machine, and writes its answers as a\n"
-          "capture to standard output: sockdump | sslist\n\n"
-          "KIND is unix, tcp, udp, mptcp, raw, netlink, packet, vsock or xdp; all without\n"
-          "arguments.\n",
+          "Requests the sockets of this machine from the kernel, and writes the answers as\n"
+          "a capture to standard output: sockdump | sslist\n\n"
+          "KIND is unix, tcp, udp, mptcp, raw, netlink, packet, vsock or xdp. Without KIND\n"
+          "all are requested.\n",
           stream);
     return status;
 }

@@ -132,7 +132,7 @@ def test_early_check(program):
     script = CRATES.parent / "tools/arguments"
     for arguments in (
         ["-q"], ["--nope"], ["-tq", "--help"], ["--utf8=1"], ["/nowhere", "-q"], ["/nowhere"],
-        ["/", "/nowhere"], [""], [f"{CAPTURE}/x"], ["-tun", "/nowhere"], ["--family=nope"],
+        ["/", "/nowhere"], [""], [f"{CAPTURE}/x"], ["-tun", "/nowhere"],
     ):
         status, _, errors = run(program, arguments, b"")
         assert status in (1, 2), (arguments, status)

@@ -258,9 +258,10 @@ def compare(option, folder, recorder):
     return wrong + missing + status
 
 
-def is_own(columns):
-    """Returns whether a socket is one by which a program asks the kernel (NETLINK_SOCK_DIAG)."""
-    return columns["netid"] == "nl" and columns["local"].startswith(("4:", "tcpdiag:"))
+def is_of_requests(netid, local):
+    """Returns whether a socket is of NETLINK_SOCK_DIAG, as those by which ss and sockdump request
+    sockets."""
+    return netid == "nl" and local.startswith("4:")
 
 
 def compare_dump(option, capture):
@@ -272,7 +273,7 @@ def compare_dump(option, capture):
     wrong = found = 0
     for line in theirs:
         key, columns, _ = shown(line)
-        if columns.get("netid") == "nl" and key[0].startswith("4:"):
+        if is_of_requests(columns.get("netid"), key[0]):
             continue
         ours = sockets.get(key)
         values = {name: ours[0][name] for name in columns} if ours else None
@@ -282,9 +283,10 @@ def compare_dump(option, capture):
             print(f"sockdump {option}: {line}: sslist prints {values}")
         if ours:
             ours.pop(0)
-    extra = [it for them in sockets.values() for it in them if not is_own(it)]
-    print(f"sockdump {option}: {found} sockets, {wrong} differ, status {status}", errors,
-          *(f"not listed by ss: {it}" for it in extra), sep="\n  ")
+    extra = [it for them in sockets.values() for it in them]
+    extra = [it for it in extra if not is_of_requests(it["netid"], it["local"])]
+    print(f"sockdump {option}: {found} sockets, {wrong} differ, {len(extra)} are not listed by ss,"
+          f" status {status}", *errors.splitlines(), *extra, sep="\n  ")
     return wrong + len(extra) + status
 
 
