@@ -25,9 +25,9 @@
  * depends on its contents. What the call does not set is unchanged. That is:
  * - all of it, if a check, a sockdiag_.._get_details or a sockdiag_.._get_lenient_details returns
  *   the code of an error; if a getter of a single value, which is sockdiag_unix_get_pending,
- *   sockdiag_get_error_number and each call of the section "values of single attributes", returns
- *   0; if a sockdiag_.._explain or sockdiag_.._explain_attribute returns 0; and if an iteration
- *   returns 0 or the code of a framing error;
+ *   sockdiag_get_error_number, sockdiag_find_error_attributes and each call of the section "values
+ *   of single attributes", returns 0; if a sockdiag_.._explain or sockdiag_.._explain_attribute
+ *   returns 0; and if an iteration returns 0 or the code of a framing error;
  * - if sockdiag_check_message returns 0, the header of the other kind;
  * - if sockdiag_packet_get_details or sockdiag_xdp_get_details returns 0, each record whose field
  *   has_.. is 0.
@@ -301,6 +301,64 @@ enum sockdiag_inet_attribute {
                                                 control group. */
     SOCKDIAG_INET_DIAG_SOCKOPT = 22          /* Kind of the attribute with the options of the
                                                 socket. */
+};
+
+/* Kinds of attributes in INET_DIAG_ULP_INFO, whose value is iterated like the reply. */
+enum sockdiag_ulp_attribute {
+    SOCKDIAG_INET_ULP_INFO_UNSPEC = 0, /* No attribute. */
+    SOCKDIAG_INET_ULP_INFO_NAME = 1,   /* The name of the upper layer protocol, with a
+                                          terminating NUL. */
+    SOCKDIAG_INET_ULP_INFO_TLS = 2,    /* Information about TLS in the kernel: nested attributes
+                                          TLS_INFO_... */
+    SOCKDIAG_INET_ULP_INFO_MPTCP = 3   /* Information about a subflow of MPTCP: nested attributes
+                                          MPTCP_SUBFLOW_ATTR_... */
+};
+
+/* Kinds of attributes in INET_ULP_INFO_TLS. */
+enum sockdiag_tls_attribute {
+    SOCKDIAG_TLS_INFO_UNSPEC = 0,   /* No attribute. */
+    SOCKDIAG_TLS_INFO_VERSION = 1,  /* The TLS version. */
+    SOCKDIAG_TLS_INFO_CIPHER = 2,   /* The cipher: one of TLS_CIPHER_... */
+    SOCKDIAG_TLS_INFO_TXCONF = 3,   /* How sent data is encrypted: one of TLS_CONF_... */
+    SOCKDIAG_TLS_INFO_RXCONF = 4,   /* How received data is decrypted: one of TLS_CONF_... */
+    SOCKDIAG_TLS_INFO_ZC_RO_TX = 5, /* Present if files are sent without a copy. */
+    SOCKDIAG_TLS_INFO_RX_NO_PAD = 6 /* Present if received records are expected to have no
+                                       padding. */
+};
+
+/* Kinds of attributes in INET_ULP_INFO_MPTCP. */
+enum sockdiag_subflow_attribute {
+    SOCKDIAG_MPTCP_SUBFLOW_ATTR_UNSPEC = 0,       /* No attribute. */
+    SOCKDIAG_MPTCP_SUBFLOW_ATTR_TOKEN_REM = 1,    /* Token of the connection at the remote end. */
+    SOCKDIAG_MPTCP_SUBFLOW_ATTR_TOKEN_LOC = 2,    /* Token of the connection at the local end. */
+    SOCKDIAG_MPTCP_SUBFLOW_ATTR_RELWRITE_SEQ = 3, /* Relative sequence number of the data written
+                                                     to the subflow. */
+    SOCKDIAG_MPTCP_SUBFLOW_ATTR_MAP_SEQ = 4,      /* Sequence number in the connection at which
+                                                     the mapped data starts. */
+    SOCKDIAG_MPTCP_SUBFLOW_ATTR_MAP_SFSEQ = 5,    /* Sequence number in the subflow at which the
+                                                     mapped data starts. */
+    SOCKDIAG_MPTCP_SUBFLOW_ATTR_SSN_OFFSET = 6,   /* First sequence number of the subflow. */
+    SOCKDIAG_MPTCP_SUBFLOW_ATTR_MAP_DATALEN = 7,  /* Length of the mapped data, in bytes. */
+    SOCKDIAG_MPTCP_SUBFLOW_ATTR_FLAGS = 8,        /* Flags of the subflow: bits
+                                                     MPTCP_SUBFLOW_FLAG_... */
+    SOCKDIAG_MPTCP_SUBFLOW_ATTR_ID_REM = 9,       /* Id of the remote address. */
+    SOCKDIAG_MPTCP_SUBFLOW_ATTR_ID_LOC = 10,      /* Id of the local address. */
+    SOCKDIAG_MPTCP_SUBFLOW_ATTR_PAD = 11          /* Padding. */
+};
+
+/* Kinds of attributes in an extended acknowledgement. */
+enum sockdiag_error_attribute {
+    SOCKDIAG_NLMSGERR_ATTR_UNUSED = 0,    /* No attribute. */
+    SOCKDIAG_NLMSGERR_ATTR_MSG = 1,       /* Error message, a text with a terminating NUL. */
+    SOCKDIAG_NLMSGERR_ATTR_OFFS = 2,      /* Offset of the invalid attribute, from the first byte
+                                             of the request's header. */
+    SOCKDIAG_NLMSGERR_ATTR_COOKIE = 3,    /* Cookie whose format depends on the kernel's
+                                             subsystem. */
+    SOCKDIAG_NLMSGERR_ATTR_POLICY = 4,    /* Policy of the rejected attribute: nested attributes. */
+    SOCKDIAG_NLMSGERR_ATTR_MISS_TYPE = 5, /* Kind of a required attribute that is missing. */
+    SOCKDIAG_NLMSGERR_ATTR_MISS_NEST = 6  /* Offset of the nest in which the attribute is
+                                             missing, from the first byte of the request's
+                                             header. */
 };
 
 /* Kinds of attributes in requests for IPv4 and IPv6 sockets. */
@@ -1366,9 +1424,25 @@ uint32_t sockdiag_next_any_message(const uint8_t *datagram, size_t length,
  * An NLMSG_ERROR with 0 is an acknowledgement. A dump that failed also ends with NLMSG_DONE, so
  * look at the number there too. A kernel that lacks the protocol answers a request for it with
  * -ENOENT or -EINVAL. What follows the number is not returned: the request, and for a socket with
- * NETLINK_EXT_ACK more about the error.
+ * NETLINK_EXT_ACK more about the error, which sockdiag_find_error_attributes finds.
  */
 uint32_t sockdiag_get_error_number(const uint8_t *payload, size_t length, int32_t *number);
+
+/*
+ * Sets the cursor to the attributes NLMSGERR_ATTR_.. of an extended acknowledgement, which say more
+ * about an error (netlink(7)). The bytes are the payload of an NLMSG_ERROR or NLMSG_DONE, with the
+ * message type and the flags of its header. Iterate over the attributes by sockdiag_next_attribute,
+ * with the same bytes and this cursor. The kernel sends them to a socket with the option
+ * NETLINK_EXT_ACK.
+ *
+ * Returns 1; if there are no attributes, since the flags lack NLM_F_ACK_TLVS, nothing is left after
+ * the cursor. Returns 0, and then the cursor is unchanged, if the message has another type; if an
+ * NLMSG_DONE has fewer than 4 bytes; or if an NLMSG_ERROR has fewer than 20 bytes, or does not
+ * contain the whole request although it should.
+ */
+uint32_t sockdiag_find_error_attributes(const uint8_t *payload, size_t length,
+                                        uint16_t message_type, uint16_t flags,
+                                        struct sockdiag_cursor *cursor);
 
 /*
  * Returns 1 if the message answers a request, else 0: it has the sequence number of the request,

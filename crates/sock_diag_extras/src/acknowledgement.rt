@@ -125,6 +125,13 @@ impl<'a> AckView<'a> {
         })
     }
 
+    /// Returns the bytes of the attributes `NLMSGERR_ATTR_..`. Their framing is not checked.
+    pub fn attribute_bytes(&self) -> &'a [u8]
+        ensures { result.now ≡ ack_attributes self.now }
+    {
+        self.attributes
+    }
+
     /// Returns the attributes `NLMSGERR_ATTR_..`, or their first framing error.
     pub fn attributes(&self) -> Result<AckAttributes<'a>, DecodeError>
         // `decode_attribute []`: no attribute type is known, so every value is accepted, and only

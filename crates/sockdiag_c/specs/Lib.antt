@@ -9,6 +9,7 @@ pub mod InetDetails
 pub mod LenientDetails
 pub mod AttributeValues
 pub mod ErrorDetails
+pub mod ErrorAttributes
 pub mod TcpInfo
 pub mod FamilyValues
 pub mod NetlinkDetails

@@ -7,6 +7,7 @@
 mod attribute_values;
 mod check;
 mod details;
+mod error_attributes;
 mod error_details;
 mod family_requests;
 mod family_values;

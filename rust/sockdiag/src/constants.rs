@@ -362,6 +362,101 @@ pub const INET_DIAG_CGROUP_ID: u16 = 21;
 /// See `SocketOptions`.
 pub const INET_DIAG_SOCKOPT: u16 = 22;
 
+// ---- Attribute kinds in `INET_DIAG_ULP_INFO`, and in its attributes.
+
+/// No attribute.
+pub const INET_ULP_INFO_UNSPEC: u16 = 0;
+
+/// The name of the upper layer protocol, with a terminating NUL.
+pub const INET_ULP_INFO_NAME: u16 = 1;
+
+/// Information about TLS in the kernel: nested attributes `TLS_INFO_..`.
+pub const INET_ULP_INFO_TLS: u16 = 2;
+
+/// Information about a subflow of MPTCP: nested attributes `MPTCP_SUBFLOW_ATTR_..`.
+pub const INET_ULP_INFO_MPTCP: u16 = 3;
+
+/// No attribute.
+pub const TLS_INFO_UNSPEC: u16 = 0;
+
+/// The TLS version.
+pub const TLS_INFO_VERSION: u16 = 1;
+
+/// The cipher: one of `TLS_CIPHER_..`.
+pub const TLS_INFO_CIPHER: u16 = 2;
+
+/// How sent data is encrypted: one of `TLS_CONF_..`.
+pub const TLS_INFO_TXCONF: u16 = 3;
+
+/// How received data is decrypted: one of `TLS_CONF_..`.
+pub const TLS_INFO_RXCONF: u16 = 4;
+
+/// Present if files are sent without a copy.
+pub const TLS_INFO_ZC_RO_TX: u16 = 5;
+
+/// Present if received records are expected to have no padding.
+pub const TLS_INFO_RX_NO_PAD: u16 = 6;
+
+/// No attribute.
+pub const MPTCP_SUBFLOW_ATTR_UNSPEC: u16 = 0;
+
+/// Token of the connection at the remote end.
+pub const MPTCP_SUBFLOW_ATTR_TOKEN_REM: u16 = 1;
+
+/// Token of the connection at the local end.
+pub const MPTCP_SUBFLOW_ATTR_TOKEN_LOC: u16 = 2;
+
+/// Relative sequence number of the data written to the subflow.
+pub const MPTCP_SUBFLOW_ATTR_RELWRITE_SEQ: u16 = 3;
+
+/// Sequence number in the connection at which the mapped data starts.
+pub const MPTCP_SUBFLOW_ATTR_MAP_SEQ: u16 = 4;
+
+/// Sequence number in the subflow at which the mapped data starts.
+pub const MPTCP_SUBFLOW_ATTR_MAP_SFSEQ: u16 = 5;
+
+/// First sequence number of the subflow.
+pub const MPTCP_SUBFLOW_ATTR_SSN_OFFSET: u16 = 6;
+
+/// Length of the mapped data, in bytes.
+pub const MPTCP_SUBFLOW_ATTR_MAP_DATALEN: u16 = 7;
+
+/// Flags of the subflow: bits `MPTCP_SUBFLOW_FLAG_..`.
+pub const MPTCP_SUBFLOW_ATTR_FLAGS: u16 = 8;
+
+/// Id of the remote address.
+pub const MPTCP_SUBFLOW_ATTR_ID_REM: u16 = 9;
+
+/// Id of the local address.
+pub const MPTCP_SUBFLOW_ATTR_ID_LOC: u16 = 10;
+
+/// Padding.
+pub const MPTCP_SUBFLOW_ATTR_PAD: u16 = 11;
+
+// ---- Attribute kinds of an extended acknowledgement.
+
+/// No attribute.
+pub const NLMSGERR_ATTR_UNUSED: u16 = 0;
+
+/// Error message, a text with a terminating NUL.
+pub const NLMSGERR_ATTR_MSG: u16 = 1;
+
+/// Offset of the invalid attribute, from the first byte of the request's header.
+pub const NLMSGERR_ATTR_OFFS: u16 = 2;
+
+/// Cookie whose format depends on the kernel's subsystem.
+pub const NLMSGERR_ATTR_COOKIE: u16 = 3;
+
+/// Policy of the rejected attribute: nested attributes.
+pub const NLMSGERR_ATTR_POLICY: u16 = 4;
+
+/// Kind of a required attribute that is missing.
+pub const NLMSGERR_ATTR_MISS_TYPE: u16 = 5;
+
+/// Offset of the nest in which the attribute is missing, from the first byte of the request's
+/// header.
+pub const NLMSGERR_ATTR_MISS_NEST: u16 = 6;
+
 // ---- Socket states.
 
 /// The connection is open.

@@ -930,6 +930,13 @@ extern "C" {
         length: usize,
         details: *mut InetDetails<'a>,
     ) -> u32;
+    pub(crate) fn sockdiag_find_error_attributes(
+        payload: *const u8,
+        length: usize,
+        message_type: u16,
+        flags: u16,
+        cursor: *mut Cursor,
+    ) -> u32;
     pub(crate) fn sockdiag_unix_explain(
         payload: *const u8,
         length: usize,
