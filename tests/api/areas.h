@@ -6,13 +6,10 @@
 #ifndef SOCKDIAG_TESTS_AREAS_H
 #define SOCKDIAG_TESTS_AREAS_H
 
-#include <stddef.h>
-#include <stdint.h>
+#include "check.h"
+
 #include <sys/mman.h>
 #include <unistd.h>
-
-/* What a struct or a buffer contains before a call. */
-#define UNTOUCHED 0xaa
 
 /* Returns an area of this size, a multiple of the page size, between two pages that cannot be
  * accessed; or NULL if there is no memory. */
@@ -24,14 +21,6 @@ static inline uint8_t *new_area(size_t size) {
     if (start == MAP_FAILED || mprotect(area, size, PROT_READ | PROT_WRITE) != 0)
         return NULL;
     return area;
-}
-
-static inline int is_untouched(const void *found, size_t length) {
-    const uint8_t *bytes = (const uint8_t *)found;
-    size_t index = 0;
-    while (index < length && bytes[index] == UNTOUCHED)
-        index++;
-    return index == length;
 }
 
 #endif
