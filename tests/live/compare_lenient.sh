@@ -1,7 +1,7 @@
 #!/bin/sh
 # compare_lenient.sh [COUNT [SEED]]: compares what the lenient calls of the C library return, and
-# the errors that it explains, with what lenient_reader.py reads from the same replies: COUNT replies
-# that it makes (100000 by default), and every prefix of each stored reply. Then compares
+# the errors with their fields, with what lenient_reader.py reads from the same replies: COUNT
+# replies that it makes (100000 by default), and every prefix of each stored reply. Then compares
 # rust/sockdiag with the reader, if cargo is installed. Prints a line for each comparison, or the
 # first lines that differ.
 #

@@ -40,13 +40,14 @@ INET_HEADER, UNIX_HEADER, LEGACY_MEMORY, MEMORY, TCP_INFO, VFS, UNIX_MEMORY = 3,
 
 
 class Error(NamedTuple):
-    """A decode error, with the fields of struct sockdiag_error_details in their order."""
+    """A decode error, with the fields of struct sockdiag_error_details in their order. The kind is
+    a number, or `-` if the error has none."""
 
     code: int
     record: int = 0
     family: int = 0
     message_type: int = 0
-    kind: int | str = "-"
+    kind: object = "-"
     got: int = 0
     need: int = 0
     length: int = 0
