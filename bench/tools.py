@@ -97,9 +97,10 @@ def replies(capture):
     return found
 
 
-def program(name):
-    """Returns the path of a program of this repository, and builds it first if necessary."""
-    run([str(TOP / name)])
+def program(name, given=os.devnull):
+    """Returns the path of a program of this repository. Starts it with a valid input, which proves
+    and builds it first if necessary."""
+    run([str(TOP / name)], given)
     return str(TOP / "crates" / name / "out" / name)
 
 
@@ -130,7 +131,7 @@ def compare_libmnl():
 
 
 def compare_ss():
-    sslist = program("sslist")
+    sslist = program("sslist", recorded()[0])
     replay = str(MADE / "replay.so")
     quietly("cc", "-O2", "-shared", "-fPIC", "-o", replay, str(BENCH / "replay.c"))
     print_table(("sockets", "sslist of ss", "instructions a socket", "CPU time, µs a socket"),
