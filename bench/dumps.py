@@ -5,8 +5,7 @@
 
 Writes FOLDER/unix.pcap and FOLDER/tcp.pcap, which sslist reads. There are PAIRS (default 1,000)
 connected pairs of each kind: UNIX sockets without a name, UNIX sockets of which one has a path,
-TCP over IPv4, TCP over IPv6. Requests have all attributes that a kernel sends on request. Needs no
-root.
+TCP over IPv4, TCP over IPv6. The dumps have all attributes that sock_diag(7) names. Needs no root.
 """
 import contextlib
 import resource

@@ -2,10 +2,11 @@
  * libmnl CAPTURE            prints the least time per reply of each subject
  * libmnl CAPTURE SUBJECT    parses the dumps once, by the function pass_SUBJECT
  *
- * CAPTURE is a pcap file of netlink messages that bench/dumps.py wrote. Three subjects are calls of
- * the C library. The fourth is a program over libmnl that fills the same structs, and checks the
- * lengths of the same attributes. Sums of the fields are compared. bench/tools.py builds and runs
- * this program.
+ * CAPTURE is a pcap file of netlink messages that bench/dumps.py wrote. The subjects check, strict
+ * and lenient are calls of the C library. The subject libmnl is a program over libmnl that fills
+ * the same structs, and checks the lengths of the same attributes. The subject macros fills them by
+ * the macros of the kernel's headers, and checks only the framing. Sums of the fields are compared.
+ * bench/tools.py builds and runs this program.
  */
 #include "sockdiag.h"
 
@@ -269,35 +270,43 @@ static void fill_inet(struct sockdiag_inet_details *it, const struct inet_diag_m
     set_u32(&it->class_id, first[INET_DIAG_CLASS_ID]);
 }
 
-/* Returns whether the attributes after a header are valid. */
-static int parse_attributes(const struct nlmsghdr *message, size_t header, struct table *table) {
-    return mnl_nlmsg_get_payload_len(message) >= header &&
-           mnl_attr_parse(message, (unsigned)header, store, table) >= 0;
+/* Fills the struct of a reply, of which the table has the attributes. */
+static void fill(struct dumps *dumps, const uint8_t *payload, const struct table *table) {
+    struct sockdiag_unix_details unix_details;
+    struct sockdiag_inet_details inet_details;
+    if (payload[0] == AF_UNIX) {
+        fill_unix(&unix_details, (const void *)payload, table->first);
+        add_unix(dumps, &unix_details);
+    } else {
+        fill_inet(&inet_details, (const void *)payload, table->first);
+        add_inet(dumps, &inet_details);
+    }
+}
+
+/* Makes the table empty, for a reply of this family. */
+static void clear(struct table *table, uint8_t family) {
+    memset(table, 0, sizeof *table);
+    table->lengths = family == AF_UNIX ? unix_lengths : inet_lengths;
+    table->most = family == AF_UNIX ? UNIX_DIAG_MAX : INET_DIAG_MAX;
+}
+
+/* Returns the length of the header of a reply. */
+static size_t header_for(uint8_t family) {
+    return family == AF_UNIX ? sizeof(struct unix_diag_msg) : sizeof(struct inet_diag_msg);
 }
 
 static int parse_message(const struct nlmsghdr *message, void *data) {
     struct dumps *dumps = data;
     const uint8_t *payload = mnl_nlmsg_get_payload(message);
-    int accepted;
+    const size_t header = header_for(payload[0]);
+    struct table table;
+    clear(&table, payload[0]);
     dumps->replies++;
-    if (payload[0] == AF_UNIX) {
-        struct table table = {unix_lengths, UNIX_DIAG_MAX, {NULL}};
-        struct sockdiag_unix_details details;
-        accepted = parse_attributes(message, sizeof(struct unix_diag_msg), &table);
-        if (accepted) {
-            fill_unix(&details, (const void *)payload, table.first);
-            add_unix(dumps, &details);
-        }
-    } else {
-        struct table table = {inet_lengths, INET_DIAG_MAX, {NULL}};
-        struct sockdiag_inet_details details;
-        accepted = parse_attributes(message, sizeof(struct inet_diag_msg), &table);
-        if (accepted) {
-            fill_inet(&details, (const void *)payload, table.first);
-            add_inet(dumps, &details);
-        }
-    }
-    dumps->rejected += !accepted;
+    if (mnl_nlmsg_get_payload_len(message) >= header &&
+        mnl_attr_parse(message, (unsigned)header, store, &table) >= 0)
+        fill(dumps, payload, &table);
+    else
+        dumps->rejected++;
     return MNL_CB_OK;
 }
 
@@ -307,6 +316,36 @@ void pass_libmnl(struct dumps *dumps) {
         if (mnl_cb_run(dumps->datagrams[index], dumps->lengths[index], 0, 0, parse_message,
                        dumps) < 0)
             dumps->rejected++;
+}
+
+/* ---- macros of the kernel's headers, as in ss(8) */
+
+/* Stores the attributes. Their lengths are not compared with those of their kinds. */
+static void parse_unchecked(struct dumps *dumps, const struct nlmsghdr *message) {
+    const uint8_t *payload = NLMSG_DATA(message);
+    const size_t header = header_for(payload[0]);
+    const struct rtattr *attribute = (const void *)(payload + header);
+    size_t left = message->nlmsg_len - NLMSG_LENGTH(header);
+    struct table table;
+    clear(&table, payload[0]);
+    for (; RTA_OK(attribute, left); attribute = RTA_NEXT(attribute, left)) {
+        const uint16_t kind = attribute->rta_type & NLA_TYPE_MASK;
+        if (kind <= table.most && table.first[kind] == NULL)
+            table.first[kind] = (const struct nlattr *)(const void *)attribute;
+    }
+    dumps->replies++;
+    fill(dumps, payload, &table);
+}
+
+void pass_macros(struct dumps *dumps) {
+    size_t index;
+    for (index = 0; index < dumps->count; index++) {
+        const struct nlmsghdr *message = (const void *)dumps->datagrams[index];
+        size_t left = dumps->lengths[index];
+        for (; NLMSG_OK(message, left); message = NLMSG_NEXT(message, left))
+            if (message->nlmsg_type == SOCKDIAG_SOCK_DIAG_BY_FAMILY)
+                parse_unchecked(dumps, message);
+    }
 }
 
 /* ---- the measurements */
@@ -322,6 +361,7 @@ static struct subject subjects[] = {
     {"strict", pass_strict, 1e18},
     {"lenient", pass_lenient, 1e18},
     {"libmnl", pass_libmnl, 1e18},
+    {"macros", pass_macros, 1e18},
 };
 #define SUBJECTS (sizeof subjects / sizeof *subjects)
 
@@ -384,7 +424,10 @@ static int measure(struct dumps *dumps) {
     for (index = 0; index < SUBJECTS; index++)
         printf("%s %zu %.1f\n", subjects[index].name, dumps->replies,
                subjects[index].least / (double)dumps->replies);
-    return sums[1] == sums[2] && sums[1] == sums[3] ? 0 : (fputs("sums differ\n", stderr), -1);
+    for (index = 2; index < SUBJECTS; index++)
+        if (sums[index] != sums[1])
+            return fputs("sums differ\n", stderr), -1;
+    return 0;
 }
 
 int main(int argc, char **argv) {

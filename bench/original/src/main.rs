@@ -8,10 +8,10 @@ use std::panic::{AssertUnwindSafe, catch_unwind, set_hook};
 
 use netlink_packet_core::{DecodeError, Emitable, NetlinkMessage, NetlinkPayload};
 use netlink_packet_core::{Parseable, ParseableParametrized};
+use netlink_packet_sock_diag::SockDiagMessage;
 use netlink_packet_sock_diag::inet::{InetRequest, InetResponse};
 use netlink_packet_sock_diag::unix::nlas::UnixDiagName;
 use netlink_packet_sock_diag::unix::{UnixRequest, UnixResponse};
-use netlink_packet_sock_diag::SockDiagMessage;
 
 type Message = NetlinkMessage<SockDiagMessage>;
 
@@ -79,13 +79,8 @@ fn netlink(bytes: &[u8]) -> String {
         Err(error) => return refused(&error),
     };
     let it = &message.header;
-    let numbers = [
-        it.length,
-        it.message_type.into(),
-        it.flags.into(),
-        it.sequence_number,
-        it.port_number,
-    ];
+    let numbers =
+        [it.length, it.message_type.into(), it.flags.into(), it.sequence_number, it.port_number];
     let numbers = numbers.map(|number| number.to_string()).join(" ");
     let payload = match &message.payload {
         NetlinkPayload::InnerMessage(inner) => written(inner),
