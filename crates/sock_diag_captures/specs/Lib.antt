@@ -17,4 +17,9 @@ pub mod Times
 pub mod Choice
 pub mod Files
 pub mod Reports
+pub mod JsonData
+pub mod JsonTcp
+pub mod JsonAttributes
+pub mod JsonSockets
+pub mod JsonOthers
 pub mod private
