@@ -1,6 +1,8 @@
 pub mod Pieces
 pub mod Requests
 pub mod Table
+pub mod Rows
+pub mod Newer
 pub mod Details
 pub mod RequestLine
 pub mod Others
@@ -9,12 +11,14 @@ pub mod Diagnostics
 pub mod Run
 pub mod Escapes
 pub mod Options
-pub mod Arguments
 pub mod Cells
 pub mod CellsModel
 pub mod Parts
 pub mod Times
 pub mod Choice
 pub mod Files
+pub mod Headings
 pub mod Reports
 pub mod private
+pub mod Filter
+pub mod laws
