@@ -1,6 +1,8 @@
 pub mod Pieces
 pub mod Requests
 pub mod Table
+pub mod Rows
+pub mod Newer
 pub mod Details
 pub mod RequestLine
 pub mod Others
@@ -9,13 +11,13 @@ pub mod Diagnostics
 pub mod Run
 pub mod Escapes
 pub mod Options
-pub mod Arguments
 pub mod Cells
 pub mod CellsModel
 pub mod Parts
 pub mod Times
 pub mod Choice
 pub mod Files
+pub mod Headings
 pub mod Reports
 pub mod JsonData
 pub mod JsonTcp
@@ -23,3 +25,5 @@ pub mod JsonAttributes
 pub mod JsonSockets
 pub mod JsonOthers
 pub mod private
+pub mod Filter
+pub mod laws

@@ -1,6 +1,7 @@
 //! Lines of the replies about UNIX, IPv4 and IPv6 sockets.
 
-ghost use Rattle.std.specs.Prelude.{◌≡◌, ◌++◌, None, Some, drop, IfOk, OnOk, option_map};
+ghost use Rattle.std.specs.Prelude.{◌≡◌, ◌++◌, Some, drop, IfOk, OnOk, option_map};
+ghost use Rattle.std.specs.Prelude.{option_and_then};
 ghost use Rattle.sock_diag_captures.specs.CellsModel.{cells_model};
 ghost use Rattle.netlink_core.specs.Layout.{parse_record};
 ghost use Rattle.sock_diag_records.specs.InetResponse.{inet_response_header};
@@ -11,7 +12,9 @@ ghost use Rattle.sock_diag_records.specs.ResponseKind.{response_kind};
 ghost use Rattle.sock_diag_captures.specs.Details.{timer_in};
 ghost use Rattle.sock_diag_captures.specs.Listing.{error_after_reply_header, payload_error};
 ghost use Rattle.sock_diag_captures.specs.Listing.{payload_lines, lines_after_header};
+ghost use Rattle.sock_diag_captures.specs.Newer.{user_id};
 ghost use Rattle.sock_diag_captures.specs.Pieces.{attributes_or_error, first_content};
+ghost use Rattle.sock_diag_captures.specs.Pieces.{first_of_kind};
 ghost use Rattle.sock_diag_captures.specs.Table.{family_name, inet_kind, inet_line, inet_lines};
 ghost use Rattle.sock_diag_captures.specs.Table.{unix_kind, unix_line, unix_lines};
 
@@ -24,6 +27,8 @@ use crate::parts::{NO_TIMER, TimerFields};
 use crate::pieces::{find_framing_error, find_kind};
 use netlink_core::DecodeError;
 use sock_diag_attributes::unix::nlas::{NameView, NlaView};
+use sock_diag_extras::constants::UNIX_DIAG_UID;
+use sock_diag_extras::parse_uid;
 use sock_diag_records::constants::{
     AF_INET, AF_INET6, AF_UNIX, SOCK_DGRAM, SOCK_DIAG_BY_FAMILY, SOCK_SEQPACKET, SOCK_STREAM,
     UNIX_DIAG_NAME, UNIX_DIAG_PEER, UNIX_DIAG_RQLEN,
@@ -95,7 +100,7 @@ fn push_unix(
 }
 
 /// Appends the lines of a UNIX socket with this header and these attributes, if the options select
-/// UNIX sockets.
+/// it.
 fn push_unix_lines(
     text: &mut Vec<u8>,
     options: Options,
@@ -105,7 +110,7 @@ fn push_unix_lines(
     ensures { OnOk result (text.new.items ≡ text.old.items
         ++ unix_lines options header.now (attributes_or_error 0 attributes.now)) }
 {
-    if !options.lists_unix() {
+    if !options.lists_unix(header.state) {
         return Ok(());
     }
     push_unix_line(text, options, header, attributes)?;
@@ -124,21 +129,22 @@ fn push_unix_line(
     ensures { OnOk result (text.new.items ≡ text.old.items
         ++ unix_line options header.now (attributes_or_error 0 attributes.now)) }
 {
-    push_first_columns(text, &unix_cells(header, queues_in(attributes)))?;
+    let cells = unix_cells(header, queues_in(attributes), user_in(attributes));
+    push_first_columns(text, &cells)?;
     push_name_column(text, LOCAL, options.utf8, name_in(attributes))?;
     push_peer(text, peer_in(attributes))
 }
 
 /// Returns the first columns of a UNIX socket, whose queues have these lengths. For a listening
-/// socket the lengths are numbers of connections.
-fn unix_cells(header: &UnixResponseHeader, queues: Option<(u32, u32)>) -> Cells
+/// socket the lengths are numbers of connections. `uid` is the user id of its owner.
+fn unix_cells(header: &UnixResponseHeader, queues: Option<(u32, u32)>, uid: Option<u32>) -> Cells
     ensures { cells_model result ≡ record {
       kind = unix_kind header.now.kind;
       state = header.now.state;
       receive_queue = option_map (λ ns. ns.0) queues;
       send_queue = option_map (λ ns. ns.1) queues;
       inode = header.now.inode;
-      uid = None;
+      uid = uid;
     } }
 {
     let (receive_queue, send_queue) = match queues {
@@ -151,7 +157,7 @@ fn unix_cells(header: &UnixResponseHeader, queues: Option<(u32, u32)>) -> Cells
         receive_queue,
         send_queue,
         inode: header.inode,
-        uid: None,
+        uid,
     }
 }
 
@@ -198,6 +204,17 @@ fn queues_in(attributes: &[u8]) -> Option<(u32, u32)>
     }
 }
 
+/// Returns the user id of the owner, if the first `UNIX_DIAG_UID` attribute is valid.
+fn user_in(attributes: &[u8]) -> Option<u32>
+    ensures { result ≡ option_and_then user_id
+        (first_of_kind UNIX_DIAG_UID (attributes_or_error 0 attributes.now)) }
+{
+    match find_kind(attributes, UNIX_DIAG_UID) {
+        Some(nla) => parse_uid(nla.value()),
+        None => None,
+    }
+}
+
 /// Returns the kind of a UNIX socket, by its type `SOCK_..`, as ss(8) prints it.
 fn name_of_kind(kind: u8) -> &'static [u8]
     ensures { result.now ≡ unix_kind kind }
@@ -238,7 +255,7 @@ fn push_inet(
 }
 
 /// Appends the lines of an IPv4 or IPv6 socket with this timer, this header and these attributes,
-/// if the options select its protocol.
+/// if the options select it.
 fn push_inet_lines(
     text: &mut Vec<u8>,
     options: Options,
@@ -251,7 +268,7 @@ fn push_inet_lines(
         ++ inet_lines options protocol timer.now header.now
         (attributes_or_error 0 attributes.now)) }
 {
-    if !options.lists_protocol(protocol) {
+    if !options.lists_inet(protocol, header) {
         return Ok(());
     }
     push_inet_line(text, protocol, header)?;

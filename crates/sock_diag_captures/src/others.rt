@@ -135,7 +135,7 @@ fn attributes_of<H: Listed>(payload: &[u8]) -> &[u8]
     &payload[least..]
 }
 
-/// Appends the lines of a socket with these attributes, if the options select its family.
+/// Appends the lines of a socket with these attributes, if the options select it.
 fn push_socket(
     text: &mut Vec<u8>,
     options: Options,
@@ -145,7 +145,7 @@ fn push_socket(
     ensures { OnOk result (text.new.items ≡ text.old.items
         ++ other_lines options socket.now (attributes_or_error 0 attributes.now)) }
 {
-    if !options.lists_family(socket.family) {
+    if !options.lists_family(socket.family, socket.state) {
         return Ok(());
     }
     push_other_line(text, socket, attributes)?;
