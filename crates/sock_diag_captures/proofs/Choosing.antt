@@ -27,6 +27,7 @@ argument_does_not_decide argument.Version h v u = absurd (v refl)
 argument_does_not_decide argument.Unknown h v u = absurd (u refl)
 argument_does_not_decide argument.Utf8 h v u = refl
 argument_does_not_decide argument.Requests h v u = refl
+argument_does_not_decide argument.Json h v u = refl
 argument_does_not_decide (argument.Sockets family) h v u = refl
 argument_does_not_decide (argument.States states) h v u = refl
 argument_does_not_decide (argument.SourcePort condition) h v u = refl

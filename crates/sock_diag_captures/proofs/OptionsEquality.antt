@@ -44,7 +44,7 @@ first_and_later_equal_themselves false (a ∷ xs) last h =
 abbrev later : Options → List Bool
 later o = o.extended ∷ o.memory ∷ o.connection ∷ o.one_line ∷ o.tcp ∷ o.udp ∷ o.mptcp ∷ o.unix
     ∷ o.netlink ∷ o.packet ∷ o.vsock ∷ o.xdp ∷ o.inet ∷ o.inet6 ∷ o.listening ∷ o.no_heading
-    ∷ o.utf8 ∷ o.requests ∷ []
+    ∷ o.utf8 ∷ o.requests ∷ o.json ∷ []
 
 -- the options with these values of the fields, in the same order
 abbrev options_from : List Bool → SocketFilter → Options
@@ -68,6 +68,7 @@ options_from bs filter = record {
   no_heading = get_or bs 16 false;
   utf8 = get_or bs 17 false;
   requests = get_or bs 18 false;
+  json = get_or bs 19 false;
   filter = filter;
 }
 

@@ -153,6 +153,7 @@ option_argument word =
     else if bytes_eq word (codes "--version") || bytes_eq word (codes "-V") then argument.Version
     else if bytes_eq word (codes "--utf8") then argument.Utf8
     else if bytes_eq word (codes "--requests") then argument.Requests
+    else if bytes_eq word (codes "--json") then argument.Json
     else if bytes_eq word (codes "--vsock") then argument.Sockets (Other Vsock)
     else if bytes_eq word (codes "--xdp") then argument.Sockets (Other Xdp)
     else valued_argument word
@@ -204,6 +205,7 @@ names_file a = false
 abbrev pub with_argument : Options → Argument → List ℕ → Options
 with_argument o argument.Utf8 word = record o { utf8 = true }
 with_argument o argument.Requests word = record o { requests = true }
+with_argument o argument.Json word = record o { json = true }
 with_argument o (argument.Sockets family) word = with_family family o
 with_argument o (argument.States states) word =
     record o { filter = record o.filter { states = bit_or o.filter.states states } }
@@ -237,6 +239,7 @@ no_options = record {
   no_heading = false;
   utf8 = false;
   requests = false;
+  json = false;
   filter = record { states = 0; source_port = None; destination_port = None };
 }
 

@@ -24,6 +24,7 @@ pub mod JsonTcp
 pub mod JsonAttributes
 pub mod JsonSockets
 pub mod JsonOthers
+pub mod JsonListing
 pub mod private
 pub mod Filter
 pub mod laws

@@ -40,6 +40,8 @@ pub(crate) enum Argument {
     Utf8,
     /// `--requests`.
     Requests,
+    /// `--json`.
+    Json,
     /// An option that selects sockets of a family, or the name of a family after `-f`.
     Sockets(AnyFamily),
     /// `--state=`, with these states, a bit for each.
@@ -95,6 +97,8 @@ fn option_argument(word: &[u8]) -> Argument
         Argument::Utf8
     } else if equal(word, "--requests") {
         Argument::Requests
+    } else if equal(word, "--json") {
+        Argument::Json
     } else if equal(word, "--vsock") {
         Argument::Sockets(AnyFamily::Other(Family::Vsock))
     } else if equal(word, "--xdp") {
@@ -269,6 +273,7 @@ impl Options {
         match argument {
             Argument::Utf8 => self.utf8 = true,
             Argument::Requests => self.requests = true,
+            Argument::Json => self.json = true,
             Argument::Sockets(family) => self.add_family(family),
             Argument::States(states) => self.filter.states |= states,
             Argument::SourcePort(condition) => self.filter.source_port = Some(condition),

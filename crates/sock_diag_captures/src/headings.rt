@@ -9,13 +9,13 @@ use crate::options::Options;
 use std::alloc::{AllocError, Global};
 
 /// Returns the text before a table: a caption with the name of its file if `name` is given, and
-/// the heading. It is empty with `-H`. Names are shown as names of sockets are.
+/// the heading. It is empty with `-H` and with `--json`. Names are shown as names of sockets are.
 pub fn heading(alloc: Global, options: Options, name: Option<&str>) -> Result<Vec<u8>, AllocError>
     ensures { IfOk result (λ text. text.items
         ≡ text_before_table options (option_map (λ file. file.now) name.entry) HEADING.now) }
 {
     let mut text = Vec::new(alloc);
-    if options.no_heading {
+    if options.no_heading || options.json {
         return Ok(text);
     }
     push_caption(&mut text, options.utf8, name)?;

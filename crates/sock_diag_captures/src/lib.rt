@@ -106,6 +106,7 @@ Format:
       --utf8             in names that are valid UTF-8, show letters instead of
                          escaped bytes
       --requests         also a line for each request, with its time
+      --json             a JSON object for each socket, one per line
 
   -h, --help             print this text and exit
   -V, --version          print the version and exit

@@ -10,6 +10,7 @@ ghost use Rattle.sock_diag_attributes.specs.NameModel.{socket_name_model};
 ghost use Rattle.sock_diag_attributes.specs.UnixAttributes.{unix_attribute_set};
 ghost use Rattle.sock_diag_records.specs.ResponseKind.{response_kind};
 ghost use Rattle.sock_diag_captures.specs.Details.{timer_in};
+ghost use Rattle.sock_diag_captures.specs.JsonListing.{inet_output, unix_output};
 ghost use Rattle.sock_diag_captures.specs.Listing.{error_after_reply_header, payload_error};
 ghost use Rattle.sock_diag_captures.specs.Listing.{payload_lines, lines_after_header};
 ghost use Rattle.sock_diag_captures.specs.Newer.{user_id};
@@ -20,6 +21,7 @@ ghost use Rattle.sock_diag_captures.specs.Table.{unix_kind, unix_line, unix_line
 
 use crate::cells::{Cells, push_endpoint, push_endpoint_column, push_first_columns, push_peer};
 use crate::details::{Sockets, push_details, timer_of};
+use crate::json_sockets::{push_inet_json, push_unix_json};
 use crate::name_cells::push_name_column;
 use crate::options::Options;
 use crate::others::push_other;
@@ -82,7 +84,7 @@ fn push_unix(
     payload: &[u8],
 ) -> Result<Option<DecodeError>, AllocError>
     ensures lines { OnOk result (text.new.items ≡ text.old.items
-        ++ lines_after_header (unix_lines options)
+        ++ lines_after_header (unix_output options)
         (parse_record unix_response_header tt payload.now)
         (attributes_or_error 0 (drop 16 payload.now))) }
     ensures error { IfOk result (λ error. error
@@ -92,11 +94,31 @@ fn push_unix(
     match UnixResponseHeader::from_prefix(payload) {
         Ok(header) => {
             let attributes = &payload[UNIX_RESPONSE_HEADER_LEN..];
-            push_unix_lines(text, options, &header, attributes)?;
+            push_unix_output(text, options, &header, attributes)?;
             Ok(find_framing_error(attributes))
         }
         Err(error) => Ok(Some(error)),
     }
+}
+
+/// Appends what is written for a UNIX socket with this header and these attributes: its lines of the
+/// table, or its line of JSON.
+fn push_unix_output(
+    text: &mut Vec<u8>,
+    options: Options,
+    header: &UnixResponseHeader,
+    attributes: &[u8],
+) -> Result<(), AllocError>
+    ensures { OnOk result (text.new.items ≡ text.old.items
+        ++ unix_output options header.now (attributes_or_error 0 attributes.now)) }
+{
+    if !options.json {
+        return push_unix_lines(text, options, header, attributes);
+    }
+    if !options.lists_unix(header.state) {
+        return Ok(());
+    }
+    push_unix_json(text, header, attributes)
 }
 
 /// Appends the lines of a UNIX socket with this header and these attributes, if the options select
@@ -236,7 +258,7 @@ fn push_inet(
     payload: &[u8],
 ) -> Result<Option<DecodeError>, AllocError>
     ensures lines { OnOk result (text.new.items ≡ text.old.items
-        ++ lines_after_header (inet_lines options protocol (timer_in payload.now))
+        ++ lines_after_header (inet_output options protocol (timer_in payload.now))
         (parse_record inet_response_header tt payload.now)
         (attributes_or_error 0 (drop 72 payload.now))) }
     ensures error { IfOk result (λ error. error
@@ -247,11 +269,34 @@ fn push_inet(
         Ok(header) => {
             let attributes = &payload[INET_RESPONSE_HEADER_LEN..];
             let timer = timer_of(payload);
-            push_inet_lines(text, options, protocol, &timer, &header, attributes)?;
+            push_inet_output(text, options, protocol, &timer, &header, attributes)?;
             Ok(find_framing_error(attributes))
         }
         Err(error) => Ok(Some(error)),
     }
+}
+
+/// Appends what is written for an IPv4 or IPv6 socket with this timer, this header and these
+/// attributes: its lines of the table, or its line of JSON.
+fn push_inet_output(
+    text: &mut Vec<u8>,
+    options: Options,
+    protocol: Option<u32>,
+    timer: &TimerFields,
+    header: &InetResponseHeader,
+    attributes: &[u8],
+) -> Result<(), AllocError>
+    ensures { OnOk result (text.new.items ≡ text.old.items
+        ++ inet_output options protocol timer.now header.now
+        (attributes_or_error 0 attributes.now)) }
+{
+    if !options.json {
+        return push_inet_lines(text, options, protocol, timer, header, attributes);
+    }
+    if !options.lists_inet(protocol, header) {
+        return Ok(());
+    }
+    push_inet_json(text, protocol, timer, header, attributes)
 }
 
 /// Appends the lines of an IPv4 or IPv6 socket with this timer, this header and these attributes,

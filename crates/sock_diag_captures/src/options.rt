@@ -73,6 +73,8 @@ pub struct Options {
     pub utf8: bool,
     /// `--requests`: write a line with the time of each request.
     pub requests: bool,
+    /// `--json`: write a JSON object for each socket, and neither a heading nor a caption.
+    pub json: bool,
     /// `--state`, `--sport`, `--dport`: conditions that a listed socket meets.
     pub filter: SocketFilter,
 }
