@@ -1,7 +1,7 @@
 -- Details of a socket: a text for each value that the columns do not show. Texts are lists of ASCII
 -- codes: 44 is a comma and 41 a closing parenthesis.
 use Rattle.std.specs.Prelude.{ℕ, ◌==◌, ◌&&◌, ◌||◌, ◌/◌, ◌%◌, if◌then◌else◌, List, [], ◌∷◌, ◌++◌}
-use Rattle.std.specs.Prelude.{Bool, length, drop, false, flat_map, codes, decimal, bit_and, nat_le}
+use Rattle.std.specs.Prelude.{Bool, length, drop, false, flat_map, codes, decimal, nat_le}
 use Rattle.std.specs.Prelude.{slice_index, Option, None, Some, Result, Ok, Err}
 use Rattle.std.specs.Option.{option_map_or}
 use Rattle.std.specs.Result.{result_ok}
@@ -20,7 +20,7 @@ use Rattle.sock_diag_captures.specs.declared.options.Family.TheVariants.{Netlink
 use Rattle.sock_diag_captures.specs.declared.options.Family.TheVariants.{Xdp}
 use Rattle.sock_diag_captures.specs.declared.options.Options.{Options}
 use Rattle.netlink_core.specs.Attribute.{Attribute, attribute_kind}
-use Rattle.netlink_core.specs.AttributeSet.{decode_attribute}
+use Rattle.netlink_core.specs.AttributeSet.{AttributeValue, decode_attribute}
 use Rattle.netlink_core.specs.Layout.{parse_record}
 use Rattle.netlink_core.specs.declared.error.DecodeError.{DecodeError}
 use Rattle.netlink_core.specs.declared.error.DecodeError.TheVariants.{BufferTooSmall, WrongLength}
@@ -58,6 +58,7 @@ use Rattle.sock_diag_families.specs.declared.xdp.TheConstants.{XDP_DIAG_MEMINFO}
 use Rattle.sock_diag_captures.specs.Newer.{inet_newer_text, later_details, unix_newer_text}
 use Rattle.sock_diag_captures.specs.Pieces.{AttributeOrError}
 use Rattle.sock_diag_captures.specs.Rows.{rows_text, unknown_attribute_text}
+use Rattle.sock_diag_captures.specs.ShortInfo.{short_tcp_details, tcp_option_flags}
 use Rattle.sock_diag_captures.specs.declared.details.Format.TheVariants.{Always, Nonzero, Part}
 use Rattle.sock_diag_captures.specs.declared.details.Sockets.{Sockets}
 use Rattle.sock_diag_captures.specs.declared.details.Sockets.TheVariants.{Unix, Inet, Other}
@@ -84,21 +85,12 @@ invalid_attribute_text a e =
 
 -- ---- TCP connections
 
--- The flags of `tcpi_options`: TCPI_OPT_TIMESTAMPS (1), TCPI_OPT_SACK (2), TCPI_OPT_ECN (8),
--- TCPI_OPT_ECN_SEEN (16), TCPI_OPT_SYN_DATA (32). With TCPI_OPT_WSCALE (4), also the window scales:
--- `tcpi_snd_wscale` in the low four bits, `tcpi_rcv_wscale` in the high four bits.
-abbrev pub tcp_option_flags : TcpInfo → List ℕ
-tcp_option_flags t =
-    flag_detail (codes "ts") 1 t.options ++ flag_detail (codes "sack") 2 t.options
-    ++ flag_detail (codes "ecn") 8 t.options ++ flag_detail (codes "ecnseen") 16 t.options
-    ++ flag_detail (codes "fastopen") 32 t.options ++ (if bit_and t.options 4 == 0 then []
-    else pair_detail (codes "wscale") (t.wscale % 16) (t.wscale / 16))
-
--- The details of a TCP connection that are always shown, from `struct tcp_info` of linux/tcp.h.
--- Here and below, comments give the units of the lines after them.
+-- The details of a TCP connection from the round-trip time to the received bytes, from `struct
+-- tcp_info` of linux/tcp.h. Here and below, a member is shown if it is neither 0 nor unlimited, and
+-- comments give the units of the lines after them.
 unfoldable pub tcp_times : TcpInfo → List ℕ
 tcp_times t =
-    rows_text Always (
+    rows_text Nonzero (
     -- microseconds; bytes
     (codes "rtt", t.rtt) ∷ (codes "rttvar", t.rttvar) ∷ (codes "rto", t.rto) ∷
     (codes "mss", t.snd_mss) ∷ (codes "pmtu", t.pmtu) ∷
@@ -107,8 +99,7 @@ tcp_times t =
     (codes "retrans", t.total_retrans) ∷
     (codes "sent", t.bytes_sent) ∷ (codes "received", t.bytes_received) ∷ [])
 
--- The details of a TCP connection from the backoff to the delivered segments. A member is shown if
--- it is neither 0 nor unlimited.
+-- The details of a TCP connection from the backoff to the delivered segments.
 unfoldable pub tcp_counts : TcpInfo → List ℕ
 tcp_counts t =
     rows_text Nonzero (
@@ -132,8 +123,7 @@ tcp_counts t =
     (codes "delivery_rate", t.delivery_rate) ∷
     (codes "delivered", t.delivered) ∷ (codes "delivered_ce", t.delivered_ce) ∷ [])
 
--- The details of a TCP connection from the time that it was busy. A member is shown if it is
--- neither 0 nor unlimited.
+-- The details of a TCP connection from the time that it was busy.
 unfoldable pub tcp_losses : TcpInfo → List ℕ
 tcp_losses t =
     rows_text Nonzero (
@@ -153,7 +143,7 @@ tcp_losses t =
 -- (`tcpi_delivery_rate_app_limited`) is set.
 unfoldable pub tcp_details : TcpInfo → List ℕ
 tcp_details t =
-    tcp_times t ++ tcp_option_flags t ++ tcp_counts t
+    tcp_times t ++ tcp_option_flags t.options t.wscale ++ tcp_counts t
     ++ flag_detail (codes "app_limited") 1 t.delivery_rate_app_limited ++ tcp_losses t
 
 -- ---- memory in bytes
@@ -255,19 +245,33 @@ abbrev pub other_text : Family → Attribute → List ℕ
 other_text family a =
     if is_memory_kind family (attribute_kind a) then memory_value_text a else family_text family a
 
+-- The text of an attribute of an IPv4 or IPv6 socket with an invalid value: of a TCP socket the
+-- fields that a short `struct tcp_info` contains, and else the reason.
+abbrev pub unread_inet_text : Bool → Attribute → DecodeError → List ℕ
+unread_inet_text is_tcp a e =
+    if is_tcp && (attribute_kind a == INET_DIAG_INFO) then short_tcp_details a.value
+    else invalid_attribute_text a e
+
+-- `inet_attribute_text o is_tcp a result`: the text of an attribute of an IPv4 or IPv6 socket,
+-- which decodes to `result`
+abbrev pub inet_attribute_text : Options → Bool → Attribute
+    → Result (AttributeValue inet_attribute_set) DecodeError → List ℕ
+inet_attribute_text o is_tcp a (Ok v) = inet_text o a (inet_variant v)
+inet_attribute_text o is_tcp a (Err e) = unread_inet_text is_tcp a e
+
 -- the text of an attribute, by the kind of sockets that the reply is about
 abbrev pub attribute_text : Options → Sockets → Attribute → List ℕ
 attribute_text o Unix a =
     text_or_reason (λ v. unix_text a (unix_variant v)) a (decode_attribute unix_attribute_set a)
-attribute_text o Inet a =
-    text_or_reason (λ v. inet_text o a (inet_variant v)) a (decode_attribute inet_attribute_set a)
+attribute_text o (Inet is_tcp) a =
+    inet_attribute_text o is_tcp a (decode_attribute inet_attribute_set a)
 attribute_text o (Other family) a = other_text family a
 
 -- The group of details of an attribute, by the kind of sockets that the reply is about and the type
 -- of the attribute.
 abbrev pub detail_group : Sockets → ℕ → Detail
 detail_group Unix kind = if kind == UNIX_DIAG_MEMINFO then Memory else Extended
-detail_group Inet kind =
+detail_group (Inet is_tcp) kind =
     if (kind == INET_DIAG_MEMINFO) || (kind == INET_DIAG_SKMEMINFO) then Memory
     else if (kind == INET_DIAG_INFO) || (kind == INET_DIAG_VEGASINFO) || (kind == INET_DIAG_CONG)
     || (kind == INET_DIAG_DCTCPINFO) || (kind == INET_DIAG_BBRINFO)

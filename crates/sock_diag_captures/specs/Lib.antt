@@ -3,6 +3,7 @@ pub mod Requests
 pub mod Table
 pub mod Rows
 pub mod Newer
+pub mod ShortInfo
 pub mod Details
 pub mod RequestLine
 pub mod Others

@@ -1,7 +1,7 @@
 -- Lines of the table for UNIX, IPv4 and IPv6 sockets. `given` are the attributes of a reply.
 use Rattle.std.specs.Prelude.{ℕ, ◌==◌, nat_lt, if◌then◌else◌, ◌&&◌, Bool, List, [], ◌∷◌, ◌++◌}
 use Rattle.std.specs.Prelude.{length, codes, Option, None, Some, slice_index, option_map, drop}
-use Rattle.std.specs.Prelude.{◌||◌, option_and_then}
+use Rattle.std.specs.Prelude.{◌||◌, false, option_and_then}
 use Rattle.sock_diag_captures.specs.Cells.{endpoint, table_line, peer_cell}
 use Rattle.sock_diag_captures.specs.Parts.{no_timer, details_after_separator}
 use Rattle.sock_diag_captures.specs.Escapes.{byte_digits, unescaped_bytes, shown_name}
@@ -120,6 +120,11 @@ unix_lines o h given =
     ++ 10 ∷ []
     else []
 
+-- the protocol of the request is 6 (IPPROTO_TCP)
+abbrev pub is_tcp : Option ℕ → Bool
+is_tcp None = false
+is_tcp (Some protocol) = protocol == 6
+
 -- `inet_lines o protocol timer h given`: the lines of an IPv4 or IPv6 socket, if the options select
 -- it: the columns, the details and a line feed (10). Else nothing. `timer` are the timer fields of
 -- the reply's header (`timer_in`).
@@ -129,6 +134,6 @@ abbrev pub inet_lines : Options → Option ℕ → TimerFields → InetResponseH
 inet_lines o protocol timer h given =
     if lists_inet o protocol h
     then inet_line protocol h ++ details_after_separator o
-    (details o Inet timer h.socket_id.cookie given)
+    (details o (Inet (is_tcp protocol)) timer h.socket_id.cookie given)
     ++ 10 ∷ []
     else []

@@ -15,8 +15,9 @@ ghost use Rattle.sock_diag_captures.specs.Details.{invalid_attribute_text, legac
 ghost use Rattle.sock_diag_captures.specs.Details.{memory_kind, memory_text, memory_value_text};
 ghost use Rattle.sock_diag_captures.specs.Details.{other_text, packet_text, tcp_counts};
 ghost use Rattle.sock_diag_captures.specs.Details.{tcp_details, tcp_losses, tcp_times};
-ghost use Rattle.sock_diag_captures.specs.Details.{tcp_option_flags, timer_in, unix_text};
+ghost use Rattle.sock_diag_captures.specs.Details.{timer_in, unix_text, unread_inet_text};
 ghost use Rattle.sock_diag_captures.specs.Newer.{later_details};
+ghost use Rattle.sock_diag_captures.specs.ShortInfo.{tcp_option_flags};
 ghost use Rattle.sock_diag_captures.specs.Pieces.{attributes_or_error};
 ghost use Rattle.sock_diag_captures.specs.Rows.{row_text, unknown_attribute_text};
 
@@ -30,6 +31,7 @@ use crate::parts::{
     separator,
 };
 use crate::pieces::next_piece;
+use crate::short_info::push_short_tcp;
 use byteorder::{ByteOrder, LittleEndian};
 use netlink_core::{DecodeError, NlaBuffer, NlasIterator};
 use sock_diag_attributes::inet::nlas::NlaView as InetView;
@@ -51,7 +53,10 @@ pub(crate) enum Sockets {
     /// UNIX sockets.
     Unix,
     /// IPv4 and IPv6 sockets.
-    Inet,
+    Inet {
+        /// The protocol of the request is TCP.
+        is_tcp: bool,
+    },
     /// Sockets of another family.
     Other(Family),
 }
@@ -168,9 +173,9 @@ fn push_attribute(
             Ok(view) => push_unix(text, nla, &view),
             Err(error) => push_invalid(text, nla, &error),
         },
-        Sockets::Inet => match InetView::parse(nla) {
+        Sockets::Inet { is_tcp } => match InetView::parse(nla) {
             Ok(view) => push_inet(text, options, nla, &view),
-            Err(error) => push_invalid(text, nla, &error),
+            Err(error) => push_unread_inet(text, is_tcp, nla, &error),
         },
         Sockets::Other(family) => push_other(text, family, nla),
     }
@@ -182,10 +187,10 @@ fn detail_group(sockets: Sockets, kind: u16) -> Detail
 {
     match (sockets, kind) {
         (Sockets::Unix, UNIX_DIAG_MEMINFO)
-        | (Sockets::Inet, INET_DIAG_MEMINFO | INET_DIAG_SKMEMINFO) => Detail::Memory,
+        | (Sockets::Inet { .. }, INET_DIAG_MEMINFO | INET_DIAG_SKMEMINFO) => Detail::Memory,
         (Sockets::Other(family), _) if memory_kind(family) == Some(kind) => Detail::Memory,
         (
-            Sockets::Inet,
+            Sockets::Inet { .. },
             INET_DIAG_INFO
             | INET_DIAG_VEGASINFO
             | INET_DIAG_CONG
@@ -293,6 +298,24 @@ fn push_packet_info(text: &mut Vec<u8>, info: &PacketInfo) -> Result<(), AllocEr
 {
     push_fields!(text, Format::Always, info, b"ver": version, b"cpy_thresh": copy_threshold)?;
     push_packet_flags(text, (info.flags % 256) as u8)
+}
+
+/// Appends an attribute of an IPv4 or IPv6 socket that the port does not parse: of a TCP socket the
+/// fields of a short `struct tcp_info`, and else the reason.
+fn push_unread_inet(
+    text: &mut Vec<u8>,
+    is_tcp: bool,
+    nla: &NlaBuffer<'_>,
+    error: &DecodeError,
+) -> Result<(), AllocError>
+    ensures { OnOk result (text.new.items ≡ text.old.items
+        ++ unread_inet_text is_tcp (buffered_attribute nla.now) error.now) }
+{
+    if is_tcp && nla.kind() == INET_DIAG_INFO {
+        push_short_tcp(text, nla.value())
+    } else {
+        push_invalid(text, nla, error)
+    }
 }
 
 /// Appends the kind of an unknown attribute, and the length of its value in bytes.
@@ -409,18 +432,18 @@ fn push_connection(text: &mut Vec<u8>, info: &TcpInfo) -> Result<(), AllocError>
     ensures { OnOk result (text.new.items ≡ text.old.items ++ tcp_details info.now) }
 {
     push_times(text, info)?;
-    push_options(text, info)?;
+    push_options(text, info.options, info.wscale)?;
     push_counts(text, info)?;
     push_flag(text, b"app_limited", 1, info.delivery_rate_app_limited)?;
     push_losses(text, info)
 }
 
-/// Appends the details of a TCP connection that are always shown.
+/// Appends the details of a TCP connection from the round-trip time to the received bytes.
 #[tactic(auto, unfolding(crate::specs::Details::tcp_times))]
 fn push_times(text: &mut Vec<u8>, info: &TcpInfo) -> Result<(), AllocError>
     ensures { OnOk result (text.new.items ≡ text.old.items ++ tcp_times info.now) }
 {
-    push_fields!(text, Format::Always, info,
+    push_fields!(text, Format::Nonzero, info,
         b"rtt": rtt, b"rttvar": rttvar, b"rto": rto, b"mss": snd_mss, b"pmtu": pmtu,
         b"cwnd": snd_cwnd, b"unacked": unacked, b"retrans": total_retrans,
         b"sent": bytes_sent, b"received": bytes_received,
@@ -449,7 +472,7 @@ fn push_counts(text: &mut Vec<u8>, info: &TcpInfo) -> Result<(), AllocError>
     push_fields!(text, Format::Nonzero, info,
         b"backoff": backoff, b"ato": ato, b"rcvmss": rcv_mss, b"advmss": advmss,
     )?;
-    push_threshold(text, info.snd_ssthresh)?;
+    push_threshold(text, info.snd_ssthresh.into())?;
     push_fields!(text, Format::Nonzero, info,
         b"snd_wnd": snd_wnd,
         b"bytes_retrans": bytes_retrans, b"bytes_acked": bytes_acked,
@@ -463,17 +486,17 @@ fn push_counts(text: &mut Vec<u8>, info: &TcpInfo) -> Result<(), AllocError>
 }
 
 /// Appends the flags of `tcpi_options`, and the window scales if they are negotiated.
-fn push_options(text: &mut Vec<u8>, info: &TcpInfo) -> Result<(), AllocError>
-    ensures { OnOk result (text.new.items ≡ text.old.items ++ tcp_option_flags info.now) }
+pub(crate) fn push_options(text: &mut Vec<u8>, options: u8, wscale: u8) -> Result<(), AllocError>
+    ensures { OnOk result (text.new.items ≡ text.old.items ++ tcp_option_flags options wscale) }
 {
-    push_flag(text, b"ts", TCPI_OPT_TIMESTAMPS, info.options)?;
-    push_flag(text, b"sack", TCPI_OPT_SACK, info.options)?;
-    push_flag(text, b"ecn", TCPI_OPT_ECN, info.options)?;
-    push_flag(text, b"ecnseen", TCPI_OPT_ECN_SEEN, info.options)?;
-    push_flag(text, b"fastopen", TCPI_OPT_SYN_DATA, info.options)?;
-    if info.options & TCPI_OPT_WSCALE == 0 {
+    push_flag(text, b"ts", TCPI_OPT_TIMESTAMPS, options)?;
+    push_flag(text, b"sack", TCPI_OPT_SACK, options)?;
+    push_flag(text, b"ecn", TCPI_OPT_ECN, options)?;
+    push_flag(text, b"ecnseen", TCPI_OPT_ECN_SEEN, options)?;
+    push_flag(text, b"fastopen", TCPI_OPT_SYN_DATA, options)?;
+    if options & TCPI_OPT_WSCALE == 0 {
         return Ok(());
     }
-    let (sent, received) = (info.wscale % 16, info.wscale / 16);
+    let (sent, received) = (wscale % 16, wscale / 16);
     push_pair(text, b"wscale", sent.into(), received.into())
 }

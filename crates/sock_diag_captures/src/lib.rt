@@ -41,6 +41,7 @@ mod pieces;
 mod reports;
 mod request_line;
 mod requests;
+mod short_info;
 mod stream;
 mod times;
 

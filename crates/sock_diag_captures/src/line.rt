@@ -17,6 +17,7 @@ ghost use Rattle.sock_diag_captures.specs.Newer.{user_id};
 ghost use Rattle.sock_diag_captures.specs.Pieces.{attributes_or_error, first_content};
 ghost use Rattle.sock_diag_captures.specs.Pieces.{first_of_kind};
 ghost use Rattle.sock_diag_captures.specs.Table.{family_name, inet_kind, inet_line, inet_lines};
+ghost use Rattle.sock_diag_captures.specs.Table.{is_tcp};
 ghost use Rattle.sock_diag_captures.specs.Table.{unix_kind, unix_line, unix_lines};
 
 use crate::cells::{Cells, push_endpoint, push_endpoint_column, push_first_columns, push_peer};
@@ -318,8 +319,18 @@ fn push_inet_lines(
     }
     push_inet_line(text, protocol, header)?;
     let cookie = &header.socket_id.cookie;
-    push_details(text, options, Sockets::Inet, timer, cookie, attributes)?;
+    let sockets = Sockets::Inet {
+        is_tcp: is_tcp(protocol),
+    };
+    push_details(text, options, sockets, timer, cookie, attributes)?;
     Ok(text.push(b'\n')?)
+}
+
+/// Returns whether the protocol of the request is TCP.
+fn is_tcp(protocol: Option<u32>) -> bool
+    ensures { result ≡ is_tcp protocol }
+{
+    matches!(protocol, Some(6))
 }
 
 /// Appends the columns of an IPv4 or IPv6 socket.

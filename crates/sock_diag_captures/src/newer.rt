@@ -63,7 +63,7 @@ pub(crate) fn push_later_fields(text: &mut Vec<u8>, value: &[u8]) -> Result<(), 
 
 /// Appends a list of names and fields of `struct tcp_info`, as far as the value contains them. A
 /// field that is 0 is left out.
-fn push_tcp_fields(
+pub(crate) fn push_tcp_fields(
     text: &mut Vec<u8>,
     value: &[u8],
     rows: &[(&[u8], TcpField)],

@@ -21,7 +21,7 @@ const SHUT_RECEIVING: u8 = 1;
 const SHUT_SENDING: u8 = 2;
 
 /// `TCP_INFINITE_SSTHRESH`, a slow start threshold that is not set.
-const INFINITE_THRESHOLD: u32 = 0x7fff_ffff;
+const INFINITE_THRESHOLD: u64 = 0x7fff_ffff;
 
 /// The timer fields of `inet_diag_msg`, the header of a reply about an IPv4 or IPv6 socket.
 #[derive(Clone, Copy)]
@@ -172,13 +172,13 @@ pub(crate) fn push_some(text: &mut Vec<u8>, word: &[u8], number: u64) -> Result<
 }
 
 /// Appends the slow start threshold, if it is set.
-pub(crate) fn push_threshold(text: &mut Vec<u8>, segments: u32) -> Result<(), AllocError>
+pub(crate) fn push_threshold(text: &mut Vec<u8>, segments: u64) -> Result<(), AllocError>
     ensures { OnOk result (text.new.items ≡ text.old.items ++ threshold_detail segments) }
 {
     if segments == 0 || segments == INFINITE_THRESHOLD {
         return Ok(());
     }
-    push_detail(text, b"ssthresh", segments.into())
+    push_detail(text, b"ssthresh", segments)
 }
 
 /// Appends a space and a name if `number` has at least one of the bits of `bits`.

@@ -249,6 +249,30 @@ fn lists_attributes_of_newer_kernels(rt: HostRuntime) {
     lists(&rt, rt.alloc(), &capture, Ok(true), Some(&NEWER_LINES));
 }
 
+/// A request for TCP sockets, and a reply with 104 bytes of `struct tcp_info`.
+const TCP_REQUEST: &str =
+    "4800000014000103070000000000000002060000ffffffff000000000000000000000000000000000000000000000000000000000000000000000000000000000000000000000000";
+
+const SHORT_INFO: &str =
+    "c40000001400020007000000000000000a06030000169c40fe80000000000000000000000000000120010db80000000000000000000000ff030000000000000000000000000000000000000000000000e8030000000000006c0002000000000000079700e01c030000000000000000000000000000000000000000000000000000000000000000000000000000000000000000000000000000000000000000006400000032000000ffffff7f0a0000000000000000000000000000000000000003000000";
+
+const SHORT_INFO_COLUMNS: &str =
+    "TIME-WAIT  0      0      0          1000  [fe80::1]%3:22                 [2001:db8::ff]:40000\n\
+\t timer:(timewait,0ms,0) sk:0 ";
+
+/// The fields of a short `struct tcp_info` have details if the request was for TCP sockets.
+#[test]
+fn lists_short_tcp_info(rt: HostRuntime) {
+    let details = "rtt:100 rttvar:50 rto:204000 cwnd:10 retrans:3 ts sack wscale:(7,9)\n";
+    let packets = [[SOCK_DIAG, TCP_REQUEST], [SOCK_DIAG, SHORT_INFO]];
+    let capture = captured(&rt, rt.alloc(), HEADERS[0], &packets);
+    let lines = ["tcp   ", SHORT_INFO_COLUMNS, details];
+    lists(&rt, rt.alloc(), &capture, Ok(true), Some(&lines));
+    let capture = captured(&rt, rt.alloc(), HEADERS[0], &packets[1..]);
+    let lines = ["inet6 ", SHORT_INFO_COLUMNS, "unread:(2,104,too-short)\n"];
+    lists(&rt, rt.alloc(), &capture, Ok(true), Some(&lines));
+}
+
 /// A reply about a listening socket whose abstract name is `e` with an accent, a Chinese letter, a
 /// space, U+202E and a backslash. The path in `NO_UTF8` is not valid UTF-8.
 const LETTERS: &str =
