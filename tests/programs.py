@@ -103,25 +103,42 @@ def check_prompt_answers(program, lines, answers):
         started.stdin.close()
 
 
+def caption(name):
+    """Returns the line before the table of a file, if there are several."""
+    return f"==> {name} <==\n".encode()
+
+
 def test_sslist(program):
     capture, table = CAPTURE.read_bytes(), (CRATES / "sslist/stdout").read_bytes()
     note, missing = b"sslist: .*packet 12, message 1: .*\n", b"sslist: /nowhere: .*\n"
     unknown = b"sslist: unknown option %s; try sslist --help\n"
+    no_family = b"sslist: -f without a family; try sslist --help\n"
     no_text = b"sslist: argument is not valid UTF-8\n"
+    captioned = caption(CAPTURE) + table
     for arguments, status, printed, errors in [
         ([], 1, b"", b"sslist: .*\n"), ([b"\xff"], 2, b"", no_text),
         ([""], 1, b"", b"sslist: : .*\n"),
-        ([CAPTURE], 0, table, note), ([CAPTURE, CAPTURE], 0, table * 2, note * 2),
+        ([CAPTURE], 0, table, note), ([CAPTURE, CAPTURE], 0, captioned * 2, note * 2),
+        (["--", CAPTURE], 0, table, note), (["--", "-t"], 1, b"", b"sslist: -t: .*\n"),
         (["/"], 1, b"", b"sslist: /: the input is a directory\n"),
-        ([CAPTURE, "/nowhere"], 1, table, note + missing),
-        (["/nowhere", CAPTURE], 1, table, missing + note),
+        ([CAPTURE, "/nowhere"], 1, captioned, note + missing),
+        (["/nowhere", CAPTURE], 1, captioned, missing + note),
+        (["/\x1b[1m\\"], 1, b"", rb"sslist: /\\x1b\[1m\\x5c: .*\n"),
+        (["-\x1bt"], 2, b"", unknown % rb"-\\x1bt"), (["-tf"], 2, b"", no_family),
+        (["-f", "-x"], 2, b"", unknown % b"-x"), (["-ft", "unix"], 2, b"", unknown % b"-ft"),
+        (["-f", "all"], 2, b"", b"sslist: unknown family all; try sslist --help\n"),
+        (["--family=ip", "-h"], 2, b"", unknown % b"--family=ip"),
         (["-q", CAPTURE], 2, b"", unknown % b"-q"),
         (["-t", "--no", "--help"], 2, b"", unknown % b"--no"),
-        (["-"], 2, b"", unknown % b"-"), ([CAPTURE, "--version"], 0, b"sslist " + VERSION, b""),
+        ([CAPTURE, "--version"], 0, b"sslist " + VERSION, b""),
+        (["-V"], 0, b"sslist " + VERSION, b""),
         (["-t", "--help", "-q"], 0, (HELP / "sslist").read_bytes(), b""),
+        (["-f", "unix", "-h"], 0, (HELP / "sslist").read_bytes(), b""),
     ]:
         check(program, arguments, b"", status, printed, errors)
-    check(program, [], capture, 0, table, note)
+    for arguments in ([], ["-"], ["--", "-"], ["-n", "--"]):
+        check(program, arguments, capture, 0, table, note)
+    check(program, ["-", CAPTURE], capture, 0, caption("-") + table + captioned, note * 2)
     check_failed_writes(program, [], capture, b"", b"sslist: writing failed\n")
     check_failed_writes(program, ["--help"], b"", b"", b"")
 
@@ -271,30 +288,89 @@ def test_options(program):
         file.write(capture)
         file.flush()
         choices = [[it] for it in [*KINDS, *DETAILS, "-n", "-a", "-O", "--requests", "--utf8"]]
-        choices += [["-t", "-x", "-oemi"]]
+        choices += [["-t", "-x", "-oemi"], ["-4"], ["-l6"], ["-lf", "unix"]]
         for arguments in choices:
             ended, listed, _ = run(program, arguments, capture)
             diagnostics = b"(sslist: .*packet 12, message 1: .*\n)?"
             check(program, [*arguments, file.name], b"", ended, listed, diagnostics)
             twice = [file.name, *arguments, file.name]
-            check(program, twice, b"", ended, listed * 2, diagnostics * 2)
+            check(program, twice, b"", ended, (caption(file.name) + listed) * 2, diagnostics * 2)
+            rest = listed.removeprefix(heading)
+            check(program, [*arguments, "-H"], capture, ended, rest, errors)
+            check(program, ["-H", *twice], b"", ended, rest * 2, diagnostics * 2)
     for one, other in [(one, other) for one in KINDS for other in KINDS]:
         kinds = f"{KINDS[one]} {KINDS[other]}".split()
         chosen = [row for row in rows if row.split()[0].decode() in kinds]
         assert 0 < len(chosen) < len(rows), (one, other)
         check(program, ["-O", one, other], capture, status, heading + b"".join(chosen), errors)
-    for arguments in (["-n"], ["-a"], ["-na"], ["-oemi"], ["-o", "-e", "-mi"]):
+    check_selections(program, capture, heading, rows, errors)
+    check_ports(program, capture, heading, rows, errors)
+    for arguments in (["-n"], ["-a"], ["-na"], ["-la"], ["-oemi"], ["-o", "-e", "-mi"]):
         check(program, arguments, capture, status, table, errors)
     for option in DETAILS:
         shown = [it for it in DETAILS if DETAILS[it] in run(program, [option], capture)[1]]
         assert shown == [option], (shown, option)
     text = run(program, ["--requests"], capture)[1]
     assert re.sub(rb"(?m)^-- .*\n", b"", text) == table, "--requests"
-    assert b"\n-- 0.000000 udp states:0xfe\n" in text, "--requests"
+    assert b"\n-- 0.000000000 udp states:0xfe\n" in text, "--requests"
     named, printed = (it.replace(b"/listening", "/hörening".encode()) for it in (capture, table))
     check(program, ["--utf8"], named, status, printed, errors)
     escaped = printed.replace("ö".encode(), b"\\xc3\\xb6")
     assert run(program, [], named)[1].split() == escaped.split(), "without --utf8"
+
+
+def check_selections(program, capture, heading, rows, errors):
+    """Checks which rows are listed with options that select families and states."""
+    ip, unix = KINDS["-t"].split() + ["udp", "mptcp"], KINDS["-x"].split()
+    choices = [
+        (["-l"], lambda kind, state, v6: True), (["-al"], lambda kind, state, v6: True),
+        (["-4"], lambda kind, state, v6: kind in ip and not v6),
+        (["-6"], lambda kind, state, v6: kind in ip and v6),
+        (["-46"], lambda kind, state, v6: kind in ip),
+        (["-4t"], lambda kind, state, v6: kind in KINDS["-t"].split() and not v6),
+        (["-tx6"], lambda kind, state, v6: kind in unix or kind in KINDS["-t"].split() and v6),
+        (["-6lx"], lambda kind, state, v6: kind in unix or kind in ip and v6),
+        (["--state=listening"], lambda kind, state, v6: state == "LISTEN"),
+        (["--state=bucket", "-l"], lambda kind, state, v6: state == "TIME-WAIT"),
+        (["--state=time-wait", "--state=closed", "-x4"],
+            lambda kind, state, v6: state in ("TIME-WAIT", "UNCONN") and kind in ip + unix),
+    ]
+    for arguments, is_selected in choices:
+        is_all = "l" not in "".join(arguments) or "--state" in arguments[0]
+        chosen = []
+        for row in rows:
+            kind, state, *_, local = row.decode().split()[:7]
+            if is_selected(kind, state, "[" in local) and (is_all or state in ("LISTEN", "UNCONN")):
+                chosen.append(row)
+        assert 0 < len(chosen) < len(rows), arguments
+        check(program, ["-O", *arguments], capture, 0, heading + b"".join(chosen), errors)
+    for one, other in [
+        ("-4", "inet"), ("-6", "inet6"), ("-x", "unix"), ("-0", "link"), ("-0", "packet"),
+        ("--vsock", "vsock"), ("--xdp", "xdp"), ("--family=netlink", "netlink"),
+    ]:
+        status, table, _ = run(program, [one], capture)
+        for arguments in (["-f", other], [f"--family={other}"], ["-nf", other, "-n"]):
+            check(program, arguments, capture, status, table, errors)
+
+
+def check_ports(program, capture, heading, rows, errors):
+    """Checks which rows are listed with conditions on ports."""
+    for arguments, at, least, most in [
+        (["--sport=37265"], 6, 37265, 37265), (["--dport=42067"], 7, 42067, 42067),
+        (["--sport=53634-"], 6, 53634, 65535), (["--sport=-7003"], 6, 0, 7003),
+        (["--dport=1-"], 7, 1, 65535), (["--dport=1", "--dport=-0"], 7, 0, 0),
+    ]:
+        chosen = []
+        for row in rows:
+            kind, port = row.split()[0], row.split()[at].rpartition(b":")[2].replace(b"*", b"0")
+            is_ip = kind in (b"inet", b"inet6", b"tcp", b"udp", b"mptcp")
+            if is_ip and least <= int(port) <= most:
+                chosen.append(row)
+        assert 0 < len(chosen) < len(rows), arguments
+        check(program, ["-O", *arguments], capture, 0, heading + b"".join(chosen), errors)
+    for word in ("--sport=", "--sport=65536", "--dport=ssh", "--dport=1-2", "--state=open"):
+        unknown = f"sslist: unknown option {word}; try sslist --help\n".encode()
+        check(program, [word, "-h"], capture, 2, b"", unknown)
 
 
 def test_out_of_memory(program, arguments, given, status, output):

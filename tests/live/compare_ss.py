@@ -14,6 +14,10 @@ writes. Each has to list the sockets of the other, with equal columns.
 
 Differences are printed, and the exit status is 1 if there is one.
 
+Without arguments it also compares which sockets both list with options that select sockets: ss of
+the running system, and sslist of the capture of all sockets. Netlink sockets are left out, as each
+run of ss has its own.
+
 It is not part of the gate. It needs gcc, iproute2 and the built sslist. As root it uses a new
 network namespace.
 """
@@ -33,6 +37,15 @@ OPTIONS = ["-tanioem", "-uanioem", "-xanem", "-anMei", "-s"]
 OPTIONS += ["-0anem", "-anemf netlink", "-anem --vsock", "-anem --xdp", "-an", "-anem"]
 # Options for both programs, of the comparisons with sockdump.
 OF_DUMPS = ["-tan", "-uan", "-xan", "-Man", "-0an", "-an"]
+# Options and filters that select sockets, for ss and for sslist. PORT is the port of a TCP socket.
+SELECTIONS = [(f"-{it}n", f"-{it}n") for it in ("tl", "4a", "6a", "l", "xl", "ul", "4ta", "6xa")]
+SELECTIONS += [(f"-an -f {it}", f"-n -f {it}") for it in ("inet", "inet6", "unix", "link")]
+# For a single state ss leaves out the column.
+SELECTIONS += [(f"-an state last-ack state {it}", f"--state=last-ack --state={it}") for it in (
+    "established", "time-wait", "listening", "closed", "connected", "synchronized", "bucket", "big")]
+SELECTIONS += [("-tan sport = :PORT", "-t --sport=PORT"), ("-tan dport = :PORT", "-t --dport=PORT")]
+SELECTIONS += [("-tan sport >= :PORT", "-t --sport=PORT-")]
+SELECTIONS += [("-tan sport <= :PORT", "-t --sport=-PORT")]
 INET, INET6, UNIX = socket.AF_INET, socket.AF_INET6, socket.AF_UNIX
 STREAM, DATAGRAM, PACKETS = socket.SOCK_STREAM, socket.SOCK_DGRAM, socket.SOCK_SEQPACKET
 MPTCP = 262
@@ -129,9 +142,9 @@ def timer(milliseconds):
     return text + (f"{rest:03}ms" if rest else "")
 
 
-def listed(capture, *options):
-    """Returns the sockets that sslist lists, by key and in order, its standard error and its exit
-    status."""
+def listed(capture, options=()):
+    """Returns the sockets that sslist lists with these options, by key and in order, its standard
+    error and its exit status."""
     run = subprocess.run([LISTER, *options, capture], capture_output=True, check=False)
     sockets, last = {}, None
     for line in run.stdout.decode("ascii").splitlines()[1:]:
@@ -269,7 +282,7 @@ def compare_dump(option, capture):
     and returns their number."""
     ss = ["ss", option, "-OH"]
     theirs = subprocess.run(ss, capture_output=True, check=True).stdout.decode().splitlines()
-    sockets, errors, status = listed(capture, option)
+    sockets, errors, status = listed(capture, [option])
     wrong = found = 0
     for line in theirs:
         key, columns, _ = shown(line)
@@ -303,6 +316,28 @@ def compare_dumps(folder):
     return wrong
 
 
+def compare_selections(folder):
+    """Compares which sockets both programs list with options that select sockets, and prints the
+    differences. Returns their number."""
+    capture, wrong = f"{folder}/capture-an", 0
+    everything = listed(capture)[0]
+    port = next(key[0].rpartition(":")[2] for key, them in everything.items()
+        if them[0]["netid"] == "tcp" and them[0]["state"] == "LISTEN")
+    for theirs, ours in SELECTIONS:
+        theirs, ours = theirs.replace("PORT", port), ours.replace("PORT", port)
+        ss = ["ss", "-OH", *theirs.split()]
+        lines = subprocess.run(ss, capture_output=True, check=True, text=True).stdout.splitlines()
+        expected = sorted(str(shown(it)[0]) for it in lines if not it.startswith("nl "))
+        found = sorted(str(key) for key, them in listed(capture, ours.split())[0].items()
+            for it in them if it["netid"] != "nl")
+        lacking = [it for it in expected if it not in found]
+        more = [it for it in found if it not in expected]
+        differing = [f"lacks {it}" for it in lacking] + [f"has {it}" for it in more]
+        print(f"{ours}: {len(found)} sockets, ss lists {len(expected)}", *differing, sep="\n  ")
+        wrong += len(lacking) + len(more)
+    return wrong
+
+
 def main():
     if not LISTER.exists():
         sys.exit("compare_ss.py: sslist is not built; run ./sslist </dev/null")
@@ -314,7 +349,8 @@ def main():
         subprocess.run(["gcc", "-shared", "-fPIC", "-o", recorder, source], check=True)
         kept = make_sockets(folder)
         wrong = sum(compare(option, folder, recorder) for option in sys.argv[1:] or OPTIONS)
-        wrong += compare_dumps(folder) if not sys.argv[1:] else 0
+        if not sys.argv[1:]:
+            wrong += compare_dumps(folder) + compare_selections(folder)
         del kept
     return 1 if wrong else 0
 

@@ -14,3 +14,5 @@ pub mod Reporting
 pub mod Choosing
 pub mod Listed
 pub mod OptionsEquality
+pub mod JsonWriting
+pub mod JsonNames

@@ -1,15 +1,14 @@
 -- Details of a socket: a text for each value that the columns do not show. Texts are lists of ASCII
 -- codes: 44 is a comma and 41 a closing parenthesis.
 use Rattle.std.specs.Prelude.{ℕ, ◌==◌, ◌&&◌, ◌||◌, ◌/◌, ◌%◌, if◌then◌else◌, List, [], ◌∷◌, ◌++◌}
-use Rattle.std.specs.Prelude.{Bool, length, drop, false, flat_map, codes, decimal, bit_and, nat_le}
+use Rattle.std.specs.Prelude.{Bool, length, drop, false, flat_map, codes, decimal, nat_le}
 use Rattle.std.specs.Prelude.{slice_index, Option, None, Some, Result, Ok, Err}
 use Rattle.std.specs.Option.{option_map_or}
 use Rattle.std.specs.Result.{result_ok}
 use Rattle.byteorder.specs.Endian.{little_number}
 use Rattle.sock_diag_captures.specs.Parts.{cookie_if_shown, detail, directions, flag_detail}
-use Rattle.sock_diag_captures.specs.Parts.{hex_detail}
-use Rattle.sock_diag_captures.specs.Parts.{optional_part, packet_flags, pair_detail, nonzero_detail}
-use Rattle.sock_diag_captures.specs.Parts.{timer_if_shown}
+use Rattle.sock_diag_captures.specs.Parts.{hex_detail, optional_part, packet_flags, pair_detail}
+use Rattle.sock_diag_captures.specs.Parts.{threshold_detail, timer_if_shown}
 use Rattle.sock_diag_captures.specs.Escapes.{shown_name}
 use Rattle.sock_diag_captures.specs.Options.{shows_detail}
 use Rattle.sock_diag_captures.specs.declared.parts.TimerFields.{TimerFields}
@@ -21,7 +20,7 @@ use Rattle.sock_diag_captures.specs.declared.options.Family.TheVariants.{Netlink
 use Rattle.sock_diag_captures.specs.declared.options.Family.TheVariants.{Xdp}
 use Rattle.sock_diag_captures.specs.declared.options.Options.{Options}
 use Rattle.netlink_core.specs.Attribute.{Attribute, attribute_kind}
-use Rattle.netlink_core.specs.AttributeSet.{decode_attribute}
+use Rattle.netlink_core.specs.AttributeSet.{AttributeValue, decode_attribute}
 use Rattle.netlink_core.specs.Layout.{parse_record}
 use Rattle.netlink_core.specs.declared.error.DecodeError.{DecodeError}
 use Rattle.netlink_core.specs.declared.error.DecodeError.TheVariants.{BufferTooSmall, WrongLength}
@@ -56,24 +55,13 @@ use Rattle.sock_diag_families.specs.declared.netlink.TheConstants.{NETLINK_DIAG_
 use Rattle.sock_diag_families.specs.declared.packet.TheConstants.{PACKET_DIAG_INFO}
 use Rattle.sock_diag_families.specs.declared.packet.TheConstants.{PACKET_DIAG_MEMINFO}
 use Rattle.sock_diag_families.specs.declared.xdp.TheConstants.{XDP_DIAG_MEMINFO}
+use Rattle.sock_diag_captures.specs.Newer.{inet_newer_text, later_details, unix_newer_text}
 use Rattle.sock_diag_captures.specs.Pieces.{AttributeOrError}
-use Rattle.sock_diag_captures.specs.declared.details.Format.{Format}
+use Rattle.sock_diag_captures.specs.Rows.{rows_text, unknown_attribute_text}
+use Rattle.sock_diag_captures.specs.ShortInfo.{short_tcp_details, tcp_option_flags}
 use Rattle.sock_diag_captures.specs.declared.details.Format.TheVariants.{Always, Nonzero, Part}
 use Rattle.sock_diag_captures.specs.declared.details.Sockets.{Sockets}
 use Rattle.sock_diag_captures.specs.declared.details.Sockets.TheVariants.{Unix, Inet, Other}
-
--- ---- lists of names and numbers
-
--- The text of a name with a number. `Always`: ` name:number`. `Nonzero`: the same, or nothing if
--- the number is 0. `Part`: the name, which includes its punctuation, and the number.
-abbrev pub row_text : Format → List ℕ × ℕ → List ℕ
-row_text Always row = detail row.0 row.1
-row_text Nonzero row = nonzero_detail row.0 row.1
-row_text Part row = row.0 ++ decimal row.1
-
--- the texts of a list of names with numbers
-abbrev pub rows_text : Format → List (List ℕ × ℕ) → List ℕ
-rows_text format rows = flat_map (row_text format) rows
 
 -- ---- invalid values
 
@@ -97,22 +85,12 @@ invalid_attribute_text a e =
 
 -- ---- TCP connections
 
--- The flags of `tcpi_options`: TCPI_OPT_TIMESTAMPS (1), TCPI_OPT_SACK (2), TCPI_OPT_ECN (8),
--- TCPI_OPT_ECN_SEEN (16), TCPI_OPT_SYN_DATA (32). With TCPI_OPT_WSCALE (4), also the window scales:
--- `tcpi_snd_wscale` in the low four bits, `tcpi_rcv_wscale` in the high four bits.
-abbrev pub tcp_option_flags : TcpInfo → List ℕ
-tcp_option_flags t =
-    flag_detail (codes "ts") 1 t.options ++ flag_detail (codes "sack") 2 t.options
-    ++ flag_detail (codes "ecn") 8 t.options ++ flag_detail (codes "ecnseen") 16 t.options
-    ++ flag_detail (codes "fastopen") 32 t.options ++ (if bit_and t.options 4 == 0 then []
-    else pair_detail (codes "wscale") (t.wscale % 16) (t.wscale / 16))
-
--- The details of a TCP connection, from `struct tcp_info` of linux/tcp.h: members that are always
--- shown, the flags, and members that are shown if they are not 0. Comments give the units of the
--- lines after them. `app_limited` if bit 1 of the byte (`tcpi_delivery_rate_app_limited`) is set.
-abbrev pub tcp_details : TcpInfo → List ℕ
-tcp_details t =
-    rows_text Always (
+-- The details of a TCP connection from the round-trip time to the received bytes, from `struct
+-- tcp_info` of linux/tcp.h. Here and below, a member is shown if it is neither 0 nor unlimited, and
+-- comments give the units of the lines after them.
+unfoldable pub tcp_times : TcpInfo → List ℕ
+tcp_times t =
+    rows_text Nonzero (
     -- microseconds; bytes
     (codes "rtt", t.rtt) ∷ (codes "rttvar", t.rttvar) ∷ (codes "rto", t.rto) ∷
     (codes "mss", t.snd_mss) ∷ (codes "pmtu", t.pmtu) ∷
@@ -120,11 +98,18 @@ tcp_details t =
     (codes "cwnd", t.snd_cwnd) ∷ (codes "unacked", t.unacked) ∷
     (codes "retrans", t.total_retrans) ∷
     (codes "sent", t.bytes_sent) ∷ (codes "received", t.bytes_received) ∷ [])
-    ++ tcp_option_flags t
-    ++ rows_text Nonzero (
-    -- a count; microseconds; bytes, except `ssthresh` in segments
+
+-- The details of a TCP connection from the backoff to the delivered segments.
+unfoldable pub tcp_counts : TcpInfo → List ℕ
+tcp_counts t =
+    rows_text Nonzero (
+    -- a count; microseconds; bytes
     (codes "backoff", t.backoff) ∷ (codes "ato", t.ato) ∷ (codes "rcvmss", t.rcv_mss) ∷
-    (codes "advmss", t.advmss) ∷ (codes "ssthresh", t.snd_ssthresh) ∷
+    (codes "advmss", t.advmss) ∷ [])
+    -- segments
+    ++ threshold_detail t.snd_ssthresh
+    ++ rows_text Nonzero (
+    -- bytes
     (codes "snd_wnd", t.snd_wnd) ∷
     -- bytes; segments
     (codes "bytes_retrans", t.bytes_retrans) ∷ (codes "bytes_acked", t.bytes_acked) ∷
@@ -137,8 +122,11 @@ tcp_details t =
     (codes "pacing_rate", t.pacing_rate) ∷ (codes "max_pacing_rate", t.max_pacing_rate) ∷
     (codes "delivery_rate", t.delivery_rate) ∷
     (codes "delivered", t.delivered) ∷ (codes "delivered_ce", t.delivered_ce) ∷ [])
-    ++ flag_detail (codes "app_limited") 1 t.delivery_rate_app_limited
-    ++ rows_text Nonzero (
+
+-- The details of a TCP connection from the time that it was busy.
+unfoldable pub tcp_losses : TcpInfo → List ℕ
+tcp_losses t =
+    rows_text Nonzero (
     -- microseconds
     (codes "busy", t.busy_time) ∷ (codes "rwnd_limited", t.rwnd_limited) ∷
     (codes "sndbuf_limited", t.sndbuf_limited) ∷
@@ -150,6 +138,13 @@ tcp_details t =
     (codes "rcv_rtt", t.rcv_rtt) ∷ (codes "rcv_space", t.rcv_space) ∷
     (codes "rcv_ssthresh", t.rcv_ssthresh) ∷ (codes "minrtt", t.min_rtt) ∷
     (codes "rcv_ooopack", t.rcv_ooopack) ∷ [])
+
+-- The details of a TCP connection. `app_limited` if bit 1 of the byte
+-- (`tcpi_delivery_rate_app_limited`) is set.
+unfoldable pub tcp_details : TcpInfo → List ℕ
+tcp_details t =
+    tcp_times t ++ tcp_option_flags t.options t.wscale ++ tcp_counts t
+    ++ flag_detail (codes "app_limited") 1 t.delivery_rate_app_limited ++ tcp_losses t
 
 -- ---- memory in bytes
 
@@ -174,10 +169,6 @@ legacy_memory m =
 
 -- ---- attributes
 
--- an unknown attribute: its type and the length of its value. Example: ` unknown:(42,8)`.
-abbrev pub unknown_attribute_text : Attribute → List ℕ
-unknown_attribute_text a = pair_detail (codes "unknown") (attribute_kind a) (length a.value)
-
 -- `text_or_reason text a result`: the text of the value of the attribute `a`, which decodes to
 -- `result`, or the reason why it is invalid
 abbrev pub text_or_reason : {A : Type 0} → (A → List ℕ) → Attribute → Result A DecodeError → List ℕ
@@ -192,7 +183,7 @@ memory_value_text a = text_or_reason memory_text a (parse_record mem_info tt a.v
 -- Arguments: the options, the attribute, and its decoded value.
 abbrev pub inet_text : Options → Attribute → InetNla (List ℕ) Attribute → List ℕ
 inet_text o a (inet_nla.LegacyMemInfo m) = legacy_memory m
-inet_text o a (inet_nla.TcpInfo t) = tcp_details t
+inet_text o a (inet_nla.TcpInfo t) = tcp_details t ++ later_details a.value
 inet_text o a (inet_nla.Congestion name) = codes " cong:" ++ shown_name o.utf8 name
 inet_text o a (inet_nla.Tos n) = hex_detail (codes "tos") n
 inet_text o a (inet_nla.Tc n) = hex_detail (codes "tclass") n
@@ -202,7 +193,7 @@ inet_text o a (inet_nla.Protocol n) = detail (codes "protocol") n
 inet_text o a (inet_nla.SkV6Only flag) = detail (codes "v6only") (if flag then 1 else 0)
 inet_text o a (inet_nla.Mark n) = hex_detail (codes "fwmark") n
 inet_text o a (inet_nla.ClassId n) = hex_detail (codes "class_id") n
-inet_text o a (inet_nla.Other other) = unknown_attribute_text a
+inet_text o a (inet_nla.Other other) = inet_newer_text a
 
 -- The text of an attribute of a reply about a UNIX socket, by the variant of its value. The name,
 -- the peer and the queue lengths have columns, so they have no text. The memory is parsed again,
@@ -215,7 +206,7 @@ unix_text a (unix_nla.PendingConnections inodes) = flat_map (detail (codes "pend
 unix_text a (unix_nla.ReceiveQueueLength first second) = []
 unix_text a (unix_nla.MemInfo m) = memory_value_text a
 unix_text a (unix_nla.Shutdown n) = directions n
-unix_text a (unix_nla.Other other) = unknown_attribute_text a
+unix_text a (unix_nla.Other other) = unix_newer_text a
 
 -- The type of the attribute with the memory. Vsock sockets have none.
 abbrev pub memory_kind : Family → Option ℕ
@@ -254,19 +245,33 @@ abbrev pub other_text : Family → Attribute → List ℕ
 other_text family a =
     if is_memory_kind family (attribute_kind a) then memory_value_text a else family_text family a
 
+-- The text of an attribute of an IPv4 or IPv6 socket with an invalid value: of a TCP socket the
+-- fields that a short `struct tcp_info` contains, and else the reason.
+abbrev pub unread_inet_text : Bool → Attribute → DecodeError → List ℕ
+unread_inet_text is_tcp a e =
+    if is_tcp && (attribute_kind a == INET_DIAG_INFO) then short_tcp_details a.value
+    else invalid_attribute_text a e
+
+-- `inet_attribute_text o is_tcp a result`: the text of an attribute of an IPv4 or IPv6 socket,
+-- which decodes to `result`
+abbrev pub inet_attribute_text : Options → Bool → Attribute
+    → Result (AttributeValue inet_attribute_set) DecodeError → List ℕ
+inet_attribute_text o is_tcp a (Ok v) = inet_text o a (inet_variant v)
+inet_attribute_text o is_tcp a (Err e) = unread_inet_text is_tcp a e
+
 -- the text of an attribute, by the kind of sockets that the reply is about
 abbrev pub attribute_text : Options → Sockets → Attribute → List ℕ
 attribute_text o Unix a =
     text_or_reason (λ v. unix_text a (unix_variant v)) a (decode_attribute unix_attribute_set a)
-attribute_text o Inet a =
-    text_or_reason (λ v. inet_text o a (inet_variant v)) a (decode_attribute inet_attribute_set a)
+attribute_text o (Inet is_tcp) a =
+    inet_attribute_text o is_tcp a (decode_attribute inet_attribute_set a)
 attribute_text o (Other family) a = other_text family a
 
 -- The group of details of an attribute, by the kind of sockets that the reply is about and the type
 -- of the attribute.
 abbrev pub detail_group : Sockets → ℕ → Detail
 detail_group Unix kind = if kind == UNIX_DIAG_MEMINFO then Memory else Extended
-detail_group Inet kind =
+detail_group (Inet is_tcp) kind =
     if (kind == INET_DIAG_MEMINFO) || (kind == INET_DIAG_SKMEMINFO) then Memory
     else if (kind == INET_DIAG_INFO) || (kind == INET_DIAG_VEGASINFO) || (kind == INET_DIAG_CONG)
     || (kind == INET_DIAG_DCTCPINFO) || (kind == INET_DIAG_BBRINFO)

@@ -1,7 +1,9 @@
 -- The captures that a command line names, and the exit status.
 use Rattle.std.specs.Prelude.{ℕ, ◌==◌, if◌then◌else◌, List, [], ◌∷◌, Option, Some, None, filter}
-use Rattle.std.specs.Prelude.{fold, map}
-use Rattle.sock_diag_captures.specs.Choice.{is_file}
+use Rattle.std.specs.Prelude.{bytes_eq, codes, fold, map}
+use Rattle.sock_diag_captures.specs.Choice.{names_file, parsed}
+use Rattle.sock_diag_captures.specs.declared.arguments.Place.{Place}
+use Rattle.sock_diag_captures.specs.declared.arguments.Place.TheVariants.{Any}
 
 -- A capture that was listed: the name of the file, or None for standard input, and the exit status
 -- of the listing.
@@ -23,15 +25,22 @@ listing_name one = one.name
 abbrev pub listing_status : Listing → ℕ
 listing_status one = one.status
 
+-- the names of files among these arguments, the first of which is at the place `p`
+abbrev pub files_from : Place → List (List ℕ) → List (List ℕ)
+files_from p words = map (λ a. a.1) (filter (λ a. names_file a.0) (parsed p words))
+
+-- the capture in the file of this name, or the one on standard input (None) if the name is `-`
+abbrev pub capture_named : List ℕ → Option (List ℕ)
+capture_named name = if bytes_eq name (codes "-") then None else Some name
+
 -- the captures in these files, or the one on standard input if there is no file
 abbrev pub files_or_input : List (List ℕ) → List (Option (List ℕ))
 files_or_input [] = None ∷ []
-files_or_input (file ∷ files) = Some file ∷ map Some files
+files_or_input (file ∷ files) = map capture_named (file ∷ files)
 
--- the captures that the arguments name, in order: an argument that does not begin with a hyphen is
--- a file
+-- the captures that the arguments name, in order
 abbrev pub captures_in : List (List ℕ) → List (Option (List ℕ))
-captures_in words = files_or_input (filter is_file words)
+captures_in words = files_or_input (files_from Any words)
 
 -- the last status that is not 0, or 0 if all are
 abbrev pub last_failure : List ℕ → ℕ

@@ -35,9 +35,12 @@ use Rattle.sock_diag_captures.specs.Requests.{with_request_in_datagram, protocol
 use Rattle.sock_diag_captures.specs.declared.others.OtherSocket.{OtherSocket}
 use Rattle.sock_diag_captures.specs.declared.requests.Query.{Query}
 use Rattle.sock_diag_captures.specs.Details.{timer_in}
-use Rattle.sock_diag_captures.specs.Others.{family_numbered, netlink_socket, other_lines}
+use Rattle.sock_diag_captures.specs.Others.{family_numbered, netlink_socket}
 use Rattle.sock_diag_captures.specs.Others.{packet_socket, vsock_socket, xdp_socket}
-use Rattle.sock_diag_captures.specs.Table.{inet_lines, unix_lines}
+use Rattle.sock_diag_captures.specs.JsonData.{JsonMember}
+use Rattle.sock_diag_captures.specs.JsonListing.{inet_output, other_output, unix_output}
+use Rattle.sock_diag_captures.specs.JsonOthers.{netlink_header_members, packet_header_members}
+use Rattle.sock_diag_captures.specs.JsonOthers.{vsock_header_members, xdp_header_members}
 use Rattle.sock_diag_captures.specs.declared.list.Diagnostic.{Diagnostic}
 use Rattle.sock_diag_captures.specs.declared.list.Diagnostic.TheVariants.{Refused, Answered, Lost}
 use Rattle.sock_diag_captures.specs.declared.list.Diagnostic.TheVariants.{Invalid, NoEntry}
@@ -60,13 +63,15 @@ abbrev pub error_after_reply_header : {H : Type 0} → Result H DecodeError → 
 error_after_reply_header (Ok h) given = framing_error_of given
 error_after_reply_header (Err e) given = Some e
 
--- `other_reply_lines o header socket b`: the lines of a reply about a netlink, packet, vsock or XDP
--- socket. `header` is the layout of its header, which has `header.least` bytes, and
--- `socket h given` are the values that a line shows.
+-- `other_reply_lines o header socket family members b`: the lines of a reply about a netlink,
+-- packet, vsock or XDP socket. `header` is the layout of its header, which has `header.least`
+-- bytes, `socket h given` are the values that a line of the table shows, and `members h` are the
+-- members of the header in a line of JSON.
 abbrev pub other_reply_lines : {T H : Type 0} → Options → Layout (Unit {0}) T H
-    → (H → List AttributeOrError → OtherSocket) → List ℕ → List ℕ
-other_reply_lines o header socket b =
-    lines_after_header (λ h given. other_lines o (socket h given) given) (parse_record header tt b)
+    → (H → List AttributeOrError → OtherSocket) → Family → (H → List JsonMember) → List ℕ → List ℕ
+other_reply_lines o header socket family members b =
+    lines_after_header (λ h given. other_output o (socket h given) family (members h) given)
+    (parse_record header tt b)
     (attributes_or_error 0 (drop header.least b))
 
 -- `other_reply_error header b`: the decode error of a reply with this layout of its header, or None
@@ -77,10 +82,10 @@ other_reply_error header b = error_after_reply_header (parse_record header tt b)
 -- `family_lines o family b`: the lines of a reply about a socket of this family; none for an
 -- unknown family (None)
 abbrev pub family_lines : Options → Option Family → List ℕ → List ℕ
-family_lines o (Some Netlink) b = other_reply_lines o netlink_header netlink_socket b
-family_lines o (Some Packet) b = other_reply_lines o packet_header packet_socket b
-family_lines o (Some Vsock) b = other_reply_lines o vsock_header vsock_socket b
-family_lines o (Some Xdp) b = other_reply_lines o xdp_header xdp_socket b
+family_lines o (Some Netlink) b = other_reply_lines o netlink_header netlink_socket Netlink netlink_header_members b
+family_lines o (Some Packet) b = other_reply_lines o packet_header packet_socket Packet packet_header_members b
+family_lines o (Some Vsock) b = other_reply_lines o vsock_header vsock_socket Vsock vsock_header_members b
+family_lines o (Some Xdp) b = other_reply_lines o xdp_header xdp_socket Xdp xdp_header_members b
 family_lines o None b = []
 
 -- `family_error family b`: the decode error of a reply about a socket of this family, if there is
@@ -99,10 +104,10 @@ family_error None b = None
 -- (`family_lines`).
 abbrev pub payload_lines : Options → Option ℕ → Result MessageKind DecodeError → List ℕ → List ℕ
 payload_lines o protocol (Ok unix_response) b =
-    lines_after_header (unix_lines o) (parse_record unix_response_header tt b)
+    lines_after_header (unix_output o) (parse_record unix_response_header tt b)
     (attributes_or_error 0 (drop 16 b))
 payload_lines o protocol (Ok inet_response) b =
-    lines_after_header (inet_lines o protocol (timer_in b)) (parse_record inet_response_header tt b)
+    lines_after_header (inet_output o protocol (timer_in b)) (parse_record inet_response_header tt b)
     (attributes_or_error 0 (drop 72 b))
 payload_lines o protocol (Err (UnknownFamily n)) b = family_lines o (family_numbered n) b
 payload_lines o protocol _ b = []

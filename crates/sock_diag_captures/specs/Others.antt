@@ -170,12 +170,11 @@ abbrev pub other_line : OtherSocket → List AttributeOrError → List ℕ
 other_line s given = table_line (other_columns s given) (numbers_text s.local)
     (optional_numbers_text s.peer)
 
--- `other_lines o s given`: the lines of a socket, if the options select its family: the columns,
--- the details and a line feed (10). Else nothing. The cookie is passed as eight bytes,
--- little-endian.
+-- `other_lines o s given`: the lines of a socket, if the options select it: the columns, the
+-- details and a line feed (10). Else nothing. The cookie is passed as eight bytes, little-endian.
 abbrev pub other_lines : Options → OtherSocket → List AttributeOrError → List ℕ
 other_lines o s given =
-    if lists_family o s.family
+    if lists_family o s.family s.state
     then other_line s given
     ++ details_after_separator o (details o (Other s.family) no_timer
     (little_bytes 8 s.cookie) given) ++ 10 ∷ []

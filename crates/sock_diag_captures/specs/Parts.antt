@@ -1,7 +1,7 @@
 -- Details of a line. Texts are lists of ASCII codes: 32 is a space, 58 a colon, 44 a comma, 41 a
 -- closing parenthesis. Arguments named `word` are names of details.
 use Rattle.std.specs.Prelude.{ℕ, ◌==◌, if◌then◌else◌, List, [], ◌∷◌, ◌++◌, false, codes, decimal}
-use Rattle.std.specs.Prelude.{bit_and, Option, None, Some}
+use Rattle.std.specs.Prelude.{bit_and, ◌||◌, Option, None, Some}
 use Rattle.std.specs.Fmt.{digits}
 use Rattle.byteorder.specs.Endian.{little_number}
 use Rattle.sock_diag_captures.specs.Options.{shows_detail}
@@ -22,9 +22,14 @@ hex_detail word n = 32 ∷ word ++ codes ":0x" ++ digits 16 false n
 abbrev pub pair_detail : List ℕ → ℕ → ℕ → List ℕ
 pair_detail word n m = 32 ∷ word ++ codes ":(" ++ decimal n ++ 44 ∷ decimal m ++ 41 ∷ []
 
--- the detail with a name and a number, or nothing if the number is 0
+-- the detail with a name and a number, or nothing if the number is 0, or 2 ^ 64 - 1, which is no
+-- limit
 abbrev pub nonzero_detail : List ℕ → ℕ → List ℕ
-nonzero_detail word n = if n == 0 then [] else detail word n
+nonzero_detail word n = if n == 0 || n == 0xffffffffffffffff then [] else detail word n
+
+-- the slow start threshold, or nothing if it is 0, or 0x7fffffff (TCP_INFINITE_SSTHRESH)
+abbrev pub threshold_detail : ℕ → List ℕ
+threshold_detail n = if n == 0 || n == 0x7fffffff then [] else detail (codes "ssthresh") n
 
 -- `flag_detail word bits n`: a space and the name, if the number `n` has at least one of these bits
 abbrev pub flag_detail : List ℕ → ℕ → ℕ → List ℕ

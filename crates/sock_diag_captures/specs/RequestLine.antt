@@ -1,4 +1,5 @@
 -- Lines of requests.
+use Rattle.std.specs.Prelude.{◌&&◌}
 use Rattle.std.specs.Prelude.{ℕ, ◌==◌, ◌||◌, not, nat_lt, if◌then◌else◌, List, [], ◌∷◌, ◌++◌}
 use Rattle.std.specs.Prelude.{length, codes, drop, slice_index, Option, None, Some}
 use Rattle.byteorder.specs.Endian.{little_number}
@@ -60,6 +61,7 @@ request_line h datagram =
     ++ 32 ∷ request_text (inet_request_in_datagram datagram) (requested_unix_states datagram)
     (requested_family datagram) ++ 10 ∷ []
 
--- the line of a request if `--requests` is set, or else nothing
+-- the line of a request if `--requests` is set and `--json` is not, or else nothing
 abbrev pub request_line_if_selected : Options → PacketHeader → List ℕ → List ℕ
-request_line_if_selected o h datagram = if o.requests then request_line h datagram else []
+request_line_if_selected o h datagram =
+    if o.requests && not o.json then request_line h datagram else []

@@ -1,11 +1,11 @@
 -- Lines of the table for UNIX, IPv4 and IPv6 sockets. `given` are the attributes of a reply.
 use Rattle.std.specs.Prelude.{ℕ, ◌==◌, nat_lt, if◌then◌else◌, ◌&&◌, Bool, List, [], ◌∷◌, ◌++◌}
 use Rattle.std.specs.Prelude.{length, codes, Option, None, Some, slice_index, option_map, drop}
-use Rattle.std.specs.Prelude.{◌||◌}
+use Rattle.std.specs.Prelude.{◌||◌, false, option_and_then}
 use Rattle.sock_diag_captures.specs.Cells.{endpoint, table_line, peer_cell}
 use Rattle.sock_diag_captures.specs.Parts.{no_timer, details_after_separator}
 use Rattle.sock_diag_captures.specs.Escapes.{byte_digits, unescaped_bytes, shown_name}
-use Rattle.sock_diag_captures.specs.Options.{lists_protocol, lists_unix}
+use Rattle.sock_diag_captures.specs.Options.{lists_inet, lists_unix}
 use Rattle.sock_diag_captures.specs.declared.parts.TimerFields.{TimerFields}
 use Rattle.sock_diag_captures.specs.declared.options.Options.{Options}
 use Rattle.sock_diag_records.specs.declared.inet.response.InetResponseHeader.{InetResponseHeader}
@@ -16,7 +16,9 @@ use Rattle.sock_diag_attributes.specs.declared.unix.name.SocketName.{SocketName}
 use Rattle.sock_diag_attributes.specs.declared.unix.name.SocketName.TheVariants.{Abstract, Pathname}
 use Rattle.sock_diag_attributes.specs.UnixAttributes.{unix_attribute_set}
 use Rattle.sock_diag_captures.specs.Details.{details}
-use Rattle.sock_diag_captures.specs.Pieces.{AttributeOrError, first_content}
+use Rattle.sock_diag_captures.specs.Newer.{user_id}
+use Rattle.sock_diag_captures.specs.Pieces.{AttributeOrError, first_content, first_of_kind}
+use Rattle.sock_diag_extras.specs.declared.constants.TheConstants.{UNIX_DIAG_UID}
 use Rattle.sock_diag_captures.specs.declared.details.Sockets.TheVariants.{Inet, Unix}
 
 -- ---- UNIX sockets
@@ -78,8 +80,8 @@ inet_kind (Some protocol) family =
 
 -- `unix_line o h given`: the columns of a UNIX socket, whose header is `h`. The name is in the
 -- attribute UNIX_DIAG_NAME, the inode of the peer in UNIX_DIAG_PEER, and the lengths of the queues
--- in UNIX_DIAG_RQLEN: first the receive queue, then the send queue. The first attribute of each
--- type counts.
+-- in UNIX_DIAG_RQLEN: first the receive queue, then the send queue. The user id is in
+-- UNIX_DIAG_UID. The first attribute of each type counts.
 abbrev pub unix_line : Options → UnixResponseHeader → List AttributeOrError → List ℕ
 unix_line o h given =
     let queues = first_content unix_attribute_set UNIX_DIAG_RQLEN given in
@@ -89,7 +91,7 @@ unix_line o h given =
       receive_queue = option_map (λ ns. ns.0) queues;
       send_queue = option_map (λ ns. ns.1) queues;
       inode = h.inode;
-      uid = None;
+      uid = option_and_then user_id (first_of_kind UNIX_DIAG_UID given);
     }) (name_cell o.utf8 (first_content unix_attribute_set UNIX_DIAG_NAME given))
     (peer_cell (first_content unix_attribute_set UNIX_DIAG_PEER given))
 
@@ -109,24 +111,29 @@ inet_line protocol h =
     }) (endpoint id.source_address id.interface_id id.source_port)
     (endpoint id.destination_address 0 id.destination_port)
 
--- `unix_lines o h given`: the lines of a UNIX socket, if the options select UNIX sockets: the
--- columns, the details and a line feed (10). Else nothing.
+-- `unix_lines o h given`: the lines of a UNIX socket, if the options select it: the columns, the
+-- details and a line feed (10). Else nothing.
 abbrev pub unix_lines : Options → UnixResponseHeader → List AttributeOrError → List ℕ
 unix_lines o h given =
-    if lists_unix o
+    if lists_unix o h.state
     then unix_line o h given ++ details_after_separator o (details o Unix no_timer h.cookie given)
     ++ 10 ∷ []
     else []
 
+-- the protocol of the request is 6 (IPPROTO_TCP)
+abbrev pub is_tcp : Option ℕ → Bool
+is_tcp None = false
+is_tcp (Some protocol) = protocol == 6
+
 -- `inet_lines o protocol timer h given`: the lines of an IPv4 or IPv6 socket, if the options select
--- its protocol: the columns, the details and a line feed (10). Else nothing. `timer` are the timer
--- fields of the reply's header (`timer_in`).
+-- it: the columns, the details and a line feed (10). Else nothing. `timer` are the timer fields of
+-- the reply's header (`timer_in`).
 abbrev pub inet_lines : Options → Option ℕ → TimerFields → InetResponseHeader
     → List AttributeOrError
     → List ℕ
 inet_lines o protocol timer h given =
-    if lists_protocol o protocol
+    if lists_inet o protocol h
     then inet_line protocol h ++ details_after_separator o
-    (details o Inet timer h.socket_id.cookie given)
+    (details o (Inet (is_tcp protocol)) timer h.socket_id.cookie given)
     ++ 10 ∷ []
     else []

@@ -1,5 +1,6 @@
 -- Time of the capture of a packet.
-use Rattle.std.specs.Prelude.{ℕ, ◌-◌, List, ◌∷◌, ◌++◌, length, replicate, decimal}
+use Rattle.std.specs.Prelude.{ℕ, ◌-◌, ◌+◌, ◌*◌, ◌/◌, ◌%◌, List, ◌∷◌, ◌++◌, length, replicate}
+use Rattle.std.specs.Prelude.{decimal}
 use Rattle.program_streams.specs.declared.captures.PacketHeader.{PacketHeader}
 use Rattle.program_streams.specs.declared.captures.TimeUnit.{TimeUnit}
 use Rattle.program_streams.specs.declared.captures.TimeUnit.TheVariants.{Microseconds, Nanoseconds}
@@ -8,11 +9,16 @@ use Rattle.program_streams.specs.declared.captures.TimeUnit.TheVariants.{Microse
 abbrev pub zero_padded : ℕ → ℕ → List ℕ
 zero_padded width n = replicate (width - length (decimal n)) 48 ++ decimal n
 
--- a fraction of a second in at least six digits for microseconds, and at least nine for nanoseconds
-abbrev pub fraction_text : TimeUnit → ℕ → List ℕ
-fraction_text Microseconds n = zero_padded 6 n
-fraction_text Nanoseconds n = zero_padded 9 n
+-- a fraction of a second in this unit, in nanoseconds
+abbrev pub fraction_in_nanoseconds : TimeUnit → ℕ → ℕ
+fraction_in_nanoseconds Microseconds n = n * 1000
+fraction_in_nanoseconds Nanoseconds n = n
 
--- the seconds since 1970, a point (46) and the fraction of a second
+-- the time in nanoseconds since 1970
+abbrev pub nanoseconds : PacketHeader → ℕ
+nanoseconds h = h.seconds * 1000000000 + fraction_in_nanoseconds h.unit h.fraction
+
+-- the seconds since 1970, a point (46) and nine digits of the fraction of a second
 abbrev pub time_text : PacketHeader → List ℕ
-time_text h = decimal h.seconds ++ 46 ∷ fraction_text h.unit h.fraction
+time_text h =
+    decimal (nanoseconds h / 1000000000) ++ 46 ∷ zero_padded 9 (nanoseconds h % 1000000000)

@@ -3,7 +3,7 @@
 ghost use Rattle.std.specs.Prelude.{map, string_bytes};
 ghost use Rattle.sock_diag_captures.specs.Choice.{IsChoice};
 
-use crate::arguments::{Argument, parse_argument};
+use crate::arguments::{Argument, Place, argument_at};
 use crate::options::Options;
 
 /// The request of a command line.
@@ -13,26 +13,34 @@ pub enum Choice<'a> {
     Help,
     /// Print the version.
     Version,
-    /// Reject this argument: it is an unknown option.
+    /// Reject this argument: it is an unknown option, or after `-f` an unknown family.
     Reject(&'a str),
+    /// Reject the command line: it ends in `-f`, without the name of a family.
+    MissingFamily,
     /// List captures with these options.
     Captures(Options),
 }
 
-/// Returns the request of the arguments after the program's name. The first argument that is
-/// `--help`, `--version` or an unknown option decides. If there is none, captures are listed with
-/// the options of all arguments. Names of files are not considered.
+/// Returns the request of the arguments after the program's name. The first argument that requests
+/// the help text or the version, or is an unknown option or family, decides. If there is none,
+/// captures are listed with the options of all arguments. Names of files are not considered.
 pub fn choose(arguments: &[String]) -> Choice<'_>
     ensures { IsChoice (map string_bytes arguments.entry.now) result }
 {
     let mut options = Options::default();
+    let mut place = Place::Any;
     for argument in arguments {
-        match parse_argument(argument.as_str()) {
+        let parsed = argument_at(place, argument.as_bytes());
+        match parsed {
             Argument::Help => return Choice::Help,
             Argument::Version => return Choice::Version,
             Argument::Unknown => return Choice::Reject(argument.as_str()),
-            option => options.add_argument(option),
+            _ => options.add_argument(parsed, argument.as_bytes()),
         }
+        place = parsed.next_place(place);
     }
-    Choice::Captures(options)
+    match place {
+        Place::Family => Choice::MissingFamily,
+        Place::Any | Place::File => Choice::Captures(options),
+    }
 }

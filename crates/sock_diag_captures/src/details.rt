@@ -13,19 +13,25 @@ ghost use Rattle.sock_diag_captures.specs.Details.{attribute_or_error_detail, de
 ghost use Rattle.sock_diag_captures.specs.Details.{details, error_reason, inet_text};
 ghost use Rattle.sock_diag_captures.specs.Details.{invalid_attribute_text, legacy_memory};
 ghost use Rattle.sock_diag_captures.specs.Details.{memory_kind, memory_text, memory_value_text};
-ghost use Rattle.sock_diag_captures.specs.Details.{other_text, packet_text, row_text, tcp_details};
-ghost use Rattle.sock_diag_captures.specs.Details.{tcp_option_flags, timer_in, unix_text};
-ghost use Rattle.sock_diag_captures.specs.Details.{unknown_attribute_text};
+ghost use Rattle.sock_diag_captures.specs.Details.{other_text, packet_text, tcp_counts};
+ghost use Rattle.sock_diag_captures.specs.Details.{tcp_details, tcp_losses, tcp_times};
+ghost use Rattle.sock_diag_captures.specs.Details.{timer_in, unix_text, unread_inet_text};
+ghost use Rattle.sock_diag_captures.specs.Newer.{later_details};
+ghost use Rattle.sock_diag_captures.specs.ShortInfo.{tcp_option_flags};
 ghost use Rattle.sock_diag_captures.specs.Pieces.{attributes_or_error};
+ghost use Rattle.sock_diag_captures.specs.Rows.{row_text, unknown_attribute_text};
 
 use crate::cells::push_number;
 use crate::names::push_shown;
+use crate::newer::{push_inet_newer, push_later_fields, push_unix_newer};
 use crate::options::{Detail, Family, Options};
 use crate::parts::{
     TimerFields, push_detail, push_directions, push_flag, push_hex_detail, push_packet_flags,
-    push_pair, push_part, push_shown_cookie, push_shown_timer, push_some, separator,
+    push_pair, push_part, push_shown_cookie, push_shown_timer, push_some, push_threshold,
+    separator,
 };
 use crate::pieces::next_piece;
+use crate::short_info::push_short_tcp;
 use byteorder::{ByteOrder, LittleEndian};
 use netlink_core::{DecodeError, NlaBuffer, NlasIterator};
 use sock_diag_attributes::inet::nlas::NlaView as InetView;
@@ -47,7 +53,10 @@ pub(crate) enum Sockets {
     /// UNIX sockets.
     Unix,
     /// IPv4 and IPv6 sockets.
-    Inet,
+    Inet {
+        /// The protocol of the request is TCP.
+        is_tcp: bool,
+    },
     /// Sockets of another family.
     Other(Family),
 }
@@ -57,7 +66,7 @@ pub(crate) enum Sockets {
 pub(crate) enum Format {
     /// A space, the name, a colon and the number.
     Always,
-    /// As `Always`, but nothing if the number is 0.
+    /// As `Always`, but nothing if the number is 0, or `u64::MAX`, which is no limit.
     Nonzero,
     /// The name, which includes its punctuation, and the number.
     Part,
@@ -164,9 +173,9 @@ fn push_attribute(
             Ok(view) => push_unix(text, nla, &view),
             Err(error) => push_invalid(text, nla, &error),
         },
-        Sockets::Inet => match InetView::parse(nla) {
+        Sockets::Inet { is_tcp } => match InetView::parse(nla) {
             Ok(view) => push_inet(text, options, nla, &view),
-            Err(error) => push_invalid(text, nla, &error),
+            Err(error) => push_unread_inet(text, is_tcp, nla, &error),
         },
         Sockets::Other(family) => push_other(text, family, nla),
     }
@@ -178,10 +187,10 @@ fn detail_group(sockets: Sockets, kind: u16) -> Detail
 {
     match (sockets, kind) {
         (Sockets::Unix, UNIX_DIAG_MEMINFO)
-        | (Sockets::Inet, INET_DIAG_MEMINFO | INET_DIAG_SKMEMINFO) => Detail::Memory,
+        | (Sockets::Inet { .. }, INET_DIAG_MEMINFO | INET_DIAG_SKMEMINFO) => Detail::Memory,
         (Sockets::Other(family), _) if memory_kind(family) == Some(kind) => Detail::Memory,
         (
-            Sockets::Inet,
+            Sockets::Inet { .. },
             INET_DIAG_INFO
             | INET_DIAG_VEGASINFO
             | INET_DIAG_CONG
@@ -217,7 +226,7 @@ fn push_unix(text: &mut Vec<u8>, nla: &NlaBuffer<'_>, view: &UnixView<'_>) -> Re
         UnixView::PendingConnections(inodes) => push_pending(text, inodes),
         UnixView::MemInfo(_) => push_memory_value(text, nla),
         UnixView::Shutdown(state) => push_directions(text, *state),
-        UnixView::Other(_) => push_unknown(text, nla),
+        UnixView::Other(_) => push_unix_newer(text, nla),
     }
 }
 
@@ -244,7 +253,7 @@ fn push_inet(
 {
     match view {
         InetView::LegacyMemInfo(memory) => push_legacy_memory(text, memory),
-        InetView::TcpInfo(info) => push_connection(text, info),
+        InetView::TcpInfo(info) => push_tcp(text, info, nla.value()),
         InetView::Congestion(name) => {
             text.extend_from_slice(b" cong:")?;
             push_shown(text, options.utf8, name.as_bytes())
@@ -257,7 +266,7 @@ fn push_inet(
         InetView::SkV6Only(only) => push_detail(text, b"v6only", u8::from(*only).into()),
         InetView::Mark(mark) => push_hex_detail(text, b"fwmark", (*mark).into()),
         InetView::ClassId(class) => push_hex_detail(text, b"class_id", (*class).into()),
-        InetView::Other(_) => push_unknown(text, nla),
+        InetView::Other(_) => push_inet_newer(text, nla),
     }
 }
 
@@ -291,8 +300,26 @@ fn push_packet_info(text: &mut Vec<u8>, info: &PacketInfo) -> Result<(), AllocEr
     push_packet_flags(text, (info.flags % 256) as u8)
 }
 
+/// Appends an attribute of an IPv4 or IPv6 socket that the port does not parse: of a TCP socket the
+/// fields of a short `struct tcp_info`, and else the reason.
+fn push_unread_inet(
+    text: &mut Vec<u8>,
+    is_tcp: bool,
+    nla: &NlaBuffer<'_>,
+    error: &DecodeError,
+) -> Result<(), AllocError>
+    ensures { OnOk result (text.new.items ≡ text.old.items
+        ++ unread_inet_text is_tcp (buffered_attribute nla.now) error.now) }
+{
+    if is_tcp && nla.kind() == INET_DIAG_INFO {
+        push_short_tcp(text, nla.value())
+    } else {
+        push_invalid(text, nla, error)
+    }
+}
+
 /// Appends the kind of an unknown attribute, and the length of its value in bytes.
-fn push_unknown(text: &mut Vec<u8>, nla: &NlaBuffer<'_>) -> Result<(), AllocError>
+pub(crate) fn push_unknown(text: &mut Vec<u8>, nla: &NlaBuffer<'_>) -> Result<(), AllocError>
     ensures { OnOk result (text.new.items
         ≡ text.old.items ++ unknown_attribute_text (buffered_attribute nla.now)) }
 {
@@ -332,7 +359,11 @@ fn error_reason(error: &DecodeError) -> &'static [u8]
 }
 
 /// Appends a list of names and numbers.
-fn push_rows(text: &mut Vec<u8>, format: Format, rows: &[(&[u8], u64)]) -> Result<(), AllocError>
+pub(crate) fn push_rows(
+    text: &mut Vec<u8>,
+    format: Format,
+    rows: &[(&[u8], u64)],
+) -> Result<(), AllocError>
     ensures { OnOk result (text.new.items ≡ text.old.items
         ++ flat_map (λ row. row_text format (row.0.now, row.1)) rows.now) }
 {
@@ -384,29 +415,46 @@ fn push_legacy_memory(text: &mut Vec<u8>, info: &LegacyMemInfo) -> Result<(), Al
     Ok(text.push(b')')?)
 }
 
-/// Appends the details of a TCP connection (`INET_DIAG_INFO`).
+/// Appends the details of a TCP connection (`INET_DIAG_INFO`): those of the port's record, and of
+/// the fields after it in the value.
 #[tactic(auto, using(crate::proofs::Adding::appended_texts_concatenate))]
+fn push_tcp(text: &mut Vec<u8>, info: &TcpInfo, value: &[u8]) -> Result<(), AllocError>
+    ensures { OnOk result (text.new.items ≡ text.old.items
+        ++ tcp_details info.now ++ later_details value.now) }
+{
+    push_connection(text, info)?;
+    push_later_fields(text, value)
+}
+
+/// Appends the details of a TCP connection in the port's record.
+#[tactic(auto, using(crate::proofs::Adding::appended_texts_concatenate), unfolding(crate::specs::Details::tcp_details))]
 fn push_connection(text: &mut Vec<u8>, info: &TcpInfo) -> Result<(), AllocError>
     ensures { OnOk result (text.new.items ≡ text.old.items ++ tcp_details info.now) }
 {
-    push_fields!(text, Format::Always, info,
+    push_times(text, info)?;
+    push_options(text, info.options, info.wscale)?;
+    push_counts(text, info)?;
+    push_flag(text, b"app_limited", 1, info.delivery_rate_app_limited)?;
+    push_losses(text, info)
+}
+
+/// Appends the details of a TCP connection from the round-trip time to the received bytes.
+#[tactic(auto, unfolding(crate::specs::Details::tcp_times))]
+fn push_times(text: &mut Vec<u8>, info: &TcpInfo) -> Result<(), AllocError>
+    ensures { OnOk result (text.new.items ≡ text.old.items ++ tcp_times info.now) }
+{
+    push_fields!(text, Format::Nonzero, info,
         b"rtt": rtt, b"rttvar": rttvar, b"rto": rto, b"mss": snd_mss, b"pmtu": pmtu,
         b"cwnd": snd_cwnd, b"unacked": unacked, b"retrans": total_retrans,
         b"sent": bytes_sent, b"received": bytes_received,
-    )?;
-    push_options(text, info)?;
-    push_fields!(text, Format::Nonzero, info,
-        b"backoff": backoff, b"ato": ato, b"rcvmss": rcv_mss, b"advmss": advmss,
-        b"ssthresh": snd_ssthresh, b"snd_wnd": snd_wnd,
-        b"bytes_retrans": bytes_retrans, b"bytes_acked": bytes_acked,
-        b"segs_out": segs_out, b"segs_in": segs_in,
-        b"data_segs_out": data_segs_out, b"data_segs_in": data_segs_in,
-        b"lastsnd": last_data_sent, b"lastrcv": last_data_recv, b"lastack": last_ack_recv,
-        b"notsent": notsent_bytes,
-        b"pacing_rate": pacing_rate, b"max_pacing_rate": max_pacing_rate,
-        b"delivery_rate": delivery_rate, b"delivered": delivered, b"delivered_ce": delivered_ce,
-    )?;
-    push_flag(text, b"app_limited", 1, info.delivery_rate_app_limited)?;
+    )
+}
+
+/// Appends the details of a TCP connection from the time that it was busy.
+#[tactic(auto, unfolding(crate::specs::Details::tcp_losses))]
+fn push_losses(text: &mut Vec<u8>, info: &TcpInfo) -> Result<(), AllocError>
+    ensures { OnOk result (text.new.items ≡ text.old.items ++ tcp_losses info.now) }
+{
     push_fields!(text, Format::Nonzero, info,
         b"busy": busy_time, b"rwnd_limited": rwnd_limited, b"sndbuf_limited": sndbuf_limited,
         b"retrans_now": retrans, b"lost": lost, b"sacked": sacked, b"dsack_dups": dsack_dups,
@@ -416,18 +464,39 @@ fn push_connection(text: &mut Vec<u8>, info: &TcpInfo) -> Result<(), AllocError>
     )
 }
 
-/// Appends the flags of `tcpi_options`, and the window scales if they are negotiated.
-fn push_options(text: &mut Vec<u8>, info: &TcpInfo) -> Result<(), AllocError>
-    ensures { OnOk result (text.new.items ≡ text.old.items ++ tcp_option_flags info.now) }
+/// Appends the details of a TCP connection from the backoff to the delivered segments.
+#[tactic(auto, using(crate::proofs::Adding::appended_texts_concatenate), unfolding(crate::specs::Details::tcp_counts))]
+fn push_counts(text: &mut Vec<u8>, info: &TcpInfo) -> Result<(), AllocError>
+    ensures { OnOk result (text.new.items ≡ text.old.items ++ tcp_counts info.now) }
 {
-    push_flag(text, b"ts", TCPI_OPT_TIMESTAMPS, info.options)?;
-    push_flag(text, b"sack", TCPI_OPT_SACK, info.options)?;
-    push_flag(text, b"ecn", TCPI_OPT_ECN, info.options)?;
-    push_flag(text, b"ecnseen", TCPI_OPT_ECN_SEEN, info.options)?;
-    push_flag(text, b"fastopen", TCPI_OPT_SYN_DATA, info.options)?;
-    if info.options & TCPI_OPT_WSCALE == 0 {
+    push_fields!(text, Format::Nonzero, info,
+        b"backoff": backoff, b"ato": ato, b"rcvmss": rcv_mss, b"advmss": advmss,
+    )?;
+    push_threshold(text, info.snd_ssthresh.into())?;
+    push_fields!(text, Format::Nonzero, info,
+        b"snd_wnd": snd_wnd,
+        b"bytes_retrans": bytes_retrans, b"bytes_acked": bytes_acked,
+        b"segs_out": segs_out, b"segs_in": segs_in,
+        b"data_segs_out": data_segs_out, b"data_segs_in": data_segs_in,
+        b"lastsnd": last_data_sent, b"lastrcv": last_data_recv, b"lastack": last_ack_recv,
+        b"notsent": notsent_bytes,
+        b"pacing_rate": pacing_rate, b"max_pacing_rate": max_pacing_rate,
+        b"delivery_rate": delivery_rate, b"delivered": delivered, b"delivered_ce": delivered_ce,
+    )
+}
+
+/// Appends the flags of `tcpi_options`, and the window scales if they are negotiated.
+pub(crate) fn push_options(text: &mut Vec<u8>, options: u8, wscale: u8) -> Result<(), AllocError>
+    ensures { OnOk result (text.new.items ≡ text.old.items ++ tcp_option_flags options wscale) }
+{
+    push_flag(text, b"ts", TCPI_OPT_TIMESTAMPS, options)?;
+    push_flag(text, b"sack", TCPI_OPT_SACK, options)?;
+    push_flag(text, b"ecn", TCPI_OPT_ECN, options)?;
+    push_flag(text, b"ecnseen", TCPI_OPT_ECN_SEEN, options)?;
+    push_flag(text, b"fastopen", TCPI_OPT_SYN_DATA, options)?;
+    if options & TCPI_OPT_WSCALE == 0 {
         return Ok(());
     }
-    let (sent, received) = (info.wscale % 16, info.wscale / 16);
+    let (sent, received) = (wscale % 16, wscale / 16);
     push_pair(text, b"wscale", sent.into(), received.into())
 }

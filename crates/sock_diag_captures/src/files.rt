@@ -1,12 +1,12 @@
 //! Listing of the captures that a command line names.
 
-ghost use Rattle.std.specs.Prelude.{◌≡◌, ◌++◌, ◌∷◌, [], ◌==◌, if◌then◌else◌, List, map};
-ghost use Rattle.std.specs.Prelude.{option_map, string_bytes};
+ghost use Rattle.std.specs.Prelude.{◌≡◌, ◌↔◌, ◌<◌, ◌++◌, ◌∷◌, [], ◌==◌, if◌then◌else◌, List, map};
+ghost use Rattle.std.specs.Prelude.{length, option_map, string_bytes, IsTrue};
 ghost use Rattle.std.specs.Process.{exit_status};
-ghost use Rattle.sock_diag_captures.specs.Files.{Listing, captures_in, last_failure, listing};
-ghost use Rattle.sock_diag_captures.specs.Files.{listing_name, listing_status};
+ghost use Rattle.sock_diag_captures.specs.Files.{Listing, capture_named, captures_in, last_failure};
+ghost use Rattle.sock_diag_captures.specs.Files.{listing, listing_name, listing_status};
 
-use crate::arguments::is_file;
+use crate::arguments::{Place, argument_at};
 use std::process::ExitCode;
 
 /// A lister of captures. Generic code can list a capture by this method only, so it cannot return a
@@ -25,8 +25,8 @@ pub trait ListCapture {
 }
 
 /// Lists the captures in the files that the arguments name, in order, or the one on standard input
-/// if they name none. Returns the last status that is not 0, or else 0. `lister` must not have
-/// listed a capture before.
+/// if they name none. The name `-` is standard input. Returns the last status that is not 0, or
+/// else 0. `lister` must not have listed a capture before.
 pub fn list_captures<L: ListCapture>(arguments: &[String], lister: &mut L) -> ExitCode
     requires { L.listed lister.old [] }
     ensures { (listings : List Listing) × L.listed lister.new listings
@@ -35,18 +35,47 @@ pub fn list_captures<L: ListCapture>(arguments: &[String], lister: &mut L) -> Ex
 {
     let mut status = ExitCode::SUCCESS;
     let mut is_named = false;
+    let mut place = Place::Any;
     for argument in arguments {
-        if is_file(argument.as_bytes()) {
-            let next = lister.list_capture(Some(argument.as_str()));
+        let parsed = argument_at(place, argument.as_bytes());
+        if parsed.names_file() {
+            let next = lister.list_capture(capture_named(argument.as_str()));
             status = later_failure(status, next);
             is_named = true;
         }
+        place = parsed.next_place(place);
     }
     if is_named {
         status
     } else {
         lister.list_capture(None)
     }
+}
+
+/// Returns whether the arguments name more than one capture.
+pub fn names_several(arguments: &[String]) -> bool
+    ensures { IsTrue result ↔ (1 < length (captures_in (map string_bytes arguments.now))) }
+{
+    let mut has_one = false;
+    let mut place = Place::Any;
+    for argument in arguments {
+        let parsed = argument_at(place, argument.as_bytes());
+        if parsed.names_file() {
+            if has_one {
+                return true;
+            }
+            has_one = true;
+        }
+        place = parsed.next_place(place);
+    }
+    false
+}
+
+/// Returns the name of the file, or `None` for `-`, which is standard input.
+fn capture_named(name: &str) -> Option<&str>
+    ensures { option_map (λ file. file.now) result ≡ capture_named name.entry.now }
+{
+    if name == "-" { None } else { Some(name) }
 }
 
 /// Returns the second status unless it is 0, and else the first.

@@ -18,12 +18,21 @@ mod choice;
 mod details;
 mod error_text;
 mod files;
+mod filter;
+mod headings;
+mod json_attributes;
+pub mod json_laws;
+mod json_others;
+mod json_sockets;
+mod json_tcp;
+mod json_writing;
 pub mod laws;
 mod line;
 mod list;
 mod list_error;
 mod name_cells;
 mod names;
+mod newer;
 mod options;
 mod others;
 mod output;
@@ -32,14 +41,18 @@ mod pieces;
 mod reports;
 mod request_line;
 mod requests;
+mod short_info;
 mod stream;
 mod times;
 
 pub use choice::{Choice, choose};
-pub use files::{ListCapture, list_captures};
+pub use files::{ListCapture, list_captures, names_several};
+pub use filter::{PortCondition, SocketFilter};
+pub use headings::heading;
 pub use line::HEADING;
 pub use list::{Diagnostic, list_packet};
 pub use list_error::ListError;
+pub use names::escaped;
 pub use options::{Detail, Family, Options};
 pub use output::PacketOutput;
 pub use program_streams::{
@@ -62,14 +75,24 @@ pub const HELP: &str = "\
 Usage: sslist [OPTION ..] [FILE ..]
 
 Lists the sockets in captures of netlink traffic: in each FILE, or in standard
-input if there is none. A capture is in pcap format, as written by
-tcpdump -i nlmon0 -w -
+input if there is none, or if FILE is -. A capture is in pcap format, as
+written by tcpdump -i nlmon0 -w -. Arguments after -- are files.
 
-Select sockets (several options add up):
-  -t, -u, -x, -M, -0     TCP, UDP, UNIX, MPTCP or packet sockets
-      --family=netlink   netlink sockets
-      --vsock            vsock sockets
-      --xdp              XDP sockets
+Select sockets (several options of a line add up):
+  -t, -u, -M             TCP, UDP or MPTCP sockets
+  -4, -6                 IPv4 or IPv6 sockets
+  -x, -0                 UNIX or packet sockets
+      --vsock, --xdp     vsock or XDP sockets
+  -f, --family=FAMILY    sockets of inet, inet6, unix, link (packet), netlink,
+                         vsock or xdp
+  -l                     listening sockets: states LISTEN and UNCONN
+  -a                     sockets in all states (default)
+
+Filter sockets (a socket is listed if it meets all of these):
+      --state=STATE      in this state; several options add up
+      --sport=PORT       with this local port; PORT- is at least PORT, -PORT at
+                         most PORT
+      --dport=PORT       with this remote port
 
 Select details (all by default; several options add up):
   -o                     the timer
@@ -78,26 +101,29 @@ Select details (all by default; several options add up):
   -e                     the cookie and all other details
 
 Format:
+  -H                     no heading
   -O                     one line per socket
-  -n, -a                 ignored: service names are never resolved, and sockets
-                         in all states are listed
+  -n                     ignored: service names are never resolved
       --utf8             in names that are valid UTF-8, show letters instead of
                          escaped bytes
       --requests         also a line for each request, with its time
+      --json             a JSON object for each socket, one per line
 
-      --help             print this text and exit
-      --version          print the version and exit
+  -h, --help             print this text and exit
+  -V, --version          print the version and exit
 
 Exit status: 0 if everything was listed, 1 if not (details on standard error,
 except for a closed output pipe), 2 for usage errors.";
 
-/// Lists a capture by [`run`], and writes a line on `errors` if the run fails. The line begins with
-/// `front` and names the failure. A closed output pipe has no line. Returns the exit status: 0 if
-/// the whole capture was listed without errors, and 1 if the run failed or a packet had an error.
+/// Lists a capture by [`run`], whose table begins with `heading`, and writes a line on `errors` if
+/// the run fails. The line begins with `front` and names the failure. A closed output pipe has no
+/// line. Returns the exit status: 0 if the whole capture was listed without errors, and 1 if the
+/// run failed or a packet had an error.
 pub fn run_to_status<R: Read, W: Write, E: Write>(
     alloc: Global,
     options: Options,
     front: &str,
+    heading: &[u8],
     input: &mut R,
     output: &mut W,
     errors: &mut E,
@@ -107,7 +133,7 @@ pub fn run_to_status<R: Read, W: Write, E: Write>(
     // Status 0: the whole capture was read, each packet was listed without errors, and the table
     // was written. W.contents, E.contents: the bytes written, if known.
     ensures whole { exit_status result ≡ 0 → Finishes options (R.remaining input.old)
-        (R.remaining input.new) (W.contents output.old) (W.contents output.new) HEADING.now
+        (R.remaining input.new) (W.contents output.old) (W.contents output.new) heading.now
         front.now (WritesPrefix (E.contents errors.old) (E.contents errors.new)) true }
     // The status is 0 if and only if the whole capture was listed without errors. Otherwise it is
     // 1. On `errors` are the diagnostics and the line that names the failure, or a prefix of this
@@ -118,14 +144,14 @@ pub fn run_to_status<R: Read, W: Write, E: Write>(
         × ((exit_status result ≡ 1) ↔ ¬ (outcome ≡ Ok true))
         × MatchResult outcome
         (Finishes options (R.remaining input.old) (R.remaining input.new) (W.contents output.old)
-        (W.contents output.new) HEADING.now front.now
+        (W.contents output.new) heading.now front.now
         (WritesPrefix (E.contents errors.old) (E.contents errors.new)))
         (λ e. Fails options (R.remaining input.old) (R.remaining input.new)
-        (W.contents output.old) (W.contents output.new) HEADING.now front.now
+        (W.contents output.old) (W.contents output.new) heading.now front.now
         (λ diagnostics. WritesPrefix (E.contents errors.old) (E.contents errors.new)
         (diagnostics ++ closing_line front.now e)) ⊤ e) }
 {
-    list_to_status(alloc, options, front, input, output, errors)
+    list_to_status(alloc, options, front, heading, input, output, errors)
 }
 
 /// Does the same as `run_to_status`, for streams that report which calls failed.
@@ -133,6 +159,7 @@ fn list_to_status<R: Source, W: Sink, E: Sink>(
     alloc: Global,
     options: Options,
     front: &str,
+    heading: &[u8],
     input: &mut R,
     output: &mut W,
     errors: &mut E,
@@ -143,17 +170,26 @@ fn list_to_status<R: Source, W: Sink, E: Sink>(
         × ((exit_status result ≡ 1) ↔ ¬ (outcome ≡ Ok true))
         × MatchResult outcome
         (Finishes options (R.left input.old) (R.left input.new) (W.held output.old)
-        (W.held output.new) HEADING.now front.now
+        (W.held output.new) heading.now front.now
         (λ diagnostics. ReportsText (E.held errors.old) (E.held errors.new)
         ((e : WriteError) × E.failed errors.new e) diagnostics is_open))
         (λ e. Fails options (R.left input.old) (R.left input.new) (W.held output.old)
-        (W.held output.new) HEADING.now front.now
+        (W.held output.new) heading.now front.now
         (λ diagnostics. ReportsText (E.held errors.old) (E.held errors.new)
         ((e : WriteError) × E.failed errors.new e)
         (diagnostics ++ closing_line front.now e) is_open) (R.failed input.new) e) }
 {
     let mut is_open = true;
-    let outcome = write_table(alloc, options, front, input, output, errors, &mut is_open);
+    let outcome = write_table(
+        alloc,
+        options,
+        front,
+        heading,
+        input,
+        output,
+        errors,
+        &mut is_open,
+    );
     report_outcome(errors, &mut is_open, front, &outcome);
     exit_code(&outcome)
 }

@@ -1,6 +1,7 @@
 //! Lines of the replies about UNIX, IPv4 and IPv6 sockets.
 
-ghost use Rattle.std.specs.Prelude.{◌≡◌, ◌++◌, None, Some, drop, IfOk, OnOk, option_map};
+ghost use Rattle.std.specs.Prelude.{◌≡◌, ◌++◌, Some, drop, IfOk, OnOk, option_map};
+ghost use Rattle.std.specs.Prelude.{option_and_then};
 ghost use Rattle.sock_diag_captures.specs.CellsModel.{cells_model};
 ghost use Rattle.netlink_core.specs.Layout.{parse_record};
 ghost use Rattle.sock_diag_records.specs.InetResponse.{inet_response_header};
@@ -9,14 +10,19 @@ ghost use Rattle.sock_diag_attributes.specs.NameModel.{socket_name_model};
 ghost use Rattle.sock_diag_attributes.specs.UnixAttributes.{unix_attribute_set};
 ghost use Rattle.sock_diag_records.specs.ResponseKind.{response_kind};
 ghost use Rattle.sock_diag_captures.specs.Details.{timer_in};
+ghost use Rattle.sock_diag_captures.specs.JsonListing.{inet_output, unix_output};
 ghost use Rattle.sock_diag_captures.specs.Listing.{error_after_reply_header, payload_error};
 ghost use Rattle.sock_diag_captures.specs.Listing.{payload_lines, lines_after_header};
+ghost use Rattle.sock_diag_captures.specs.Newer.{user_id};
 ghost use Rattle.sock_diag_captures.specs.Pieces.{attributes_or_error, first_content};
+ghost use Rattle.sock_diag_captures.specs.Pieces.{first_of_kind};
 ghost use Rattle.sock_diag_captures.specs.Table.{family_name, inet_kind, inet_line, inet_lines};
+ghost use Rattle.sock_diag_captures.specs.Table.{is_tcp};
 ghost use Rattle.sock_diag_captures.specs.Table.{unix_kind, unix_line, unix_lines};
 
 use crate::cells::{Cells, push_endpoint, push_endpoint_column, push_first_columns, push_peer};
 use crate::details::{Sockets, push_details, timer_of};
+use crate::json_sockets::{push_inet_json, push_unix_json};
 use crate::name_cells::push_name_column;
 use crate::options::Options;
 use crate::others::push_other;
@@ -24,6 +30,8 @@ use crate::parts::{NO_TIMER, TimerFields};
 use crate::pieces::{find_framing_error, find_kind};
 use netlink_core::DecodeError;
 use sock_diag_attributes::unix::nlas::{NameView, NlaView};
+use sock_diag_extras::constants::UNIX_DIAG_UID;
+use sock_diag_extras::parse_uid;
 use sock_diag_records::constants::{
     AF_INET, AF_INET6, AF_UNIX, SOCK_DGRAM, SOCK_DIAG_BY_FAMILY, SOCK_SEQPACKET, SOCK_STREAM,
     UNIX_DIAG_NAME, UNIX_DIAG_PEER, UNIX_DIAG_RQLEN,
@@ -77,7 +85,7 @@ fn push_unix(
     payload: &[u8],
 ) -> Result<Option<DecodeError>, AllocError>
     ensures lines { OnOk result (text.new.items ≡ text.old.items
-        ++ lines_after_header (unix_lines options)
+        ++ lines_after_header (unix_output options)
         (parse_record unix_response_header tt payload.now)
         (attributes_or_error 0 (drop 16 payload.now))) }
     ensures error { IfOk result (λ error. error
@@ -87,15 +95,35 @@ fn push_unix(
     match UnixResponseHeader::from_prefix(payload) {
         Ok(header) => {
             let attributes = &payload[UNIX_RESPONSE_HEADER_LEN..];
-            push_unix_lines(text, options, &header, attributes)?;
+            push_unix_output(text, options, &header, attributes)?;
             Ok(find_framing_error(attributes))
         }
         Err(error) => Ok(Some(error)),
     }
 }
 
+/// Appends what is written for a UNIX socket with this header and these attributes: its lines of the
+/// table, or its line of JSON.
+fn push_unix_output(
+    text: &mut Vec<u8>,
+    options: Options,
+    header: &UnixResponseHeader,
+    attributes: &[u8],
+) -> Result<(), AllocError>
+    ensures { OnOk result (text.new.items ≡ text.old.items
+        ++ unix_output options header.now (attributes_or_error 0 attributes.now)) }
+{
+    if !options.json {
+        return push_unix_lines(text, options, header, attributes);
+    }
+    if !options.lists_unix(header.state) {
+        return Ok(());
+    }
+    push_unix_json(text, header, attributes)
+}
+
 /// Appends the lines of a UNIX socket with this header and these attributes, if the options select
-/// UNIX sockets.
+/// it.
 fn push_unix_lines(
     text: &mut Vec<u8>,
     options: Options,
@@ -105,7 +133,7 @@ fn push_unix_lines(
     ensures { OnOk result (text.new.items ≡ text.old.items
         ++ unix_lines options header.now (attributes_or_error 0 attributes.now)) }
 {
-    if !options.lists_unix() {
+    if !options.lists_unix(header.state) {
         return Ok(());
     }
     push_unix_line(text, options, header, attributes)?;
@@ -124,21 +152,22 @@ fn push_unix_line(
     ensures { OnOk result (text.new.items ≡ text.old.items
         ++ unix_line options header.now (attributes_or_error 0 attributes.now)) }
 {
-    push_first_columns(text, &unix_cells(header, queues_in(attributes)))?;
+    let cells = unix_cells(header, queues_in(attributes), user_in(attributes));
+    push_first_columns(text, &cells)?;
     push_name_column(text, LOCAL, options.utf8, name_in(attributes))?;
     push_peer(text, peer_in(attributes))
 }
 
 /// Returns the first columns of a UNIX socket, whose queues have these lengths. For a listening
-/// socket the lengths are numbers of connections.
-fn unix_cells(header: &UnixResponseHeader, queues: Option<(u32, u32)>) -> Cells
+/// socket the lengths are numbers of connections. `uid` is the user id of its owner.
+fn unix_cells(header: &UnixResponseHeader, queues: Option<(u32, u32)>, uid: Option<u32>) -> Cells
     ensures { cells_model result ≡ record {
       kind = unix_kind header.now.kind;
       state = header.now.state;
       receive_queue = option_map (λ ns. ns.0) queues;
       send_queue = option_map (λ ns. ns.1) queues;
       inode = header.now.inode;
-      uid = None;
+      uid = uid;
     } }
 {
     let (receive_queue, send_queue) = match queues {
@@ -151,7 +180,7 @@ fn unix_cells(header: &UnixResponseHeader, queues: Option<(u32, u32)>) -> Cells
         receive_queue,
         send_queue,
         inode: header.inode,
-        uid: None,
+        uid,
     }
 }
 
@@ -198,6 +227,17 @@ fn queues_in(attributes: &[u8]) -> Option<(u32, u32)>
     }
 }
 
+/// Returns the user id of the owner, if the first `UNIX_DIAG_UID` attribute is valid.
+fn user_in(attributes: &[u8]) -> Option<u32>
+    ensures { result ≡ option_and_then user_id
+        (first_of_kind UNIX_DIAG_UID (attributes_or_error 0 attributes.now)) }
+{
+    match find_kind(attributes, UNIX_DIAG_UID) {
+        Some(nla) => parse_uid(nla.value()),
+        None => None,
+    }
+}
+
 /// Returns the kind of a UNIX socket, by its type `SOCK_..`, as ss(8) prints it.
 fn name_of_kind(kind: u8) -> &'static [u8]
     ensures { result.now ≡ unix_kind kind }
@@ -219,7 +259,7 @@ fn push_inet(
     payload: &[u8],
 ) -> Result<Option<DecodeError>, AllocError>
     ensures lines { OnOk result (text.new.items ≡ text.old.items
-        ++ lines_after_header (inet_lines options protocol (timer_in payload.now))
+        ++ lines_after_header (inet_output options protocol (timer_in payload.now))
         (parse_record inet_response_header tt payload.now)
         (attributes_or_error 0 (drop 72 payload.now))) }
     ensures error { IfOk result (λ error. error
@@ -230,15 +270,38 @@ fn push_inet(
         Ok(header) => {
             let attributes = &payload[INET_RESPONSE_HEADER_LEN..];
             let timer = timer_of(payload);
-            push_inet_lines(text, options, protocol, &timer, &header, attributes)?;
+            push_inet_output(text, options, protocol, &timer, &header, attributes)?;
             Ok(find_framing_error(attributes))
         }
         Err(error) => Ok(Some(error)),
     }
 }
 
+/// Appends what is written for an IPv4 or IPv6 socket with this timer, this header and these
+/// attributes: its lines of the table, or its line of JSON.
+fn push_inet_output(
+    text: &mut Vec<u8>,
+    options: Options,
+    protocol: Option<u32>,
+    timer: &TimerFields,
+    header: &InetResponseHeader,
+    attributes: &[u8],
+) -> Result<(), AllocError>
+    ensures { OnOk result (text.new.items ≡ text.old.items
+        ++ inet_output options protocol timer.now header.now
+        (attributes_or_error 0 attributes.now)) }
+{
+    if !options.json {
+        return push_inet_lines(text, options, protocol, timer, header, attributes);
+    }
+    if !options.lists_inet(protocol, header) {
+        return Ok(());
+    }
+    push_inet_json(text, protocol, timer, header, attributes)
+}
+
 /// Appends the lines of an IPv4 or IPv6 socket with this timer, this header and these attributes,
-/// if the options select its protocol.
+/// if the options select it.
 fn push_inet_lines(
     text: &mut Vec<u8>,
     options: Options,
@@ -251,13 +314,23 @@ fn push_inet_lines(
         ++ inet_lines options protocol timer.now header.now
         (attributes_or_error 0 attributes.now)) }
 {
-    if !options.lists_protocol(protocol) {
+    if !options.lists_inet(protocol, header) {
         return Ok(());
     }
     push_inet_line(text, protocol, header)?;
     let cookie = &header.socket_id.cookie;
-    push_details(text, options, Sockets::Inet, timer, cookie, attributes)?;
+    let sockets = Sockets::Inet {
+        is_tcp: is_tcp(protocol),
+    };
+    push_details(text, options, sockets, timer, cookie, attributes)?;
     Ok(text.push(b'\n')?)
+}
+
+/// Returns whether the protocol of the request is TCP.
+fn is_tcp(protocol: Option<u32>) -> bool
+    ensures { result ≡ is_tcp protocol }
+{
+    matches!(protocol, Some(6))
 }
 
 /// Appends the columns of an IPv4 or IPv6 socket.

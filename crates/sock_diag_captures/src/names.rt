@@ -1,13 +1,14 @@
-//! Names and other texts that the owner of a socket chose. A function of this module allocates only
-//! to grow the output.
+//! Names and other texts that the owner of a socket or the user of the program chose. A function of
+//! this module allocates only to grow the output.
 
-ghost use Rattle.std.specs.Prelude.{◌≡◌, ◌++◌, ◌&&◌, ℕ, List, OnOk, chars, flat_map, nat_le};
+ghost use Rattle.std.specs.Prelude.{◌≡◌, ◌++◌, ◌&&◌, ℕ, List, IfOk, OnOk, chars, flat_map};
+ghost use Rattle.std.specs.Prelude.{nat_le, string_bytes};
 ghost use Rattle.std.specs.List.{list_any};
 ghost use Rattle.sock_diag_captures.specs.Escapes.{unescaped_bytes, shown_character, escaped_byte};
 ghost use Rattle.sock_diag_captures.specs.Escapes.{is_shown_character, shown_name};
 
 use crate::cells::push_escaped_byte;
-use std::alloc::AllocError;
+use std::alloc::{AllocError, Global};
 
 /// Ranges of the characters that are shown, with the first and the last character of each. They are
 /// Latin, Greek and Cyrillic letters, punctuation, currency signs, arrows, shapes, and Chinese,
@@ -103,4 +104,28 @@ fn push_escaped(text: &mut Vec<u8>, bytes: &[u8]) -> Result<(), AllocError>
         push_escaped_byte(text, *byte)?;
     }
     Ok(())
+}
+
+/// Returns an argument or the name of a file as it is shown on standard error: each byte that is
+/// not from `!` to `~`, and each backslash, is `\x` and two digits.
+pub fn escaped(alloc: Global, text: &str) -> Result<String, AllocError>
+    ensures { IfOk result (λ shown. string_bytes shown ≡ flat_map escaped_byte text.now) }
+{
+    let bytes = text.as_bytes();
+    let mut shown = String::new(alloc);
+    for byte in bytes {
+        push_escaped_char(alloc, &mut shown, *byte)?;
+    }
+    Ok(shown)
+}
+
+/// Appends a byte as [`push_escaped_byte`] does.
+fn push_escaped_char(alloc: Global, shown: &mut String, byte: u8) -> Result<(), AllocError>
+    ensures { OnOk result (string_bytes shown.new ≡ string_bytes shown.old ++ escaped_byte byte) }
+{
+    if (b'!'..=b'~').contains(&byte) && byte != b'\\' {
+        return shown.push(byte.into());
+    }
+    shown.push_str("\\x")?;
+    shown.push_str(hex::encode(alloc, [byte].as_slice())?.as_str())
 }

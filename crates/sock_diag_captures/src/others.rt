@@ -4,6 +4,7 @@ ghost use Rattle.std.specs.Prelude.{◌≡◌, ◌++◌, ◌≤◌, drop, IfOk, 
 ghost use Rattle.sock_diag_captures.specs.CellsModel.{cells_model};
 ghost use Rattle.sock_diag_captures.specs.Cells.{column};
 ghost use Rattle.netlink_core.specs.Walk.{buffered_attribute};
+ghost use Rattle.sock_diag_captures.specs.JsonListing.{other_output};
 ghost use Rattle.sock_diag_captures.specs.Listing.{family_error, family_lines, other_reply_error};
 ghost use Rattle.sock_diag_captures.specs.Listing.{other_reply_lines};
 ghost use Rattle.sock_diag_captures.specs.Others.{family_numbered, optional_numbers_text};
@@ -18,6 +19,7 @@ ghost use Rattle.sock_diag_captures.specs.declared.others.OtherSocket.{OtherSock
 
 use crate::cells::{Cells, end_column, push_first_columns, push_peer};
 use crate::details::{Sockets, memory_kind, push_details};
+use crate::json_others::{JsonHeader, push_other_json};
 use crate::line::LOCAL;
 use crate::options::{Family, Options};
 use crate::parts::NO_TIMER;
@@ -60,7 +62,7 @@ pub(crate) struct OtherSocket {
 }
 
 /// A header of a reply about a netlink, packet, vsock or XDP socket.
-pub(crate) trait Listed: Record<Param = ()> + Drop {
+pub(crate) trait Listed: Record<Param = ()> + JsonHeader + Drop {
     // The values that a line shows, by the header and the attributes after it.
     ghost listed: { Self → List AttributeOrError → SocketShown };
 
@@ -111,17 +113,40 @@ fn push_listed<H: Listed>(
     payload: &[u8],
 ) -> Result<Option<DecodeError>, AllocError>
     ensures lines { OnOk result (text.new.items ≡ text.old.items
-        ++ other_reply_lines options H.layout H.listed payload.now) }
+        ++ other_reply_lines options H.layout H.listed H.json_family H.json_members
+        payload.now) }
     ensures error { IfOk result (λ error. error ≡ other_reply_error H.layout payload.now) }
 {
     match read_record::<H>(payload, ()) {
         Ok(header) => {
             let attributes = attributes_of::<H>(payload);
-            push_socket(text, options, &header.socket(attributes), attributes)?;
+            push_output(text, options, &header, attributes)?;
             Ok(find_framing_error(attributes))
         }
         Err(error) => Ok(Some(error)),
     }
+}
+
+/// Appends what is written for a socket with this header and these attributes: its lines of the
+/// table, or its line of JSON.
+fn push_output<H: Listed>(
+    text: &mut Vec<u8>,
+    options: Options,
+    header: &H,
+    attributes: &[u8],
+) -> Result<(), AllocError>
+    ensures { OnOk result (text.new.items ≡ text.old.items ++ other_output options
+        (H.listed header.now (attributes_or_error 0 attributes.now)) H.json_family
+        (H.json_members header.now) (attributes_or_error 0 attributes.now)) }
+{
+    let socket = header.socket(attributes);
+    if !options.json {
+        return push_socket(text, options, &socket, attributes);
+    }
+    if !options.lists_family(socket.family, socket.state) {
+        return Ok(());
+    }
+    push_other_json(text, header, attributes)
 }
 
 /// Returns the bytes after the header.
@@ -135,7 +160,7 @@ fn attributes_of<H: Listed>(payload: &[u8]) -> &[u8]
     &payload[least..]
 }
 
-/// Appends the lines of a socket with these attributes, if the options select its family.
+/// Appends the lines of a socket with these attributes, if the options select it.
 fn push_socket(
     text: &mut Vec<u8>,
     options: Options,
@@ -145,7 +170,7 @@ fn push_socket(
     ensures { OnOk result (text.new.items ≡ text.old.items
         ++ other_lines options socket.now (attributes_or_error 0 attributes.now)) }
 {
-    if !options.lists_family(socket.family) {
+    if !options.lists_family(socket.family, socket.state) {
         return Ok(());
     }
     push_other_line(text, socket, attributes)?;

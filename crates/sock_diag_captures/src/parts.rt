@@ -6,7 +6,7 @@ ghost use Rattle.sock_diag_captures.specs.Parts.{cookie_if_shown, detail, direct
 ghost use Rattle.sock_diag_captures.specs.Parts.{hex_detail, optional_part, packet_flags};
 ghost use Rattle.sock_diag_captures.specs.Parts.{pair_detail};
 ghost use Rattle.sock_diag_captures.specs.Parts.{separator, nonzero_detail, timer_if_shown};
-ghost use Rattle.sock_diag_captures.specs.Parts.{timer_name};
+ghost use Rattle.sock_diag_captures.specs.Parts.{threshold_detail, timer_name};
 ghost use Rattle.sock_diag_captures.specs.Parts.{timer_text};
 
 use crate::cells::{push_hex, push_number};
@@ -19,6 +19,9 @@ const SHUT_RECEIVING: u8 = 1;
 
 /// `SEND_SHUTDOWN`, the bit of a shutdown state for sending.
 const SHUT_SENDING: u8 = 2;
+
+/// `TCP_INFINITE_SSTHRESH`, a slow start threshold that is not set.
+const INFINITE_THRESHOLD: u64 = 0x7fff_ffff;
 
 /// The timer fields of `inet_diag_msg`, the header of a reply about an IPv4 or IPv6 socket.
 #[derive(Clone, Copy)]
@@ -157,14 +160,25 @@ pub(crate) fn push_part(
     push_number(text, number.into())
 }
 
-/// Appends a space, a name, a colon and a number in decimal, if the number is not 0.
+/// Appends a space, a name, a colon and a number in decimal, if the number is neither 0 nor
+/// `u64::MAX`, which is no limit.
 pub(crate) fn push_some(text: &mut Vec<u8>, word: &[u8], number: u64) -> Result<(), AllocError>
     ensures { OnOk result (text.new.items ≡ text.old.items ++ nonzero_detail word.now number) }
 {
-    if number == 0 {
+    if number == 0 || number == u64::MAX {
         return Ok(());
     }
     push_detail(text, word, number)
+}
+
+/// Appends the slow start threshold, if it is set.
+pub(crate) fn push_threshold(text: &mut Vec<u8>, segments: u64) -> Result<(), AllocError>
+    ensures { OnOk result (text.new.items ≡ text.old.items ++ threshold_detail segments) }
+{
+    if segments == 0 || segments == INFINITE_THRESHOLD {
+        return Ok(());
+    }
+    push_detail(text, b"ssthresh", segments)
 }
 
 /// Appends a space and a name if `number` has at least one of the bits of `bits`.

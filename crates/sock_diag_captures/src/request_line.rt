@@ -25,7 +25,7 @@ const UNIX_REQUEST: usize = NETLINK_HEADER_LEN + UNIX_REQUEST_LEN;
 /// Length in bytes of a netlink header and the family after it (`sdiag_family`).
 const FAMILY_REQUEST: usize = NETLINK_HEADER_LEN + 1;
 
-/// Appends the line of a request, if `--requests` is set.
+/// Appends the line of a request, if `--requests` is set and `--json` is not.
 pub(crate) fn push_shown_request(
     text: &mut Vec<u8>,
     options: Options,
@@ -35,7 +35,7 @@ pub(crate) fn push_shown_request(
     ensures { OnOk result (text.new.items ≡ text.old.items
         ++ request_line_if_selected options header.now datagram.now) }
 {
-    if !options.requests {
+    if !options.requests || options.json {
         return Ok(());
     }
     push_request(text, header, datagram)

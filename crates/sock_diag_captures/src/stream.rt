@@ -6,7 +6,6 @@ ghost use Rattle.sock_diag_captures.specs.Reports.{ReportsMore, WritesPrefix};
 ghost use Rattle.program_streams.specs.declared.streams.WriteError.{WriteError};
 ghost use Rattle.sock_diag_captures.specs.Run.{Fails, Finishes};
 
-use crate::line::HEADING;
 use crate::list::list_packet;
 use crate::list_error::{ListError, read_header, read_packet};
 use crate::options::Options;
@@ -17,7 +16,7 @@ use program_streams::{CaptureError, ReadError, Sink, Source, send};
 use std::alloc::Global;
 use std::io::{Read, Write};
 
-/// Writes the table of a capture: a heading, and the lines of each packet before the next one is
+/// Writes the table of a capture: `heading`, and the lines of each packet before the next one is
 /// read. Writes diagnostics on `errors`. Each begins with `front`. If a write on `errors` fails,
 /// nothing more is written there. Returns whether all packets were listed without errors.
 ///
@@ -29,6 +28,7 @@ pub fn run<R: Read, W: Write, E: Write>(
     alloc: Global,
     options: Options,
     front: &str,
+    heading: &[u8],
     input: &mut R,
     output: &mut W,
     errors: &mut E,
@@ -37,15 +37,24 @@ pub fn run<R: Read, W: Write, E: Write>(
     ensures ended { OnOk result (IsAtEnd (R.remaining input.new)) }
     // W.contents, E.contents: the bytes written, if known. A prefix of the diagnostics was written.
     ensures table { IfOk result (Finishes options (R.remaining input.old) (R.remaining input.new)
-        (W.contents output.old) (W.contents output.new) HEADING.now front.now
+        (W.contents output.old) (W.contents output.new) heading.now front.now
         (WritesPrefix (E.contents errors.old) (E.contents errors.new))) }
     // ⊤: a standard reader does not report whether a read failed, so `Read` is always possible.
     ensures failed { IfErr result (Fails options (R.remaining input.old) (R.remaining input.new)
-        (W.contents output.old) (W.contents output.new) HEADING.now front.now
+        (W.contents output.old) (W.contents output.new) heading.now front.now
         (WritesPrefix (E.contents errors.old) (E.contents errors.new)) ⊤) }
 {
     let mut is_open = true;
-    write_table(alloc, options, front, input, output, errors, &mut is_open)
+    write_table(
+        alloc,
+        options,
+        front,
+        heading,
+        input,
+        output,
+        errors,
+        &mut is_open,
+    )
 }
 
 /// Does the same as `run`, for streams that report which calls failed. Writes diagnostics if
@@ -54,6 +63,7 @@ pub(crate) fn write_table<R: Source, W: Sink, E: Sink>(
     alloc: Global,
     options: Options,
     front: &str,
+    heading: &[u8],
     input: &mut R,
     output: &mut W,
     errors: &mut E,
@@ -62,11 +72,11 @@ pub(crate) fn write_table<R: Source, W: Sink, E: Sink>(
     ensures ended { OnOk result (IsAtEnd (R.left input.new)) }
     ensures flushed { OnOk result (W.flushed output.new) }
     ensures table { IfOk result (Finishes options (R.left input.old) (R.left input.new)
-        (W.held output.old) (W.held output.new) HEADING.now front.now
+        (W.held output.old) (W.held output.new) heading.now front.now
         (ReportsMore (E.held errors.old) ((e : WriteError) × E.failed errors.old e) is_open.old
         (E.held errors.new) ((e : WriteError) × E.failed errors.new e) is_open.new)) }
     ensures failed { IfErr result (Fails options (R.left input.old) (R.left input.new)
-        (W.held output.old) (W.held output.new) HEADING.now front.now
+        (W.held output.old) (W.held output.new) heading.now front.now
         (ReportsMore (E.held errors.old) ((e : WriteError) × E.failed errors.old e) is_open.old
         (E.held errors.new) ((e : WriteError) × E.failed errors.new e) is_open.new)
         (R.failed input.new)) }
@@ -74,7 +84,7 @@ pub(crate) fn write_table<R: Source, W: Sink, E: Sink>(
         → W.failed output.new error) }
 {
     let file = read_header(input)?;
-    send(output, HEADING)?;
+    send(output, heading)?;
     let mut packet = Vec::new(alloc);
     let mut written = PacketOutput {
         front,

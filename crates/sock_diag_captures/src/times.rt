@@ -1,34 +1,44 @@
 //! Time of the capture of a packet.
 
-ghost use Rattle.std.specs.Prelude.{◌≡◌, ◌++◌, OnOk};
-ghost use Rattle.sock_diag_captures.specs.Times.{fraction_text, time_text};
+ghost use Rattle.std.specs.Prelude.{◌≡◌, ◌++◌, ◌<◌, OnOk};
+ghost use Rattle.sock_diag_captures.specs.Times.{nanoseconds, time_text, zero_padded};
 
 use crate::cells::push_number;
 use program_streams::{PacketHeader, TimeUnit};
 use std::alloc::AllocError;
 use std::io::Write;
 
-/// Appends the seconds since 1970, a point, and the fraction of a second: in at least six digits if
-/// its unit is microseconds, and at least nine if it is nanoseconds.
+/// Number of nanoseconds in a second.
+const SECOND: u64 = 1_000_000_000;
+
+/// Appends the seconds since 1970, a point, and the fraction of a second in nine digits. A fraction
+/// of a second or more, which a capture may contain, is added to the seconds.
 pub(crate) fn push_time(text: &mut Vec<u8>, header: &PacketHeader) -> Result<(), AllocError>
     ensures { OnOk result (text.new.items ≡ text.old.items ++ time_text header.now) }
 {
-    push_number(text, header.seconds.into())?;
+    let time = nanoseconds(header);
+    push_number(text, time / SECOND)?;
     text.push(b'.')?;
-    push_fraction(text, header.unit, header.fraction)
+    push_nine_digits(text, time % SECOND)
 }
 
-/// Appends a fraction of a second in six or nine digits, by its unit. A fraction of a second or
-/// more, which a capture may contain, has more digits if it needs them.
-#[tactic(auto, using(crate::proofs::Filling::zero_padded_is_format))]
-fn push_fraction(text: &mut Vec<u8>, unit: TimeUnit, fraction: u32) -> Result<(), AllocError>
-    ensures { OnOk result (text.new.items ≡ text.old.items ++ fraction_text unit fraction) }
+/// Returns the time in nanoseconds since 1970.
+fn nanoseconds(header: &PacketHeader) -> u64
+    ensures { result ≡ nanoseconds header.now }
 {
-    let written = match unit {
-        TimeUnit::Microseconds => write!(text, "{fraction:06}"),
-        TimeUnit::Nanoseconds => write!(text, "{fraction:09}"),
+    let fraction = match header.unit {
+        TimeUnit::Microseconds => u64::from(header.fraction) * 1000,
+        TimeUnit::Nanoseconds => u64::from(header.fraction),
     };
-    match written {
+    u64::from(header.seconds) * SECOND + fraction
+}
+
+/// Appends a number in at least nine digits, with leading zeros.
+#[tactic(auto, using(crate::proofs::Filling::zero_padded_is_format))]
+fn push_nine_digits(text: &mut Vec<u8>, number: u64) -> Result<(), AllocError>
+    ensures { OnOk result (text.new.items ≡ text.old.items ++ zero_padded 9 number) }
+{
+    match write!(text, "{number:09}") {
         Ok(()) => Ok(()),
         Err(_) => Err(AllocError),
     }

@@ -4,7 +4,8 @@
 ghost use Rattle.std.specs.Prelude.{⊤};
 
 use sock_diag_captures::{
-    Choice, HELP, ListCapture, Options, VERSION, choose, list_captures, run_to_status,
+    Choice, HELP, ListCapture, Options, VERSION, choose, escaped, heading, list_captures,
+    names_several, run_to_status,
 };
 use std::env;
 use std::fs::File;
@@ -33,7 +34,19 @@ fn answer(rt: &HostRuntime, arguments: &[String]) -> ExitCode {
         Choice::Help => status_of(rt.println(HELP)),
         Choice::Version => status_of(println!(rt; "sslist {VERSION}")),
         Choice::Reject(argument) => reject(rt, argument),
-        Choice::Captures(options) => list_captures(arguments, &mut Lister { rt, options }),
+        Choice::MissingFamily => {
+            let _ = rt.eprintln("sslist: -f without a family; try sslist --help");
+            ExitCode::from(2)
+        }
+        Choice::Captures(options) => {
+            let has_captions = names_several(arguments);
+            let mut lister = Lister {
+                rt,
+                options,
+                has_captions,
+            };
+            list_captures(arguments, &mut lister)
+        }
     }
 }
 
@@ -42,26 +55,42 @@ fn answer(rt: &HostRuntime, arguments: &[String]) -> ExitCode {
 struct Lister<'a> {
     rt: &'a HostRuntime,
     options: Options,
+    /// Each table has a caption.
+    has_captions: bool,
 }
 
 impl ListCapture for Lister<'_> {
     ghost listed = { λ _ _. ⊤ };
 
     fn list_capture(&mut self, name: Option<&str>) -> ExitCode {
+        let caption = match name {
+            _ if !self.has_captions => None,
+            Some(name) => Some(name),
+            None => Some("-"),
+        };
+        let Ok(heading) = heading(self.rt.alloc(), self.options, caption) else {
+            return out_of_memory(self.rt);
+        };
         match name {
-            Some(name) => list_file(self.rt, self.options, name),
-            None => list(self.rt, self.options, "sslist: ", self.rt.stdin()),
+            Some(name) => list_file(self.rt, self.options, name, heading.as_slice()),
+            None => {
+                let input = self.rt.stdin();
+                list(self.rt, self.options, "sslist: ", heading.as_slice(), input)
+            }
         }
     }
 }
 
 /// Lists the capture in a file.
-fn list_file(rt: &HostRuntime, options: Options, name: &str) -> ExitCode {
-    let Ok(front) = format!(in rt.alloc(); "sslist: {name}: ") else {
+fn list_file(rt: &HostRuntime, options: Options, name: &str, heading: &[u8]) -> ExitCode {
+    let Ok(shown) = escaped(rt.alloc(), name) else {
+        return out_of_memory(rt);
+    };
+    let Ok(front) = format!(in rt.alloc(); "sslist: {shown}: ") else {
         return out_of_memory(rt);
     };
     match File::open(rt, name) {
-        Ok(file) => list(rt, options, front.as_str(), file),
+        Ok(file) => list(rt, options, front.as_str(), heading, file),
         Err(error) => {
             let _ = eprintln!(rt; "{front}{error}");
             ExitCode::FAILURE
@@ -70,10 +99,16 @@ fn list_file(rt: &HostRuntime, options: Options, name: &str) -> ExitCode {
 }
 
 /// Lists the capture that a reader returns.
-fn list<R: Read + Drop>(rt: &HostRuntime, options: Options, front: &str, input: R) -> ExitCode {
+fn list<R: Read + Drop>(
+    rt: &HostRuntime,
+    options: Options,
+    front: &str,
+    heading: &[u8],
+    input: R,
+) -> ExitCode {
     let (alloc, output, errors) = (rt.alloc(), &mut rt.stdout(), &mut rt.stderr());
     match BufReader::new(alloc, input) {
-        Ok(mut input) => run_to_status(alloc, options, front, &mut input, output, errors),
+        Ok(mut input) => run_to_status(alloc, options, front, heading, &mut input, output, errors),
         Err(_) => out_of_memory(rt),
     }
 }
@@ -86,9 +121,17 @@ fn status_of(printed: io::Result<()>) -> ExitCode {
     }
 }
 
-/// Reports an unknown option, with status 2.
+/// Reports an unknown option or family, with status 2.
 fn reject(rt: &HostRuntime, argument: &str) -> ExitCode {
-    let _ = eprintln!(rt; "sslist: unknown option {argument}; try sslist --help");
+    let Ok(shown) = escaped(rt.alloc(), argument) else {
+        return out_of_memory(rt);
+    };
+    let kind = if argument.starts_with('-') {
+        "option"
+    } else {
+        "family"
+    };
+    let _ = eprintln!(rt; "sslist: unknown {kind} {shown}; try sslist --help");
     ExitCode::from(2)
 }
 

@@ -143,7 +143,15 @@ fn lists_by(
 ) {
     let mut input = capture;
     let (mut output, mut errors) = (taker(alloc), taker(alloc));
-    let outcome = run(alloc, options, NAME, &mut input, &mut output, &mut errors);
+    let outcome = run(
+        alloc,
+        options,
+        NAME,
+        HEADING,
+        &mut input,
+        &mut output,
+        &mut errors,
+    );
     assert!(rt; outcome == want, "{outcome:?}");
     assert!(rt; errors.taken.is_empty() && (output.is_flushed || want.is_err()));
     if let Some(lines) = lines {
@@ -216,6 +224,55 @@ fn lists_other_families(rt: HostRuntime) {
     }
 }
 
+/// A reply about an IPv6 socket with the attributes of newer kernels, the last one of which is too
+/// short, and a reply about a UNIX socket with a user id.
+const NEWER: [&str; 2] = [
+    "b40000001400020007000000000000000a06030000169c40fe80000000000000000000000000000120010db80000000000000000000000ff030000000000000000000000000000000000000000000000e8030000000000000c001500341200000000000006001600120100001800100040420f000000000032000000e30200000002000014000900010000000002000064000000c8000000140003000100000005000000640000005a0000000500160001000000",
+    "4000000014000200070000000000000001010a000e4f0000a00200000000000009000000006120625c0000000c000400020000008000000008000700e8030000",
+];
+
+const NEWER_LINES: [&str; 2] = [
+    "inet6 TIME-WAIT  0      0      0          1000  [fe80::1]%3:22                 [2001:db8::ff]:40000\n\
+\t timer:(timewait,0ms,0) sk:0 cgroup:4660 is_icsk mc_loop bind_address_no_port \
+bbr:(bw:1000000,mrtt:50,pacing_gain:739,cwnd_gain:512) \
+dctcp:(enabled:1,ce_state:0,alpha:512,ab_ecn:100,ab_tot:200) \
+vegas:(enabled:1,rttcnt:5,rtt:100,minrtt:90) unknown:(22,1)\n",
+    "u_str LISTEN     2      128    20238      1000  @a\\x20b\\x5c                    *\n\t sk:2a0\n",
+];
+
+/// Attributes that the port leaves undecoded have details, and the user id of a UNIX socket has a
+/// column.
+#[test]
+fn lists_attributes_of_newer_kernels(rt: HostRuntime) {
+    let packets = [[SOCK_DIAG, NEWER[0]], [SOCK_DIAG, NEWER[1]]];
+    let capture = captured(&rt, rt.alloc(), HEADERS[0], &packets);
+    lists(&rt, rt.alloc(), &capture, Ok(true), Some(&NEWER_LINES));
+}
+
+/// A request for TCP sockets, and a reply with 104 bytes of `struct tcp_info`.
+const TCP_REQUEST: &str =
+    "4800000014000103070000000000000002060000ffffffff000000000000000000000000000000000000000000000000000000000000000000000000000000000000000000000000";
+
+const SHORT_INFO: &str =
+    "c40000001400020007000000000000000a06030000169c40fe80000000000000000000000000000120010db80000000000000000000000ff030000000000000000000000000000000000000000000000e8030000000000006c0002000000000000079700e01c030000000000000000000000000000000000000000000000000000000000000000000000000000000000000000000000000000000000000000006400000032000000ffffff7f0a0000000000000000000000000000000000000003000000";
+
+const SHORT_INFO_COLUMNS: &str =
+    "TIME-WAIT  0      0      0          1000  [fe80::1]%3:22                 [2001:db8::ff]:40000\n\
+\t timer:(timewait,0ms,0) sk:0 ";
+
+/// The fields of a short `struct tcp_info` have details if the request was for TCP sockets.
+#[test]
+fn lists_short_tcp_info(rt: HostRuntime) {
+    let details = "rtt:100 rttvar:50 rto:204000 cwnd:10 retrans:3 ts sack wscale:(7,9)\n";
+    let packets = [[SOCK_DIAG, TCP_REQUEST], [SOCK_DIAG, SHORT_INFO]];
+    let capture = captured(&rt, rt.alloc(), HEADERS[0], &packets);
+    let lines = ["tcp   ", SHORT_INFO_COLUMNS, details];
+    lists(&rt, rt.alloc(), &capture, Ok(true), Some(&lines));
+    let capture = captured(&rt, rt.alloc(), HEADERS[0], &packets[1..]);
+    let lines = ["inet6 ", SHORT_INFO_COLUMNS, "unread:(2,104,too-short)\n"];
+    lists(&rt, rt.alloc(), &capture, Ok(true), Some(&lines));
+}
+
 /// A reply about a listening socket whose abstract name is `e` with an accent, a Chinese letter, a
 /// space, U+202E and a backslash. The path in `NO_UTF8` is not valid UTF-8.
 const LETTERS: &str =
@@ -268,7 +325,7 @@ fn lists_requests(rt: HostRuntime) {
         requests: true,
         ..Options::default()
     };
-    for (header, time) in [(0, "-- 7.000009 "), (2, "-- 7.000000009 ")] {
+    for (header, time) in [(0, "-- 7.000009000 "), (2, "-- 7.000000009 ")] {
         let capture = captured(&rt, rt.alloc(), HEADERS[header], &packets);
         let (unix, mptcp) = ("unix states:0xffffffff\n", "mptcp states:0x480\n");
         let lines = [time, unix, UNIX_LINE, time, mptcp, time, "netlink\n"];
@@ -343,7 +400,8 @@ fn tells(rt: &impl Abort, alloc: Global, parts: &[&str], want: &str) {
     let capture = decoded(rt, alloc, parts);
     let (mut output, mut errors) = (taker(alloc), taker(alloc));
     let (options, mut input) = (Options::default(), capture.as_slice());
-    let _status = run_to_status(alloc, options, NAME, &mut input, &mut output, &mut errors);
+    let (output, errors_to) = (&mut output, &mut errors);
+    let _status = run_to_status(alloc, options, NAME, HEADING, &mut input, output, errors_to);
     let want = ["sslist: ", want, "\n"].concat(alloc).expect(rt, "memory");
     assert!(rt; errors.taken.as_slice() == want.as_bytes());
 }
@@ -481,11 +539,20 @@ fn ends_of_a_run(rt: HostRuntime) {
     let (mut output, mut errors) = (taker(alloc), taker(alloc));
     output.flush_fails = Some(ErrorKind::Other);
     let (options, mut input) = (Options::default(), capture.as_slice());
-    let outcome = run(alloc, options, NAME, &mut input, &mut output, &mut errors);
+    let outcome = run(
+        alloc,
+        options,
+        NAME,
+        HEADING,
+        &mut input,
+        &mut output,
+        &mut errors,
+    );
     assert!(rt; outcome == Err(ListError::Write(WriteError::Other)));
     // A closed output pipe is not reported.
     output.flush_fails = Some(ErrorKind::BrokenPipe);
     let mut input = capture.as_slice();
-    let _status = run_to_status(alloc, options, NAME, &mut input, &mut output, &mut errors);
+    let (output, errors_to) = (&mut output, &mut errors);
+    let _status = run_to_status(alloc, options, NAME, HEADING, &mut input, output, errors_to);
     assert!(rt; errors.taken.is_empty());
 }

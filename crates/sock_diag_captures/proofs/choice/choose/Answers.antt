@@ -1,5 +1,7 @@
-use Rattle.std.proofs.Common.{refl, rules, ap, sym, ◌∙◌, fold, map, string_bytes, Some}
-use Rattle.sock_diag_captures.specs.Choice.{with_argument_bytes}
+use Rattle.std.proofs.Common.{refl, rules, ap, sym, ◌∙◌, ℕ, List, map, string_bytes, option_map}
+use Rattle.sock_diag_captures.specs.Choice.{options_after}
+use Rattle.sock_diag_captures.specs.declared.arguments.Argument.{Argument}
+use Rattle.sock_diag_captures.specs.declared.arguments.Place.TheVariants as place
 use Rattle.sock_diag_captures.specs.declared.options.Options.{Options}
 use Rattle.sock_diag_captures.proofs.Choosing.{argument_is_added, first_deciding_argument_found}
 use Rattle.sock_diag_captures.proofs.Choosing.{argument_does_not_decide}
@@ -8,42 +10,39 @@ use Rattle.sock_diag_captures.proofs.choice.choose.Goals as goal
 pub loop-argument-init : goal.loop-argument-init
 loop-argument-init c = record {
   first = refl;
-  options = ap (λ (p : Options). fold with_argument_bytes p (map string_bytes c.args.arguments.now))
+  last = refl;
+  options = ap
+      (λ (o : Options). options_after o place.Any (map string_bytes c.args.arguments.now))
       (search rules);
 }
 
 pub returns-in-Help : goal.returns-in-Help
 returns-in-Help c =
-    first_deciding_argument_found string_bytes _ _ _ _ _ c.parse_argument.result c.as_str.result.now
-    c.loop-argument.invariant c.loop-argument-test.true c.argument-item.is
-    c.as_str.ensures.value c.parse_argument.ensures (rw c.in-Help.is refl)
-    ∙ ap Some c.in-Help.ensures
+    let kind = rw c.as_bytes.ensures.value at c.argument_at-parsed.ensures in
+    let found = first_deciding_argument_found string_bytes _ _ _ _ _ _ _ c.loop-argument.invariant
+    c.loop-argument-test.true c.argument-item.is refl kind (rw c.in-Help.is refl) in
+    rw c.in-Help.is at (ap (option_map (λ (a : Argument × List ℕ). a.0)) found)
 
 pub returns-in-Version : goal.returns-in-Version
 returns-in-Version c =
-    first_deciding_argument_found string_bytes _ _ _ _ _ c.parse_argument.result c.as_str.result.now
-    c.loop-argument.invariant c.loop-argument-test.true c.argument-item.is
-    c.as_str.ensures.value c.parse_argument.ensures (rw c.in-Version.is refl)
-    ∙ ap Some c.in-Version.ensures
+    let kind = rw c.as_bytes.ensures.value at c.argument_at-parsed.ensures in
+    let found = first_deciding_argument_found string_bytes _ _ _ _ _ _ _ c.loop-argument.invariant
+    c.loop-argument-test.true c.argument-item.is refl kind (rw c.in-Version.is refl) in
+    rw c.in-Version.is at (ap (option_map (λ (a : Argument × List ℕ). a.0)) found)
 
 pub returns-in-Unknown : goal.returns-in-Unknown
 returns-in-Unknown c =
-    let same = c.as_str.ensures.value ∙ sym c.as_str-in-Unknown.ensures.value in
-    let kind = rw c.in-Unknown.is at c.parse_argument.ensures in (
-      first_deciding_argument_found string_bytes _ _ _ _ _ c.parse_argument.result
-          c.as_str.result.now
-          c.loop-argument.invariant c.loop-argument-test.true c.argument-item.is
-          c.as_str.ensures.value c.parse_argument.ensures (rw c.in-Unknown.is refl)
-          ∙ ap Some same,
-      (λ is. kind.0 (same ∙ is)),
-      (λ is. kind.1 (same ∙ is)),
-    )
+    let kind = rw c.as_bytes.ensures.value at c.argument_at-parsed.ensures in
+    let found = first_deciding_argument_found string_bytes _ _ _ _ _ _ _ c.loop-argument.invariant
+    c.loop-argument-test.true c.argument-item.is refl kind (rw c.in-Unknown.is refl) in
+    rw (c.in-Unknown.is, sym c.as_str.ensures.value) at found
 
 pub loop-argument-preserved : goal.loop-argument-preserved
 loop-argument-preserved c =
-    argument_is_added string_bytes _ _ _ _ _ _ c.parse_argument.result c.as_str.result.now
-    c.loop-argument.invariant c.loop-argument-test.true c.argument-item.is
-    c.as_str.ensures.value c.parse_argument.ensures
+    let kind = rw c.as_bytes.ensures.value at c.argument_at-parsed.ensures in
+    argument_is_added string_bytes _ _ _ _ _ _ _ _ _ c.loop-argument.invariant
+    c.loop-argument-test.true c.argument-item.is refl kind
     (argument_does_not_decide _ c.in_default.not-Help c.in_default.not-Version
     c.in_default.not-Unknown)
-    c.add_argument.ensures
+    (rw c.as_bytes-in_default.ensures.value at c.add_argument.ensures)
+    c.next_place-place.ensures

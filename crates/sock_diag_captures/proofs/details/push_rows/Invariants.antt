@@ -1,5 +1,5 @@
 use Rattle.std.proofs.Common.{◌≡◌, ◌++◌, drop, flat_map}
-use Rattle.sock_diag_captures.specs.Details.{row_text}
+use Rattle.sock_diag_captures.specs.Rows.{row_text}
 use Rattle.sock_diag_captures.proofs.details.push_rows.Given as goal
 
 -- the text so far, followed by the remaining rows, is the text at the end

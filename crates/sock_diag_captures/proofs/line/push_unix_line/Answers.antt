@@ -7,8 +7,13 @@ use Rattle.sock_diag_captures.proofs.line.push_unix_line.Goals as goal
 pub returns : goal.returns
 returns c =
     let columns = c.in_ok-push_first_columns.ensures
-    ∙ ap (λ cells. c.args.text.now.items ++ first_columns cells) c.unix_cells.ensures in
-    rw (← c.queues_in.ensures, ← c.name_in.ensures, ← c.peer_in.ensures)
+    ∙ ap (λ cells. c.args.text.now.items ++ first_columns cells) c.unix_cells-cells.ensures in
+    rw (
+      ← c.queues_in.ensures,
+      ← c.user_in.ensures,
+      ← c.name_in.ensures,
+      ← c.peer_in.ensures,
+    )
     (on_ok_weaker c.push_peer.result
     (λ last. appended_texts_concatenate _ _ _ _ _
     (appended_texts_concatenate _ _ _ _ _ columns c.in_ok-push_name_column.ensures) last)

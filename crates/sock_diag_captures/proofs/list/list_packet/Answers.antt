@@ -1,9 +1,11 @@
+use Rattle.program_streams.specs.Capture.{captured_packet}
 use Rattle.sock_diag_captures.proofs.Listings.{listed_without_errors}
 use Rattle.sock_diag_captures.proofs.list.list_packet.Goals as goal
 
 pub returns-clause-lists : goal.returns-clause-lists
 returns-clause-lists c =
-    listed_without_errors _ _ _ _ _ _ _ c.in_ok-is_whole.ensures.whole
+    listed_without_errors _ _ (captured_packet c.args.packet.now c.args.header.now) _ _ _ _
+    c.in_ok-is_whole.ensures.whole
     (rw c.in_ok-is_whole.ensures.lines at c.in_ok-is_listed.ensures.lists)
 
 pub returns-clause-diagnosed : goal.returns-clause-diagnosed

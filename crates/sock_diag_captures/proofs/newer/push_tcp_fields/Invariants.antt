@@ -1,0 +1,10 @@
+use Rattle.std.proofs.Common.{◌≡◌, ◌++◌, drop, flat_map}
+use Rattle.sock_diag_captures.specs.Newer.{tcp_field_text}
+use Rattle.sock_diag_captures.proofs.newer.push_tcp_fields.Given as goal
+
+-- the text so far, followed by the remaining rows, is the text at the end
+abbrev pub invariant-loop-name : goal.invariant-loop-name
+invariant-loop-name l =
+    l.text.items
+    ++ flat_map (λ row. tcp_field_text l.value (row.0.now, row.1)) (drop l.name-index l.rows)
+    ≡ l.fn.text.items ++ flat_map (λ row. tcp_field_text l.value (row.0.now, row.1)) l.rows
