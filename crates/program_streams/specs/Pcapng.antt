@@ -16,9 +16,9 @@
 --
 -- All other blocks are skipped, and so are the options of all blocks but interface descriptions.
 use Rattle.std.specs.Prelude.{◌≡◌, ⊤, ℕ, zero, suc, ◌+◌, ◌-◌, ◌*◌, ◌/◌, ◌%◌, ◌^◌, ◌<◌, ◌≤◌, ◌⊎◌}
-use Rattle.std.specs.Prelude.{◌==◌, ◌&&◌, nat_lt, nat_le, if◌then◌else◌, Bool, true, false, List}
-use Rattle.std.specs.Prelude.{[], ◌∷◌, ◌++◌, length, take, drop, slice_range, slice_get, slice_index}
-use Rattle.std.specs.Prelude.{Option, None, Some, Result, Ok, Err, min, IsTrue}
+use Rattle.std.specs.Prelude.{◌==◌, ◌&&◌, nat_lt, nat_le, if◌then◌else◌, Bool, List}
+use Rattle.std.specs.Prelude.{[], ◌∷◌, ◌++◌, length, drop, slice_range, slice_get, slice_index}
+use Rattle.std.specs.Prelude.{Option, None, Some, Result, Ok, Err, min}
 use Rattle.std.specs.List.{concat}
 use Rattle.std.specs.Io.KnownBytes.{IsAtEnd}
 use Rattle.program_streams.specs.declared.block_error.BlockError.{BlockError}

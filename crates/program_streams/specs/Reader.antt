@@ -1,5 +1,5 @@
 -- Captures of netlink traffic, in the pcap or the pcapng format.
-use Rattle.std.specs.Prelude.{◌≡◌, ◌≢◌, ℕ, ◌<◌, ◌⊎◌, List, [], ◌++◌, length, Option, IsTrue}
+use Rattle.std.specs.Prelude.{◌≡◌, ℕ, ◌<◌, ◌⊎◌, List, [], ◌++◌, length, Option, IsTrue}
 use Rattle.program_streams.specs.declared.captures.ByteOrder.{ByteOrder}
 use Rattle.program_streams.specs.declared.captures.CaptureError.{CaptureError}
 use Rattle.program_streams.specs.declared.captures.FileHeader.{FileHeader}

@@ -12,6 +12,7 @@ use Rattle.program_streams.specs.Reader.{CaptureState, IsCaptureEnd, IsCaptureSt
 use Rattle.program_streams.specs.Reader.{IsCaptureStartStop, IsCaptureStop, ReadsPacket}
 use Rattle.program_streams.proofs.ReaderLemmas.{nothing_more, stopped_at_once, stopped_for_either}
 use Rattle.program_streams.specs.declared.captures.CaptureError.{CaptureError}
+use Rattle.program_streams.specs.declared.captures.CaptureError.TheVariants.{Read}
 use Rattle.sock_diag_captures.specs.declared.list_error.ListError.{ListError}
 use Rattle.sock_diag_captures.specs.declared.list_error.ListError.TheVariants.{Header, Packet}
 use Rattle.sock_diag_captures.specs.declared.list_error.ListError.TheVariants.{Memory}
@@ -49,6 +50,13 @@ no_write number reason e P is error write = absurd cc
 pub no_memory : (e : ListError) (P : WriteError → Type 0) → e ≡ Memory
     → (error : WriteError) → e ≡ Write error → P error
 no_memory e P is error write = absurd cc
+
+-- A failed write is the one with its error.
+pub write_cause : (e : ListError) (cause : WriteError) (P : WriteError → Type 0)
+    → e ≡ Write cause → P cause → (error : WriteError) → e ≡ Write error → P error
+write_cause e cause P is failed error write =
+    let same : cause ≡ error = cc in
+    subst P same failed
 
 -- The run failed because the capture could not be opened.
 pub fails_at_header : (o : Options) (a d x : Option (List ℕ)) (heading front : List ℕ)

@@ -1,5 +1,5 @@
 -- Steps of a reader of pcapng files.
-use Rattle.std.specs.Prelude.{◌≡◌, ◌+◌, ◌<◌, ◌≤◌, ◌⊎◌, ⊤, ℕ, List, ◌++◌, length, Option}
+use Rattle.std.specs.Prelude.{◌≡◌, ◌+◌, ◌<◌, ◌≤◌, ◌⊎◌, ⊤, ℕ, List, length, Option}
 use Rattle.std.specs.Prelude.{Ok, Err}
 use Rattle.program_streams.specs.declared.captures.ByteOrder.{ByteOrder}
 use Rattle.program_streams.specs.declared.captures.CaptureError.{CaptureError}

@@ -10,6 +10,7 @@ use Rattle.sock_diag_captures.specs.Run.{lines_of_packet}
 use Rattle.sock_diag_captures.proofs.Failing.{fails_at_flush, fails_at_header, fails_at_heading}
 use Rattle.sock_diag_captures.proofs.Failing.{fails_at_lines, fails_at_memory, fails_at_packet}
 use Rattle.sock_diag_captures.proofs.Failing.{fails_past_numbers, no_memory, no_write, table_of}
+use Rattle.sock_diag_captures.proofs.Failing.{write_cause}
 use Rattle.sock_diag_captures.proofs.Progress.{progress_continues_incomplete}
 use Rattle.sock_diag_captures.proofs.Progress.{progress_continues_complete, progress_begins}
 use Rattle.sock_diag_captures.proofs.stream.write_table.Goals.{then-is_whole, else-is_whole}
@@ -170,3 +171,9 @@ returns-in_err-is_listed-clause-cause g c =
     let p = err_from_is_err_and c.from_residual-in_err-is_listed.result
     c.from_residual-in_err-is_listed.ensures.1 in
     rw p.1 (no_memory _ _ p.2)
+
+pub returns-in_err-send-2-clause-cause : goal.returns-in_err-send-2-clause-cause
+returns-in_err-send-2-clause-cause g c =
+    let p = err_from_is_err_and c.from_residual-in_err-send-2.result
+    c.from_residual-in_err-send-2.ensures.1 in
+    rw p.1 (write_cause _ _ _ p.2 c.in_err-send-2.ensures.stopped.0)

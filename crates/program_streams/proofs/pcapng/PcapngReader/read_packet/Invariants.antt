@@ -1,4 +1,4 @@
-use Rattle.std.proofs.Common.{◌≡◌, ◌-◌, ◌^◌, ℕ, List}
+use Rattle.std.proofs.Common.{◌-◌, ◌^◌, ℕ, List}
 use Rattle.std.specs.List.{concat}
 use Rattle.std.specs.Io.KnownBytes.{Consumes}
 use Rattle.program_streams.specs.Pcapng.{AreSkipped, position_of}
