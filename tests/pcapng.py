@@ -87,8 +87,8 @@ def simple(order, whole, data):
 
 def pcapng_of(capture, order="<", form=ENHANCED, sections=False):
     """Returns a pcap capture of netlink traffic in the pcapng format. Blocks without a packet
-    precede and follow its packets. The interface of the packets is the third, or the first of simple
-    packets."""
+    precede and follow its packets. The interface of the packets is the third, or for simple packets
+    the first."""
     units = 10**9 if has_nanoseconds(capture) else 10**6
 
     def begun(order):

@@ -26,7 +26,8 @@ use Rattle.program_streams.specs.private.Capture.{IsReadStop}
 use Rattle.program_streams.specs.private.Pcapng.{IsStopAfterHead, MovesOver}
 use Rattle.program_streams.specs.Pcapng.{AreSkipped, IsBlock, IsBlockStop, IsFramed, IsInputStop}
 use Rattle.program_streams.specs.Pcapng.{IsNoPacket, Position, after_block, unit_in_option}
-use Rattle.program_streams.specs.Pcapng.{content_of, frame_of, is_section_header, option_size, order_of_block}
+use Rattle.program_streams.specs.Pcapng.{content_of, frame_of, is_section_header, option_size}
+use Rattle.program_streams.specs.Pcapng.{order_of_block}
 use Rattle.program_streams.specs.Pcapng.{order_or_error, unit_in, unit_or_next}
 
 -- A number in the first bytes does not depend on later bytes.
@@ -259,7 +260,8 @@ moved_over p q p' head rest block block' shown order content long ok whole store
       record {
         framed = subst (λ (l : List ℕ). IsFramed p l order) (sym (kept_block ∙ stored))
             (framed p head rest order long ok whole);
-        valid = sym (same_content q p order shown block' (Ok content) kept (same ∙ sym kept_block) is);
+        valid = sym (same_content q p order shown block' (Ok content) kept
+            (same ∙ sym kept_block) is);
       },
       moved ∙ ap (λ (x : Position). after_block x order content (length block)) kept
           ∙ ap (λ (l : List ℕ). after_block p order content (length l)) (sym kept_block),

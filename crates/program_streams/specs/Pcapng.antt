@@ -1,6 +1,6 @@
 -- Captures of netlink traffic in the pcapng format (draft-ietf-opsawg-pcapng). A file is a sequence
--- of blocks, and a section header begins a section. Numbers are in the byte order of the section.
--- A block has its type at 0 and its length in bytes at 4, both u32, and again its length in its last
+-- of blocks, and a section header begins a section. Numbers are in the byte order of the section. A
+-- block has its type at 0 and its length in bytes at 4, both u32, and again its length in its last
 -- four bytes. Offsets are those in a block. The blocks that matter here:
 --
 --   type        block                  at 8                    then
@@ -83,8 +83,8 @@ order_by_magic block =
 abbrev pub order_of_block : ByteOrder → List ℕ → Option ByteOrder
 order_of_block order block = if is_section_header block then order_by_magic block else Some order
 
--- `is_block_length offset n`: a block at this offset in the file may have `n` bytes. It has at least
--- 12 and at most 16777216 bytes, a multiple of 4, and ends at an offset that fits 64 bits.
+-- `is_block_length offset n`: a block at this offset in the file may have `n` bytes. It has at
+-- least 12 and at most 16777216 bytes, a multiple of 4, and ends at an offset that fits 64 bits.
 abbrev pub is_block_length : ℕ → ℕ → Bool
 is_block_length offset n =
     nat_le 12 n && nat_le n 16777216 && (n % 4 == 0) && nat_lt (offset + n) (2 ^ 64)
@@ -133,8 +133,8 @@ unit_or_next order options next =
     else if number_at_offset order 2 0 options == 9 then unit_in_option order options
     else next
 
--- `unit_in count order options`: the unit of timestamps by these options, of which there are at most
--- `count`. There are never more than the options have bytes.
+-- `unit_in count order options`: the unit of timestamps by these options, of which there are at
+-- most `count`. There are never more than the options have bytes.
 unfoldable pub unit_in : ℕ → ByteOrder → List ℕ → Result TimeUnit BlockError
 unit_in zero order options = Ok Microseconds
 unit_in (suc count) order options =

@@ -23,19 +23,19 @@ abbrev pub state_of : CaptureReader → CaptureState
 state_of (Pcap file) = in_pcap file
 state_of (Pcapng reader) = in_pcapng (position_of reader)
 
--- `IsCaptureStart bytes s`: a capture begins with these bytes, and `s` is the state after them. They
--- are the file header of a pcap file, of 24 bytes, or the section header block that a pcapng file
--- begins with.
+-- `IsCaptureStart bytes s`: a capture begins with these bytes, and `s` is the state after them.
+-- They are the file header of a pcap file, of 24 bytes, or the section header block that a pcapng
+-- file begins with.
 abbrev pub IsCaptureStart : List ℕ → CaptureState → Type 0
 IsCaptureStart bytes (in_pcap file) = (length bytes ≡ 24) × IsFileHeader bytes file
 IsCaptureStart bytes (in_pcapng p) = (order : ByteOrder) × (content : Content)
     × IsTrue (is_section_header bytes) × IsBlock start_of_file bytes order content
     × (p ≡ after_block start_of_file order content (length bytes))
 
--- `IsCaptureStartStop left failed part e`: `e` is the reason why a capture could not be opened, after
--- the bytes `part`. They are fewer than 24, and reading stopped there; or 24 that are neither a file
--- header of pcap nor the start of a pcapng file; or the section header block of a pcapng file could
--- not be read. `left` and `failed` are as in `IsEarlyReadStop`.
+-- `IsCaptureStartStop left failed part e`: `e` is the reason why a capture could not be opened,
+-- after the bytes `part`. They are fewer than 24, and reading stopped there; or 24 that are neither
+-- a file header of pcap nor the start of a pcapng file; or the section header block of a pcapng
+-- file could not be read. `left` and `failed` are as in `IsEarlyReadStop`.
 abbrev pub IsCaptureStartStop : Option (List ℕ) → Type 0 → List ℕ → CaptureError → Type 0
 IsCaptureStartStop left failed part e =
     ((length part < 24) × IsEarlyReadStop left failed part e)
@@ -43,8 +43,8 @@ IsCaptureStartStop left failed part e =
     ⊎ (IsTrue (is_section_header part) × IsBlockStop start_of_file left failed part e)
 
 -- `ReadsPacket s bytes packet s'`: the bytes lead from the state `s` to `s'`, over one packet. In a
--- pcap file they are its packet header and its captured bytes. In a pcapng file they are some blocks
--- without a packet, and a block with this packet.
+-- pcap file they are its packet header and its captured bytes. In a pcapng file they are some
+-- blocks without a packet, and a block with this packet.
 abbrev pub ReadsPacket : CaptureState → List ℕ → CapturedPacket → CaptureState → Type 0
 ReadsPacket (in_pcap file) bytes packet s' =
     (header : List ℕ) × IsPacketRecord file header packet × (bytes ≡ header ++ packet.bytes)

@@ -6,8 +6,8 @@ ghost use Rattle.program_streams.specs.ErrorText.{block_error_text};
 /// The reason why a block of a pcapng file is invalid.
 #[derive(Clone, Copy, Debug, PartialEq, Eq)]
 pub enum BlockError {
-    /// The length of the block, at offset 4, is less than its fields need, greater than 16777216, or
-    /// not a multiple of 4.
+    /// The length of the block, at offset 4, is less than its fields need, greater than 16777216,
+    /// or not a multiple of 4.
     Length,
     /// The length in the last four bytes of the block differs from the one at offset 4.
     EndLength,

@@ -2,7 +2,7 @@
 //! them: blocks, of which section headers, interface descriptions and packets are parsed, and all
 //! others skipped.
 
-ghost use Rattle.std.specs.Prelude.{◌≡◌, ◌↔◌, ◌+◌, ◌-◌, ◌^◌, ◌<◌, ◌≤◌, ◌++◌, ◌⊎◌, ℕ, List, [], length};
+ghost use Rattle.std.specs.Prelude.{◌≡◌, ◌+◌, ◌^◌, ◌<◌, ◌≤◌, ◌++◌, ℕ, List, length};
 ghost use Rattle.std.specs.Prelude.{IfOk, IfErr, IfSome, OnOk, MatchOption};
 ghost use Rattle.std.specs.Io.KnownBytes.{Consumes, IsAtEnd, Keeps};
 ghost use Rattle.program_streams.specs.Capture.{captured_packet, number_at_offset};
@@ -310,8 +310,8 @@ impl PcapngReader {
         }
     }
 
-    /// Returns the packet with this header, of which `captured` bytes are in the block, from `start`
-    /// on.
+    /// Returns the packet with this header, of which `captured` bytes are in the block, from
+    /// `start` on.
     fn packet_at(
         &self,
         block: &[u8],
@@ -453,8 +453,8 @@ impl PcapngReader {
         self.block.extend_from_slice(rest)
     }
 
-    /// Reads the rest of a block into `rest`, whose former content is dropped, and stores the block.
-    /// `head` has its first 12 bytes. Returns its byte order.
+    /// Reads the rest of a block into `rest`, whose former content is dropped, and stores the
+    /// block. `head` has its first 12 bytes. Returns its byte order.
     fn read_rest<R: Source>(
         &mut self,
         head: &[u8],
@@ -546,8 +546,8 @@ impl PcapngReader {
         }
     }
 
-    /// Reads the next block, and moves to its end. Returns its content, or `None` if the input is at
-    /// its end. `rest` is a buffer, whose content is not specified.
+    /// Reads the next block, and moves to its end. Returns its content, or `None` if the input is
+    /// at its end. `rest` is a buffer, whose content is not specified.
     fn next<R: Source>(
         &mut self,
         input: &mut R,

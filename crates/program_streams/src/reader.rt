@@ -79,17 +79,17 @@ impl CaptureReader {
         }
     }
 
-    /// Reads the next packet: its captured bytes into `packet`, whose former content is dropped, and
-    /// its capture time and original length, which are returned. Returns `None` if no packet
+    /// Reads the next packet: its captured bytes into `packet`, whose former content is dropped,
+    /// and its capture time and original length, which are returned. Returns `None` if no packet
     /// follows; then the input was read to its end.
     ///
-    /// A pcap file has packets only, see `FileHeader::read_packet`. In a pcapng file, blocks without
-    /// a packet are skipped. Fails with `Truncated` if the input ends within a packet or a block,
-    /// with `Read` if a read failed, with `PacketTooLong` if the captured length is greater than
-    /// 262144, and with `Memory` if an allocation failed. If a block of a pcapng file is invalid,
-    /// fails with `Block`, and if a packet has another link type than 253, with `OtherLinkType`. At
-    /// the end of the input and after an error, the content of `packet` is not specified, and after
-    /// an error neither is the state of the reader.
+    /// A pcap file has packets only, see `FileHeader::read_packet`. In a pcapng file, blocks
+    /// without a packet are skipped. Fails with `Truncated` if the input ends within a packet or a
+    /// block, with `Read` if a read failed, with `PacketTooLong` if the captured length is greater
+    /// than 262144, and with `Memory` if an allocation failed. If a block of a pcapng file is
+    /// invalid, fails with `Block`, and if a packet has another link type than 253, with
+    /// `OtherLinkType`. At the end of the input and after an error, the content of `packet` is not
+    /// specified, and after an error neither is the state of the reader.
     ///
     /// Stores at most the bytes of the packet and, of a pcapng file, the last block, of at most
     /// 16777216 bytes, and the interfaces of the section, at most 4096.

@@ -76,8 +76,21 @@ fails_at_write : (o : Options) (a d x z : Option (List ℕ))
     → Consumes a d (bytes ++ more) → (sent rest : List ℕ) → heading ++ lines ≡ sent ++ rest
     → Appends x z sent → FailsAtWrite o a d x z heading front Reported
 fails_at_write o a d x z heading front bytes lines diagnostics Reported whole table reported more
-    end read sent rest split appended =
-    (bytes, lines, diagnostics, whole, table, more, end, read, sent, rest, split, appended, reported)
+    end read sent rest split appended = (
+      bytes,
+      lines,
+      diagnostics,
+      whole,
+      table,
+      more,
+      end,
+      read,
+      sent,
+      rest,
+      split,
+      appended,
+      reported,
+    )
 
 -- A write failed, and nothing was read after the packets of the table.
 fails_at_write_of_packets : (o : Options) (a d x z : Option (List ℕ))
@@ -94,7 +107,8 @@ fails_at_write_of_packets o a d x z heading front bytes lines diagnostics Report
 module _ (o : Options) (front : List ℕ) (start : CaptureState) (header : List ℕ)
     (is : IsCaptureStart header start) where
   -- the table of the packets so far
-  abbrev pub table_of : (b c y z : Option (List ℕ)) (state : CaptureState) (asked : List Query) (whole : Bool) (number : ℕ)
+  abbrev pub table_of : (b c y z : Option (List ℕ)) (state : CaptureState) (asked : List Query)
+      (whole : Bool) (number : ℕ)
       (p : Progress o front start b c y z state asked whole number)
       → IsTableOfCapture o front (header ++ p.records) (flat_map lines_of_packet p.listings)
       p.diagnostics
@@ -123,8 +137,8 @@ module _ (o : Options) (front : List ℕ) (start : CaptureState) (header : List 
       → Reported p.diagnostics
       → Consumes a b header → Consumes c d more → Appends x y heading
       → RunState o a d x z heading front Reported state (length p.packets) more
-  progress_is_run_state a b c d x y z heading more Reported state asked whole number p reported first last
-      begun =
+  progress_is_run_state a b c d x y z heading more Reported state asked whole number p reported
+      first last begun =
       record {
         bytes = header ++ p.records;
         lines = flat_map lines_of_packet p.listings;

@@ -101,8 +101,8 @@ diagnosed_push front n (q ∷ ps) p lines one (first, rest, of_first, of_rest, s
     )
 
 -- One more packet follows.
-pub packets_push : (s : CaptureState) (bytes : List ℕ) (ps : List CapturedPacket) (s' : CaptureState)
-    (more : List ℕ) (p : CapturedPacket) (s'' : CaptureState)
+pub packets_push : (s : CaptureState) (bytes : List ℕ) (ps : List CapturedPacket)
+    (s' : CaptureState) (more : List ℕ) (p : CapturedPacket) (s'' : CaptureState)
     → ArePackets s bytes ps s' → ReadsPacket s' more p s''
     → ArePackets s (bytes ++ more) (ps ++ p ∷ []) s''
 packets_push s bytes [] s' more p s'' h is =
@@ -213,8 +213,8 @@ module _ (o : Options) (front : List ℕ) (start : CaptureState) where
   progress_continues_complete a b c x y z s s' more lines added p asked asked' one whole number
       is_whole so_far is
       next listed diagnosed read appended =
-      progress_continues a b c x y z s s' more lines added p asked asked' one whole one number so_far
-      is
+      progress_continues a b c x y z s s' more lines added p asked asked' one whole one number
+      so_far is
       next listed diagnosed read appended (λ _. is_whole) (λ h. h) (λ _ h. h)
 
   -- One more packet was listed, and a packet before it had an error.

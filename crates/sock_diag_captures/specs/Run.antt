@@ -45,8 +45,8 @@ AreListed o asked (packet ∷ packets) (listing ∷ later) =
     IsListed o (requests_after_packet asked packet.bytes) packet listing
     × AreListed o (requests_after_packet asked packet.bytes) packets later
 
--- `ArePackets s bytes packets s'`: the bytes lead from the state `s` of a reader to `s'`, over these
--- packets, one after another (`ReadsPacket`)
+-- `ArePackets s bytes packets s'`: the bytes lead from the state `s` of a reader to `s'`, over
+-- these packets, one after another (`ReadsPacket`)
 abbrev pub ArePackets : CaptureState → List ℕ → List CapturedPacket → CaptureState → Type 0
 ArePackets s bytes [] s' = (bytes ≡ []) × (s' ≡ s)
 ArePackets s bytes (packet ∷ later) s' =
@@ -88,8 +88,8 @@ pub record IsTableOfCapture (o : Options) (front bytes lines diagnostics : List 
 module _ (o : Options) (left left' held held' : Option (List ℕ)) (heading front : List ℕ)
     (Reported : List ℕ → Type 0) where
   -- The state after a number of packets: the capture was opened and these packets were read, which
-  -- led to the state `state` of the reader, and then the bytes `more` were read. The heading and the
-  -- lines of these packets were written, and their diagnostics reported.
+  -- led to the state `state` of the reader, and then the bytes `more` were read. The heading and
+  -- the lines of these packets were written, and their diagnostics reported.
   pub record RunState (state : CaptureState) (packets : ℕ) (more : List ℕ) : Type 0 where
     -- the bytes that open the capture, and those of the packets
     pub bytes : List ℕ
@@ -109,8 +109,8 @@ module _ (o : Options) (left left' held held' : Option (List ℕ)) (heading fron
     pub reported : Reported diagnostics
 
   -- The state after a failed write: a prefix of the heading and the lines of the capture so far was
-  -- written (`sent`), and its diagnostics were reported. `more` are the bytes of a pcapng file after
-  -- its last packet, if the last flush failed.
+  -- written (`sent`), and its diagnostics were reported. `more` are the bytes of a pcapng file
+  -- after its last packet, if the last flush failed.
   abbrev pub FailsAtWrite : Type 0
   FailsAtWrite =
       (bytes lines diagnostics : List ℕ) × (is_whole : Bool)

@@ -21,8 +21,7 @@ const STARTS: [&str; 2] = [
 const SECTION: &str = "0a0d0d0a1c0000004d3c2b1a01000000ffffffffffffffff1c000000";
 
 /// An interface whose timestamps have nanoseconds, after a comment of five bytes.
-const NANOSECONDS: &str =
-    "010000002c000000fd000000000000000100050061620a00ff0000000900010009000000\
+const NANOSECONDS: &str = "010000002c000000fd000000000000000100050061620a00ff0000000900010009000000\
 000000002c000000";
 
 /// The simple form of a packet of another protocol.
@@ -43,9 +42,16 @@ fn push_enhanced(
     let bytes = decoded(rt, alloc, digits);
     let length = u32::try_from(bytes.len()).expect(rt, "a short datagram");
     let padding = (4 - length % 4) % 4;
-    let total = (length + padding).checked_add(32).expect(rt, "a short datagram");
+    let total = (length + padding)
+        .checked_add(32)
+        .expect(rt, "a short datagram");
     let zeros = [0u8; 3];
-    push_words(rt, capture, order, &[6, total, 0, 0, 7_000_009, length, length]);
+    push_words(
+        rt,
+        capture,
+        order,
+        &[6, total, 0, 0, 7_000_009, length, length],
+    );
     capture.extend_from_slice(&bytes).expect(rt, "memory");
     let padding = zeros.get(..padding as usize).expect(rt, "at most three");
     capture.extend_from_slice(padding).expect(rt, "memory");
@@ -157,13 +163,34 @@ fn reports_where_a_file_is_truncated(rt: HostRuntime) {
 /// Invalid blocks after a section header and an interface, each with its error.
 const INVALID: [[&str; 2]; 16] = [
     ["0600000008000000", "packet 1: the capture is truncated"],
-    ["060000000800000000000000", "packet 1: invalid length of the block at offset 48"],
-    ["060000000d00000000000000", "packet 1: invalid length of the block at offset 48"],
-    ["0600000004000001000000000400000100", "packet 1: invalid length of the block at offset 48"],
-    ["34120080fcffffff0000000000", "packet 1: invalid length of the block at offset 48"],
-    ["060000000c0000000c000000", "packet 1: invalid length of the block at offset 48"],
-    ["0300000010000000000000000c000000", "packet 1: two different lengths of the block at offset 48"],
-    ["0a0d0d0a1c00000000000000", "packet 1: unknown byte order of the section at offset 48"],
+    [
+        "060000000800000000000000",
+        "packet 1: invalid length of the block at offset 48",
+    ],
+    [
+        "060000000d00000000000000",
+        "packet 1: invalid length of the block at offset 48",
+    ],
+    [
+        "0600000004000001000000000400000100",
+        "packet 1: invalid length of the block at offset 48",
+    ],
+    [
+        "34120080fcffffff0000000000",
+        "packet 1: invalid length of the block at offset 48",
+    ],
+    [
+        "060000000c0000000c000000",
+        "packet 1: invalid length of the block at offset 48",
+    ],
+    [
+        "0300000010000000000000000c000000",
+        "packet 1: two different lengths of the block at offset 48",
+    ],
+    [
+        "0a0d0d0a1c00000000000000",
+        "packet 1: unknown byte order of the section at offset 48",
+    ],
     [
         "0a0d0d0a1c0000004d3c2b1a02000000ffffffffffffffff1c000000",
         "packet 1: unsupported pcapng version, expected 1, of the section at offset 48",
