@@ -13,6 +13,8 @@ import sys
 import tempfile
 from pathlib import Path
 
+import pcapng
+
 CRATES = Path(__file__).resolve().parent.parent / "crates"
 VERSION = (CRATES.parent / "VERSION").read_bytes()
 CAPTURE = CRATES / "sslist/stdin"
@@ -246,12 +248,39 @@ def test_diagnostics(program):
     for given, text in [
         (b"\1\2\x0a\xff" + bytes(20), b"not a pcap capture: it begins with 01020aff"),
         (b"", b"the input is empty"),
-        (
-            b"\x0a\x0d\x0d\x0a" + bytes(20),
-            b"pcapng is not supported; try editcap -F pcap CAPTURE OTHER",
-        ),
+        (b"\x0a\x0d\x0d\x0a" + bytes(20), b"unknown byte order of the section at offset 0"),
     ]:
         check(program, [], given, 1, b"", re.escape(b"sslist: " + text + b"\n"))
+
+
+def test_pcapng(program):
+    """Lists the stored capture in pcapng format: it has the output of the capture in pcap format.
+    Also lists it truncated at each of its first bytes, and with a long block that is skipped."""
+    capture = CAPTURE.read_bytes()
+    # Timestamps of a capture with this magic number have nanoseconds.
+    nanoseconds = b"\x4d\x3c\xb2\xa1" + capture[4:]
+    for given in (capture, nanoseconds):
+        for form in (pcapng.ENHANCED, pcapng.PACKET, pcapng.SIMPLE):
+            for order, sections in [(it, many) for it in "<>" for many in (False, True)]:
+                written = pcapng.pcapng_of(given, order, form, sections)
+                for arguments in [[], ["--requests"]]:
+                    if arguments and form == pcapng.SIMPLE:
+                        continue
+                    status, table, errors = run(program, arguments, given)
+                    check(program, arguments, written, status, table, re.escape(errors))
+    status, table, errors = run(program, [], capture)
+    written = pcapng.pcapng_of(capture)
+    for length in range(1, 600):
+        ended, printed, why = run(program, [], written[:length])
+        assert ended in (0, 1) and table.startswith(printed), length
+        assert bool(ended) == bool(why) and (not ended or b" truncated\n" in why), (length, why)
+    long = pcapng.block("<", pcapng.UNKNOWN, bytes((1 << 24) - 12))
+    start = len(pcapng.section("<"))
+    check(program, [], written[:start] + long + written[start:], status, table, re.escape(errors))
+    over = pcapng.block("<", pcapng.UNKNOWN, bytes(1 << 24))
+    heading = table.splitlines(True)[0]
+    text = b"sslist: packet 1: invalid length of the block at offset %d\n" % start
+    check(program, [], written[:start] + over + written[start:], 1, heading, re.escape(text))
 
 
 def test_long_inputs(program):
@@ -402,6 +431,7 @@ if __name__ == "__main__":
     test_sslist(sslist)
     test_options(sslist)
     test_diagnostics(sslist)
+    test_pcapng(sslist)
     test_long_inputs(sslist)
     test_unreadable_file(sslist)
     test_early_check(sslist)

@@ -1,3 +1,5 @@
 pub mod LinesLemmas
 pub mod LineRunLemmas
 pub mod InputEnds
+pub mod PcapngLemmas
+pub mod ReaderLemmas

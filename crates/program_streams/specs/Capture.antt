@@ -9,7 +9,6 @@ use Rattle.program_streams.specs.declared.captures.ByteOrder.TheVariants.{Little
 use Rattle.program_streams.specs.declared.captures.CaptureError.{CaptureError}
 use Rattle.program_streams.specs.declared.captures.CaptureError.TheVariants.{Read, Memory}
 use Rattle.program_streams.specs.declared.captures.CaptureError.TheVariants.{Truncated, Empty}
-use Rattle.program_streams.specs.declared.captures.CaptureError.TheVariants.{NewFormat}
 use Rattle.program_streams.specs.declared.captures.CaptureError.TheVariants.{NoCapture, Packed}
 use Rattle.program_streams.specs.declared.captures.CaptureError.TheVariants.{OtherVersion}
 use Rattle.program_streams.specs.declared.captures.CaptureError.TheVariants.{OtherLinkType}
@@ -49,13 +48,10 @@ pub record IsFileHeader (bytes : List ℕ) (h : FileHeader) : Type 0 where
   pub unit : h.unit ≡ unit_of (number_at_offset h.order 4 0 bytes)
 
 -- The error of a file that is not a pcap file. `first` is the big-endian number at offset 0. It is
--- NewFormat for 0x0a0d0d0a (a pcapng file), Packed if the first two bytes are 0x1f8b (a gzip file),
--- and else NoCapture with `first`.
+-- Packed if the first two bytes are 0x1f8b (a gzip file), and else NoCapture with `first`.
 abbrev pub IsMagicError : ℕ → CaptureError → Type 0
-IsMagicError first NewFormat = first ≡ 0x0a0d0d0a
 IsMagicError first Packed = first / 2 ^ 16 ≡ 0x1f8b
-IsMagicError first (NoCapture magic) =
-    (magic ≡ first) × (first ≢ 0x0a0d0d0a) × (first / 2 ^ 16 ≢ 0x1f8b)
+IsMagicError first (NoCapture magic) = (magic ≡ first) × (first / 2 ^ 16 ≢ 0x1f8b)
 IsMagicError first _ = ⊥
 
 -- the bytes do not begin with a magic number of pcap in either byte order, and `e` is their error
@@ -68,7 +64,6 @@ HasNoPcapMagic bytes e =
 -- The error of bytes that are not a file header: an unknown magic number is reported first, then a
 -- major version that is not 2, then a link type that is not 253.
 abbrev pub IsFileHeaderError : List ℕ → CaptureError → Type 0
-IsFileHeaderError bytes NewFormat = HasNoPcapMagic bytes NewFormat
 IsFileHeaderError bytes Packed = HasNoPcapMagic bytes Packed
 IsFileHeaderError bytes (NoCapture magic) = HasNoPcapMagic bytes (NoCapture magic)
 IsFileHeaderError bytes (OtherVersion version) =
@@ -127,14 +122,6 @@ IsEarlyReadStop left failed part Empty = (part ≡ []) × IsAtEnd left
 IsEarlyReadStop left failed part Truncated = (0 < length part) × IsAtEnd left
 IsEarlyReadStop left failed part (Read error) = failed
 IsEarlyReadStop left failed part _ = ⊥
-
--- `IsFileHeaderStop left failed part e`: `e` is the reason why no file header was read. `part` are
--- the bytes that were read: either fewer than 24, and reading stopped there; or 24 that are not a
--- valid file header. `left` and `failed` are as in `IsEarlyReadStop`.
-abbrev pub IsFileHeaderStop : Option (List ℕ) → Type 0 → List ℕ → CaptureError → Type 0
-IsFileHeaderStop left failed part e =
-    ((length part < 24) × IsEarlyReadStop left failed part e)
-    ⊎ ((length part ≡ 24) × IsFileHeaderError part e)
 
 -- `part` is a proper prefix of a packet with its packet header: fewer than 16 bytes, or a packet
 -- header of 16 bytes and fewer bytes than its captured length, which is at 8.

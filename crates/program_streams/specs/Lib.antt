@@ -3,5 +3,7 @@ pub mod Lines
 pub mod LineRun
 pub mod Capture
 pub mod Cooked
+pub mod Pcapng
+pub mod Reader
 pub mod ErrorText
 pub mod private

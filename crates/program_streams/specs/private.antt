@@ -1,3 +1,4 @@
 -- Definitions that only the contracts of private functions need.
 pub mod Capture
 pub mod LineRun
+pub mod Pcapng

@@ -1,10 +1,10 @@
-//! Captures of netlink traffic, as tcpdump(1) writes them: the classic pcap format with the link
+//! Captures of netlink traffic in the classic pcap format, as tcpdump(1) writes them, with the link
 //! type `LINKTYPE_NETLINK`.
 
 ghost use Rattle.std.specs.Prelude.{◌≡◌, ◌↔◌, ◌+◌, ◌<◌, ◌≤◌, ◌++◌, ◌⊎◌, ℕ, List, [], length, IfOk};
 ghost use Rattle.std.specs.Prelude.{IfErr, OnOk, IsTrue, MatchBool, MatchOption, MatchResult};
 ghost use Rattle.std.specs.Io.KnownBytes.{Consumes, IsAtEnd, Keeps};
-ghost use Rattle.program_streams.specs.Capture.{IsFileHeader, IsFileHeaderError, IsFileHeaderStop};
+ghost use Rattle.program_streams.specs.Capture.{IsFileHeader, IsFileHeaderError};
 ghost use Rattle.program_streams.specs.Capture.{IsPcapMagic, IsMagicError, IsPacketStop};
 ghost use Rattle.program_streams.specs.Capture.{IsPacketRecord, number_at_offset};
 ghost use Rattle.program_streams.specs.Capture.{packet_header_fields, captured_packet, unit_of};
@@ -12,6 +12,7 @@ ghost use Rattle.program_streams.specs.ErrorText.{capture_error_text, error_text
 ghost use Rattle.program_streams.specs.private.Capture.{IsReadStop};
 ghost use Rattle.program_streams.specs.declared.captures.CaptureError.TheVariants.{Memory, Read};
 
+use crate::block_error::BlockError;
 use crate::error_text::ErrorText;
 use crate::streams::{ReadError, Source};
 use byteorder::{BigEndian, ByteOrder as _, LittleEndian};
@@ -25,10 +26,6 @@ const MICROSECONDS: u32 = 0xa1b2_c3d4;
 /// Magic number of a pcap file whose timestamps have nanoseconds.
 const NANOSECONDS: u32 = 0xa1b2_3c4d;
 
-/// Block type at the start of a pcapng file. It is a palindrome, so it is the same in either byte
-/// order.
-const NEW_FORMAT: u32 = 0x0a0d_0d0a;
-
 /// Magic number of a gzip(1) file, as a big-endian number: its first two bytes.
 const PACKED: u32 = 0x1f8b;
 
@@ -36,14 +33,14 @@ const PACKED: u32 = 0x1f8b;
 const MAJOR_VERSION: u16 = 2;
 
 /// `LINKTYPE_NETLINK`, the link type of nlmon(4) devices.
-const LINK_TYPE: u32 = 253;
+pub(crate) const LINK_TYPE: u32 = 253;
 
 /// Number of link types. The link type is in the low 16 bits of the field at offset 20. The high 16
 /// bits are not part of it: they have the length of the frame check sequence.
 const LINK_TYPES: u32 = 65_536;
 
 /// Length of the file header in bytes.
-const FILE_HEADER: usize = 24;
+pub(crate) const FILE_HEADER: usize = 24;
 
 /// Length of a packet header in bytes.
 const RECORD_HEADER: usize = 16;
@@ -53,7 +50,7 @@ const COOKED_HEADER: usize = 16;
 
 /// Greatest length of a packet in bytes, whatever the file header says. It is the default snapshot
 /// length of tcpdump(1).
-const MOST: u32 = 262_144;
+pub(crate) const MOST: u32 = 262_144;
 
 /// `ARPHRD_NETLINK`, the hardware type of a netlink packet.
 const HARDWARE_TYPE: u16 = 824;
@@ -72,8 +69,6 @@ pub enum CaptureError {
     Truncated,
     /// The input has no bytes.
     Empty,
-    /// The input is a pcapng file.
-    NewFormat,
     /// The input is compressed by gzip(1).
     Packed,
     /// The first four bytes are not the magic number of a known format. They are here as a
@@ -85,6 +80,13 @@ pub enum CaptureError {
     OtherLinkType(u32),
     /// A packet header has a length of more than 262144 bytes. The length is here.
     PacketTooLong(u32),
+    /// A block of a pcapng file is invalid.
+    Block {
+        /// Offset of the block in the file, in bytes.
+        offset: u64,
+        /// Reason why the block is invalid.
+        error: BlockError,
+    },
 }
 
 impl CaptureError {
@@ -97,9 +99,6 @@ impl CaptureError {
             CaptureError::Memory => ErrorText::Plain("out of memory"),
             CaptureError::Truncated => ErrorText::Plain("the capture is truncated"),
             CaptureError::Empty => ErrorText::Plain("the input is empty"),
-            CaptureError::NewFormat => {
-                ErrorText::Plain("pcapng is not supported; try editcap -F pcap CAPTURE OTHER")
-            }
             CaptureError::Packed => ErrorText::Plain("gzip is not supported; try gzip -dc CAPTURE"),
             CaptureError::NoCapture(magic) => {
                 ErrorText::Hex("not a pcap capture: it begins with ", *magic)
@@ -107,19 +106,24 @@ impl CaptureError {
             CaptureError::OtherVersion(version) => {
                 ErrorText::Decimal(
                     "unsupported pcap version ",
-                    u32::from(*version),
+                    u64::from(*version),
                     ", expected 2",
                 )
             }
             CaptureError::OtherLinkType(link_type) => {
                 ErrorText::Decimal(
                     "unsupported link type ",
-                    *link_type,
+                    u64::from(*link_type),
                     ", expected 253 (netlink)",
                 )
             }
-            CaptureError::PacketTooLong(count) => {
-                ErrorText::Decimal("packet length ", *count, " exceeds the maximum of 262144")
+            CaptureError::PacketTooLong(count) => ErrorText::Decimal(
+                "packet length ",
+                u64::from(*count),
+                " exceeds the maximum of 262144",
+            ),
+            CaptureError::Block { offset, error } => {
+                ErrorText::Decimal(error.text(), *offset, "")
             }
         }
     }
@@ -161,7 +165,7 @@ pub enum ByteOrder {
 
 impl ByteOrder {
     /// Returns the `u16` at an offset.
-    fn short_at(self, bytes: &[u8], offset: usize) -> u16
+    pub(crate) fn short_at(self, bytes: &[u8], offset: usize) -> u16
         requires { offset + 2 ≤ length bytes.now }
         ensures { result ≡ number_at_offset self 2 offset bytes.now }
     {
@@ -172,7 +176,7 @@ impl ByteOrder {
     }
 
     /// Returns the `u32` at an offset.
-    fn word_at(self, bytes: &[u8], offset: usize) -> u32
+    pub(crate) fn word_at(self, bytes: &[u8], offset: usize) -> u32
         requires { offset + 4 ≤ length bytes.now }
         ensures { result ≡ number_at_offset self 4 offset bytes.now }
     {
@@ -213,10 +217,10 @@ fn is_magic(number: u32) -> bool
 fn no_capture(magic: u32) -> CaptureError
     ensures { IsMagicError magic result }
 {
-    match magic {
-        NEW_FORMAT => CaptureError::NewFormat,
-        _ if magic >> 16 == PACKED => CaptureError::Packed,
-        _ => CaptureError::NoCapture(magic),
+    if magic >> 16 == PACKED {
+        CaptureError::Packed
+    } else {
+        CaptureError::NoCapture(magic)
     }
 }
 
@@ -267,9 +271,9 @@ impl FileHeader {
     /// Parses the file header in the first 24 bytes, which must be present. Bytes after them are
     /// ignored.
     ///
-    /// Returns the first error, in this order: if the magic number is unknown, `NewFormat`,
-    /// `Packed` or `NoCapture`; if the major version is not 2, `OtherVersion`; if the link type is
-    /// not 253, `OtherLinkType`.
+    /// Returns the first error, in this order: if the magic number is unknown, `Packed` or
+    /// `NoCapture`; if the major version is not 2, `OtherVersion`; if the link type is not 253,
+    /// `OtherLinkType`.
     pub fn parse(bytes: &[u8]) -> Result<FileHeader, CaptureError>
         requires { 24 ≤ length bytes.now }
         ensures { MatchResult result (IsFileHeader bytes.now) (IsFileHeaderError bytes.now) }
@@ -287,28 +291,6 @@ impl FileHeader {
         }
         let unit = unit_of(order.word_at(bytes, 0));
         Ok(FileHeader { order, unit })
-    }
-
-    /// Reads the file header: the next 24 bytes of the input.
-    ///
-    /// Fails with `Empty` if the input ends before its first byte, with `Truncated` if it ends
-    /// within the header, and with `Read` if a read failed. If all 24 bytes were read, it fails
-    /// with the error of `parse`.
-    pub fn read<R: Source>(input: &mut R) -> Result<FileHeader, CaptureError>
-        // R.left: the remaining bytes, if known.
-        ensures read { IfOk result (λ file. (bytes : List ℕ) × (length bytes ≡ 24)
-            × IsFileHeader bytes file
-            × Consumes (R.left input.old) (R.left input.new) bytes) }
-        // R.failed: a read has failed. part: the bytes that were read.
-        ensures stopped { IfErr result (λ e. (part : List ℕ)
-            × Consumes (R.left input.old) (R.left input.new) part
-            × IsFileHeaderStop (R.left input.new) (R.failed input.new) part e) }
-    {
-        let mut bytes = [0u8; FILE_HEADER];
-        if !fill_or_end(input, &mut bytes)? {
-            return Err(CaptureError::Empty);
-        }
-        FileHeader::parse(&bytes)
     }
 
     /// Reads a packet header of 16 bytes, and then as many bytes as its captured length, the `u32`
@@ -366,7 +348,7 @@ impl FileHeader {
 }
 
 /// Reads `count` bytes into `packet`, whose former content is dropped.
-fn read_bytes<R: Source>(
+pub(crate) fn read_bytes<R: Source>(
     input: &mut R,
     packet: &mut Vec<u8>,
     count: usize,
@@ -384,7 +366,7 @@ fn read_bytes<R: Source>(
 }
 
 /// Reads until `bytes` is full. Does not retry a failed read.
-fn fill<R: Source>(input: &mut R, bytes: &mut [u8]) -> Result<(), CaptureError>
+pub(crate) fn fill<R: Source>(input: &mut R, bytes: &mut [u8]) -> Result<(), CaptureError>
     ensures filled { OnOk result (Consumes (R.left input.old) (R.left input.new) bytes.new) }
     ensures stopped { IfErr result (λ e. (part : List ℕ) × (length part < length bytes.old)
         × Consumes (R.left input.old) (R.left input.new) part
@@ -402,7 +384,7 @@ fn fill<R: Source>(input: &mut R, bytes: &mut [u8]) -> Result<(), CaptureError>
 
 /// Reads until `bytes` is full, and returns true. Returns false if the input is at its end before
 /// the first byte. `bytes` must not be empty.
-fn fill_or_end<R: Source>(input: &mut R, bytes: &mut [u8]) -> Result<bool, CaptureError>
+pub(crate) fn fill_or_end<R: Source>(input: &mut R, bytes: &mut [u8]) -> Result<bool, CaptureError>
     requires { 0 < length bytes.old }
     ensures filled { IfOk result (λ is_filled. MatchBool is_filled
         (Consumes (R.left input.old) (R.left input.new) bytes.new)

@@ -8,7 +8,7 @@ pub enum ErrorText {
     /// A text without a number.
     Plain(&'static str),
     /// A number in decimal, between two texts.
-    Decimal(&'static str, u32, &'static str),
+    Decimal(&'static str, u64, &'static str),
     /// A number in eight hex digits, after a text.
     Hex(&'static str, u32),
 }

@@ -3,6 +3,7 @@
 ghost use Rattle.std.specs.Prelude.{◌≡◌, ◌↔◌, IsTrue, IsOk, IfOk};
 ghost use Rattle.program_streams.specs.Cooked.{AreEqualPackets};
 
+use crate::block_error::BlockError;
 use crate::captures::{ByteOrder, CaptureError, FileHeader, Packet, PacketHeader, TimeUnit};
 use crate::error_text::ErrorText;
 use crate::lines::RunError;
@@ -32,6 +33,13 @@ pub fn equal_run_errors(v: &RunError, w: &RunError) -> bool
 
 /// Compares two errors of a capture by `==`, which is true if and only if they are equal.
 pub fn equal_capture_errors(v: &CaptureError, w: &CaptureError) -> bool
+    ensures { IsTrue result ↔ (v.now ≡ w.now) }
+{
+    v == w
+}
+
+/// Compares two errors of blocks by `==`, which is true if and only if they are equal.
+pub fn equal_block_errors(v: &BlockError, w: &BlockError) -> bool
     ensures { IsTrue result ↔ (v.now ≡ w.now) }
 {
     v == w
@@ -107,6 +115,14 @@ pub fn copied_error_text(v: &ErrorText) -> Result<ErrorText, AllocError>
 
 /// Copies an error of a capture by `clone`, which never fails and returns an equal value.
 pub fn copied_capture_error(v: &CaptureError) -> Result<CaptureError, AllocError>
+    ensures ok { IsOk result }
+    ensures same { IfOk result (λ copy. copy ≡ v.now) }
+{
+    v.clone()
+}
+
+/// Copies an error of a block by `clone`, which never fails and returns an equal value.
+pub fn copied_block_error(v: &BlockError) -> Result<BlockError, AllocError>
     ensures ok { IsOk result }
     ensures same { IfOk result (λ copy. copy ≡ v.now) }
 {

@@ -7,14 +7,12 @@ use Rattle.std.specs.Prelude.{MatchResult}
 use Rattle.std.specs.Io.KnownBytes.{Appends, Consumes, Keeps, append_known}
 use Rattle.std.proofs.KnownBytes.{Appends-kept, Appends-trans, Consumes-nil, Consumes-trans}
 use Rattle.std.proofs.KnownBytes.{Keeps-refl}
-use Rattle.program_streams.specs.Capture.{IsFileHeader, IsFileHeaderStop, IsPacketStop}
-use Rattle.program_streams.specs.Capture.{IsPacketRecord, CapturedPacket}
+use Rattle.program_streams.specs.Capture.{CapturedPacket}
+use Rattle.program_streams.specs.Reader.{CaptureState, IsCaptureEnd, IsCaptureStart}
+use Rattle.program_streams.specs.Reader.{IsCaptureStartStop, IsCaptureStop, ReadsPacket}
+use Rattle.program_streams.proofs.ReaderLemmas.{nothing_more, stopped_at_once, stopped_for_either}
 use Rattle.program_streams.specs.declared.captures.CaptureError.{CaptureError}
-use Rattle.program_streams.specs.declared.captures.CaptureError.TheVariants.{Truncated}
-use Rattle.program_streams.specs.declared.captures.CaptureError.TheVariants.{PacketTooLong}
 use Rattle.program_streams.specs.declared.captures.CaptureError.TheVariants.{Read}
-use Rattle.program_streams.specs.declared.captures.CaptureError.TheVariants.{Memory as NoMemory}
-use Rattle.program_streams.specs.declared.captures.FileHeader.{FileHeader}
 use Rattle.sock_diag_captures.specs.declared.list_error.ListError.{ListError}
 use Rattle.sock_diag_captures.specs.declared.list_error.ListError.TheVariants.{Header, Packet}
 use Rattle.sock_diag_captures.specs.declared.list_error.ListError.TheVariants.{Memory}
@@ -33,16 +31,6 @@ use Rattle.sock_diag_captures.specs.Run.{lines_of_packet}
 use Rattle.sock_diag_captures.proofs.Progress.{Progress, progress_continues_incomplete}
 use Rattle.sock_diag_captures.proofs.Progress.{progress_continues_complete, lines_push}
 use Rattle.sock_diag_captures.proofs.Progress.{progress_begins}
-
--- A reason to stop for one cause is a reason to stop for one of two causes.
-stop_weaker : (file : FileHeader) (left : Option (List ℕ)) (A B : Type 0) (part : List ℕ)
-    (error : CaptureError)
-    → IsPacketStop file left A part error → IsPacketStop file left (A ⊎ B) part error
-stop_weaker file left A B part Truncated h = h
-stop_weaker file left A B part (Read error) h = (h.0, inl h.1)
-stop_weaker file left A B part NoMemory h = h
-stop_weaker file left A B part (PacketTooLong listings) h = h
-stop_weaker file left A B part _ h = h
 
 bool_cases : (b : Bool) → (b ≡ true) ⊎ (b ≡ false)
 bool_cases true = inl refl
@@ -63,11 +51,18 @@ pub no_memory : (e : ListError) (P : WriteError → Type 0) → e ≡ Memory
     → (error : WriteError) → e ≡ Write error → P error
 no_memory e P is error write = absurd cc
 
--- The run failed because the file header could not be read.
+-- A failed write is the one with its error.
+pub write_cause : (e : ListError) (cause : WriteError) (P : WriteError → Type 0)
+    → e ≡ Write cause → P cause → (error : WriteError) → e ≡ Write error → P error
+write_cause e cause P is failed error write =
+    let same : cause ≡ error = cc in
+    subst P same failed
+
+-- The run failed because the capture could not be opened.
 pub fails_at_header : (o : Options) (a d x : Option (List ℕ)) (heading front : List ℕ)
     (Reported : List ℕ → Type 0) (unread : Type 0) (e : ListError) → Reported []
     → ((error : CaptureError) × (e ≡ Header error) × (part : List ℕ) × Consumes a d part
-    × IsFileHeaderStop d unread part error)
+    × IsCaptureStartStop d unread part error)
     → Fails o a d x x heading front Reported unread e
 fails_at_header o a d x heading front Reported unread e none (error, is, part, read, stop) =
     subst (λ (e : ListError). Fails o a d x x heading front Reported unread e) (sym is)
@@ -76,29 +71,56 @@ fails_at_header o a d x heading front Reported unread e none (error, is, part, r
 -- A write of the heading or of the table failed.
 fails_at_write : (o : Options) (a d x z : Option (List ℕ))
     (heading front bytes lines diagnostics : List ℕ) (Reported : List ℕ → Type 0) (whole : Bool)
+    → (table : IsTableOfCapture o front bytes lines diagnostics whole) → Reported diagnostics
+    → (more : List ℕ) → IsCaptureEnd table.state more
+    → Consumes a d (bytes ++ more) → (sent rest : List ℕ) → heading ++ lines ≡ sent ++ rest
+    → Appends x z sent → FailsAtWrite o a d x z heading front Reported
+fails_at_write o a d x z heading front bytes lines diagnostics Reported whole table reported more
+    end read sent rest split appended = (
+      bytes,
+      lines,
+      diagnostics,
+      whole,
+      table,
+      more,
+      end,
+      read,
+      sent,
+      rest,
+      split,
+      appended,
+      reported,
+    )
+
+-- A write failed, and nothing was read after the packets of the table.
+fails_at_write_of_packets : (o : Options) (a d x z : Option (List ℕ))
+    (heading front bytes lines diagnostics : List ℕ) (Reported : List ℕ → Type 0) (whole : Bool)
     → IsTableOfCapture o front bytes lines diagnostics whole → Reported diagnostics
     → Consumes a d bytes → (sent rest : List ℕ) → heading ++ lines ≡ sent ++ rest
     → Appends x z sent → FailsAtWrite o a d x z heading front Reported
-fails_at_write o a d x z heading front bytes lines diagnostics Reported whole table reported read
-    sent rest split appended =
-    (bytes, lines, diagnostics, whole, table, read, sent, rest, split, appended, reported)
+fails_at_write_of_packets o a d x z heading front bytes lines diagnostics Reported whole table
+    reported read sent rest split appended =
+    fails_at_write o a d x z heading front bytes lines diagnostics Reported whole table reported []
+    (nothing_more table.state) (subst (Consumes a d) (sym (append-nil bytes)) read)
+    sent rest split appended
 
-module _ (o : Options) (front : List ℕ) (file : FileHeader) (header : List ℕ)
-    (long : length header ≡ 24) (is : IsFileHeader header file) where
+module _ (o : Options) (front : List ℕ) (start : CaptureState) (header : List ℕ)
+    (is : IsCaptureStart header start) where
   -- the table of the packets so far
-  abbrev pub table_of : (b c y z : Option (List ℕ)) (asked : List Query) (whole : Bool) (number : ℕ)
-      (p : Progress o front (IsPacketRecord file) b c y z asked whole number)
+  abbrev pub table_of : (b c y z : Option (List ℕ)) (state : CaptureState) (asked : List Query)
+      (whole : Bool) (number : ℕ)
+      (p : Progress o front start b c y z state asked whole number)
       → IsTableOfCapture o front (header ++ p.records) (flat_map lines_of_packet p.listings)
       p.diagnostics
       whole
-  table_of b c y z asked whole number p = record {
-    file = file;
+  table_of b c y z state asked whole number p = record {
     header = header;
+    start = start;
     records = p.records;
+    state = state;
     packets = p.packets;
     listings = p.listings;
     parts = refl;
-    long = long;
     is_header = is;
     are_packets = p.are_packets;
     listed = p.listed;
@@ -110,20 +132,20 @@ module _ (o : Options) (front : List ℕ) (file : FileHeader) (header : List ℕ
   -- The state after the packets so far, if more bytes were read.
   progress_is_run_state : (a b c d x y z : Option (List ℕ)) (heading more : List ℕ)
       (Reported : List ℕ → Type 0)
-      (asked : List Query) (whole : Bool) (number : ℕ)
-      (p : Progress o front (IsPacketRecord file) b c y z asked whole number)
+      (state : CaptureState) (asked : List Query) (whole : Bool) (number : ℕ)
+      (p : Progress o front start b c y z state asked whole number)
       → Reported p.diagnostics
       → Consumes a b header → Consumes c d more → Appends x y heading
-      → RunState o a d x z heading front Reported file (length p.packets) more
-  progress_is_run_state a b c d x y z heading more Reported asked whole number p reported first last
-      begun =
+      → RunState o a d x z heading front Reported state (length p.packets) more
+  progress_is_run_state a b c d x y z heading more Reported state asked whole number p reported
+      first last begun =
       record {
         bytes = header ++ p.records;
         lines = flat_map lines_of_packet p.listings;
         diagnostics = p.diagnostics;
         is_whole = whole;
-        table = table_of b c y z asked whole number p;
-        of_file = refl;
+        table = table_of b c y z state asked whole number p;
+        reached = refl;
         counted = refl;
         read = Consumes-trans a c d (header ++ p.records) more
             (Consumes-trans a b c header p.records first p.read) last;
@@ -138,31 +160,30 @@ module _ (o : Options) (front : List ℕ) (file : FileHeader) (header : List ℕ
       → Consumes a b header → (sent rest : List ℕ) → heading ≡ sent ++ rest → Appends x z sent
       → FailsAtWrite o a b x z heading front Reported
   fails_at_heading a b x z heading Reported none first sent rest split appended =
-      fails_at_write o a b x z heading front (header ++ []) [] [] Reported true
-      (table_of b b x x [] true 1 (progress_begins o front (IsPacketRecord file) b x)) none
+      fails_at_write_of_packets o a b x z heading front (header ++ []) [] [] Reported true
+      (table_of b b x x start [] true 1 (progress_begins o front start b x)) none
       (Consumes-trans a b b header [] first (Consumes-nil b)) sent rest (append-nil heading
       ∙ split) appended
 
-  module _ (a b c x y z : Option (List ℕ)) (heading : List ℕ) (asked : List Query) (whole : Bool)
-      (number : ℕ)
-      (p : Progress o front (IsPacketRecord file) b c y z asked whole number)
+  module _ (a b c x y z : Option (List ℕ)) (heading : List ℕ) (state : CaptureState)
+      (asked : List Query) (whole : Bool) (number : ℕ)
+      (p : Progress o front start b c y z state asked whole number)
       (first : Consumes a b header) (begun : Appends x y heading) where
     module _ (Reported : List ℕ → Type 0) (reported : Reported p.diagnostics) where
       -- The run failed because a packet could not be read.
       pub fails_at_packet : (d : Option (List ℕ)) (unread : Type 0) (e : ListError)
           → ((error : CaptureError) × (e ≡ Packet number error) × (part : List ℕ)
-          × Consumes c d part × IsPacketStop file d unread part error)
+          × Consumes c d part × IsCaptureStop state d unread part error)
           → Fails o a d x z heading front Reported unread e
       fails_at_packet d unread e (error, same, part, read, stop) =
           subst (λ (e : ListError). Fails o a d x z heading front Reported unread e) (sym same) (
-            file,
+            state,
             length p.packets,
             part,
-            progress_is_run_state a b c d x y z heading part Reported asked whole number p reported
-                first read
-                begun,
+            progress_is_run_state a b c d x y z heading part Reported state asked whole number p
+                reported first read begun,
             p.next,
-            stop_weaker file d unread (number ≡ 2 ^ 64 - 1) part error stop,
+            stopped_for_either state d unread (number ≡ 2 ^ 64 - 1) part error stop,
           )
 
       -- The run failed because the next packet has no number.
@@ -170,58 +191,58 @@ module _ (o : Options) (front : List ℕ) (file : FileHeader) (header : List ℕ
           → Fails o a c x z heading front Reported unread
           (Packet (2 ^ 64 - 1) (Read Other))
       fails_past_numbers unread last = (
-        file,
+        state,
         length p.packets,
         [],
-        progress_is_run_state a b c c x y z heading [] Reported asked whole number p reported first
-            (Consumes-nil c) begun,
+        progress_is_run_state a b c c x y z heading [] Reported state asked whole number p reported
+            first (Consumes-nil c) begun,
         sym last ∙ p.next,
-        (inl (omega arith), inr refl),
+        stopped_at_once state c (unread ⊎ (2 ^ 64 - 1 ≡ 2 ^ 64 - 1)) Other (inr refl),
       )
 
       -- The run failed because an allocation for the lines of a packet failed.
       pub fails_at_memory : (d : Option (List ℕ)) (unread : Type 0) (e : ListError)
-          (head : List ℕ) (packet : CapturedPacket) → e ≡ Memory
-          → IsPacketRecord file head packet → Consumes c d (head ++ packet.bytes)
+          (bytes : List ℕ) (packet : CapturedPacket) (after : CaptureState) → e ≡ Memory
+          → ReadsPacket state bytes packet after → Consumes c d bytes
           → Fails o a d x z heading front Reported unread e
-      fails_at_memory d unread e head packet memory record_of read =
+      fails_at_memory d unread e bytes packet after memory reads read =
           subst (λ (e : ListError). Fails o a d x z heading front Reported unread e) (sym memory) (
-            file,
+            state,
+            after,
             length p.packets,
-            head,
+            bytes,
             packet,
-            record_of,
-            progress_is_run_state a b c d x y z heading (head ++ packet.bytes) Reported asked whole
-                number p
+            reads,
+            progress_is_run_state a b c d x y z heading bytes Reported state asked whole number p
                 reported first read begun,
           )
 
       -- The last flush failed.
-      pub fails_at_flush : (d z' : Option (List ℕ)) → Consumes c d [] → Keeps z z'
+      pub fails_at_flush : (d z' : Option (List ℕ)) (more : List ℕ) → IsCaptureEnd state more
+          → Consumes c d more → Keeps z z'
           → FailsAtWrite o a d x z' heading front Reported
-      fails_at_flush d z' last kept =
+      fails_at_flush d z' more end last kept =
           let lines = flat_map lines_of_packet p.listings in
-          let read : Consumes a d (header ++ p.records) =
-          subst (Consumes a d) (append-nil (header ++ p.records))
-          (Consumes-trans a c d (header ++ p.records) []
-          (Consumes-trans a b c header p.records first p.read) last) in
           fails_at_write o a d x z' heading front (header ++ p.records) lines p.diagnostics
-          Reported whole (table_of b c y z asked whole number p) reported
-          read (heading ++ lines) [] (sym (append-nil (heading ++ lines)))
+          Reported whole (table_of b c y z state asked whole number p) reported more end
+          (Consumes-trans a c d (header ++ p.records) more
+          (Consumes-trans a b c header p.records first p.read) last)
+          (heading ++ lines) [] (sym (append-nil (heading ++ lines)))
           (Appends-kept x z z' (heading ++ lines)
           (Appends-trans x y z heading lines begun p.appended) kept)
 
     -- The lines of a packet could not be written.
     pub fails_at_lines : (Reported : List ℕ → Type 0) (d z' : Option (List ℕ))
-        (head lines added : List ℕ) (packet : CapturedPacket) (asked' : List Query) (one : Bool)
+        (more lines added : List ℕ) (packet : CapturedPacket) (after : CaptureState)
+        (asked' : List Query) (one : Bool)
         → Reported (p.diagnostics ++ added)
-        → IsPacketRecord file head packet → asked' ≡ requests_after_packet asked packet.bytes
+        → ReadsPacket state more packet after → asked' ≡ requests_after_packet asked packet.bytes
         → IsListed o asked' packet (record { lines = lines; whole = one })
         → DiagnosesPacket front number packet [] added
-        → Consumes c d (head ++ packet.bytes)
+        → Consumes c d more
         → (sent rest : List ℕ) → lines ≡ sent ++ rest → Appends z z' sent
         → FailsAtWrite o a d x z' heading front Reported
-    fails_at_lines Reported d z' head lines added packet asked' one reported record_of next
+    fails_at_lines Reported d z' more lines added packet after asked' one reported reads next
         listed diagnosed read sent rest split appended =
         let before = flat_map lines_of_packet p.listings in
         let new : ListedPacket = record { lines = lines; whole = one } in
@@ -237,37 +258,37 @@ module _ (o : Options) (front : List ℕ) (file : FileHeader) (header : List ℕ
         let all : Appends x z' ((heading ++ before) ++ sent) =
         Appends-trans x z z' (heading ++ before) sent
         (Appends-trans x y z heading before begun p.appended) appended in
-        let bytes : Consumes a d (header ++ (p.records ++ (head ++ packet.bytes))) =
-        Consumes-trans a b d header (p.records ++ (head ++ packet.bytes)) first
-        (Consumes-trans b c d p.records (head ++ packet.bytes) p.read read) in
+        let bytes : Consumes a d (header ++ (p.records ++ more)) =
+        Consumes-trans a b d header (p.records ++ more) first
+        (Consumes-trans b c d p.records more p.read read) in
         elim (bool_cases whole) [
-          | inl t ↦ fails_at_write o a d x z' heading front _ _ _ Reported one
-              (table_of b d y w asked' one (number + 1)
-              (progress_continues_complete o front (IsPacketRecord file) b c d y z w head lines
+          | inl t ↦ fails_at_write_of_packets o a d x z' heading front _ _ _ Reported one
+              (table_of b d y w after asked' one (number + 1)
+              (progress_continues_complete o front start b c d y z w state after more lines
               added packet asked
-              asked' one whole number t p record_of next listed diagnosed read wrote))
+              asked' one whole number t p reads next listed diagnosed read wrote))
               reported bytes ((heading ++ before) ++ sent) rest joined all
-          | inr f ↦ fails_at_write o a d x z' heading front _ _ _ Reported whole
-              (table_of b d y w asked' whole (number + 1)
-              (progress_continues_incomplete o front (IsPacketRecord file) b c d y z w head lines
+          | inr f ↦ fails_at_write_of_packets o a d x z' heading front _ _ _ Reported whole
+              (table_of b d y w after asked' whole (number + 1)
+              (progress_continues_incomplete o front start b c d y z w state after more lines
               added packet asked
-              asked' one whole number f p record_of next listed diagnosed read wrote))
+              asked' one whole number f p reads next listed diagnosed read wrote))
               reported bytes ((heading ++ before) ++ sent) rest joined all
         ]
 
 -- a statement about the reported diagnostics, and one that follows from it
 module _ (o : Options) (left left' held held' : Option (List ℕ)) (heading front : List ℕ)
     (P Q : List ℕ → Type 0) (implies : (diagnostics : List ℕ) → P diagnostics → Q diagnostics) where
-  abbrev pub run_state_implies : (file : FileHeader) (packets : ℕ) (more : List ℕ)
-      → RunState o left left' held held' heading front P file packets more
-      → RunState o left left' held held' heading front Q file packets more
-  run_state_implies file packets more h = record {
+  abbrev pub run_state_implies : (state : CaptureState) (packets : ℕ) (more : List ℕ)
+      → RunState o left left' held held' heading front P state packets more
+      → RunState o left left' held held' heading front Q state packets more
+  run_state_implies state packets more h = record {
     bytes = h.bytes;
     lines = h.lines;
     diagnostics = h.diagnostics;
     is_whole = h.is_whole;
     table = h.table;
-    of_file = h.of_file;
+    reached = h.reached;
     counted = h.counted;
     read = h.read;
     appended = h.appended;
@@ -282,6 +303,8 @@ module _ (o : Options) (left left' held held' : Option (List ℕ)) (heading fron
     diagnostics,
     whole,
     table,
+    more,
+    end,
     read,
     sent,
     rest,
@@ -294,6 +317,8 @@ module _ (o : Options) (left left' held held' : Option (List ℕ)) (heading fron
     diagnostics,
     whole,
     table,
+    more,
+    end,
     read,
     sent,
     rest,
@@ -307,10 +332,10 @@ module _ (o : Options) (left left' held held' : Option (List ℕ)) (heading fron
       → Fails o left left' held held' heading front Q unread e
   fails_implies unread (Header error) (part, read, stop, kept, reported) =
       (part, read, stop, kept, implies [] reported)
-  fails_implies unread (Packet number error) (file, packets, part, h, is, stop) =
-      (file, packets, part, run_state_implies file packets part h, is, stop)
-  fails_implies unread Memory (file, packets, header, packet, is, h) =
-      (file, packets, header, packet, is, run_state_implies file packets (header ++ packet.bytes) h)
+  fails_implies unread (Packet number error) (state, packets, part, h, is, stop) =
+      (state, packets, part, run_state_implies state packets part h, is, stop)
+  fails_implies unread Memory (state, after, packets, bytes, packet, is, h) =
+      (state, after, packets, bytes, packet, is, run_state_implies state packets bytes h)
   fails_implies unread (Write error) h = fails_at_write_implies h
 
   pub finishes_implies : (whole : Bool)
@@ -318,9 +343,11 @@ module _ (o : Options) (left left' held held' : Option (List ℕ)) (heading fron
       → Finishes o left left' held held' heading front Q whole
   finishes_implies whole h = record {
     bytes = h.bytes;
+    more = h.more;
     lines = h.lines;
     diagnostics = h.diagnostics;
     table = h.table;
+    no_packet = h.no_packet;
     read = h.read;
     ended = h.ended;
     appended = h.appended;

@@ -9,6 +9,7 @@ use Rattle.std.specs.Io.KnownBytes.{Appends, Consumes}
 use Rattle.std.proofs.KnownBytes.{Appends-nil, Appends-trans, Consumes-nil, Consumes-trans}
 use Rattle.std.proofs.lemmas.Grind.{flat_map-append}
 use Rattle.program_streams.specs.Capture.{CapturedPacket}
+use Rattle.program_streams.specs.Reader.{CaptureState, ReadsPacket}
 use Rattle.sock_diag_captures.specs.declared.options.Options.{Options}
 use Rattle.sock_diag_captures.specs.Diagnostics.{AreDiagnosed, DiagnosesPacket}
 use Rattle.sock_diag_captures.specs.Listing.{requests_after_packet}
@@ -99,39 +100,36 @@ diagnosed_push front n (q ∷ ps) p lines one (first, rest, of_first, of_rest, s
       ap (λ (t : List ℕ). t ++ one) split ∙ append_assoc first rest one,
     )
 
-module _ (o : Options) (front : List ℕ) (R : List ℕ → CapturedPacket → Type 0) where
-  pub packets_push : (bytes : List ℕ) (ps : List CapturedPacket) (header : List ℕ)
-      (p : CapturedPacket)
-      → ArePackets R bytes ps → R header p
-      → ArePackets R (bytes ++ (header ++ p.bytes)) (ps ++ p ∷ [])
-  packets_push bytes [] header p h is = (
-    header,
-    [],
-    is,
-    ap (λ (b : List ℕ). b ++ (header ++ p.bytes)) h
-        ∙ sym (append-nil (header ++ p.bytes)),
-    refl,
-  )
-  packets_push bytes (q ∷ ps) header p h is = (
-    h.0,
-    h.1 ++ (header ++ p.bytes),
-    h.2,
-    ap (λ (b : List ℕ). b ++ (header ++ p.bytes)) h.3
-        ∙ append_assoc (h.0 ++ q.bytes) h.1 (header ++ p.bytes),
-    packets_push h.1 ps header p h.4 is,
-  )
+-- One more packet follows.
+pub packets_push : (s : CaptureState) (bytes : List ℕ) (ps : List CapturedPacket)
+    (s' : CaptureState) (more : List ℕ) (p : CapturedPacket) (s'' : CaptureState)
+    → ArePackets s bytes ps s' → ReadsPacket s' more p s''
+    → ArePackets s (bytes ++ more) (ps ++ p ∷ []) s''
+packets_push s bytes [] s' more p s'' h is =
+    let same : ReadsPacket s more p s'' =
+    subst (λ (t : CaptureState). ReadsPacket t more p s'') h.1 is in
+    (more, [], s'', same, ap (λ (b : List ℕ). b ++ more) h.0 ∙ sym (append-nil more), (refl, refl))
+packets_push s bytes (q ∷ ps) s' more p s'' (first, rest, mid, reads, split, later) is = (
+  first,
+  rest ++ more,
+  mid,
+  reads,
+  ap (λ (b : List ℕ). b ++ more) split ∙ append_assoc first rest more,
+  packets_push mid rest ps s' more p s'' later is,
+)
 
-  -- These packets were read, listed and diagnosed. `asked` are the requests so far, `number` is the
-  -- number of the next packet, and `is_whole` is true if and only if all were listed without
-  -- errors.
+module _ (o : Options) (front : List ℕ) (start : CaptureState) where
+  -- These packets were read, listed and diagnosed. They led to the state `state` of the reader.
+  -- `asked` are the requests so far, `number` is the number of the next packet, and `is_whole` is
+  -- true if and only if all were listed without errors.
   pub record Progress (remaining remaining' contents contents' : Option (List ℕ))
-      (asked : List Query) (is_whole : Bool) (number : ℕ) : Type 0 where
+      (state : CaptureState) (asked : List Query) (is_whole : Bool) (number : ℕ) : Type 0 where
     pub records : List ℕ
     pub packets : List CapturedPacket
     pub listings : List ListedPacket
     pub diagnostics : List ℕ
     pub read : Consumes remaining remaining' records
-    pub are_packets : ArePackets R records packets
+    pub are_packets : ArePackets start records packets state
     pub listed : AreListed o [] packets listings
     pub diagnosed : AreDiagnosed front 1 packets diagnostics
     pub seen : asked ≡ requests_after_packets [] packets
@@ -141,14 +139,14 @@ module _ (o : Options) (front : List ℕ) (R : List ℕ → CapturedPacket → T
     pub next : number ≡ length packets + 1
 
   abbrev pub progress_begins : (remaining contents : Option (List ℕ))
-      → Progress remaining remaining contents contents [] true 1
+      → Progress remaining remaining contents contents start [] true 1
   progress_begins remaining contents = record {
     records = [];
     packets = [];
     listings = [];
     diagnostics = [];
     read = Consumes-nil remaining;
-    are_packets = refl;
+    are_packets = (refl, refl);
     listed = tt;
     diagnosed = refl;
     seen = sym no_requests_at_start;
@@ -159,31 +157,33 @@ module _ (o : Options) (front : List ℕ) (R : List ℕ → CapturedPacket → T
   }
 
   -- One more packet was read and listed.
-  abbrev pub progress_continues : (a b c x y z : Option (List ℕ)) (header lines added : List ℕ)
+  abbrev pub progress_continues : (a b c x y z : Option (List ℕ)) (s s' : CaptureState)
+      (more lines added : List ℕ)
       (p : CapturedPacket)
       (asked asked' : List Query) (one whole whole' : Bool) (number : ℕ)
-      → Progress a b x y asked whole number
-      → R header p → asked' ≡ requests_after_packet asked p.bytes
+      → Progress a b x y s asked whole number
+      → ReadsPacket s more p s' → asked' ≡ requests_after_packet asked p.bytes
       → IsListed o asked' p (record { lines = lines; whole = one })
       → DiagnosesPacket front number p [] added
-      → Consumes b c (header ++ p.bytes)
+      → Consumes b c more
       → Appends y z lines
       → (IsTrue whole' → IsTrue whole) → (IsTrue whole' → IsTrue one)
       → (IsTrue whole → IsTrue one → IsTrue whole')
-      → Progress a c x z asked' whole' (number + 1)
-  progress_continues a b c x y z header lines added p asked asked' one whole whole' number so_far
+      → Progress a c x z s' asked' whole' (number + 1)
+  progress_continues a b c x y z s s' more lines added p asked asked' one whole whole' number so_far
       is
       next listed diagnosed read appended flagged last both =
       let new : ListedPacket = record { lines = lines; whole = one } in
       let after : asked' ≡ requests_after_packet (requests_after_packets [] so_far.packets)
       p.bytes =
       next ∙ ap (λ (q : List Query). requests_after_packet q p.bytes) so_far.seen in record {
-        records = so_far.records ++ (header ++ p.bytes);
+        records = so_far.records ++ more;
         packets = so_far.packets ++ p ∷ [];
         listings = so_far.listings ++ new ∷ [];
         diagnostics = so_far.diagnostics ++ added;
-        read = Consumes-trans a b c so_far.records (header ++ p.bytes) so_far.read read;
-        are_packets = packets_push so_far.records so_far.packets header p so_far.are_packets is;
+        read = Consumes-trans a b c so_far.records more so_far.read read;
+        are_packets = packets_push start so_far.records so_far.packets s more p s'
+            so_far.are_packets is;
         listed = listed_push o [] so_far.packets so_far.listings p new so_far.listed
             (subst (λ (q : List Query). IsListed o q p new) after listed);
         diagnosed = diagnosed_push front 1 so_far.packets p so_far.diagnostics added
@@ -200,38 +200,38 @@ module _ (o : Options) (front : List ℕ) (R : List ℕ → CapturedPacket → T
       }
 
   -- One more packet was listed, and all packets before it were listed without errors.
-  abbrev pub progress_continues_complete : (a b c x y z : Option (List ℕ))
-      (header lines added : List ℕ)
+  abbrev pub progress_continues_complete : (a b c x y z : Option (List ℕ)) (s s' : CaptureState)
+      (more lines added : List ℕ)
       (p : CapturedPacket)
       (asked asked' : List Query) (one whole : Bool) (number : ℕ) → whole ≡ true
-      → Progress a b x y asked whole number
-      → R header p → asked' ≡ requests_after_packet asked p.bytes
+      → Progress a b x y s asked whole number
+      → ReadsPacket s more p s' → asked' ≡ requests_after_packet asked p.bytes
       → IsListed o asked' p (record { lines = lines; whole = one })
       → DiagnosesPacket front number p [] added
-      → Consumes b c (header ++ p.bytes)
-      → Appends y z lines → Progress a c x z asked' one (number + 1)
-  progress_continues_complete a b c x y z header lines added p asked asked' one whole number
+      → Consumes b c more
+      → Appends y z lines → Progress a c x z s' asked' one (number + 1)
+  progress_continues_complete a b c x y z s s' more lines added p asked asked' one whole number
       is_whole so_far is
       next listed diagnosed read appended =
-      progress_continues a b c x y z header lines added p asked asked' one whole one number so_far
-      is
+      progress_continues a b c x y z s s' more lines added p asked asked' one whole one number
+      so_far is
       next listed diagnosed read appended (λ _. is_whole) (λ h. h) (λ _ h. h)
 
   -- One more packet was listed, and a packet before it had an error.
-  abbrev pub progress_continues_incomplete : (a b c x y z : Option (List ℕ))
-      (header lines added : List ℕ)
+  abbrev pub progress_continues_incomplete : (a b c x y z : Option (List ℕ)) (s s' : CaptureState)
+      (more lines added : List ℕ)
       (p : CapturedPacket)
       (asked asked' : List Query) (one whole : Bool) (number : ℕ) → whole ≡ false
-      → Progress a b x y asked whole number
-      → R header p → asked' ≡ requests_after_packet asked p.bytes
+      → Progress a b x y s asked whole number
+      → ReadsPacket s more p s' → asked' ≡ requests_after_packet asked p.bytes
       → IsListed o asked' p (record { lines = lines; whole = one })
       → DiagnosesPacket front number p [] added
-      → Consumes b c (header ++ p.bytes)
-      → Appends y z lines → Progress a c x z asked' whole (number + 1)
-  progress_continues_incomplete a b c x y z header lines added p asked asked' one whole number
+      → Consumes b c more
+      → Appends y z lines → Progress a c x z s' asked' whole (number + 1)
+  progress_continues_incomplete a b c x y z s s' more lines added p asked asked' one whole number
       is_part so_far is
       next listed diagnosed read appended =
-      progress_continues a b c x y z header lines added p asked asked' one whole whole number
+      progress_continues a b c x y z s s' more lines added p asked asked' one whole whole number
       so_far
       is next listed diagnosed read appended
       (λ h. h) (λ h. absurd (not_both whole is_part h)) (λ h _. h)

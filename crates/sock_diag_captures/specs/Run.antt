@@ -3,13 +3,13 @@ use Rattle.std.specs.Prelude.{◌≡◌, ◌↔◌, ℕ, ◌+◌, ◌-◌, ◌^�
 use Rattle.std.specs.Prelude.{flat_map, Bool, IsTrue, Option, ⊤}
 use Rattle.std.specs.Io.KnownBytes.{Appends, Consumes, IsAtEnd, Keeps}
 use Rattle.std.specs.List.{AllByRecursion}
-use Rattle.program_streams.specs.declared.captures.FileHeader.{FileHeader}
 use Rattle.sock_diag_captures.specs.declared.list_error.ListError.{ListError}
 use Rattle.sock_diag_captures.specs.declared.list_error.ListError.TheVariants.{Header, Packet}
 use Rattle.sock_diag_captures.specs.declared.list_error.ListError.TheVariants.{Write}
 use Rattle.sock_diag_captures.specs.declared.list_error.ListError.TheVariants.{Memory}
-use Rattle.program_streams.specs.Capture.{IsFileHeader, IsFileHeaderStop, IsPacketStop}
-use Rattle.program_streams.specs.Capture.{IsPacketRecord, CapturedPacket}
+use Rattle.program_streams.specs.Capture.{CapturedPacket}
+use Rattle.program_streams.specs.Reader.{CaptureState, IsCaptureEnd, IsCaptureStart}
+use Rattle.program_streams.specs.Reader.{IsCaptureStartStop, IsCaptureStop, ReadsPacket}
 use Rattle.sock_diag_captures.specs.declared.options.Options.{Options}
 use Rattle.sock_diag_captures.specs.Diagnostics.{AreDiagnosed}
 use Rattle.sock_diag_captures.specs.Listing.{ListsCapturedPacket, requests_after_packet}
@@ -45,34 +45,35 @@ AreListed o asked (packet ∷ packets) (listing ∷ later) =
     IsListed o (requests_after_packet asked packet.bytes) packet listing
     × AreListed o (requests_after_packet asked packet.bytes) packets later
 
--- `ArePackets R bytes packets`: the bytes are these packets, one after another, each after its
--- packet header. `R header packet` states that `header` may be the packet header of this packet.
-abbrev pub ArePackets : (List ℕ → CapturedPacket → Type 0) → List ℕ → List CapturedPacket → Type 0
-ArePackets R bytes [] = bytes ≡ []
-ArePackets R bytes (packet ∷ later) =
-    (header rest : List ℕ) × R header packet × (bytes ≡ (header ++ packet.bytes) ++ rest)
-    × ArePackets R rest later
+-- `ArePackets s bytes packets s'`: the bytes lead from the state `s` of a reader to `s'`, over
+-- these packets, one after another (`ReadsPacket`)
+abbrev pub ArePackets : CaptureState → List ℕ → List CapturedPacket → CaptureState → Type 0
+ArePackets s bytes [] s' = (bytes ≡ []) × (s' ≡ s)
+ArePackets s bytes (packet ∷ later) s' =
+    (first rest : List ℕ) × (mid : CaptureState) × ReadsPacket s first packet mid
+    × (bytes ≡ first ++ rest) × ArePackets mid rest later s'
 
 -- `IsTableOfCapture o front bytes lines diagnostics is_whole`: the bytes of a capture, and the
--- lines and diagnostics of its packets, in order. The file header has 24 bytes (`header`) and is
--- followed by packets (`records`). Each diagnostic begins with `front`. Packets are numbered from 1
+-- lines and diagnostics of its packets, in order. The first bytes open the capture (`header`), and
+-- packets follow (`records`). Each diagnostic begins with `front`. Packets are numbered from 1
 -- on. `is_whole` is true if and only if each packet was listed without errors.
 pub record IsTableOfCapture (o : Options) (front bytes lines diagnostics : List ℕ) (is_whole : Bool)
     : Type 0 where
-  -- the byte order and the unit of timestamps in the file header
-  pub file : FileHeader
-  -- the bytes of the file header
+  -- the bytes that open the capture
   pub header : List ℕ
-  -- the bytes of all packets with their packet headers
+  -- the state of the reader after them
+  pub start : CaptureState
+  -- the bytes of all packets with their packet headers or blocks
   pub records : List ℕ
+  -- the state of the reader after them
+  pub state : CaptureState
   -- the packets in `records`
   pub packets : List CapturedPacket
   -- the lines of each packet, and whether it was listed without errors
   pub listings : List ListedPacket
   pub parts : bytes ≡ header ++ records
-  pub long : length header ≡ 24
-  pub is_header : IsFileHeader header file
-  pub are_packets : ArePackets (IsPacketRecord file) records packets
+  pub is_header : IsCaptureStart header start
+  pub are_packets : ArePackets start records packets state
   -- no request precedes the first packet
   pub listed : AreListed o [] packets listings
   pub written : lines ≡ flat_map lines_of_packet listings
@@ -86,11 +87,11 @@ pub record IsTableOfCapture (o : Options) (front bytes lines diagnostics : List 
 -- standard error.
 module _ (o : Options) (left left' held held' : Option (List ℕ)) (heading front : List ℕ)
     (Reported : List ℕ → Type 0) where
-  -- The state after a number of packets: the file header and these packets were read, and then the
-  -- bytes `more`. The heading and the lines of these packets were written, and their diagnostics
-  -- reported.
-  pub record RunState (file : FileHeader) (packets : ℕ) (more : List ℕ) : Type 0 where
-    -- the bytes of the file header and the packets
+  -- The state after a number of packets: the capture was opened and these packets were read, which
+  -- led to the state `state` of the reader, and then the bytes `more` were read. The heading and
+  -- the lines of these packets were written, and their diagnostics reported.
+  pub record RunState (state : CaptureState) (packets : ℕ) (more : List ℕ) : Type 0 where
+    -- the bytes that open the capture, and those of the packets
     pub bytes : List ℕ
     -- the lines of the packets
     pub lines : List ℕ
@@ -98,7 +99,7 @@ module _ (o : Options) (left left' held held' : Option (List ℕ)) (heading fron
     pub diagnostics : List ℕ
     pub is_whole : Bool
     pub table : IsTableOfCapture o front bytes lines diagnostics is_whole
-    pub of_file : table.file ≡ file
+    pub reached : table.state ≡ state
     -- the number of packets is `packets`
     pub counted : length table.packets ≡ packets
     -- these bytes, and then `more`, were read
@@ -108,16 +109,18 @@ module _ (o : Options) (left left' held held' : Option (List ℕ)) (heading fron
     pub reported : Reported diagnostics
 
   -- The state after a failed write: a prefix of the heading and the lines of the capture so far was
-  -- written (`sent`), and its diagnostics were reported.
+  -- written (`sent`), and its diagnostics were reported. `more` are the bytes of a pcapng file
+  -- after its last packet, if the last flush failed.
   abbrev pub FailsAtWrite : Type 0
   FailsAtWrite =
       (bytes lines diagnostics : List ℕ) × (is_whole : Bool)
-      × IsTableOfCapture o front bytes lines diagnostics is_whole
-      × Consumes left left' bytes × (sent : List ℕ) × (rest : List ℕ)
+      × (table : IsTableOfCapture o front bytes lines diagnostics is_whole)
+      × (more : List ℕ) × IsCaptureEnd table.state more
+      × Consumes left left' (bytes ++ more) × (sent : List ℕ) × (rest : List ℕ)
       × (heading ++ lines ≡ sent ++ rest) × Appends held held' sent × Reported diagnostics
 
   -- The state of a run that failed with an error. `unread` states that a read failed.
-  -- * Header: the file header could not be read, nothing was written and nothing reported.
+  -- * Header: the capture could not be opened, nothing was written and nothing reported.
   -- * Packet: the packet of this number could not be read. The packets before it were listed. The
   --   number 2 ^ 64 - 1 is never read: the run fails there as if a read had failed.
   -- * Memory: an allocation failed while a packet was listed, which had been read. The packets
@@ -125,28 +128,32 @@ module _ (o : Options) (left left' held held' : Option (List ℕ)) (heading fron
   -- * Write: a write or the last flush failed.
   abbrev pub Fails : Type 0 → ListError → Type 0
   Fails unread (Header error) =
-      (part : List ℕ) × Consumes left left' part × IsFileHeaderStop left' unread part error
+      (part : List ℕ) × Consumes left left' part × IsCaptureStartStop left' unread part error
       × Keeps held held' × Reported []
   Fails unread (Packet number error) =
-      (file : FileHeader) × (packets : ℕ) × (part : List ℕ) × RunState file packets part
-      × (number ≡ packets + 1) × IsPacketStop file left' (unread ⊎ (number ≡ 2 ^ 64 - 1)) part error
+      (state : CaptureState) × (packets : ℕ) × (part : List ℕ) × RunState state packets part
+      × (number ≡ packets + 1)
+      × IsCaptureStop state left' (unread ⊎ (number ≡ 2 ^ 64 - 1)) part error
   Fails unread Memory =
-      (file : FileHeader) × (packets : ℕ) × (header : List ℕ) × (packet : CapturedPacket)
-      × IsPacketRecord file header packet × RunState file packets (header ++ packet.bytes)
+      (state after : CaptureState) × (packets : ℕ) × (bytes : List ℕ) × (packet : CapturedPacket)
+      × ReadsPacket state bytes packet after × RunState state packets bytes
   Fails unread (Write error) = FailsAtWrite
 
   -- The state of a run that succeeded: a whole capture was read up to the end of the input, all of
   -- its table was written, and its diagnostics were reported. `is_whole` is true if and only if
   -- each packet was listed without errors.
   pub record Finishes (is_whole : Bool) : Type 0 where
-    -- the bytes of the capture
+    -- the bytes of the capture up to its last packet
     pub bytes : List ℕ
+    -- the bytes after them: none in a pcap file, and blocks without a packet in a pcapng file
+    pub more : List ℕ
     -- the lines of all packets
     pub lines : List ℕ
     -- the diagnostics of all packets
     pub diagnostics : List ℕ
     pub table : IsTableOfCapture o front bytes lines diagnostics is_whole
-    pub read : Consumes left left' bytes
+    pub no_packet : IsCaptureEnd table.state more
+    pub read : Consumes left left' (bytes ++ more)
     pub ended : IsAtEnd left'
     -- the heading and the lines were written
     pub appended : Appends held held' (heading ++ lines)

@@ -1,17 +1,18 @@
 //! The error of a run over a capture, and the steps that read its header and its packets.
 
-ghost use Rattle.std.specs.Prelude.{◌≡◌, ◌↔◌, ◌++◌, List, ℕ, length, IfErr, IfOk, IsTrue};
+ghost use Rattle.std.specs.Prelude.{◌≡◌, ◌↔◌, ◌++◌, List, ℕ, IfErr, IfOk, IsTrue};
 ghost use Rattle.std.specs.Prelude.{MatchOption};
-ghost use Rattle.std.specs.Io.KnownBytes.{Consumes, IsAtEnd, Keeps};
-ghost use Rattle.program_streams.specs.Capture.{IsFileHeader, IsFileHeaderStop, IsPacketStop};
-ghost use Rattle.program_streams.specs.Capture.{IsPacketRecord, captured_packet};
+ghost use Rattle.std.specs.Io.KnownBytes.{Consumes, IsAtEnd};
+ghost use Rattle.program_streams.specs.Capture.{captured_packet};
+ghost use Rattle.program_streams.specs.Reader.{IsCaptureEnd, IsCaptureStart, IsCaptureStartStop};
+ghost use Rattle.program_streams.specs.Reader.{IsCaptureStop, ReadsPacket, state_of};
 ghost use Rattle.program_streams.specs.ErrorText.{error_text_bytes};
 ghost use Rattle.sock_diag_captures.specs.Reports.{list_error_text};
 ghost use Rattle.sock_diag_captures.specs.private.Report.{packet_number_prefix};
 ghost use Rattle.sock_diag_captures.specs.declared.list_error.ListError.TheVariants.{Memory, Write};
 
-use program_streams::{CaptureError, ErrorText, FileHeader, PacketHeader, Source, WriteError};
-use std::alloc::AllocError;
+use program_streams::{CaptureError, CaptureReader, ErrorText, PacketHeader, Source, WriteError};
+use std::alloc::{AllocError, Global};
 use std::error::Error;
 use std::fmt;
 
@@ -82,47 +83,50 @@ impl From<AllocError> for ListError {
     }
 }
 
-/// Reads the file header of a capture: the next 24 bytes of the input. Fails with `Header`, which
-/// contains the error of `FileHeader::read`.
-pub(crate) fn read_header<R: Source>(input: &mut R) -> Result<FileHeader, ListError>
+/// Opens a capture by `CaptureReader::open`. Fails with `Header`, which contains the error of that
+/// call.
+pub(crate) fn read_header<R: Source>(
+    alloc: Global,
+    input: &mut R,
+) -> Result<CaptureReader, ListError>
     // R.left: the remaining bytes, if known.
-    ensures read { IfOk result (λ file. (bytes : List ℕ) × (length bytes ≡ 24)
-        × IsFileHeader bytes file
+    ensures read { IfOk result (λ reader. (bytes : List ℕ) × IsCaptureStart bytes (state_of reader)
         × Consumes (R.left input.old) (R.left input.new) bytes) }
     // R.failed: a read has failed. part: the bytes that were read.
     ensures stopped { IfErr result (λ e. (error : CaptureError) × (e ≡ ListError.Header error)
         × (part : List ℕ)
         × Consumes (R.left input.old) (R.left input.new) part
-        × IsFileHeaderStop (R.left input.new) (R.failed input.new) part error) }
+        × IsCaptureStartStop (R.left input.new) (R.failed input.new) part error) }
 {
-    match FileHeader::read(input) {
-        Ok(file) => Ok(file),
+    match CaptureReader::open(alloc, input) {
+        Ok(reader) => Ok(reader),
         Err(error) => Err(ListError::Header(error)),
     }
 }
 
 /// Reads the next packet into `packet`, whose former content is dropped. Returns the fields of the
-/// packet header. Returns `None` if the input is at its end; then nothing was consumed. Fails with
-/// `Packet`, which contains `number` and the error of `FileHeader::read_packet`.
+/// packet header. Returns `None` if no packet follows; then the input was read to its end. Fails
+/// with `Packet`, which contains `number` and the error of `CaptureReader::read_packet`.
 pub(crate) fn read_packet<R: Source>(
-    file: &FileHeader,
+    reader: &mut CaptureReader,
     input: &mut R,
     number: u64,
     packet: &mut Vec<u8>,
 ) -> Result<Option<PacketHeader>, ListError>
-    // R.left: the remaining bytes, if known. Keeps: they are unchanged.
-    ensures read { IfOk result (λ found. MatchOption found
-        (IsAtEnd (R.left input.new) × Keeps (R.left input.old) (R.left input.new))
-        (λ told_header. (header : List ℕ)
-        × IsPacketRecord file.now header (captured_packet packet.new.items told_header)
-        × Consumes (R.left input.old) (R.left input.new) (header ++ packet.new.items))) }
+    // R.left: the remaining bytes, if known. bytes: the bytes that were read.
+    ensures read { IfOk result (λ found. (bytes : List ℕ)
+        × Consumes (R.left input.old) (R.left input.new) bytes
+        × MatchOption found
+        (IsAtEnd (R.left input.new) × IsCaptureEnd (state_of reader.old) bytes)
+        (λ header. ReadsPacket (state_of reader.old) bytes
+        (captured_packet packet.new.items header) (state_of reader.new))) }
     // R.failed: a read has failed. part: the bytes that were read.
     ensures stopped { IfErr result (λ e. (error : CaptureError)
         × (e ≡ ListError.Packet number error) × (part : List ℕ)
         × Consumes (R.left input.old) (R.left input.new) part
-        × IsPacketStop file.now (R.left input.new) (R.failed input.new) part error) }
+        × IsCaptureStop (state_of reader.old) (R.left input.new) (R.failed input.new) part error) }
 {
-    match file.read_packet(input, packet) {
+    match reader.read_packet(input, packet) {
         Ok(found) => Ok(found),
         Err(error) => Err(ListError::Packet {
             packet: number,

@@ -92,7 +92,7 @@ fn report_text<E: Sink>(errors: &mut E, is_open: &mut bool, text: ErrorText)
         ErrorText::Plain(text) => report(errors, is_open, text.as_bytes()),
         ErrorText::Decimal(before, number, after) => {
             report(errors, is_open, before.as_bytes());
-            report_number(errors, is_open, number.into());
+            report_number(errors, is_open, number);
             report(errors, is_open, after.as_bytes());
         }
         ErrorText::Hex(before, number) => {

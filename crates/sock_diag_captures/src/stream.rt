@@ -20,7 +20,7 @@ use std::io::{Read, Write};
 /// read. Writes diagnostics on `errors`. Each begins with `front`. If a write on `errors` fails,
 /// nothing more is written there. Returns whether all packets were listed without errors.
 ///
-/// If it fails, nothing was written if the file header could not be read (`Header`). If a packet
+/// If it fails, nothing was written if the capture could not be opened (`Header`). If a packet
 /// could not be read (`Packet`) or an allocation failed (`Memory`), the packets before it were
 /// listed. If a write or the final flush failed (`Write`), a prefix of the table was
 /// written.
@@ -83,7 +83,7 @@ pub(crate) fn write_table<R: Source, W: Sink, E: Sink>(
     ensures cause { IfErr result (λ e. (error : WriteError) → e ≡ ListError.Write error
         → W.failed output.new error) }
 {
-    let file = read_header(input)?;
+    let mut reader = read_header(alloc, input)?;
     send(output, heading)?;
     let mut packet = Vec::new(alloc);
     let mut written = PacketOutput {
@@ -94,7 +94,7 @@ pub(crate) fn write_table<R: Source, W: Sink, E: Sink>(
     let mut requests = Requests::new(alloc);
     let mut is_whole = true;
     'packets: for number in 1..u64::MAX {
-        let Some(header) = read_packet(&file, input, number, &mut packet)? else {
+        let Some(header) = read_packet(&mut reader, input, number, &mut packet)? else {
             output.flush()?;
             return Ok(is_whole);
         };

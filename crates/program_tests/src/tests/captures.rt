@@ -9,6 +9,8 @@ use std::alloc::Global;
 use std::io::{self, ErrorKind, Write};
 use std::process::Abort;
 
+mod pcapng;
+
 /// A reply about an IPv6 socket in TIME-WAIT. Local: `[fe80::1]`, interface 3, port 22. Peer:
 /// `[2001:db8::ff]`, port 40000.
 const INET6: &str =
@@ -429,8 +431,6 @@ sslist: packet 6: the capture is truncated";
     tells(&rt, alloc, &[FRONT, "4800000001000000"], want);
     let want = "unsupported pcap version 3, expected 2";
     tells(&rt, alloc, &["d4c3b2a10300", FRONT, OF_100], want);
-    let want = "pcapng is not supported; try editcap -F pcap CAPTURE OTHER";
-    tells(&rt, alloc, &["0a0d0d0a", FRONT, OF_100], want);
     let want = "gzip is not supported; try gzip -dc CAPTURE";
     tells(&rt, alloc, &["1f8b0800", FRONT, OF_100], want);
     let want = "packet 1: packet length 262145 exceeds the maximum of 262144";

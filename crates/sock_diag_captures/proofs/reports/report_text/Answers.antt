@@ -8,7 +8,7 @@ pub returns-in-Decimal : goal.returns-in-Decimal
 returns-in-Decimal g c =
     rw c.in-Decimal.is (reports_three _ _ _ _ _ _ _ _ _ _ _ _ _ _ _
     (rw c.as_bytes-in-Decimal.ensures.value at c.report-in-Decimal.ensures)
-    (rw c.into.ensures at c.report_number.ensures)
+    c.report_number.ensures
     (rw c.as_bytes-in-Decimal-2.ensures.value at c.report-in-Decimal-2.ensures))
 
 pub returns-in-Hex : goal.returns-in-Hex

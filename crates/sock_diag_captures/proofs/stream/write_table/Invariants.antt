@@ -1,5 +1,5 @@
 use Rattle.std.proofs.Common.{◌≡◌}
-use Rattle.program_streams.specs.Capture.{IsPacketRecord}
+use Rattle.program_streams.specs.Reader.{state_of}
 use Rattle.sock_diag_captures.specs.Reports.{ReportsMore}
 use Rattle.program_streams.specs.declared.streams.WriteError.{WriteError}
 use Rattle.sock_diag_captures.proofs.Progress.{Progress}
@@ -8,8 +8,9 @@ use Rattle.sock_diag_captures.proofs.stream.write_table.Given as goal
 -- the packets so far were read and listed, and their diagnostics were reported
 abbrev pub invariant-packets : goal.invariant-packets
 invariant-packets g l = record {
-  listed : Progress l.options l.front (IsPacketRecord l.file) (g.R.Source.left l.initial.input)
-      (g.R.Source.left l.input) (g.W.Sink.held l.initial.output) (g.W.Sink.held l.output)
+  listed : Progress l.options l.front (state_of l.initial.reader)
+      (g.R.Source.left l.initial.input) (g.R.Source.left l.input)
+      (g.W.Sink.held l.initial.output) (g.W.Sink.held l.output) (state_of l.reader)
       l.requests.asked.items l.is_whole l.number;
   reported : ReportsMore (g.E.Sink.held l.initial.errors)
       ((e : WriteError) × g.E.Sink.failed l.initial.errors e) l.initial.is_open
