@@ -1060,10 +1060,11 @@ uint32_t sockdiag_inet_get_lenient_details(const uint8_t *payload, size_t length
  * ignored, since newer kernels send more. An attribute of another kind is not an error;
  * sockdiag_next_attribute returns it.
  *
- * There are no lenient calls for these families: one attribute that is rejected hides its socket. To
- * list every socket, repeat a rejected call with the length of the header, such as
- * SOCKDIAG_NETLINK_ATTRIBUTES, as the length of the payload: the details then have the header. Read
- * the attributes by sockdiag_next_attribute, from a cursor with this offset.
+ * There are no lenient calls for these families: one attribute that is rejected hides its socket.
+ * To list every socket, repeat a rejected call with the length of the header, such as
+ * SOCKDIAG_NETLINK_ATTRIBUTES, as the length of the payload, unless the payload is shorter: the
+ * details then have the header. Read the attributes by sockdiag_next_attribute, from a cursor with
+ * this offset.
  */
 
 /* Offsets of the attributes, which are the lengths of the headers. */
@@ -1423,7 +1424,8 @@ uint32_t sockdiag_next_message(const uint8_t *datagram, size_t length,
  * Stores the message at the cursor, and advances the cursor past it and its padding. Returns 1,
  * whatever the type and the payload of the message; or 0 if no bytes are left, and then nothing is
  * written; or the code of the framing error there, 16 to 18, and then the message is unchanged and
- * nothing is left.
+ * nothing is left. Then the rest of the datagram is lost, and with it possibly the end of the dump:
+ * request the dump again, on another socket, instead of waiting for its end.
  *
  * The payload is not checked. So a reply that is passed to sockdiag_unix_get_details or a similar
  * call is checked only once. A reply that such a call rejects does not end a dump: continue with
@@ -1440,8 +1442,9 @@ uint32_t sockdiag_next_any_message(const uint8_t *datagram, size_t length,
  *
  * An NLMSG_ERROR with 0 is an acknowledgement. A dump that failed also ends with NLMSG_DONE, so
  * look at the number there too. A kernel that lacks the protocol answers a request for it with
- * -ENOENT or -EINVAL. What follows the number is not returned: the request, and for a socket with
- * NETLINK_EXT_ACK more about the error, which sockdiag_find_error_attributes finds.
+ * -ENOENT or -EINVAL; one without MPTCP may list TCP sockets instead, see the field protocol of
+ * struct sockdiag_inet_request. What follows the number is not returned: the request, and for a
+ * socket with NETLINK_EXT_ACK more about the error, which sockdiag_find_error_attributes finds.
  */
 uint32_t sockdiag_get_error_number(const uint8_t *payload, size_t length, int32_t *number);
 
@@ -1477,8 +1480,8 @@ static inline int sockdiag_is_answer(const struct sockdiag_message *message,
  * Returns 1 if the message reports that the dump is inconsistent (NLM_F_DUMP_INTR), else 0. Test
  * each message of a dump, also its end. If one has the flag, read up to the end, and send the
  * request again. 0 does not mean that the list is complete: Linux 6.18 did not set the flag in any
- * message of dumps during which sockets opened and closed, and sockets were missing or listed twice.
- * For a complete list request several dumps, and merge them by the cookies of the sockets.
+ * message of dumps during which sockets opened and closed, and sockets were missing or listed
+ * twice. For a complete list request several dumps, and merge them by the cookies of the sockets.
  */
 static inline int sockdiag_is_interrupted(const struct sockdiag_message *message)
 {

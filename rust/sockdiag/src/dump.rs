@@ -250,8 +250,8 @@ pub struct RejectedMessage<'a> {
     /// The reason.
     pub error: DecodeError,
     /// The header of a message whose payload was rejected. `None` for a framing error: the bytes
-    /// are not a netlink message, and the iteration ends. The rest of the datagram is then lost, and
-    /// with it possibly the end of the dump: repeat the request instead of waiting for the end.
+    /// are not a netlink message, and the iteration ends. The rest of the datagram is then lost,
+    /// and with it possibly the end of the dump: repeat the request instead of waiting for the end.
     pub header: Option<NetlinkHeader>,
     /// The payload that was rejected. For a framing error, the remaining bytes of the datagram.
     pub payload: &'a [u8],
