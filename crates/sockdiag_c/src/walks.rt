@@ -135,8 +135,8 @@ pub extern "C" fn sockdiag_next_message(
 /// Stores the message at the cursor, and advances the cursor past it and its padding. Returns 1,
 /// whatever the type and the payload of the message; or 0 if no bytes are left, and then nothing is
 /// written; or the code of the framing error there, 16 to 18, and then the message is unchanged and
-/// nothing is left. Then the rest of the datagram is lost, and with it possibly the end of the dump:
-/// request the dump again, on another socket, instead of waiting for its end.
+/// nothing is left. Then the rest of the datagram is lost, and with it possibly the end of the
+/// dump: request the dump again, on another socket, instead of waiting for its end.
 ///
 /// The payload is not checked. So a reply that is passed to `sockdiag_unix_get_details` or a
 /// similar call is checked only once. A reply that such a call rejects does not end a dump:
