@@ -105,6 +105,9 @@ static size_t fill_inet(struct request *request, const struct kind *kind) {
     request->body.inet.fixed.idiag_states = UINT32_MAX;
     if (kind->protocol <= UINT8_MAX)
         return sizeof request->body.inet.fixed;
+    /* Kernels without MPTCP ignore the attribute. By the low byte of the protocol, IPPROTO_TCP,
+     * they would list TCP sockets. For 0 they answer with ENOENT. */
+    request->body.inet.fixed.sdiag_protocol = 0;
     request->body.inet.head.nla_type = INET_DIAG_REQ_PROTOCOL;
     request->body.inet.head.nla_len = NLA_HDRLEN + sizeof request->body.inet.protocol;
     request->body.inet.protocol = kind->protocol;
