@@ -10,7 +10,7 @@ use Rattle.sock_diag_captures.specs.JsonAttributes.{attributes_members}
 use Rattle.sock_diag_captures.specs.JsonData.{JsonMember, address_member, cookie_member}
 use Rattle.sock_diag_captures.specs.JsonData.{json_line, number_members, text_member}
 use Rattle.sock_diag_captures.specs.Pieces.{AttributeOrError}
-use Rattle.sock_diag_captures.specs.Table.{inet_kind, unix_kind}
+use Rattle.sock_diag_captures.specs.Table.{inet_kind, is_tcp, unix_kind}
 use Rattle.sock_diag_captures.specs.declared.details.Sockets.TheVariants.{Inet, Unix}
 use Rattle.sock_diag_captures.specs.declared.parts.TimerFields.{TimerFields}
 
@@ -60,7 +60,7 @@ inet_header_members protocol timer h =
 abbrev pub inet_members : Option ℕ → TimerFields → InetResponseHeader → List AttributeOrError
     → List JsonMember
 inet_members protocol timer h given =
-    inet_header_members protocol timer h ++ attributes_members Inet given
+    inet_header_members protocol timer h ++ attributes_members (Inet (is_tcp protocol)) given
 
 -- the line of a UNIX socket
 abbrev pub unix_json : UnixResponseHeader → List AttributeOrError → List ℕ

@@ -327,7 +327,7 @@ fn push_inet_lines(
 }
 
 /// Returns whether the protocol of the request is TCP.
-fn is_tcp(protocol: Option<u32>) -> bool
+pub(crate) fn is_tcp(protocol: Option<u32>) -> bool
     ensures { result ≡ is_tcp protocol }
 {
     matches!(protocol, Some(6))
