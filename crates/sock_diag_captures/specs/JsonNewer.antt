@@ -1,5 +1,5 @@
--- JSON of the attributes of newer kernels, which the port leaves undecoded. Names of members are the
--- kernel's names without the prefixes `tcpv_`, `dctcp_` and `bbr_`.
+-- JSON of the attributes of newer kernels, which the port leaves undecoded. Names of members are
+-- the kernel's names without the prefixes `tcpv_`, `dctcp_` and `bbr_`.
 use Rattle.std.specs.Prelude.{ℕ, ◌==◌, nat_le, if◌then◌else◌, List, [], ◌∷◌, codes, length}
 use Rattle.std.specs.Prelude.{Option, None, Some, Result, Ok}
 use Rattle.byteorder.specs.Endian.{little_number}
@@ -19,8 +19,8 @@ use Rattle.sock_diag_records.specs.declared.constants.TheConstants.{INET_DIAG_DC
 use Rattle.sock_diag_records.specs.declared.constants.TheConstants.{INET_DIAG_VEGASINFO}
 use Rattle.sock_diag_captures.specs.JsonData.{JsonMember, number_members, object_member}
 
--- An attribute yields members, or nothing (None) if its type is unknown, or an error if its value is
--- invalid.
+-- An attribute yields members, or nothing (None) if its type is unknown, or an error if its value
+-- is invalid.
 abbrev pub JsonOutcome : Type 0
 JsonOutcome = Result (Option (List JsonMember)) DecodeError
 

@@ -44,8 +44,8 @@ inet_back_members timer h =
     (codes "wqueue", h.send_queue) ∷ (codes "uid", h.uid) ∷ (codes "inode", h.inode) ∷ [])
 
 -- The members of the header of an IPv4 or IPv6 socket, `struct inet_diag_msg` of linux/inet_diag.h.
--- `src`, `dst`, `if` and `cookie` are `idiag_src`, `idiag_dst`, `idiag_if` and `idiag_cookie` of its
--- `id`. `protocol` is the protocol of the request.
+-- `src`, `dst`, `if` and `cookie` are `idiag_src`, `idiag_dst`, `idiag_if` and `idiag_cookie` of
+-- its `id`. `protocol` is the protocol of the request.
 unfoldable pub inet_header_members : Option ℕ → TimerFields → InetResponseHeader → List JsonMember
 inet_header_members protocol timer h =
     text_member (codes "netid") (inet_kind protocol h.family)

@@ -102,8 +102,8 @@ fn push_unix(
     }
 }
 
-/// Appends what is written for a UNIX socket with this header and these attributes: its lines of the
-/// table, or its line of JSON.
+/// Appends what is written for a UNIX socket with this header and these attributes: its lines of
+/// the table, or its line of JSON.
 fn push_unix_output(
     text: &mut Vec<u8>,
     options: Options,
