@@ -1,6 +1,6 @@
 -- One step of the loop over the arguments of a command line.
-use Rattle.std.proofs.Common.{◌≡◌, ◌≢◌, ◌<◌, ◌+◌, ℕ, Bool, true, false, List, [], ◌∷◌, length, map}
-use Rattle.std.proofs.Common.{drop, find, fold, get_or, option_map, Some, None, refl, ap, sym, ◌∙◌}
+use Rattle.std.proofs.Common.{◌≡◌, ◌≢◌, ◌<◌, ◌+◌, ℕ, true, false, List, length, map}
+use Rattle.std.proofs.Common.{drop, get_or, Some, refl, ap, sym, ◌∙◌}
 use Rattle.std.proofs.lemmas.List.{drop_more}
 use Rattle.sock_diag_captures.specs.Choice.{argument_at, decides, first_deciding, last_place}
 use Rattle.sock_diag_captures.specs.Choice.{next_place, no_options, options_after, with_argument}

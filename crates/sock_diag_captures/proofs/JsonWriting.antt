@@ -104,7 +104,8 @@ other_member name hex_name bytes wrong =
 
 -- the tokens of an object
 pub object_tokens : (members : List JsonMember)
-    → tree.json_tokens (object_of members) ≡ begin_object ∷ (members_tokens members ++ end_object ∷ [])
+    → tree.json_tokens (object_of members)
+    ≡ begin_object ∷ (members_tokens members ++ end_object ∷ [])
 object_tokens members = ap (λ (t : List Token). begin_object ∷ t) (object_end members)
 
 -- The tokens of members that are mapped from a list.

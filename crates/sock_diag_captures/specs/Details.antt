@@ -1,7 +1,7 @@
 -- Details of a socket: a text for each value that the columns do not show. Texts are lists of ASCII
 -- codes: 44 is a comma and 41 a closing parenthesis.
-use Rattle.std.specs.Prelude.{ℕ, ◌==◌, ◌&&◌, ◌||◌, ◌/◌, ◌%◌, if◌then◌else◌, List, [], ◌∷◌, ◌++◌}
-use Rattle.std.specs.Prelude.{Bool, length, drop, false, flat_map, codes, decimal, nat_le}
+use Rattle.std.specs.Prelude.{ℕ, ◌==◌, ◌&&◌, ◌||◌, ◌%◌, if◌then◌else◌, List, [], ◌∷◌, ◌++◌}
+use Rattle.std.specs.Prelude.{Bool, length, drop, false, flat_map, codes, nat_le}
 use Rattle.std.specs.Prelude.{slice_index, Option, None, Some, Result, Ok, Err}
 use Rattle.std.specs.Option.{option_map_or}
 use Rattle.std.specs.Result.{result_ok}

@@ -1,6 +1,6 @@
 -- Conditions on the states and the ports of the sockets that are listed.
 use Rattle.std.specs.Prelude.{ℕ, ◌+◌, ◌-◌, ◌*◌, ◌^◌, ◌==◌, ◌&&◌, ◌||◌, not, nat_le, nat_lt, Bool}
-use Rattle.std.specs.Prelude.{true, false, if◌then◌else◌, List, [], ◌∷◌, bit_and, bytes_eq, codes}
+use Rattle.std.specs.Prelude.{true, if◌then◌else◌, List, [], ◌∷◌, bit_and, bytes_eq, codes}
 use Rattle.std.specs.Prelude.{drop, is_some, length, nat_eq, option_and_then, option_map, take}
 use Rattle.std.specs.Prelude.{Option, None, Some}
 use Rattle.std.specs.List.{ends_with, starts_with}

@@ -1,6 +1,6 @@
 -- The text before a table.
-use Rattle.std.specs.Prelude.{ℕ, ◌||◌, if◌then◌else◌, Bool, List, [], ◌∷◌, ◌++◌, codes, Option, None}
-use Rattle.std.specs.Prelude.{Some}
+use Rattle.std.specs.Prelude.{ℕ, ◌||◌, if◌then◌else◌, Bool, List, [], ◌∷◌, ◌++◌, codes, Option}
+use Rattle.std.specs.Prelude.{None, Some}
 use Rattle.sock_diag_captures.specs.Escapes.{shown_name}
 use Rattle.sock_diag_captures.specs.declared.options.Options.{Options}
 
@@ -13,4 +13,5 @@ caption utf8 (Some name) = codes "==> " ++ shown_name utf8 name ++ codes " <==" 
 -- `text_before_table o name heading`: the caption, if there is a name, and the heading; nothing
 -- with `-H` or `--json`
 abbrev pub text_before_table : Options → Option (List ℕ) → List ℕ → List ℕ
-text_before_table o name heading = if o.no_heading || o.json then [] else caption o.utf8 name ++ heading
+text_before_table o name heading =
+    if o.no_heading || o.json then [] else caption o.utf8 name ++ heading

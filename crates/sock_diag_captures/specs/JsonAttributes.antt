@@ -1,7 +1,9 @@
 -- JSON of the attributes of a reply. Names of members are the kernel's names in lowercase, without
 -- the prefix that all names of a struct or an enum have.
+use Rattle.std.specs.Prelude.{◌&&◌}
 use Rattle.std.specs.Prelude.{ℕ, ◌==◌, if◌then◌else◌, List, [], ◌∷◌, ◌++◌, codes, flat_map}
-use Rattle.std.specs.Prelude.{length, nat_le, Option, None, Some, is_some, Result, Ok, Err, Bool, true, false}
+use Rattle.std.specs.Prelude.{length, nat_le, Option, None, Some, is_some, Result, Ok, Err}
+use Rattle.std.specs.Prelude.{Bool, true, false}
 use Rattle.std.specs.Option.{option_map_or}
 use Rattle.byteorder.specs.Endian.{little_number}
 use Rattle.json.specs.Json.{Json}
@@ -52,7 +54,14 @@ use Rattle.sock_diag_captures.specs.declared.details.Sockets.TheVariants.{Inet, 
 use Rattle.sock_diag_captures.specs.declared.options.Family.{Family}
 use Rattle.sock_diag_captures.specs.declared.options.Family.TheVariants.{Netlink, Packet, Vsock}
 use Rattle.sock_diag_captures.specs.declared.options.Family.TheVariants.{Xdp}
+use Rattle.sock_diag_captures.specs.JsonNewer.{JsonOutcome, inet_newer_outcome}
+use Rattle.sock_diag_captures.specs.JsonNewer.{unix_newer_outcome}
 use Rattle.sock_diag_captures.specs.JsonTcp.{tcp_members}
+use Rattle.sock_diag_extras.specs.declared.constants.TheConstants.{INET_DIAG_CGROUP_ID}
+use Rattle.sock_diag_extras.specs.declared.constants.TheConstants.{INET_DIAG_SOCKOPT, UNIX_DIAG_UID}
+use Rattle.sock_diag_records.specs.declared.constants.TheConstants.{INET_DIAG_BBRINFO}
+use Rattle.sock_diag_records.specs.declared.constants.TheConstants.{INET_DIAG_DCTCPINFO}
+use Rattle.sock_diag_records.specs.declared.constants.TheConstants.{INET_DIAG_VEGASINFO}
 use Rattle.sock_diag_captures.specs.Details.{error_reason, is_memory_kind}
 use Rattle.sock_diag_captures.specs.JsonData.{JsonMember, name_members, number_members}
 use Rattle.sock_diag_captures.specs.JsonData.{array_member, flag_member, numbers_member}
@@ -61,11 +70,6 @@ use Rattle.sock_diag_captures.specs.JsonData.{text_member}
 use Rattle.sock_diag_captures.specs.Pieces.{AttributeOrError, first_of_kind}
 
 -- ---- what an attribute yields
-
--- An attribute yields members, or nothing (None) if its type is unknown, or an error if its value is
--- invalid.
-abbrev pub JsonOutcome : Type 0
-JsonOutcome = Result (Option (List JsonMember)) DecodeError
 
 -- the members of an outcome; none if the attribute is unknown or invalid
 abbrev pub outcome_members : JsonOutcome → List JsonMember
@@ -124,13 +128,13 @@ unix_outcome a (unix_nla.ReceiveQueueLength first second) = Ok (Some (object_mem
     (number_members ((codes "rqueue", first) ∷ (codes "wqueue", second) ∷ []))))
 unix_outcome a (unix_nla.MemInfo m) = memory_outcome (codes "meminfo") a
 unix_outcome a (unix_nla.Shutdown n) = Ok (Some (number_members ((codes "shutdown", n) ∷ [])))
-unix_outcome a (unix_nla.Other other) = Ok None
+unix_outcome a (unix_nla.Other other) = unix_newer_outcome a
 
 -- the types of the attributes of a UNIX socket that yield members, in the order of the members
 abbrev pub unix_kinds : List ℕ
 unix_kinds =
     UNIX_DIAG_NAME ∷ UNIX_DIAG_VFS ∷ UNIX_DIAG_PEER ∷ UNIX_DIAG_ICONS ∷ UNIX_DIAG_RQLEN ∷
-    UNIX_DIAG_MEMINFO ∷ UNIX_DIAG_SHUTDOWN ∷ []
+    UNIX_DIAG_MEMINFO ∷ UNIX_DIAG_SHUTDOWN ∷ UNIX_DIAG_UID ∷ []
 
 -- what an attribute yields, by the table of decoded values `yields`; the error of an invalid value
 abbrev pub decoded_outcome : {A : Type 0} → (A → JsonOutcome) → Result A DecodeError → JsonOutcome
@@ -144,39 +148,45 @@ unix_attribute_outcome a =
 
 -- ---- IPv4 and IPv6 sockets
 
--- The members of an attribute of an IPv4 or IPv6 socket (linux/inet_diag.h), by its decoded value.
+-- the connection in the value of the attribute `a`, which can have any length
+abbrev pub tcp_outcome : Attribute → JsonOutcome
+tcp_outcome a = Ok (Some (object_member (codes "info") (tcp_members a.value)))
+
+-- The members of an attribute `a` of an IPv4 or IPv6 socket (linux/inet_diag.h), by its decoded
+-- value.
 -- `meminfo` has `idiag_rmem`, `idiag_wmem`, `idiag_fmem` and `idiag_tmem`.
-abbrev pub inet_outcome : InetNla (List ℕ) Attribute → JsonOutcome
-inet_outcome (inet_nla.LegacyMemInfo m) = Ok (Some (object_member (codes "meminfo")
+abbrev pub inet_outcome : Attribute → InetNla (List ℕ) Attribute → JsonOutcome
+inet_outcome a (inet_nla.LegacyMemInfo m) = Ok (Some (object_member (codes "meminfo")
     (number_members ((codes "rmem", m.receive_queue) ∷ (codes "wmem", m.bottom_send_queue) ∷
     (codes "fmem", m.cache) ∷ (codes "tmem", m.send_queue) ∷ []))))
-inet_outcome (inet_nla.TcpInfo t) = Ok None
-inet_outcome (inet_nla.Congestion name) = Ok (Some (text_member (codes "cong") name))
-inet_outcome (inet_nla.Tos n) = Ok (Some (number_members ((codes "tos", n) ∷ [])))
-inet_outcome (inet_nla.Tc n) = Ok (Some (number_members ((codes "tclass", n) ∷ [])))
-inet_outcome (inet_nla.MemInfo m) =
+inet_outcome a (inet_nla.TcpInfo t) = tcp_outcome a
+inet_outcome a (inet_nla.Congestion name) = Ok (Some (text_member (codes "cong") name))
+inet_outcome a (inet_nla.Tos n) = Ok (Some (number_members ((codes "tos", n) ∷ [])))
+inet_outcome a (inet_nla.Tc n) = Ok (Some (number_members ((codes "tclass", n) ∷ [])))
+inet_outcome a (inet_nla.MemInfo m) =
     Ok (Some (object_member (codes "skmeminfo") (memory_members m)))
-inet_outcome (inet_nla.Shutdown n) = Ok (Some (number_members ((codes "shutdown", n) ∷ [])))
-inet_outcome (inet_nla.Protocol n) = Ok (Some (number_members ((codes "protocol", n) ∷ [])))
-inet_outcome (inet_nla.SkV6Only flag) = Ok (Some (flag_member (codes "skv6only") flag))
-inet_outcome (inet_nla.Mark n) = Ok (Some (number_members ((codes "mark", n) ∷ [])))
-inet_outcome (inet_nla.ClassId n) = Ok (Some (number_members ((codes "class_id", n) ∷ [])))
-inet_outcome (inet_nla.Other other) = Ok None
+inet_outcome a (inet_nla.Shutdown n) = Ok (Some (number_members ((codes "shutdown", n) ∷ [])))
+inet_outcome a (inet_nla.Protocol n) = Ok (Some (number_members ((codes "protocol", n) ∷ [])))
+inet_outcome a (inet_nla.SkV6Only flag) = Ok (Some (flag_member (codes "skv6only") flag))
+inet_outcome a (inet_nla.Mark n) = Ok (Some (number_members ((codes "mark", n) ∷ [])))
+inet_outcome a (inet_nla.ClassId n) = Ok (Some (number_members ((codes "class_id", n) ∷ [])))
+inet_outcome a (inet_nla.Other other) = inet_newer_outcome a
 
 -- the types of the attributes of an IPv4 or IPv6 socket that yield members, in the order of the
 -- members
 abbrev pub inet_kinds : List ℕ
 inet_kinds =
-    INET_DIAG_MEMINFO ∷ INET_DIAG_INFO ∷ INET_DIAG_CONG ∷ INET_DIAG_TOS ∷ INET_DIAG_TCLASS ∷
-    INET_DIAG_SKMEMINFO ∷ INET_DIAG_SHUTDOWN ∷ INET_DIAG_PROTOCOL ∷ INET_DIAG_SKV6ONLY ∷
-    INET_DIAG_MARK ∷ INET_DIAG_CLASS_ID ∷ []
+    INET_DIAG_MEMINFO ∷ INET_DIAG_INFO ∷ INET_DIAG_VEGASINFO ∷ INET_DIAG_CONG ∷ INET_DIAG_TOS ∷
+    INET_DIAG_TCLASS ∷ INET_DIAG_SKMEMINFO ∷ INET_DIAG_SHUTDOWN ∷ INET_DIAG_DCTCPINFO ∷
+    INET_DIAG_PROTOCOL ∷ INET_DIAG_SKV6ONLY ∷ INET_DIAG_MARK ∷ INET_DIAG_BBRINFO ∷
+    INET_DIAG_CLASS_ID ∷ INET_DIAG_CGROUP_ID ∷ INET_DIAG_SOCKOPT ∷ []
 
--- What an attribute of an IPv4 or IPv6 socket yields. INET_DIAG_INFO can have any length.
-abbrev pub inet_attribute_outcome : Attribute → JsonOutcome
-inet_attribute_outcome a =
-    if attribute_kind a == INET_DIAG_INFO
-    then Ok (Some (object_member (codes "info") (tcp_members a.value)))
-    else decoded_outcome (λ v. inet_outcome (inet_variant v))
+-- What an attribute of an IPv4 or IPv6 socket yields. INET_DIAG_INFO of a TCP socket can have any
+-- length.
+abbrev pub inet_attribute_outcome : Bool → Attribute → JsonOutcome
+inet_attribute_outcome is_tcp a =
+    if is_tcp && (attribute_kind a == INET_DIAG_INFO) then tcp_outcome a
+    else decoded_outcome (λ v. inet_outcome a (inet_variant v))
     (decode_attribute inet_attribute_set a)
 
 -- ---- netlink, packet and XDP sockets
@@ -240,13 +250,13 @@ family_kinds Xdp = XDP_DIAG_INFO ∷ XDP_DIAG_UID ∷ XDP_DIAG_MEMINFO ∷ []
 -- what an attribute yields, by the kind of sockets that the reply is about
 abbrev pub attribute_outcome : Sockets → Attribute → JsonOutcome
 attribute_outcome Unix a = unix_attribute_outcome a
-attribute_outcome Inet a = inet_attribute_outcome a
+attribute_outcome (Inet is_tcp) a = inet_attribute_outcome is_tcp a
 attribute_outcome (Other family) a = family_attribute_outcome family a
 
 -- the types of the attributes that yield members, in the order of the members
 abbrev pub member_kinds : Sockets → List ℕ
 member_kinds Unix = unix_kinds
-member_kinds Inet = inet_kinds
+member_kinds (Inet is_tcp) = inet_kinds
 member_kinds (Other family) = family_kinds family
 
 -- `members_of_kind sockets given kind`: the members of the first attribute of the type `kind`

@@ -1,5 +1,5 @@
--- What is written for a socket: the lines of the table, or with `--json` a line of JSON. `given` are
--- the attributes of a reply.
+-- What is written for a socket: the lines of the table, or with `--json` a line of JSON. `given`
+-- are the attributes of a reply.
 use Rattle.std.specs.Prelude.{ℕ, if◌then◌else◌, List, [], Option}
 use Rattle.sock_diag_records.specs.declared.inet.response.InetResponseHeader.{InetResponseHeader}
 use Rattle.sock_diag_records.specs.declared.unix.response.UnixResponseHeader.{UnixResponseHeader}
@@ -22,8 +22,8 @@ unix_output o h given =
     if o.json then (if lists_unix o h.state then unix_json h given else [])
     else unix_lines o h given
 
--- `inet_output o protocol timer h given`: what is written for an IPv4 or IPv6 socket; nothing if the
--- options do not select it
+-- `inet_output o protocol timer h given`: what is written for an IPv4 or IPv6 socket; nothing if
+-- the options do not select it
 abbrev pub inet_output : Options → Option ℕ → TimerFields → InetResponseHeader
     → List AttributeOrError → List ℕ
 inet_output o protocol timer h given =

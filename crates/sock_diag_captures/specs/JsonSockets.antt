@@ -10,7 +10,7 @@ use Rattle.sock_diag_captures.specs.JsonAttributes.{attributes_members}
 use Rattle.sock_diag_captures.specs.JsonData.{JsonMember, address_member, cookie_member}
 use Rattle.sock_diag_captures.specs.JsonData.{json_line, number_members, text_member}
 use Rattle.sock_diag_captures.specs.Pieces.{AttributeOrError}
-use Rattle.sock_diag_captures.specs.Table.{inet_kind, unix_kind}
+use Rattle.sock_diag_captures.specs.Table.{inet_kind, is_tcp, unix_kind}
 use Rattle.sock_diag_captures.specs.declared.details.Sockets.TheVariants.{Inet, Unix}
 use Rattle.sock_diag_captures.specs.declared.parts.TimerFields.{TimerFields}
 
@@ -44,8 +44,8 @@ inet_back_members timer h =
     (codes "wqueue", h.send_queue) ∷ (codes "uid", h.uid) ∷ (codes "inode", h.inode) ∷ [])
 
 -- The members of the header of an IPv4 or IPv6 socket, `struct inet_diag_msg` of linux/inet_diag.h.
--- `src`, `dst`, `if` and `cookie` are `idiag_src`, `idiag_dst`, `idiag_if` and `idiag_cookie` of its
--- `id`. `protocol` is the protocol of the request.
+-- `src`, `dst`, `if` and `cookie` are `idiag_src`, `idiag_dst`, `idiag_if` and `idiag_cookie` of
+-- its `id`. `protocol` is the protocol of the request.
 unfoldable pub inet_header_members : Option ℕ → TimerFields → InetResponseHeader → List JsonMember
 inet_header_members protocol timer h =
     text_member (codes "netid") (inet_kind protocol h.family)
@@ -60,7 +60,7 @@ inet_header_members protocol timer h =
 abbrev pub inet_members : Option ℕ → TimerFields → InetResponseHeader → List AttributeOrError
     → List JsonMember
 inet_members protocol timer h given =
-    inet_header_members protocol timer h ++ attributes_members Inet given
+    inet_header_members protocol timer h ++ attributes_members (Inet (is_tcp protocol)) given
 
 -- the line of a UNIX socket
 abbrev pub unix_json : UnixResponseHeader → List AttributeOrError → List ℕ

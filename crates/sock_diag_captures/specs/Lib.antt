@@ -22,6 +22,7 @@ pub mod Headings
 pub mod Reports
 pub mod JsonData
 pub mod JsonTcp
+pub mod JsonNewer
 pub mod JsonAttributes
 pub mod JsonSockets
 pub mod JsonOthers

@@ -82,10 +82,14 @@ other_reply_error header b = error_after_reply_header (parse_record header tt b)
 -- `family_lines o family b`: the lines of a reply about a socket of this family; none for an
 -- unknown family (None)
 abbrev pub family_lines : Options → Option Family → List ℕ → List ℕ
-family_lines o (Some Netlink) b = other_reply_lines o netlink_header netlink_socket Netlink netlink_header_members b
-family_lines o (Some Packet) b = other_reply_lines o packet_header packet_socket Packet packet_header_members b
-family_lines o (Some Vsock) b = other_reply_lines o vsock_header vsock_socket Vsock vsock_header_members b
-family_lines o (Some Xdp) b = other_reply_lines o xdp_header xdp_socket Xdp xdp_header_members b
+family_lines o (Some Netlink) b =
+    other_reply_lines o netlink_header netlink_socket Netlink netlink_header_members b
+family_lines o (Some Packet) b =
+    other_reply_lines o packet_header packet_socket Packet packet_header_members b
+family_lines o (Some Vsock) b =
+    other_reply_lines o vsock_header vsock_socket Vsock vsock_header_members b
+family_lines o (Some Xdp) b =
+    other_reply_lines o xdp_header xdp_socket Xdp xdp_header_members b
 family_lines o None b = []
 
 -- `family_error family b`: the decode error of a reply about a socket of this family, if there is
@@ -107,8 +111,8 @@ payload_lines o protocol (Ok unix_response) b =
     lines_after_header (unix_output o) (parse_record unix_response_header tt b)
     (attributes_or_error 0 (drop 16 b))
 payload_lines o protocol (Ok inet_response) b =
-    lines_after_header (inet_output o protocol (timer_in b)) (parse_record inet_response_header tt b)
-    (attributes_or_error 0 (drop 72 b))
+    lines_after_header (inet_output o protocol (timer_in b))
+    (parse_record inet_response_header tt b) (attributes_or_error 0 (drop 72 b))
 payload_lines o protocol (Err (UnknownFamily n)) b = family_lines o (family_numbered n) b
 payload_lines o protocol _ b = []
 

@@ -34,6 +34,7 @@ ghost use Rattle.sock_diag_captures.specs.private.JsonWriting.{AddsMembers, Adds
 ghost use Rattle.sock_diag_captures.specs.private.JsonWriting.{items_tokens, members_tokens};
 
 use crate::details::{Sockets, memory_kind};
+use crate::json_newer::{inet_newer_status, unix_newer_status, write_inet_newer, write_unix_newer};
 use crate::json_tcp::write_tcp;
 use crate::json_writing::{
     begin_member, write_name_members, write_numbers, write_optional, write_text,
@@ -45,22 +46,24 @@ use json::Writer;
 use netlink_core::{DecodeError, NlaBuffer, NlasIterator};
 use sock_diag_attributes::inet::nlas::NlaView as InetView;
 use sock_diag_attributes::unix::nlas::{NameView, NlaView as UnixView, NumbersView};
+use sock_diag_extras::constants::{INET_DIAG_CGROUP_ID, INET_DIAG_SOCKOPT, UNIX_DIAG_UID};
 use sock_diag_families::netlink::{NETLINK_DIAG_GROUPS, NETLINK_DIAG_MEMINFO};
 use sock_diag_families::packet::{
     PACKET_DIAG_INFO, PACKET_DIAG_MEMINFO, PACKET_DIAG_UID, PacketInfo,
 };
 use sock_diag_families::xdp::{XDP_DIAG_INFO, XDP_DIAG_MEMINFO, XDP_DIAG_UID, XdpInfo};
 use sock_diag_records::constants::{
-    INET_DIAG_CLASS_ID, INET_DIAG_CONG, INET_DIAG_INFO, INET_DIAG_MARK, INET_DIAG_MEMINFO,
-    INET_DIAG_PROTOCOL, INET_DIAG_SHUTDOWN, INET_DIAG_SKMEMINFO, INET_DIAG_SKV6ONLY,
-    INET_DIAG_TCLASS, INET_DIAG_TOS, UNIX_DIAG_ICONS, UNIX_DIAG_MEMINFO, UNIX_DIAG_NAME,
-    UNIX_DIAG_PEER, UNIX_DIAG_RQLEN, UNIX_DIAG_SHUTDOWN, UNIX_DIAG_VFS,
+    INET_DIAG_BBRINFO, INET_DIAG_CLASS_ID, INET_DIAG_CONG, INET_DIAG_DCTCPINFO, INET_DIAG_INFO,
+    INET_DIAG_MARK, INET_DIAG_MEMINFO, INET_DIAG_PROTOCOL, INET_DIAG_SHUTDOWN, INET_DIAG_SKMEMINFO,
+    INET_DIAG_SKV6ONLY, INET_DIAG_TCLASS, INET_DIAG_TOS, INET_DIAG_VEGASINFO, UNIX_DIAG_ICONS,
+    UNIX_DIAG_MEMINFO, UNIX_DIAG_NAME, UNIX_DIAG_PEER, UNIX_DIAG_RQLEN, UNIX_DIAG_SHUTDOWN,
+    UNIX_DIAG_VFS,
 };
 use sock_diag_values::inet::{LegacyMemInfo, MemInfo};
 use std::alloc::{AllocError, Global};
 
 /// Types of the attributes of a UNIX socket that yield members.
-const UNIX_KINDS: [u16; 7] = [
+const UNIX_KINDS: [u16; 8] = [
     UNIX_DIAG_NAME,
     UNIX_DIAG_VFS,
     UNIX_DIAG_PEER,
@@ -68,21 +71,27 @@ const UNIX_KINDS: [u16; 7] = [
     UNIX_DIAG_RQLEN,
     UNIX_DIAG_MEMINFO,
     UNIX_DIAG_SHUTDOWN,
+    UNIX_DIAG_UID,
 ];
 
 /// Types of the attributes of an IPv4 or IPv6 socket that yield members.
-const INET_KINDS: [u16; 11] = [
+const INET_KINDS: [u16; 16] = [
     INET_DIAG_MEMINFO,
     INET_DIAG_INFO,
+    INET_DIAG_VEGASINFO,
     INET_DIAG_CONG,
     INET_DIAG_TOS,
     INET_DIAG_TCLASS,
     INET_DIAG_SKMEMINFO,
     INET_DIAG_SHUTDOWN,
+    INET_DIAG_DCTCPINFO,
     INET_DIAG_PROTOCOL,
     INET_DIAG_SKV6ONLY,
     INET_DIAG_MARK,
+    INET_DIAG_BBRINFO,
     INET_DIAG_CLASS_ID,
+    INET_DIAG_CGROUP_ID,
+    INET_DIAG_SOCKOPT,
 ];
 
 /// Types of the attributes of a netlink socket that yield members.
@@ -132,7 +141,7 @@ fn write_members(
 {
     match sockets {
         Sockets::Unix => write_each_kind(alloc, writer, sockets, bytes, &UNIX_KINDS),
-        Sockets::Inet => write_each_kind(alloc, writer, sockets, bytes, &INET_KINDS),
+        Sockets::Inet { .. } => write_each_kind(alloc, writer, sockets, bytes, &INET_KINDS),
         Sockets::Other(Family::Netlink) => {
             write_each_kind(alloc, writer, sockets, bytes, &NETLINK_KINDS)
         }
@@ -194,7 +203,7 @@ fn write_attribute(
 {
     match sockets {
         Sockets::Unix => write_unix_attribute(alloc, writer, nla),
-        Sockets::Inet => write_inet_attribute(writer, nla),
+        Sockets::Inet { is_tcp } => write_inet_attribute(writer, is_tcp, nla),
         Sockets::Other(family) => write_family_attribute(writer, family, nla),
     }
 }
@@ -308,7 +317,7 @@ fn status_of(sockets: Sockets, nla: &NlaBuffer<'_>) -> Result<bool, DecodeError>
 {
     match sockets {
         Sockets::Unix => unix_status(nla),
-        Sockets::Inet => inet_status(nla),
+        Sockets::Inet { is_tcp } => inet_status(is_tcp, nla),
         Sockets::Other(family) => family_status(family, nla),
     }
 }
@@ -318,7 +327,7 @@ fn unix_status(nla: &NlaBuffer<'_>) -> Result<bool, DecodeError>
     ensures { result ≡ map_ok is_some (unix_attribute_outcome (buffered_attribute nla.now)) }
 {
     match UnixView::parse(nla) {
-        Ok(UnixView::Other(_)) => Ok(false),
+        Ok(UnixView::Other(_)) => unix_newer_status(nla),
         Ok(UnixView::MemInfo(_)) => memory_status(nla, "meminfo"),
         Ok(_) => Ok(true),
         Err(error) => Err(error),
@@ -380,36 +389,46 @@ fn write_unix(
         }
         UnixView::MemInfo(_) => write_memory_value(writer, "meminfo", nla),
         UnixView::Shutdown(state) => write_numbers(writer, &[("shutdown", (*state).into())]),
-        UnixView::Other(_) => Ok(()),
+        UnixView::Other(_) => write_unix_newer(writer, nla),
     }
 }
 
 /// Writes the members that an attribute of an IPv4 or IPv6 socket yields.
 #[tactic(auto, unfolding(crate::specs::private::JsonWriting::members_tokens))]
-fn write_inet_attribute(writer: &mut Writer, nla: &NlaBuffer<'_>) -> Result<(), AllocError>
+fn write_inet_attribute(
+    writer: &mut Writer,
+    is_tcp: bool,
+    nla: &NlaBuffer<'_>,
+) -> Result<(), AllocError>
     ensures before { KeepsText result writer.old writer.new }
     ensures members { AddsMembers result writer.old writer.new
-        (outcome_members (inet_attribute_outcome (buffered_attribute nla.now))) }
+        (outcome_members (inet_attribute_outcome is_tcp (buffered_attribute nla.now))) }
 {
-    if nla.kind() == INET_DIAG_INFO {
+    if is_tcp && nla.kind() == INET_DIAG_INFO {
         return write_tcp(writer, nla.value());
     }
     match InetView::parse(nla) {
-        Ok(view) => write_inet(writer, &view),
+        Ok(view) => write_inet(writer, nla, &view),
         Err(_) => Ok(()),
     }
 }
 
 /// Writes the members that a decoded attribute of an IPv4 or IPv6 socket yields.
 #[tactic(auto, unfolding(crate::specs::private::JsonWriting::members_tokens))]
-fn write_inet(writer: &mut Writer, view: &InetView<'_>) -> Result<(), AllocError>
+fn write_inet(
+    writer: &mut Writer,
+    nla: &NlaBuffer<'_>,
+    view: &InetView<'_>,
+) -> Result<(), AllocError>
     ensures before { KeepsText result writer.old writer.new }
     ensures members { AddsMembers result writer.old writer.new
-        (outcome_members (inet_outcome (inet_variant (inet_view_model view.now)))) }
+        (outcome_members
+        (inet_outcome (buffered_attribute nla.now) (inet_variant (inet_view_model view.now)))) }
 {
     match view {
         InetView::LegacyMemInfo(memory) => write_legacy_memory(writer, memory),
-        InetView::TcpInfo(_) | InetView::Other(_) => Ok(()),
+        InetView::TcpInfo(_) => write_tcp(writer, nla.value()),
+        InetView::Other(_) => write_inet_newer(writer, nla),
         InetView::Congestion(name) => write_text(writer, "cong", name),
         InetView::Tos(tos) => write_numbers(writer, &[("tos", (*tos).into())]),
         InetView::Tc(class) => write_numbers(writer, &[("tclass", (*class).into())]),
@@ -441,14 +460,14 @@ fn write_legacy_memory(writer: &mut Writer, memory: &LegacyMemInfo) -> Result<()
 
 /// Returns whether an attribute of an IPv4 or IPv6 socket yields members, or the error of its
 /// value.
-fn inet_status(nla: &NlaBuffer<'_>) -> Result<bool, DecodeError>
-    ensures { result ≡ map_ok is_some (inet_attribute_outcome (buffered_attribute nla.now)) }
+fn inet_status(is_tcp: bool, nla: &NlaBuffer<'_>) -> Result<bool, DecodeError>
+    ensures { result ≡ map_ok is_some (inet_attribute_outcome is_tcp (buffered_attribute nla.now)) }
 {
-    if nla.kind() == INET_DIAG_INFO {
+    if is_tcp && nla.kind() == INET_DIAG_INFO {
         return Ok(true);
     }
     match InetView::parse(nla) {
-        Ok(InetView::TcpInfo(_) | InetView::Other(_)) => Ok(false),
+        Ok(InetView::Other(_)) => inet_newer_status(nla),
         Ok(_) => Ok(true),
         Err(error) => Err(error),
     }
@@ -612,7 +631,11 @@ fn write_flag(writer: &mut Writer, name: &str, flag: bool) -> Result<(), AllocEr
 }
 
 /// Writes a member whose value is an object with numbers: a name and a number for each row.
-fn write_object(writer: &mut Writer, name: &str, rows: &[(&str, u64)]) -> Result<(), AllocError>
+pub(crate) fn write_object(
+    writer: &mut Writer,
+    name: &str,
+    rows: &[(&str, u64)],
+) -> Result<(), AllocError>
     ensures before { KeepsText result writer.old writer.new }
     ensures members { AddsMembers result writer.old writer.new (object_member name.now
         (number_members (map (λ row. (row.0.now, row.1)) rows.now))) }

@@ -16,6 +16,7 @@ ghost use Rattle.sock_diag_captures.specs.private.JsonWriting.{AddsMembers, Adds
 use crate::details::Sockets;
 use crate::json_attributes::write_attributes;
 use crate::json_writing::{write_address, write_cookie, write_numbers, write_text};
+use crate::line::is_tcp;
 use crate::parts::TimerFields;
 use json::Writer;
 use sock_diag_records::constants::{AF_INET6, AF_UNIX, SOCK_DGRAM, SOCK_SEQPACKET, SOCK_STREAM};
@@ -127,7 +128,10 @@ fn write_inet_object(
 {
     writer.begin_object()?;
     write_inet_header(alloc, writer, protocol, timer, header)?;
-    write_attributes(alloc, writer, Sockets::Inet, attributes)?;
+    let sockets = Sockets::Inet {
+        is_tcp: is_tcp(protocol),
+    };
+    write_attributes(alloc, writer, sockets, attributes)?;
     writer.end_object()
 }
 

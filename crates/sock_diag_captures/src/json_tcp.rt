@@ -1,7 +1,7 @@
 //! JSON of `struct tcp_info`. A function of this module appends to a writer. If it fails, an
 //! allocation failed, and the content of the writer is not specified.
 
-ghost use Rattle.std.specs.Prelude.{◌≡◌, ◌≤◌, ◌<◌, ◌^◌, ◌++◌, OnOk, codes, flat_map, map, option_map};
+ghost use Rattle.std.specs.Prelude.{◌≡◌, ◌++◌, OnOk, codes, flat_map, option_map};
 ghost use Rattle.sock_diag_extras.specs.Models.{tcp_info_bytes};
 ghost use Rattle.sock_diag_captures.specs.JsonData.{object_member};
 ghost use Rattle.sock_diag_captures.specs.JsonTcp.{field_in, part_of, tcp_member, tcp_members};

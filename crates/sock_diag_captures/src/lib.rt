@@ -22,6 +22,7 @@ mod filter;
 mod headings;
 mod json_attributes;
 pub mod json_laws;
+mod json_newer;
 mod json_others;
 mod json_sockets;
 mod json_tcp;

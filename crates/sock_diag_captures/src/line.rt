@@ -102,8 +102,8 @@ fn push_unix(
     }
 }
 
-/// Appends what is written for a UNIX socket with this header and these attributes: its lines of the
-/// table, or its line of JSON.
+/// Appends what is written for a UNIX socket with this header and these attributes: its lines of
+/// the table, or its line of JSON.
 fn push_unix_output(
     text: &mut Vec<u8>,
     options: Options,
@@ -327,7 +327,7 @@ fn push_inet_lines(
 }
 
 /// Returns whether the protocol of the request is TCP.
-fn is_tcp(protocol: Option<u32>) -> bool
+pub(crate) fn is_tcp(protocol: Option<u32>) -> bool
     ensures { result ≡ is_tcp protocol }
 {
     matches!(protocol, Some(6))

@@ -1,4 +1,4 @@
-use Rattle.std.proofs.Common.{refl, rules, ap, sym, ◌∙◌, ℕ, List, map, string_bytes, option_map}
+use Rattle.std.proofs.Common.{refl, rules, ap, sym, ℕ, List, map, string_bytes, option_map}
 use Rattle.sock_diag_captures.specs.Choice.{options_after}
 use Rattle.sock_diag_captures.specs.declared.arguments.Argument.{Argument}
 use Rattle.sock_diag_captures.specs.declared.arguments.Place.TheVariants as place

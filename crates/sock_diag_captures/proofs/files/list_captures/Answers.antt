@@ -1,4 +1,4 @@
-use Rattle.std.proofs.Common.{ap, sym, refl, ◌∙◌, string_bytes}
+use Rattle.std.proofs.Common.{sym, refl, ◌∙◌, string_bytes}
 use Rattle.std.proofs.lemmas.List.{drop_all}
 use Rattle.sock_diag_captures.proofs.Listed.{captures_with_file, captures_without_file, file_more}
 use Rattle.sock_diag_captures.proofs.Listed.{files_only, input_only, option_more}
