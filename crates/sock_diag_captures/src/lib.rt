@@ -62,7 +62,7 @@ pub const HELP: &str = "\
 Usage: sslist [OPTION ..] [FILE ..]
 
 Lists the sockets in captures of netlink traffic: in each FILE, or in standard
-input if there is none. A capture is in pcap format, as written by
+input if there is none. A capture is in pcap or pcapng format, as written by
 tcpdump -i nlmon0 -w -
 
 Select sockets (several options add up):
