@@ -374,8 +374,3 @@ run_outcome o left left' held held' heading front P Q unread (Err e) implies fin
 pub complete_outcome : (P : Bool → Type 0) (Q : ListError → Type 0) (r : Result Bool ListError)
     → r ≡ Ok true → MatchResult r P Q → P true
 complete_outcome P Q r is h = subst (λ (r : Result Bool ListError). MatchResult r P Q) is h
-
--- An error of a write is the one that a write failed with.
-pub write_cause : (failed : WriteError → Type 0) (e : WriteError) → failed e → (error : WriteError)
-    → Write e ≡ Write error → failed error
-write_cause failed e held error same = let is : e ≡ error = cc in subst failed is held

@@ -76,8 +76,8 @@ pub const HELP: &str = "\
 Usage: sslist [OPTION ..] [FILE ..]
 
 Lists the sockets in captures of netlink traffic: in each FILE, or in standard
-input if there is none, or if FILE is -. A capture is in pcap format, as
-written by tcpdump -i nlmon0 -w -. Arguments after -- are files.
+input if there is none, or if FILE is -. A capture is in pcap or pcapng format,
+as written by tcpdump -i nlmon0 -w -. Arguments after -- are files.
 
 Select sockets (several options of a line add up):
   -t, -u, -M             TCP, UDP or MPTCP sockets

@@ -42,8 +42,8 @@ fn push_enhanced(
     let bytes = decoded(rt, alloc, digits);
     let length = u32::try_from(bytes.len()).expect(rt, "a short datagram");
     let padding = (4 - length % 4) % 4;
-    let total = (length + padding)
-        .checked_add(32)
+    let total = length
+        .checked_add(32 + padding)
         .expect(rt, "a short datagram");
     let zeros = [0u8; 3];
     push_words(
