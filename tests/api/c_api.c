@@ -4,23 +4,12 @@
  * netlink(7) and the kernel's headers, or were sent by Linux. Each field of each struct is compared
  * with bytes that no other field has. tests/api/c_api.sh builds and runs this program.
  */
-#include "sockdiag.h"
+#include "check.h"
 
 #include <linux/inet_diag.h>
 #include <linux/netlink.h>
 #include <linux/sock_diag.h>
 #include <linux/unix_diag.h>
-#include <stdio.h>
-#include <string.h>
-
-static int failures;
-
-static void check(int holds, const char *what) {
-    if (!holds) {
-        fprintf(stderr, "c_api: failed: %s\n", what);
-        failures++;
-    }
-}
 
 /* A reply about a UNIX socket: type 1, state 10, inode 0x11223344, a pathname "/a" with its NUL
  * and one byte of padding, a peer, and an attribute of type 0x63 without a value. The padding
@@ -46,7 +35,7 @@ static const uint8_t inet_reply[72] = {
 static void checks_unix(void) {
     static const uint8_t cookie[8] = {1, 2, 3, 4, 5, 6, 7, 8};
     struct sockdiag_unix_header header, before;
-    memset(&header, 0xaa, sizeof header);
+    memset(&header, UNTOUCHED, sizeof header);
     before = header;
     check(sockdiag_check_unix_reply(unix_reply, 15, &header) == SOCKDIAG_BUFFER_TOO_SMALL,
           "a truncated header");
@@ -103,19 +92,6 @@ static void checks_messages(void) {
     check(reply.unix_header.inode == 0x11223344, "the other header changes");
 }
 
-/* Writes an attribute at an offset, and returns the offset after its padding. */
-static size_t put(uint8_t *bytes, size_t at, uint8_t kind, const char *value, size_t length) {
-    memset(bytes + at, 0, length + 7);
-    bytes[at] = (uint8_t)(4 + length);
-    bytes[at + 2] = kind;
-    memcpy(bytes + at + 4, value, length);
-    return at + (length + 7) / 4 * 4;
-}
-
-static int is(struct sockdiag_number number, uint32_t value) {
-    return number.is_set == 1 && number.value == value;
-}
-
 static void tells_unix_details(void) {
     static const char memory[36] = {0, 0, 0, 0, 9, 0, 0, 0, 0, 0, 0,
                                     0, 10, 0, 0, 0, 0, 0, 0, 0, 11};
@@ -169,7 +145,7 @@ static void tells_inet_details(void) {
     struct sockdiag_inet_details details;
     struct sockdiag_tcp_info info;
     struct sockdiag_inet_memory memory;
-    size_t end, index;
+    size_t end;
     memset(&details, 0, sizeof details);
     memcpy(bytes, inet_reply, 72);
     end = put(bytes, 72, 4, "cubic", 6);
@@ -192,21 +168,20 @@ static void tells_inet_details(void) {
     check(is(details.mark, 6) && is(details.class_id, 7), "mark and class");
     check(sockdiag_inet_get_tcp_info(bytes, end, &info) == 0 && info.state == 0,
           "no TCP connection");
-    for (index = 0; index < sizeof value; index++)
-        value[index] = (uint8_t)index;
-    end = put(bytes, end, 2, (const char *)value, sizeof value);
+    number_bytes(value, sizeof value);
+    end = put(bytes, end, 2, value, sizeof value);
     check(sockdiag_inet_get_details(bytes, end, &details) == SOCKDIAG_OK, "a TCP connection");
     check(sockdiag_inet_get_tcp_info(bytes, end, &info) == 240 &&
           memcmp(&info, value, sizeof info) == 0, "its bytes");
     check(info.rtt == 0x47464544 && info.pacing_rate == 0x6f6e6d6c6b6a6968 &&
           info.snd_wnd == 0xe7e6e5e4, "its fields");
     check(sockdiag_inet_get_memory(bytes, end, &memory) == 0 && memory.drops == 0, "no memory");
-    end = put(bytes, end, 7, (const char *)value, 32);
+    end = put(bytes, end, 7, value, 32);
     check(sockdiag_inet_get_memory(bytes, end, &memory) == 32, "memory");
     check(memory.receive_queue == 0x03020100 && memory.backlog_queue_length == 0x1f1e1d1c,
           "its words");
     check(memory.drops == 0, "a field that is absent");
-    put(bytes, 72, 2, (const char *)value, 5);
+    put(bytes, 72, 2, value, 5);
     check(sockdiag_inet_get_details(bytes, 84, &details) == SOCKDIAG_BUFFER_TOO_SMALL,
           "a short TCP connection");
     check(sockdiag_inet_get_tcp_info(bytes, 84, &info) == 5 && info.backoff == 4 && info.rto == 0,
@@ -234,7 +209,7 @@ static void tells_netlink_details(void) {
         "100300076a1800000000000000000000ff53010001100000000000000c00010011000000000000002800000000000000"
         "00400300000000000040030000000000000000000000000000000000000000000800040020000000",
         bytes);
-    memset(&details, 0xaa, sizeof details);
+    memset(&details, UNTOUCHED, sizeof details);
     check(sockdiag_netlink_get_details(bytes, end, &details) == SOCKDIAG_OK, "a netlink reply");
     check(details.header.kind == 3 && details.header.protocol == 0 && details.header.state == 7,
           "a netlink header");
@@ -438,7 +413,7 @@ static void writes_unix_request(void) {
     request.inode = 6;
     request.show = 0x3f;
     memcpy(request.cookie, want + 32, 8);
-    memset(buffer, 0xaa, sizeof buffer);
+    memset(buffer, UNTOUCHED, sizeof buffer);
     memcpy(before, buffer, sizeof buffer);
     check(sockdiag_write_unix_request(&request, buffer, 39) == 0, "a short buffer");
     check(memcmp(buffer, before, sizeof buffer) == 0, "a short buffer is written to");
@@ -509,11 +484,11 @@ static void writes_family_requests(void) {
     set_header(&other.header, 5);
     other.states = 0x400;
     other.cookie = 9;
-    memset(buffer, 0xaa, sizeof buffer);
-    check(sockdiag_write_show_request(&request, buffer, 35) == 0 && buffer[0] == 0xaa,
+    memset(buffer, UNTOUCHED, sizeof buffer);
+    check(sockdiag_write_show_request(&request, buffer, 35) == 0 && buffer[0] == UNTOUCHED,
           "a short buffer for a request");
     check(sockdiag_write_show_request(&request, buffer, 41) == 36, "a netlink request");
-    check(memcmp(buffer, want, 36) == 0 && buffer[36] == 0xaa,
+    check(memcmp(buffer, want, 36) == 0 && buffer[36] == UNTOUCHED,
           "its bytes, and those after it");
     request.family = 44;
     check(sockdiag_write_show_request(&request, buffer, 36) == 36 && buffer[16] == 44,
@@ -526,7 +501,7 @@ static void writes_family_requests(void) {
           "a short buffer for a vsock request");
     check(sockdiag_write_vsock_request(&other, buffer, 41) == 40 && buffer[0] == 40 &&
           buffer[4] == 20, "a vsock request");
-    check(memcmp(buffer + 16, vsock, 24) == 0 && buffer[40] == 0xaa, "its record");
+    check(memcmp(buffer + 16, vsock, 24) == 0 && buffer[40] == UNTOUCHED, "its record");
 }
 
 static void writes_filtered_request(void) {
@@ -535,7 +510,7 @@ static void writes_filtered_request(void) {
     struct sockdiag_outcome outcome = {9, 9};
     uint8_t plain[80], buffer[100];
     memset(&request, 0, sizeof request);
-    memset(buffer, 0xaa, sizeof buffer);
+    memset(buffer, UNTOUCHED, sizeof buffer);
     request.family = 10;
     request.protocol = 262;
     check(sockdiag_write_inet_request(&request, plain, sizeof plain) == 80,
@@ -543,7 +518,7 @@ static void writes_filtered_request(void) {
     check(sockdiag_write_inet_request_with_attributes(&request, filter, 13, buffer, 95,
                                                       &outcome) == 0,
           "a short buffer");
-    check(outcome.error == 0 && outcome.needed == 96 && buffer[0] == 0xaa,
+    check(outcome.error == 0 && outcome.needed == 96 && buffer[0] == UNTOUCHED,
           "the length of a filtered request");
     check(sockdiag_write_inet_request_with_attributes(&request, filter, 13, buffer, 100,
                                                       &outcome) == 96,
@@ -571,19 +546,19 @@ static void writes_filtered_request(void) {
 static void rewrites_unix_reply(void) {
     uint8_t want[36], buffer[40];
     struct sockdiag_outcome outcome;
-    memset(&outcome, 0xaa, sizeof outcome);
-    memset(buffer, 0xaa, sizeof buffer);
+    memset(&outcome, UNTOUCHED, sizeof outcome);
+    memset(buffer, UNTOUCHED, sizeof buffer);
     memcpy(want, unix_reply, sizeof want);
     want[3] = 0;
     want[23] = 0;
     check(sockdiag_rewrite_unix_reply(unix_reply, 36, buffer, 35, &outcome) == 0,
           "a short buffer for a reply");
     check(outcome.error == 0 && outcome.needed == 36, "the length of the canonical form");
-    check(buffer[0] == 0xaa && buffer[34] == 0xaa, "a short buffer is written to in part");
+    check(buffer[0] == UNTOUCHED && buffer[34] == 0xaa, "a short buffer is written to in part");
     check(sockdiag_rewrite_unix_reply(unix_reply, 36, buffer, 40, &outcome) == 36,
           "a canonical UNIX reply");
     check(outcome.error == 0 && outcome.needed == 36 && memcmp(buffer, want, 36) == 0, "its bytes");
-    check(buffer[36] == 0xaa, "the bytes after the canonical form");
+    check(buffer[36] == UNTOUCHED, "the bytes after the canonical form");
     check(sockdiag_rewrite_unix_reply(unix_reply, 15, buffer, 40, &outcome) == 0,
           "a rejected UNIX reply");
     check(outcome.error == SOCKDIAG_BUFFER_TOO_SMALL && outcome.needed == 0, "its error");
@@ -603,35 +578,18 @@ static void rewrites_inet_reply(void) {
     check(outcome.error == SOCKDIAG_BUFFER_TOO_SMALL, "the error of a rejected internet reply");
 }
 
-/* Sets each byte to the low byte of its offset, so that fields at different offsets differ. */
-static void number_bytes(uint8_t *bytes, size_t length) {
-    size_t index;
-    for (index = 0; index < length; index++)
-        bytes[index] = (uint8_t)index;
-}
-
 /* Writes the header of an attribute at the end, and moves the end after its value and padding.
  * Returns the offset of the value, whose bytes are unchanged. */
 static size_t begin(uint8_t *bytes, size_t *end, uint8_t kind, uint8_t length) {
-    const uint8_t header[4] = {(uint8_t)(4 + length), 0, kind, 0};
     const size_t value = *end + 4;
-    memcpy(bytes + *end, header, 4);
+    put_header(bytes + *end, 4u + length, kind);
     *end += (length + 7u) / 4 * 4;
     return value;
 }
 
-static void check_number(uint64_t found, const uint8_t *bytes, size_t size, const char *what) {
-    uint64_t number = 0;
-    while (size-- > 0)
-        number = number << 8 | bytes[size];
-    check(found == number, what);
-}
-
-/* The field has the little-endian number at these bytes. */
-#define FIELD(field, bytes) check_number(field, bytes, sizeof(field), #field)
 /* The number is present, and is the little-endian one of this size at these bytes. */
 #define TOLD(number, bytes, size) \
-    (check((number).is_set == 1, #number), check_number((number).value, bytes, size, #number))
+    check((number).is_set == 1 && (number).value == number_at(bytes, size), #number)
 /* The text is the one at these bytes. */
 #define TEXT(text, a_kind, at, a_length) \
     check((text).kind == (a_kind) && (text).bytes == (at) && (text).length == (a_length), #text)
@@ -640,7 +598,7 @@ static void reads_each_field_of_unix(void) {
     uint8_t bytes[128];
     struct sockdiag_unix_details it;
     size_t end = SOCKDIAG_UNIX_ATTRIBUTES, name, file, peer, queues, memory, shutdown;
-    memset(&it, 0xaa, sizeof it);
+    memset(&it, UNTOUCHED, sizeof it);
     number_bytes(bytes, sizeof bytes);
     name = begin(bytes, &end, SOCKDIAG_UNIX_DIAG_NAME, 4);
     bytes[name] = 0;
@@ -682,9 +640,9 @@ static void check_inet_header(const struct sockdiag_inet_header *it, const uint8
     FIELD(it->inode, bytes + 68);
 }
 
-/* By timer: whether a header has the retransmissions and the time. */
+/* By timer: the sizes of the retransmissions and of the time, 0 if a header lacks them. */
 static void reads_each_field_of_inet_headers(void) {
-    static const int retransmits[6] = {0, 1, 0, 0, 0, 0}, expires[6] = {0, 1, 1, 0, 1, 0};
+    static const size_t retransmits[6] = {0, 1, 0, 0, 0, 0}, expires[6] = {0, 4, 4, 0, 4, 0};
     uint8_t bytes[SOCKDIAG_INET_ATTRIBUTES];
     struct sockdiag_inet_header it;
     uint8_t timer;
@@ -693,10 +651,10 @@ static void reads_each_field_of_inet_headers(void) {
         bytes[0] = 10;
         bytes[1] = 11;
         bytes[2] = timer;
-        memset(&it, 0xaa, sizeof it);
+        memset(&it, UNTOUCHED, sizeof it);
         check(sockdiag_check_inet_reply(bytes, sizeof bytes, &it) == SOCKDIAG_OK, "a timer");
-        check_number(it.retransmits, bytes + 3, retransmits[timer], "it.retransmits");
-        check_number(it.expires, bytes + 52, expires[timer] ? 4 : 0, "it.expires");
+        check(it.retransmits == number_at(bytes + 3, retransmits[timer]), "it.retransmits");
+        check(it.expires == number_at(bytes + 52, expires[timer]), "it.expires");
         bytes[2] = timer < 5 ? timer : 0;
         check_inet_header(&it, bytes);
     }
@@ -706,7 +664,7 @@ static void reads_each_field_of_inet(void) {
     uint8_t bytes[160];
     struct sockdiag_inet_details it;
     size_t end = SOCKDIAG_INET_ATTRIBUTES, name, tos, tclass, shutdown, protocol, mark, class_id;
-    memset(&it, 0xaa, sizeof it);
+    memset(&it, UNTOUCHED, sizeof it);
     number_bytes(bytes, sizeof bytes);
     bytes[0] = 10;
     bytes[1] = 11;
@@ -777,8 +735,8 @@ static void reads_each_field_of_records(void) {
     struct sockdiag_tcp_info info;
     struct sockdiag_inet_memory it;
     size_t end = SOCKDIAG_INET_ATTRIBUTES, index, memory;
-    memset(&info, 0xaa, sizeof info);
-    memset(&it, 0xaa, sizeof it);
+    memset(&info, UNTOUCHED, sizeof info);
+    memset(&it, UNTOUCHED, sizeof it);
     number_bytes(bytes, sizeof bytes);
     index = begin(bytes, &end, SOCKDIAG_INET_DIAG_INFO, 232);
     memory = begin(bytes, &end, SOCKDIAG_INET_DIAG_SKMEMINFO, 36);
@@ -813,7 +771,7 @@ static void reads_each_field_of_netlink(void) {
     uint8_t bytes[128];
     struct sockdiag_netlink_details it;
     size_t end = SOCKDIAG_NETLINK_ATTRIBUTES, memory, groups, flags;
-    memset(&it, 0xaa, sizeof it);
+    memset(&it, UNTOUCHED, sizeof it);
     number_bytes(bytes, sizeof bytes);
     memory = begin(bytes, &end, 0, 36);
     groups = begin(bytes, &end, 1, 8);
@@ -848,7 +806,7 @@ static void reads_each_field_of_packet(void) {
     struct sockdiag_packet_details it;
     size_t end = SOCKDIAG_PACKET_ATTRIBUTES, info, addresses, receive, send, fanout, owner, memory;
     size_t filter;
-    memset(&it, 0xaa, sizeof it);
+    memset(&it, UNTOUCHED, sizeof it);
     number_bytes(bytes, sizeof bytes);
     info = begin(bytes, &end, 0, 24);
     addresses = begin(bytes, &end, 1, 44);
@@ -883,7 +841,7 @@ static void reads_each_field_of_packet(void) {
 static void reads_each_field_of_vsock(void) {
     uint8_t bytes[36];
     struct sockdiag_vsock_header it, before;
-    memset(&it, 0xaa, sizeof it);
+    memset(&it, UNTOUCHED, sizeof it);
     number_bytes(bytes, sizeof bytes);
     check(sockdiag_vsock_get_details(bytes, SOCKDIAG_VSOCK_ATTRIBUTES, &it) == SOCKDIAG_OK,
           "all fields of a vsock reply");
@@ -932,7 +890,7 @@ static void reads_each_field_of_xdp(void) {
     struct sockdiag_xdp_details it;
     size_t end = SOCKDIAG_XDP_ATTRIBUTES, info, owner, receive, send, umem, fill, completion;
     size_t memory, statistics;
-    memset(&it, 0xaa, sizeof it);
+    memset(&it, UNTOUCHED, sizeof it);
     number_bytes(bytes, sizeof bytes);
     info = begin(bytes, &end, 1, 8);
     owner = begin(bytes, &end, 2, 4);
@@ -1057,7 +1015,5 @@ int main(void) {
     has_each_record();
     follows_a_dump();
     has_numbers();
-    if (failures == 0)
-        puts("c_api: all tests pass");
-    return failures != 0;
+    return end_of_tests("c_api");
 }

@@ -5,57 +5,7 @@
  * what a call leaves unchanged with its contents before. The expected numbers are worked out by
  * hand from sock_diag(7) and the kernel's headers. tests/api/c_api.sh builds and runs this program.
  */
-#include "sockdiag.h"
-
-#include <stdio.h>
-#include <string.h>
-
-#define UNTOUCHED 0xaa
-
-static int failures;
-
-static void check(int holds, const char *what) {
-    if (!holds) {
-        fprintf(stderr, "c_lenient: failed: %s\n", what);
-        failures++;
-    }
-}
-
-/* Sets each byte to the low byte of its offset, so that fields at different offsets differ. */
-static void number_bytes(uint8_t *bytes, size_t length) {
-    size_t index;
-    for (index = 0; index < length; index++)
-        bytes[index] = (uint8_t)index;
-}
-
-static uint64_t number_at(const uint8_t *bytes, size_t size) {
-    uint64_t number = 0;
-    while (size-- > 0)
-        number = number << 8 | bytes[size];
-    return number;
-}
-
-/* The field has the little-endian number at these bytes. */
-#define FIELD(field, bytes) check((field) == number_at(bytes, sizeof(field)), #field)
-
-static int is_untouched(const void *found, size_t length) {
-    const uint8_t *bytes = (const uint8_t *)found;
-    size_t index;
-    for (index = 0; index < length && bytes[index] == UNTOUCHED; index++)
-        ;
-    return index == length;
-}
-
-/* Writes an attribute at an offset with zeros as padding, and returns the offset after it. The
- * bytes of its value are those at `value`. */
-static size_t put(uint8_t *bytes, size_t at, uint16_t kind, const void *value, size_t length) {
-    const uint8_t header[4] = {(uint8_t)(4 + length), (uint8_t)((4 + length) >> 8), (uint8_t)kind,
-                               (uint8_t)(kind >> 8)};
-    memset(bytes + at, 0, length + 7);
-    memcpy(bytes + at, header, 4);
-    memcpy(bytes + at + 4, value, length);
-    return at + (length + 7) / 4 * 4;
-}
+#include "check.h"
 
 /* The header of a reply about a UNIX socket in state 10 with the inode 78, and of one about an IPv4
  * socket with the inode 12345. */
@@ -65,10 +15,6 @@ static const uint8_t inet_header[72] = {
     0, 0, 0, 0, 0, 0, 0, 0, 0, 0, 0, 0, 0, 0, 0, 0, 0, 0, 0, 0, 0, 0, 0, 0, 0, 0, 0, 0, 0, 0, 0, 0,
     0, 0, 0, 0, 0x39, 0x30, 0, 0,
 };
-
-static int is(struct sockdiag_number number, uint32_t value) {
-    return number.is_set == 1 && number.value == value;
-}
 
 static int is_absent(struct sockdiag_number number) {
     return number.is_set == 0 && number.value == 0;
@@ -83,35 +29,110 @@ static int has_one(const struct sockdiag_rejections *it, uint32_t kind, uint32_t
     return it->first == code && it->framing == 0;
 }
 
+/* An error with these fields. `kind` is below 0 if there is none. */
+struct expected {
+    uint32_t code, record_name, family, message_type;
+    int kind;
+    size_t got, need, length, index;
+};
+
+/* Errors by the fields that they have, and no error. */
+#define NO_ERROR {SOCKDIAG_OK, 0, 0, 0, -1, 0, 0, 0, 0}
+#define ONLY(code) {code, 0, 0, 0, -1, 0, 0, 0, 0}
+#define INDEX(code, index) {code, 0, 0, 0, -1, 0, 0, 0, index}
+#define LENGTHS(code, got, length) {code, 0, 0, 0, -1, got, 0, length, 0}
+#define OTHER(code, family, message_type) {code, 0, family, message_type, -1, 0, 0, 0, 0}
+#define WRONG(kind, got, need) {SOCKDIAG_WRONG_LENGTH, 0, 0, 0, kind, got, need, 0, 0}
+#define SMALL(record, got, need) {SOCKDIAG_BUFFER_TOO_SMALL, record, 0, 0, -1, got, need, 0, 0}
+#define SMALL_OF(record, family, kind, got, need) \
+    {SOCKDIAG_BUFFER_TOO_SMALL, record, family, 0, kind, got, need, 0, 0}
+
+typedef uint32_t explain(const uint8_t *, size_t, struct sockdiag_error_details *);
+
+/* The call returns the code for these bytes, and stores the error with its fields, or nothing if
+ * there is no error. */
+static void check_error(explain *call, const uint8_t *bytes, size_t length,
+                        const struct expected *expected, const char *what) {
+    struct sockdiag_error_details it;
+    const uint32_t is_set = expected->kind >= 0;
+    memset(&it, UNTOUCHED, sizeof it);
+    check(call(bytes, length, &it) == expected->code, what);
+    if (expected->code == SOCKDIAG_OK) {
+        check(is_untouched(&it, sizeof it), what);
+        return;
+    }
+    check(it.code == expected->code && it.record_name == expected->record_name &&
+          it.family == expected->family && it.message_type == expected->message_type, what);
+    check(it.kind.is_set == is_set && it.kind.value == (is_set ? (uint32_t)expected->kind : 0),
+          what);
+    check(it.got == expected->got && it.need == expected->need &&
+          it.length == expected->length && it.index == expected->index, what);
+}
+
+#define EXPLAINS(call, bytes, length, ...)                                             \
+    do {                                                                               \
+        const struct expected expected = __VA_ARGS__;                                  \
+        check_error(call, bytes, length, &expected, #call ", " #length ": " #__VA_ARGS__); \
+    } while (0)
+
+/* A value of an attribute that is rejected, with its error. The value is `text`, or the bytes 0, 1,
+ * 2, .. if that is null. */
+struct rejected_value {
+    uint16_t kind;
+    size_t length;
+    const char *text;
+    struct expected error;
+};
+
+/* Writes such an attribute at an offset, and returns the offset after it. The reply, up to there,
+ * and the attribute by itself have its error. */
+static size_t put_rejected(uint8_t *bytes, size_t at, uint16_t flag,
+                           const struct rejected_value *row, explain *whole, explain *one) {
+    uint8_t numbers[240];
+    const void *value = row->text != NULL ? (const void *)row->text : numbers;
+    size_t end;
+    number_bytes(numbers, sizeof numbers);
+    end = put(bytes, at, row->kind | flag, value, row->length);
+    check_error(whole, bytes, end, &row->error, "the error of a reply with one attribute");
+    check_error(one, bytes + at, end - at, &row->error, "the error of an attribute");
+    return end;
+}
+
 /* Each kind of attribute of a UNIX socket that can be rejected, by itself, with its error; and
  * valid attributes after it. */
 static void rejects_each_unix_attribute(void) {
-    static const struct {
-        uint16_t kind;
-        size_t length;
-        uint32_t error;
-    } rows[7] = {
-        {0, 0, SOCKDIAG_NAME_EMPTY},        {1, 7, SOCKDIAG_BUFFER_TOO_SMALL},
-        {2, 5, SOCKDIAG_WRONG_LENGTH},      {3, 6, SOCKDIAG_NOT_MULTIPLE_OF_FOUR},
-        {4, 12, SOCKDIAG_WRONG_LENGTH},     {5, 35, SOCKDIAG_BUFFER_TOO_SMALL},
-        {6, 4, SOCKDIAG_WRONG_LENGTH},
+    static const struct rejected_value rows[] = {
+        {0, 0, "", ONLY(SOCKDIAG_NAME_EMPTY)},
+        {0, 2, "/a", ONLY(SOCKDIAG_NAME_WITHOUT_END)},
+        {0, 5, "/a\0b", INDEX(SOCKDIAG_NAME_INNER_ZERO, 2)},
+        {1, 0, NULL, SMALL(SOCKDIAG_RECORD_VFS, 0, 8)},
+        {1, 7, NULL, SMALL(SOCKDIAG_RECORD_VFS, 7, 8)},
+        {2, 5, NULL, WRONG(2, 5, 4)},
+        {3, 6, NULL, LENGTHS(SOCKDIAG_NOT_MULTIPLE_OF_FOUR, 6, 0)},
+        {3, 9, NULL, LENGTHS(SOCKDIAG_NOT_MULTIPLE_OF_FOUR, 9, 0)},
+        {4, 9, NULL, WRONG(4, 9, 8)},
+        {4, 12, NULL, WRONG(4, 12, 8)},
+        {5, 12, NULL, SMALL(SOCKDIAG_RECORD_UNIX_MEM_INFO, 12, 36)},
+        {5, 35, NULL, SMALL(SOCKDIAG_RECORD_UNIX_MEM_INFO, 35, 36)},
+        {6, 4, NULL, WRONG(6, 4, 1)},
     };
-    uint8_t bytes[256], value[40];
+    uint8_t bytes[256];
     size_t row;
-    number_bytes(value, sizeof value);
     memcpy(bytes, unix_header, 16);
-    for (row = 0; row < 7; row++) {
+    for (row = 0; row < sizeof rows / sizeof *rows; row++) {
         struct sockdiag_unix_details it, strict;
         struct sockdiag_rejections rejections;
-        size_t end = put(bytes, 16, rows[row].kind | 0x8000, value, rows[row].length);
+        const uint32_t code = rows[row].error.code;
+        size_t end = put_rejected(bytes, 16, 0x8000, &rows[row], sockdiag_unix_explain,
+                                  sockdiag_unix_explain_attribute);
         end = put(bytes, end, 0, "/a", 3);
         end = put(bytes, end, 2, "\3\0\0\0", 4);
         memset(&it, UNTOUCHED, sizeof it);
         memset(&rejections, UNTOUCHED, sizeof rejections);
-        check(sockdiag_unix_get_details(bytes, end, &strict) == rows[row].error, "a strict call");
+        check(sockdiag_unix_get_details(bytes, end, &strict) == code, "a strict call");
         check(sockdiag_unix_get_lenient_details(bytes, end, &it, &rejections) == SOCKDIAG_OK,
               "a reply with a rejected attribute");
-        check(has_one(&rejections, rows[row].kind, rows[row].error), "its error");
+        check(has_one(&rejections, rows[row].kind, code), "its error");
         check(it.header.kind == 1 && it.header.state == 10 && it.header.inode == 78, "its header");
         check(it.name.kind == SOCKDIAG_TEXT && it.name.length == 2 && it.name.bytes[1] == 'a' &&
               is(it.peer, 3), "its valid attributes");
@@ -121,34 +142,38 @@ static void rejects_each_unix_attribute(void) {
 }
 
 static void rejects_each_inet_attribute(void) {
-    static const struct {
-        uint16_t kind;
-        size_t length;
-        uint32_t error;
-    } rows[11] = {
-        {1, 15, SOCKDIAG_BUFFER_TOO_SMALL}, {2, 224, SOCKDIAG_BUFFER_TOO_SMALL},
-        {4, 240, SOCKDIAG_NOT_UTF8},        {5, 4, SOCKDIAG_WRONG_LENGTH},
-        {6, 0, SOCKDIAG_WRONG_LENGTH},      {7, 24, SOCKDIAG_BUFFER_TOO_SMALL},
-        {8, 2, SOCKDIAG_WRONG_LENGTH},      {10, 4, SOCKDIAG_WRONG_LENGTH},
-        {11, 2, SOCKDIAG_WRONG_LENGTH},     {15, 8, SOCKDIAG_WRONG_LENGTH},
-        {17, 3, SOCKDIAG_WRONG_LENGTH},
+    static const struct rejected_value rows[] = {
+        {1, 4, NULL, SMALL(SOCKDIAG_RECORD_LEGACY_MEM_INFO, 4, 16)},
+        {1, 15, NULL, SMALL(SOCKDIAG_RECORD_LEGACY_MEM_INFO, 15, 16)},
+        {2, 224, NULL, SMALL(SOCKDIAG_RECORD_TCP_INFO, 224, 232)},
+        {4, 1, "\377", ONLY(SOCKDIAG_NOT_UTF8)},
+        {4, 240, NULL, ONLY(SOCKDIAG_NOT_UTF8)},
+        {5, 4, NULL, WRONG(5, 4, 1)},
+        {6, 0, NULL, WRONG(6, 0, 1)},
+        {7, 24, NULL, SMALL(SOCKDIAG_RECORD_MEM_INFO, 24, 28)},
+        {8, 2, NULL, WRONG(8, 2, 1)},
+        {10, 4, NULL, WRONG(10, 4, 1)},
+        {11, 2, NULL, WRONG(11, 2, 1)},
+        {15, 8, NULL, WRONG(15, 8, 4)},
+        {17, 3, NULL, WRONG(17, 3, 4)},
     };
-    uint8_t bytes[512], value[240];
+    uint8_t bytes[512];
     size_t row;
-    number_bytes(value, sizeof value);
     memcpy(bytes, inet_header, 72);
-    for (row = 0; row < 11; row++) {
+    for (row = 0; row < sizeof rows / sizeof *rows; row++) {
         struct sockdiag_inet_details it, strict;
         struct sockdiag_rejections rejections;
-        size_t end = put(bytes, 72, rows[row].kind, value, rows[row].length);
+        const uint32_t code = rows[row].error.code;
+        size_t end = put_rejected(bytes, 72, 0, &rows[row], sockdiag_inet_explain,
+                                  sockdiag_inet_explain_attribute);
         end = put(bytes, end, 4, "cubic", 6);
         end = put(bytes, end, 15, "\6\0\0\0", 4);
         memset(&it, UNTOUCHED, sizeof it);
         memset(&rejections, UNTOUCHED, sizeof rejections);
-        check(sockdiag_inet_get_details(bytes, end, &strict) == rows[row].error, "a strict call");
+        check(sockdiag_inet_get_details(bytes, end, &strict) == code, "a strict call");
         check(sockdiag_inet_get_lenient_details(bytes, end, &it, &rejections) == SOCKDIAG_OK,
               "an internet reply with a rejected attribute");
-        check(has_one(&rejections, rows[row].kind, rows[row].error), "its error");
+        check(has_one(&rejections, rows[row].kind, code), "its error");
         check(it.header.family == 2 && it.header.source_port == 80 && it.header.inode == 12345,
               "its header");
         check(it.congestion.length == 5 && memcmp(it.congestion.bytes, "cubic", 5) == 0 &&
@@ -391,126 +416,46 @@ static void reads_addresses(void) {
     check(sockdiag_next_address(NULL, 0, &cursor, &it) == SOCKDIAG_END, "no addresses");
 }
 
-/* An error with these fields. `kind` is below 0 if there is none. */
-struct expected {
-    uint32_t code, record_name, family, message_type;
-    int kind;
-    size_t got, need, length, index;
-};
-
-/* The call returned the code, and the error has these fields. */
-static void check_error(uint32_t answer, const struct sockdiag_error_details *it,
-                        const struct expected *expected, const char *what) {
-    const uint32_t is_set = expected->kind >= 0;
-    check(answer == expected->code && it->code == expected->code, what);
-    check(it->record_name == expected->record_name && it->family == expected->family &&
-          it->message_type == expected->message_type, what);
-    check(it->kind.is_set == is_set && it->kind.value == (is_set ? (uint32_t)expected->kind : 0),
-          what);
-    check(it->got == expected->got && it->need == expected->need &&
-          it->length == expected->length && it->index == expected->index, what);
-}
-
-/* Calls a function that explains the bytes, which are rejected with this error. */
-#define EXPLAINS(call, bytes, length, ...)                          \
-    do {                                                            \
-        struct sockdiag_error_details it;                           \
-        const struct expected expected = {__VA_ARGS__};             \
-        uint32_t answer;                                            \
-        memset(&it, UNTOUCHED, sizeof it);                          \
-        answer = call(bytes, length, &it);                          \
-        check_error(answer, &it, &expected, #call ": " #__VA_ARGS__); \
-    } while (0)
-
-/* Calls a function that explains the bytes, which are accepted. */
-#define ACCEPTS(call, bytes, length)                                             \
-    do {                                                                         \
-        struct sockdiag_error_details it;                                        \
-        memset(&it, UNTOUCHED, sizeof it);                                       \
-        check(call(bytes, length, &it) == SOCKDIAG_OK, #call " of accepted bytes"); \
-        check(is_untouched(&it, sizeof it), #call " is written");                \
-    } while (0)
-
-static void explains_unix_replies(void) {
+static void explains_headers_and_framing(void) {
     uint8_t bytes[128];
     memcpy(bytes, unix_header, 16);
-    ACCEPTS(sockdiag_unix_explain, bytes, 16);
-    EXPLAINS(sockdiag_unix_explain, bytes, 15, SOCKDIAG_BUFFER_TOO_SMALL,
-             SOCKDIAG_RECORD_UNIX_RESPONSE_HEADER, 0, 0, -1, 15, 16, 0, 0);
-    EXPLAINS(sockdiag_unix_explain, NULL, 0, SOCKDIAG_BUFFER_TOO_SMALL,
-             SOCKDIAG_RECORD_UNIX_RESPONSE_HEADER, 0, 0, -1, 0, 16, 0, 0);
-    EXPLAINS(sockdiag_unix_explain, bytes, put(bytes, 16, 1, "", 0), SOCKDIAG_BUFFER_TOO_SMALL,
-             SOCKDIAG_RECORD_VFS, 0, 0, -1, 0, 8, 0, 0);
-    EXPLAINS(sockdiag_unix_explain, bytes, put(bytes, 16, 5, bytes, 12),
-             SOCKDIAG_BUFFER_TOO_SMALL, SOCKDIAG_RECORD_UNIX_MEM_INFO, 0, 0, -1, 12, 36, 0, 0);
-    EXPLAINS(sockdiag_unix_explain, bytes, put(bytes, 16, 4, bytes, 9), SOCKDIAG_WRONG_LENGTH, 0,
-             0, 0, 4, 9, 8, 0, 0);
-    EXPLAINS(sockdiag_unix_explain, bytes, put(bytes, 16, 3, bytes, 9),
-             SOCKDIAG_NOT_MULTIPLE_OF_FOUR, 0, 0, 0, -1, 9, 0, 0, 0);
-    EXPLAINS(sockdiag_unix_explain, bytes, put(bytes, 16, 0, "/a\0b", 5),
-             SOCKDIAG_NAME_INNER_ZERO, 0, 0, 0, -1, 0, 0, 0, 2);
-    EXPLAINS(sockdiag_unix_explain, bytes, put(bytes, 16, 0, "", 0), SOCKDIAG_NAME_EMPTY, 0, 0, 0,
-             -1, 0, 0, 0, 0);
-    EXPLAINS(sockdiag_unix_explain, bytes, put(bytes, 16, 0, "/a", 2), SOCKDIAG_NAME_WITHOUT_END,
-             0, 0, 0, -1, 0, 0, 0, 0);
+    EXPLAINS(sockdiag_unix_explain, bytes, 16, NO_ERROR);
+    EXPLAINS(sockdiag_unix_explain, bytes, 15, SMALL(SOCKDIAG_RECORD_UNIX_RESPONSE_HEADER, 15, 16));
+    EXPLAINS(sockdiag_unix_explain, NULL, 0, SMALL(SOCKDIAG_RECORD_UNIX_RESPONSE_HEADER, 0, 16));
     memcpy(bytes + 16, "\3\0\0\0\11\1\0\0\0", 9);
-    EXPLAINS(sockdiag_unix_explain, bytes, 19, SOCKDIAG_ATTRIBUTE_HEADER_CUT, 0, 0, 0, -1, 3, 0, 0,
-             0);
-    EXPLAINS(sockdiag_unix_explain, bytes, 21, SOCKDIAG_ATTRIBUTE_LENGTH_UNDER_4, 0, 0, 0, -1, 0,
-             0, 3, 0);
+    EXPLAINS(sockdiag_unix_explain, bytes, 19, LENGTHS(SOCKDIAG_ATTRIBUTE_HEADER_CUT, 3, 0));
+    EXPLAINS(sockdiag_unix_explain, bytes, 21, LENGTHS(SOCKDIAG_ATTRIBUTE_LENGTH_UNDER_4, 0, 3));
     memcpy(bytes + 16, "\11\1\0\0", 4);
-    EXPLAINS(sockdiag_unix_explain, bytes, 25, SOCKDIAG_ATTRIBUTE_LENGTH_PAST, 0, 0, 0, -1, 9, 0,
-             265, 0);
-}
-
-static void explains_inet_replies(void) {
-    uint8_t bytes[400], value[232];
-    number_bytes(value, sizeof value);
+    EXPLAINS(sockdiag_unix_explain, bytes, 25, LENGTHS(SOCKDIAG_ATTRIBUTE_LENGTH_PAST, 9, 265));
     memcpy(bytes, inet_header, 72);
-    ACCEPTS(sockdiag_inet_explain, bytes, 72);
-    EXPLAINS(sockdiag_inet_explain, bytes, 71, SOCKDIAG_BUFFER_TOO_SMALL,
-             SOCKDIAG_RECORD_INET_RESPONSE_HEADER, 0, 0, -1, 71, 72, 0, 0);
-    EXPLAINS(sockdiag_inet_explain, bytes, put(bytes, 72, 1, value, 4), SOCKDIAG_BUFFER_TOO_SMALL,
-             SOCKDIAG_RECORD_LEGACY_MEM_INFO, 0, 0, -1, 4, 16, 0, 0);
-    EXPLAINS(sockdiag_inet_explain, bytes, put(bytes, 72, 2, value, 224),
-             SOCKDIAG_BUFFER_TOO_SMALL, SOCKDIAG_RECORD_TCP_INFO, 0, 0, -1, 224, 232, 0, 0);
-    EXPLAINS(sockdiag_inet_explain, bytes, put(bytes, 72, 7, value, 24), SOCKDIAG_BUFFER_TOO_SMALL,
-             SOCKDIAG_RECORD_MEM_INFO, 0, 0, -1, 24, 28, 0, 0);
-    EXPLAINS(sockdiag_inet_explain, bytes, put(bytes, 72, 4, "\377", 1), SOCKDIAG_NOT_UTF8, 0, 0,
-             0, -1, 0, 0, 0, 0);
-    EXPLAINS(sockdiag_inet_explain, bytes, put(bytes, 72, 17, value, 3), SOCKDIAG_WRONG_LENGTH, 0,
-             0, 0, 17, 3, 4, 0, 0);
+    EXPLAINS(sockdiag_inet_explain, bytes, 72, NO_ERROR);
+    EXPLAINS(sockdiag_inet_explain, bytes, 71, SMALL(SOCKDIAG_RECORD_INET_RESPONSE_HEADER, 71, 72));
     bytes[0] = 1;
-    EXPLAINS(sockdiag_inet_explain, bytes, 72, SOCKDIAG_UNSUPPORTED_FAMILY, 0, 1, 0, -1, 0, 0, 0,
-             0);
+    EXPLAINS(sockdiag_inet_explain, bytes, 72, OTHER(SOCKDIAG_UNSUPPORTED_FAMILY, 1, 0));
 }
 
 static void explains_other_replies(void) {
-    uint8_t bytes[128], value[48];
-    number_bytes(value, sizeof value);
+    const uint32_t header = SOCKDIAG_RECORD_FAMILY_RESPONSE_HEADER;
+    const uint32_t value = SOCKDIAG_RECORD_FAMILY_ATTRIBUTE;
+    uint8_t bytes[128], numbers[48];
+    number_bytes(numbers, sizeof numbers);
     memset(bytes, 0, sizeof bytes);
-    ACCEPTS(sockdiag_netlink_explain, bytes, SOCKDIAG_NETLINK_ATTRIBUTES);
-    ACCEPTS(sockdiag_packet_explain, bytes, SOCKDIAG_PACKET_ATTRIBUTES);
-    ACCEPTS(sockdiag_vsock_explain, bytes, SOCKDIAG_VSOCK_ATTRIBUTES);
-    ACCEPTS(sockdiag_xdp_explain, bytes, SOCKDIAG_XDP_ATTRIBUTES);
-    EXPLAINS(sockdiag_netlink_explain, bytes, 27, SOCKDIAG_BUFFER_TOO_SMALL,
-             SOCKDIAG_RECORD_FAMILY_RESPONSE_HEADER, 16, 0, -1, 27, 28, 0, 0);
-    EXPLAINS(sockdiag_packet_explain, bytes, 1, SOCKDIAG_BUFFER_TOO_SMALL,
-             SOCKDIAG_RECORD_FAMILY_RESPONSE_HEADER, 17, 0, -1, 1, 16, 0, 0);
-    EXPLAINS(sockdiag_vsock_explain, bytes, 31, SOCKDIAG_BUFFER_TOO_SMALL,
-             SOCKDIAG_RECORD_FAMILY_RESPONSE_HEADER, 40, 0, -1, 31, 32, 0, 0);
-    EXPLAINS(sockdiag_xdp_explain, bytes, 15, SOCKDIAG_BUFFER_TOO_SMALL,
-             SOCKDIAG_RECORD_FAMILY_RESPONSE_HEADER, 44, 0, -1, 15, 16, 0, 0);
+    EXPLAINS(sockdiag_netlink_explain, bytes, SOCKDIAG_NETLINK_ATTRIBUTES, NO_ERROR);
+    EXPLAINS(sockdiag_packet_explain, bytes, SOCKDIAG_PACKET_ATTRIBUTES, NO_ERROR);
+    EXPLAINS(sockdiag_vsock_explain, bytes, SOCKDIAG_VSOCK_ATTRIBUTES, NO_ERROR);
+    EXPLAINS(sockdiag_xdp_explain, bytes, SOCKDIAG_XDP_ATTRIBUTES, NO_ERROR);
+    EXPLAINS(sockdiag_netlink_explain, bytes, 27, SMALL_OF(header, 16, -1, 27, 28));
+    EXPLAINS(sockdiag_packet_explain, bytes, 1, SMALL_OF(header, 17, -1, 1, 16));
+    EXPLAINS(sockdiag_vsock_explain, bytes, 31, SMALL_OF(header, 40, -1, 31, 32));
+    EXPLAINS(sockdiag_xdp_explain, bytes, 15, SMALL_OF(header, 44, -1, 15, 16));
     /* A number of another family has no kind. */
-    EXPLAINS(sockdiag_netlink_explain, bytes, put(bytes, 28, 4, value, 3), SOCKDIAG_WRONG_LENGTH,
-             0, 0, 0, -1, 3, 4, 0, 0);
-    EXPLAINS(sockdiag_packet_explain, bytes, put(bytes, 16, 3, value, 27),
-             SOCKDIAG_BUFFER_TOO_SMALL, SOCKDIAG_RECORD_FAMILY_ATTRIBUTE, 17, 0, 3, 27, 28, 0, 0);
-    EXPLAINS(sockdiag_xdp_explain, bytes, put(bytes, 16, 9, value, 47), SOCKDIAG_BUFFER_TOO_SMALL,
-             SOCKDIAG_RECORD_FAMILY_ATTRIBUTE, 44, 0, 9, 47, 48, 0, 0);
+    EXPLAINS(sockdiag_netlink_explain, bytes, put(bytes, 28, 4, numbers, 3), WRONG(-1, 3, 4));
+    EXPLAINS(sockdiag_packet_explain, bytes, put(bytes, 16, 3, numbers, 27),
+             SMALL_OF(value, 17, 3, 27, 28));
+    EXPLAINS(sockdiag_xdp_explain, bytes, put(bytes, 16, 9, numbers, 47),
+             SMALL_OF(value, 44, 9, 47, 48));
     memset(bytes + 32, 0, 4);
-    EXPLAINS(sockdiag_vsock_explain, bytes, 36, SOCKDIAG_ATTRIBUTE_LENGTH_UNDER_4, 0, 0, 0, -1, 0,
-             0, 0, 0);
+    EXPLAINS(sockdiag_vsock_explain, bytes, 36, LENGTHS(SOCKDIAG_ATTRIBUTE_LENGTH_UNDER_4, 0, 0));
 }
 
 static uint32_t explain_reply(const uint8_t *bytes, size_t length,
@@ -525,49 +470,43 @@ static uint32_t explain_destroy(const uint8_t *bytes, size_t length,
 
 static void explains_messages(void) {
     static const uint8_t other[16] = {17};
-    ACCEPTS(explain_reply, unix_header, 16);
-    ACCEPTS(explain_reply, inet_header, 72);
-    EXPLAINS(explain_reply, unix_header, 1, SOCKDIAG_MESSAGE_TOO_SHORT, 0, 0, 0, -1, 1, 0, 0, 0);
-    EXPLAINS(explain_reply, other, 16, SOCKDIAG_UNKNOWN_FAMILY, 0, 17, 0, -1, 0, 0, 0, 0);
-    EXPLAINS(explain_destroy, unix_header, 16, SOCKDIAG_UNKNOWN_MESSAGE_TYPE, 0, 0,
-             SOCKDIAG_SOCK_DESTROY, -1, 0, 0, 0, 0);
-    EXPLAINS(explain_reply, unix_header, 12, SOCKDIAG_BUFFER_TOO_SMALL,
-             SOCKDIAG_RECORD_UNIX_RESPONSE_HEADER, 0, 0, -1, 12, 16, 0, 0);
-    EXPLAINS(explain_reply, inet_header, 12, SOCKDIAG_BUFFER_TOO_SMALL,
-             SOCKDIAG_RECORD_INET_RESPONSE_HEADER, 0, 0, -1, 12, 72, 0, 0);
+    EXPLAINS(explain_reply, unix_header, 16, NO_ERROR);
+    EXPLAINS(explain_reply, inet_header, 72, NO_ERROR);
+    EXPLAINS(explain_reply, unix_header, 1, LENGTHS(SOCKDIAG_MESSAGE_TOO_SHORT, 1, 0));
+    EXPLAINS(explain_reply, other, 16, OTHER(SOCKDIAG_UNKNOWN_FAMILY, 17, 0));
+    EXPLAINS(explain_destroy, unix_header, 16,
+             OTHER(SOCKDIAG_UNKNOWN_MESSAGE_TYPE, 0, SOCKDIAG_SOCK_DESTROY));
+    EXPLAINS(explain_reply, unix_header, 12, SMALL(SOCKDIAG_RECORD_UNIX_RESPONSE_HEADER, 12, 16));
+    EXPLAINS(explain_reply, inet_header, 12, SMALL(SOCKDIAG_RECORD_INET_RESPONSE_HEADER, 12, 72));
 }
 
 static void explains_framing(void) {
     uint8_t bytes[20] = {20, 0, 0, 0, 3};
-    ACCEPTS(sockdiag_framing_explain, bytes, 20);
-    EXPLAINS(sockdiag_framing_explain, bytes, 15, SOCKDIAG_ENVELOPE_CUT, 0, 0, 0, -1, 15, 0, 0, 0);
-    EXPLAINS(sockdiag_framing_explain, bytes, 19, SOCKDIAG_ENVELOPE_LENGTH_PAST, 0, 0, 0, -1, 19,
-             0, 20, 0);
+    EXPLAINS(sockdiag_framing_explain, bytes, 20, NO_ERROR);
+    EXPLAINS(sockdiag_framing_explain, bytes, 15, LENGTHS(SOCKDIAG_ENVELOPE_CUT, 15, 0));
+    EXPLAINS(sockdiag_framing_explain, bytes, 19, LENGTHS(SOCKDIAG_ENVELOPE_LENGTH_PAST, 19, 20));
     bytes[0] = 15;
-    EXPLAINS(sockdiag_framing_explain, bytes, 20, SOCKDIAG_ENVELOPE_LENGTH_UNDER_16, 0, 0, 0, -1,
-             0, 0, 15, 0);
+    EXPLAINS(sockdiag_framing_explain, bytes, 20,
+             LENGTHS(SOCKDIAG_ENVELOPE_LENGTH_UNDER_16, 0, 15));
     memset(bytes, 0xff, 4);
-    EXPLAINS(sockdiag_framing_explain, bytes, 20, SOCKDIAG_ENVELOPE_LENGTH_PAST, 0, 0, 0, -1, 20,
-             0, UINT32_MAX, 0);
+    EXPLAINS(sockdiag_framing_explain, bytes, 20,
+             LENGTHS(SOCKDIAG_ENVELOPE_LENGTH_PAST, 20, UINT32_MAX));
 }
 
 /* The kind 3 is a list of inodes in one family, and not parsed in the other. */
 static void explains_attributes(void) {
     static const uint8_t inodes[12] = {9, 0, 3, 0, 1}, mark[16] = {9, 0, 15, 0, 1};
-    ACCEPTS(sockdiag_inet_explain_attribute, inodes, 12);
-    EXPLAINS(sockdiag_unix_explain_attribute, inodes, 12, SOCKDIAG_NOT_MULTIPLE_OF_FOUR, 0, 0, 0,
-             -1, 5, 0, 0, 0);
-    ACCEPTS(sockdiag_unix_explain_attribute, mark, 16);
-    EXPLAINS(sockdiag_inet_explain_attribute, mark, 16, SOCKDIAG_WRONG_LENGTH, 0, 0, 0, 15, 5, 4,
-             0, 0);
-    ACCEPTS(sockdiag_unix_explain_attribute, NULL, 0);
-    ACCEPTS(sockdiag_inet_explain_attribute, NULL, 0);
-    EXPLAINS(sockdiag_unix_explain_attribute, mark, 8, SOCKDIAG_ATTRIBUTE_LENGTH_PAST, 0, 0, 0, -1,
-             8, 0, 9, 0);
-    EXPLAINS(sockdiag_inet_explain_attribute, mark, 3, SOCKDIAG_ATTRIBUTE_HEADER_CUT, 0, 0, 0, -1,
-             3, 0, 0, 0);
-    EXPLAINS(sockdiag_inet_explain_attribute, mark + 5, 8, SOCKDIAG_ATTRIBUTE_LENGTH_UNDER_4, 0, 0,
-             0, -1, 0, 0, 0, 0);
+    explain *const of_unix = sockdiag_unix_explain_attribute;
+    explain *const of_inet = sockdiag_inet_explain_attribute;
+    EXPLAINS(of_inet, inodes, 12, NO_ERROR);
+    EXPLAINS(of_unix, inodes, 12, LENGTHS(SOCKDIAG_NOT_MULTIPLE_OF_FOUR, 5, 0));
+    EXPLAINS(of_unix, mark, 16, NO_ERROR);
+    EXPLAINS(of_inet, mark, 16, WRONG(15, 5, 4));
+    EXPLAINS(of_unix, NULL, 0, NO_ERROR);
+    EXPLAINS(of_inet, NULL, 0, NO_ERROR);
+    EXPLAINS(of_unix, mark, 8, LENGTHS(SOCKDIAG_ATTRIBUTE_LENGTH_PAST, 8, 9));
+    EXPLAINS(of_inet, mark, 3, LENGTHS(SOCKDIAG_ATTRIBUTE_HEADER_CUT, 3, 0));
+    EXPLAINS(of_inet, mark + 5, 8, LENGTHS(SOCKDIAG_ATTRIBUTE_LENGTH_UNDER_4, 0, 0));
 }
 
 /* Bits of the options, as struct inet_diag_sockopt of linux/inet_diag.h has them. */
@@ -596,14 +535,11 @@ int main(void) {
     reads_pending_connections();
     reads_md5_signatures();
     reads_addresses();
-    explains_unix_replies();
-    explains_inet_replies();
+    explains_headers_and_framing();
     explains_other_replies();
     explains_messages();
     explains_framing();
     explains_attributes();
     has_numbers();
-    if (failures == 0)
-        puts("c_lenient: all tests pass");
-    return failures != 0;
+    return end_of_tests("c_lenient");
 }

@@ -7,10 +7,8 @@
  * program; the status is 1 if a call takes more.
  */
 #define _POSIX_C_SOURCE 200112L /* For clock_gettime. */
-#include "sockdiag.h"
+#include "check.h"
 
-#include <stdio.h>
-#include <string.h>
 #include <time.h>
 
 #define SHORT ((size_t)8 << 10)
@@ -27,46 +25,42 @@ static volatile uint64_t sink;
 
 typedef void fill(uint8_t *bytes, size_t length);
 
-static void put_header(uint8_t *bytes, size_t at, size_t length, uint8_t kind) {
-    bytes[at] = (uint8_t)length;
-    bytes[at + 1] = (uint8_t)(length >> 8);
-    bytes[at + 2] = kind;
-    bytes[at + 3] = 0;
-}
-
-/* Fills the bytes with attributes of this length, a multiple of 4, from an offset. */
-static void put_attributes(uint8_t *bytes, size_t at, size_t end, size_t length, uint8_t kind) {
+/* Fills the bytes from an offset with attributes of this length, a multiple of 4. */
+static void put_many(uint8_t *bytes, size_t at, size_t end, size_t length, uint16_t kind) {
     memset(bytes, 0, end);
     for (; at + length <= end; at += length)
-        put_header(bytes, at, length, kind);
+        put_header(bytes + at, length, kind);
 }
 
 /* Puts one attribute with as many bytes as its length field permits, each of them `byte`. */
-static void put_one(uint8_t *bytes, size_t at, size_t end, uint8_t kind, int byte) {
+static void put_one(uint8_t *bytes, size_t at, size_t end, int byte, uint16_t kind) {
     memset(bytes, 0, at);
     memset(bytes + at, byte, end - at);
-    put_header(bytes, at, end - at, kind);
+    put_header(bytes + at, end - at, kind);
 }
 
-static void unix_empty(uint8_t *bytes, size_t length) {
-    put_attributes(bytes, 16, length, 4, 99);
-}
+/* A reply of a family with attributes from an offset on, by put_many or put_one. */
+#define REPLY(name, family, at, put, argument, kind)         \
+    static void name(uint8_t *bytes, size_t length) {         \
+        put(bytes, at, length, argument, kind);              \
+        bytes[0] = family;                                   \
+    }
 
-static void unix_peers(uint8_t *bytes, size_t length) {
-    put_attributes(bytes, 16, length, 8, SOCKDIAG_UNIX_DIAG_PEER);
-}
-
-static void unix_rejected(uint8_t *bytes, size_t length) {
-    put_attributes(bytes, 16, length, 4, SOCKDIAG_UNIX_DIAG_NAME);
-}
+REPLY(unix_empty, 1, SOCKDIAG_UNIX_ATTRIBUTES, put_many, 4, 99)
+REPLY(unix_peers, 1, SOCKDIAG_UNIX_ATTRIBUTES, put_many, 8, SOCKDIAG_UNIX_DIAG_PEER)
+REPLY(unix_rejected, 1, SOCKDIAG_UNIX_ATTRIBUTES, put_many, 4, SOCKDIAG_UNIX_DIAG_NAME)
+REPLY(unix_text, 1, SOCKDIAG_UNIX_ATTRIBUTES, put_one, 'a', SOCKDIAG_UNIX_DIAG_NAME)
+REPLY(unix_pending, 1, SOCKDIAG_UNIX_ATTRIBUTES, put_one, 1, SOCKDIAG_UNIX_DIAG_ICONS)
+REPLY(inet_empty, 2, SOCKDIAG_INET_ATTRIBUTES, put_many, 4, 99)
+REPLY(inet_marks, 2, SOCKDIAG_INET_ATTRIBUTES, put_many, 8, SOCKDIAG_INET_DIAG_MARK)
+REPLY(inet_rejected, 2, SOCKDIAG_INET_ATTRIBUTES, put_many, 4, SOCKDIAG_INET_DIAG_INFO)
+REPLY(inet_text, 2, SOCKDIAG_INET_ATTRIBUTES, put_one, 'a', SOCKDIAG_INET_DIAG_CONG)
+REPLY(netlink_empty, 16, SOCKDIAG_NETLINK_ATTRIBUTES, put_many, 4, 99)
+REPLY(vsock_empty, 40, SOCKDIAG_VSOCK_ATTRIBUTES, put_many, 4, 99)
 
 static void unix_path(uint8_t *bytes, size_t length) {
-    put_one(bytes, 16, length, SOCKDIAG_UNIX_DIAG_NAME, 'a');
+    unix_text(bytes, length);
     bytes[length - 1] = 0;
-}
-
-static void unix_pending(uint8_t *bytes, size_t length) {
-    put_one(bytes, 16, length, SOCKDIAG_UNIX_DIAG_ICONS, 1);
 }
 
 /* Half of the bytes are small attributes, and the other half is a list of connections. */
@@ -74,57 +68,24 @@ static void unix_pending_late(uint8_t *bytes, size_t length) {
     const size_t half = length / 8 * 4;
     unix_empty(bytes, half);
     memset(bytes + half, 1, length - half);
-    put_header(bytes, half, length - half, SOCKDIAG_UNIX_DIAG_ICONS);
-}
-
-static void inet_of(uint8_t *bytes) {
-    bytes[0] = 2;
-}
-
-static void inet_empty(uint8_t *bytes, size_t length) {
-    put_attributes(bytes, 72, length, 4, 99);
-    inet_of(bytes);
-}
-
-static void inet_marks(uint8_t *bytes, size_t length) {
-    put_attributes(bytes, 72, length, 8, SOCKDIAG_INET_DIAG_MARK);
-    inet_of(bytes);
-}
-
-static void inet_rejected(uint8_t *bytes, size_t length) {
-    put_attributes(bytes, 72, length, 4, SOCKDIAG_INET_DIAG_INFO);
-    inet_of(bytes);
-}
-
-static void inet_text(uint8_t *bytes, size_t length) {
-    put_one(bytes, 72, length, SOCKDIAG_INET_DIAG_CONG, 'a');
-    inet_of(bytes);
-}
-
-static void netlink_empty(uint8_t *bytes, size_t length) {
-    put_attributes(bytes, SOCKDIAG_NETLINK_ATTRIBUTES, length, 4, 99);
-}
-
-static void vsock_empty(uint8_t *bytes, size_t length) {
-    put_attributes(bytes, SOCKDIAG_VSOCK_ATTRIBUTES, length, 4, 99);
+    put_header(bytes + half, length - half, SOCKDIAG_UNIX_DIAG_ICONS);
 }
 
 /* A framing error after small attributes: the length field of the last one is under 4. */
 static void unix_cut(uint8_t *bytes, size_t length) {
     unix_empty(bytes, length);
-    put_header(bytes, length - 4, 3, 0);
+    put_header(bytes + length - 4, 3, 0);
 }
 
 static void many_messages(uint8_t *bytes, size_t length) {
     size_t at;
     memset(bytes, 0, length);
     for (at = 0; at + 16 <= length; at += 16)
-        put_header(bytes, at, 16, 0), bytes[at + 2] = 0, bytes[at + 4] = SOCKDIAG_NLMSG_NOOP;
+        bytes[at] = 16, bytes[at + 4] = SOCKDIAG_NLMSG_NOOP;
 }
 
 static void one_message(uint8_t *bytes, size_t length) {
     unix_empty(bytes + 16, length - 16);
-    bytes[16] = 1;
     memset(bytes, 0, 16);
     bytes[1] = (uint8_t)(length >> 8);
     bytes[2] = (uint8_t)(length >> 16);
@@ -132,7 +93,7 @@ static void one_message(uint8_t *bytes, size_t length) {
 }
 
 static void attributes(uint8_t *bytes, size_t length) {
-    put_attributes(bytes, 0, length, 4, 99);
+    put_many(bytes, 0, length, 4, 99);
 }
 
 static void value(uint8_t *bytes, size_t length) {
@@ -142,74 +103,6 @@ static void value(uint8_t *bytes, size_t length) {
 /* ---- calls */
 
 typedef void run(const uint8_t *bytes, size_t length);
-
-/* A call with one struct, which is not read. */
-#define RUN(name, type, call)                              \
-    static void name(const uint8_t *bytes, size_t length) { \
-        type it;                                           \
-        sink += call(bytes, length, &it);                  \
-    }
-
-/* Lenient details. */
-#define LENIENT(name, type, call)                          \
-    static void name(const uint8_t *bytes, size_t length) { \
-        type it;                                           \
-        struct sockdiag_rejections rejections;             \
-        sink += call(bytes, length, &it, &rejections);     \
-    }
-
-/* An iteration over all items. */
-#define WALK(name, type, call)                                           \
-    static void name(const uint8_t *bytes, size_t length) {               \
-        struct sockdiag_cursor cursor = {0};                             \
-        type it;                                                         \
-        while (call(bytes, length, &cursor, &it) == SOCKDIAG_ITEM)       \
-            sink += cursor.offset;                                       \
-    }
-
-#define REWRITE(name, call)                                              \
-    static void name(const uint8_t *bytes, size_t length) {               \
-        struct sockdiag_outcome outcome;                                 \
-        sink += call(bytes, length, output, sizeof output, &outcome);    \
-    }
-
-RUN(check_unix, struct sockdiag_unix_header, sockdiag_check_unix_reply)
-RUN(check_inet, struct sockdiag_inet_header, sockdiag_check_inet_reply)
-RUN(unix_details, struct sockdiag_unix_details, sockdiag_unix_get_details)
-RUN(inet_details, struct sockdiag_inet_details, sockdiag_inet_get_details)
-RUN(netlink_details, struct sockdiag_netlink_details, sockdiag_netlink_get_details)
-RUN(packet_details, struct sockdiag_packet_details, sockdiag_packet_get_details)
-RUN(vsock_details, struct sockdiag_vsock_header, sockdiag_vsock_get_details)
-RUN(xdp_details, struct sockdiag_xdp_details, sockdiag_xdp_get_details)
-LENIENT(unix_lenient, struct sockdiag_unix_details, sockdiag_unix_get_lenient_details)
-LENIENT(inet_lenient, struct sockdiag_inet_details, sockdiag_inet_get_lenient_details)
-RUN(tcp_info, struct sockdiag_tcp_info, sockdiag_inet_get_tcp_info)
-RUN(long_tcp_info, struct sockdiag_long_tcp_info, sockdiag_inet_get_long_tcp_info)
-RUN(memory, struct sockdiag_inet_memory, sockdiag_inet_get_memory)
-RUN(error_number, int32_t, sockdiag_get_error_number)
-RUN(uid, uint32_t, sockdiag_get_uid)
-RUN(cgroup_id, uint64_t, sockdiag_get_cgroup_id)
-RUN(options, struct sockdiag_socket_options, sockdiag_get_socket_options)
-RUN(vegas, struct sockdiag_vegas_info, sockdiag_get_vegas_info)
-RUN(dctcp, struct sockdiag_dctcp_info, sockdiag_get_dctcp_info)
-RUN(bbr, struct sockdiag_bbr_info, sockdiag_get_bbr_info)
-RUN(explain_unix, struct sockdiag_error_details, sockdiag_unix_explain)
-RUN(explain_inet, struct sockdiag_error_details, sockdiag_inet_explain)
-RUN(explain_netlink, struct sockdiag_error_details, sockdiag_netlink_explain)
-RUN(explain_packet, struct sockdiag_error_details, sockdiag_packet_explain)
-RUN(explain_vsock, struct sockdiag_error_details, sockdiag_vsock_explain)
-RUN(explain_xdp, struct sockdiag_error_details, sockdiag_xdp_explain)
-RUN(explain_framing, struct sockdiag_error_details, sockdiag_framing_explain)
-RUN(explain_unix_one, struct sockdiag_error_details, sockdiag_unix_explain_attribute)
-RUN(explain_inet_one, struct sockdiag_error_details, sockdiag_inet_explain_attribute)
-WALK(walk_attributes, struct sockdiag_attribute, sockdiag_next_attribute)
-WALK(walk_messages, struct sockdiag_message, sockdiag_next_message)
-WALK(walk_any_messages, struct sockdiag_message, sockdiag_next_any_message)
-WALK(walk_pending, uint32_t, sockdiag_next_pending)
-WALK(walk_keys, struct sockdiag_md5_signature, sockdiag_next_md5_signature)
-WALK(walk_addresses, struct sockdiag_stored_address, sockdiag_next_address)
-REWRITE(rewrite_unix, sockdiag_rewrite_unix_reply)
-REWRITE(rewrite_inet, sockdiag_rewrite_inet_reply)
 
 static void check_message(const uint8_t *bytes, size_t length) {
     struct sockdiag_reply reply;
@@ -269,58 +162,96 @@ static void write_requests(const uint8_t *bytes, size_t length) {
     sink += sockdiag_version();
 }
 
+/* Each row has a call, the type of what it stores, which is not read, and forms of inputs. */
+#define ROWS(STRUCT, LENIENT, WALK, REWRITE, OTHER)                                             \
+    STRUCT(sockdiag_check_unix_reply, struct sockdiag_unix_header, unix_empty, unix_peers,      \
+           unix_path, unix_pending, unix_cut)                                                   \
+    STRUCT(sockdiag_check_inet_reply, struct sockdiag_inet_header, inet_empty, inet_marks,      \
+           inet_text)                                                                           \
+    OTHER(check_message, , inet_empty, inet_marks, inet_text)                                   \
+    STRUCT(sockdiag_unix_get_details, struct sockdiag_unix_details, unix_empty, unix_peers,     \
+           unix_path, unix_pending, unix_cut)                                                   \
+    STRUCT(sockdiag_inet_get_details, struct sockdiag_inet_details, inet_empty, inet_marks,     \
+           inet_text)                                                                           \
+    STRUCT(sockdiag_netlink_get_details, struct sockdiag_netlink_details, netlink_empty)        \
+    STRUCT(sockdiag_packet_get_details, struct sockdiag_packet_details, unix_empty)             \
+    STRUCT(sockdiag_vsock_get_details, struct sockdiag_vsock_header, vsock_empty)               \
+    STRUCT(sockdiag_xdp_get_details, struct sockdiag_xdp_details, unix_empty)                   \
+    LENIENT(sockdiag_unix_get_lenient_details, struct sockdiag_unix_details, unix_empty,        \
+            unix_peers, unix_path, unix_pending, unix_rejected, unix_cut)                       \
+    LENIENT(sockdiag_inet_get_lenient_details, struct sockdiag_inet_details, inet_empty,        \
+            inet_marks, inet_text, inet_rejected)                                               \
+    OTHER(last_pending, , unix_pending, unix_pending_late)                                      \
+    STRUCT(sockdiag_inet_get_tcp_info, struct sockdiag_tcp_info, inet_empty, inet_rejected)     \
+    STRUCT(sockdiag_inet_get_long_tcp_info, struct sockdiag_long_tcp_info, inet_empty,          \
+           inet_rejected)                                                                       \
+    STRUCT(sockdiag_inet_get_memory, struct sockdiag_inet_memory, inet_empty, inet_marks)       \
+    STRUCT(sockdiag_get_error_number, int32_t, value)                                           \
+    STRUCT(sockdiag_get_uid, uint32_t, value)                                                   \
+    STRUCT(sockdiag_get_cgroup_id, uint64_t, value)                                             \
+    STRUCT(sockdiag_get_socket_options, struct sockdiag_socket_options, value)                  \
+    STRUCT(sockdiag_get_vegas_info, struct sockdiag_vegas_info, value)                          \
+    STRUCT(sockdiag_get_dctcp_info, struct sockdiag_dctcp_info, value)                          \
+    STRUCT(sockdiag_get_bbr_info, struct sockdiag_bbr_info, value)                              \
+    STRUCT(sockdiag_unix_explain, struct sockdiag_error_details, unix_empty, unix_peers,        \
+           unix_path, unix_pending, unix_cut)                                                   \
+    STRUCT(sockdiag_inet_explain, struct sockdiag_error_details, inet_empty, inet_marks,        \
+           inet_text, inet_rejected)                                                            \
+    STRUCT(sockdiag_netlink_explain, struct sockdiag_error_details, netlink_empty)              \
+    STRUCT(sockdiag_packet_explain, struct sockdiag_error_details, unix_empty, unix_cut)        \
+    STRUCT(sockdiag_vsock_explain, struct sockdiag_error_details, vsock_empty)                  \
+    STRUCT(sockdiag_xdp_explain, struct sockdiag_error_details, unix_empty, unix_cut)           \
+    OTHER(explain_message, , inet_empty, inet_marks, inet_text)                                 \
+    STRUCT(sockdiag_framing_explain, struct sockdiag_error_details, many_messages, one_message) \
+    STRUCT(sockdiag_unix_explain_attribute, struct sockdiag_error_details, attributes, value)   \
+    STRUCT(sockdiag_inet_explain_attribute, struct sockdiag_error_details, attributes, value)   \
+    OTHER(explain_each, , unix_empty, unix_rejected, unix_path)                                 \
+    WALK(sockdiag_next_attribute, struct sockdiag_attribute, attributes)                        \
+    WALK(sockdiag_next_message, struct sockdiag_message, many_messages, one_message)            \
+    WALK(sockdiag_next_any_message, struct sockdiag_message, many_messages, one_message)        \
+    WALK(sockdiag_next_pending, uint32_t, value)                                                \
+    WALK(sockdiag_next_md5_signature, struct sockdiag_md5_signature, value)                     \
+    WALK(sockdiag_next_address, struct sockdiag_stored_address, value)                          \
+    REWRITE(sockdiag_rewrite_unix_reply, , unix_empty, unix_peers, unix_path, unix_pending)     \
+    REWRITE(sockdiag_rewrite_inet_reply, , inet_empty, inet_marks, inet_text)                   \
+    OTHER(write_request, , attributes)                                                          \
+    OTHER(write_requests, , value)
+
+/* Defines a function that calls `call` with the whole input. An iteration calls it for each item,
+ * and OTHER is for a function that is defined above. */
+#define RUN_STRUCT(call, type, ...)                                     \
+    static void run_##call(const uint8_t *bytes, size_t length) {        \
+        type it;                                                        \
+        sink += call(bytes, length, &it);                               \
+    }
+#define RUN_LENIENT(call, type, ...)                                    \
+    static void run_##call(const uint8_t *bytes, size_t length) {        \
+        type it;                                                        \
+        struct sockdiag_rejections rejections;                          \
+        sink += call(bytes, length, &it, &rejections);                  \
+    }
+#define RUN_WALK(call, type, ...)                                       \
+    static void run_##call(const uint8_t *bytes, size_t length) {        \
+        struct sockdiag_cursor cursor = {0};                            \
+        type it;                                                        \
+        while (call(bytes, length, &cursor, &it) == SOCKDIAG_ITEM)      \
+            sink += cursor.offset;                                      \
+    }
+#define RUN_REWRITE(call, type, ...)                                    \
+    static void run_##call(const uint8_t *bytes, size_t length) {        \
+        struct sockdiag_outcome outcome;                                \
+        sink += call(bytes, length, output, sizeof output, &outcome);   \
+    }
+#define RUN_OTHER(call, type, ...)
+ROWS(RUN_STRUCT, RUN_LENIENT, RUN_WALK, RUN_REWRITE, RUN_OTHER)
+
+#define ROW(call, type, ...) {#call, run_##call, {__VA_ARGS__}},
+#define OTHER_ROW(call, type, ...) {#call, call, {__VA_ARGS__}},
 static const struct {
     const char *name;
     run *call;
     fill *forms[6];
-} rows[] = {
-    {"check_unix_reply", check_unix, {unix_empty, unix_peers, unix_path, unix_pending, unix_cut}},
-    {"check_inet_reply", check_inet, {inet_empty, inet_marks, inet_text}},
-    {"check_message", check_message, {inet_empty, inet_marks, inet_text}},
-    {"unix_get_details", unix_details,
-     {unix_empty, unix_peers, unix_path, unix_pending, unix_cut}},
-    {"inet_get_details", inet_details, {inet_empty, inet_marks, inet_text}},
-    {"netlink_get_details", netlink_details, {netlink_empty}},
-    {"packet_get_details", packet_details, {unix_empty}},
-    {"vsock_get_details", vsock_details, {vsock_empty}},
-    {"xdp_get_details", xdp_details, {unix_empty}},
-    {"unix_get_lenient_details", unix_lenient,
-     {unix_empty, unix_peers, unix_path, unix_pending, unix_rejected, unix_cut}},
-    {"inet_get_lenient_details", inet_lenient,
-     {inet_empty, inet_marks, inet_text, inet_rejected}},
-    {"unix_get_pending", last_pending, {unix_pending, unix_pending_late}},
-    {"inet_get_tcp_info", tcp_info, {inet_empty, inet_rejected}},
-    {"inet_get_long_tcp_info", long_tcp_info, {inet_empty, inet_rejected}},
-    {"inet_get_memory", memory, {inet_empty, inet_marks}},
-    {"get_error_number", error_number, {value}},
-    {"get_uid", uid, {value}},
-    {"get_cgroup_id", cgroup_id, {value}},
-    {"get_socket_options", options, {value}},
-    {"get_vegas_info", vegas, {value}},
-    {"get_dctcp_info", dctcp, {value}},
-    {"get_bbr_info", bbr, {value}},
-    {"unix_explain", explain_unix, {unix_empty, unix_peers, unix_path, unix_pending, unix_cut}},
-    {"inet_explain", explain_inet, {inet_empty, inet_marks, inet_text, inet_rejected}},
-    {"netlink_explain", explain_netlink, {netlink_empty}},
-    {"packet_explain", explain_packet, {unix_empty, unix_cut}},
-    {"vsock_explain", explain_vsock, {vsock_empty}},
-    {"xdp_explain", explain_xdp, {unix_empty, unix_cut}},
-    {"message_explain", explain_message, {inet_empty, inet_marks, inet_text}},
-    {"framing_explain", explain_framing, {many_messages, one_message}},
-    {"unix_explain_attribute", explain_unix_one, {attributes, value}},
-    {"inet_explain_attribute", explain_inet_one, {attributes, value}},
-    {"unix_explain_attribute, all", explain_each, {unix_empty, unix_rejected, unix_path}},
-    {"next_attribute", walk_attributes, {attributes}},
-    {"next_message", walk_messages, {many_messages, one_message}},
-    {"next_any_message", walk_any_messages, {many_messages, one_message}},
-    {"next_pending", walk_pending, {value}},
-    {"next_md5_signature", walk_keys, {value}},
-    {"next_address", walk_addresses, {value}},
-    {"rewrite_unix_reply", rewrite_unix, {unix_empty, unix_peers, unix_path, unix_pending}},
-    {"rewrite_inet_reply", rewrite_inet, {inet_empty, inet_marks, inet_text}},
-    {"write_inet_request_with_attributes", write_request, {attributes}},
-    {"write requests", write_requests, {value}},
-};
+} rows[] = {ROWS(ROW, ROW, ROW, ROW, OTHER_ROW)};
 
 static uint64_t now(void) {
     struct timespec time;

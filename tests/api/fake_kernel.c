@@ -11,9 +11,8 @@
  * Otherwise the first request is answered by a dump that is interrupted. The second one, which has
  * to be the same with another sequence number, is answered by the end of another dump, a reply that
  * is too short, a reply about a socket, and a reply with an attribute that is too short; then by
- * the end of the dump. The request for TCP sockets over IPv4 is answered by replies with struct
- * tcp_info in the sizes of several kernels. Each other request is answered by ENOENT. The state of
- * the sockets shows which states were requested. tests/api/c_api.sh compares the output.
+ * the end of the dump. Each other request is answered by ENOENT. The state of the sockets shows
+ * which states were requested. tests/api/c_api.sh compares the output.
  */
 #define _DEFAULT_SOURCE /* For syscall. */
 #include "sockdiag.h"
@@ -92,25 +91,6 @@ static int is_repeated(void) {
     return memcmp(request, first_request, 8) == 0 &&
            memcmp(request + 8, first_request + 8, 4) != 0 &&
            memcmp(request + 12, first_request + 12, sizeof request - 12) == 0;
-}
-
-/* Writes replies about TCP sockets. The inode and the round-trip time, at offset 68 of struct
- * tcp_info, are the length of the struct. */
-static size_t put_tcp(uint8_t *bytes, uint32_t number) {
-    static const uint16_t lengths[5] = {60, 104, 224, 232, 280};
-    size_t end = 0, index;
-    for (index = 0; index < 5; index++) {
-        const uint16_t length = lengths[index];
-        uint8_t reply[76 + 280] = {AF_INET, SOCKDIAG_TCP_ESTABLISHED};
-        reply[68] = reply[76 + 68] = (uint8_t)length;
-        reply[69] = reply[76 + 69] = (uint8_t)(length >> 8);
-        reply[72] = (uint8_t)(4 + length);
-        reply[73] = (uint8_t)((4 + length) >> 8);
-        reply[74] = SOCKDIAG_INET_DIAG_INFO;
-        end += put(bytes + end, SOCKDIAG_SOCK_DIAG_BY_FAMILY, NLM_F_MULTI, number, reply,
-                   76u + length);
-    }
-    return end;
 }
 
 /* Returns the name of the protocol of the request. A protocol above 255 is an attribute after the
@@ -197,9 +177,6 @@ ssize_t recv(int fd, void *buffer, size_t capacity, int flags) {
     if (replies != NULL)
         return (ssize_t)put_from_file(bytes, number);
     datagrams++;
-    if (requests == 3 && request[16] == AF_INET && request[17] == IPPROTO_TCP)
-        return (ssize_t)(datagrams == 1 ? put_tcp(bytes, number)
-                                        : put(bytes, NLMSG_DONE, 0, number, &success, 4));
     if (requests > 2 || (requests == 2 && !is_repeated()))
         return (ssize_t)put(bytes, NLMSG_ERROR, 0, number, &failure, 4);
     if (datagrams == 2)

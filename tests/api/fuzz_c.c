@@ -11,18 +11,14 @@
  * is 1 if a comparison fails; the seed that is printed repeats the run.
  */
 #define _DEFAULT_SOURCE /* For MAP_ANONYMOUS. */
-#include "sockdiag.h"
+#include "areas.h"
 
-#include <stdio.h>
+#include <stddef.h>
 #include <stdlib.h>
-#include <string.h>
-#include <sys/mman.h>
-#include <unistd.h>
 
 /* Size of an area in bytes, a multiple of the page size. */
 #define AREA ((size_t)1 << 16)
 #define MOST_SAMPLES 4096
-#define UNTOUCHED 0xaa
 
 struct sample {
     uint8_t *bytes;
@@ -48,30 +44,12 @@ static void expect(int holds, const char *what) {
     exit(1);
 }
 
-/* Returns an area between two pages that cannot be accessed. */
-static uint8_t *new_area(void) {
-    const size_t page = (size_t)sysconf(_SC_PAGESIZE);
-    uint8_t *start = (uint8_t *)mmap(NULL, AREA + 2 * page, PROT_NONE, MAP_PRIVATE | MAP_ANONYMOUS,
-                                     -1, 0);
-    expect(start != MAP_FAILED && mprotect(start + page, AREA, PROT_READ | PROT_WRITE) == 0,
-           "an area");
-    return start + page;
-}
-
 /* Returns bytes at the start or at the end of an area, with one value. A length of a struct is a
  * multiple of its alignment, so that a struct is aligned at the end, too. */
 static uint8_t *bytes_in(uint8_t *area, size_t length) {
     uint8_t *bytes = random_below(2) ? area : area + AREA - length;
     memset(bytes, UNTOUCHED, length);
     return bytes;
-}
-
-static int is_untouched(const void *found, size_t length) {
-    const uint8_t *bytes = (const uint8_t *)found;
-    size_t index;
-    for (index = 0; index < length && bytes[index] == UNTOUCHED; index++)
-        ;
-    return index == length;
 }
 
 static void add_sample(const uint8_t *bytes, size_t length) {
@@ -123,10 +101,8 @@ static size_t append_attribute(uint8_t *bytes, size_t length) {
     if (start + 4 + value > AREA / 2)
         return length;
     memset(bytes + length, 0, start - length);
-    bytes[start] = (uint8_t)(4 + value);
-    bytes[start + 1] = (uint8_t)((4 + value) >> 8);
-    bytes[start + 2] = (uint8_t)random_below(24);
-    bytes[start + 3] = random_below(8) ? 0 : 0x80;
+    put_header(bytes + start, 4 + value,
+               (uint16_t)(random_below(24) | (random_below(8) ? 0 : 0x8000)));
     for (index = 0; index < value; index++)
         bytes[start + 4 + index] = (uint8_t)(index + 1 < value ? random_below(128) : 0);
     return start + 4 + value;
@@ -167,13 +143,14 @@ static size_t change(uint8_t *bytes, size_t length) {
     }
 }
 
-/* A text is a part of the payload. */
+/* A text is a part of the payload, after a header and the header of an attribute. */
 static void expect_text(const struct sockdiag_text *text, const uint8_t *payload, size_t length) {
     expect(text->kind <= SOCKDIAG_BYTES, "the kind of a text");
     if (text->kind == 0)
         return;
     expect(text->bytes >= payload && text->length <= length &&
            (size_t)(text->bytes - payload) <= length - text->length, "a text in the payload");
+    expect(text->length == 0 || text->bytes - payload >= 20, "a text after a header");
 }
 
 /* Calls a function that fills a struct or returns an error between 2 and 15. */
@@ -233,70 +210,43 @@ static void try_rejections(const struct sockdiag_rejections *it, const uint8_t *
            memcmp(it->errors, expected.errors, sizeof it->errors) == 0, "the rejections");
 }
 
-/* Two numbers, or two texts, are the same. */
-static int is_same(struct sockdiag_number one, struct sockdiag_number other) {
-    return one.is_set == other.is_set && one.value == other.value;
+/* Two texts, and the numbers up to the end of a struct, are the same. */
+static int is_same(const struct sockdiag_text *one, const struct sockdiag_text *other,
+                   const void *numbers, const void *other_numbers, size_t size) {
+    return one->kind == other->kind &&
+           (one->kind == 0 || (one->bytes == other->bytes && one->length == other->length)) &&
+           memcmp(numbers, other_numbers, size) == 0;
 }
 
-static int is_same_text(const struct sockdiag_text *one, const struct sockdiag_text *other) {
-    return one->kind == other->kind && (one->kind == 0 || (one->bytes == other->bytes &&
-                                                           one->length == other->length));
-}
-
-/* A lenient call accepts the header if the strict one accepts the first bytes of the reply. If it
- * accepts all attributes, both return the same. `error` is the error of the reply. */
-static void try_unix_leniently(const uint8_t *payload, size_t length, uint32_t error) {
-    struct sockdiag_unix_details strict;
-    struct sockdiag_rejections *rejections =
-        (struct sockdiag_rejections *)(void *)bytes_in(buffer_area, sizeof *rejections);
-    CALL(it, struct sockdiag_unix_details,
-         sockdiag_unix_get_lenient_details(payload, length, it, rejections));
-    expect((it_fault == SOCKDIAG_OK) == (length >= SOCKDIAG_UNIX_ATTRIBUTES), "a UNIX header");
-    if (it_fault != SOCKDIAG_OK) {
-        expect(is_untouched(rejections, sizeof *rejections), "rejections of a rejected header");
-        return;
+/* Defines a function for a family. The lenient call accepts the header if the first bytes of the
+ * reply are one. If it accepts all attributes, it returns what the strict one does: the text, and
+ * the numbers, of which `number` is the first. `error` is the error of the reply. */
+#define LENIENTLY(family, ATTRIBUTES, has_family, text, number)                                  \
+    static void try_##family##_leniently(const uint8_t *payload, size_t length, uint32_t error) { \
+        typedef struct sockdiag_##family##_details details;                                      \
+        details strict;                                                                          \
+        struct sockdiag_rejections *rejections =                                                 \
+            (struct sockdiag_rejections *)(void *)bytes_in(buffer_area, sizeof *rejections);     \
+        CALL(it, details,                                                                        \
+             sockdiag_##family##_get_lenient_details(payload, length, it, rejections));          \
+        expect((it_fault == SOCKDIAG_OK) == (length >= (ATTRIBUTES) && (has_family)),            \
+               "a header: " #family);                                                            \
+        if (it_fault != SOCKDIAG_OK) {                                                           \
+            expect(is_untouched(rejections, sizeof *rejections), "rejections of a header");      \
+            return;                                                                              \
+        }                                                                                        \
+        expect(rejections->first == error, "the first error: " #family);                         \
+        try_rejections(rejections, payload, length, ATTRIBUTES,                                  \
+                       sockdiag_##family##_explain_attribute);                                   \
+        expect_text(&it->text, payload, length);                                                 \
+        if (sockdiag_##family##_get_details(payload, length, &strict) == SOCKDIAG_OK)            \
+            expect(is_same(&it->text, &strict.text, &it->number, &strict.number,                 \
+                           sizeof strict - offsetof(details, number)) &&                         \
+                   it->header.inode == strict.header.inode, "lenient details: " #family);        \
     }
-    expect(rejections->first == error, "the first error of a UNIX reply");
-    try_rejections(rejections, payload, length, SOCKDIAG_UNIX_ATTRIBUTES,
-                   sockdiag_unix_explain_attribute);
-    expect_text(&it->name, payload, length);
-    expect(it->name.kind == 0 || it->name.length + 20 <= length, "a name after a header");
-    if (sockdiag_unix_get_details(payload, length, &strict) == SOCKDIAG_OK)
-        expect(is_same_text(&it->name, &strict.name) && is_same(it->peer, strict.peer) &&
-               is_same(it->file_inode, strict.file_inode) &&
-               is_same(it->file_device, strict.file_device) &&
-               is_same(it->recv_queue, strict.recv_queue) &&
-               is_same(it->send_queue, strict.send_queue) &&
-               is_same(it->receive_buffer, strict.receive_buffer) &&
-               is_same(it->send_buffer, strict.send_buffer) &&
-               is_same(it->queued, strict.queued) && is_same(it->shutdown, strict.shutdown) &&
-               it->header.inode == strict.header.inode, "lenient details of a UNIX reply");
-}
 
-static void try_inet_leniently(const uint8_t *payload, size_t length, uint32_t error) {
-    struct sockdiag_inet_details strict;
-    struct sockdiag_rejections *rejections =
-        (struct sockdiag_rejections *)(void *)bytes_in(buffer_area, sizeof *rejections);
-    CALL(it, struct sockdiag_inet_details,
-         sockdiag_inet_get_lenient_details(payload, length, it, rejections));
-    expect((it_fault == SOCKDIAG_OK) ==
-               (length >= SOCKDIAG_INET_ATTRIBUTES && (payload[0] == 2 || payload[0] == 10)),
-           "an internet header");
-    if (it_fault != SOCKDIAG_OK) {
-        expect(is_untouched(rejections, sizeof *rejections), "rejections of a rejected header");
-        return;
-    }
-    expect(rejections->first == error, "the first error of an internet reply");
-    try_rejections(rejections, payload, length, SOCKDIAG_INET_ATTRIBUTES,
-                   sockdiag_inet_explain_attribute);
-    expect_text(&it->congestion, payload, length);
-    if (sockdiag_inet_get_details(payload, length, &strict) == SOCKDIAG_OK)
-        expect(is_same_text(&it->congestion, &strict.congestion) && is_same(it->tos, strict.tos) &&
-               is_same(it->tclass, strict.tclass) && is_same(it->shutdown, strict.shutdown) &&
-               is_same(it->protocol, strict.protocol) && is_same(it->v6only, strict.v6only) &&
-               is_same(it->mark, strict.mark) && is_same(it->class_id, strict.class_id) &&
-               it->header.inode == strict.header.inode, "lenient details of an internet reply");
-}
+LENIENTLY(unix, SOCKDIAG_UNIX_ATTRIBUTES, 1, name, file_inode)
+LENIENTLY(inet, SOCKDIAG_INET_ATTRIBUTES, payload[0] == 2 || payload[0] == 10, congestion, tos)
 
 /* Calls a getter of a single value, which accepts these lengths. */
 #define VALUE(type, call, accepts)                                                         \
@@ -557,9 +507,10 @@ int main(int argc, char **argv) {
     if (argc < 3 || argc > 4)
         return fputs("usage: fuzz_c COUNT CAPTURE [SEED]\n", stderr), 2;
     first_state = state = argc > 3 ? strtoull(argv[3], NULL, 10) : 1;
-    input_area = new_area();
-    output_area = new_area();
-    buffer_area = new_area();
+    input_area = new_area(AREA);
+    output_area = new_area(AREA);
+    buffer_area = new_area(AREA);
+    expect(input_area != NULL && output_area != NULL && buffer_area != NULL, "three areas");
     read_capture(argv[2]);
     expect(state != 0, "a seed above 0");
     for (count = strtoul(argv[1], NULL, 10); count > 0; count--) {

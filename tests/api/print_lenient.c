@@ -1,29 +1,33 @@
 /*
  * print_lenient: reads replies from standard input, a line each, and prints a line for each: what
- * the lenient calls of include/sockdiag.h return. tests/live/lenient_reader.py describes both
- * formats and prints the same lines by other code; tests/live/compare_lenient.sh compares them.
+ * the lenient calls of include/sockdiag.h return, and the errors with their fields.
+ * tests/live/lenient_reader.py describes both formats and prints the same lines by other code;
+ * tests/live/compare_lenient.sh compares them.
  *
- * The bytes of a reply and both structs are next to a page that cannot be accessed, so the program
+ * The bytes of a reply and each struct are next to a page that cannot be accessed, so the program
  * stops if the library accesses bytes outside of them. The program also compares the lenient call
  * with the strict one: its code, and its details if no attribute is rejected. The status is 1 if a
  * comparison fails, and 2 if a line is not a reply.
  */
 #define _DEFAULT_SOURCE /* For MAP_ANONYMOUS. */
+#include "areas.h"
 #include "sockdiag.h"
 
 #include <stdarg.h>
 #include <stdio.h>
 #include <stdlib.h>
 #include <string.h>
-#include <sys/mman.h>
-#include <unistd.h>
 
 /* Size of an area in bytes, a multiple of the page size, and the maximum length of a reply. */
 #define AREA ((size_t)1 << 17)
-/* What a struct contains before a call. */
-#define UNTOUCHED 0xaa
 
 static unsigned long line_number;
+/* The reply, and the structs that the calls fill, at the end of an area each. */
+static const uint8_t *payload;
+static size_t payload_length;
+static uint8_t *end_of_details;
+static struct sockdiag_rejections *rejections;
+static struct sockdiag_error_details *error;
 
 static void expect(int holds, const char *what) {
     if (holds)
@@ -32,22 +36,12 @@ static void expect(int holds, const char *what) {
     exit(1);
 }
 
-/* Returns the end of an area between two pages that cannot be accessed. */
+/* Returns the end of an area. A struct there is aligned, since its size is a multiple of its
+ * alignment. */
 static uint8_t *end_of_new_area(void) {
-    const size_t page = (size_t)sysconf(_SC_PAGESIZE);
-    const int flags = MAP_PRIVATE | MAP_ANONYMOUS;
-    uint8_t *start = (uint8_t *)mmap(NULL, AREA + 2 * page, PROT_NONE, flags, -1, 0);
-    expect(start != MAP_FAILED, "mmap");
-    expect(mprotect(start + page, AREA, PROT_READ | PROT_WRITE) == 0, "mprotect");
-    return start + page + AREA;
-}
-
-static int is_untouched(const void *found, size_t length) {
-    const uint8_t *bytes = (const uint8_t *)found;
-    size_t index = 0;
-    while (index < length && bytes[index] == UNTOUCHED)
-        index++;
-    return index == length;
+    uint8_t *area = new_area(AREA);
+    expect(area != NULL, "an area");
+    return area + AREA;
 }
 
 /* The words of a line. */
@@ -93,6 +87,9 @@ static void add_text(struct words *words, const char *name, const struct sockdia
         add(words, "%s=- ", name);
         return;
     }
+    expect(text->length == 0 || (text->bytes >= payload && text->length <= payload_length &&
+           (size_t)(text->bytes - payload) <= payload_length - text->length),
+           "a text in the payload");
     add(words, "%s=%s:", name, text->kind == SOCKDIAG_TEXT ? "text" : "abstract");
     add_bytes(words, text->bytes, text->length);
     add(words, " ");
@@ -140,52 +137,117 @@ static void add_inet(struct words *words, const struct sockdiag_inet_details *it
     add_number(words, "class_id", it->class_id);
 }
 
-static void add_rejections(struct words *words, const struct sockdiag_rejections *it) {
+typedef uint32_t explain(const uint8_t *, size_t, struct sockdiag_error_details *);
+
+/* Explains the bytes from this offset of the reply on. Returns the code of their error, or 0. */
+static uint32_t explain_from(explain *call, size_t offset) {
+    uint32_t code;
+    memset(error, UNTOUCHED, sizeof *error);
+    code = call(payload + offset, payload_length - offset, error);
+    if (code == SOCKDIAG_OK)
+        expect(is_untouched(error, sizeof *error), "an unchanged error");
+    else
+        expect(error->code == code, "the code of an error");
+    return code;
+}
+
+static void add_error(struct words *words) {
+    add(words, "%lu/%lu/%lu/%lu/", (unsigned long)error->code, (unsigned long)error->record_name,
+        (unsigned long)error->family, (unsigned long)error->message_type);
+    expect(error->kind.is_set <= 1 && (error->kind.is_set || error->kind.value == 0), "a kind");
+    if (error->kind.is_set)
+        add(words, "%lu", (unsigned long)error->kind.value);
+    else
+        add(words, "-");
+    add(words, "/%lu/%lu/%lu/%lu", (unsigned long)error->got, (unsigned long)error->need,
+        (unsigned long)error->length, (unsigned long)error->index);
+}
+
+/* Adds the first error, of this code, and what the lenient call returned about rejections. */
+static void add_rejections(struct words *words, uint32_t first) {
     const char *separator = "";
     size_t kind;
-    add(words, "first=%lu framing=%lu errors=", (unsigned long)it->first,
-        (unsigned long)it->framing);
-    for (kind = 0; kind < sizeof it->errors; kind++)
-        if (it->errors[kind] != 0) {
-            add(words, "%s%lu:%u", separator, (unsigned long)kind, it->errors[kind]);
+    expect(rejections->first == first, "the code of the first error");
+    add(words, "first=");
+    if (first == SOCKDIAG_OK)
+        add(words, "0");
+    else
+        add_error(words);
+    add(words, " framing=%lu errors=", (unsigned long)rejections->framing);
+    for (kind = 0; kind < sizeof rejections->errors; kind++)
+        if (rejections->errors[kind] != 0) {
+            add(words, "%s%lu:%u", separator, (unsigned long)kind, rejections->errors[kind]);
             separator = ",";
         }
+    add(words, "%s rejected=", *separator ? "" : "-");
+}
+
+/* Adds the error of each attribute that is rejected. Each is explained from its offset on. */
+static void add_each_error(struct words *words, explain *call, size_t offset) {
+    struct sockdiag_cursor cursor;
+    struct sockdiag_attribute attribute;
+    const char *separator = "";
+    uint32_t answer, code;
+    cursor.offset = offset;
+    for (;; offset = cursor.offset) {
+        answer = sockdiag_next_attribute(payload, payload_length, &cursor, &attribute);
+        if (answer == SOCKDIAG_END)
+            break;
+        code = explain_from(call, offset);
+        expect(answer == SOCKDIAG_ITEM || answer == code, "a framing error");
+        if (code == SOCKDIAG_OK)
+            continue;
+        add(words, "%s", separator);
+        separator = ",";
+        if (answer == SOCKDIAG_ITEM)
+            add(words, "%u:", attribute.type_word & 0x3fff);
+        else
+            add(words, "framing:");
+        add_error(words);
+    }
     add(words, "%s", *separator ? "" : "-");
 }
 
-/* Prints what a family's lenient call returns for a reply, and compares it with the strict call. A
- * struct at the end of an area is aligned, since its size is a multiple of its alignment. */
-#define TRY(family)                                                                             \
-    static void try_##family(const uint8_t *payload, size_t length, uint8_t *end_of_details,    \
-                             struct sockdiag_rejections *rejections) {                          \
-        static struct words words, strict_words;                                                \
-        struct sockdiag_##family##_details strict, *found =                                     \
-            (struct sockdiag_##family##_details *)(void *)(end_of_details - sizeof strict);     \
-        uint32_t code, strict_code;                                                             \
-        words.length = strict_words.length = 0;                                                 \
-        memset(found, UNTOUCHED, sizeof *found);                                                \
-        memset(rejections, UNTOUCHED, sizeof *rejections);                                      \
-        code = sockdiag_##family##_get_lenient_details(payload, length, found, rejections);     \
-        strict_code = sockdiag_##family##_get_details(payload, length, &strict);                \
-        if (code != SOCKDIAG_OK) {                                                              \
-            expect(is_untouched(found, sizeof *found), "unchanged details");                    \
-            expect(is_untouched(rejections, sizeof *rejections), "unchanged rejections");       \
-            expect(strict_code == code, "the error of the header");                             \
-            printf("error %lu\n", (unsigned long)code);                                         \
-            return;                                                                             \
-        }                                                                                       \
-        expect(strict_code == rejections->first, "the first error");                            \
-        add_##family(&words, found);                                                            \
-        if (strict_code == SOCKDIAG_OK) {                                                       \
-            add_##family(&strict_words, &strict);                                               \
-            expect(strcmp(words.text, strict_words.text) == 0, "equal details");                \
-        }                                                                                       \
-        add_rejections(&words, rejections);                                                     \
-        puts(words.text);                                                                       \
+static void print_header_error(struct words *words) {
+    expect(is_untouched(rejections, sizeof *rejections), "unchanged rejections");
+    add(words, "error ");
+    add_error(words);
+    puts(words->text);
+}
+
+/* Prints what a family's calls return for the reply, and compares the lenient one with the strict
+ * one. `start` is the offset of the first attribute. */
+#define TRY(family, start)                                                                       \
+    static void try_##family(void) {                                                             \
+        static struct words words, strict_words;                                                 \
+        struct sockdiag_##family##_details strict, *found =                                      \
+            (struct sockdiag_##family##_details *)(void *)(end_of_details - sizeof strict);      \
+        const uint32_t first = sockdiag_##family##_get_details(payload, payload_length, &strict); \
+        uint32_t code;                                                                           \
+        words.length = strict_words.length = 0;                                                  \
+        memset(found, UNTOUCHED, sizeof *found);                                                 \
+        memset(rejections, UNTOUCHED, sizeof *rejections);                                       \
+        code = sockdiag_##family##_get_lenient_details(payload, payload_length, found,           \
+                                                       rejections);                              \
+        expect(explain_from(sockdiag_##family##_explain, 0) == first, "the first error");        \
+        if (code != SOCKDIAG_OK) {                                                               \
+            expect(code == first, "the error of the header");                                    \
+            expect(is_untouched(found, sizeof *found), "unchanged details");                     \
+            print_header_error(&words);                                                          \
+            return;                                                                              \
+        }                                                                                        \
+        add_##family(&words, found);                                                             \
+        if (first == SOCKDIAG_OK) {                                                              \
+            add_##family(&strict_words, &strict);                                                \
+            expect(strcmp(words.text, strict_words.text) == 0, "equal details");                 \
+        }                                                                                        \
+        add_rejections(&words, first);                                                           \
+        add_each_error(&words, sockdiag_##family##_explain_attribute, start);                    \
+        puts(words.text);                                                                        \
     }
 
-TRY(unix)
-TRY(inet)
+TRY(unix, SOCKDIAG_UNIX_ATTRIBUTES)
+TRY(inet, SOCKDIAG_INET_ATTRIBUTES)
 
 static unsigned digit_value(char digit) {
     static const char digits[] = "0123456789abcdef";
@@ -212,24 +274,25 @@ static size_t read_digits(const char *digits, uint8_t *bytes) {
 int main(void) {
     static char line[2 * AREA + 8];
     static uint8_t bytes[AREA];
-    uint8_t *const end_of_input = end_of_new_area(), *const end_of_details = end_of_new_area();
-    struct sockdiag_rejections *rejections =
-        (struct sockdiag_rejections *)(void *)(end_of_new_area() - sizeof *rejections);
+    uint8_t *const end_of_input = end_of_new_area();
+    end_of_details = end_of_new_area();
+    rejections = (struct sockdiag_rejections *)(void *)(end_of_new_area() - sizeof *rejections);
+    error = (struct sockdiag_error_details *)(void *)(end_of_new_area() - sizeof *error);
     while (fgets(line, sizeof line, stdin) != NULL) {
         const int is_unix = strncmp(line, "unix ", 5) == 0;
-        uint8_t *payload;
-        size_t length;
+        uint8_t *copy;
         line_number++;
         if (!is_unix && strncmp(line, "inet ", 5) != 0)
             return fprintf(stderr, "print_lenient: line %lu: not a reply\n", line_number), 2;
-        length = read_digits(line + 5, bytes);
+        payload_length = read_digits(line + 5, bytes);
         /* At the start of the area or at its end. */
-        payload = line_number % 2 ? end_of_input - length : end_of_input - AREA;
-        memcpy(payload, bytes, length);
+        copy = line_number % 2 ? end_of_input - payload_length : end_of_input - AREA;
+        memcpy(copy, bytes, payload_length);
+        payload = copy;
         if (is_unix)
-            try_unix(payload, length, end_of_details, rejections);
+            try_unix();
         else
-            try_inet(payload, length, end_of_details, rejections);
+            try_inet();
     }
     return ferror(stdin) || fflush(stdout) != 0 || ferror(stdout) ? 1 : 0;
 }

@@ -8,9 +8,11 @@
     lenient_reader.py cuts              prints each stored reply, and each of its prefixes
 
 The line of a reply is `unix HEX` or `inet HEX`, with the payload of the netlink message. Its answer
-is `error CODE` if the header is rejected. Otherwise it has each field of the header, each detail,
-and the rejections: the codes of the first error and of the framing error, and the code of the first
-error for each kind below 32. A detail that the reply does not contain is `-`.
+is `error ERROR` if the header is rejected. Otherwise it has each field of the header, each detail,
+and the rejections: the first error, the code of the framing error, the code of the first error for
+each kind below 32, and for each rejected attribute in order its kind, or `framing`, and its error.
+A detail that the reply does not contain is `-`. ERROR is a code, and the other fields of `struct
+sockdiag_error_details` in the order of the header, separated by slashes.
 
 The tables are written from sock_diag(7), linux/unix_diag.h, linux/inet_diag.h, linux/sock_diag.h
 and the pages in docs. The reader shares no code with the crates. compare_lenient.sh compares its
@@ -21,6 +23,7 @@ import random
 import struct
 import sys
 from pathlib import Path
+from typing import NamedTuple
 
 TOP = Path(__file__).resolve().parent.parent.parent
 SOCK_DIAG_BY_FAMILY = 20
@@ -32,40 +35,67 @@ REPORTED_KINDS = 32
 TOO_SHORT, UNSUPPORTED_FAMILY, HEADER_CUT, LENGTH_UNDER_4, LENGTH_PAST = 2, 3, 7, 8, 9
 WRONG_LENGTH, NO_MULTIPLE_OF_4, NOT_UTF8 = 10, 11, 12
 NAME_EMPTY, NAME_INNER_ZERO, NAME_WITHOUT_END = 13, 14, 15
+# Numbers of the records that have a minimal length.
+INET_HEADER, UNIX_HEADER, LEGACY_MEMORY, MEMORY, TCP_INFO, VFS, UNIX_MEMORY = 3, 5, 6, 7, 8, 9, 10
+
+
+class Error(NamedTuple):
+    """A decode error, with the fields of struct sockdiag_error_details in their order. The kind is
+    a number, or `-` if the error has none."""
+
+    code: int
+    record: int = 0
+    family: int = 0
+    message_type: int = 0
+    kind: object = "-"
+    got: int = 0
+    need: int = 0
+    length: int = 0
+    index: int = 0
+
+    def __str__(self):
+        return "/".join(map(str, self))
 
 
 def exactly(length):
     """Returns a function that returns the error of a value, which has to have this length."""
-    return lambda value: 0 if len(value) == length else WRONG_LENGTH
+    return lambda kind, value: None if len(value) == length else Error(
+        WRONG_LENGTH, kind=kind, got=len(value), need=length)
 
 
-def at_least(length):
+def too_short(record, value, length):
+    """Returns the error of a record with fewer bytes than this length, or None."""
+    return None if len(value) >= length else Error(
+        TOO_SHORT, record=record, got=len(value), need=length)
+
+
+def at_least(record, length):
     """Returns a function that returns the error of a value, which may be longer."""
-    return lambda value: 0 if len(value) >= length else TOO_SHORT
+    return lambda _, value: too_short(record, value, length)
 
 
-def list_error(value):
+def list_error(_, value):
     """Returns the error of a list of u32."""
-    return NO_MULTIPLE_OF_4 if len(value) % 4 else 0
+    return Error(NO_MULTIPLE_OF_4, got=len(value)) if len(value) % 4 else None
 
 
-def name_error(value):
+def name_error(_, value):
     """Returns the error of a name: it has a NUL at its start, or else only at its end."""
     if not value:
-        return NAME_EMPTY
+        return Error(NAME_EMPTY)
     zero = value.find(0)
     if zero < 0:
-        return NAME_WITHOUT_END
-    return 0 if zero in (0, len(value) - 1) else NAME_INNER_ZERO
+        return Error(NAME_WITHOUT_END)
+    return None if zero in (0, len(value) - 1) else Error(NAME_INNER_ZERO, index=zero)
 
 
-def text_error(value):
+def text_error(_, value):
     """Returns the error of a text. A NUL at its end is valid UTF-8 too."""
     try:
         value.decode("utf-8")
     except UnicodeDecodeError:
-        return NOT_UTF8
-    return 0
+        return Error(NOT_UTF8)
+    return None
 
 
 def name_text(value):
@@ -80,26 +110,26 @@ def number(start, end):
 
 
 # The attributes that are parsed, by kind: the error of a value, and the details in a valid value.
-# The error is 0 if the value is valid.
+# The error is None if the value is valid.
 UNIX_ATTRIBUTES = {
     0: (name_error, {"name": name_text}),
-    1: (at_least(8), {"file_inode": number(0, 4), "file_device": number(4, 8)}),
+    1: (at_least(VFS, 8), {"file_inode": number(0, 4), "file_device": number(4, 8)}),
     2: (exactly(4), {"peer": number(0, 4)}),
     3: (list_error, {}),
     4: (exactly(8), {"recv_queue": number(0, 4), "send_queue": number(4, 8)}),
     # u32, indexed by SK_MEMINFO_RCVBUF 1, SK_MEMINFO_SNDBUF 3 and SK_MEMINFO_WMEM_QUEUED 5.
-    5: (at_least(36), {
+    5: (at_least(UNIX_MEMORY, 36), {
         "receive_buffer": number(4, 8), "send_buffer": number(12, 16), "queued": number(20, 24),
     }),
     6: (exactly(1), {"shutdown": number(0, 1)}),
 }
 INET_ATTRIBUTES = {
-    1: (at_least(16), {}),
-    2: (at_least(232), {}),
+    1: (at_least(LEGACY_MEMORY, 16), {}),
+    2: (at_least(TCP_INFO, 232), {}),
     4: (text_error, {"congestion": lambda value: f"text:{value.removesuffix(bytes(1)).hex()}"}),
     5: (exactly(1), {"tos": number(0, 1)}),
     6: (exactly(1), {"tclass": number(0, 1)}),
-    7: (at_least(28), {}),
+    7: (at_least(MEMORY, 28), {}),
     8: (exactly(1), {"shutdown": number(0, 1)}),
     10: (exactly(1), {"protocol": number(0, 1)}),
     11: (exactly(1), {"v6only": lambda value: int(value != bytes(1))}),
@@ -109,26 +139,26 @@ INET_ATTRIBUTES = {
 
 
 def unix_header(payload):
-    """Returns the error of a struct unix_diag_msg, and its fields if the error is 0."""
+    """Returns the error of a struct unix_diag_msg, and its fields if there is no error."""
     if len(payload) < 16:
-        return TOO_SHORT, {}
+        return too_short(UNIX_HEADER, payload, 16), {}
     _, kind, state, _, inode, cookie = struct.unpack_from("<4BI8s", payload)
-    return 0, {"kind": kind, "state": state, "inode": inode, "cookie": cookie.hex()}
+    return None, {"kind": kind, "state": state, "inode": inode, "cookie": cookie.hex()}
 
 
 def inet_header(payload):
-    """Returns the error of a struct inet_diag_msg, and its fields if the error is 0."""
+    """Returns the error of a struct inet_diag_msg, and its fields if there is no error."""
     if len(payload) < 72:
-        return TOO_SHORT, {}
+        return too_short(INET_HEADER, payload, 72), {}
     family, state, timer, retransmits = payload[:4]
     if family not in (2, 10):
-        return UNSUPPORTED_FAMILY, {}
+        return Error(UNSUPPORTED_FAMILY, family=family), {}
     source_port, destination_port = struct.unpack_from(">HH", payload, 4)
     width = 4 if family == 2 else 16
     addresses = [payload[at : at + width].ljust(16, b"\0").hex() for at in (8, 24)]
     interface_id, cookie, expires = struct.unpack_from("<I8sI", payload, 40)
     recv_queue, send_queue, uid, inode = struct.unpack_from("<4I", payload, 56)
-    return 0, {
+    return None, {
         "family": family,
         "state": state,
         "timer": timer if timer <= 4 else 0,
@@ -153,45 +183,58 @@ REPLIES = {"unix": (16, unix_header, UNIX_ATTRIBUTES), "inet": (72, inet_header,
 
 def split(data, offset):
     """Yields (kind, value) for each attribute from the offset on. A framing error is yielded last,
-    as (None, code)."""
+    as (None, error)."""
     while offset < len(data):
         left = len(data) - offset
         if left < 4:
-            yield None, HEADER_CUT
+            yield None, Error(HEADER_CUT, got=left)
             return
         length, kind = struct.unpack_from("<HH", data, offset)
-        if length < 4 or length > left:
-            yield None, LENGTH_UNDER_4 if length < 4 else LENGTH_PAST
+        if length < 4:
+            yield None, Error(LENGTH_UNDER_4, length=length)
+            return
+        if length > left:
+            yield None, Error(LENGTH_PAST, length=length, got=left)
             return
         yield kind & ~NLA_FLAGS, data[offset + 4 : offset + length]
         offset += (length + 3) // 4 * 4
 
 
+def rejections(rejected):
+    """Returns the words about the rejected attributes, which are pairs of a kind, or None, and an
+    error."""
+    framing, codes = 0, {}
+    for kind, error in rejected:
+        if kind is None:
+            framing = error.code
+        elif kind < REPORTED_KINDS:
+            codes.setdefault(kind, error.code)
+    errors = ",".join(f"{kind}:{code}" for kind, code in sorted(codes.items()))
+    every = ",".join(f"{'framing' if kind is None else kind}:{it}" for kind, it in rejected)
+    first = rejected[0][1] if rejected else 0
+    return [f"first={first}", f"framing={framing}", f"errors={errors or '-'}",
+            f"rejected={every or '-'}"]
+
+
 def answer(name, payload):
     """Returns the answer to a reply."""
     size, parse_header, attributes = REPLIES[name]
-    code, fields = parse_header(payload)
-    if code:
-        return f"error {code}"
+    error, fields = parse_header(payload)
+    if error:
+        return f"error {error}"
     # A field of the header and a detail may have the same name, so the details are separate.
-    details = {detail: "-" for _, parts in attributes.values() for detail in parts}
-    first, framing, errors = 0, 0, {}
+    details, rejected = {detail: "-" for _, parts in attributes.values() for detail in parts}, []
     for kind, value in split(payload, size):
-        if kind is None:
-            framing = value
-            first = first or value
+        error_of, parts = attributes.get(kind, (lambda *_: None, {}))
+        error = value if kind is None else error_of(kind, value)
+        if error:
+            rejected.append((kind, error))
             continue
-        error_of, parts = attributes.get(kind, (lambda _: 0, {}))
-        code = error_of(value)
-        first = first or code
-        if code and kind < REPORTED_KINDS:
-            errors.setdefault(kind, code)
-        for detail, part in parts.items() if not code else []:
+        for detail, part in parts.items():
             if details[detail] == "-":
                 details[detail] = part(value)
     words = [f"{key}={value}" for part in (fields, details) for key, value in part.items()]
-    rejected = ",".join(f"{kind}:{code}" for kind, code in sorted(errors.items()))
-    return " ".join([*words, f"first={first}", f"framing={framing}", f"errors={rejected or '-'}"])
+    return " ".join([*words, *rejections(rejected)])
 
 
 def messages(datagram):
@@ -243,7 +286,7 @@ def stored_replies():
 
 
 # Lengths of values that kernels send, or that are close to a limit, by kind of reply and attribute.
-# Each other attribute has up to 12 bytes.
+# Each other attribute has up to 12 bytes, or seldom more.
 LENGTHS = {
     ("unix", 1): (4, 7, 8, 9, 12),
     ("unix", 2): (3, 4, 5),
@@ -271,7 +314,7 @@ def built_value(rng, name, kind):
         return rng.choice(NAMES)
     if (name, kind) == ("inet", 4):
         return rng.choice(TEXTS)
-    default = (0, 1, 1, 1, 2, 4, 4, 4, 5, 8, 12)
+    default = (0, 1, 1, 1, 2, 4, 4, 4, 5, 8, 12, 40, 280)
     value = rng.randbytes(rng.choice(LENGTHS.get((name, kind), default)))
     return bytes(len(value)) if rng.random() < 0.1 else value
 
@@ -300,8 +343,8 @@ def built_reply(rng):
 
 
 def changed(rng, name, payload):
-    """Returns a copy with one change: truncated, extended, with other bytes, with another length or
-    type field, or with one attribute more."""
+    """Returns a copy with one change: truncated, extended, without a byte, with other bytes, with
+    another length or type field, or with one attribute more."""
     size = REPLIES[name][0]
     starts, offset = [], size
     for kind, value in split(payload, size):
@@ -309,7 +352,7 @@ def changed(rng, name, payload):
             starts.append(offset)
             offset += (len(value) + 7) // 4 * 4
     copy, at = bytearray(payload), rng.choice(starts) if starts else None
-    choice = rng.randrange(6 if starts else 3)
+    choice = rng.randrange(7 if starts else 4)
     if choice == 0:
         return bytes(copy[: rng.randrange(len(copy) + 1)])
     if choice == 1:
@@ -320,10 +363,13 @@ def changed(rng, name, payload):
             byte = rng.choice((0, 1, 4, 0x7F, 0x80, 0xFF, rng.randrange(256)))
             copy[rng.randrange(len(copy))] = byte
     elif choice == 3:
+        index = rng.randrange(len(copy) + 1)
+        copy[index : index + 1] = b""
+    elif choice == 4:
         (length,) = struct.unpack_from("<H", copy, at)
         length = rng.choice((length - 1, length + 1, length ^ 4, rng.randrange(12), 0xFFFF))
         struct.pack_into("<H", copy, at, length & 0xFFFF)
-    elif choice == 4:
+    elif choice == 5:
         copy[at + 2] = rng.choice((copy[at + 2], *REPLIES[name][2]))
         copy[at + 3] ^= rng.choice((0x40, 0x80, 0xC0))
     else:

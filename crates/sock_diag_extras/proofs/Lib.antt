@@ -1,1 +1,2 @@
 pub mod CompleteLenientIteration
+mod OneLenientIteration

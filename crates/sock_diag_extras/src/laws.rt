@@ -6,7 +6,7 @@ ghost use Rattle.std.specs.Prelude.{Result, Ok, Err};
 ghost use Rattle.std.specs.Prelude.{IfErr, IfOk, IsOk, IsTrue, MatchOption};
 ghost use Rattle.std.specs.Iterator.{Drains};
 ghost use Rattle.netlink_core.specs.Attribute.{DecodeTo};
-ghost use Rattle.netlink_core.specs.AttributeSet.{decode_attribute};
+ghost use Rattle.netlink_core.specs.AttributeSet.{AttributeValue, decode_attribute};
 ghost use Rattle.netlink_core.specs.Layout.{parse_record};
 ghost use Rattle.netlink_core.specs.Layout.{tag_fields};
 ghost use Rattle.attribute_lists.specs.AttributesIn.{HasNoAttributeError, decoded_in};
@@ -18,7 +18,8 @@ ghost use Rattle.sock_diag_attributes.specs.InetModel.{inet_nla_view_model as in
 ghost use Rattle.sock_diag_attributes.specs.UnixAttributes.{unix_attribute_set};
 ghost use Rattle.sock_diag_attributes.specs.UnixModel.{unix_nla_view_model as unix_view_model};
 ghost use Rattle.sock_diag_extras.specs.Lenient.{StartsWithLenientItem, YieldsLenientItem};
-ghost use Rattle.sock_diag_extras.specs.Lenient.{HasLenientItems, lenient_item_model};
+ghost use Rattle.sock_diag_extras.specs.Lenient.{HasLenientItems, RejectionModel};
+ghost use Rattle.sock_diag_extras.specs.Lenient.{lenient_item_model};
 ghost use Rattle.sock_diag_extras.specs.Lenient.{rejection_model};
 ghost use Rattle.sock_diag_extras.specs.Models.{ack_attributes, ack_number, ack_request};
 ghost use Rattle.sock_diag_extras.specs.Models.{lenient_bytes, lenient_header};
@@ -47,6 +48,13 @@ pub fn complete_lenient_iteration<'a, V: FamilyView<'a>>()
         → Drains (YieldsLenientItem V.attribute_set V.model) walk given
         → HasLenientItems V.attribute_set (unread_lenient_bytes walk)
         (map (lenient_item_model V.attribute_set V.model) given) }
+{}
+
+/// States that bytes have at most one list of lenient items (`HasLenientItems`).
+pub fn one_list_of_lenient_items<'a, V: FamilyView<'a>>()
+    ensures { (bytes : List ℕ) (xs ys : List (Result (AttributeValue V.attribute_set)
+        RejectionModel)) → HasLenientItems V.attribute_set bytes xs
+        → HasLenientItems V.attribute_set bytes ys → xs ≡ ys }
 {}
 
 /// States that a `LenientNlas` agrees with the strict views. If the bytes left have neither a

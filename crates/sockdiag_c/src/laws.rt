@@ -1,7 +1,8 @@
-//! Properties of iterations. Proof only: each contract states a property.
+//! Properties of iterations and of lenient calls. Proof only: each contract states a property.
 
-ghost use Rattle.std.specs.Prelude.{◌≡◌, ℕ, List, [], ◌∷◌, Option, Some, None};
-ghost use Rattle.netlink_core.specs.Attribute.{Attribute, SplitsIntoAttributes};
+ghost use Rattle.std.specs.Prelude.{◌≡◌, ◌<◌, ℕ, List, [], ◌∷◌, Option, Some, None, Err};
+ghost use Rattle.netlink_core.specs.Attribute.{Attribute, SplitsIntoAttributes, attribute_kind};
+ghost use Rattle.netlink_core.specs.AttributeSet.{decode_attribute};
 ghost use Rattle.netlink_core.specs.Bytes.{IsBytes};
 ghost use Rattle.netlink_core.specs.Datagram.{SplitsIntoMessages};
 ghost use Rattle.netlink_core.specs.declared.error.DecodeError.{DecodeError};
@@ -10,6 +11,7 @@ ghost use Rattle.sock_diag_attributes.specs.InetAttributes.{inet_attribute_set};
 ghost use Rattle.sock_diag_attributes.specs.UnixAttributes.{unix_attribute_set};
 ghost use Rattle.sock_diag_extras.specs.Lenient.{HasLenientItems};
 ghost use Rattle.sockdiag_c.specs.LenientDetails.{AgreesWithStrictParse, LenientItem};
+ghost use Rattle.sockdiag_c.specs.declared.lenient.TheConstants.{REJECTION_KINDS};
 ghost use Rattle.sockdiag_c.specs.declared.walks.AttributeRange.{AttributeRange};
 ghost use Rattle.sockdiag_c.specs.declared.walks.Cursor.{Cursor};
 ghost use Rattle.sockdiag_c.specs.declared.walks.MessageRange.{MessageRange};
@@ -76,4 +78,13 @@ pub fn lenient_calls_agree_with_strict_calls()
     ensures inet { (bytes : List ℕ) (items : List (LenientItem inet_attribute_set))
         → HasLenientItems inet_attribute_set bytes items
         → AgreesWithStrictParse inet_attribute_set bytes items }
+{}
+
+/// States that each kind of attribute that can be rejected has an element in `errors` of
+/// `struct sockdiag_rejections`.
+pub fn every_rejected_kind_has_a_code()
+    ensures unix { (a : Attribute) (e : DecodeError)
+        → decode_attribute unix_attribute_set a ≡ Err e → attribute_kind a < REJECTION_KINDS }
+    ensures inet { (a : Attribute) (e : DecodeError)
+        → decode_attribute inet_attribute_set a ≡ Err e → attribute_kind a < REJECTION_KINDS }
 {}

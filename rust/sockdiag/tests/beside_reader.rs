@@ -8,7 +8,7 @@ mod common;
 use common::bytes_of;
 use sockdiag::inet::{InetResponseHeader, LenientInetReply, Timer};
 use sockdiag::unix::{LenientUnixReply, UnixDiagName};
-use sockdiag::{DecodeError, RejectedAttribute};
+use sockdiag::{DecodeError, RecordName, RejectedAttribute};
 use std::collections::BTreeMap;
 use std::net::IpAddr;
 
@@ -24,32 +24,83 @@ fn text(kind: &str, bytes: &[u8]) -> String {
     format!("{kind}:{}", digits(bytes))
 }
 
-/// Returns the words about the rejected attributes: the code of the first error, of the framing
-/// error, and of the first error of each kind.
-fn rejections<'v>(rejected: impl Iterator<Item = RejectedAttribute<'v>>) -> String {
-    let (mut first, mut framing, mut errors) = (0, 0, BTreeMap::new());
-    for it in rejected {
-        let code = it.error.code();
-        if first == 0 {
-            first = code;
-        }
-        match it.kind {
-            Some(kind) => {
-                errors.entry(kind).or_insert(code);
-            }
-            None => framing = code,
-        }
+/// Returns the number of a record, as the C header has it.
+fn record_number(record: RecordName) -> u32 {
+    match record {
+        RecordName::InetResponseHeader => 3,
+        RecordName::UnixResponseHeader => 5,
+        RecordName::LegacyMemInfo => 6,
+        RecordName::MemInfo => 7,
+        RecordName::TcpInfo => 8,
+        RecordName::Vfs => 9,
+        RecordName::UnixMemInfo => 10,
+        other => panic!("{other}"),
     }
-    let errors: Vec<_> = errors
-        .iter()
-        .map(|(kind, code)| format!("{kind}:{code}"))
-        .collect();
-    let errors = if errors.is_empty() {
+}
+
+/// Returns the word for an error: its code, and the fields of `struct sockdiag_error_details`.
+fn error_word(error: DecodeError) -> String {
+    let (mut record, mut family, mut kind) = (0, 0, None);
+    let (mut got, mut need, mut length, mut index) = (0, 0, 0, 0);
+    match error {
+        DecodeError::BufferTooSmall {
+            which,
+            got: found,
+            need: least,
+        } => (record, got, need) = (record_number(which), found, least),
+        DecodeError::UnsupportedFamily { family: other } => family = other,
+        DecodeError::AttributeHeaderCut { left } => got = left,
+        DecodeError::AttributeLengthUnder4 { length: field } => length = field,
+        DecodeError::AttributeLengthPast {
+            length: field,
+            left,
+        } => (length, got) = (field, left),
+        DecodeError::WrongLength {
+            kind: it,
+            got: found,
+            need: exact,
+        } => (kind, got, need) = (it, found, exact),
+        DecodeError::NotMultipleOfFour { got: found } => got = found,
+        DecodeError::NameInnerZero { index: first } => index = first,
+        DecodeError::NotUtf8 | DecodeError::NameEmpty | DecodeError::NameWithoutEnd => {}
+        other => panic!("{other}"),
+    }
+    let (code, kind) = (error.code(), number(kind));
+    format!("{code}/{record}/{family}/0/{kind}/{got}/{need}/{length}/{index}")
+}
+
+/// Joins words by commas, or returns `-` if there are none.
+fn joined(words: Vec<String>) -> String {
+    if words.is_empty() {
         "-".into()
     } else {
-        errors.join(",")
-    };
-    format!("first={first} framing={framing} errors={errors}")
+        words.join(",")
+    }
+}
+
+/// Returns the words about the rejected attributes: the first error, the code of the framing error,
+/// the code of the first error of each kind, and each error.
+fn rejections<'v>(rejected: impl Iterator<Item = RejectedAttribute<'v>>) -> String {
+    let (mut first, mut framing, mut codes) = (None, 0, BTreeMap::new());
+    let mut every = Vec::new();
+    for it in rejected {
+        let (word, code) = (error_word(it.error), it.error.code());
+        first.get_or_insert(word.clone());
+        match it.kind {
+            Some(kind) => {
+                codes.entry(kind).or_insert(code);
+                every.push(format!("{kind}:{word}"));
+            }
+            None => {
+                framing = code;
+                every.push(format!("framing:{word}"));
+            }
+        }
+    }
+    let errors = codes.iter().map(|(kind, code)| format!("{kind}:{code}"));
+    let (first, errors) = (first.unwrap_or("0".into()), joined(errors.collect()));
+    let every = joined(every);
+    format!("first={first} framing={framing} errors={errors} rejected={every}")
 }
 
 fn unix_answer(payload: &[u8]) -> Result<String, DecodeError> {
@@ -169,7 +220,7 @@ fn answer(line: &str) -> String {
         "unix" => unix_answer(&payload),
         _ => inet_answer(&payload),
     };
-    answer.unwrap_or_else(|error| format!("error {}", error.code()))
+    answer.unwrap_or_else(|error| format!("error {}", error_word(error)))
 }
 
 #[test]

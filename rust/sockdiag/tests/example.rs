@@ -18,8 +18,7 @@ const ENOENT: i32 = 2;
 
 /// A stand-in for the kernel. The first dump is interrupted. The second one has the end of the
 /// first one, a reply that is too short, a reply about a socket, one with memory of 4 bytes instead
-/// of 36, and its own end. The request for TCP sockets over IPv4 is answered by replies with
-/// `struct tcp_info` in the sizes of several kernels. Each other request is answered by an error.
+/// of 36, and its own end. Each other request is answered by an error.
 #[derive(Default)]
 struct Kernel {
     requests: Vec<Vec<u8>>,
@@ -31,31 +30,6 @@ fn answer(sequence_number: u32, flags: u16, message_type: u16, payload: &[u8]) -
     let mut bytes = message_with_flags(flags, message_type, payload);
     bytes[8..12].copy_from_slice(&sequence_number.to_le_bytes());
     bytes
-}
-
-/// Returns a reply about a TCP socket. The inode and the round-trip time, at offset 68 of `struct
-/// tcp_info`, are the length of the struct.
-fn tcp_reply(length: usize) -> Vec<u8> {
-    let number = (length as u32).to_le_bytes();
-    let mut info = [0; 280];
-    info[68..72].copy_from_slice(&number);
-    let mut reply = vec![0; 72];
-    reply[..2].copy_from_slice(&[2, 1]);
-    reply[68..].copy_from_slice(&number);
-    attribute(&mut reply, 2, &info[..length]);
-    reply
-}
-
-/// Returns the line about such a socket.
-fn tcp_line(length: usize) -> String {
-    let mut line = format!("tcp state 1 0.0.0.0 0 0.0.0.0 0 uid 0 inode {length}");
-    if length >= 72 {
-        line += &format!(" rtt {length}");
-    }
-    if length < 232 {
-        line += &format!(" rejected 2 (TcpInfo: buffer of {length} bytes, at least 232 needed)");
-    }
-    line + "\n"
 }
 
 impl Write for Kernel {
@@ -76,10 +50,6 @@ impl Write for Kernel {
                 inner(&short_memory),
                 done(number, NLM_F_MULTI),
             ],
-            3 => {
-                let replies = [60, 104, 224, 232, 280].map(|length| inner(&tcp_reply(length)));
-                vec![replies.concat(), done(number, NLM_F_MULTI)]
-            }
             _ => vec![answer(number, 0, NLMSG_ERROR, &(-ENOENT).to_le_bytes())],
         };
         Ok(bytes.len())
@@ -110,8 +80,7 @@ fn lists_sockets_once_after_an_interrupted_dump() {
     let expected = "unix type 1 state 10 inode 78 @a\\x00b peer 3 pending 4 pending 261\n\
         unix type 1 state 10 inode 78  rejected 5 \
         (UnixMemInfo: buffer of 4 bytes, at least 36 needed)\n";
-    let tcp: String = [60, 104, 224, 232, 280].map(tcp_line).concat();
-    assert_eq!(lines, expected.to_owned() + &tcp);
+    assert_eq!(lines, expected);
     let requests = lister.kernel.requests;
     assert_eq!(requests.len(), 8);
     // The second request repeats the first one, with another sequence number.

@@ -1,0 +1,11 @@
+use Rattle.std.proofs.Common.{arith}
+use Rattle.sock_diag_attributes.specs.InetAttributes.{inet_attribute_set}
+use Rattle.sock_diag_attributes.specs.UnixAttributes.{unix_attribute_set}
+use Rattle.sockdiag_c.proofs.RejectedKinds.{rejected_kind_is_below}
+use Rattle.sockdiag_c.proofs.laws.every_rejected_kind_has_a_code.Goals as goal
+
+pub returns-clause-unix : goal.returns-clause-unix
+returns-clause-unix c = rejected_kind_is_below unix_attribute_set 32 (grind arith)
+
+pub returns-clause-inet : goal.returns-clause-inet
+returns-clause-inet c = rejected_kind_is_below inet_attribute_set 32 (grind arith)
