@@ -407,7 +407,7 @@ def print_all():
             if item.reached and module.name.split(".")[0] in CRATES:
                 name = item.name
                 if item.kind == "module":
-                    name = f"not a definition, but arguments of those below: {item.lines[0].strip()}"
+                    name = f"not a definition, arguments of those below: {item.lines[0].strip()}"
                 print(f"{module.name}: {name}, {len(item.lines)}, {item.comment}")
     members = {name for source in files for _, name, is_impl in source.ghosts() if is_impl}
     print(f"members of impls that name definitions: {', '.join(sorted(members))}")
