@@ -321,6 +321,41 @@ static void tells_numbers_in_words(void) {
           "the text of an unknown error");
 }
 
+/* An extended acknowledgement: the number, the header of the request, and the attributes. */
+static void finds_error_attributes(void) {
+    static const uint8_t refused[] = {
+        0xea, 0xff, 0xff, 0xff, 16, 0, 0, 0, 20, 0, 5, 0, 1, 0, 0, 0, 2, 0, 0, 0,
+        8, 0, 2, 0, 16, 0, 0, 0, 6, 0, 1, 0, 'n', 0,
+    };
+    struct sockdiag_cursor cursor = {7};
+    struct sockdiag_attribute attribute;
+    const uint16_t flags = SOCKDIAG_NLM_F_ACK_TLVS;
+    check(sockdiag_find_error_attributes(refused, 19, SOCKDIAG_NLMSG_ERROR, flags, &cursor) ==
+          SOCKDIAG_END && cursor.offset == 7, "no request");
+    check(sockdiag_find_error_attributes(refused, 3, SOCKDIAG_NLMSG_DONE, flags, &cursor) ==
+          SOCKDIAG_END && cursor.offset == 7, "no number");
+    check(sockdiag_find_error_attributes(refused, sizeof refused, SOCKDIAG_NLMSG_NOOP, flags,
+                                         &cursor) == SOCKDIAG_END && cursor.offset == 7,
+          "another message");
+    check(sockdiag_find_error_attributes(refused, sizeof refused, SOCKDIAG_NLMSG_ERROR, 0,
+                                         &cursor) == SOCKDIAG_ITEM &&
+          cursor.offset == sizeof refused, "no attributes");
+    check(sockdiag_find_error_attributes(refused, sizeof refused, SOCKDIAG_NLMSG_DONE, flags,
+                                         &cursor) == SOCKDIAG_ITEM && cursor.offset == 4,
+          "the attributes of the end of a dump");
+    check(sockdiag_find_error_attributes(refused, sizeof refused, SOCKDIAG_NLMSG_ERROR, flags,
+                                         &cursor) == SOCKDIAG_ITEM && cursor.offset == 20,
+          "the attributes of an error");
+    check(sockdiag_next_attribute(refused, sizeof refused, &cursor, &attribute) == SOCKDIAG_ITEM &&
+          attribute.type_word == SOCKDIAG_NLMSGERR_ATTR_OFFS && attribute.offset == 24,
+          "the offset of the invalid attribute");
+    check(sockdiag_next_attribute(refused, sizeof refused, &cursor, &attribute) == SOCKDIAG_ITEM &&
+          attribute.type_word == SOCKDIAG_NLMSGERR_ATTR_MSG && attribute.length == 2,
+          "the text of the error");
+    check(sockdiag_next_attribute(refused, sizeof refused, &cursor, &attribute) == SOCKDIAG_END,
+          "no more attributes");
+}
+
 static void walks_attributes(void) {
     struct sockdiag_cursor cursor = {SOCKDIAG_UNIX_ATTRIBUTES};
     struct sockdiag_attribute attribute = {0, 0, 0};
@@ -996,6 +1031,7 @@ int main(void) {
     tells_packet_details();
     tells_vsock_and_xdp_details();
     tells_numbers_in_words();
+    finds_error_attributes();
     walks_attributes();
     walks_messages();
     writes_unix_request();

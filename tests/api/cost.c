@@ -114,6 +114,12 @@ static void explain_message(const uint8_t *bytes, size_t length) {
     sink += sockdiag_message_explain(bytes, length, SOCKDIAG_SOCK_DIAG_BY_FAMILY, &error);
 }
 
+static void find_error_attributes(const uint8_t *bytes, size_t length) {
+    struct sockdiag_cursor cursor = {0};
+    sink += sockdiag_find_error_attributes(bytes, length, SOCKDIAG_NLMSG_ERROR,
+                                           SOCKDIAG_NLM_F_ACK_TLVS, &cursor);
+}
+
 /* One call, with the last index. A loop over all indices is quadratic, as its comment says. */
 static void last_pending(const uint8_t *bytes, size_t length) {
     uint32_t inode;
@@ -205,6 +211,7 @@ static void write_requests(const uint8_t *bytes, size_t length) {
     STRUCT(sockdiag_framing_explain, struct sockdiag_error_details, many_messages, one_message) \
     STRUCT(sockdiag_unix_explain_attribute, struct sockdiag_error_details, attributes, value)   \
     STRUCT(sockdiag_inet_explain_attribute, struct sockdiag_error_details, attributes, value)   \
+    OTHER(find_error_attributes, , value)                                                       \
     OTHER(explain_each, , unix_empty, unix_rejected, unix_path)                                 \
     WALK(sockdiag_next_attribute, struct sockdiag_attribute, attributes)                        \
     WALK(sockdiag_next_message, struct sockdiag_message, many_messages, one_message)            \

@@ -480,6 +480,15 @@ static void try_attributes_of_request(const uint8_t *bytes, size_t length) {
     expect_request(written, buffer, capacity);
 }
 
+static void try_error_attributes(const uint8_t *bytes, size_t length) {
+    const uint16_t type = (uint16_t)random_below(5), flags = (uint16_t)random_below(1024);
+    struct sockdiag_cursor cursor = {length + 1};
+    uint32_t found = sockdiag_find_error_attributes(bytes, length, type, flags, &cursor);
+    expect(found == SOCKDIAG_ITEM ? cursor.offset >= 4 && cursor.offset <= length
+                                  : found == SOCKDIAG_END && cursor.offset == length + 1,
+           "the offset of the attributes of an error");
+}
+
 static void try_all(const uint8_t *bytes, size_t length) {
     int32_t *number = (int32_t *)(void *)bytes_in(output_area, sizeof *number);
     const uint16_t type = random_below(8) ? SOCKDIAG_SOCK_DIAG_BY_FAMILY : (uint16_t)length;
@@ -497,6 +506,7 @@ static void try_all(const uint8_t *bytes, size_t length) {
     try_messages(bytes, length);
     try_values(bytes, length);
     try_values(bytes, length % 25);
+    try_error_attributes(bytes, length);
     try_requests(bytes, length);
     try_attributes_of_request(bytes, length);
 }

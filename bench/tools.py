@@ -1,0 +1,198 @@
+#!/usr/bin/env python3
+"""Compares the C library and the programs with other tools, on dumps of this machine's kernel.
+
+    bench/tools.py libmnl      the C library and a program over libmnl parse the same dumps
+    bench/tools.py ss          sslist and ss(8) list the sockets of the same dumps
+    bench/tools.py original    sockdiag and a program over the Rust crate answer the same lines
+
+Prints a Markdown table. Ratios are of instructions in user mode, which callgrind counts: other
+processes do not change them. A time is the least of many runs. The first run opens some thousand
+sockets and records their dumps by bench/dumps.py, in the folder out/bench/dumps; pcap files of the
+same names there are used instead. What the kit builds is built first if necessary. Needs valgrind
+and cc; libmnl-dev; ss; cargo and crates.io, or the folder BENCH_ORIGINAL (bench/compare.sh).
+"""
+import os
+import re
+import resource
+import shutil
+import subprocess
+import sys
+from pathlib import Path
+
+import dumps
+
+TOP = Path(__file__).resolve().parent.parent
+BENCH = TOP / "bench"
+MADE = TOP / "out" / "bench"
+LIBRARY = TOP / "crates" / "sockdiag_c" / "out" / "libsockdiag_c.a"
+RUNS = 30
+HEADERS = 16  # Length of the header of a message, and of the cooked header of a packet.
+
+
+def quietly(*command, **options):
+    """Runs a command. Prints its output if it fails."""
+    done = subprocess.run(command, stdout=subprocess.PIPE, stderr=subprocess.STDOUT, **options)
+    if done.returncode != 0:
+        sys.exit(f"{command[0]}: {done.stdout.decode(errors='replace')}")
+
+
+def run(command, given=os.devnull, **more):
+    """Runs a program with a file as its input and further variables. Returns what it writes on
+    standard error."""
+    with open(given, "rb") as stdin:
+        return subprocess.run(command, stdin=stdin, stdout=subprocess.DEVNULL,
+                              stderr=subprocess.PIPE, check=True, env=os.environ | more).stderr
+
+
+def instructions(command, given=os.devnull, function=None, **more):
+    """Returns the number of instructions of a program, or of one function and what it calls."""
+    valgrind = ["valgrind", "--tool=callgrind", "--callgrind-out-file=/dev/null"]
+    toggle = [f"--toggle-collect={function}"] if function else []
+    report = run(valgrind + toggle + command, given, LD_BIND_NOW="1", **more)
+    return int(re.search(rb"Collected : (\d+)", report)[1])
+
+
+def cpu_time(command, given=os.devnull, **more):
+    """Returns the least CPU time of a program, user and system, in nanoseconds."""
+    least = float("inf")
+    for _ in range(RUNS):
+        before = resource.getrusage(resource.RUSAGE_CHILDREN)
+        run(command, given, **more)
+        after = resource.getrusage(resource.RUSAGE_CHILDREN)
+        spent = after.ru_utime + after.ru_stime - before.ru_utime - before.ru_stime
+        least = min(least, spent * 1e9)
+    return least
+
+
+def recorded():
+    """Returns the recorded dumps, UNIX and TCP. Records them first if there are none."""
+    folder = MADE / "dumps"
+    if not folder.exists():
+        dumps.main(folder)
+    return folder / "unix.pcap", folder / "tcp.pcap"
+
+
+def datagrams(capture):
+    """Yields the datagrams of a capture that are answers of the kernel."""
+    data = capture.read_bytes()
+    at = len(dumps.GLOBAL_HEADER)
+    while at < len(data):
+        length = int.from_bytes(data[at + 8 : at + 12], "little")
+        datagram = data[at + 16 + HEADERS : at + 16 + length]
+        if datagram[6] & 1 == 0:  # NLM_F_REQUEST
+            yield datagram
+        at += 16 + length
+
+
+def replies(capture):
+    """Returns the payloads of the replies in a capture."""
+    found = []
+    for datagram in datagrams(capture):
+        at = 0
+        while at < len(datagram):
+            length = int.from_bytes(datagram[at : at + 4], "little")
+            if datagram[at + 4] == dumps.SOCK_DIAG_BY_FAMILY:
+                found.append(datagram[at + HEADERS : at + length])
+            at += (length + 3) & ~3
+    return found
+
+
+def program(name, given=os.devnull):
+    """Returns the path of a program of this repository. Starts it with a valid input, which proves
+    and builds it first if necessary."""
+    run([str(TOP / name)], given)
+    return str(TOP / "crates" / name / "out" / name)
+
+
+def print_table(*rows):
+    for row in rows:
+        print("|", " | ".join(str(column) for column in row), "|", flush=True)
+
+
+def compare_libmnl():
+    if not LIBRARY.exists():
+        quietly("rt", "lib", cwd=TOP / "crates" / "sockdiag_c")
+    built = str(MADE / "libmnl")
+    quietly("cc", "-O2", f"-I{TOP / 'include'}", "-o", built, str(BENCH / "libmnl.c"), str(LIBRARY),
+            "-lmnl")
+    print_table(("replies", "parsed by", "of libmnl's", "instructions a reply", "ns a reply"),
+                ("---",) * 5)
+    for capture in recorded():
+        times = subprocess.run([built, capture], stdout=subprocess.PIPE, check=True).stdout
+        rows = [line.split() for line in times.decode().splitlines()]
+        counts = {
+            name: instructions([built, str(capture), name], function=f"pass_{name}") / int(number)
+            for name, number, _ in rows
+        }
+        for name, number, time in rows:
+            ratio = counts[name] / counts["libmnl"]
+            print_table((f"{number} {capture.stem}", name, f"{ratio:.2f}", f"{counts[name]:.0f}",
+                         f"{float(time):.0f}"))
+
+
+def compare_ss():
+    sslist = program("sslist", recorded()[0])
+    replay = str(MADE / "replay.so")
+    quietly("cc", "-O2", "-shared", "-fPIC", "-o", replay, str(BENCH / "replay.c"))
+    print_table(("sockets", "sslist of ss", "instructions a socket", "CPU time, µs a socket"),
+                ("---",) * 4)
+    for capture, arguments in zip(recorded(), ("-xanem", "-tanioem")):
+        count = len(replies(capture))
+        given = {"LD_PRELOAD": replay, "REPLAY": str(capture)}
+        counts = (instructions([sslist], capture) / count,
+                  instructions([shutil.which("ss"), arguments], **given) / count)
+        times = cpu_time([sslist], capture), cpu_time(["ss", arguments], **given)
+        print_table((f"{count} {capture.stem}, `ss {arguments}`", f"{counts[0] / counts[1]:.2f}",
+                     "{:.0f}, {:.0f}".format(*counts),
+                     ", ".join(f"{time / count / 1000:.2f}" for time in times)))
+
+
+def build_original():
+    """Builds the program over the Rust crate in a copy of its folder, and returns its path."""
+    place = MADE / "original"
+    shutil.copytree(BENCH / "original", place, dirs_exist_ok=True)
+    options = ["--release", "--target-dir", "target"]
+    if "BENCH_ORIGINAL" in os.environ:
+        folder = Path(os.environ["BENCH_ORIGINAL"]).resolve()
+        patch = "patch.crates-io.netlink-packet"
+        options += ["--offline", "--config", f"{patch}-sock-diag.path='{folder / 'sockdiag'}'",
+                    "--config", f"{patch}-core.path='{folder / 'core'}'"]
+    quietly("cargo", "build", *options, cwd=place)
+    return str(place / "target" / "release" / "original")
+
+
+def lines():
+    """Yields each input for sockdiag: its name, the number of replies in it, and its lines."""
+    for capture, command in zip(recorded(), ("unix", "inet")):
+        kinds = [(command, replies(capture))]
+        if command == "unix":
+            kinds.append(("unixview", replies(capture)))
+        kinds.append(("netlink", [dumps.message(it) for it in replies(capture)]))
+        for name, found in kinds:
+            text = "".join(f"{name} {it.hex()}\n" for it in found)
+            yield f"`{name}`, {len(found)} lines, {capture.stem}", len(found), text
+        whole = " ".join(it.hex() for it in datagrams(capture))
+        yield f"`dump`, one line, {capture.stem}", len(replies(capture)), f"dump {whole}\n"
+
+
+def compare_original():
+    own, other = program("sockdiag"), build_original()
+    given = MADE / "lines"
+    print_table(("lines", "sockdiag of the other", "instructions a reply", "CPU time, µs a reply"),
+                ("---",) * 4)
+    for name, count, text in lines():
+        given.write_text(text)
+        counts = [instructions([it], given) / count for it in (own, other)]
+        times = [cpu_time([it], given) / count / 1000 for it in (own, other)]
+        print_table((name, f"{counts[0] / counts[1]:.2f}", "{:.0f}, {:.0f}".format(*counts),
+                     "{:.2f}, {:.2f}".format(*times)))
+
+
+COMPARISONS = {"libmnl": compare_libmnl, "ss": compare_ss, "original": compare_original}
+
+if __name__ == "__main__":
+    if len(sys.argv) != 2 or sys.argv[1] not in COMPARISONS:
+        print(__doc__, file=sys.stderr)
+        sys.exit(2)
+    MADE.mkdir(parents=True, exist_ok=True)
+    COMPARISONS[sys.argv[1]]()
