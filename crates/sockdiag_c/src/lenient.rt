@@ -156,7 +156,7 @@ fn store_lenient_details<'a, T: ReplyDetails<'a>>(
 // Parses each attribute. Sets the fields of the valid ones, unless they are set already, and
 // returns the errors of the others.
 fn set_valid_details<'a, T: ReplyDetails<'a>>(bytes: &'a [u8], details: &mut T) -> Rejections
-    ensures { (items : List (LenientItem T.reply.attribute_set))
+    ensures items { (items : List (LenientItem T.reply.attribute_set))
         × HasLenientItems T.reply.attribute_set bytes.entry.now items
         × ((h : T.reply.header.Value) → T.describes h details.old []
         → T.describes h details.new (accepted_values items))
