@@ -19,6 +19,7 @@ NETLINK_SOCK_DIAG = 4
 SOCK_DIAG_BY_FAMILY = 20
 DUMP_REQUEST = 0x301  # NLM_F_REQUEST and NLM_F_DUMP
 NLM_F_MULTI = 2
+NLMSG_ERROR = 2
 NLMSG_DONE = 3
 ALL = 0xFFFFFFFF
 SEQUENCE = 123456
@@ -45,11 +46,14 @@ def message(body, flags=NLM_F_MULTI):
 
 def answer(sent):
     """Sends a request, and returns the datagrams of the dump."""
-    datagrams = []
+    datagrams, kind = [], None
     with socket.socket(socket.AF_NETLINK, socket.SOCK_DGRAM, NETLINK_SOCK_DIAG) as kernel:
         kernel.send(sent)
-        while not datagrams or struct.unpack_from("<H", datagrams[-1], 4)[0] != NLMSG_DONE:
+        while kind != NLMSG_DONE:
             datagrams.append(kernel.recv(1 << 16))
+            kind = struct.unpack_from("<H", datagrams[-1], 4)[0]
+            if kind == NLMSG_ERROR:
+                sys.exit("the kernel rejects a request")
     return datagrams
 
 

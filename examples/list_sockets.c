@@ -7,9 +7,11 @@
  * Each kind is requested from NETLINK_SOCK_DIAG by a dump request, as sock_diag(7) shows. Replies
  * are parsed in the buffer that recv(2) filled. An attribute that is rejected does not hide its
  * socket: the line ends with its kind and its error. A reply whose header is rejected is reported,
- * and the dump continues. A dump that was interrupted is requested again; its lines are not
- * printed. The exit status is 0 if all sockets were listed, 1 if not, and 2 for wrong arguments.
- * The program is valid C99 and C++.
+ * and the dump continues. A dump that was interrupted, or of which data was lost, is requested
+ * again; its lines are not printed. The exit status is 0 if every reply was listed and no dump was
+ * reported as interrupted or lost data, 1 if not, and 2 for wrong arguments. Sockets that open or
+ * close during a dump may be missing or listed twice with status 0 too: the kernel does not report
+ * it. The program is valid C99 and C++.
  */
 #include "sockdiag.h"
 
@@ -27,11 +29,12 @@
 /* Missing in older headers of the C library. */
 #define PROTOCOL_MPTCP 262
 
-/* How often a dump is requested if it is always interrupted. */
+/* How often a dump is requested if it is always interrupted or data is always lost. */
 #define ATTEMPTS 10
 
-/* State of a dump. A dump ends with NLMSG_DONE. If it is rejected, it ends with NLMSG_ERROR. */
-enum progress { GOES_ON, COMPLETE, FAILED };
+/* State of a dump. A dump ends with NLMSG_DONE. If it is rejected, it ends with NLMSG_ERROR. If
+ * data was lost, the end may be lost too: the rest of the dump is not received. */
+enum progress { GOES_ON, COMPLETE, LOST, FAILED };
 
 /* The sockets to list. */
 struct selection {
@@ -85,7 +88,7 @@ static void print_pending(FILE *lines, const uint8_t *payload, size_t length) {
     struct sockdiag_attribute it;
     uint32_t inode;
     while (sockdiag_next_attribute(payload, length, &cursor, &it) == SOCKDIAG_ITEM) {
-        if ((it.type_word & 0x3fff) != SOCKDIAG_UNIX_DIAG_ICONS)
+        if ((it.type_word & SOCKDIAG_NLA_TYPE_MASK) != SOCKDIAG_UNIX_DIAG_ICONS)
             continue;
         while (sockdiag_next_pending(payload + it.offset, it.length, &step, &inode)
                == SOCKDIAG_ITEM)
@@ -188,17 +191,20 @@ static enum progress print_datagram(struct dump *dump, const struct kernel *kern
         if (sockdiag_ends_answer(&message))
             return end(dump->protocol, payload, message.length);
         if (message.message_type == SOCKDIAG_NLMSG_OVERRUN)
-            return fprintf(stderr, "list_sockets: %s: data was lost\n", dump->protocol), FAILED;
+            return LOST;
         if (message.message_type == SOCKDIAG_SOCK_DIAG_BY_FAMILY)
             print_reply(dump, payload, message.length);
     }
+    /* After a framing error the rest of the datagram is unknown, and may have the end. */
     if (answer != SOCKDIAG_END)
         return fprintf(stderr, "list_sockets: %s: invalid datagram: %s\n", dump->protocol,
-                       sockdiag_error_text(answer)), FAILED;
+                       sockdiag_error_text(answer)), LOST;
     return GOES_ON;
 }
 
-/* Receives datagrams and prints their replies, until the dump ends. */
+/* Receives datagrams and prints their replies, until the dump ends. The datagrams of a dump have at
+ * most 32 KiB. With MSG_TRUNC, recv(2) returns the length of a datagram that exceeds the buffer;
+ * without it, it cuts the datagram silently. It fails with ENOBUFS if datagrams were dropped. */
 static enum progress receive(struct dump *dump, const struct kernel *kernel) {
     static union {
         struct nlmsghdr aligned;
@@ -209,6 +215,8 @@ static enum progress receive(struct dump *dump, const struct kernel *kernel) {
         const ssize_t got = recv(kernel->fd, datagram.bytes, sizeof datagram.bytes, MSG_TRUNC);
         if (got < 0 && errno == EINTR)
             continue;
+        if (got < 0 && errno == ENOBUFS)
+            return LOST;
         if (got < 0)
             return fail("recv"), FAILED;
         if ((size_t)got > sizeof datagram.bytes)
@@ -229,6 +237,33 @@ static enum progress request_dump(struct dump *dump, struct kernel *kernel, uint
     return receive(dump, kernel);
 }
 
+/* Opens a socket to which only the kernel can send, and gets its port id. */
+static int open_kernel(struct kernel *kernel) {
+    struct sockaddr_nl address;
+    socklen_t length = sizeof address;
+    memset(&address, 0, sizeof address);
+    address.nl_family = AF_NETLINK;
+    kernel->fd = socket(AF_NETLINK, SOCK_DGRAM | SOCK_CLOEXEC, SOCKDIAG_NETLINK_SOCK_DIAG);
+    if (kernel->fd < 0)
+        return fail("socket");
+    if (connect(kernel->fd, (struct sockaddr *)&address, sizeof address) != 0
+        || getsockname(kernel->fd, (struct sockaddr *)&address, &length) != 0) {
+        fail("connect");
+        close(kernel->fd);
+        kernel->fd = -1;
+        return -1;
+    }
+    kernel->port_number = address.nl_pid;
+    return 0;
+}
+
+/* Opens another socket, on which the rest of the last answer is not received. The kernel runs one
+ * dump at a time for each socket, and answers with EBUSY if another one is requested. */
+static int open_again(struct kernel *kernel) {
+    close(kernel->fd);
+    return open_kernel(kernel);
+}
+
 /* Copies the lines to standard output. */
 static void print_lines(FILE *lines) {
     char buffer[4096];
@@ -238,26 +273,29 @@ static void print_lines(FILE *lines) {
         fwrite(buffer, 1, length, stdout);
 }
 
-/* Requests a dump until it is not interrupted, and prints its lines. Returns 0 if all sockets were
- * listed. */
+/* Requests a dump until it is not interrupted and no data is lost, and prints its lines. Returns 0
+ * if this succeeds, and no reply is rejected. */
 static int list(struct kernel *kernel, const char *protocol, uint8_t *request, size_t length) {
     int attempt;
     for (attempt = 1; attempt <= ATTEMPTS; attempt++) {
         struct dump dump = {protocol, NULL, 0, 0};
         enum progress progress;
+        int is_to_repeat;
         dump.lines = tmpfile();
         if (dump.lines == NULL)
             return fail("tmpfile");
         progress = request_dump(&dump, kernel, request, length);
-        if (progress != COMPLETE || !dump.is_interrupted || attempt == ATTEMPTS)
+        is_to_repeat = progress == LOST || (progress == COMPLETE && dump.is_interrupted);
+        if (!is_to_repeat || attempt == ATTEMPTS)
             print_lines(dump.lines);
         fclose(dump.lines);
-        if (progress != COMPLETE)
+        if (progress == FAILED || (progress == LOST && open_again(kernel) != 0))
             return -1;
-        if (!dump.is_interrupted)
+        if (!is_to_repeat)
             return dump.has_rejected_reply ? -1 : 0;
     }
-    return fprintf(stderr, "list_sockets: %s: interrupted %d times\n", protocol, ATTEMPTS), -1;
+    return fprintf(stderr, "list_sockets: %s: interrupted, or data lost, %d times\n", protocol,
+                   ATTEMPTS), -1;
 }
 
 static int list_unix(struct kernel *kernel, const struct selection *selection) {
@@ -308,6 +346,10 @@ static int list_inet(struct kernel *kernel, const char *name, uint32_t protocol,
         length = sockdiag_write_inet_request_with_attributes(&request, (const uint8_t *)&filter,
                                                              filter_length, bytes, sizeof bytes,
                                                              &outcome);
+        /* The protocol is also an attribute, which kernels without MPTCP ignore. By the low byte in
+         * the record, IPPROTO_TCP, they list TCP sockets again. For 0 they answer with ENOENT. */
+        if (protocol > UINT8_MAX)
+            bytes[NLMSG_HDRLEN + offsetof(struct inet_diag_req_v2, sdiag_protocol)] = 0;
         failed |= list(kernel, name, bytes, length);
     }
     return failed;
@@ -331,26 +373,6 @@ static int list_selected(struct kernel *kernel, const struct selection *selectio
     failed |= list_inet(kernel, "udp", IPPROTO_UDP, 0, udp, selection->port);
     failed |= list_inet(kernel, "mptcp", PROTOCOL_MPTCP, 0, tcp, selection->port);
     return failed;
-}
-
-/* Opens a socket to which only the kernel can send, and gets its port id. */
-static int open_kernel(struct kernel *kernel) {
-    struct sockaddr_nl address;
-    socklen_t length = sizeof address;
-    memset(&address, 0, sizeof address);
-    address.nl_family = AF_NETLINK;
-    kernel->sequence_number = 0;
-    kernel->fd = socket(AF_NETLINK, SOCK_DGRAM | SOCK_CLOEXEC, SOCKDIAG_NETLINK_SOCK_DIAG);
-    if (kernel->fd < 0)
-        return fail("socket");
-    if (connect(kernel->fd, (struct sockaddr *)&address, sizeof address) != 0
-        || getsockname(kernel->fd, (struct sockaddr *)&address, &length) != 0) {
-        fail("connect");
-        close(kernel->fd);
-        return -1;
-    }
-    kernel->port_number = address.nl_pid;
-    return 0;
 }
 
 /* Reads the arguments. Returns 0, or -1 if they are wrong. */
@@ -378,6 +400,7 @@ int main(int argc, char **argv) {
         return fputs("usage: list_sockets [-l] [PORT]\n", stderr), 2;
     if (!sockdiag_is_compatible())
         return fputs("list_sockets: the library has another version than its header\n", stderr), 1;
+    kernel.sequence_number = 0;
     if (open_kernel(&kernel) != 0)
         return 1;
     failed = list_selected(&kernel, &selection);

@@ -105,6 +105,9 @@ static size_t fill_inet(struct request *request, const struct kind *kind) {
     request->body.inet.fixed.idiag_states = UINT32_MAX;
     if (kind->protocol <= UINT8_MAX)
         return sizeof request->body.inet.fixed;
+    /* Kernels without MPTCP ignore the attribute. By the low byte of the protocol, IPPROTO_TCP,
+     * they would list TCP sockets. For 0 they answer with ENOENT. */
+    request->body.inet.fixed.sdiag_protocol = 0;
     request->body.inet.head.nla_type = INET_DIAG_REQ_PROTOCOL;
     request->body.inet.head.nla_len = NLA_HDRLEN + sizeof request->body.inet.protocol;
     request->body.inet.protocol = kind->protocol;
@@ -211,13 +214,22 @@ static int receive(int kernel, struct datagram *received) {
 }
 
 /* Returns the message that ends an answer, NLMSG_DONE or NLMSG_ERROR, or NULL if the datagram has
- * none. */
-static const struct nlmsghdr *find_end(const struct datagram *it) {
-    const struct nlmsghdr *message = &it->data.aligned;
-    unsigned int left = (unsigned int)stored_length(it);
-    for (; NLMSG_OK(message, left); message = NLMSG_NEXT(message, left))
+ * none. Sets *is_truncated if bytes follow that are not a message: they may have the end. */
+static const struct nlmsghdr *find_end(const struct datagram *it, int *is_truncated) {
+    const size_t length = stored_length(it);
+    size_t offset = 0;
+    *is_truncated = 0;
+    while (offset < length) {
+        const struct nlmsghdr *message =
+            (const struct nlmsghdr *)(const void *)(it->data.bytes + offset);
+        *is_truncated = length - offset < sizeof *message || message->nlmsg_len < sizeof *message
+                        || message->nlmsg_len > length - offset;
+        if (*is_truncated)
+            return NULL;
         if (message->nlmsg_type == NLMSG_DONE || message->nlmsg_type == NLMSG_ERROR)
             return message;
+        offset += NLMSG_ALIGN(message->nlmsg_len);
+    }
     return NULL;
 }
 
@@ -225,7 +237,8 @@ static const struct nlmsghdr *find_end(const struct datagram *it) {
 static int is_unknown_kind(const struct datagram *it) {
     const struct nlmsghdr *message = &it->data.aligned;
     int32_t error = 0;
-    if (find_end(it) != message || message->nlmsg_len < NLMSG_LENGTH(sizeof error))
+    int is_truncated;
+    if (find_end(it, &is_truncated) != message || message->nlmsg_len < NLMSG_LENGTH(sizeof error))
         return 0;
     memcpy(&error, NLMSG_DATA(message), sizeof error);
     return error == -ENOENT || error == -EINVAL;
@@ -235,17 +248,21 @@ static int is_unknown_kind(const struct datagram *it) {
  * and no argument names it. */
 static int dump(int kernel, const struct kind *kind, int is_named) {
     static struct datagram sent, received;
+    int is_truncated = 0;
     if (send_request(kernel, kind, &sent) != 0 || receive(kernel, &received) != 0)
         return -1;
     if (!is_named && is_unknown_kind(&received))
         return 0;
     write_packet(&sent);
     write_packet(&received);
-    while (received.length <= sizeof received.data && find_end(&received) == NULL) {
+    while (received.length <= sizeof received.data && find_end(&received, &is_truncated) == NULL
+           && !is_truncated) {
         if (receive(kernel, &received) != 0)
             return -1;
         write_packet(&received);
     }
+    if (is_truncated)
+        return fprintf(stderr, "sockdump: %s: truncated message\n", kind->name), -1;
     if (received.length <= sizeof received.data)
         return 0;
     fprintf(stderr, "sockdump: %s: datagram of %lu bytes exceeds the buffer\n", kind->name,

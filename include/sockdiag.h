@@ -255,6 +255,12 @@ enum sockdiag_unix_show {
     SOCKDIAG_UDIAG_SHOW_UID = 64      /* Flag of a UNIX request: requests UNIX_DIAG_UID. */
 };
 
+/*
+ * The bits of the kind in the type field of an attribute, type_word (NLA_TYPE_MASK of
+ * linux/netlink.h). The other two are NLA_F_NESTED and NLA_F_NET_BYTEORDER.
+ */
+#define SOCKDIAG_NLA_TYPE_MASK 0x3fff
+
 /* Kinds of attributes in replies about UNIX sockets. */
 enum sockdiag_unix_attribute {
     SOCKDIAG_UNIX_DIAG_NAME = 0,     /* Name that the socket is bound to. */
@@ -1001,7 +1007,13 @@ size_t sockdiag_inet_get_memory(const uint8_t *payload, size_t length,
 
 /*
  * Why attributes of a reply are rejected: codes of errors, as sockdiag_error_text takes them. A
- * code is 0 if there is no such error.
+ * code is 0 if there is no such error. If a reply has several attributes of a kind, the kind can
+ * have a value in the details and an error here: the value is that of the first valid attribute,
+ * and the error that of the first rejected one. The kinds that can be rejected are UNIX_DIAG_NAME
+ * to UNIX_DIAG_SHUTDOWN of UNIX sockets, and INET_DIAG_MEMINFO, _INFO, _CONG, _TOS, _TCLASS,
+ * _SKMEMINFO, _SHUTDOWN, _PROTOCOL, _SKV6ONLY, _MARK and _CLASS_ID of internet sockets. Values of
+ * other kinds are not checked: of INET_DIAG_CGROUP_ID, for example, only sockdiag_get_cgroup_id
+ * checks the length, and returns 0 if it is wrong.
  */
 struct sockdiag_rejections {
     uint32_t first;     /* Code of the first error. If it is 0, the whole reply is accepted.
@@ -1058,9 +1070,15 @@ uint32_t sockdiag_inet_get_lenient_details(const uint8_t *payload, size_t length
  * that does not have 4 bytes is SOCKDIAG_WRONG_LENGTH. Bytes after the last field of a record are
  * ignored, since newer kernels send more. An attribute of another kind is not an error;
  * sockdiag_next_attribute returns it.
+ *
+ * There are no lenient calls for these families: one attribute that is rejected hides its socket.
+ * To list every socket, repeat a rejected call with the length of the header, such as
+ * SOCKDIAG_NETLINK_ATTRIBUTES, as the length of the payload, unless the payload is shorter: the
+ * details then have the header. Read the attributes by sockdiag_next_attribute, from a cursor with
+ * this offset.
  */
 
-/* Offsets of the attributes. */
+/* Offsets of the attributes, which are the lengths of the headers. */
 #define SOCKDIAG_NETLINK_ATTRIBUTES 28 /* Size of struct netlink_diag_msg in bytes. */
 #define SOCKDIAG_PACKET_ATTRIBUTES 16  /* Size of struct packet_diag_msg in bytes. */
 #define SOCKDIAG_VSOCK_ATTRIBUTES 32   /* Size of struct vsock_diag_msg in bytes. */
@@ -1417,7 +1435,8 @@ uint32_t sockdiag_next_message(const uint8_t *datagram, size_t length,
  * Stores the message at the cursor, and advances the cursor past it and its padding. Returns 1,
  * whatever the type and the payload of the message; or 0 if no bytes are left, and then nothing is
  * written; or the code of the framing error there, 16 to 18, and then the message is unchanged and
- * nothing is left.
+ * nothing is left. Then the rest of the datagram is lost, and with it possibly the end of the dump:
+ * request the dump again, on another socket, instead of waiting for its end.
  *
  * The payload is not checked. So a reply that is passed to sockdiag_unix_get_details or a similar
  * call is checked only once. A reply that such a call rejects does not end a dump: continue with
@@ -1434,8 +1453,9 @@ uint32_t sockdiag_next_any_message(const uint8_t *datagram, size_t length,
  *
  * An NLMSG_ERROR with 0 is an acknowledgement. A dump that failed also ends with NLMSG_DONE, so
  * look at the number there too. A kernel that lacks the protocol answers a request for it with
- * -ENOENT or -EINVAL. What follows the number is not returned: the request, and for a socket with
- * NETLINK_EXT_ACK more about the error, which sockdiag_find_error_attributes finds.
+ * -ENOENT or -EINVAL; one without MPTCP may list TCP sockets instead, see the field protocol of
+ * struct sockdiag_inet_request. What follows the number is not returned: the request, and for a
+ * socket with NETLINK_EXT_ACK more about the error, which sockdiag_find_error_attributes finds.
  */
 uint32_t sockdiag_get_error_number(const uint8_t *payload, size_t length, int32_t *number);
 
@@ -1468,9 +1488,11 @@ static inline int sockdiag_is_answer(const struct sockdiag_message *message,
 }
 
 /*
- * Returns 1 if the message reports that sockets changed during the dump (NLM_F_DUMP_INTR), else 0.
- * Test each message of a dump, also its end. If the dump is interrupted, it may lack sockets: read
- * up to its end, and send the request again.
+ * Returns 1 if the message reports that the dump is inconsistent (NLM_F_DUMP_INTR), else 0. Test
+ * each message of a dump, also its end. If one has the flag, read up to the end, and send the
+ * request again. 0 does not mean that the list is complete: Linux 6.18 did not set the flag in any
+ * message of dumps during which sockets opened and closed, and sockets were missing or listed
+ * twice. For a complete list request several dumps, and merge them by the cookies of the sockets.
  */
 static inline int sockdiag_is_interrupted(const struct sockdiag_message *message)
 {
@@ -1492,8 +1514,9 @@ static inline int sockdiag_ends_answer(const struct sockdiag_message *message)
  *
  * These attributes are not in the details of a reply. sockdiag_next_attribute returns them: pass
  * the bytes of its value, which are payload + attribute.offset and attribute.length. The caller
- * chooses the call by the kind, attribute.type_word & 0x3fff. A value that is longer than the
- * struct is accepted, since newer kernels may append fields; a number has exactly its length.
+ * chooses the call by the kind, attribute.type_word & SOCKDIAG_NLA_TYPE_MASK. A value that is
+ * longer than the struct is accepted, since newer kernels may append fields; a number has exactly
+ * its length.
  *
  * A value that is an array is read by steps, from a cursor with the offset 0, while the call
  * returns SOCKDIAG_ITEM. The time for all items of a value is proportional to its length.
@@ -1844,11 +1867,15 @@ struct sockdiag_inet_request {
                                               their replies. */
     uint32_t protocol;                     /* Protocol, one of IPPROTO_... Request one protocol
                                               at a time, since replies do not contain it. The low
-                                              byte is written to the record (sdiag_protocol). A
-                                              protocol above 255, such as IPPROTO_MPTCP, is also
-                                              written as an attribute INET_DIAG_REQ_PROTOCOL. The
-                                              low byte of IPPROTO_MPTCP is IPPROTO_TCP, which a
-                                              kernel without MPTCP uses. */
+                                              byte is written to the record (sdiag_protocol, byte
+                                              17 of the message). A protocol above 255, such as
+                                              IPPROTO_MPTCP, is also written as an attribute
+                                              INET_DIAG_REQ_PROTOCOL. A kernel that does not know
+                                              this attribute may ignore it. The low byte of
+                                              IPPROTO_MPTCP is IPPROTO_TCP, so it then lists TCP
+                                              sockets again. If byte 17 is set to 0 before the
+                                              message is sent, such a kernel answers with an
+                                              error instead. */
     uint32_t states;                       /* States to include, with the bit 1 << TCP_LISTEN for
                                               TCP_LISTEN (idiag_states). UINT32_MAX includes all.
                                               The bit 1 << TCP_BOUND_INACTIVE includes TCP

@@ -43,8 +43,9 @@ build fuzz_c "$top/tests/api/fuzz_c.c" "$@"
 # The lenient calls, compared with an independent reader.
 CFLAGS="$*" SOCKDIAG_LIB_DIR="$top/crates/sockdiag_c/out" "$top/tests/live/compare_lenient.sh"
 
-# The example with answers that a kernel seldom sends: an interrupted dump is requested again, a
-# rejected reply does not end a dump, and a rejected attribute does not hide its socket.
+# The example with answers that a kernel seldom sends: an interrupted dump is requested again, and
+# one that lost data on another socket, a rejected reply does not end a dump, and a rejected
+# attribute does not hide its socket.
 build fake_list "$top/examples/list_sockets.c" "$top/tests/api/fake_kernel.c"
 "$work/fake_list" >"$work/found" 2>"$work/errors" && exit 1
 "$work/fake_list" -l >>"$work/found" 2>>"$work/errors" && exit 1
@@ -57,6 +58,7 @@ unix type 1 state 10 inode 2  rejected 5 (buffer of too few bytes)
 4 list_sockets: mptcp: No such file or directory
 4 list_sockets: tcp: No such file or directory
 4 list_sockets: udp: No such file or directory
+2 list_sockets: udp: invalid datagram: message length is past the bytes given
 2 list_sockets: unix: invalid reply: buffer of too few bytes
 END
 

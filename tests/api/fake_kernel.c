@@ -6,13 +6,16 @@
  * its replies, by a datagram each. A line is a protocol, which is unix, tcp, udp or mptcp, a space,
  * and the payload in hexadecimal digits. Other lines are comments. A dump has the replies with the
  * protocol, the family and the states of the request. If no line has the protocol, the answer is
- * EINVAL. tests/api/kernels.py runs listers in this way.
+ * EINVAL. If the file has no mptcp, the attribute with the protocol is ignored, as kernels without
+ * MPTCP do. tests/api/kernels.py runs listers in this way.
  *
  * Otherwise the first request is answered by a dump that is interrupted. The second one, which has
  * to be the same with another sequence number, is answered by the end of another dump, a reply that
  * is too short, a reply about a socket, and a reply with an attribute that is too short; then by
- * the end of the dump. Each other request is answered by ENOENT. The state of the sockets shows
- * which states were requested. tests/api/c_api.sh compares the output.
+ * the end of the dump. Of the first answer about UDP sockets over IPv4 a datagram was dropped, and
+ * the first one over IPv6 has a truncated message. Neither of these dumps ends, so they have to be
+ * requested again on another socket. Each other request is answered by ENOENT. The state of the
+ * sockets shows which states were requested. tests/api/c_api.sh compares the output.
  */
 #define _DEFAULT_SOURCE /* For syscall. */
 #include "sockdiag.h"
@@ -35,18 +38,29 @@
 #define MOST_REPLY 4096
 
 static uint8_t request[128], first_request[128];
-static int requests, datagrams, kernel = -1;
-/* The file of replies, or null; and whether it has replies of the requested protocol. */
+static int requests, datagrams, sockets, kernel = -1;
+/* The file of replies, or null; whether it has replies of the requested protocol; and whether it
+ * has replies of MPTCP. */
 static FILE *replies;
-static int has_protocol;
+static int has_protocol, has_mptcp;
+
+/* Opens the file of replies. Returns whether this succeeds. */
+static int open_replies(const char *path) {
+    char line[8];
+    replies = fopen(path, "r");
+    while (replies != NULL && fgets(line, sizeof line, replies) != NULL)
+        has_mptcp |= strncmp(line, "mptcp ", 6) == 0;
+    return replies != NULL;
+}
 
 int socket(int family, int type, int protocol) {
     const char *path = getenv("FAKE_KERNEL_REPLIES");
     (void)type;
     if (family != AF_NETLINK || protocol != NETLINK_SOCK_DIAG)
         return -1;
-    if (path != NULL && (replies = fopen(path, "r")) == NULL)
+    if (path != NULL && replies == NULL && !open_replies(path))
         return -1;
+    sockets++;
     return kernel = dup(1);
 }
 
@@ -99,7 +113,7 @@ static const char *requested_protocol(void) {
     uint32_t protocol = request[17];
     if (request[16] == AF_UNIX)
         return "unix";
-    if (request[0] >= 80 && request[74] == SOCKDIAG_INET_DIAG_REQ_PROTOCOL)
+    if (has_mptcp && request[0] >= 80 && request[74] == SOCKDIAG_INET_DIAG_REQ_PROTOCOL)
         memcpy(&protocol, request + 76, sizeof protocol);
     switch (protocol) {
     case IPPROTO_TCP:
@@ -160,6 +174,23 @@ static size_t put_from_file(uint8_t *bytes, uint32_t number) {
     return put(bytes, NLMSG_DONE, NLM_F_MULTI, number, &success, 4);
 }
 
+/* Answers a request for UDP sockets. The first answer of each family loses data. A request on the
+ * same socket is answered by EBUSY, and one on another socket by ENOENT. */
+static ssize_t lose_data(uint8_t *bytes, uint32_t number) {
+    static const int32_t failure = -ENOENT, busy = -EBUSY;
+    /* How many answers lost data, and the number of sockets at the last one. */
+    static int lost, sockets_then;
+    if (lost > 0 && sockets_then == sockets)
+        return (ssize_t)put(bytes, NLMSG_ERROR, 0, number, &busy, 4);
+    if (lost == (request[16] == AF_INET ? 0 : 1)) {
+        lost++;
+        sockets_then = sockets;
+        errno = ENOBUFS;
+        return lost == 1 ? -1 : (ssize_t)put(bytes, NLMSG_DONE, 0, number, &failure, 4) - 2;
+    }
+    return (ssize_t)put(bytes, NLMSG_ERROR, 0, number, &failure, 4);
+}
+
 ssize_t recv(int fd, void *buffer, size_t capacity, int flags) {
     static const int32_t success = 0, failure = -ENOENT;
     const uint8_t state = request[21] == 4 ? SOCKDIAG_TCP_LISTEN : SOCKDIAG_TCP_CLOSE;
@@ -177,6 +208,8 @@ ssize_t recv(int fd, void *buffer, size_t capacity, int flags) {
     if (replies != NULL)
         return (ssize_t)put_from_file(bytes, number);
     datagrams++;
+    if (request[16] != AF_UNIX && request[17] == IPPROTO_UDP)
+        return lose_data(bytes, number);
     if (requests > 2 || (requests == 2 && !is_repeated()))
         return (ssize_t)put(bytes, NLMSG_ERROR, 0, number, &failure, 4);
     if (datagrams == 2)

@@ -201,10 +201,11 @@ static void try_rejections(const struct sockdiag_rejections *it, const uint8_t *
             expected.framing = code;
             break;
         }
+        const unsigned kind = attribute.type_word & SOCKDIAG_NLA_TYPE_MASK;
         if (code != 0)
-            expect((attribute.type_word & 0x3fff) < SOCKDIAG_REJECTION_KINDS, "a kind");
-        if (code != 0 && expected.errors[attribute.type_word & 0x3fff] == 0)
-            expected.errors[attribute.type_word & 0x3fff] = (uint8_t)code;
+            expect(kind < SOCKDIAG_REJECTION_KINDS, "a kind");
+        if (code != 0 && expected.errors[kind] == 0)
+            expected.errors[kind] = (uint8_t)code;
     }
     expect(it->first == expected.first && it->framing == expected.framing &&
            memcmp(it->errors, expected.errors, sizeof it->errors) == 0, "the rejections");

@@ -200,7 +200,7 @@ static void add_each_error(struct words *words, explain *call, size_t offset) {
         add(words, "%s", separator);
         separator = ",";
         if (answer == SOCKDIAG_ITEM)
-            add(words, "%u:", attribute.type_word & 0x3fff);
+            add(words, "%u:", attribute.type_word & SOCKDIAG_NLA_TYPE_MASK);
         else
             add(words, "framing:");
         add_error(words);

@@ -74,6 +74,7 @@ impl<'a> ReplyDetails<'a> for InetDetails<'a> {
     ghost describes = { λ h found vs. HasInetDetails (inet_header_of h) found vs };
 
     #[tactic(auto, using(sock_diag_replies::specs::laws::InetResponseSpec::inet_header_bytes_suffice))]
+    #[inline(always)]
     fn parse_header(payload: &'a [u8]) -> Result<(Self, &'a [u8]), DecodeError> {
         let header = InetResponseHeader::from_prefix(payload)?;
         let found = InetDetails {
@@ -90,6 +91,7 @@ impl<'a> ReplyDetails<'a> for InetDetails<'a> {
         Ok((found, &payload[INET_RESPONSE_HEADER_LEN..]))
     }
 
+    #[inline(always)]
     fn set_detail(&mut self, nla: &NlaBuffer<'a>) -> Result<(), DecodeError> {
         let view = NlaView::parse(nla)?;
         self.set(view);

@@ -25,7 +25,14 @@ use netlink_core::{DecodeError, NlasIterator};
 pub const REJECTION_KINDS: usize = 32;
 
 /// Why attributes of a reply are rejected: codes of errors, as `sockdiag_error_text` takes them. A
-/// code is 0 if there is no such error.
+/// code is 0 if there is no such error. If a reply has several attributes of a kind, the kind can
+/// have a value in the details and an error here: the value is that of the first valid attribute,
+/// and the error that of the first rejected one. The kinds that can be rejected are
+/// `UNIX_DIAG_NAME` to `UNIX_DIAG_SHUTDOWN` of UNIX sockets, and `INET_DIAG_MEMINFO`, `_INFO`,
+/// `_CONG`, `_TOS`, `_TCLASS`, `_SKMEMINFO`, `_SHUTDOWN`, `_PROTOCOL`, `_SKV6ONLY`, `_MARK` and
+/// `_CLASS_ID` of internet sockets. Values of other kinds are not checked: of
+/// `INET_DIAG_CGROUP_ID`, for example, only `sockdiag_get_cgroup_id` checks the length, and returns
+/// 0 if it is wrong.
 #[repr(C)]
 #[derive(Clone, Copy)]
 pub struct Rejections {

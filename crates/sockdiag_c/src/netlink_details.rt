@@ -61,6 +61,7 @@ pub extern "C" fn sockdiag_netlink_get_details<'a>(
 }
 
 /// Parses the reply, and returns its contents or the first error.
+#[inline(always)]
 pub(crate) fn read<'a>(payload: &'a [u8]) -> Result<NetlinkDetails<'a>, DecodeError>
     ensures value { IfOk result (λ found. (v : ReplyValue (raw_reply_spec netlink_header))
         × (response_codec (raw_reply_spec netlink_header)).parses payload.entry.now tt v

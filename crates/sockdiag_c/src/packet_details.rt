@@ -124,6 +124,7 @@ pub extern "C" fn sockdiag_packet_get_details<'a>(
 }
 
 /// Parses the reply over the old details, and returns its contents or the first error.
+#[inline(always)]
 pub(crate) fn read<'a>(
     payload: &'a [u8],
     old: &PacketDetails<'a>,

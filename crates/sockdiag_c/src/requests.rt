@@ -69,9 +69,11 @@ pub struct InetRequest {
     /// `sockdiag_inet_get_details` rejects their replies.
     pub extensions: u8,
     /// Protocol, one of `IPPROTO_..`. Request one protocol at a time, since replies do not contain
-    /// it. The low byte is written to the record (`sdiag_protocol`). A protocol above 255, such as
-    /// `IPPROTO_MPTCP`, is also written as an attribute `INET_DIAG_REQ_PROTOCOL`. The low byte of
-    /// `IPPROTO_MPTCP` is `IPPROTO_TCP`, which a kernel without MPTCP uses.
+    /// it. The low byte is written to the record (`sdiag_protocol`, byte 17 of the message). A
+    /// protocol above 255, such as `IPPROTO_MPTCP`, is also written as an attribute
+    /// `INET_DIAG_REQ_PROTOCOL`. A kernel that does not know this attribute may ignore it. The low
+    /// byte of `IPPROTO_MPTCP` is `IPPROTO_TCP`, so it then lists TCP sockets again. If byte 17 is
+    /// set to 0 before the message is sent, such a kernel answers with an error instead.
     pub protocol: u32,
     /// States to include, with the bit `1 << TCP_LISTEN` for `TCP_LISTEN` (`idiag_states`).
     /// `UINT32_MAX` includes all. The bit `1 << TCP_BOUND_INACTIVE` includes TCP sockets that are

@@ -89,6 +89,7 @@ impl<'a> ReplyDetails<'a> for UnixDetails<'a> {
 
     ghost describes = { λ h found vs. HasUnixDetails (unix_header_of h) found vs };
 
+    #[inline(always)]
     fn parse_header(payload: &'a [u8]) -> Result<(Self, &'a [u8]), DecodeError> {
         let header = UnixResponseHeader::from_prefix(payload)?;
         let found = UnixDetails {
@@ -107,6 +108,7 @@ impl<'a> ReplyDetails<'a> for UnixDetails<'a> {
         Ok((found, &payload[UNIX_RESPONSE_HEADER_LEN..]))
     }
 
+    #[inline(always)]
     fn set_detail(&mut self, nla: &NlaBuffer<'a>) -> Result<(), DecodeError> {
         let view = NlaView::parse(nla)?;
         self.set(view);

@@ -135,7 +135,8 @@ pub extern "C" fn sockdiag_next_message(
 /// Stores the message at the cursor, and advances the cursor past it and its padding. Returns 1,
 /// whatever the type and the payload of the message; or 0 if no bytes are left, and then nothing is
 /// written; or the code of the framing error there, 16 to 18, and then the message is unchanged and
-/// nothing is left.
+/// nothing is left. Then the rest of the datagram is lost, and with it possibly the end of the
+/// dump: request the dump again, on another socket, instead of waiting for its end.
 ///
 /// The payload is not checked. So a reply that is passed to `sockdiag_unix_get_details` or a
 /// similar call is checked only once. A reply that such a call rejects does not end a dump:
@@ -196,8 +197,10 @@ fn take_message(datagram: &[u8], cursor: &mut Cursor, message: &mut MessageRange
 ///
 /// An `NLMSG_ERROR` with 0 is an acknowledgement. A dump that failed also ends with `NLMSG_DONE`,
 /// so look at the number there too. A kernel that lacks the protocol answers a request for it with
-/// `-ENOENT` or `-EINVAL`. What follows the number is not returned: the request, and for a socket
-/// with `NETLINK_EXT_ACK` more about the error, which `sockdiag_find_error_attributes` finds.
+/// `-ENOENT` or `-EINVAL`; one without MPTCP may list TCP sockets instead, see the field `protocol`
+/// of `struct sockdiag_inet_request`. What follows the number is not returned: the request, and for
+/// a socket with `NETLINK_EXT_ACK` more about the error, which `sockdiag_find_error_attributes`
+/// finds.
 #[unsafe(no_mangle)]
 pub extern "C" fn sockdiag_get_error_number(payload: &[u8], number: &mut i32) -> u32
     ensures { IsGetterResult (leading_error_number payload.now) number.old number.new result }

@@ -120,6 +120,7 @@ pub extern "C" fn sockdiag_xdp_get_details(payload: &[u8], details: &mut XdpDeta
 }
 
 /// Parses the reply over the old details, and returns its contents or the first error.
+#[inline(always)]
 pub(crate) fn read(payload: &[u8], old: &XdpDetails) -> Result<XdpDetails, DecodeError>
     ensures value { IfOk result (λ found. (v : ReplyValue (raw_reply_spec xdp_header))
         × (response_codec (raw_reply_spec xdp_header)).parses payload.now tt v

@@ -2,8 +2,11 @@
 //! MPTCP socket over IPv4 and IPv6.
 //!
 //! An attribute that is rejected does not hide its socket: the line ends with its kind and its
-//! error. A reply whose header is rejected is reported, and the list continues. An interrupted dump
-//! is requested again. The crate opens no socket. This example does, by calls of the C library.
+//! error. A reply whose header is rejected is reported, and the list continues. A dump that was
+//! interrupted, or of which data was lost, is requested again. The exit status is 0 if every reply
+//! was listed and no dump was reported as interrupted or lost data, and else 1. Sockets that open
+//! or close during a dump may be missing or listed twice with status 0 too: the kernel does not
+//! report it. The crate opens no socket. This example does, by calls of the C library.
 
 use sockdiag::constants::{AF_INET, AF_INET6, IPPROTO_MPTCP, IPPROTO_TCP, IPPROTO_UDP};
 use sockdiag::constants::{NLM_F_DUMP, NLM_F_REQUEST};
@@ -22,8 +25,11 @@ const SOCK_CLOEXEC: i32 = 0o2000000;
 const NETLINK_SOCK_DIAG: i32 = 4;
 const ENOENT: i32 = 2;
 const EINVAL: i32 = 22;
-/// How often a dump is requested if each one is interrupted.
+const ENOBUFS: i32 = 105;
+/// How often a dump is requested if each one is interrupted or loses data.
 const ATTEMPTS: u32 = 5;
+/// Offset of `sdiag_protocol` in a request for internet sockets.
+const RECORD_PROTOCOL: usize = 17;
 
 extern "C" {
     fn socket(family: i32, kind: i32, protocol: i32) -> i32;
@@ -102,10 +108,14 @@ struct Answer<'p> {
     check: AnswerCheck,
     /// A line for each socket so far.
     lines: String,
+    /// Whether data was lost. The end may be lost too, so the rest of the answer is not read.
+    has_lost_data: bool,
+    /// Whether a reply was rejected.
+    has_rejected: bool,
 }
 
 impl Answer<'_> {
-    /// Reads the messages of a datagram. Returns whether the answer has ended.
+    /// Reads the messages of a datagram. Returns whether the answer has ended, or data was lost.
     fn read(&mut self, datagram: &[u8]) -> io::Result<bool> {
         for message in Dump::new(datagram) {
             if let Err(reason) = self.check.check_message(&message) {
@@ -115,10 +125,46 @@ impl Answer<'_> {
             match message {
                 Ok(message) if self.take(message.payload)? => return Ok(true),
                 Ok(_) => {}
+                // After a framing error the rest of the datagram is unknown. It may have the end.
+                Err(rejected) if rejected.header.is_none() => {
+                    eprintln!("list_sockets: {}: {rejected}", self.protocol);
+                    return Ok(self.lose_data());
+                }
                 Err(rejected) => self.take_rejected(&rejected),
             }
         }
         Ok(false)
+    }
+
+    /// Records that data was lost. Returns true: no more of the answer is to be read.
+    fn lose_data(&mut self) -> bool {
+        self.has_lost_data = true;
+        true
+    }
+
+    /// Returns whether the request is to be repeated.
+    fn is_incomplete(&self) -> bool {
+        self.has_lost_data || self.check.is_interrupted()
+    }
+
+    /// Reads datagrams until the answer ends or data is lost.
+    ///
+    /// The datagrams of a dump have at most 32 KiB. A datagram that is longer than the buffer is
+    /// cut silently, since read(2) has no flag `MSG_TRUNC`. Dropped datagrams are `ENOBUFS`.
+    fn receive(&mut self, kernel: &mut impl Read) -> io::Result<()> {
+        let mut buffer = vec![0; 1 << 16];
+        loop {
+            let has_ended = match kernel.read(&mut buffer) {
+                Ok(length) if length < buffer.len() => self.read(&buffer[..length])?,
+                Ok(_) => self.lose_data(),
+                Err(error) if error.raw_os_error() == Some(ENOBUFS) => self.lose_data(),
+                Err(error) if error.kind() == io::ErrorKind::Interrupted => false,
+                Err(error) => return Err(error),
+            };
+            if has_ended {
+                return Ok(());
+            }
+        }
     }
 
     /// Adds the line about the socket of a rejected reply, whose other attributes are valid.
@@ -133,6 +179,7 @@ impl Answer<'_> {
             }
             None => {
                 eprintln!("list_sockets: {}: invalid reply: {rejected}", self.protocol);
+                self.has_rejected = true;
                 return;
             }
         };
@@ -162,7 +209,7 @@ impl Answer<'_> {
             NetlinkPayload::Done(None) | NetlinkPayload::Error(None) => {
                 return Err(io::ErrorKind::UnexpectedEof.into())
             }
-            NetlinkPayload::Overrun => return Err(io::Error::other("the kernel lost data")),
+            NetlinkPayload::Overrun => return Ok(self.lose_data()),
         };
         self.lines += &line;
         self.lines.push('\n');
@@ -171,16 +218,20 @@ impl Answer<'_> {
 }
 
 /// Lists sockets.
-pub struct Lister<K, W> {
-    /// The netlink socket.
-    pub kernel: K,
+pub struct Lister<O, W> {
+    /// Opens a netlink socket. Each request has its own, so that the rest of an answer that was not
+    /// read to its end is not received. The kernel runs one dump at a time for each socket, and
+    /// answers with `EBUSY` if another one is requested.
+    pub open: O,
     /// Where the lines about sockets are written.
     pub output: W,
     /// Sequence number of the last request.
     pub sequence_number: u32,
+    /// Whether a reply was rejected, or a dump was incomplete at each attempt.
+    pub is_incomplete: bool,
 }
 
-impl<K: Read + Write, W: Write> Lister<K, W> {
+impl<K: Read + Write, O: FnMut() -> io::Result<K>, W: Write> Lister<O, W> {
     /// Writes a line for each socket of this machine.
     pub fn list_all(&mut self) -> io::Result<()> {
         let unix = UnixRequest {
@@ -189,32 +240,32 @@ impl<K: Read + Write, W: Write> Lister<K, W> {
             ..UnixRequest::default()
         };
         self.list("unix", |header| unix.to_message(header).to_vec())?;
-        let v4 = (AF_INET, SocketId::new_v4());
-        let v6 = (AF_INET6, SocketId::new_v6());
         // The `INET_DIAG_INFO` of MPTCP is another struct.
         let of_tcp = ExtensionFlags::INFO | ExtensionFlags::CONG;
         let none = ExtensionFlags::empty();
-        for (name, protocol, extensions, (family, socket_id)) in [
-            ("tcp", IPPROTO_TCP, of_tcp, v4),
-            ("tcp", IPPROTO_TCP, of_tcp, v6),
-            ("udp", IPPROTO_UDP, none, v4),
-            ("udp", IPPROTO_UDP, none, v6),
-            ("mptcp", IPPROTO_MPTCP, none, v4),
-            ("mptcp", IPPROTO_MPTCP, none, v6),
+        for (name, protocol, extensions) in [
+            ("tcp", IPPROTO_TCP, of_tcp),
+            ("udp", IPPROTO_UDP, none),
+            ("mptcp", IPPROTO_MPTCP, none),
         ] {
-            let request = InetRequest {
-                family,
-                protocol,
-                extensions,
-                states: inet::StateFlags::every_state(),
-                socket_id,
-            };
-            self.list(name, |header| request.to_message(header).to_vec())?;
+            for (family, socket_id) in [
+                (AF_INET, SocketId::new_v4()),
+                (AF_INET6, SocketId::new_v6()),
+            ] {
+                let request = InetRequest {
+                    family,
+                    protocol,
+                    extensions,
+                    states: inet::StateFlags::every_state(),
+                    socket_id,
+                };
+                self.list(name, |header| inet_message(&request, header))?;
+            }
         }
         Ok(())
     }
 
-    /// Requests sockets, and writes their lines. Requests them again if the dump is interrupted.
+    /// Requests sockets, and writes their lines. Requests them again if the dump is incomplete.
     fn list(
         &mut self,
         protocol: &str,
@@ -222,17 +273,18 @@ impl<K: Read + Write, W: Write> Lister<K, W> {
     ) -> io::Result<()> {
         let mut answer = self.request(protocol, &request)?;
         for _ in 1..ATTEMPTS {
-            if answer.check.is_interrupted() {
+            if answer.is_incomplete() {
                 answer = self.request(protocol, &request)?;
             }
         }
-        if answer.check.is_interrupted() {
-            eprintln!("list_sockets: {protocol}: dump interrupted; sockets may be missing");
+        if answer.is_incomplete() {
+            eprintln!("list_sockets: {protocol}: interrupted, or data lost; sockets are missing");
         }
+        self.is_incomplete |= answer.is_incomplete() || answer.has_rejected;
         self.output.write_all(answer.lines.as_bytes())
     }
 
-    /// Sends a request, and reads its whole answer.
+    /// Sends a request on a new socket, and reads its whole answer.
     fn request<'p>(
         &mut self,
         protocol: &'p str,
@@ -244,34 +296,47 @@ impl<K: Read + Write, W: Write> Lister<K, W> {
             sequence_number: self.sequence_number,
             ..NetlinkHeader::default()
         };
-        self.kernel.write_all(&request(&header))?;
         let mut answer = Answer {
             protocol,
             check: AnswerCheck::new(self.sequence_number, 0),
             lines: String::new(),
+            has_lost_data: false,
+            has_rejected: false,
         };
-        let mut buffer = vec![0; 1 << 16];
-        loop {
-            let length = self.kernel.read(&mut buffer)?;
-            if answer.read(&buffer[..length])? {
-                return Ok(answer);
-            }
-        }
+        let mut kernel = (self.open)()?;
+        kernel.write_all(&request(&header))?;
+        answer.receive(&mut kernel)?;
+        Ok(answer)
     }
 }
 
-fn list_all() -> io::Result<()> {
+/// Returns the message of a request.
+fn inet_message(request: &InetRequest, header: &NetlinkHeader) -> Vec<u8> {
+    let mut bytes = request.to_message(header).to_vec();
+    // The protocol is also an attribute, which kernels without MPTCP ignore. By the low byte in the
+    // record, `IPPROTO_TCP`, they list TCP sockets again. For 0 they answer with `ENOENT`.
+    if request.protocol > u8::MAX.into() {
+        bytes[RECORD_PROTOCOL] = 0;
+    }
+    bytes
+}
+
+/// Returns whether everything was listed.
+fn list_all() -> io::Result<bool> {
     let mut lister = Lister {
-        kernel: open()?,
+        open,
         output: io::stdout().lock(),
         sequence_number: 0,
+        is_incomplete: false,
     };
-    lister.list_all()
+    lister.list_all()?;
+    Ok(!lister.is_incomplete)
 }
 
 fn main() -> ExitCode {
     match list_all() {
-        Ok(()) => ExitCode::SUCCESS,
+        Ok(true) => ExitCode::SUCCESS,
+        Ok(false) => ExitCode::FAILURE,
         Err(error) => {
             eprintln!("list_sockets: {error}");
             ExitCode::FAILURE

@@ -4,13 +4,17 @@ use crate::constants::NLM_F_DUMP_INTR;
 use crate::dump::{NetlinkHeader, NetlinkMessage, RejectedMessage};
 use core::fmt;
 
-/// Checks that messages belong to the answer to one request, and whether the answer is complete, as
-/// `mnl_cb_run` of libmnl does.
+/// Checks that messages belong to the answer to one request, and whether one of them reports that
+/// the dump was interrupted, as `mnl_cb_run` of libmnl does.
 ///
 /// [`Dump`](crate::Dump) checks neither. Messages that answer an earlier request look like any
-/// others. If a table changes while it is dumped, sockets may be missing: the kernel then sets
-/// `NLM_F_DUMP_INTR` in the header of a message, which may be the last one. So give each request
-/// another sequence number, check each header, and repeat the request if the dump was interrupted.
+/// others. If a kernel finds that a dump is inconsistent, it sets `NLM_F_DUMP_INTR` in the header
+/// of a message, which may be the last one. So give each request another sequence number, check
+/// each header, and repeat the request if the dump was interrupted.
+///
+/// **A dump without this flag may be incomplete too.** Linux 6.18 did not set it in any message of
+/// dumps during which sockets opened and closed, and sockets were missing or listed twice. For a
+/// complete list request several dumps, and merge them by the cookies of the sockets.
 ///
 /// ```
 /// use sockdiag::constants::{NLMSG_DONE, NLM_F_DUMP_INTR, NLM_F_MULTI};
@@ -84,8 +88,8 @@ impl AnswerCheck {
         header.map_or(Ok(()), |header| self.check(&header))
     }
 
-    /// Returns whether a message of the answer had the flag `NLM_F_DUMP_INTR`. Then sockets may be
-    /// missing: repeat the request.
+    /// Returns whether a message of the answer had the flag `NLM_F_DUMP_INTR`. If so, repeat the
+    /// request. If not, the answer may be incomplete all the same, see [`AnswerCheck`].
     pub const fn is_interrupted(&self) -> bool {
         self.is_interrupted
     }

@@ -252,6 +252,12 @@ unsafe fn attribute_error(bytes: &[u8], explain: Explain) -> Option<DecodeError>
     }
 }
 
+/// Returns the version of the library.
+pub(crate) fn version() -> u32 {
+    // SAFETY: `sockdiag_version` takes nothing, and accesses no memory.
+    unsafe { sockdiag_version() }
+}
+
 /// Returns the error of the attribute of a UNIX socket at the start of the bytes.
 pub(crate) fn unix_attribute_error(bytes: &[u8]) -> Option<DecodeError> {
     // SAFETY: `sockdiag_unix_explain_attribute` is such a call.

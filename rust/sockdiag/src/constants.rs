@@ -282,8 +282,19 @@ pub const IPPROTO_MPTCP: u32 = 262;
 
 // ---- Attribute kinds of requests for IPv4 and IPv6 sockets.
 
+/// Kind of no attribute. The kinds `INET_DIAG_REQ_..` (linux/inet_diag.h) are those of attributes
+/// after a `struct inet_diag_req_v2`.
+pub const INET_DIAG_REQ_NONE: u16 = 0;
+
 /// Kind of a filter: operations `INET_DIAG_BC_..`.
 pub const INET_DIAG_REQ_BYTECODE: u16 = 1;
+
+/// Kind of the maps whose BPF storages are requested: nested attributes
+/// `SK_DIAG_BPF_STORAGE_REQ_MAP_FD`.
+pub const INET_DIAG_REQ_SK_BPF_STORAGES: u16 = 2;
+
+/// Kind of the protocol as a `u32`, for a protocol above 255 such as `IPPROTO_MPTCP`.
+pub const INET_DIAG_REQ_PROTOCOL: u16 = 3;
 
 // ---- Attribute kinds of replies about IPv4 and IPv6 sockets.
 

@@ -26,7 +26,7 @@ pub struct NetlinkHeader {
     /// a reply.
     pub message_type: u16,
     /// The `NLM_F_` flags (`nlmsg_flags`). If a message of a dump has `NLM_F_DUMP_INTR`, the list
-    /// may have gaps ([`AnswerCheck`](crate::AnswerCheck)).
+    /// is inconsistent. Without the flag it may be so too ([`AnswerCheck`](crate::AnswerCheck)).
     pub flags: u16,
     /// Sequence number of the sender (`nlmsg_seq`), which a reply repeats.
     pub sequence_number: u32,
@@ -118,14 +118,15 @@ pub enum NetlinkPayload<I> {
     Noop,
     /// `NLMSG_ERROR`: a request failed, with `-errno`, or is acknowledged, with 0. `None` if the
     /// payload has fewer than four bytes. A kernel without a protocol answers a request for it with
-    /// `ENOENT` (2) or `EINVAL` (22). After the number, a kernel sends more information to a socket
+    /// `ENOENT` (2) or `EINVAL` (22); a kernel without MPTCP may list TCP sockets instead, see
+    /// [`InetRequest::protocol`]. After the number, a kernel sends more information to a socket
     /// with the option `NETLINK_EXT_ACK`, which is not parsed here.
     Error(Option<i32>),
     /// `NLMSG_DONE`: the end of a dump, with a number as in `Error`. A dump that failed ends so
     /// too, with `-errno`: match `Done(Some(0))`. The answer to a request for a single socket is
     /// one message, without a `Done`.
     Done(Option<i32>),
-    /// `NLMSG_OVERRUN`: data was lost.
+    /// `NLMSG_OVERRUN`: data was lost. Repeat the request, as after the error `ENOBUFS` of recv(2).
     Overrun,
     /// A message of another type.
     InnerMessage(I),
@@ -249,7 +250,8 @@ pub struct RejectedMessage<'a> {
     /// The reason.
     pub error: DecodeError,
     /// The header of a message whose payload was rejected. `None` for a framing error: the bytes
-    /// are not a netlink message, and the iteration ends.
+    /// are not a netlink message, and the iteration ends. The rest of the datagram is then lost,
+    /// and with it possibly the end of the dump: repeat the request instead of waiting for the end.
     pub header: Option<NetlinkHeader>,
     /// The payload that was rejected. For a framing error, the remaining bytes of the datagram.
     pub payload: &'a [u8],
@@ -257,8 +259,10 @@ pub struct RejectedMessage<'a> {
 
 impl<'a> RejectedMessage<'a> {
     /// Returns the reply with those of its attributes that are valid, if it is about a UNIX, IPv4
-    /// or IPv6 socket. Returns `None` for another message, for a header that is rejected, and for a
-    /// framing error.
+    /// or IPv6 socket. Returns `None` for any other message, for a header that is rejected, and for
+    /// a framing error. So it returns `None` for a reply about a netlink, packet, vsock or XDP
+    /// socket, which [`AnyDump`] rejects if one attribute is rejected. The [documentation of the
+    /// crate](crate#sockets-of-four-more-families) shows how to list its socket.
     pub fn lenient(&self) -> Option<LenientMessage<'a>> {
         let message_type = self.header?.message_type;
         LenientMessage::parse(self.payload, message_type).ok()

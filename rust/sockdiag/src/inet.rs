@@ -138,6 +138,11 @@ pub struct InetRequest {
     /// serialized as an attribute. Request one protocol at a time: a reply does not contain whether
     /// it is about a TCP or a UDP socket. A kernel without the protocol answers with `ENOENT` (2)
     /// or `EINVAL` (22).
+    ///
+    /// **A kernel without MPTCP may list TCP sockets again.** It may ignore the attribute
+    /// [`INET_DIAG_REQ_PROTOCOL`], and the low byte of [`IPPROTO_MPTCP`], which is at offset 17 of
+    /// the message, is [`IPPROTO_TCP`]. Set this byte to 0 before you send the message: such a
+    /// kernel then answers with an error.
     pub protocol: u32,
     /// The attributes that the replies shall have.
     pub extensions: ExtensionFlags,
@@ -401,6 +406,9 @@ pub fn tcp_info(payload: &[u8]) -> Option<(TcpInfo, usize)> {
     let length = calls::tcp_info(payload, &mut info);
     (length != 0).then_some((info, length))
 }
+
+/// Length of the header of a reply in bytes, at which the attributes start.
+pub const INET_RESPONSE_HEADER_LEN: usize = sys::INET_ATTRIBUTES;
 
 /// The reply about one IPv4 or IPv6 socket, borrowed from the bytes that were parsed.
 ///

@@ -24,7 +24,10 @@ enum Family {
 ///
 /// It has the fields and methods of the reply `R`, with the valid attributes:
 ///
-/// - a getter returns the first valid attribute, or `None` if there is none;
+/// - a getter returns the first valid attribute, or `None` if there is none. If the reply has
+///   several attributes of a kind, another one may be rejected;
+/// - the values of kinds that `nlas` of a strict reply yields as `Other` are not checked, so they
+///   are never rejected: `cgroup_id`, for example, returns `None` for a value of another length;
 /// - `nlas` yields a rejected attribute as `Other`;
 /// - `attributes` yields all attributes, and a framing error last;
 /// - `canonical` returns `None` if an attribute is rejected.

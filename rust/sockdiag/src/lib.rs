@@ -11,7 +11,12 @@
 //! answer. A loop over the messages continues after a reply that is rejected. One rejected
 //! attribute makes a reply invalid: [`RejectedMessage::lenient`] returns its socket with the other
 //! attributes, so that no socket is lost on old kernels. After the end, repeat the request if the
-//! dump was interrupted. `examples/list_sockets.rs` is a complete program.
+//! dump was interrupted; [`AnswerCheck`] has what is not reported. A `RejectedMessage` without a
+//! header is a framing error: the rest of the datagram is lost, and possibly the end, so repeat the
+//! request on another socket. `examples/list_sockets.rs` is a complete program.
+//!
+//! The datagrams of a dump have at most 32 KiB. recv(2) cuts a longer datagram than the buffer
+//! silently: use 64 KiB, and treat a datagram that fills the buffer as cut.
 //!
 //! ```
 //! use sockdiag::constants::{NLM_F_DUMP, NLM_F_REQUEST, TCP_LISTEN};
@@ -60,6 +65,7 @@
 //!             panic!("the request failed: {number:?}")
 //!         }
 //!         Ok(NetlinkPayload::Overrun) => panic!("the kernel lost data"),
+//!         Err(rejected) if rejected.header.is_none() => panic!("invalid datagram: {rejected}"),
 //!         Err(rejected) => match rejected.lenient() {
 //!             Some(LenientMessage::Unix(reply)) => {
 //!                 assert_eq!((reply.header.inode, reply.rejected().count()), (78, 1));
@@ -139,14 +145,41 @@
 //! In addition to the items of that crate, [`netlink`], [`packet`], [`vsock`] and [`xdp`] have
 //! requests and replies about these sockets. [`AnyDump`] and [`AnySockDiagMessage`] have replies of
 //! any family. The contents of a reply are in its fields. If it has several attributes of a kind,
-//! the field has the first one; `attributes` returns all of them.
+//! the field has the first one; `attributes` returns all of them. `header.cookie` is a `u64` in
+//! these replies, and `[u8; 8]` in those about UNIX and internet sockets: `u64::from_le_bytes`
+//! converts the bytes.
 //!
-//! | family | request | reply | its header |
-//! |---|---|---|---|
-//! | `AF_NETLINK` | [`netlink::NetlinkRequest`] | [`netlink::NetlinkReply`] | `struct netlink_diag_msg` |
-//! | `AF_PACKET` | [`packet::PacketRequest`] | [`packet::PacketReply`] | `struct packet_diag_msg` |
-//! | `AF_VSOCK` | [`vsock::VsockRequest`] | [`vsock::VsockReply`] | `struct vsock_diag_msg` |
-//! | `AF_XDP` | [`xdp::XdpRequest`] | [`xdp::XdpReply`] | `struct xdp_diag_msg` |
+//! These replies have no lenient form: one rejected attribute makes a reply invalid, and
+//! [`RejectedMessage::lenient`] returns `None`. To list every socket, parse the header alone, which
+//! has the length of the constant in the table, and then iterate over the attributes:
+//!
+//! ```
+//! use sockdiag::netlink::{NetlinkReply, NETLINK_RESPONSE_HEADER_LEN};
+//! use sockdiag::Attributes;
+//!
+//! // A reply with flags of 2 bytes instead of 4.
+//! let mut payload = [0; 36];
+//! payload[16] = 78;
+//! payload[28..].copy_from_slice(&[6, 0, 4, 0, 1, 0, 0, 0]);
+//! assert!(NetlinkReply::parse(&payload).is_err());
+//!
+//! let Some((header, attributes)) = payload.split_at_checked(NETLINK_RESPONSE_HEADER_LEN) else {
+//!     panic!("invalid header");
+//! };
+//! assert_eq!(NetlinkReply::parse(header)?.header.inode, 78);
+//! for attribute in Attributes::new(attributes) {
+//!     let attribute = attribute?;
+//!     assert_eq!((attribute.kind(), attribute.value), (4, &[1, 0][..]));
+//! }
+//! # Ok::<(), sockdiag::DecodeError>(())
+//! ```
+//!
+//! | family | request | reply | its header | length of the header |
+//! |---|---|---|---|---|
+//! | `AF_NETLINK` | [`netlink::NetlinkRequest`] | [`netlink::NetlinkReply`] | `struct netlink_diag_msg` | [`netlink::NETLINK_RESPONSE_HEADER_LEN`] |
+//! | `AF_PACKET` | [`packet::PacketRequest`] | [`packet::PacketReply`] | `struct packet_diag_msg` | [`packet::PACKET_RESPONSE_HEADER_LEN`] |
+//! | `AF_VSOCK` | [`vsock::VsockRequest`] | [`vsock::VsockReply`] | `struct vsock_diag_msg` | [`vsock::VSOCK_RESPONSE_HEADER_LEN`] |
+//! | `AF_XDP` | [`xdp::XdpRequest`] | [`xdp::XdpReply`] | `struct xdp_diag_msg` | [`xdp::XDP_RESPONSE_HEADER_LEN`] |
 #![no_std]
 
 mod answer;
@@ -162,6 +195,7 @@ pub mod packet;
 mod show;
 mod sys;
 pub mod unix;
+mod version;
 pub mod vsock;
 pub mod xdp;
 
@@ -174,6 +208,7 @@ pub use dump::{NetlinkHeader, NetlinkMessage, NetlinkPayload};
 pub use error::{DecodeError, RecordName};
 pub use lenient::{LenientMessage, LenientReply};
 pub use show::ShowRequest;
+pub use version::{version, VERSION};
 
 /// A set of flags, with the bits that the kernel uses.
 macro_rules! flags {

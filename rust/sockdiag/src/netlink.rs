@@ -14,6 +14,10 @@ pub use crate::sys::{NDIAG_PROTO_ALL, NDIAG_SHOW_FLAGS, NDIAG_SHOW_GROUPS, NDIAG
 /// `linux/netlink.h`, or [`NDIAG_PROTO_ALL`]. `show` has the bits `NDIAG_SHOW_..`.
 pub type NetlinkRequest = ShowRequest<AF_NETLINK>;
 
+/// Length of the header of a reply in bytes, at which the attributes start. [`NetlinkReply::parse`]
+/// accepts the header alone.
+pub const NETLINK_RESPONSE_HEADER_LEN: usize = sys::NETLINK_ATTRIBUTES;
+
 /// The reply about one netlink socket, borrowed from the bytes that were parsed.
 #[derive(Clone, Copy, Debug, PartialEq, Eq)]
 pub struct NetlinkReply<'a> {
@@ -48,6 +52,6 @@ impl<'a> NetlinkReply<'a> {
 
     /// Returns an iterator over all attributes, in order.
     pub fn attributes(&self) -> Attributes<'a> {
-        Attributes::after_header(self.payload, sys::NETLINK_ATTRIBUTES)
+        Attributes::after_header(self.payload, NETLINK_RESPONSE_HEADER_LEN)
     }
 }

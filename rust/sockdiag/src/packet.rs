@@ -17,6 +17,10 @@ pub use crate::sys::{
 /// `PACKET_SHOW_..`.
 pub type PacketRequest = ShowRequest<AF_PACKET>;
 
+/// Length of the header of a reply in bytes, at which the attributes start. [`PacketReply::parse`]
+/// accepts the header alone.
+pub const PACKET_RESPONSE_HEADER_LEN: usize = sys::PACKET_ATTRIBUTES;
+
 /// The reply about one packet socket, borrowed from the bytes that were parsed.
 #[derive(Clone, Copy, Debug, PartialEq, Eq)]
 pub struct PacketReply<'a> {
@@ -68,6 +72,6 @@ impl<'a> PacketReply<'a> {
 
     /// Returns an iterator over all attributes, in order.
     pub fn attributes(&self) -> Attributes<'a> {
-        Attributes::after_header(self.payload, sys::PACKET_ATTRIBUTES)
+        Attributes::after_header(self.payload, PACKET_RESPONSE_HEADER_LEN)
     }
 }

@@ -163,6 +163,9 @@ pub struct Vfs {
     pub device: u32,
 }
 
+/// Length of the header of a reply in bytes, at which the attributes start.
+pub const UNIX_RESPONSE_HEADER_LEN: usize = sys::UNIX_ATTRIBUTES;
+
 /// The reply about one UNIX socket, borrowed from the bytes that were parsed.
 ///
 /// ```

@@ -35,6 +35,10 @@ impl VsockRequest {
     }
 }
 
+/// Length of the header of a reply in bytes, at which the attributes start. [`VsockReply::parse`]
+/// accepts the header alone.
+pub const VSOCK_RESPONSE_HEADER_LEN: usize = sys::VSOCK_ATTRIBUTES;
+
 /// The reply about one vsock socket, borrowed from the bytes that were parsed.
 #[derive(Clone, Copy, Debug, PartialEq, Eq)]
 pub struct VsockReply<'a> {
@@ -56,6 +60,6 @@ impl<'a> VsockReply<'a> {
 
     /// Returns an iterator over all attributes, in order. Linux sends none.
     pub fn attributes(&self) -> Attributes<'a> {
-        Attributes::after_header(self.payload, sys::VSOCK_ATTRIBUTES)
+        Attributes::after_header(self.payload, VSOCK_RESPONSE_HEADER_LEN)
     }
 }

@@ -16,6 +16,10 @@ pub use crate::sys::{
 /// `XDP_SHOW_..`.
 pub type XdpRequest = ShowRequest<AF_XDP>;
 
+/// Length of the header of a reply in bytes, at which the attributes start. [`XdpReply::parse`]
+/// accepts the header alone.
+pub const XDP_RESPONSE_HEADER_LEN: usize = sys::XDP_ATTRIBUTES;
+
 /// The reply about one XDP socket, borrowed from the bytes that were parsed. The value of a ring is
 /// its number of entries.
 #[derive(Clone, Copy, Debug, PartialEq, Eq)]
@@ -68,6 +72,6 @@ impl<'a> XdpReply<'a> {
 
     /// Returns an iterator over all attributes, in order.
     pub fn attributes(&self) -> Attributes<'a> {
-        Attributes::after_header(self.payload, sys::XDP_ATTRIBUTES)
+        Attributes::after_header(self.payload, XDP_RESPONSE_HEADER_LEN)
     }
 }

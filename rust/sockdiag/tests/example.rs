@@ -1,6 +1,6 @@
-//! The example `list_sockets`, with a stand-in for the kernel: it repeats an interrupted dump,
-//! skips messages of other requests, continues after a reply that is rejected, and lists the socket
-//! of a reply with an attribute that is rejected.
+//! The example `list_sockets`, with a stand-in for the kernel: it repeats a dump that was
+//! interrupted or lost data, skips messages of other requests, continues after a reply that is
+//! rejected, and lists the socket of a reply with an attribute that is rejected.
 
 mod common;
 #[allow(dead_code)]
@@ -12,16 +12,21 @@ use list_sockets::Lister;
 use sockdiag::constants::{
     NLMSG_DONE, NLMSG_ERROR, NLM_F_DUMP_INTR, NLM_F_MULTI, SOCK_DIAG_BY_FAMILY,
 };
+use std::cell::RefCell;
 use std::io::{self, Read, Write};
 
 const ENOENT: i32 = 2;
+const ENOBUFS: i32 = 105;
 
 /// A stand-in for the kernel. The first dump is interrupted. The second one has the end of the
 /// first one, a reply that is too short, a reply about a socket, one with memory of 4 bytes instead
-/// of 36, and its own end. Each other request is answered by an error.
-#[derive(Default)]
-struct Kernel {
-    requests: Vec<Vec<u8>>,
+/// of 36, and its own end. Of the first answer about UDP sockets over IPv4 a datagram was dropped,
+/// and the first one over IPv6 has a truncated message: neither has an end. Each other request is
+/// answered by an error.
+struct Kernel<'r> {
+    /// The requests that were sent on all sockets.
+    requests: &'r RefCell<Vec<Vec<u8>>>,
+    /// The datagrams that this socket receives; an error if there are no more.
     datagrams: Vec<Vec<u8>>,
 }
 
@@ -32,7 +37,7 @@ fn answer(sequence_number: u32, flags: u16, message_type: u16, payload: &[u8]) -
     bytes
 }
 
-impl Write for Kernel {
+impl Write for Kernel<'_> {
     fn write(&mut self, bytes: &[u8]) -> io::Result<usize> {
         let number = u32_at(bytes, 8);
         let reply = unix_reply();
@@ -41,8 +46,9 @@ impl Write for Kernel {
         let interrupted = NLM_F_MULTI | NLM_F_DUMP_INTR;
         let done = |number, flags| answer(number, flags, NLMSG_DONE, &[0; 4]);
         let inner = |payload: &[u8]| answer(number, NLM_F_MULTI, SOCK_DIAG_BY_FAMILY, payload);
-        self.requests.push(bytes.to_vec());
-        self.datagrams = match self.requests.len() {
+        assert!(self.datagrams.is_empty(), "a socket has one dump at a time");
+        self.requests.borrow_mut().push(bytes.to_vec());
+        self.datagrams = match self.requests.borrow().len() {
             1 => vec![inner(&reply), done(number, interrupted)],
             2 => vec![
                 [done(number - 1, interrupted), inner(&reply[..12])].concat(),
@@ -50,6 +56,8 @@ impl Write for Kernel {
                 inner(&short_memory),
                 done(number, NLM_F_MULTI),
             ],
+            5 => vec![],
+            7 => vec![inner(&reply)[..30].to_vec()],
             _ => vec![answer(number, 0, NLMSG_ERROR, &(-ENOENT).to_le_bytes())],
         };
         Ok(bytes.len())
@@ -60,37 +68,56 @@ impl Write for Kernel {
     }
 }
 
-impl Read for Kernel {
+impl Read for Kernel<'_> {
     fn read(&mut self, buffer: &mut [u8]) -> io::Result<usize> {
+        if self.datagrams.is_empty() {
+            return Err(io::Error::from_raw_os_error(ENOBUFS));
+        }
         let datagram = self.datagrams.remove(0);
         buffer[..datagram.len()].copy_from_slice(&datagram);
         Ok(datagram.len())
     }
 }
 
+/// Returns whether a request repeats another one, with another sequence number.
+fn repeats(request: &[u8], other: &[u8]) -> bool {
+    request[8..12] != other[8..12] && request[..8] == other[..8] && request[12..] == other[12..]
+}
+
 #[test]
-fn lists_sockets_once_after_an_interrupted_dump() {
+fn lists_sockets_once_after_incomplete_dumps() {
+    let requests = RefCell::new(Vec::new());
+    let open = || {
+        Ok(Kernel {
+            requests: &requests,
+            datagrams: Vec::new(),
+        })
+    };
     let mut lister = Lister {
-        kernel: Kernel::default(),
+        open,
         output: Vec::new(),
         sequence_number: 0,
+        is_incomplete: false,
     };
     lister.list_all().unwrap();
+    // A reply was rejected.
+    assert!(lister.is_incomplete);
     let lines = String::from_utf8(lister.output).unwrap();
     let expected = "unix type 1 state 10 inode 78 @a\\x00b peer 3 pending 4 pending 261\n\
         unix type 1 state 10 inode 78  rejected 5 \
         (UnixMemInfo: buffer of 4 bytes, at least 36 needed)\n";
     assert_eq!(lines, expected);
-    let requests = lister.kernel.requests;
-    assert_eq!(requests.len(), 8);
-    // The second request repeats the first one, with another sequence number.
-    assert_ne!(requests[0][8..12], requests[1][8..12]);
-    assert_eq!(
-        (&requests[0][..8], &requests[0][12..]),
-        (&requests[1][..8], &requests[1][12..])
-    );
+    let requests = requests.borrow();
+    assert_eq!(requests.len(), 10);
+    for (index, request) in requests.iter().enumerate().skip(1) {
+        let is_repeated = repeats(request, &requests[index - 1]);
+        assert_eq!(is_repeated, [1, 5, 7].contains(&index), "request {index}");
+    }
     // All states are requested.
     assert!(requests
         .iter()
         .all(|request| u32_at(request, 20) == u32::MAX));
+    // The record of a request for MPTCP has no protocol, so that no kernel takes it for TCP.
+    let protocols = [3, 9].map(|index: usize| (requests[index][17], requests[index].len()));
+    assert_eq!(protocols, [(6, 72), (0, 80)]);
 }

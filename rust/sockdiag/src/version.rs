@@ -1,0 +1,29 @@
+//! The version of the library.
+
+use crate::calls;
+
+/// Version of this crate: 1,000,000 times the first number, plus 1,000 times the second one, plus
+/// the third one. The library that is linked has to have the same one, which [`version`] returns.
+pub const VERSION: u32 = number(env!("CARGO_PKG_VERSION_MAJOR")) * 1_000_000
+    + number(env!("CARGO_PKG_VERSION_MINOR")) * 1_000
+    + number(env!("CARGO_PKG_VERSION_PATCH"));
+
+/// Returns the version of the library that is linked, as a number like [`VERSION`].
+///
+/// Nothing else compares the two: a library of another version may have other structs. So a program
+/// that may be built with another library compares them first.
+///
+/// ```
+/// assert_eq!(sockdiag::version(), sockdiag::VERSION, "libsockdiag of another version");
+/// ```
+pub fn version() -> u32 {
+    calls::version()
+}
+
+/// Returns the number that is written in decimal.
+const fn number(text: &str) -> u32 {
+    match u32::from_str_radix(text, 10) {
+        Ok(number) => number,
+        Err(_) => panic!("not a number"),
+    }
+}
