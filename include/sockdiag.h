@@ -4,9 +4,16 @@
  *
  * The library is crates/sockdiag_c. tools/install builds it and installs it under a prefix. What
  * this header says of a call is proved there, by the contract of the function of the same name and
- * by the two theorem functions about iteration in src/laws.rt. The functions that are defined here
- * are not proved: sockdiag_is_compatible, sockdiag_error_text, sockdiag_is_answer,
- * sockdiag_is_interrupted and sockdiag_ends_answer.
+ * by the four theorem functions in src/laws.rt: a_step_passes_the_first_attribute and
+ * a_step_passes_the_first_message, about iteration; lenient_calls_agree_with_strict_calls; and
+ * every_rejected_kind_has_a_code. No clause states:
+ * - that the library does not allocate, opens no files or sockets, and has no state;
+ * - that a call makes one pass over the attributes, and how long it takes;
+ * - where the pointer of a text points: the clauses state the bytes of the text;
+ * - that the previous contents of a struct are not read: the clauses state the new contents without
+ *   them.
+ * The functions that are defined here are not proved: sockdiag_is_compatible, sockdiag_error_text,
+ * sockdiag_is_answer, sockdiag_is_interrupted and sockdiag_ends_answer.
  *
  * The library does not allocate, opens no files or sockets, and has no state between calls. So any
  * thread may call it at any time, with memory that meets the requirements below. It needs memcpy,
@@ -489,8 +496,9 @@ struct sockdiag_reply {
  *
  * An attribute with an invalid value makes the whole reply invalid. UNIX_DIAG_MEMINFO with fewer
  * than 36 bytes, which old kernels send, has SOCKDIAG_BUFFER_TOO_SMALL.
- * sockdiag_unix_get_lenient_details returns the header and all valid attributes of such a reply,
- * and sockdiag_next_attribute all attributes, without a check of their values.
+ * sockdiag_unix_get_lenient_details returns the header of such a reply, and the first valid
+ * attribute of each kind that has a field in the details. sockdiag_next_attribute returns all
+ * attributes, without a check of their values.
  */
 uint32_t sockdiag_check_unix_reply(const uint8_t *payload, size_t length,
                                    struct sockdiag_unix_header *header);
@@ -502,8 +510,9 @@ uint32_t sockdiag_check_unix_reply(const uint8_t *payload, size_t length,
  *
  * An attribute with an invalid value makes the whole reply invalid. INET_DIAG_INFO with fewer than
  * 232 bytes has SOCKDIAG_BUFFER_TOO_SMALL. TCP sockets of kernels before Linux 5.4 have such
- * values, and MPTCP sockets of all kernels. sockdiag_inet_get_lenient_details returns the header
- * and all valid attributes of such a reply. These calls accept a value of any length:
+ * values, and MPTCP sockets of all kernels. sockdiag_inet_get_lenient_details returns the header of
+ * such a reply, and the first valid attribute of each kind that has a field in the details. These
+ * calls accept a value of any length:
  * - the connection: sockdiag_inet_get_long_tcp_info and sockdiag_inet_get_tcp_info;
  * - the memory: sockdiag_inet_get_memory;
  * - other attributes: sockdiag_next_attribute, which does not check their values.
@@ -1018,11 +1027,12 @@ struct sockdiag_rejections {
 };
 
 /*
- * Returns the header of a reply about a UNIX socket and the valid ones of its attributes, in one
- * pass over the attributes, and the errors of the others. The bytes are the payload of the netlink
- * message. Returns 0, and sets all fields of the details and of the rejections; or the code of the
- * error of the header, and then both are unchanged. The previous contents of both are not read.
- * What is not rejected is as sockdiag_unix_get_details describes it.
+ * Returns the header of a reply about a UNIX socket, the first valid attribute of each kind that
+ * has a field in the details, and the first error of each kind, in one pass over the attributes.
+ * What follows a framing error is not parsed. The bytes are the payload of the netlink message.
+ * Returns 0, and sets all fields of the details and of the rejections; or the code of the error of
+ * the header, and then both are unchanged. The previous contents of both are not read. What is not
+ * rejected is as sockdiag_unix_get_details describes it.
  *
  * Use this call to list sockets: a value that this library does not accept, such as the
  * UNIX_DIAG_MEMINFO of an old kernel, hides only itself, and not its socket.
@@ -1032,12 +1042,13 @@ uint32_t sockdiag_unix_get_lenient_details(const uint8_t *payload, size_t length
                                            struct sockdiag_rejections *rejections);
 
 /*
- * Returns the header of a reply about an IPv4 or IPv6 socket and the valid ones of its attributes
- * that are a text or a number, in one pass over the attributes, and the errors of all attributes
- * that are rejected. The bytes are the payload of the netlink message. Returns 0, and sets all
- * fields of the details and of the rejections; or the code of the error of the header, and then
- * both are unchanged. The previous contents of both are not read. What is not rejected is as
- * sockdiag_inet_get_details describes it.
+ * Returns the header of a reply about an IPv4 or IPv6 socket, the first valid attribute of each
+ * kind that has a field in the details, which are those with a text or a number, and the first
+ * error of each kind, in one pass over the attributes. What follows a framing error is not parsed.
+ * The bytes are the payload of the netlink message. Returns 0, and sets all fields of the details
+ * and of the rejections; or the code of the error of the header, and then both are unchanged. The
+ * previous contents of both are not read. What is not rejected is as sockdiag_inet_get_details
+ * describes it.
  *
  * Use this call to list sockets: a value that this library does not accept, such as the
  * INET_DIAG_INFO of an old kernel or of MPTCP, hides only itself, and not its socket.

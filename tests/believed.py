@@ -1,7 +1,15 @@
 #!/usr/bin/env python3
-"""Prints what must be believed: the definitions of the port's crates that the contracts of all
-crates depend on (module: name, lines, comment), and then the number of definitions, lines and
-tokens of each crate.
+"""Prints what must be believed: the definitions that the contracts of all crates depend on, in the
+crates of the port and of the program `sockdiag` (module: name, lines, comment); the members by
+which impls name their definitions; and the number of definitions, lines and tokens of each crate.
+
+With `--of CRATE::FUNCTION`, prints the definitions that one contract depends on, each once, with
+its file and line: a definition follows the one that names it, and is indented below it. For a
+function of another crate the definitions of the port and of the program are not followed. They are
+listed after the others, and then the types and constants of the code, and the names of the kit. The
+modules and the type of the function may be given too, as in `netlink_core::Wire::read`. A method of
+an impl has the clauses of its trait. Members of traits that a contract names, such as `T.codec`,
+are listed and not followed: the impls name their definitions.
 
 The roots are the clauses of public functions and of the methods of public traits, the invariants of
 public structs, and the ghost members of public traits and of their impls. From each root the script
@@ -10,8 +18,8 @@ definition in the same way. It does not follow lemmas, declarations of Rust type
 or definitions of the kit. It takes each use of an imported name as a reference: the modules do not
 give a variable the name of an import.
 
-It fails, with status 1, if an import that is used is not found in its module, if a lemma is in a
-module of definitions, or if a promise reaches a module that need not be believed.
+Without an option it fails, with status 1, if an import that is used is not found in its module, if
+a lemma is in a module of definitions, or if a promise reaches a module that need not be believed.
 """
 
 import re
@@ -19,10 +27,12 @@ import sys
 from pathlib import Path
 
 ROOT = Path(__file__).resolve().parent.parent / "crates"
-CRATES = ["netlink_core", "attribute_lists", "sock_diag_values", "sock_diag_records",
-    "sock_diag_attributes", "sock_diag_replies", "netlink_packet_sock_diag", "program_streams",
-    "sock_diag_lines"]
-# The extension crates and the programs, which are counted separately.
+PORT = ["netlink_core", "attribute_lists", "sock_diag_values", "sock_diag_records",
+    "sock_diag_attributes", "sock_diag_replies", "netlink_packet_sock_diag"]
+# The libraries of the program `sockdiag`.
+PROGRAM = ["program_streams", "sock_diag_lines"]
+CRATES = PORT + PROGRAM
+# The other crates, whose definitions are only counted.
 OTHERS = ["sock_diag_families", "sock_diag_any", "sock_diag_extras", "sock_diag_filters",
     "sock_diag_examples", "sock_diag_captures", "sockdiag_c", "sockdiag", "sslist"]
 # A module of these crates, except those that are generated from Rust.
@@ -89,9 +99,9 @@ def imports(text):
 class Item:
     """A definition, a lemma, or the head of a module of parameters. `heads` are those around it."""
 
-    def __init__(self, kind, name, line, comment, heads):
+    def __init__(self, kind, name, line, comment, heads, place):
         self.kind, self.name, self.lines, self.comment = kind, name, [line], comment
-        self.heads, self.reached = heads, False
+        self.heads, self.reached, self.place = heads, False, place
         self.indent = len(line) - len(line.lstrip())
 
     def head(self):
@@ -132,8 +142,9 @@ class Module:
 
     def __init__(self, path):
         text, self.items, heads, item, comment = path.read_text("utf-8"), {}, [], None, []
-        self.name = ".".join(path.relative_to(ROOT).with_suffix("").parts)
-        for number, line in enumerate(text.splitlines()):
+        file = path.relative_to(ROOT)
+        self.name = ".".join(file.with_suffix("").parts)
+        for number, line in enumerate(text.splitlines(), 1):
             words, indent = line.strip(), len(line) - len(line.lstrip())
             if words.startswith("--"):
                 comment.append(words.strip("- "))
@@ -144,7 +155,8 @@ class Module:
                 start = START.match(words) if is_outer else None
                 if start:
                     kind, name = start[1] or start[3] or "", start[2] or start[4]
-                    item = Item(kind, name, line, " ".join(comment), heads)
+                    place = f"crates/{file}:{number}"
+                    item = Item(kind, name, line, " ".join(comment), heads, place)
                     self.items[f"module {number}" if kind == "module" else name] = item
                     heads = heads + [item] if kind == "module" else heads
                 elif item:
@@ -166,6 +178,7 @@ class Source:
 
     def __init__(self, path, private_traits):
         text, self.private_traits = path.read_text("utf-8"), private_traits
+        self.modules = path.relative_to(ROOT).with_suffix("").parts
         self.text = self.UNREAD.sub(lambda m: re.sub(r"[^\n]", " ", m[0]), text)
         self.blocks = [(m, self.closing(m.end() - 1)) for m in self.BLOCK.finditer(self.text)]
 
@@ -191,25 +204,45 @@ class Source:
             return trait not in self.private_traits
         return block[2] == "struct" and block[1] == "pub "
 
-    def promises(self):
-        """Yields where each promise starts: a clause, or the type or the body of a ghost member."""
+    def clauses(self):
+        """Yields where each clause starts, the name of its function, the `pub` of this function,
+        and the trait, impl or struct around it, or None."""
         for clause in self.CLAUSE.finditer(self.text):
             function = [*self.FUNCTION.finditer(self.text, 0, clause.start())][-1]
-            block = self.block(function.start())
-            if function[1] == "pub " or function[2] in CITED or block and self.is_promised(block):
-                yield clause.start(1)
+            yield clause.start(1), function[2], function[1], self.block(function.start())
+
+    def clauses_of(self, crate, *others, name):
+        """Yields where each clause of a function starts. `others` are words of its path: of its
+        modules, and of its type or trait."""
+        for at, function, _, block in self.clauses():
+            around = {*self.modules, *re.findall(r"\w+", block[3] if block else "")}
+            if self.modules[0] == crate and function == name and around.issuperset(others):
+                yield at
+
+    def promises(self):
+        """Yields where each promise starts: a clause, or the type or the body of a ghost member."""
+        for at, name, visibility, block in self.clauses():
+            if visibility == "pub " or name in CITED or block and self.is_promised(block):
+                yield at
+        for at, _, _ in self.ghosts():
+            yield at
+
+    def ghosts(self):
+        """Yields each ghost member that is a promise: where its type or its body starts, its name,
+        and whether this is the body in an impl."""
         name = None
         for ghost in self.GHOST.finditer(self.text):
             block, name = self.block(ghost.start()), ghost[1] or name
             cited = block[2] != "trait" and not CITED.isdisjoint(re.findall(r"\w+", block[3]))
             if (ghost[2] == ":" or name not in LAWS) and (cited or self.is_promised(block)):
-                yield ghost.start(3)
+                yield ghost.start(3), name, ghost[2] == "=" and block[2] == "impl"
 
-    def roots(self):
-        """Yields each path of each promise, and what names refer to there."""
+    def roots(self, starts):
+        """Yields each path of the clauses and members that start there, and what names refer to
+        there."""
         uses = [(self.block(use.start()), imports(use[0]))
                 for use in re.finditer(r"\bghost use [^;]*;", self.text)]
-        for at in self.promises():
+        for at in starts:
             names = {}
             for block, listed in uses:
                 names |= listed if block in (None, self.block(at)) else {}
@@ -227,32 +260,85 @@ class Specs:
                 for path in sorted((ROOT / crate).glob(pattern)):
                     module = Module(path)
                     self.modules[f"Rattle.{module.name}"] = module
-        sources = [path for crate in CRATES + OTHERS for path in (ROOT / crate).glob("src/**/*.rt")
-                   if "/tests" not in path.relative_to(ROOT).as_posix()]
-        trait = re.compile(r"^\s*(?:pub\(\w+\) )?trait (\w+)", re.M)
-        private = {name for path in sources for name in trait.findall(path.read_text("utf-8"))}
-        for path in sources:
-            for root, names in Source(path, private).roots():
-                self.reach(root, names)
 
-    def reach(self, path, names, by=None):
-        """Marks the definition that a path refers to, and all that it depends on, as reached."""
+    def find(self, path, names):
+        """Returns the module and the item that a path refers to; None if they are not of specs/ or
+        proofs/ of these crates."""
         head, *rest = path.split(".")
         target, name = names.get(head, ("", ""))
         if OURS.match(target) and target not in self.modules:
             self.errors.append(f"{path}: there is no module {target}")
         module = self.modules.get(target)
-        if not module or by and by.result().startswith("Layout ") and INVERSE in target:
-            return
-        item = module.things.get(name or "".join(rest[:1]))
-        if not item:
+        item = module and module.things.get(name or "".join(rest[:1]))
+        if module and not item:
             self.errors.append(f"{path} is not in {module.name}")
-        elif item.kind != "module" and not item.is_lemma():
-            for one in [item, *item.heads]:
-                if not one.reached:
-                    one.reached = True
-                    for other in one.paths():
-                        self.reach(other, module.names, one)
+        return module, item
+
+    def followed(self, path, names, by=None):
+        """Returns the module and the definition that a path refers to, if it has to be followed."""
+        module, item = self.find(path, names)
+        is_inverse = by and by.result().startswith("Layout ") and module and INVERSE in module.name
+        if not item or is_inverse or item.kind == "module" or item.is_lemma():
+            return None, None
+        return module, item
+
+    def reach(self, path, names, by=None):
+        """Marks the definition that a path refers to, and all that it depends on, as reached."""
+        module, item = self.followed(path, names, by)
+        for one in [item, *item.heads] if item else []:
+            if not one.reached:
+                one.reached = True
+                for other in one.paths():
+                    self.reach(other, module.names, one)
+
+
+class Outline:
+    """The definitions that one contract depends on. Those in the crates `ends` are not followed."""
+
+    def __init__(self, specs, ends):
+        self.specs, self.ends, self.seen = specs, ends, set()
+        self.lines, self.others = [], []
+        self.members, self.code, self.kit = set(), set(), set()
+
+    def add(self, path, names, depth=0, by=None):
+        """Adds the definition that a path refers to, and then all that it depends on."""
+        module, item = self.specs.followed(path, names, by)
+        if not module:
+            self.add_end(path, names)
+        elif id(item) not in self.seen:
+            self.seen.add(id(item))
+            line = f"{item.place}: {item.name}: {item.comment}"
+            if module.name.split(".")[0] in self.ends:
+                self.others.append(line)
+                return
+            self.lines.append("  " * depth + line)
+            for one in [*item.heads, item]:
+                for other in one.paths():
+                    self.add(other, module.names, depth + 1, one)
+
+    def add_end(self, path, names):
+        """Adds a member of a trait, a type or a constant of the code, or a name of the kit."""
+        head, *rest = path.split(".")
+        target, name = names.get(head, ("", ""))
+        if rest and not target and re.fullmatch("Self|[A-Z]", head):
+            self.members.add(f"{head}.{rest[0]}")
+        crate, _, module = target.removeprefix("Rattle.").partition(".specs.")
+        if crate not in CRATES + OTHERS:
+            found = ".".join([module, name or "".join(rest[:1])])
+            self.kit |= {f"{crate}.specs.{found}"} if module else set()
+        elif module.startswith("declared."):
+            *parts, last = module.removeprefix("declared.").removesuffix(".TheVariants").split(".")
+            name = name if last == "TheConstants" else last
+            self.code.add(self.declaration(ROOT / crate / "src" / "/".join(parts), name))
+
+    @staticmethod
+    def declaration(path, name):
+        """Returns the file and the line of a type or a constant of the code, and its name."""
+        file = path.with_suffix(".rt") if path.with_suffix(".rt").is_file() else path / "mod.rt"
+        declares = re.compile(rf"\b(?:struct|enum|const|type|trait) {re.escape(name)}\b")
+        lines = file.read_text("utf-8").splitlines() if file.is_file() else []
+        at = next((number for number, line in enumerate(lines, 1) if declares.search(line)), "")
+        return f"{file.relative_to(ROOT.parent)}:{at}: {name}"
 
 
 def misplaced(specs):
@@ -277,14 +363,56 @@ def sums(specs, crates):
     return f"{definitions} definitions, {len(lines)} lines, {tokens} tokens"
 
 
-def main():
-    specs = Specs()
+def sources():
+    """Returns all files of src/ of these crates, except tests."""
+    paths = [path for crate in CRATES + OTHERS for path in (ROOT / crate).glob("src/**/*.rt")
+             if "/tests" not in path.relative_to(ROOT).as_posix()]
+    trait = re.compile(r"^\s*(?:pub\(\w+\) )?trait (\w+)", re.M)
+    private = {name for path in paths for name in trait.findall(path.read_text("utf-8"))}
+    return [Source(path, private) for path in paths]
+
+
+def print_of(function):
+    """Prints the definitions that the contract of a function depends on."""
+    crate, *others, name = function.split("::") if "::" in function else ("", function)
+    ends = [] if crate in CRATES else CRATES
+    outline, count = Outline(Specs(), ends), 0
+    for source in sources():
+        starts = [*source.clauses_of(crate, *others, name=name)]
+        count += len(starts)
+        for path, names in source.roots(starts):
+            outline.add(path, names)
+    if not count:
+        print(f"{function} has no clauses; a method of an impl has those of its trait",
+              file=sys.stderr)
+        return 1
+    print(f"{function}: number of clauses: {count}", *outline.lines, sep="\n")
+    parts = (("members of traits", sorted(outline.members)),
+             ("the port and the program", outline.others),
+             ("the code", sorted(outline.code)), ("the kit", sorted(outline.kit)))
+    for title, lines in parts:
+        if lines:
+            print(f"{title}:", *lines, sep="\n")
+    return 0
+
+
+def print_all():
+    """Prints all definitions that must be believed, and their numbers."""
+    specs, files = Specs(), sources()
+    for source in files:
+        for path, names in source.roots(source.promises()):
+            specs.reach(path, names)
     for module in specs.modules.values():
         for item in module.items.values():
             if item.reached and module.name.split(".")[0] in CRATES:
-                kind = "module " if item.kind == "module" else ""
-                print(f"{module.name}: {kind}{item.name}, {len(item.lines)}, {item.comment}")
-    for title, crates in (("the port", CRATES), ("extension crates and programs", OTHERS)):
+                name = item.name
+                if item.kind == "module":
+                    name = f"not a definition, arguments of those below: {item.lines[0].strip()}"
+                print(f"{module.name}: {name}, {len(item.lines)}, {item.comment}")
+    members = {name for source in files for _, name, is_impl in source.ghosts() if is_impl}
+    print(f"members of impls that name definitions: {', '.join(sorted(members))}")
+    for title, crates in (("the port", PORT), ("the program sockdiag", PROGRAM),
+                          ("extension crates and programs", OTHERS)):
         for crate in crates:
             print(f"{crate}: {sums(specs, [crate])}")
         print(f"{title}: {sums(specs, crates)}")
@@ -293,5 +421,14 @@ def main():
     return 1 if wrong else 0
 
 
+def main(arguments):
+    if arguments[:1] == ["--of"] and len(arguments) == 2:
+        return print_of(arguments[1])
+    if arguments:
+        print("usage: tests/believed.py [--of CRATE::FUNCTION]", file=sys.stderr)
+        return 2
+    return print_all()
+
+
 if __name__ == "__main__":
-    sys.exit(main())
+    sys.exit(main(sys.argv[1:]))

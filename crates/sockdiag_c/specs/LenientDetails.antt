@@ -1,4 +1,5 @@
--- Lenient parsing for C: the valid attributes of a reply, and the errors of the rejected ones.
+-- Lenient parsing for C: the valid attributes of a reply, and the errors of the rejected ones. Of
+-- several of a kind the first counts.
 use Rattle.std.specs.Prelude.{◌≡◌, ◌<◌, ℕ, ◌⊎◌, ◌==◌, if◌then◌else◌, List, drop, Option, Some, None}
 use Rattle.std.specs.Prelude.{option_and_then, unwrap_or, is_none, slice_index, Result, Ok, Err}
 use Rattle.std.specs.List.{filter_map}
@@ -46,8 +47,9 @@ code_of_kind k r =
     r.attribute
 
 -- `HasRejections it items`: the struct `it` has the code of the first error of all, the code of the
--- framing error, and for each kind below 32 the code of the first error of an attribute of this
--- kind. Each is 0 if there is no such error.
+-- framing error, and for each kind below REJECTION_KINDS the code of the first error of an
+-- attribute of this kind. Each is 0 if there is no such error. The theorem function
+-- `every_rejected_kind_has_a_code` of src/laws.rt states that no other kind has errors.
 abbrev pub HasRejections : {V : Type 0} → Rejections → List (Result V RejectionModel) → Type 0
 HasRejections it items =
     (it.first ≡ first_code code_of_any items)
@@ -65,8 +67,9 @@ AgreesWithStrictParse F bytes items =
     ⊎ ((e : DecodeError) × HasAttributeError (decode_attribute F) bytes e
     × (first_code code_of_any items ≡ error_code e))
 
--- IsLenientResult R describes payload old new was now answer: `answer` is the return value; `old`
--- and `new` are the details before and after the call, `was` and `now` the rejections. One of:
+-- IsLenientResult R describes payload old new was now answer: `answer` is the return value. Of the
+-- struct of details, `old` is its contents before the call and `new` those after it; of the struct
+-- of rejections, `was` is its contents before the call and `now` those after it. One of:
 -- - The header of the reply in `payload` parses (`R.header.parses`), and `answer` is 0. `items` are
 --   the items of the bytes after the header, whose number is `R.size`. The details describe the
 --   header and the values of the accepted attributes, and the rejections have the errors of the

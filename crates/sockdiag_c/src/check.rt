@@ -21,8 +21,9 @@ pub(crate) const OK: u32 = 0;
 ///
 /// An attribute with an invalid value makes the whole reply invalid. `UNIX_DIAG_MEMINFO` with fewer
 /// than 36 bytes, which old kernels send, has `SOCKDIAG_BUFFER_TOO_SMALL`.
-/// `sockdiag_unix_get_lenient_details` returns the header and all valid attributes of such a reply,
-/// and `sockdiag_next_attribute` all attributes, without a check of their values.
+/// `sockdiag_unix_get_lenient_details` returns the header of such a reply, and the first valid
+/// attribute of each kind that has a field in the details. `sockdiag_next_attribute` returns all
+/// attributes, without a check of their values.
 #[unsafe(no_mangle)]
 pub extern "C" fn sockdiag_check_unix_reply(payload: &[u8], header: &mut UnixHeader) -> u32
     // In order: how the payload parses, its errors, the header that is stored, and the header
@@ -47,7 +48,8 @@ pub extern "C" fn sockdiag_check_unix_reply(payload: &[u8], header: &mut UnixHea
 /// An attribute with an invalid value makes the whole reply invalid. `INET_DIAG_INFO` with fewer
 /// than 232 bytes has `SOCKDIAG_BUFFER_TOO_SMALL`. TCP sockets of kernels before Linux 5.4 have
 /// such values, and MPTCP sockets of all kernels. `sockdiag_inet_get_lenient_details` returns the
-/// header and all valid attributes of such a reply. These calls accept a value of any length:
+/// header of such a reply, and the first valid attribute of each kind that has a field in the
+/// details. These calls accept a value of any length:
 /// - the connection: `sockdiag_inet_get_long_tcp_info` and `sockdiag_inet_get_tcp_info`;
 /// - the memory: `sockdiag_inet_get_memory`;
 /// - other attributes: `sockdiag_next_attribute`, which does not check their values.

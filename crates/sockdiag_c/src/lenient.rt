@@ -1,5 +1,5 @@
-//! The contents of a reply of which attributes may be rejected: the valid attributes, and the
-//! errors of the others.
+//! The contents of a reply of which attributes may be rejected: the first valid attribute and the
+//! first error of each kind.
 
 ghost use Rattle.std.specs.Prelude.{◌≡◌, ◌<◌, ◌==◌, if◌then◌else◌, ℕ, List, [], slice_index};
 ghost use Rattle.netlink_core.specs.Errors.{error_code};
@@ -91,11 +91,12 @@ impl Rejections {
     }
 }
 
-/// Returns the header of a reply about a UNIX socket and the valid ones of its attributes, in one
-/// pass over the attributes, and the errors of the others. The bytes are the payload of the netlink
-/// message. Returns 0, and sets all fields of the details and of the rejections; or the code of the
-/// error of the header, and then both are unchanged. The previous contents of both are not read.
-/// What is not rejected is as `sockdiag_unix_get_details` describes it.
+/// Returns the header of a reply about a UNIX socket, the first valid attribute of each kind that
+/// has a field in the details, and the first error of each kind, in one pass over the attributes.
+/// What follows a framing error is not parsed. The bytes are the payload of the netlink message.
+/// Returns 0, and sets all fields of the details and of the rejections; or the code of the error of
+/// the header, and then both are unchanged. The previous contents of both are not read. What is not
+/// rejected is as `sockdiag_unix_get_details` describes it.
 ///
 /// Use this call to list sockets: a value that this library does not accept, such as the
 /// `UNIX_DIAG_MEMINFO` of an old kernel, hides only itself, and not its socket.
@@ -113,12 +114,13 @@ pub extern "C" fn sockdiag_unix_get_lenient_details<'a>(
     store_lenient_details(payload, details, rejections)
 }
 
-/// Returns the header of a reply about an IPv4 or IPv6 socket and the valid ones of its attributes
-/// that are a text or a number, in one pass over the attributes, and the errors of all attributes
-/// that are rejected. The bytes are the payload of the netlink message. Returns 0, and sets all
-/// fields of the details and of the rejections; or the code of the error of the header, and then
-/// both are unchanged. The previous contents of both are not read. What is not rejected is as
-/// `sockdiag_inet_get_details` describes it.
+/// Returns the header of a reply about an IPv4 or IPv6 socket, the first valid attribute of each
+/// kind that has a field in the details, which are those with a text or a number, and the first
+/// error of each kind, in one pass over the attributes. What follows a framing error is not parsed.
+/// The bytes are the payload of the netlink message. Returns 0, and sets all fields of the details
+/// and of the rejections; or the code of the error of the header, and then both are unchanged. The
+/// previous contents of both are not read. What is not rejected is as `sockdiag_inet_get_details`
+/// describes it.
 ///
 /// Use this call to list sockets: a value that this library does not accept, such as the
 /// `INET_DIAG_INFO` of an old kernel or of MPTCP, hides only itself, and not its socket.
@@ -137,8 +139,9 @@ pub extern "C" fn sockdiag_inet_get_lenient_details<'a>(
     store_lenient_details(payload, details, rejections)
 }
 
-// Stores the header and the valid attributes in the details, and the errors of the others in the
-// rejections. Returns 0, or the code of the error of the header; then both are unchanged.
+// Stores the header and the first valid attribute of each kind in the details, and the first error
+// of each kind in the rejections. Returns 0, or the code of the error of the header; then both are
+// unchanged.
 fn store_lenient_details<'a, T: ReplyDetails<'a>>(
     payload: &'a [u8],
     details: &mut T,
@@ -157,9 +160,10 @@ fn store_lenient_details<'a, T: ReplyDetails<'a>>(
     }
 }
 
-// Parses each attribute. Sets the fields of the valid ones, and returns the errors of the others.
+// Parses each attribute. Sets the fields of the valid ones, unless they are set already, and
+// returns the errors of the others.
 fn set_valid_details<'a, T: ReplyDetails<'a>>(bytes: &'a [u8], details: &mut T) -> Rejections
-    ensures { (items : List (LenientItem T.reply.attribute_set))
+    ensures items { (items : List (LenientItem T.reply.attribute_set))
         × HasLenientItems T.reply.attribute_set bytes.entry.now items
         × ((h : T.reply.header.Value) → T.describes h details.old []
         → T.describes h details.new (accepted_values items))

@@ -66,23 +66,29 @@ returns-in-Err g c =
     let inv = c.loop-item.invariant in
     let e = c.in-Err.error in
     let stop = rw c.in-Err.is at c.in-Some.ensures.steps in
-    let rejection : RejectionModel = record { attribute = None; error = e } in (
-      inv.so_far ++ Err rejection ∷ [],
-      items_and_framing_error F _ _ inv.so_far e stop.0 stop.1 inv.walk,
-      λ h details. rw (← no_more_value F inv.so_far rejection) (inv.details h details),
-      rejections_after_error _ _ inv.so_far rejection inv.rejections
-          c.add_framing.ensures.first
-          c.add_framing.ensures.framing
-          (λ k below. ap (λ (errors : List ℕ). slice_index errors k) c.add_framing.ensures.errors
-          ∙ kept_zero _),
-    )
+    let rejection : RejectionModel = record { attribute = None; error = e } in
+    record {
+      items = (
+        inv.so_far ++ Err rejection ∷ [],
+        items_and_framing_error F _ _ inv.so_far e stop.0 stop.1 inv.walk,
+        λ h details. rw (← no_more_value F inv.so_far rejection) (inv.details h details),
+        rejections_after_error _ _ inv.so_far rejection inv.rejections
+            c.add_framing.ensures.first
+            c.add_framing.ensures.framing
+            (λ k below. ap (λ (errors : List ℕ). slice_index errors k) c.add_framing.ensures.errors
+            ∙ kept_zero _),
+      );
+    }
 
 pub returns : goal.returns
 returns g c =
     let F = g.T.ReplyDetails.reply.attribute_set in
-    let inv = c.loop-item.invariant in (
-      inv.so_far,
-      all_items F _ _ inv.so_far c.in-None.ensures.steps.0 inv.walk,
-      inv.details,
-      inv.rejections,
-    )
+    let inv = c.loop-item.invariant in
+    record {
+      items = (
+        inv.so_far,
+        all_items F _ _ inv.so_far c.in-None.ensures.steps.0 inv.walk,
+        inv.details,
+        inv.rejections,
+      );
+    }
