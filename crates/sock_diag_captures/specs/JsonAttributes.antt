@@ -2,7 +2,7 @@
 -- the prefix that all names of a struct or an enum have.
 use Rattle.std.specs.Prelude.{◌&&◌}
 use Rattle.std.specs.Prelude.{ℕ, ◌==◌, if◌then◌else◌, List, [], ◌∷◌, ◌++◌, codes, flat_map}
-use Rattle.std.specs.Prelude.{length, nat_le, Option, None, Some, is_some, Result, Ok, Err}
+use Rattle.std.specs.Prelude.{length, nat_le, None, Some, is_some, Result, Ok, Err}
 use Rattle.std.specs.Prelude.{Bool, true, false}
 use Rattle.std.specs.Option.{option_map_or}
 use Rattle.byteorder.specs.Endian.{little_number}
