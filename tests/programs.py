@@ -10,6 +10,7 @@ import shutil
 import subprocess
 import sys
 import tempfile
+from datetime import datetime, timedelta, timezone
 from pathlib import Path
 
 CRATES = Path(__file__).resolve().parent.parent / "crates"
@@ -225,6 +226,26 @@ def test_long_inputs(program):
     check(program, [], file_header + request * 300 + packet(reply), 0, table, errors)
 
 
+def test_times(program):
+    """Compares the times of requests with those of Python's datetime: the first and the last day of
+    each month, the greatest time, and fractions of more than a second."""
+    days = [datetime(year, month, 1) for year in range(1970, 2107) for month in range(1, 13)]
+    starts = [int(day.replace(tzinfo=timezone.utc).timestamp()) for day in days]
+    seconds = [it + shift for it in starts for shift in (0, 45_296, -1)]
+    times = [(it, it % 1_000_000) for it in seconds if 0 <= it < 1 << 32]
+    times += [((1 << 32) - 1, fraction) for fraction in (999_999, 1_000_000, (1 << 32) - 1)]
+    for magic, unit in ((0xA1B2C3D4, 1000), (0xA1B23C4D, 1)):
+        capture = magic.to_bytes(4, "little") + CAPTURE.read_bytes()[4:24]
+        lines = []
+        for second, fraction in times:
+            request = packet([1, *bytes(23)], 0x301)
+            capture += second.to_bytes(4, "little") + fraction.to_bytes(4, "little") + request[8:]
+            whole, rest = divmod(second * 1_000_000_000 + fraction * unit, 1_000_000_000)
+            date = datetime(1970, 1, 1) + timedelta(seconds=whole)
+            lines.append(f"-- {date.isoformat()}.{rest:09}Z unix states:0x0\n")
+        check(program, ["--requests", "-H"], capture, 0, "".join(lines).encode())
+
+
 def test_options(program):
     """Lists the stored capture, followed by a UDP request, its reply, and a reply for each other
     family."""
@@ -262,7 +283,7 @@ def test_options(program):
         assert shown == [option], (shown, option)
     text = run(program, ["--requests"], capture)[1]
     assert re.sub(rb"(?m)^-- .*\n", b"", text) == table, "--requests"
-    assert b"\n-- 0.000000000 udp states:0xfe\n" in text, "--requests"
+    assert b"\n-- 1970-01-01T00:00:00.000000000Z udp states:0xfe\n" in text, "--requests"
     named, printed = (it.replace(b"/listening", "/hörening".encode()) for it in (capture, table))
     check(program, ["--utf8"], named, status, printed, errors)
     escaped = printed.replace("ö".encode(), b"\\xc3\\xb6")
@@ -351,6 +372,7 @@ if __name__ == "__main__":
     test_sockdiag(sockdiag)
     test_sslist(sslist)
     test_options(sslist)
+    test_times(sslist)
     test_diagnostics(sslist)
     test_long_inputs(sslist)
     test_unreadable_file(sslist)

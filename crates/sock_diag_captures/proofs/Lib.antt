@@ -7,7 +7,7 @@ pub mod Progress
 pub mod Failing
 pub mod DiagnosticEquality
 pub mod Adding
-pub mod Filling
+pub mod UtcTimes
 pub mod Utf8Names
 pub mod ShownNames
 pub mod Reporting

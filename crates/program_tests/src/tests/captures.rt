@@ -325,7 +325,9 @@ fn lists_requests(rt: HostRuntime) {
         requests: true,
         ..Options::default()
     };
-    for (header, time) in [(0, "-- 7.000009000 "), (2, "-- 7.000000009 ")] {
+    let micros = "-- 1970-01-01T00:00:07.000009000Z ";
+    let nanos = "-- 1970-01-01T00:00:07.000000009Z ";
+    for (header, time) in [(0, micros), (2, nanos)] {
         let capture = captured(&rt, rt.alloc(), HEADERS[header], &packets);
         let (unix, mptcp) = ("unix states:0xffffffff\n", "mptcp states:0x480\n");
         let lines = [time, unix, UNIX_LINE, time, mptcp, time, "netlink\n"];
