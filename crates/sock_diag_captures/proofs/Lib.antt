@@ -10,6 +10,8 @@ pub mod Adding
 pub mod UtcTimes
 pub mod Utf8Names
 pub mod ShownNames
+pub mod VisibleNames
+pub mod CellWidths
 pub mod Reporting
 pub mod Choosing
 pub mod Listed
