@@ -264,7 +264,7 @@ def escaped(text):
 
 def socket(path):
     """Returns a packet with a reply about a UNIX socket with this path."""
-    name = path.encode()
+    name = path.encode() + b"\0"
     size = (4 + len(name)).to_bytes(2, "little") + bytes(2)
     return packet([1, 1, 10, 0, 7, *bytes(11)] + list(size + name + bytes(-len(name) % 4)))
 
