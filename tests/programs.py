@@ -12,6 +12,8 @@ import socket
 import subprocess
 import sys
 import tempfile
+import unicodedata
+from datetime import datetime, timedelta, timezone
 from pathlib import Path
 
 import pcapng
@@ -36,6 +38,8 @@ KINDS = {
 DETAILS = {"-o": b" timer:", "-e": b" sk:", "-m": b" skmem:", "-i": b" cwnd:"}
 # An attribute of an unknown type, with the longest value whose length is a multiple of 4.
 LONG_ATTRIBUTE = (65_532).to_bytes(2, "little") + bytes([200, 0]) + bytes(65_528)
+# The general categories of characters that an encoding or a later version of Unicode may define.
+UNKNOWN = ("Cn", "Cs", "Co")
 failures = []
 
 
@@ -305,6 +309,66 @@ def test_long_inputs(program):
     check(program, [], file_header + request * 300 + packet(reply), 0, table, errors)
 
 
+def test_letters(program):
+    """Compares the characters that `--utf8` shows with the properties in Python's unicodedata, for
+    each character that it knows, and the columns of some names with their widths."""
+    file_header = CAPTURE.read_bytes()[:24]
+    blank = "\u115f\u1160\u3164\uffa0\u2800\U0001d159\U00013441\U00013442"
+    codes = range(0x80, 0x110000)
+    texts = [it for it in map(chr, codes) if unicodedata.category(it) not in UNKNOWN]
+    names = ["/" + "".join(texts[it : it + 40]) for it in range(0, len(texts), 40)]
+    shown = [
+        it not in blank
+        and unicodedata.category(it)[0] in "LNPS"
+        and unicodedata.bidirectional(it) in ("L", "EN", "ES", "ET", "CS", "ON")
+        for it in texts
+    ]
+    status, table, _ = run(program, ["--utf8", "-H"], file_header + b"".join(map(socket, names)))
+    cells = [row.split()[6] for row in table.splitlines()[::2]]
+    assert status == 0 and len(cells) == len(names), (status, len(cells), len(names))
+    for index, cell in enumerate(cells):
+        pairs = zip(texts[index * 40 :], shown[index * 40 : index * 40 + 40])
+        expected = "".join(it if yes else escaped(it) for it, yes in pairs)
+        if cell.decode() != "/" + expected:
+            failures.append(f"{program} --utf8: {cell.decode()}, expected {expected}")
+    for name, width in [("é", 1), ("漢字", 4), ("ｗｉｄｅ", 8), ("한글", 4), ("🦀", 2), ("👍🏽", 2)]:
+        table = run(program, ["--utf8", "-H"], file_header + socket("/" + name))[1].decode()
+        if f" /{name}{(30 - width) * ' '}*\n" not in table:
+            failures.append(f"{program} --utf8: {table}, expected the width {width}")
+
+
+def escaped(text):
+    """Returns the bytes of a text as `sslist` escapes them."""
+    return "".join(f"\\x{it:02x}" for it in text.encode())
+
+
+def socket(path):
+    """Returns a packet with a reply about a UNIX socket with this path."""
+    name = path.encode() + b"\0"
+    size = (4 + len(name)).to_bytes(2, "little") + bytes(2)
+    return packet([1, 1, 10, 0, 7, *bytes(11)] + list(size + name + bytes(-len(name) % 4)))
+
+
+def test_times(program):
+    """Compares the times of requests with those of Python's datetime: the first and the last day of
+    each month, the greatest time, and fractions of more than a second."""
+    days = [datetime(year, month, 1) for year in range(1970, 2107) for month in range(1, 13)]
+    starts = [int(day.replace(tzinfo=timezone.utc).timestamp()) for day in days]
+    seconds = [it + shift for it in starts for shift in (0, 45_296, -1)]
+    times = [(it, it % 1_000_000) for it in seconds if 0 <= it < 1 << 32]
+    times += [((1 << 32) - 1, fraction) for fraction in (999_999, 1_000_000, (1 << 32) - 1)]
+    for magic, unit in ((0xA1B2C3D4, 1000), (0xA1B23C4D, 1)):
+        capture = magic.to_bytes(4, "little") + CAPTURE.read_bytes()[4:24]
+        lines = []
+        for second, fraction in times:
+            request = packet([1, *bytes(23)], 0x301)
+            capture += second.to_bytes(4, "little") + fraction.to_bytes(4, "little") + request[8:]
+            whole, rest = divmod(second * 1_000_000_000 + fraction * unit, 1_000_000_000)
+            date = datetime(1970, 1, 1) + timedelta(seconds=whole)
+            lines.append(f"-- {date.isoformat()}.{rest:09}Z unix states:0x0\n")
+        check(program, ["--requests", "-H"], capture, 0, "".join(lines).encode())
+
+
 def test_options(program):
     """Lists the stored capture, followed by a UDP request, its reply, and a reply for each other
     family."""
@@ -342,8 +406,10 @@ def test_options(program):
         assert shown == [option], (shown, option)
     text = run(program, ["--requests"], capture)[1]
     assert re.sub(rb"(?m)^-- .*\n", b"", text) == table, "--requests"
-    assert b"\n-- 0.000000000 udp states:0xfe\n" in text, "--requests"
-    named, printed = (it.replace(b"/listening", "/hörening".encode()) for it in (capture, table))
+    assert b"\n-- 1970-01-01T00:00:00.000000000Z udp states:0xfe\n" in text, "--requests"
+    name = "/hörening".encode()
+    named = capture.replace(b"/listening", name)
+    printed = table.replace(b"/listening ", name + b"  ")
     check(program, ["--utf8"], named, status, printed, errors)
     escaped = printed.replace("ö".encode(), b"\\xc3\\xb6")
     assert run(program, [], named)[1].split() == escaped.split(), "without --utf8"
@@ -538,6 +604,8 @@ if __name__ == "__main__":
     test_sockdiag(sockdiag)
     test_sslist(sslist)
     test_options(sslist)
+    test_times(sslist)
+    test_letters(sslist)
     test_diagnostics(sslist)
     test_pcapng(sslist)
     test_json(sslist)

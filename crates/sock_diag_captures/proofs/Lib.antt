@@ -7,9 +7,11 @@ pub mod Progress
 pub mod Failing
 pub mod DiagnosticEquality
 pub mod Adding
-pub mod Filling
+pub mod UtcTimes
 pub mod Utf8Names
 pub mod ShownNames
+pub mod VisibleNames
+pub mod CellWidths
 pub mod Reporting
 pub mod Choosing
 pub mod Listed

@@ -7,7 +7,7 @@ use Rattle.std.specs.List.{AllByRecursion}
 use Rattle.std.specs.Str.{is_utf8}
 use Rattle.std.proofs.Math.Utf8.{encode, encodes, scalars}
 use Rattle.std.proofs.lemmas.Bool.{and_parts, cases_Bool, cases_eq}
-use Rattle.std.proofs.lemmas.Bool.{ne_eqb}
+use Rattle.std.proofs.lemmas.Bool.{leb-true, ne_eqb}
 use Rattle.std.proofs.lemmas.Str.{IsUtf8-from_is_utf8, encodes-chars, scalars-chars}
 use Rattle.hex.specs.Hex.{encode_with, lower_digits}
 use Rattle.sock_diag_captures.specs.Escapes.{byte_digits, unescaped_bytes, shown_character}
@@ -72,10 +72,15 @@ encode_high c big =
     grind arith
 
 -- Each element of the UTF-8 of a character is a byte.
-encode_low : (c : ℕ) → IsScalar c → AllByRecursion (λ (b : ℕ). b < 256) (encode c)
+pub encode_low : (c : ℕ) → IsScalar c → AllByRecursion (λ (b : ℕ). b < 256) (encode c)
 unfolding encode
 encode_low c ok =
     grind arith
+
+-- A character that is shown unchanged is not ASCII.
+shown_is_high : (c : ℕ) → is_shown_character c ≡ true → 128 ≤ c
+unfolding is_shown_character
+shown_is_high c held = leb-true 128 c (and_parts _ _ held).0
 
 unescaped_shown_character : (c : ℕ) (t : List ℕ) → IsScalar c
     → unescaped_bytes 0 (shown_character c ++ t) ≡ encode c ++ unescaped_bytes 0 t
@@ -85,6 +90,7 @@ unescaped_shown_character c t ok =
       cases_Bool (is_shown_character c),
       unescaped_high_bytes (encode c) t,
       encode_high c,
+      shown_is_high c,
       unescaped_escaped_bytes (encode c) t (encode_low c ok),
     )
 
@@ -100,7 +106,7 @@ unescaped_shown_characters (c ∷ cs) t ok =
       append_assoc (encode c) (encodes cs) (unescaped_bytes 0 t),
     )
 
-all_bytes : (bs : List ℕ) → ((i : ℕ) → slice_index bs i < 256)
+pub all_bytes : (bs : List ℕ) → ((i : ℕ) → slice_index bs i < 256)
     → AllByRecursion (λ (b : ℕ). b < 256) bs
 all_bytes [] in_range = tt
 all_bytes (b ∷ bs) in_range = (in_range 0, all_bytes bs (λ i. in_range (suc i)))

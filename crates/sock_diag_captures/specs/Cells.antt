@@ -1,9 +1,11 @@
 -- Cells of a line of the table. Texts are lists of ASCII codes.
-use Rattle.std.specs.Prelude.{ℕ, ◌-◌, ◌==◌, if◌then◌else◌, List, [], ◌∷◌, ◌++◌, length, replicate}
+use Rattle.std.specs.Prelude.{ℕ, ◌-◌, ◌==◌, if◌then◌else◌, Bool, List, [], ◌∷◌, ◌++◌, length}
+use Rattle.std.specs.Prelude.{replicate}
 use Rattle.std.specs.Prelude.{codes, decimal, Option, None, Some, slice_get, unwrap_or}
 use Rattle.std.specs.declared.net.ip_addr.IpAddr.{IpAddr}
 use Rattle.std.specs.declared.net.ip_addr.IpAddr.TheVariants.{V4, V6}
 use Rattle.std.specs.Net.Text.{ip_text, scope_text}
+use Rattle.sock_diag_captures.specs.Widths.{name_column}
 
 -- A column: the content, padded with spaces (32) to a width, and one more space. Longer content is
 -- not cut.
@@ -71,3 +73,8 @@ first_columns c =
 -- then the peer's, which is not padded.
 abbrev pub table_line : FirstColumns → List ℕ → List ℕ → List ℕ
 table_line c local peer = first_columns c ++ column 30 local ++ peer
+
+-- the line of a socket with a name, without its details: as `table_line`, with the cell of the name
+-- as the local address
+abbrev pub named_line : Bool → FirstColumns → List ℕ → List ℕ → List ℕ
+named_line utf8 c name peer = first_columns c ++ name_column utf8 30 name ++ peer

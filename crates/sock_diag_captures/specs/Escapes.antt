@@ -1,9 +1,21 @@
 -- Escapes in names, so that a name cannot break a line or a column. Texts are lists of bytes.
 use Rattle.std.specs.Prelude.{ℕ, zero, suc, ◌+◌, ◌-◌, ◌*◌, ◌==◌, nat_le, if◌then◌else◌, Bool, true}
+use Rattle.std.specs.Prelude.{◌≡◌, ◌||◌, not}
+use Rattle.std.specs.List.{AllByRecursion}
 use Rattle.std.specs.Prelude.{false, ◌&&◌, List, [], slice_index, ◌∷◌, chars, encode_utf8, flat_map}
-use Rattle.std.specs.List.{list_any}
 use Rattle.std.specs.Str.{is_utf8}
 use Rattle.hex.specs.Hex.{encode_lower}
+use Rattle.ucd_bidi.specs.BidiClass.{bidi_class}
+use Rattle.ucd_bidi.specs.declared.BidiClass.{BidiClass}
+use Rattle.ucd_bidi.specs.declared.BidiClass.TheVariants.{CommonSeparator, EuropeanNumber}
+use Rattle.ucd_bidi.specs.declared.BidiClass.TheVariants.{EuropeanSeparator, EuropeanTerminator}
+use Rattle.ucd_bidi.specs.declared.BidiClass.TheVariants.{LeftToRight, OtherNeutral}
+use Rattle.ucd_category.specs.GeneralCategory.{general_category}
+use Rattle.ucd_category.specs.GeneralCategoryGroup.{in_group}
+use Rattle.ucd_category.specs.declared.GeneralCategory.{GeneralCategory}
+use Rattle.ucd_category.specs.declared.GeneralCategoryGroup.TheVariants.{Letter, Number}
+use Rattle.ucd_category.specs.declared.GeneralCategoryGroup.TheVariants.{Punctuation, Symbol}
+use Rattle.unicode.specs.Binary.{is_default_ignorable_code_point}
 
 -- a byte that is shown unchanged: from `!` (33) to `~` (126), except the backslash (92)
 abbrev pub is_printable_byte : ℕ → Bool
@@ -19,20 +31,40 @@ escaped_byte c = if is_printable_byte c then c ∷ [] else byte_digits c
 
 -- ---- names under `--utf8`
 
--- Ranges of characters that `--utf8` shows, with the first and the last code point of each: Latin,
--- Greek and Cyrillic, punctuation, currency signs, arrows, shapes, and Chinese, Japanese and
--- Korean. Each character is a visible letter, number or sign. None is a control, separator, format
--- or combining character, unassigned, or written from right to left (Unicode 14, UnicodeData.txt).
-abbrev pub shown_ranges : List (ℕ × ℕ)
-shown_ranges =
-    (0xa1, 0xac) ∷ (0xae, 0x2ff) ∷ (0x386, 0x38a) ∷ (0x38c, 0x38c) ∷ (0x38e, 0x3a1) ∷ (0x3a3, 0x482)
-    ∷ (0x48a, 0x52f) ∷ (0x1e00, 0x1eff) ∷ (0x2010, 0x2027) ∷ (0x20a0, 0x20bf) ∷ (0x2190, 0x21ff)
-    ∷ (0x2580, 0x27bf) ∷ (0x3001, 0x3029) ∷ (0x3041, 0x3096) ∷ (0x309b, 0x30ff) ∷ (0x3131, 0x3163)
-    ∷ (0x3400, 0x9fff) ∷ (0xac00, 0xd7a3) ∷ []
+-- The general categories of characters that `--utf8` shows: letters, numbers, punctuation and
+-- symbols. The others are marks, separators, controls, format characters, surrogates, private use
+-- and unassigned.
+abbrev pub is_visible : GeneralCategory → Bool
+is_visible category =
+    in_group Letter category || in_group Number category || in_group Punctuation category
+    || in_group Symbol category
 
--- a character that is not ASCII and is in one of these ranges
-abbrev pub is_shown_character : ℕ → Bool
-is_shown_character c = nat_le 0x80 c && list_any (λ r. nat_le r.0 c && nat_le c r.1) shown_ranges
+-- The bidirectional classes of characters that `--utf8` shows. They are written from left to right,
+-- or take the direction of their neighbors. The others are written from right to left, or control
+-- the direction.
+abbrev pub is_left_to_right : BidiClass → Bool
+is_left_to_right LeftToRight = true
+is_left_to_right EuropeanNumber = true
+is_left_to_right EuropeanSeparator = true
+is_left_to_right EuropeanTerminator = true
+is_left_to_right CommonSeparator = true
+is_left_to_right OtherNeutral = true
+is_left_to_right _ = false
+
+-- Visible characters by their category that are blank: fillers, which programs may ignore
+-- (Default_Ignorable_Code_Point), BRAILLE PATTERN BLANK, MUSICAL SYMBOL NULL NOTEHEAD, and two
+-- blanks of EGYPTIAN HIEROGLYPHS.
+abbrev pub is_blank : ℕ → Bool
+is_blank c =
+    is_default_ignorable_code_point c || c == 0x2800 || c == 0x1d159 || c == 0x13441 || c == 0x13442
+
+-- A character that `--utf8` shows: it is not ASCII, its general category is visible, it is written
+-- from left to right, and it is not blank. So none is a control, separator, format or combining
+-- character, unassigned, or written from right to left.
+unfoldable pub is_shown_character : ℕ → Bool
+is_shown_character c =
+    nat_le 0x80 c && (is_visible (general_category c) && (is_left_to_right (bidi_class c)
+    && not (is_blank c)))
 
 -- The UTF-8 bytes of a character (its code point). They are unchanged if `is_shown_character`
 -- holds. Else each byte is escaped if it is not printable.
@@ -46,6 +78,17 @@ abbrev pub shown_name : Bool → List ℕ → List ℕ
 shown_name utf8 bytes =
     if utf8 && is_utf8 bytes then flat_map shown_character (chars bytes)
     else flat_map escaped_byte bytes
+
+-- a character from `!` (33) to `~` (126), or one that `--utf8` shows
+abbrev pub is_visible_character : ℕ → Bool
+is_visible_character c = (nat_le 33 c && nat_le c 126) || is_shown_character c
+
+-- The text is the UTF-8 of visible characters. So it has no space, no control character (C0 or C1),
+-- and no format character such as those that control the direction of writing.
+abbrev pub IsVisibleText : List ℕ → Type 0
+IsVisibleText text =
+    (cs : List ℕ) × (text ≡ flat_map encode_utf8 cs)
+    × AllByRecursion (λ (c : ℕ). is_visible_character c ≡ true) cs
 
 -- ---- the name that a shown text represents
 

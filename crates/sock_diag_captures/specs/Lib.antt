@@ -11,6 +11,7 @@ pub mod Listing
 pub mod Diagnostics
 pub mod Run
 pub mod Escapes
+pub mod Widths
 pub mod Options
 pub mod Cells
 pub mod CellsModel

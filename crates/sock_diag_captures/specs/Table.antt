@@ -2,7 +2,7 @@
 use Rattle.std.specs.Prelude.{ℕ, ◌==◌, nat_lt, if◌then◌else◌, ◌&&◌, Bool, List, [], ◌∷◌, ◌++◌}
 use Rattle.std.specs.Prelude.{length, codes, Option, None, Some, slice_index, option_map, drop}
 use Rattle.std.specs.Prelude.{◌||◌, false, option_and_then}
-use Rattle.sock_diag_captures.specs.Cells.{endpoint, table_line, peer_cell}
+use Rattle.sock_diag_captures.specs.Cells.{endpoint, named_line, peer_cell, table_line}
 use Rattle.sock_diag_captures.specs.Parts.{no_timer, details_after_separator}
 use Rattle.sock_diag_captures.specs.Escapes.{byte_digits, unescaped_bytes, shown_name}
 use Rattle.sock_diag_captures.specs.Options.{lists_inet, lists_unix}
@@ -85,7 +85,7 @@ inet_kind (Some protocol) family =
 abbrev pub unix_line : Options → UnixResponseHeader → List AttributeOrError → List ℕ
 unix_line o h given =
     let queues = first_content unix_attribute_set UNIX_DIAG_RQLEN given in
-    table_line (record {
+    named_line o.utf8 (record {
       kind = unix_kind h.kind;
       state = h.state;
       receive_queue = option_map (λ ns. ns.0) queues;

@@ -1,13 +1,12 @@
--- Time of the capture of a packet.
-use Rattle.std.specs.Prelude.{ℕ, ◌-◌, ◌+◌, ◌*◌, ◌/◌, ◌%◌, List, ◌∷◌, ◌++◌, length, replicate}
-use Rattle.std.specs.Prelude.{decimal}
+-- Time of the capture of a packet, as ISO 8601.
+use Rattle.std.specs.Prelude.{◌≡◌, ℕ, zero, suc, ◌+◌, ◌*◌, ◌/◌, ◌%◌, nat_lt, if◌then◌else◌, pos}
+use Rattle.std.specs.Prelude.{false, List, [], ◌∷◌, ◌++◌, Some}
+use Rattle.jiff.specs.Words.{civil_nanos, days_in_month}
+use Rattle.jiff_core.specs.declared.civil.datetime.DateTime.{DateTime}
+use Rattle.jiff_fmt.specs.Text.{datetime_text, pad2, pad4, places, zulu_text}
 use Rattle.program_streams.specs.declared.captures.PacketHeader.{PacketHeader}
 use Rattle.program_streams.specs.declared.captures.TimeUnit.{TimeUnit}
 use Rattle.program_streams.specs.declared.captures.TimeUnit.TheVariants.{Microseconds, Nanoseconds}
-
--- a number in decimal, padded with leading zeros (48) to at least `width` digits
-abbrev pub zero_padded : ℕ → ℕ → List ℕ
-zero_padded width n = replicate (width - length (decimal n)) 48 ++ decimal n
 
 -- a fraction of a second in this unit, in nanoseconds
 abbrev pub fraction_in_nanoseconds : TimeUnit → ℕ → ℕ
@@ -18,7 +17,44 @@ fraction_in_nanoseconds Nanoseconds n = n
 abbrev pub nanoseconds : PacketHeader → ℕ
 nanoseconds h = h.seconds * 1000000000 + fraction_in_nanoseconds h.unit h.fraction
 
--- the seconds since 1970, a point (46) and nine digits of the fraction of a second
+-- the day after a date of the Gregorian calendar: a year, a month from 1 to 12, and a day from 1
+abbrev pub day_after : ℕ × ℕ × ℕ → ℕ × ℕ × ℕ
+day_after d =
+    if nat_lt d.2 (days_in_month (pos d.0) d.1) then (d.0, d.1, d.2 + 1)
+    else (if nat_lt d.1 12 then (d.0, d.1 + 1, 1) else (d.0 + 1, 1, 1))
+
+-- the date `n` days after 1 January 1970
+unfoldable pub date_after_days : ℕ → ℕ × ℕ × ℕ
+date_after_days zero = (1970, 1, 1)
+date_after_days (suc n) = day_after (date_after_days n)
+
+-- a date as `2026-11-27`: four digits, `-` (45), two digits, `-` and two digits
+abbrev pub date_text : ℕ × ℕ × ℕ → List ℕ
+date_text d = pad4 d.0 ++ 45 ∷ [] ++ pad2 d.1 ++ 45 ∷ [] ++ pad2 d.2
+
+-- A time of day as `05:13:59.123456000`, from the seconds since midnight and a fraction of a second
+-- in nanoseconds. A colon is 58, and a point is 46.
+abbrev pub clock_text : ℕ → ℕ → List ℕ
+clock_text seconds fraction =
+    pad2 (seconds / 3600) ++ 58 ∷ pad2 (seconds / 60 % 60) ++ 58 ∷ pad2 (seconds % 60)
+    ++ 46 ∷ places 9 1000000000 fraction
+
+-- The text of the time that is `n` nanoseconds after the start of 1970: the date, `T` (84), the
+-- time of day, and `Z` (90).
+unfoldable pub utc_text : ℕ → List ℕ
+utc_text n =
+    (date_text (date_after_days (n / 86400000000000))
+    ++ 84 ∷ clock_text (n / 1000000000 % 86400) (n % 1000000000))
+    ++ 90 ∷ []
+
+-- `IsUtcText n text`: jiff's text of an instant. There is a date and time of jiff's calendar that
+-- is `n` nanoseconds after the start of 1970, and the text is jiff's text of it, with `T` (84) and
+-- nine digits of the fraction, and `Z`.
+abbrev pub IsUtcText : ℕ → List ℕ → Type 0
+IsUtcText n text =
+    (dt : DateTime) × (civil_nanos dt ≡ pos n)
+    × (text ≡ datetime_text false 84 (Some 9) dt ++ zulu_text false)
+
+-- the time of the capture of a packet
 abbrev pub time_text : PacketHeader → List ℕ
-time_text h =
-    decimal (nanoseconds h / 1000000000) ++ 46 ∷ zero_padded 9 (nanoseconds h % 1000000000)
+time_text h = utc_text (nanoseconds h)

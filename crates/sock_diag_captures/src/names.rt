@@ -1,42 +1,21 @@
 //! Names and other texts that the owner of a socket or the user of the program chose. A function of
 //! this module allocates only to grow the output.
 
-ghost use Rattle.std.specs.Prelude.{◌≡◌, ◌++◌, ◌&&◌, ℕ, List, IfOk, OnOk, chars, flat_map};
-ghost use Rattle.std.specs.Prelude.{nat_le, string_bytes};
-ghost use Rattle.std.specs.List.{list_any};
+ghost use Rattle.std.specs.Prelude.{◌≡◌, ◌++◌, ℕ, List, IfOk, OnOk, chars, flat_map};
+ghost use Rattle.std.specs.Prelude.{string_bytes};
 ghost use Rattle.sock_diag_captures.specs.Escapes.{unescaped_bytes, shown_character, escaped_byte};
-ghost use Rattle.sock_diag_captures.specs.Escapes.{is_shown_character, shown_name};
+ghost use Rattle.sock_diag_captures.specs.Escapes.{is_blank, is_left_to_right, is_shown_character};
+ghost use Rattle.sock_diag_captures.specs.Escapes.{is_visible, shown_name, IsVisibleText};
 
 use crate::cells::push_escaped_byte;
 use std::alloc::{AllocError, Global};
-
-/// Ranges of the characters that are shown, with the first and the last character of each. They are
-/// Latin, Greek and Cyrillic letters, punctuation, currency signs, arrows, shapes, and Chinese,
-/// Japanese and Korean characters.
-const SHOWN: [(u32, u32); 18] = [
-    (0xa1, 0xac),
-    (0xae, 0x2ff),
-    (0x386, 0x38a),
-    (0x38c, 0x38c),
-    (0x38e, 0x3a1),
-    (0x3a3, 0x482),
-    (0x48a, 0x52f),
-    (0x1e00, 0x1eff),
-    (0x2010, 0x2027),
-    (0x20a0, 0x20bf),
-    (0x2190, 0x21ff),
-    (0x2580, 0x27bf),
-    (0x3001, 0x3029),
-    (0x3041, 0x3096),
-    (0x309b, 0x30ff),
-    (0x3131, 0x3163),
-    (0x3400, 0x9fff),
-    (0xac00, 0xd7a3),
-];
+use unicode::properties::{
+    BidiClass, GeneralCategory, GeneralCategoryGroup, is_default_ignorable_code_point,
+};
 
 /// Appends a name so that it cannot break a line or a column. A byte from `!` to `~` except the
 /// backslash is appended unchanged, any other byte as `\x` and two digits. If `utf8` is set and the
-/// bytes are valid UTF-8, the characters of the ranges of `SHOWN` are appended unchanged too.
+/// bytes are valid UTF-8, visible characters that are not ASCII are appended unchanged too.
 pub(crate) fn push_shown(text: &mut Vec<u8>, utf8: bool, bytes: &[u8]) -> Result<(), AllocError>
     ensures shown { OnOk result (text.new.items ≡ text.old.items ++ shown_name utf8 bytes.now) }
     // The bytes can be read back from what is shown, by `unescaped_bytes`. So two different names
@@ -45,6 +24,8 @@ pub(crate) fn push_shown(text: &mut Vec<u8>, utf8: bool, bytes: &[u8]) -> Result
     ensures unescapes { (behind : List ℕ)
         → (unescaped_bytes 0 (shown_name utf8 bytes.now ++ behind)
         ≡ bytes.now ++ unescaped_bytes 0 behind) }
+    // It has neither a space nor a character that controls a terminal.
+    ensures visible { IsVisibleText (shown_name utf8 bytes.now) }
 {
     if !utf8 {
         return push_escaped(text, bytes);
@@ -79,21 +60,53 @@ fn push_char(text: &mut Vec<u8>, c: char) -> Result<(), AllocError>
     }
 }
 
-/// Returns whether a character is shown although it is not ASCII.
+/// Returns whether a character is shown although it is not ASCII: a letter, number, punctuation or
+/// symbol that is written from left to right and is not blank.
+#[tactic(auto, unfolding(crate::specs::Escapes::is_shown_character))]
 fn is_shown(c: char) -> bool
     ensures { result ≡ is_shown_character c }
 {
-    !c.is_ascii() && is_in_ranges(&SHOWN, c as u32)
+    !c.is_ascii()
+        && is_visible(GeneralCategory::for_char(c))
+        && is_left_to_right(BidiClass::for_char(c))
+        && !is_blank(c)
 }
 
-/// Returns whether a number is in one of the ranges.
-fn is_in_ranges(ranges: &[(u32, u32)], number: u32) -> bool
-    ensures { result
-        ≡ list_any (λ range. nat_le range.0 number && nat_le number range.1) ranges.now }
+/// Returns whether characters of a general category are visible.
+fn is_visible(category: GeneralCategory) -> bool
+    ensures { result ≡ is_visible category }
 {
-    ranges
-        .iter()
-        .any(|range| range.0 <= number && number <= range.1)
+    GeneralCategoryGroup::Letter.contains(category)
+        || GeneralCategoryGroup::Number.contains(category)
+        || GeneralCategoryGroup::Punctuation.contains(category)
+        || GeneralCategoryGroup::Symbol.contains(category)
+}
+
+/// Returns whether characters of a bidirectional class are written from left to right, or take the
+/// direction of their neighbors.
+fn is_left_to_right(class: BidiClass) -> bool
+    ensures { result ≡ is_left_to_right class }
+{
+    matches!(
+        class,
+        BidiClass::LeftToRight
+            | BidiClass::EuropeanNumber
+            | BidiClass::EuropeanSeparator
+            | BidiClass::EuropeanTerminator
+            | BidiClass::CommonSeparator
+            | BidiClass::OtherNeutral
+    )
+}
+
+/// Returns whether a character is blank although its general category is visible.
+fn is_blank(c: char) -> bool
+    ensures { result ≡ is_blank c }
+{
+    is_default_ignorable_code_point(c)
+        || c == '\u{2800}'
+        || c == '\u{1d159}'
+        || c == '\u{13441}'
+        || c == '\u{13442}'
 }
 
 /// Appends each byte as [`push_escaped_byte`] does.

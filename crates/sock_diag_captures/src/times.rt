@@ -1,25 +1,26 @@
 //! Time of the capture of a packet.
 
-ghost use Rattle.std.specs.Prelude.{◌≡◌, ◌++◌, ◌<◌, OnOk};
-ghost use Rattle.sock_diag_captures.specs.Times.{nanoseconds, time_text, zero_padded};
+ghost use Rattle.std.specs.Prelude.{◌≡◌, ◌++◌, OnOk};
+ghost use Rattle.sock_diag_captures.specs.Times.{IsUtcText, nanoseconds, time_text, utc_text};
 
-use crate::cells::push_number;
+use arrayvec::ArrayString;
+use jiff::Timestamp;
+use jiff::fmt::temporal::DateTimePrinter;
 use program_streams::{PacketHeader, TimeUnit};
 use std::alloc::AllocError;
-use std::io::Write;
 
 /// Number of nanoseconds in a second.
 const SECOND: u64 = 1_000_000_000;
 
-/// Appends the seconds since 1970, a point, and the fraction of a second in nine digits. A fraction
-/// of a second or more, which a capture may contain, is added to the seconds.
+/// Number of digits of the fraction of a second.
+const DIGITS: u8 = 9;
+
+/// Appends the time in UTC, as ISO 8601 with nine digits of the fraction of a second. A fraction of
+/// a second or more, which a capture may contain, is added to the seconds.
 pub(crate) fn push_time(text: &mut Vec<u8>, header: &PacketHeader) -> Result<(), AllocError>
     ensures { OnOk result (text.new.items ≡ text.old.items ++ time_text header.now) }
 {
-    let time = nanoseconds(header);
-    push_number(text, time / SECOND)?;
-    text.push(b'.')?;
-    push_nine_digits(text, time % SECOND)
+    text.extend_from_slice(utc_text(nanoseconds(header)).as_str().as_bytes())
 }
 
 /// Returns the time in nanoseconds since 1970.
@@ -33,13 +34,15 @@ fn nanoseconds(header: &PacketHeader) -> u64
     u64::from(header.seconds) * SECOND + fraction
 }
 
-/// Appends a number in at least nine digits, with leading zeros.
-#[tactic(auto, using(crate::proofs::Filling::zero_padded_is_format))]
-fn push_nine_digits(text: &mut Vec<u8>, number: u64) -> Result<(), AllocError>
-    ensures { OnOk result (text.new.items ≡ text.old.items ++ zero_padded 9 number) }
+/// Returns the text of the time that is this number of nanoseconds after the start of 1970, UTC.
+fn utc_text(nanoseconds: u64) -> ArrayString<33>
+    ensures text { result.bytes ≡ utc_text nanoseconds }
+    // The text is the one that jiff defines for this instant.
+    ensures iso { IsUtcText nanoseconds result.bytes }
 {
-    match write!(text, "{number:09}") {
-        Ok(()) => Ok(()),
-        Err(_) => Err(AllocError),
-    }
+    let Ok(time) = Timestamp::from_nanosecond(i128::from(nanoseconds)) else {
+        unreachable!();
+    };
+    let printer = DateTimePrinter::new().precision(Some(DIGITS));
+    printer.timestamp_text(time.to_plain())
 }

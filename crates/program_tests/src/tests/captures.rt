@@ -284,7 +284,7 @@ const NO_UTF8: &str =
     "2c00000014000200070000000000000001010a000e4f0000a002000000000000090000002fc3a9ff00000000";
 
 const LETTERS_LINE: &str =
-    "u_str LISTEN     -      -      20238      -     @é漢\\x20\\xe2\\x80\\xae\\x5c     *\n\t sk:2a0\n";
+    "u_str LISTEN     -      -      20238      -     @é漢\\x20\\xe2\\x80\\xae\\x5c       *\n\t sk:2a0\n";
 
 const LETTERS_ESCAPED: &str =
     "u_str LISTEN     -      -      20238      -     @\\xc3\\xa9\\xe6\\xbc\\xa2\\x20\\xe2\\x80\\xae\\x5c *\n\t sk:2a0\n";
@@ -293,7 +293,7 @@ const NO_UTF8_LINE: &str =
     "u_str LISTEN     -      -      20238      -     /\\xc3\\xa9\\xff                  *\n\t sk:2a0\n";
 
 /// A name that is valid UTF-8 shows letters only if `utf8` is set. It never shows a space or a
-/// character that changes the direction of writing.
+/// character that changes the direction of writing. A Chinese letter takes two columns.
 #[test]
 fn shows_names_in_utf8(rt: HostRuntime) {
     let packets = [[SOCK_DIAG, LETTERS], [SOCK_DIAG, NO_UTF8]];
@@ -327,7 +327,9 @@ fn lists_requests(rt: HostRuntime) {
         requests: true,
         ..Options::default()
     };
-    for (header, time) in [(0, "-- 7.000009000 "), (2, "-- 7.000000009 ")] {
+    let micros = "-- 1970-01-01T00:00:07.000009000Z ";
+    let nanos = "-- 1970-01-01T00:00:07.000000009Z ";
+    for (header, time) in [(0, micros), (2, nanos)] {
         let capture = captured(&rt, rt.alloc(), HEADERS[header], &packets);
         let (unix, mptcp) = ("unix states:0xffffffff\n", "mptcp states:0x480\n");
         let lines = [time, unix, UNIX_LINE, time, mptcp, time, "netlink\n"];

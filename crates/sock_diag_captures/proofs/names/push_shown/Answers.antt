@@ -4,6 +4,7 @@ use Rattle.sock_diag_captures.specs.Escapes.{shown_character}
 use Rattle.sock_diag_captures.proofs.Utf8Names.{utf8_is_shown_by_character}
 use Rattle.sock_diag_captures.proofs.Utf8Names.{other_bytes_are_shown_by_byte}
 use Rattle.sock_diag_captures.proofs.ShownNames.{unescaped_shown_name}
+use Rattle.sock_diag_captures.proofs.VisibleNames.{visible_shown_name}
 use Rattle.sock_diag_captures.proofs.names.push_shown.Goals as goal
 
 pub returns-in-Ok-clause-shown : goal.returns-in-Ok-clause-shown
@@ -37,3 +38,15 @@ pub returns-in-Err-clause-unescapes : goal.returns-in-Err-clause-unescapes
 returns-in-Err-clause-unescapes c =
     λ behind. unescaped_shown_name c.args.utf8 c.args.bytes.now behind
     (λ i. omega (arith, c.type_inv.bytes i))
+
+pub returns-then-not-utf8-clause-visible : goal.returns-then-not-utf8-clause-visible
+returns-then-not-utf8-clause-visible c =
+    visible_shown_name c.args.utf8 c.args.bytes.now (λ i. omega (arith, c.type_inv.bytes i))
+
+pub returns-in-Ok-clause-visible : goal.returns-in-Ok-clause-visible
+returns-in-Ok-clause-visible c =
+    visible_shown_name c.args.utf8 c.args.bytes.now (λ i. omega (arith, c.type_inv.bytes i))
+
+pub returns-in-Err-clause-visible : goal.returns-in-Err-clause-visible
+returns-in-Err-clause-visible c =
+    visible_shown_name c.args.utf8 c.args.bytes.now (λ i. omega (arith, c.type_inv.bytes i))
