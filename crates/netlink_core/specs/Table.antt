@@ -25,7 +25,10 @@ abbrev pub bytes_at : (offset count : ℕ) → List Field
 bytes_at offset count = array (λ at width. byte at) offset 1 count
 
 -- values_of fields b: the numbers in the bytes `b`, in order, one for each field that is not
--- ignored; of flags, only the defined bits
+-- ignored; of flags, only the defined bits. A byte past the end counts as 0. No record is parsed
+-- from such numbers: `parse_record` and `HasTagAndNumbers` require `least` bytes of the layout, and
+-- in accepted bytes all fields of their tag are within the bytes (`room` of
+-- `MeetsLayoutConditions`).
 abbrev pub values_of : List Field → List ℕ → List ℕ
 values_of [] b = []
 values_of (byte at ∷ fields) b = slice_index b at ∷ values_of fields b
@@ -37,7 +40,10 @@ values_of (unread at written ∷ fields) b = values_of fields b
 
 -- bytes_of fields values: the bytes that the fields serialize to, given one number for each field
 -- that is not ignored. The bytes of the fields are concatenated, and their offsets are not
--- considered. Undefined flags are not removed. If a number is missing, nothing more is written.
+-- considered. Each field is written at its offset nevertheless, since the fields of each layout are
+-- consecutive from offset 0 on (`fields_are_consecutive`, which `MeetsLayoutConditions` requires).
+-- By the codec law `round_trips`, `values_of` finds the numbers at these offsets again. Undefined
+-- flags are not removed. If a number is missing, nothing more is written.
 abbrev pub bytes_of : List Field → List ℕ → List ℕ
 bytes_of (unread at written ∷ fields) values = written ++ bytes_of fields values
 bytes_of (byte at ∷ fields) (n ∷ rest) = n ∷ bytes_of fields rest

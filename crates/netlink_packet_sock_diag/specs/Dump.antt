@@ -17,7 +17,8 @@ use Rattle.netlink_packet_sock_diag.specs.declared.dump.DumpState.TheVariants.{O
 abbrev pub DumpStatus : Type 0
 DumpStatus = DumpState × Option ℤ
 
--- the concatenation of lists
+-- the concatenation of lists of any type, such as lists of items; `concat` of the kit is for lists
+-- of numbers only, such as bytes
 abbrev pub concatenation : {A : Type 0} → List (List A) → List A
 concatenation lists = flat_map (λ one. one) lists
 

@@ -1,4 +1,5 @@
--- Definitions of what the getters of a reply about a UNIX socket return.
+-- Definitions of what the getters of a reply about a UNIX socket return. `first_content_of` is
+-- about any list, and serves replies about IPv4 and IPv6 sockets too.
 use Rattle.std.specs.Prelude.{ℕ, ◌==◌, if◌then◌else◌, List, Option, None, slice_get}
 use Rattle.std.specs.List.{filter_map}
 use Rattle.netlink_core.specs.AttributeSet.{value_of_kind}
