@@ -61,8 +61,8 @@
  * The version of this header and of the library that it is shipped with, as a text and as a number:
  * 1,000,000 times the first number, plus 1,000 times the second one, plus the third one.
  */
-#define SOCKDIAG_VERSION "0.11.0"
-#define SOCKDIAG_VERSION_NUMBER 11000
+#define SOCKDIAG_VERSION "1.0.0"
+#define SOCKDIAG_VERSION_NUMBER 1000000
 
 #ifdef __cplusplus
 extern "C" {

@@ -69,7 +69,7 @@ pub use stream::run;
 use stream::write_table;
 
 /// Version of the program, equal to the file `VERSION` of the repository.
-pub const VERSION: &str = "0.11.0";
+pub const VERSION: &str = "1.0.0";
 
 /// The text that `sslist --help` prints.
 pub const HELP: &str = "\

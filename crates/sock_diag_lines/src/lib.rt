@@ -29,7 +29,7 @@ use stream::answer_and_report;
 pub use stream::run;
 
 /// The version, as in the file `VERSION` of the repository.
-pub const VERSION: &str = "0.11.0";
+pub const VERSION: &str = "1.0.0";
 
 /// Answers each line of `input` with one line on `output`, flushes, and returns the exit status. It
 /// is 1 if a read, a write or an allocation failed; then one line on `errors` names the failure, or

@@ -7,7 +7,7 @@ ghost use Rattle.std.specs.Prelude.{◌≡◌};
 /// header that the library was built with. `sockdiag_is_compatible` compares the two.
 #[unsafe(no_mangle)]
 pub extern "C" fn sockdiag_version() -> u32
-    ensures { result ≡ 11000 }
+    ensures { result ≡ 1000000 }
 {
-    11_000
+    1_000_000
 }
