@@ -115,7 +115,7 @@ pub record IsPacketRecord (file : FileHeader) (header : List ℕ)
 
 -- `IsEarlyReadStop left failed part e`: `e` is the reason why reading stopped before the file
 -- header was complete, after the bytes `part`. The input is at its end, without a byte (Empty) or
--- after at least one (Cut), or a read failed (Read). `left` are the remaining bytes, if known.
+-- after at least one (Truncated), or a read failed (Read). `left` are the remaining bytes, if known.
 -- `failed` states that a read failed.
 abbrev pub IsEarlyReadStop : Option (List ℕ) → Type 0 → List ℕ → CaptureError → Type 0
 IsEarlyReadStop left failed part Empty = (part ≡ []) × IsAtEnd left
@@ -133,7 +133,7 @@ IsPartOfPacket file part =
 
 -- `IsPacketStop file left failed part e`: `e` is the reason why no packet was read. `left` and
 -- `failed` are as in `IsEarlyReadStop`. `part` are the bytes that were read: a proper prefix of a
--- packet, and the input is at its end (Cut, after at least one byte) or a read failed (Read); or a
+-- packet, and the input is at its end (Truncated, after at least one byte) or a read failed (Read); or a
 -- packet header, whose captured length is at most 262144, but the allocation of so much memory
 -- failed (Memory), or is greater than 262144 (PacketTooLong with this length).
 abbrev pub IsPacketStop : FileHeader → Option (List ℕ) → Type 0 → List ℕ → CaptureError → Type 0
