@@ -115,8 +115,8 @@ pub record IsPacketRecord (file : FileHeader) (header : List ℕ)
 
 -- `IsEarlyReadStop left failed part e`: `e` is the reason why reading stopped before the file
 -- header was complete, after the bytes `part`. The input is at its end, without a byte (Empty) or
--- after at least one (Truncated), or a read failed (Read). `left` are the remaining bytes, if known.
--- `failed` states that a read failed.
+-- after at least one (Truncated), or a read failed (Read). `left` are the remaining bytes, if
+-- known. `failed` states that a read failed.
 abbrev pub IsEarlyReadStop : Option (List ℕ) → Type 0 → List ℕ → CaptureError → Type 0
 IsEarlyReadStop left failed part Empty = (part ≡ []) × IsAtEnd left
 IsEarlyReadStop left failed part Truncated = (0 < length part) × IsAtEnd left
@@ -133,8 +133,8 @@ IsPartOfPacket file part =
 
 -- `IsPacketStop file left failed part e`: `e` is the reason why no packet was read. `left` and
 -- `failed` are as in `IsEarlyReadStop`. `part` are the bytes that were read: a proper prefix of a
--- packet, and the input is at its end (Truncated, after at least one byte) or a read failed (Read); or a
--- packet header, whose captured length is at most 262144, but the allocation of so much memory
+-- packet, and the input is at its end (Truncated, after at least one byte) or a read failed (Read);
+-- or a packet header, whose captured length is at most 262144, but the allocation of this memory
 -- failed (Memory), or is greater than 262144 (PacketTooLong with this length).
 abbrev pub IsPacketStop : FileHeader → Option (List ℕ) → Type 0 → List ℕ → CaptureError → Type 0
 IsPacketStop file left failed part Truncated = (0 < length part) × IsPartOfPacket file part
