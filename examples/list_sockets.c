@@ -68,6 +68,7 @@ static void print_text(FILE *lines, const struct sockdiag_text *text) {
     size_t index;
     if (text->kind == 0)
         return;
+    putc(' ', lines);
     if (text->kind == SOCKDIAG_ABSTRACT)
         putc('@', lines);
     for (index = 0; index < text->length; index++) {
@@ -116,7 +117,7 @@ static uint32_t print_unix(FILE *lines, const uint8_t *payload, size_t length) {
     const uint32_t error = sockdiag_unix_get_lenient_details(payload, length, &it, &rejections);
     if (error != SOCKDIAG_OK)
         return error;
-    fprintf(lines, "unix type %u state %u inode %u ", it.header.kind, it.header.state,
+    fprintf(lines, "unix type %u state %u inode %u", it.header.kind, it.header.state,
             it.header.inode);
     print_text(lines, &it.name);
     print_number(lines, "peer", it.peer);
@@ -139,14 +140,16 @@ static uint32_t print_inet(FILE *lines, const char *protocol, const uint8_t *pay
         return error;
     inet_ntop(it.header.family, it.header.source_address, source, sizeof source);
     inet_ntop(it.header.family, it.header.destination_address, destination, sizeof destination);
-    fprintf(lines, "%s state %u %s %u %s %u uid %u inode %u ", protocol, it.header.state, source,
+    fprintf(lines, "%s state %u %s %u %s %u uid %u inode %u", protocol, it.header.state, source,
             it.header.source_port, destination, it.header.destination_port, it.header.uid,
             it.header.inode);
     print_text(lines, &it.congestion);
     print_number(lines, "mark", it.mark);
-    /* Each kernel sends struct tcp_info in its own size. Does it contain this field? */
-    if (sockdiag_inet_get_long_tcp_info(payload, length, &info)
-        >= offsetof(struct sockdiag_long_tcp_info, rtt) + sizeof info.rtt)
+    /* Each kernel sends struct tcp_info in its own size. Does it contain this field? An MPTCP
+     * socket has struct mptcp_info there. */
+    if (strcmp(protocol, "tcp") == 0 &&
+        sockdiag_inet_get_long_tcp_info(payload, length, &info)
+            >= offsetof(struct sockdiag_long_tcp_info, rtt) + sizeof info.rtt)
         fprintf(lines, " rtt %u", info.rtt);
     end_line(lines, &rejections);
     return SOCKDIAG_OK;

@@ -50,11 +50,11 @@ build fake_list "$top/examples/list_sockets.c" "$top/tests/api/fake_kernel.c"
 "$work/fake_list" >"$work/found" 2>"$work/errors" && exit 1
 "$work/fake_list" -l >>"$work/found" 2>>"$work/errors" && exit 1
 sort "$work/errors" | uniq -c | sed 's/^ *//' >>"$work/found"
-sed 's/ $//' "$work/found" | diff - /dev/fd/3 3<<'END'
+diff "$work/found" /dev/fd/3 3<<'END'
 unix type 1 state 7 inode 2
-unix type 1 state 7 inode 2  rejected 5 (buffer of too few bytes)
+unix type 1 state 7 inode 2 rejected 5 (buffer of too few bytes)
 unix type 1 state 10 inode 2
-unix type 1 state 10 inode 2  rejected 5 (buffer of too few bytes)
+unix type 1 state 10 inode 2 rejected 5 (buffer of too few bytes)
 4 list_sockets: mptcp: No such file or directory
 4 list_sockets: tcp: No such file or directory
 4 list_sockets: udp: No such file or directory

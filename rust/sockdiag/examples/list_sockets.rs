@@ -51,12 +51,12 @@ fn open() -> io::Result<File> {
 fn unix_line(reply: &UnixReply<'_>) -> String {
     let header = &reply.header;
     let mut line = format!(
-        "unix type {} state {} inode {} ",
+        "unix type {} state {} inode {}",
         header.kind, header.state, header.inode
     );
     match reply.name() {
-        Some(UnixDiagName::Pathname(path)) => line += &path.escape_ascii().to_string(),
-        Some(UnixDiagName::Abstract(name)) => line += &format!("@{}", name.escape_ascii()),
+        Some(UnixDiagName::Pathname(path)) => line += &format!(" {}", path.escape_ascii()),
+        Some(UnixDiagName::Abstract(name)) => line += &format!(" @{}", name.escape_ascii()),
         None => {}
     }
     if let Some(peer) = reply.peer() {
@@ -85,8 +85,9 @@ fn inet_line(protocol: &str, reply: &InetReply<'_>) -> String {
     if let Some(algorithm) = reply.congestion() {
         line += &format!(" {algorithm}");
     }
-    // Each kernel sends `struct tcp_info` in its own size. Does it contain this field?
-    let info = reply.tcp_info_bytes();
+    // Each kernel sends `struct tcp_info` in its own size. Does it contain this field? An MPTCP
+    // socket has `struct mptcp_info` there.
+    let info = reply.tcp_info_bytes().filter(|_| protocol == "tcp");
     if let Some(rtt) = info.and_then(|info| info.get(TcpField::Rtt)) {
         line += &format!(" rtt {rtt}");
     }

@@ -104,7 +104,7 @@ fn lists_sockets_once_after_incomplete_dumps() {
     assert!(lister.is_incomplete);
     let lines = String::from_utf8(lister.output).unwrap();
     let expected = "unix type 1 state 10 inode 78 @a\\x00b peer 3 pending 4 pending 261\n\
-        unix type 1 state 10 inode 78  rejected 5 \
+        unix type 1 state 10 inode 78 rejected 5 \
         (UnixMemInfo: buffer of 4 bytes, at least 36 needed)\n";
     assert_eq!(lines, expected);
     let requests = requests.borrow();
