@@ -994,11 +994,11 @@ size_t sockdiag_inet_get_memory(const uint8_t *payload, size_t length,
 
 /* ---- lenient: list every socket
  *
- * A call of this section rejects a reply only if its header is invalid. Of its attributes it
- * returns those that are valid, and the errors of the others. Use these calls to list sockets. Real
- * kernels send values that the library does not accept: an INET_DIAG_INFO of fewer than 232 bytes
- * (before Linux 5.4, and of MPTCP), and a UNIX_DIAG_MEMINFO of fewer than 36 bytes. By the calls of
- * the previous section, one of them hides its whole socket.
+ * A call of this section rejects a reply only if its header is invalid. It returns the first valid
+ * attribute of each kind that has a field in the details, and the first error of each kind. Use
+ * these calls to list sockets. Real kernels send values that the library does not accept: an
+ * INET_DIAG_INFO of fewer than 232 bytes (before Linux 5.4, and of MPTCP), and a UNIX_DIAG_MEMINFO
+ * of fewer than 36 bytes. By the calls of the previous section, one of them hides its whole socket.
  */
 
 #define SOCKDIAG_REJECTION_KINDS 32 /* Number of the elements of errors of struct

@@ -22,7 +22,8 @@ enum Family {
 /// Use it to list sockets: a value that this crate does not accept, such as the `INET_DIAG_INFO` of
 /// an old kernel or of MPTCP, hides only itself, and not its socket.
 ///
-/// It has the fields and methods of the reply `R`, with the valid attributes:
+/// It has the fields and methods of the reply `R`, with its valid attributes; of several of a kind
+/// the first valid one counts:
 ///
 /// - a getter returns the first valid attribute, or `None` if there is none. If the reply has
 ///   several attributes of a kind, another one may be rejected;
