@@ -131,7 +131,9 @@ fn lists_times_of_requests(rt: HostRuntime) {
     let order = ByteOrder::LittleEndian;
     push_enhanced(&rt, alloc, &mut capture, order, &[SOCK_DIAG, REQUEST]);
     let request = "unix states:0xffffffff\n";
-    let lines = ["-- 7.000009 ", request, "-- 0.007000009 ", request];
+    let microseconds = "-- 1970-01-01T00:00:07.000009000Z ";
+    let nanoseconds = "-- 1970-01-01T00:00:00.007000009Z ";
+    let lines = [microseconds, request, nanoseconds, request];
     lists_by(&rt, alloc, options, &capture, Ok(true), Some(&lines));
 }
 
