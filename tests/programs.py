@@ -323,7 +323,8 @@ def test_letters(program):
         and unicodedata.bidirectional(it) in ("L", "EN", "ES", "ET", "CS", "ON")
         for it in texts
     ]
-    status, table, _ = run(program, ["--utf8", "-H"], file_header + b"".join(map(socket, names)))
+    packets = b"".join(map(socket_with_path, names))
+    status, table, _ = run(program, ["--utf8", "-H"], file_header + packets)
     cells = [row.split()[6] for row in table.splitlines()[::2]]
     assert status == 0 and len(cells) == len(names), (status, len(cells), len(names))
     for index, cell in enumerate(cells):
@@ -332,7 +333,8 @@ def test_letters(program):
         if cell.decode() != "/" + expected:
             failures.append(f"{program} --utf8: {cell.decode()}, expected {expected}")
     for name, width in [("é", 1), ("漢字", 4), ("ｗｉｄｅ", 8), ("한글", 4), ("🦀", 2), ("👍🏽", 2)]:
-        table = run(program, ["--utf8", "-H"], file_header + socket("/" + name))[1].decode()
+        packet = socket_with_path("/" + name)
+        table = run(program, ["--utf8", "-H"], file_header + packet)[1].decode()
         if f" /{name}{(30 - width) * ' '}*\n" not in table:
             failures.append(f"{program} --utf8: {table}, expected the width {width}")
 
@@ -342,7 +344,7 @@ def escaped(text):
     return "".join(f"\\x{it:02x}" for it in text.encode())
 
 
-def socket(path):
+def socket_with_path(path):
     """Returns a packet with a reply about a UNIX socket with this path."""
     name = path.encode() + b"\0"
     size = (4 + len(name)).to_bytes(2, "little") + bytes(2)
