@@ -1,12 +1,15 @@
 #!/usr/bin/env python3
 """Checks that the code blocks of the pages are copies of code in the repository.
 
-- A `rust` or `antt` block has to occur, as consecutive whole lines, in a file under crates/*/src,
-  crates/*/proofs or crates/*/specs. Indentation and blank lines are ignored.
+- A `rust` block has to occur, as consecutive whole lines, in a file under crates/*/src, and an
+  `antt` block in one under crates/*/proofs or crates/*/specs. Indentation and blank lines are
+  ignored.
 - In a README.md a block may omit the contracts. There a `rust` block may also occur in an example,
   and a `c` block has to. tests/bindings.py and tests/api/rust_api.sh compile the examples.
 - A `text` block in a CALLING.md quotes contracts below a line that names the file. Each quoted line
   has to occur in that file, in the notation of these pages.
+
+tests/pages.py checks all other blocks.
 
 Prints the file and the line of each block or quoted line that was not found. The exit status is 1
 if there is one.
@@ -14,13 +17,22 @@ if there is one.
 
 import re
 import sys
+from functools import cache
 from pathlib import Path
 
 TOP = Path(__file__).resolve().parent.parent
-DOCUMENTS = ["*.md", "crates/*/README.md", "crates/*/CALLING.md", "docs/*.md"]
-SOURCES = ["crates/*/src/**/*.rt", "crates/*/proofs/**/*.antt", "crates/*/specs/**/*.antt"]
-EXAMPLES = ["examples/*.c", "rust/sockdiag/examples/*.rs"]
+DOCUMENTS = ["*.md", "crates/*.md", "crates/*/*.md", "docs/*.md", "rust/*/*.md"]
+# The files that a block of each language may be a copy of, and the examples that a block in a
+# README.md may be a copy of.
+SOURCES = {
+    "rust": ["crates/*/src/**/*.rt"],
+    "antt": ["crates/*/proofs/**/*.antt", "crates/*/specs/**/*.antt"],
+    "c": [],
+}
+EXAMPLES = {"rust": ["rust/sockdiag/examples/*.rs"], "antt": [], "c": ["examples/*.c"]}
 FENCE = "```"
+# The language of a block that is indented and has no fence.
+INDENTED = "indented"
 
 
 def files(patterns):
@@ -45,20 +57,30 @@ def without_contracts(text):
 
 
 def blocks(document):
-    """Yields the line number, the language and the lines of each code block."""
-    opened = None
+    """Yields the line number, the language and the lines of each code block, without its
+    indentation."""
+    opened, before = None, ""
     for number, line in enumerate(document.read_text(encoding="utf-8").splitlines(), 1):
         mark = line.strip()
-        if not mark.startswith(FENCE):
-            if opened:
-                opened[2].append(line)
+        if opened and opened[1] == INDENTED and mark and not line.startswith("    "):
+            yield opened
+            opened = None
+        if opened and not mark.startswith(FENCE):
+            opened[2].append(line.removeprefix("    ") if opened[1] == INDENTED else line)
         elif opened:
             yield opened
             opened = None
-        else:
+        elif mark.startswith(FENCE):
             opened = (number, mark.removeprefix(FENCE).strip(), [])
-    if opened:
+        elif line.startswith("    ") and (not before or before.startswith(("#", FENCE))):
+            opened = (number, INDENTED, [line.removeprefix("    ")])
+        elif re.match(r"~~~|<pre|\t", line):
+            sys.exit(f"{document}:{number}: unknown form of code block")
+        before = mark
+    if opened and opened[1] != INDENTED:
         sys.exit(f"{document}:{opened[0]}: code block is not closed")
+    if opened:
+        yield opened
 
 
 def occurs_in(block, source):
@@ -100,11 +122,22 @@ def missing_quotes(document, number, lines):
             yield at
 
 
+def lines_of(patterns, change=lambda text: text):
+    """Returns the lines of each file, after a change of its text."""
+    return [bare_lines(change(path.read_text(encoding="utf-8"))) for path in files(patterns)]
+
+
+@cache
+def likely_files(language, page):
+    """Returns the lines of the files that a block of a page with this name may be a copy of."""
+    patterns = SOURCES[language]
+    if page != "README.md":
+        return lines_of(patterns)
+    examples = lines_of(EXAMPLES[language])
+    return lines_of(patterns) + lines_of(patterns, without_contracts) + examples
+
+
 def main():
-    texts = [path.read_text(encoding="utf-8") for path in files(SOURCES)]
-    sources = [bare_lines(text) for text in texts]
-    shown = [bare_lines(without_contracts(text)) for text in texts]
-    examples = [bare_lines(path.read_text(encoding="utf-8")) for path in files(EXAMPLES)]
     found, missing = 0, []
     for document in files(DOCUMENTS):
         for number, language, lines in blocks(document):
@@ -114,8 +147,8 @@ def main():
                 found += not gone
                 text = "quoted line is not in the file named above it"
                 missing += [(document, at, text) for at in gone]
-            elif language in ("rust", "antt", "c"):
-                likely = sources + shown + examples if document.name == "README.md" else sources
+            elif language in SOURCES:
+                likely = likely_files(language, document.name)
                 if block and any(occurs_in(block, source) for source in likely):
                     found += 1
                 else:
