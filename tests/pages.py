@@ -1,0 +1,530 @@
+#!/usr/bin/env python3
+"""tests/pages.py SOCKDIAG SSLIST: checks the code blocks of the pages and of the manual pages that
+tests/code_blocks.py does not check. The arguments are the paths of both built programs.
+
+- Shell commands are run in a folder with what the page assumes: the programs, the stored capture as
+  FILE, a library whose functions return 0. Each command has to end with status 0. If a command
+  follows `$ `, standard output has to be the lines that follow it.
+- Commands that NOT_RUN lists are not run. The files and options that they name have to exist, and
+  so have those in the commands of the text.
+- FORMS lists the other forms of blocks, such as input and answers of `sockdiag`, and how each is
+  checked. NOT_CHECKED lists the languages that are not checked.
+- tests/tables.py compares tables.
+
+A block that is none of these is an error: to add a command of another kind, add it to RUN or
+NOT_RUN. Prints each error with its page and line, each command that is skipped since its tool is
+not installed, and the numbers of commands and blocks. The exit status is 1 if there is an error.
+"""
+
+import hashlib
+import os
+import re
+import shlex
+import shutil
+import subprocess
+import sys
+import tarfile
+import tempfile
+from collections import Counter
+from functools import cache
+from pathlib import Path
+
+sys.dont_write_bytecode = True
+import code_blocks
+import manual
+import tables
+import tidy
+
+TOP = code_blocks.TOP
+PROGRAMS = ("sockdiag", "sslist")
+RELEASE = "sockdiag-VERSION-x86_64-linux"
+# The language of a block of a manual page.
+MANUAL = "man"
+PROMPT = "$ "
+# The commands that are run, and words that begin a command of the shell.
+RUN = set("""./sockdiag ./sslist bin/sockdiag bin/sslist sockdiag sslist sockdump examples/sockdump
+    tests/believed.py tools/install cc cd cp done echo editcap export for head jq make mkdir
+    pkg-config printf python3 sha256sum tar""".split())
+# Those of them that need a compiler, and those that are never missing.
+COMPILING = {"cc", "make", "pkg-config", "sockdump", "examples/sockdump"}
+BUILTIN = {"cd", "done", "echo", "export", "for", "printf", *PROGRAMS}
+# How the other commands begin, and why they are not run.
+NOT_RUN = {
+    r"\.ci/run": "it is the gate, which runs this script",
+    r"rt ": "proofs take minutes, and `rt ci` runs all of them",
+    r"tools/vendor ": "it copies results of proofs; tests/vendor.sh runs it",
+    r"examples/list_sockets": "it needs the built library; tests/api/c_api.sh runs it",
+    r"SOCKDIAG_LIB_DIR=\S+ cargo ": "it needs the built library; tests/api/rust_api.sh runs cargo",
+    r"cc .*tests/api/fuzz_c\.c|out/fuzz_c": "it needs the library; tests/api/c_api.sh runs both",
+    r"tests/(api/\w+_api|live/compare_lenient)\.sh": "it needs the library; tests/bindings.py "
+        "runs it if the library is built",
+    r"tests/(programs|pages)\.py": "the gate runs both",
+    r"python3 tests/believed\.py$": "the gate runs it",
+    r"tests/edits\.sh": "it proves each crate again",
+    r"bench/": "it needs valgrind, and takes minutes",
+    r"ldconfig": "it needs root",
+    r"apt install": "it needs root; tests/release.sh installs the packages in another root",
+    r"(modprobe|ip link|tcpdump) ": "it needs root and the kernel module nlmon",
+}
+NOT_CHECKED = {"rust,ignore": "it needs the crates of netlink-packet-sock-diag"}
+# The first names of input lines of `sockdiag`.
+NAMES = "unixreq|unix|unixview|inetreq|inet|sockid4|sockid6|message|netlink|dump"
+ANSWER = re.compile(r"(ok|refused|unwritable|bad line)\b")
+# A path in the repository.
+PATH = re.compile(r"(?:\./)?"
+    r"((?:\.ci|bench|crates|docs|examples|include|rust|tests|tools)/[\w./*-]+)")
+# A command in the text of a page.
+INLINE = re.compile(r"(\./|\.ci/|bench/|bin/|examples/|tests/|tools/|python3 |rt |make |cargo "
+    r"|sslist |sockdiag )")
+
+
+def simple_commands(text):
+    """Returns the words of each simple command of a shell command, without assignments."""
+    lexer = shlex.shlex(text, posix=True, punctuation_chars="|;&()<>\n")
+    lexer.whitespace, lexer.whitespace_split = " \t", True
+    found = [[]]
+    for word in lexer:
+        if re.fullmatch(r"[|;&()\n]+", word) or word == "do":
+            found.append([])
+        elif found[-1] or not re.match(r"\w+=", word):
+            found[-1].append(word)
+    return [words for words in found if words]
+
+
+def commands_of(lines):
+    """Returns the commands of a block, each with the lines that the block shows after it, or with
+    None if the block has no prompts."""
+    prompts = any(line.startswith(PROMPT) for line in lines)
+    found, command = [], ""
+    for line in lines:
+        if prompts and not command and not line.startswith(PROMPT):
+            found[-1][1].append(line)
+            continue
+        command += line.removeprefix(PROMPT) + "\n"
+        if is_complete(command):
+            found.append((command, [] if prompts else None))
+            command = ""
+    return [it for it in [*found, (command, None)] if it[0].strip()]
+
+
+def is_complete(command):
+    """Returns whether the shell needs no further line."""
+    return not command.endswith("\\\n") and not subprocess.run(
+        ["sh", "-n", "-c", command], stderr=subprocess.DEVNULL
+    ).returncode
+
+
+def reason(command):
+    """Returns how a command begins that is not run, or None."""
+    return next((start for start in NOT_RUN if re.match(start, command)), None)
+
+
+def exists(path):
+    """Returns whether a file exists, or the source from which it is built."""
+    built = re.fullmatch(r"(crates/\w+)/out/.*", path)
+    if built or tidy.PLACEHOLDER.search(path):
+        return not built or (TOP / built[1]).is_dir()
+    return any(TOP.glob(path.rstrip("./"))) or (TOP / f"{path}.c").is_file()
+
+
+def source_of(program):
+    """Returns the path of a script, or of the source of a program in C, or None."""
+    return next((it for it in (TOP / program, TOP / f"{program}.c") if it.is_file()), None)
+
+
+@cache
+def program_options(program):
+    """Returns the options in the usage of a program, and the one of the script that starts it."""
+    return {it.partition("=")[0] for it in manual.options(program)[1]} | {"--unproved"}
+
+
+def is_option(program, option):
+    """Returns whether a program or a script has an option. Letters may be joined."""
+    name = option.partition("=")[0]
+    if Path(program).name in PROGRAMS:
+        known = program_options(Path(program).name)
+        return name in known or all(f"-{letter}" in known for letter in name[1:])
+    text = source_of(program).read_text(encoding="utf-8")
+    return re.search(rf"(?<![\w-]){re.escape(name)}(?![\w-])", text) is not None
+
+
+def is_argument(program, word):
+    """Returns whether a script names an argument, or it is a crate. Programs take files."""
+    source = source_of(program)
+    text = source.read_text(encoding="utf-8") if source else word
+    return re.search(rf"\b{word}\b", text) is not None or (TOP / "crates" / word).is_dir()
+
+
+@cache
+def rt_guides():
+    """Returns what `rt help` prints and the guides of the kit, or None without the kit."""
+    if not shutil.which("rt"):
+        return None
+    run = {"stdout": subprocess.PIPE, "stderr": subprocess.STDOUT, "text": True}
+    usage, first = (subprocess.run(["rt", it], **run).stdout for it in ("help", "doc"))
+    guides = Path(first.strip()).parent.glob("rattle/*.md")
+    return usage + "".join(it.read_text(encoding="utf-8") for it in guides)
+
+
+def wrong_rt(command, *words):
+    """Yields the command and the options of `rt` that its help and its guides do not name."""
+    commands = re.findall(r"\brt ([\w|-]+)", rt_guides())
+    if command not in {"help", *(name for names in commands for name in names.split("|"))}:
+        yield f"rt has no command {command}"
+    yield from (f"rt has no option {it}" for it in words if it.startswith("--")
+                and not re.search(rf"(?<![\w-]){it}(?![\w-])", rt_guides()))
+
+
+def wrong_options(program, rest):
+    """Yields the options, arguments, targets and examples in a command that do not exist."""
+    options = [word for word in rest if re.match(r"--?\w", word)]
+    if Path(program).name in PROGRAMS or source_of(program):
+        yield from (f"{program} has no option {it}" for it in options if not is_option(program, it))
+        yield from (f"{program} does not name {it}" for it in rest
+                    if re.fullmatch(r"[a-z_]+", it) and not is_argument(program, it))
+    elif program == "make" and rest[:1] == ["-C"]:
+        rules = TOP / rest[1] / "Makefile"
+        text = rules.read_text(encoding="utf-8") if rules.is_file() else ""
+        yield from (f"make has no target {it}" for it in rest[2:] if f"\n{it}:" not in text)
+    elif program == "cargo" and "--example" in rest:
+        name = rest[rest.index("--example") + 1]
+        if not (TOP / f"rust/sockdiag/examples/{name}.rs").is_file():
+            yield f"rust/sockdiag has no example {name}"
+    elif program == "rt" and rt_guides():
+        yield from wrong_rt(*rest)
+
+
+def wrong_names(command, page):
+    """Yields the files and options in a command of a page that do not exist, and the scripts that
+    cannot be started as the page starts them."""
+    for words in simple_commands(command):
+        program, *rest = words[1:] if words[0] == "python3" and len(words) > 1 else words
+        for path in filter(None, map(PATH.fullmatch, words)):
+            if not exists(path[1]) and not (page.parent / path[1]).exists():
+                yield f"{path[1]} does not exist"
+        script = TOP / program
+        if program == words[0] and script.is_file() and not os.access(script, os.X_OK):
+            if script.read_bytes()[:2] == b"#!":
+                yield f"{program} is not executable"
+        yield from wrong_options(program, rest)
+
+
+class Folder:
+    """The folder in which the commands of a page are run, and what they printed."""
+
+    def __init__(self, work, programs):
+        self.work, self.tree = work, work / "sockdiag"
+        self.programs = programs
+        self.printed = []
+        (work / "commands").mkdir()
+        for name, path in programs.items():
+            (work / "commands" / name).symlink_to(path)
+        local = f"{work}/usr/local/lib"
+        self.environment = os.environ | {
+            "HOME": f"{work}/home", "PATH": f"{work}/commands:{os.environ['PATH']}",
+            "PKG_CONFIG_PATH": f"{local}/pkgconfig", "LD_LIBRARY_PATH": local,
+        }
+        if shutil.which("cc"):
+            self.compile()
+        else:
+            (work / "libsockdiag.a").write_bytes(b"!<arch>\n")
+            self.environment["SHARED"] = "no"
+
+    def compile(self):
+        """Compiles a library whose functions return 0, and sockdump."""
+        header = (TOP / "include/sockdiag.h").read_text(encoding="utf-8")
+        names = re.findall(r"(?m)^(?:size_t|uint32_t) (sockdiag_\w+)\(", header)
+        source = "".join(f"unsigned long {name}(void) {{ return 0; }}\n" for name in names)
+        (self.work / "library.c").write_text(source)
+        for words in ("cc -w -fPIC -c library.c", "ar rc libsockdiag.a library.o",
+                      f"cc -o commands/sockdump {TOP}/examples/sockdump.c"):
+            subprocess.run(words.split(), cwd=self.work, check=True)
+
+    def prepare(self):
+        """Makes the folder of a page: the sources and a release in one."""
+        for name in ("sockdiag", "mine", "home", "usr"):
+            shutil.rmtree(self.work / name, ignore_errors=True)
+        for name in ("bin", "lib", "out"):
+            (self.tree / name).mkdir(parents=True)
+        (self.work / "mine/crates/try_it/src").mkdir(parents=True)
+        for name in ("crates", "include", "man", "rust", "tests", "VERSION"):
+            (self.tree / name).symlink_to(TOP / name)
+        shutil.copytree(TOP / "tools", self.tree / "tools")
+        shutil.copytree(TOP / "examples", self.tree / "examples",
+                        ignore=shutil.ignore_patterns("list_sockets", "sockdump"))
+        for name, path in self.programs.items():
+            (self.tree / name).symlink_to(path)
+            (self.tree / "bin" / name).symlink_to(path)
+        for name in ("FILE", "one.pcap"):
+            shutil.copy(TOP / "crates/sslist/stdin", self.tree / name)
+        for name in ("mine.c", "program.c"):
+            (self.tree / name).write_text("#include <sockdiag.h>\n"
+                "int main(void) { return (int)sockdiag_version(); }\n")
+        shutil.copy(self.work / "libsockdiag.a", self.tree / "lib")
+        archive = self.tree / f"{RELEASE}.tar.gz"
+        with tarfile.open(archive, "w:gz") as file:
+            file.add(TOP / "VERSION", f"{RELEASE}/VERSION")
+        digest = hashlib.sha256(archive.read_bytes()).hexdigest()
+        Path(f"{archive}.sha256").write_text(f"{digest}  {archive.name}\n")
+
+    def run(self, commands):
+        """Runs commands in one shell, up to the first that fails. Returns the standard output of
+        each that ended with status 0, and what the failing one printed on standard error."""
+        local = f"{self.work}/usr/local"
+        outputs = [self.work / f"output.{at}" for at in range(len(commands))]
+        errors = self.work / "errors"
+        script = "".join(
+            f"{{ {command}}} >{output}.part 2>{errors} || exit 1\nmv {output}.part {output}\n"
+            for command, output in zip(commands, outputs)
+        )
+        for output in outputs:
+            output.unlink(missing_ok=True)
+        script = re.sub("/usr/local|PREFIX", local, script)
+        done = subprocess.run(["sh", "-c", script], cwd=self.tree, env=self.environment,
+                              stdin=subprocess.DEVNULL, timeout=600)
+        texts = [it.read_text("utf-8") for it in outputs if it.exists()]
+        texts = [text.replace(local, "/usr/local") for text in texts]
+        self.printed += [text.splitlines() for text in texts]
+        return texts, errors.read_text("utf-8") if done.returncode else ""
+
+
+class Checker:
+    """Checks the blocks, and counts them."""
+
+    def __init__(self, folder):
+        self.folder = folder
+        self.counts = Counter()
+        self.used = set()
+        # Blocks that are compared with what the commands of all pages print.
+        self.shown = []
+
+    def check_page(self, page, blocks):
+        """Yields the line number and the text of each error in the blocks of a page."""
+        is_prepared = False
+        for number, language, lines in blocks:
+            is_quote = language == "text" and page.name == "CALLING.md"
+            if is_quote or language in code_blocks.SOURCES or language in NOT_CHECKED:
+                continue
+            while lines and not lines[-1].strip():
+                lines.pop()
+            form = next((check for start, check in FORMS.get(language, {}).items()
+                         if re.match(start, lines[0])), None)
+            if form:
+                self.counts["blocks compared"] += 1
+                errors = form(self, page, number, lines)
+            elif language in (code_blocks.INDENTED, MANUAL):
+                if not is_prepared:
+                    self.folder.prepare()
+                is_prepared = True
+                errors = self.check_commands(page, number, lines)
+            else:
+                errors = [f"block of an unknown form, language {language or 'none'}"]
+            yield from ((number, text) for text in errors)
+
+    def check_commands(self, page, number, lines):
+        """Runs the commands of a block, and yields what is wrong with them. After a command whose
+        tool is missing no other is run."""
+        chosen, missing = [], None
+        for command, shown in commands_of(lines):
+            yield from wrong_names(command, page)
+            start = reason(command)
+            words = [it[0] for it in simple_commands(command)]
+            if start:
+                self.used.add(start)
+                self.counts["commands not run"] += 1
+                continue
+            if not RUN.issuperset(words):
+                yield f"neither run nor in NOT_RUN: {command.strip()}"
+                return
+            missing = missing or next((it for it in words if not is_found(it)), None)
+            if command.strip() == "./sockdiag" and shown:
+                self.counts["commands run"] += 1
+                yield from self.check_answers(page, number, shown)
+            elif not missing:
+                chosen.append((command, shown))
+        if missing:
+            print(f"skipped: {page.relative_to(TOP)}:{number}: no {missing}")
+        self.counts["commands run"] += len(chosen)
+        yield from self.compare_outputs(page, number, chosen)
+
+    def compare_outputs(self, page, number, chosen):
+        """Runs commands, and compares their output with the lines that the block shows."""
+        outputs, errors = self.folder.run([command for command, _ in chosen])
+        if errors.startswith("sockdump: socket: "):
+            print(f"skipped: {page.relative_to(TOP)}:{number}: {errors.splitlines()[0]}")
+        elif len(outputs) < len(chosen):
+            yield f"failed: {chosen[len(outputs)][0].strip()}: {errors.strip()}"
+        for (command, shown), output in zip(chosen, outputs):
+            if shown is not None and shown != output.splitlines():
+                yield f"prints something else: {command.strip()}\n{output}"
+
+    def check_answers(self, page, number, lines, stored=None):
+        """Compares answer lines with those of the program. Input lines without another line between
+        them have the same answer. They have to be stored with it, if `stored` is given."""
+        inputs, pairs, answered = [], [], False
+        for line in lines:
+            if ANSWER.match(line):
+                pairs += [(it, line) for it in inputs]
+            else:
+                inputs = [line] if answered else [*inputs, line]
+            answered = ANSWER.match(line) is not None
+        given = "".join(f"{line}\n" for line, _ in pairs)
+        done = subprocess.run([self.folder.programs["sockdiag"]], input=given, text=True,
+                              stdout=subprocess.PIPE, check=True)
+        for (line, shown), answer in zip(pairs, done.stdout.splitlines(), strict=True):
+            if shown != answer:
+                yield f"the answer is {answer}, not {shown}"
+            if stored is not None and (line, answer) not in stored:
+                yield f"not in crates/sockdiag/stdin: {line}"
+        if not answered:
+            yield f"no answer to {lines[-1]}"
+
+    def check_stored(self, page, number, lines):
+        """Compares input lines and their answers with those that are stored."""
+        files = [(TOP / f"crates/sockdiag/{it}").read_text("utf-8") for it in ("stdin", "stdout")]
+        stored = set(zip(*(text.splitlines() for text in files)))
+        yield from self.check_answers(page, number, lines, stored)
+
+    def check_shown(self, page, number, lines):
+        """Notes lines, which are compared with what all commands print when they have run."""
+        self.shown.append((page, number, lines))
+        return []
+
+    def check_test_ends(self, page, number, lines):
+        """Checks that tests/api has the programs and scripts that print these lines."""
+        for line in lines:
+            name, _, text = line.partition(": ")
+            found = [*TOP.glob(f"tests/api/{name}.c"), *TOP.glob(f"tests/api/{name}.sh")]
+            texts = [it.read_text("utf-8") for it in [*found, TOP / "tests/api/check.h"]]
+            if not found or not any(text in it for it in texts):
+                yield f"no test prints: {line}"
+
+    def check_dependency(self, page, number, lines):
+        """Checks the path of the Cargo crate, in a folder with this repository or a release."""
+        path = re.fullmatch(r'sockdiag = \{ path = "(?:\.\./sockdiag|sockdiag-VERSION-x86_64-linux)'
+                            r'/([\w/]+)" \}', lines[-1])
+        manifest = TOP / path[1] / "Cargo.toml" if path else None
+        if lines[:-1] != ["[dependencies]"] or not manifest or not manifest.is_file():
+            yield f"no crate at {lines[-1]}"
+
+    def check_crate_line(self, page, number, lines):
+        """Compares a line for another crates.txt with the line of sock_diag_examples."""
+        crates = (TOP / "crates.txt").read_text(encoding="utf-8")
+        name, _, used = lines[0].partition(": ")
+        if lines[1:] or f"\nsock_diag_examples: {used}\n" not in crates:
+            yield f"not the line of sock_diag_examples: {name}"
+
+    def check_module(self, page, number, lines):
+        """Checks a new lib.rt: each line after the comment is in the lib.rt of the examples."""
+        library = (TOP / "crates/sock_diag_examples/src/lib.rt").read_text(encoding="utf-8")
+        yield from (f"not in the lib.rt of sock_diag_examples: {line}" for line in lines[1:]
+                    if line not in library.splitlines())
+
+    def check_names(self, page, number, lines):
+        """Checks that public modules and items have the names in a list of imports."""
+        surface = (TOP / "tests/surface.txt").read_text(encoding="utf-8")
+        for line in lines:
+            module, _, rest = line.partition("::{")
+            for name in rest.partition("}")[0].split(", "):
+                if name != ".." and f"::{name}: pub " not in surface:
+                    yield f"no public item {name}"
+            if not re.search(rf"(?m)^{module}(: pub |::)", surface):
+                yield f"no module {module}"
+
+    def check_crates(self, page, number, lines):
+        """Checks that a picture has the names of crates, and in crates/README.md all of them: each
+        depends only on crates in lower rows."""
+        text = (TOP / "crates.txt").read_text(encoding="utf-8")
+        found = re.findall(r"(?m)^(\w+)[\w ]*: (.*)$", text)
+        crates = {name: used.split() for name, used in found}
+        words = [re.split(r"\W+", line) for line in lines]
+        rows = [[it for it in row if "_" in it or it in crates] for row in words]
+        named = {it: row for row, names in enumerate(rows) for it in names}
+        yield from (f"no crate {name}" for name in named if name not in crates)
+        if page.parent.name == "crates":
+            ours = [name for name in crates if not name.endswith("_tests")]
+            yield from (f"{name} is missing" for name in ours if name not in named)
+            yield from (f"{name} is not above {used}" for name in ours for used in crates[name]
+                        if name in named and named.get(used, len(rows)) <= named[name])
+
+    def wrong_outputs(self):
+        """Yields the page, the line number and the text of each block that no command printed."""
+        for option in ("--json", "--"):
+            words = [self.folder.programs["sslist"], option, TOP / "crates/sslist/stdin"]
+            done = subprocess.run(words, stdout=subprocess.PIPE, stderr=subprocess.DEVNULL,
+                                  text=True, check=True)
+            self.folder.printed.append(done.stdout.splitlines())
+        for page, number, lines in self.shown:
+            if not any(code_blocks.occurs_in(lines, it) for it in self.folder.printed):
+                yield page, number, f"no command prints: {lines[0]}"
+
+
+# How the first line of a block of each form begins, and how the block is checked.
+FORMS = {
+    code_blocks.INDENTED: {
+        rf"({NAMES}) [0-9a-f-]": Checker.check_stored,
+        r"(tools/install: |inet  )": Checker.check_shown,
+        r"\w+: all tests pass$": Checker.check_test_ends,
+        r"\[dependencies\]$": Checker.check_dependency,
+        r"try_it: ": Checker.check_crate_line,
+        r"//! ": Checker.check_module,
+        r"\w+(::\w+)*::\{": Checker.check_names,
+    },
+    "json": {r"\{": Checker.check_shown},
+    "toml": {r"\[dependencies\]$": Checker.check_dependency},
+    "text": {r"programs  ": Checker.check_crates},
+}
+
+
+def is_found(word):
+    """Returns whether a command is installed, or is a script or a word of the shell."""
+    if word in COMPILING:
+        return all(map(shutil.which, ("cc", "make", "pkg-config")))
+    return "/" in word or word in BUILTIN or shutil.which(word) is not None
+
+
+def manual_blocks(page):
+    """Yields the examples of a manual page in the form of code_blocks.blocks."""
+    text = page.read_text(encoding="utf-8")
+    for block in re.finditer(r"(?ms)^\.Bd -literal.*?\n(.*?)\n\.Ed$", text):
+        if text.rfind(".Sh EXAMPLES", 0, block.start()) > text.rfind("\n.Sh ", 0, block.start()):
+            yield text.count("\n", 0, block.start()) + 1, MANUAL, block[1].splitlines()
+
+
+def inline_errors(page):
+    """Yields the line number and the text of each error in a command in the text of a page."""
+    text = page.read_text(encoding="utf-8")
+    without_blocks = re.sub(r"(?ms)^```.*?^```$", lambda it: "\n" * it[0].count("\n"), text)
+    for span in re.finditer(r"`([^`]+)`", without_blocks):
+        command = span[1].replace("\n", " ").replace("\\|", "|")
+        number = without_blocks.count("\n", 0, span.start()) + 1
+        if INLINE.match(command):
+            yield from ((number, it) for it in wrong_names(command, page))
+
+
+def main():
+    if len(sys.argv) != 3:
+        sys.exit("usage: tests/pages.py SOCKDIAG SSLIST")
+    programs = dict(zip(PROGRAMS, map(os.path.abspath, sys.argv[1:])))
+    pages = {page: code_blocks.blocks(page) for page in code_blocks.files(code_blocks.DOCUMENTS)}
+    pages |= {page: manual_blocks(page) for page in sorted(TOP.glob("man/*"))}
+    errors = []
+    with tempfile.TemporaryDirectory() as work:
+        checker = Checker(Folder(Path(work).resolve(), programs))
+        for page, blocks in pages.items():
+            errors += [(page, number, it) for number, it in checker.check_page(page, blocks)]
+            if page.suffix == ".md":
+                errors += [(page, number, it) for number, it in inline_errors(page)]
+        errors += checker.wrong_outputs()
+        errors += [(TOP / page, 1, it) for page, it in tables.errors(programs["sslist"])]
+    errors += [(Path(__file__), 1, f"NOT_RUN: no page has {it}") for it in NOT_RUN
+               if it not in checker.used]
+    for page, number, text in errors:
+        print(f"{page.resolve().relative_to(TOP)}:{number}: {text}")
+    counts = {**checker.counts, "failed": len(errors)}
+    print("pages:", ", ".join(f"{count} {name}" for name, count in counts.items()))
+    return 1 if errors else 0
+
+
+if __name__ == "__main__":
+    sys.exit(main())

@@ -1,0 +1,175 @@
+"""Compares tables and lists of the pages with the programs, their sources and their usages.
+tests/pages.py calls `errors`.
+
+- docs/JSON.md: the members of each table are those that the program prints for replies with each
+  attribute; those of `info` are in the same order.
+- docs/CAPTURE.md: the options are those of the usage, and each diagnostic is in the sources.
+- docs/LINES.md: the names, the options and the decode errors.
+- docs/C.md and INSTALL.md: the installed files, and the files of a release.
+"""
+
+import json
+import re
+import subprocess
+from pathlib import Path
+
+import manual
+import programs
+
+TOP = Path(__file__).resolve().parent.parent
+# The length of the header of a reply about a socket of each family.
+HEADERS = {1: 16, 2: 72, 10: 72, 16: 28, 17: 16, 40: 32, 44: 16}
+# The lengths of values of attributes: each kind is decoded with one of them.
+LENGTHS = (1, 2, 4, 5, 8, 12, 16, 20, 24, 28, 32, 36, 40, 400)
+KINDS = range(40)
+# The column of each family in a table of docs/JSON.md.
+COLUMNS = {16: 1, 17: 2, 40: 3, 44: 4}
+# The libraries whose texts `sslist` prints.
+LISTER = ("sock_diag_captures", "program_streams", "sslist", "netlink_core")
+
+
+def section(page, heading):
+    """Returns the text below a heading of a page, up to the next heading."""
+    text = (TOP / page).read_text(encoding="utf-8")
+    return re.split(r"(?m)^#+ ", text.partition(f"# {heading}\n")[2])[0]
+
+
+def rows(text, title=""):
+    """Returns the cells of each row of the tables in a text, or of the table with this title of the
+    first column."""
+    tables = re.findall(r"(?m)(?:^\|.*$\n?)+", text)
+    lines = [line for it in tables if it.startswith(f"| {title}") for line in it.splitlines()]
+    return [[it.strip() for it in re.split(r"(?<!\\)\|", line)[1:-1]] for line in lines]
+
+
+def spans(text):
+    """Returns the texts in code marks."""
+    return re.findall(r"`([^`]+)`", re.sub(r"(?ms)^```.*?^```$", "", text))
+
+
+def first_column(page, heading):
+    """Returns the texts in code marks in the first column of the tables below a heading."""
+    return [it for row in rows(section(page, heading)) for it in spans(row[0])]
+
+
+def differences(name, found, expected):
+    """Yields what a table has and should not have, and what it lacks."""
+    yield from ((name, f"unexpected {it}") for it in found if it not in expected)
+    yield from ((name, f"{it} is missing") for it in expected if it not in found)
+
+
+def replies():
+    """Yields the packet of a reply for each family, with each attribute of each length."""
+    for family, length in HEADERS.items():
+        header = bytes([family]).ljust(length, b"\0")
+        for kind in KINDS:
+            for size in LENGTHS:
+                attribute = (4 + size).to_bytes(2, "little") + bytes([kind, 0]) + bytes(size)
+                yield programs.packet(header + attribute + bytes(-size % 4))
+
+
+def printed_members(sslist):
+    """Returns the members of the objects for each family, the members of the objects in these
+    except `meminfo`, and the members of the longest `info` in order."""
+    capture = programs.CAPTURE.read_bytes()
+    given = capture[:24] + b"".join(replies()) + capture[24:]
+    done = subprocess.run([sslist, "--json"], input=given, stdout=subprocess.PIPE, check=True,
+                          stderr=subprocess.DEVNULL)
+    members, inner, info = {}, {}, []
+    for line in done.stdout.splitlines():
+        socket = json.loads(line)
+        family = socket["family"]
+        members.setdefault(family, {}).update(socket)
+        for name, value in socket.items():
+            if isinstance(value, dict) and name != "meminfo":
+                inner.setdefault(family, {}).update(value)
+        if family == 2:
+            info = max(info, list(socket.get("info", {})), key=len)
+    return members, inner, info
+
+
+def json_errors(sslist):
+    page = "docs/JSON.md"
+    members, inner, info = printed_members(sslist)
+    for heading, names in (
+        ("UNIX sockets", members[1]), ("IPv4 and IPv6 sockets", members[2] | members[10]),
+    ):
+        yield from differences(page, [*first_column(page, heading), "other_attributes"], names)
+    yield from differences(page, first_column(page, "Members of info"), info)
+    if first_column(page, "Members of info") != info:
+        yield page, "the members of info are in another order"
+    if f"These {len(info)} numbers" not in section(page, "Members of info"):
+        yield page, f"info has {len(info)} numbers"
+    text = (TOP / page).read_text(encoding="utf-8")
+    for family, names in inner.items():
+        yield from ((page, f"{it} is missing") for it in names if it not in spans(text))
+    others = section(page, "Netlink, packet, vsock and XDP sockets")
+    for family, column in COLUMNS.items():
+        table = {row[0]: spans(row[column]) for row in rows(others)}
+        found = table["other numbers"] + table["attributes"]
+        printed = [*members[family], *inner.get(family, {})]
+        shared = [*first_column(page, "Netlink, packet, vsock and XDP sockets"), "other_attributes"]
+        yield from differences(page, found, [it for it in printed if it not in shared])
+
+
+def diagnostic_errors():
+    """Looks for each diagnostic in the string literals of the sources: as the whole text, or each
+    part of it between numbers."""
+    page = "docs/CAPTURE.md"
+    files = [path for crate in LISTER for path in TOP.glob(f"crates/{crate}/src/**/*.rt")]
+    literals = re.findall(r'"([^"\n]*)"', "\n".join(it.read_text("utf-8") for it in files))
+    texts = [it.removeprefix("sslist: ") for it in literals if re.search(r"\w\w .*\{", it)]
+    forms = [re.sub(r"\\{\w*\\}", ".+", re.escape(it)) for it in texts]
+    shown = section(page, "Diagnostics")
+    items = re.findall(r"(?m)^ *- (?:for a pcapng file )?`([^`]+)`", shown)
+    for item in items + [spans(row[0])[0] for row in rows(shown)[2:]]:
+        parts = [it.strip(" :;,") for it in re.split(r"\b(?:[A-Z]|\d+)\b|\.\.", item)]
+        is_whole = any(re.fullmatch(form, item) for form in forms)
+        if not is_whole and not all(any(it in text for text in literals) for it in parts):
+            yield page, f"no source has the text {item}"
+
+
+def line_errors():
+    page = "docs/LINES.md"
+    usage = (TOP / "tests/help/sockdiag").read_text(encoding="utf-8")
+    names = re.findall(r"(?!and\b)\b\w+", usage.partition("Names: ")[2].partition(", which")[0])
+    names_shown = [spans(row[0]) for row in rows(section(page, "Lines and answers"), "name ")]
+    yield from differences(page, [it for found in names_shown for it in found], names)
+    source = (TOP / "crates/netlink_core/src/error.rt").read_text(encoding="utf-8")
+    enum = re.search(r"(?ms)^pub enum DecodeError \{\n(.*?)^\}", source)[1]
+    variants = re.findall(r"(?ms)^    (\w+)(?: \{\n(.*?)^    \})?,$", enum)
+    expected = [(str(code), name, re.findall(r"(?m)^ +(\w+):", fields))
+                for code, (name, fields) in enumerate(variants, 1)]
+    shown = rows(section(page, "Decode errors"), "code ")[2:]
+    found = [(row[0], spans(row[1])[0], spans(row[2])) for row in shown]
+    yield from differences(page, found, expected)
+
+
+def option_errors():
+    """Compares the tables of options with the usages."""
+    for page, heading, name in (
+        ("docs/CAPTURE.md", "Options", "sslist"), ("docs/LINES.md", "Arguments", "sockdiag"),
+    ):
+        table = section(page, heading).partition("\n\nWithout an option")[0]
+        cells = [row[0] for row in rows(table)]
+        found = [it.split()[0] for cell in cells for it in spans(cell)]
+        yield from differences(page, found, manual.options(name)[1])
+
+
+def file_errors():
+    """Compares the files of a release, and those that are installed, with tests/release.txt."""
+    listed = (TOP / "tests/release.txt").read_text(encoding="utf-8")
+    archives = re.findall(r"(?m)^== first/(\S+)$", listed)
+    page = "INSTALL.md"
+    table = rows((TOP / page).read_text(encoding="utf-8"), "file ")[2:]
+    yield from differences(page, [spans(row[0])[0] for row in table], archives)
+    installed = listed.partition("== tools/install, prefix\n")[2]
+    for path in first_column("docs/C.md", "Install"):
+        if f" ./{path}" not in installed:
+            yield "docs/C.md", f"tools/install does not install {path}"
+
+
+def errors(sslist):
+    """Returns the page and the text of each error."""
+    return [*json_errors(sslist), *diagnostic_errors(), *line_errors(), *option_errors(),
+            *file_errors()]
