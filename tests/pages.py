@@ -44,7 +44,7 @@ PROMPT = "$ "
 # The commands that are run, and words that begin a command of the shell.
 RUN = set("""./sockdiag ./sslist bin/sockdiag bin/sslist sockdiag sslist sockdump examples/sockdump
     tests/believed.py tools/install cc cd cp done echo editcap export for head jq make mkdir
-    pkg-config printf python3 sha256sum tar""".split())
+    pkg-config printf python3 sed sha256sum tar""".split())
 # Those of them that need a compiler, and those that are never missing.
 COMPILING = {"cc", "make", "pkg-config", "sockdump", "examples/sockdump"}
 BUILTIN = {"cd", "done", "echo", "export", "for", "printf", *PROGRAMS}
@@ -80,7 +80,7 @@ INLINE = re.compile(r"(\./|\.ci/|bench/|bin/|examples/|tests/|tools/|python3 |rt
 
 def simple_commands(text):
     """Returns the words of each simple command of a shell command, without assignments."""
-    lexer = shlex.shlex(text, posix=True, punctuation_chars="|;&()<>\n")
+    lexer = shlex.shlex(text.replace("\\\n", " "), posix=True, punctuation_chars="|;&()<>\n")
     lexer.whitespace, lexer.whitespace_split = " \t", True
     found = [[]]
     for word in lexer:
@@ -210,7 +210,8 @@ def wrong_names(command, page):
 
 
 class Folder:
-    """The folder in which the commands of a page are run, and what they printed."""
+    """The folder in which the commands of a page are run, and the lines that they printed, and
+    wrote to files of the repository `mine`."""
 
     def __init__(self, work, programs):
         self.work, self.tree = work, work / "sockdiag"
@@ -247,7 +248,7 @@ class Folder:
         for name in ("bin", "lib", "out"):
             (self.tree / name).mkdir(parents=True)
         (self.work / "mine/crates/try_it/src").mkdir(parents=True)
-        for name in ("crates", "include", "man", "rust", "tests", "VERSION"):
+        for name in ("crates", "crates.txt", "include", "man", "rust", "tests", "VERSION"):
             (self.tree / name).symlink_to(TOP / name)
         shutil.copytree(TOP / "tools", self.tree / "tools")
         shutil.copytree(TOP / "examples", self.tree / "examples",
@@ -284,7 +285,8 @@ class Folder:
                               stdin=subprocess.DEVNULL, timeout=600)
         texts = [it.read_text("utf-8") for it in outputs if it.exists()]
         texts = [text.replace(local, "/usr/local") for text in texts]
-        self.printed += [text.splitlines() for text in texts]
+        written = [it.read_text("utf-8") for it in self.work.glob("mine/**/*") if it.is_file()]
+        self.printed += [text.splitlines() for text in texts + written]
         return texts, errors.read_text("utf-8") if done.returncode else ""
 
 
@@ -386,7 +388,8 @@ class Checker:
         yield from self.check_answers(page, number, lines, stored)
 
     def check_shown(self, page, number, lines):
-        """Notes lines, which are compared with what all commands print when they have run."""
+        """Notes lines, which are compared with what all commands print and write when they have
+        run."""
         self.shown.append((page, number, lines))
         return []
 
@@ -406,19 +409,6 @@ class Checker:
         manifest = TOP / path[1] / "Cargo.toml" if path else None
         if lines[:-1] != ["[dependencies]"] or not manifest or not manifest.is_file():
             yield f"no crate at {lines[-1]}"
-
-    def check_crate_line(self, page, number, lines):
-        """Compares a line for another crates.txt with the line of sock_diag_examples."""
-        crates = (TOP / "crates.txt").read_text(encoding="utf-8")
-        name, _, used = lines[0].partition(": ")
-        if lines[1:] or f"\nsock_diag_examples: {used}\n" not in crates:
-            yield f"not the line of sock_diag_examples: {name}"
-
-    def check_module(self, page, number, lines):
-        """Checks a new lib.rt: each line after the comment is in the lib.rt of the examples."""
-        library = (TOP / "crates/sock_diag_examples/src/lib.rt").read_text(encoding="utf-8")
-        yield from (f"not in the lib.rt of sock_diag_examples: {line}" for line in lines[1:]
-                    if line not in library.splitlines())
 
     def check_names(self, page, number, lines):
         """Checks that public modules and items have the names in a list of imports."""
@@ -456,18 +446,16 @@ class Checker:
             self.folder.printed.append(done.stdout.splitlines())
         for page, number, lines in self.shown:
             if not any(code_blocks.occurs_in(lines, it) for it in self.folder.printed):
-                yield page, number, f"no command prints: {lines[0]}"
+                yield page, number, f"no command prints or writes: {lines[0]}"
 
 
 # How the first line of a block of each form begins, and how the block is checked.
 FORMS = {
     code_blocks.INDENTED: {
         rf"({NAMES}) [0-9a-f-]": Checker.check_stored,
-        r"(tools/install: |inet  )": Checker.check_shown,
+        r"(tools/install: |inet  |try_it: |//! )": Checker.check_shown,
         r"\w+: all tests pass$": Checker.check_test_ends,
         r"\[dependencies\]$": Checker.check_dependency,
-        r"try_it: ": Checker.check_crate_line,
-        r"//! ": Checker.check_module,
         r"\w+(::\w+)*::\{": Checker.check_names,
     },
     "json": {r"\{": Checker.check_shown},
@@ -516,11 +504,12 @@ def main():
             if page.suffix == ".md":
                 errors += [(page, number, it) for number, it in inline_errors(page)]
         errors += checker.wrong_outputs()
-        errors += [(TOP / page, 1, it) for page, it in tables.errors(programs["sslist"])]
-    errors += [(Path(__file__), 1, f"NOT_RUN: no page has {it}") for it in NOT_RUN
+        errors += [(TOP / page, 0, it) for page, it in tables.errors(programs["sslist"])]
+    errors += [(Path(__file__), 0, f"NOT_RUN: no page has {it}") for it in NOT_RUN
                if it not in checker.used]
     for page, number, text in errors:
-        print(f"{page.resolve().relative_to(TOP)}:{number}: {text}")
+        place = f"{page.resolve().relative_to(TOP)}:{number}"
+        print(f"{place.removesuffix(':0')}: {text}")
     counts = {**checker.counts, "failed": len(errors)}
     print("pages:", ", ".join(f"{count} {name}" for name, count in counts.items()))
     return 1 if errors else 0

@@ -135,6 +135,9 @@ def line_errors():
     names = re.findall(r"(?!and\b)\b\w+", usage.partition("Names: ")[2].partition(", which")[0])
     names_shown = [spans(row[0]) for row in rows(section(page, "Lines and answers"), "name ")]
     yield from differences(page, [it for found in names_shown for it in found], names)
+    stored = (TOP / "crates/sockdiag/stdin").read_text(encoding="utf-8").splitlines()
+    yield from (("tests/help/sockdiag", f"not in crates/sockdiag/stdin: {line}")
+                for line in re.findall(r"(?m)^    (\w+ .*)$", usage) if line not in stored)
     source = (TOP / "crates/netlink_core/src/error.rt").read_text(encoding="utf-8")
     enum = re.search(r"(?ms)^pub enum DecodeError \{\n(.*?)^\}", source)[1]
     variants = re.findall(r"(?ms)^    (\w+)(?: \{\n(.*?)^    \})?,$", enum)
