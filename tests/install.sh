@@ -77,6 +77,9 @@ installed "$work/plain" >"$work/expected"
 installed "$prefix" | diff "$work/expected" - || fail "the umask or the link matters"
 [ -z "$(find "$prefix" ! -perm 644 ! -perm 755 ! -type l)" ] || fail "modes"
 grep -q "LD_LIBRARY_PATH=$prefix/lib" "$work/out" || fail "the hint for another folder"
+grep -q "PKG_CONFIG_PATH=$prefix/lib/pkgconfig" "$work/out" || fail "the hint for pkg-config"
+PKG_CONFIG_PATH="/none:$prefix/lib/pkgconfig" "$install" "$prefix" >"$work/out"
+if grep -q pkg-config "$work/out"; then fail "the hint for a folder of pkg-config"; fi
 [ "$(tail -n 1 "$work/out")" = "tools/install: installed sockdiag $version in $prefix" ] ||
     fail "the last line"
 
