@@ -24,8 +24,6 @@ LENGTHS = (1, 2, 4, 5, 8, 12, 16, 20, 24, 28, 32, 36, 40, 400)
 KINDS = range(40)
 # The column of each family in a table of docs/JSON.md.
 COLUMNS = {16: 1, 17: 2, 40: 3, 44: 4}
-# The libraries whose texts `sslist` prints.
-LISTER = ("sock_diag_captures", "program_streams", "sslist", "netlink_core")
 
 
 def section(page, heading):
@@ -113,10 +111,13 @@ def json_errors(sslist):
 
 
 def diagnostic_errors():
-    """Looks for each diagnostic in the string literals of the sources: as the whole text, or each
-    part of it between numbers."""
+    """Looks for each diagnostic in the string literals of `sslist` and its libraries: as the whole
+    text, or each part of it between numbers."""
     page = "docs/CAPTURE.md"
-    files = [path for crate in LISTER for path in TOP.glob(f"crates/{crate}/src/**/*.rt")]
+    words = [TOP / "tools/libraries", "sslist"]
+    used = subprocess.run(words, stdout=subprocess.PIPE, text=True, check=True).stdout.split()
+    crates = ["sslist", *used]
+    files = [path for crate in crates for path in TOP.glob(f"crates/{crate}/src/**/*.rt")]
     literals = re.findall(r'"([^"\n]*)"', "\n".join(it.read_text("utf-8") for it in files))
     texts = [it.removeprefix("sslist: ") for it in literals if re.search(r"\w\w .*\{", it)]
     forms = [re.sub(r"\\{\w*\\}", ".+", re.escape(it)) for it in texts]
