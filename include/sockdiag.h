@@ -1707,8 +1707,9 @@ enum sockdiag_record {
     SOCKDIAG_RECORD_UNIX_RESPONSE_HEADER = 5,    /* Record unix_diag_msg, 16 bytes: the header of
                                                     a reply about a UNIX socket. */
     SOCKDIAG_RECORD_LEGACY_MEM_INFO = 6,         /* Value of INET_DIAG_MEMINFO, 16 bytes. */
-    SOCKDIAG_RECORD_MEM_INFO = 7,                /* Value of INET_DIAG_SKMEMINFO, 28 bytes or
-                                                    more. */
+    SOCKDIAG_RECORD_MEM_INFO = 7,                /* Value of INET_DIAG_SKMEMINFO, or of the
+                                                    memory of a netlink, packet or XDP socket, 28
+                                                    bytes or more. */
     SOCKDIAG_RECORD_TCP_INFO = 8,                /* Value of INET_DIAG_INFO, 232 bytes. */
     SOCKDIAG_RECORD_VFS = 9,                     /* Value of UNIX_DIAG_VFS, 8 bytes. */
     SOCKDIAG_RECORD_UNIX_MEM_INFO = 10,          /* Value of UNIX_DIAG_MEMINFO, 36 bytes. */

@@ -4,9 +4,10 @@
 - With a C compiler, `$CC` or `cc`, it compiles the header with tests/c_layout.c, which asserts the
   offset of each field and the size of each struct, and as C99 the examples and the C files in
   tests/api that use it. Some are also compiled as C++.
+- Without the C library it checks rust/sockdiag with its tests and examples, and writes its
+  documentation. A build has to fail, and to name the folder and the remedy.
 - If the library is built and is newer than the sources, tests/api/c_api.sh runs the calls from C,
-  and tests/api/rust_api.sh runs the tests of rust/sockdiag. Otherwise rust/sockdiag is only
-  compiled.
+  and tests/api/rust_api.sh runs the tests of rust/sockdiag.
 
 It prints which of these parts it skips. tools/bindings writes the header, tests/c_layout.c and the
 declarations of rust/sockdiag.
@@ -61,13 +62,26 @@ def compile_c(compiler):
     return 0
 
 
-def compile_rust():
-    """Compiles rust/sockdiag with its tests and examples, over an empty library."""
+def check_rust():
+    """Checks rust/sockdiag without the C library. Returns an exit status."""
     with tempfile.TemporaryDirectory() as folder:
-        Path(folder, "libsockdiag.a").write_bytes(b"!<arch>\n")
-        folders = {"SOCKDIAG_LIB_DIR": folder, "CARGO_TARGET_DIR": f"{folder}/target"}
-        words = ["cargo", "check", "--offline", "--quiet", "--examples", "--tests"]
-        return subprocess.run(words, cwd=RUST, env=os.environ | folders).returncode
+        own = {"SOCKDIAG_LIB_DIR": folder, "CARGO_TARGET_DIR": f"{folder}/target",
+               "RUSTDOCFLAGS": "-D warnings"}
+        how = {"cwd": RUST, "env": os.environ | own}
+        for words in (["check", "--examples", "--tests"], ["doc", "--no-deps"]):
+            status = subprocess.run(["cargo", *words, "--offline", "--quiet"], **how).returncode
+            if status != 0:
+                return status
+        words = ["cargo", "build", "--offline"]
+        build = subprocess.run(words, **how, capture_output=True, text=True)
+    expected = [f"libsockdiag.a not found in {folder}; ", "install it by tools/install",
+                "could not find native static library `sockdiag`"]
+    missing = [it for it in expected if it not in build.stderr]
+    if build.returncode != 0 and not missing:
+        return 0
+    print(f"a build without the library: status {build.returncode}, no {missing} in:")
+    print(build.stderr)
+    return 1
 
 
 def has_cargo():
@@ -86,11 +100,15 @@ def main():
     status = compile_c(compiler)
     if status != 0:
         return status
+    has_rust = has_cargo()
+    status = check_rust() if has_rust else 0
+    if status != 0:
+        return status
     if not is_soon_built():
         print("skipped: running the calls from C; tests/api/c_api.sh runs them")
-        return compile_rust() if has_cargo() else 0
+        return 0
     status = subprocess.run([TOP / "tests" / "api" / "c_api.sh"]).returncode
-    if status == 0 and has_cargo():
+    if status == 0 and has_rust:
         status = subprocess.run([TOP / "tests" / "api" / "rust_api.sh"]).returncode
     return status
 

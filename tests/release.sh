@@ -5,7 +5,8 @@
 # - tests/release.txt lists the members of each archive and package in order, with modes, owners and
 #   times, and the files that tools/install installs. --write writes a new list.
 # - Two copies at different paths, with other times and modes, are packed to the same bytes.
-# - The archive for users has no broken link. Its examples in C and Rust can be built.
+# - The archive for users has no broken link. Its examples in C and Rust can be built, and its Rust
+#   crate can be packaged.
 # - The packages can be installed into another root and removed from it (skipped without root).
 # - tools/pack fails if a file or the date of the version is missing.
 #
@@ -117,8 +118,9 @@ if has make && has pkg-config; then
     PKG_CONFIG_PATH=$work/prefix/lib/pkgconfig make -s -C examples
 fi
 if has cargo; then
-    (cd rust/sockdiag && unset SOCKDIAG_LIB_DIR &&
-        CARGO_TARGET_DIR=$work/target cargo build --offline --quiet --example list_sockets)
+    (cd rust/sockdiag && unset SOCKDIAG_LIB_DIR && export CARGO_TARGET_DIR="$work/target" &&
+        cargo build --offline --quiet --example list_sockets &&
+        SOCKDIAG_LIB_DIR="$unpacked/lib" cargo package --offline --quiet)
 fi
 cd "$work"
 

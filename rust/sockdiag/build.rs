@@ -5,8 +5,8 @@
 //! 3. the folder in which `rt lib` builds the library in the sources;
 //! 4. pkg-config, if the library is installed.
 //!
-//! On docs.rs, which sets `DOCS_RS`, nothing is linked: the documentation does not need the
-//! library.
+//! `cargo doc` and `cargo check` do not need the library, so its absence is only a warning here.
+//! `cargo build` then fails in rustc.
 
 use std::env;
 use std::path::{Path, PathBuf};
@@ -19,20 +19,11 @@ const NAMES: [&str; 2] = ["sockdiag", "sockdiag_c"];
 fn main() {
     println!("cargo::rerun-if-env-changed=SOCKDIAG_LIB_DIR");
     println!("cargo::rerun-if-env-changed=PKG_CONFIG_PATH");
-    println!("cargo::rerun-if-env-changed=DOCS_RS");
-    if env::var_os("DOCS_RS").is_some() {
-        return;
-    }
     let folders = folders();
     let is_linked =
         folders.iter().any(|folder| link_in(folder)) || (!is_set() && link_by_pkg_config());
     if !is_linked {
-        let searched = folders.iter().map(|folder| folder.display().to_string());
-        println!(
-            "cargo::error=libsockdiag.a not found in {}; install it by tools/install, and set \
-             SOCKDIAG_LIB_DIR to its folder",
-            searched.collect::<Vec<_>>().join(" or ")
-        );
+        warn_of_absence(&folders);
     }
 }
 
@@ -47,18 +38,25 @@ fn folders() -> Vec<PathBuf> {
     }
     // Cargo runs a build script in the folder of its package, and sets this variable.
     let package = env::var_os("CARGO_MANIFEST_DIR").map_or_else(PathBuf::new, PathBuf::from);
-    ["../../lib", "../../crates/sockdiag_c/out"]
-        .map(|folder| package.join(folder))
+    let top = package.ancestors().nth(2).unwrap_or(&package);
+    ["lib", "crates/sockdiag_c/out"]
+        .map(|folder| top.join(folder))
         .to_vec()
+}
+
+/// Returns the path of the library in a folder.
+fn file_in(folder: &Path, name: &str) -> PathBuf {
+    folder.join(format!("lib{name}.a"))
 }
 
 /// Links the library in a folder. Returns whether the folder has it.
 fn link_in(folder: &Path) -> bool {
-    let file = |name: &&str| folder.join(format!("lib{name}.a"));
-    let Some(name) = NAMES.into_iter().find(|name| file(name).exists()) else {
+    let has = |name: &&str| file_in(folder, name).exists();
+    let Some(name) = NAMES.into_iter().find(has) else {
         return false;
     };
-    println!("cargo::rerun-if-changed={}", file(&name).display());
+    let file = file_in(folder, name);
+    println!("cargo::rerun-if-changed={}", file.display());
     println!("cargo::rustc-link-search=native={}", folder.display());
     println!("cargo::rustc-link-lib=static={name}");
     true
@@ -73,4 +71,22 @@ fn link_by_pkg_config() -> bool {
             let folder = String::from_utf8_lossy(&output.stdout);
             output.status.success() && link_in(Path::new(folder.trim()))
         })
+}
+
+/// Warns that the library is missing, and names it to rustc, which reports that it does not find
+/// it.
+fn warn_of_absence(folders: &[PathBuf]) {
+    for folder in folders {
+        // Cargo runs the script again as long as this file is missing.
+        let file = file_in(folder, NAMES[0]);
+        println!("cargo::rerun-if-changed={}", file.display());
+    }
+    let searched = folders.iter().map(|folder| folder.display().to_string());
+    println!(
+        "cargo::warning=libsockdiag.a not found in {}{}; only cargo doc and cargo check work without \
+         it: install it by tools/install, and set SOCKDIAG_LIB_DIR to its folder",
+        searched.collect::<Vec<_>>().join(" or "),
+        if is_set() { "" } else { " or by pkg-config" }
+    );
+    println!("cargo::rustc-link-lib=static={}", NAMES[0]);
 }

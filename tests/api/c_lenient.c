@@ -448,8 +448,11 @@ static void explains_other_replies(void) {
     EXPLAINS(sockdiag_packet_explain, bytes, 1, SMALL_OF(header, 17, -1, 1, 16));
     EXPLAINS(sockdiag_vsock_explain, bytes, 31, SMALL_OF(header, 40, -1, 31, 32));
     EXPLAINS(sockdiag_xdp_explain, bytes, 15, SMALL_OF(header, 44, -1, 15, 16));
-    /* A number of another family has no kind. */
-    EXPLAINS(sockdiag_netlink_explain, bytes, put(bytes, 28, 4, numbers, 3), WRONG(-1, 3, 4));
+    EXPLAINS(sockdiag_netlink_explain, bytes, put(bytes, 28, 4, numbers, 3), WRONG(4, 3, 4));
+    EXPLAINS(sockdiag_packet_explain, bytes, put(bytes, 16, 5, numbers, 8), WRONG(5, 8, 4));
+    EXPLAINS(sockdiag_xdp_explain, bytes, put(bytes, 16, 6, numbers, 0), WRONG(6, 0, 4));
+    EXPLAINS(sockdiag_packet_explain, bytes, put(bytes, 16, 6, numbers, 27),
+             SMALL(SOCKDIAG_RECORD_MEM_INFO, 27, 28));
     EXPLAINS(sockdiag_packet_explain, bytes, put(bytes, 16, 3, numbers, 27),
              SMALL_OF(value, 17, 3, 27, 28));
     EXPLAINS(sockdiag_xdp_explain, bytes, put(bytes, 16, 9, numbers, 47),

@@ -121,8 +121,7 @@ pub fn finalized_destroy_is_rejected()
     // netlink header and the payload after it. `finalized_header bytes type_of message`: the header
     // of the message, with the length of the message and the type of its payload; `bytes` and
     // `type_of` are those of an inner message. Here the type is `destroys.serialized_type m`, which
-    // is
-    // 21. `serialized` and `rejects`: the bytes that the message serializes to are rejected.
+    // is 21. `serialized` and `rejects`: the bytes that the message serializes to are rejected.
     ensures { (h : NetlinkHeader) (m : Message) → FitFields header_fields (header_values h)
         → netlink_message_codec.is_writable (record { header = h; payload = InnerMessage m })
         → netlink_message_codec.rejects

@@ -1,6 +1,6 @@
 //! Getters for the values of a reply's attributes by kind.
 
-ghost use Rattle.std.specs.Prelude.{◌≡◌, List, option_map};
+ghost use Rattle.std.specs.Prelude.{◌≡◌, List, Some, option_map};
 ghost use Rattle.netlink_core.specs.Attribute.{Attribute};
 ghost use Rattle.netlink_core.specs.Layout.{parse_record};
 ghost use Rattle.netlink_core.specs.Parse.{number_of_width};
@@ -27,16 +27,16 @@ pub trait RawAttributes {
 
     /// Parses the value of the first attribute of the kind, whatever its two flag bits, as a
     /// little-endian `u32`. Returns `None` if the reply has no such attribute. A length other than
-    /// 4 is `WrongLength` without a kind.
+    /// 4 is `WrongLength` with the kind.
     fn number_of(&self, kind: u16) -> Result<Option<u32>, DecodeError>
         // `parse_if_present parse found`: what `parse` returns for the value, if one was found, or
-        // else `Ok None`. `number_of_width None 4`: a little-endian number of exactly 4 bytes. By
-        // `None` its error does not contain the kind.
-        ensures { result ≡ parse_if_present (number_of_width None 4)
+        // else `Ok None`. `number_of_width (Some kind) 4`: a little-endian number of exactly 4
+        // bytes, or `WrongLength` with this kind.
+        ensures { result ≡ parse_if_present (number_of_width (Some kind) 4)
             (first_value_of_kind kind (attributes self.now)) }
     {
         match self.value_of(kind) {
-            Some(value) => Ok(Some(parse_u32(value)?)),
+            Some(value) => Ok(Some(parse_u32(value).map_err(|error| error.with_kind(kind))?)),
             None => Ok(None),
         }
     }

@@ -2,7 +2,7 @@
 //! attribute of its kind, whatever the two flag bits of its type field, and returns `None` if the
 //! reply has none.
 
-ghost use Rattle.std.specs.Prelude.{◌≡◌, option_map};
+ghost use Rattle.std.specs.Prelude.{◌≡◌, Some, option_map};
 ghost use Rattle.netlink_core.specs.Layout.{parse_record};
 ghost use Rattle.netlink_core.specs.Parse.{number_of_width};
 ghost use Rattle.sock_diag_values.specs.MemInfo.{mem_info};
@@ -58,12 +58,12 @@ pub fn groups<'a>(reply: &NetlinkResponseView<'a>) -> Option<&'a [u8]>
 }
 
 /// Returns the flags `NDIAG_FLAG_..` of the socket: the little-endian `u32` in the first
-/// `NETLINK_DIAG_FLAGS`, or `None` if the reply has none. A length other than 4 is `WrongLength`,
-/// without a kind.
+/// `NETLINK_DIAG_FLAGS`, or `None` if the reply has none. A length other than 4 is `WrongLength`
+/// with this kind.
 pub fn flags(reply: &NetlinkResponseView<'_>) -> Result<Option<u32>, DecodeError>
-    // `number_of_width None 4`: a little-endian number of exactly 4 bytes, or `WrongLength`, which
-    // by `None` does not contain the kind.
-    ensures { result ≡ parse_if_present (number_of_width None 4)
+    // `number_of_width (Some kind) 4`: a little-endian number of exactly 4 bytes, or `WrongLength`
+    // with this kind.
+    ensures { result ≡ parse_if_present (number_of_width (Some NETLINK_DIAG_FLAGS) 4)
         (first_value_of_kind NETLINK_DIAG_FLAGS (view_model reply.now).nlas) }
 {
     reply.number_of(NETLINK_DIAG_FLAGS)

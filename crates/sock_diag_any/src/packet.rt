@@ -2,7 +2,7 @@
 //! attribute of its kind, whatever the two flag bits of its type field, and returns `None` if the
 //! reply has none.
 
-ghost use Rattle.std.specs.Prelude.{◌≡◌, option_map};
+ghost use Rattle.std.specs.Prelude.{◌≡◌, Some, option_map};
 ghost use Rattle.netlink_core.specs.Layout.{parse_record};
 ghost use Rattle.netlink_core.specs.Parse.{number_of_width};
 ghost use Rattle.sock_diag_values.specs.MemInfo.{mem_info};
@@ -94,21 +94,21 @@ pub fn send_ring(reply: &PacketResponseView<'_>) -> Result<Option<PacketRing>, D
 
 /// Returns the little-endian `u32` in the first `PACKET_DIAG_FANOUT`, or `None` if the reply has
 /// none: the id of the fanout group in the low 16 bits and its mode in the high 16 bits, which are
-/// not split. A length other than 4 is `WrongLength`, without a kind.
+/// not split. A length other than 4 is `WrongLength` with this kind.
 pub fn fanout(reply: &PacketResponseView<'_>) -> Result<Option<u32>, DecodeError>
-    // `number_of_width None 4`: a little-endian number of exactly 4 bytes, or `WrongLength`, which
-    // by `None` does not contain the kind.
-    ensures { result ≡ parse_if_present (number_of_width None 4)
+    // `number_of_width (Some kind) 4`: a little-endian number of exactly 4 bytes, or `WrongLength`
+    // with this kind.
+    ensures { result ≡ parse_if_present (number_of_width (Some PACKET_DIAG_FANOUT) 4)
         (first_value_of_kind PACKET_DIAG_FANOUT (view_model reply.now).nlas) }
 {
     reply.number_of(PACKET_DIAG_FANOUT)
 }
 
 /// Returns the user id of the socket's owner: the little-endian `u32` in the first
-/// `PACKET_DIAG_UID`, or `None` if the reply has none. A length other than 4 is `WrongLength`,
-/// without a kind.
+/// `PACKET_DIAG_UID`, or `None` if the reply has none. A length other than 4 is `WrongLength` with
+/// this kind.
 pub fn owner(reply: &PacketResponseView<'_>) -> Result<Option<u32>, DecodeError>
-    ensures { result ≡ parse_if_present (number_of_width None 4)
+    ensures { result ≡ parse_if_present (number_of_width (Some PACKET_DIAG_UID) 4)
         (first_value_of_kind PACKET_DIAG_UID (view_model reply.now).nlas) }
 {
     reply.number_of(PACKET_DIAG_UID)

@@ -2,7 +2,7 @@
 //! attribute of its kind, whatever the two flag bits of its type field, and returns `None` if the
 //! reply has none.
 
-ghost use Rattle.std.specs.Prelude.{◌≡◌};
+ghost use Rattle.std.specs.Prelude.{◌≡◌, Some};
 ghost use Rattle.netlink_core.specs.Layout.{parse_record};
 ghost use Rattle.netlink_core.specs.Parse.{number_of_width};
 ghost use Rattle.sock_diag_values.specs.MemInfo.{mem_info};
@@ -49,11 +49,11 @@ pub fn info(reply: &XdpResponseView<'_>) -> Result<Option<XdpInfo>, DecodeError>
 }
 
 /// Returns the user id of the socket's owner: the little-endian `u32` in the first `XDP_DIAG_UID`,
-/// or `None` if the reply has none. A length other than 4 is `WrongLength`, without a kind.
+/// or `None` if the reply has none. A length other than 4 is `WrongLength` with this kind.
 pub fn owner(reply: &XdpResponseView<'_>) -> Result<Option<u32>, DecodeError>
-    // `number_of_width None 4`: a little-endian number of exactly 4 bytes, or `WrongLength`, which
-    // by `None` does not contain the kind.
-    ensures { result ≡ parse_if_present (number_of_width None 4)
+    // `number_of_width (Some kind) 4`: a little-endian number of exactly 4 bytes, or `WrongLength`
+    // with this kind.
+    ensures { result ≡ parse_if_present (number_of_width (Some XDP_DIAG_UID) 4)
         (first_value_of_kind XDP_DIAG_UID (view_model reply.now).nlas) }
 {
     reply.number_of(XDP_DIAG_UID)
@@ -61,9 +61,9 @@ pub fn owner(reply: &XdpResponseView<'_>) -> Result<Option<u32>, DecodeError>
 
 /// Returns the number of entries of the receive ring (`struct xdp_diag_ring`): the little-endian
 /// `u32` in the first `XDP_DIAG_RX_RING`, or `None` if the reply has none. A length other than 4 is
-/// `WrongLength`, without a kind.
+/// `WrongLength` with this kind.
 pub fn receive_ring(reply: &XdpResponseView<'_>) -> Result<Option<u32>, DecodeError>
-    ensures { result ≡ parse_if_present (number_of_width None 4)
+    ensures { result ≡ parse_if_present (number_of_width (Some XDP_DIAG_RX_RING) 4)
         (first_value_of_kind XDP_DIAG_RX_RING (view_model reply.now).nlas) }
 {
     reply.number_of(XDP_DIAG_RX_RING)
@@ -71,9 +71,9 @@ pub fn receive_ring(reply: &XdpResponseView<'_>) -> Result<Option<u32>, DecodeEr
 
 /// Returns the number of entries of the transmit ring (`struct xdp_diag_ring`): the little-endian
 /// `u32` in the first `XDP_DIAG_TX_RING`, or `None` if the reply has none. A length other than 4 is
-/// `WrongLength`, without a kind.
+/// `WrongLength` with this kind.
 pub fn send_ring(reply: &XdpResponseView<'_>) -> Result<Option<u32>, DecodeError>
-    ensures { result ≡ parse_if_present (number_of_width None 4)
+    ensures { result ≡ parse_if_present (number_of_width (Some XDP_DIAG_TX_RING) 4)
         (first_value_of_kind XDP_DIAG_TX_RING (view_model reply.now).nlas) }
 {
     reply.number_of(XDP_DIAG_TX_RING)

@@ -20,10 +20,11 @@ abbrev pub parse_first : {A : Type 0} → (List ℕ → Result A DecodeError) �
     → Result (Option A) DecodeError
 parse_first parses kind attributes = parse_if_present parses (first_value_of_kind kind attributes)
 
--- a `__u32`: four bytes, little-endian; any other length is WrongLength, without an attribute type
--- (`None`)
-abbrev pub parse_u32_value : List ℕ → Result ℕ DecodeError
-parse_u32_value = number_of_width None 4
+-- parse_first_u32 kind attributes: the little-endian `__u32` in the first attribute of the type
+-- `kind`, whatever its two flag bits; `Ok None` if there is no such attribute. A length other than
+-- four bytes is WrongLength with this type.
+abbrev pub parse_first_u32 : ℕ → List Attribute → Result (Option ℕ) DecodeError
+parse_first_u32 kind attributes = parse_first (number_of_width (Some kind) 4) kind attributes
 
 -- the memory counters `SK_MEMINFO_..`: seven to nine `__u32`, little-endian; fewer than 28 bytes
 -- are BufferTooSmall

@@ -10,7 +10,7 @@ use Rattle.sock_diag_families.specs.declared.netlink.TheConstants.{NETLINK_DIAG_
 use Rattle.sock_diag_any.specs.RawReply.{raw_reply_spec}
 use Rattle.sockdiag_c.specs.Details.{optional_number, text_parts}
 use Rattle.sockdiag_c.specs.FamilyValues.{first_value_as_text, parse_socket_memory, memory_struct}
-use Rattle.sockdiag_c.specs.FamilyValues.{parse_first, parse_u32_value}
+use Rattle.sockdiag_c.specs.FamilyValues.{parse_first, parse_first_u32}
 use Rattle.sockdiag_c.specs.declared.netlink_details.NetlinkDetails.{NetlinkDetails}
 
 -- IsNetlinkDetailsOf v d: the struct `d` has the header of the reply `v`, and the first value of
@@ -23,7 +23,7 @@ IsNetlinkDetailsOf v d =
     × IsOkAnd (parse_first parse_socket_memory NETLINK_DIAG_MEMINFO v.nlas)
     (λ o. d.memory ≡ memory_struct o)
     × (text_parts d.groups ≡ first_value_as_text NETLINK_DIAG_GROUPS v.nlas)
-    × IsOkAnd (parse_first parse_u32_value NETLINK_DIAG_FLAGS v.nlas)
+    × IsOkAnd (parse_first_u32 NETLINK_DIAG_FLAGS v.nlas)
     (λ o. d.flags ≡ optional_number o)
 
 -- `netlink_value_errors v`: for each value that is parsed, in the order of the attribute types, its
@@ -32,4 +32,4 @@ IsNetlinkDetailsOf v d =
 abbrev pub netlink_value_errors : ReplyValue (raw_reply_spec netlink_header)
     → List (Option DecodeError)
 netlink_value_errors v = result_err (parse_first parse_socket_memory NETLINK_DIAG_MEMINFO v.nlas)
-    ∷ result_err (parse_first parse_u32_value NETLINK_DIAG_FLAGS v.nlas) ∷ []
+    ∷ result_err (parse_first_u32 NETLINK_DIAG_FLAGS v.nlas) ∷ []

@@ -17,7 +17,7 @@ use Rattle.sock_diag_any.specs.RawReply.{raw_reply_spec}
 use Rattle.sockdiag_c.specs.Answers.{IsGetterResult}
 use Rattle.sockdiag_c.specs.Details.{optional_number, text_parts}
 use Rattle.sockdiag_c.specs.FamilyValues.{first_value_as_text, parse_socket_memory, memory_struct}
-use Rattle.sockdiag_c.specs.FamilyValues.{parse_first, parse_u32_value}
+use Rattle.sockdiag_c.specs.FamilyValues.{parse_first, parse_first_u32}
 use Rattle.sockdiag_c.specs.declared.packet_details.PacketDetails.{PacketDetails}
 
 -- IsPacketDetailsOf old v d: the struct `d` has the header of the reply `v`, and the first value of
@@ -39,9 +39,9 @@ IsPacketDetailsOf old v d =
     (λ o. IsGetterResult o old.receive_ring d.receive_ring d.has_receive_ring)
     × IsOkAnd (parse_first (packet_ring PACKET_DIAG_TX_RING) PACKET_DIAG_TX_RING v.nlas)
     (λ o. IsGetterResult o old.send_ring d.send_ring d.has_send_ring)
-    × IsOkAnd (parse_first parse_u32_value PACKET_DIAG_FANOUT v.nlas)
+    × IsOkAnd (parse_first_u32 PACKET_DIAG_FANOUT v.nlas)
     (λ o. d.fanout ≡ optional_number o)
-    × IsOkAnd (parse_first parse_u32_value PACKET_DIAG_UID v.nlas)
+    × IsOkAnd (parse_first_u32 PACKET_DIAG_UID v.nlas)
     (λ o. d.owner ≡ optional_number o)
     × IsOkAnd (parse_first parse_socket_memory PACKET_DIAG_MEMINFO v.nlas)
     (λ o. d.memory ≡ memory_struct o)
@@ -56,6 +56,6 @@ packet_value_errors v =
     result_err (parse_first packet_info PACKET_DIAG_INFO v.nlas)
     ∷ result_err (parse_first (packet_ring PACKET_DIAG_RX_RING) PACKET_DIAG_RX_RING v.nlas)
     ∷ result_err (parse_first (packet_ring PACKET_DIAG_TX_RING) PACKET_DIAG_TX_RING v.nlas)
-    ∷ result_err (parse_first parse_u32_value PACKET_DIAG_FANOUT v.nlas)
-    ∷ result_err (parse_first parse_u32_value PACKET_DIAG_UID v.nlas)
+    ∷ result_err (parse_first_u32 PACKET_DIAG_FANOUT v.nlas)
+    ∷ result_err (parse_first_u32 PACKET_DIAG_UID v.nlas)
     ∷ result_err (parse_first parse_socket_memory PACKET_DIAG_MEMINFO v.nlas) ∷ []

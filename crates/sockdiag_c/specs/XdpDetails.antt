@@ -15,7 +15,7 @@ use Rattle.sock_diag_families.specs.declared.xdp.TheConstants.{XDP_DIAG_UMEM_FIL
 use Rattle.sockdiag_c.specs.Answers.{IsGetterResult}
 use Rattle.sockdiag_c.specs.Details.{optional_number}
 use Rattle.sockdiag_c.specs.FamilyValues.{parse_socket_memory, memory_struct, parse_first}
-use Rattle.sockdiag_c.specs.FamilyValues.{parse_u32_value}
+use Rattle.sockdiag_c.specs.FamilyValues.{parse_first_u32}
 use Rattle.sockdiag_c.specs.declared.xdp_details.XdpDetails.{XdpDetails}
 
 -- IsXdpDetailsOf old v d: the struct `d` has the header of the reply `v`, and the first value of
@@ -29,17 +29,17 @@ IsXdpDetailsOf old v d =
     (d.header ≡ v.header)
     × IsOkAnd (parse_first xdp_info XDP_DIAG_INFO v.nlas)
     (λ o. IsGetterResult o old.info d.info d.has_info)
-    × IsOkAnd (parse_first parse_u32_value XDP_DIAG_UID v.nlas)
+    × IsOkAnd (parse_first_u32 XDP_DIAG_UID v.nlas)
     (λ o. d.owner ≡ optional_number o)
-    × IsOkAnd (parse_first parse_u32_value XDP_DIAG_RX_RING v.nlas)
+    × IsOkAnd (parse_first_u32 XDP_DIAG_RX_RING v.nlas)
     (λ o. d.receive_ring ≡ optional_number o)
-    × IsOkAnd (parse_first parse_u32_value XDP_DIAG_TX_RING v.nlas)
+    × IsOkAnd (parse_first_u32 XDP_DIAG_TX_RING v.nlas)
     (λ o. d.send_ring ≡ optional_number o)
     × IsOkAnd (parse_first xdp_umem XDP_DIAG_UMEM v.nlas)
     (λ o. IsGetterResult o old.umem d.umem d.has_umem)
-    × IsOkAnd (parse_first parse_u32_value XDP_DIAG_UMEM_FILL_RING v.nlas)
+    × IsOkAnd (parse_first_u32 XDP_DIAG_UMEM_FILL_RING v.nlas)
     (λ o. d.fill_ring ≡ optional_number o)
-    × IsOkAnd (parse_first parse_u32_value XDP_DIAG_UMEM_COMPLETION_RING v.nlas)
+    × IsOkAnd (parse_first_u32 XDP_DIAG_UMEM_COMPLETION_RING v.nlas)
     (λ o. d.completion_ring ≡ optional_number o)
     × IsOkAnd (parse_first parse_socket_memory XDP_DIAG_MEMINFO v.nlas)
     (λ o. d.memory ≡ memory_struct o)
@@ -52,11 +52,11 @@ IsXdpDetailsOf old v d =
 abbrev pub xdp_value_errors : ReplyValue (raw_reply_spec xdp_header) → List (Option DecodeError)
 xdp_value_errors v =
     result_err (parse_first xdp_info XDP_DIAG_INFO v.nlas)
-    ∷ result_err (parse_first parse_u32_value XDP_DIAG_UID v.nlas)
-    ∷ result_err (parse_first parse_u32_value XDP_DIAG_RX_RING v.nlas)
-    ∷ result_err (parse_first parse_u32_value XDP_DIAG_TX_RING v.nlas)
+    ∷ result_err (parse_first_u32 XDP_DIAG_UID v.nlas)
+    ∷ result_err (parse_first_u32 XDP_DIAG_RX_RING v.nlas)
+    ∷ result_err (parse_first_u32 XDP_DIAG_TX_RING v.nlas)
     ∷ result_err (parse_first xdp_umem XDP_DIAG_UMEM v.nlas)
-    ∷ result_err (parse_first parse_u32_value XDP_DIAG_UMEM_FILL_RING v.nlas)
-    ∷ result_err (parse_first parse_u32_value XDP_DIAG_UMEM_COMPLETION_RING v.nlas)
+    ∷ result_err (parse_first_u32 XDP_DIAG_UMEM_FILL_RING v.nlas)
+    ∷ result_err (parse_first_u32 XDP_DIAG_UMEM_COMPLETION_RING v.nlas)
     ∷ result_err (parse_first parse_socket_memory XDP_DIAG_MEMINFO v.nlas)
     ∷ result_err (parse_first xdp_statistics XDP_DIAG_STATS v.nlas) ∷ []

@@ -80,7 +80,8 @@ pub(crate) const RECORD_UNIX_RESPONSE_HEADER: u32 = 5;
 /// Value of `INET_DIAG_MEMINFO`, 16 bytes.
 pub(crate) const RECORD_LEGACY_MEM_INFO: u32 = 6;
 
-/// Value of `INET_DIAG_SKMEMINFO`, 28 bytes or more.
+/// Value of `INET_DIAG_SKMEMINFO`, or of the memory of a netlink, packet or XDP socket, 28 bytes or
+/// more.
 pub(crate) const RECORD_MEM_INFO: u32 = 7;
 
 /// Value of `INET_DIAG_INFO`, 232 bytes.

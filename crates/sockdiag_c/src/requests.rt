@@ -16,6 +16,7 @@ use netlink_core::{Emitable, NETLINK_HEADER_LEN};
 use netlink_packet_sock_diag::constants::{AF_INET, AF_INET6, SOCK_DESTROY, SOCK_DIAG_BY_FAMILY};
 use netlink_packet_sock_diag::inet::{self, ExtensionFlags, SocketId};
 use netlink_packet_sock_diag::unix::{self, ShowFlags};
+use sock_diag_records::inet::INET_DIAG_REQ_PROTOCOL;
 use std::net::{IpAddr, Ipv4Addr, Ipv6Addr};
 
 /// Fields of the netlink header of a request. The call that writes the request sets the length and
@@ -94,9 +95,6 @@ pub struct InetRequest {
     /// (`INET_DIAG_NOCOOKIE`) match any socket.
     pub cookie: [u8; 8],
 }
-
-/// Type of the attribute that contains a protocol, `INET_DIAG_REQ_PROTOCOL`.
-const PROTOCOL: u8 = 3;
 
 /// Writes a request for UNIX sockets, a netlink message of 40 bytes, at the start of the buffer;
 /// bytes after it are unchanged. Returns 40, or 0 if the buffer is shorter; then nothing is
@@ -187,7 +185,7 @@ pub(crate) fn write_inet(message_type: u16, request: &InetRequest, buffer: &mut 
     if request.protocol < 256 {
         return write_message(message_type, &request.header, &record, &[], buffer);
     }
-    let mut attribute = [8, 0, PROTOCOL, 0, 0, 0, 0, 0];
+    let mut attribute = [8, 0, INET_DIAG_REQ_PROTOCOL as u8, 0, 0, 0, 0, 0];
     LittleEndian::write_u32(&mut attribute[4..], request.protocol);
     write_message(message_type, &request.header, &record, &attribute, buffer)
 }

@@ -202,15 +202,19 @@ fn reports_each_error_with_its_fields() {
     );
 }
 
+/// Returns the error of a reply of another family.
+fn error_of(family: u8, bytes: &[u8]) -> Option<DecodeError> {
+    match family {
+        16 => NetlinkReply::parse(bytes).err(),
+        17 => PacketReply::parse(bytes).err(),
+        40 => VsockReply::parse(bytes).err(),
+        _ => XdpReply::parse(bytes).err(),
+    }
+}
+
 /// Returns the error of a header of another family that lacks its last byte.
 fn family_error(family: u8, length: usize) -> Option<DecodeError> {
-    let bytes = vec![family; length - 1];
-    match family {
-        16 => NetlinkReply::parse(&bytes).err(),
-        17 => PacketReply::parse(&bytes).err(),
-        40 => VsockReply::parse(&bytes).err(),
-        _ => XdpReply::parse(&bytes).err(),
-    }
+    error_of(family, &vec![family; length - 1])
 }
 
 #[test]
@@ -241,6 +245,29 @@ fn names_each_record() {
         (value(44, 9), 48, XdpReply::parse(&xdp).err()),
     ] {
         assert_eq!(found, Some(too_small(which, need - 1, need)));
+    }
+}
+
+#[test]
+fn names_the_kind_of_each_number() {
+    for (family, length, kind) in [
+        (16, 28, 4),
+        (17, 16, 4),
+        (17, 16, 5),
+        (44, 16, 2),
+        (44, 16, 3),
+        (44, 16, 4),
+        (44, 16, 6),
+        (44, 16, 7),
+    ] {
+        let mut bytes = vec![family; length];
+        attribute(&mut bytes, kind, &[1, 2, 3]);
+        let wrong_length = DecodeError::WrongLength {
+            kind: Some(kind),
+            got: 3,
+            need: 4,
+        };
+        assert_eq!(error_of(family, &bytes), Some(wrong_length));
     }
 }
 

@@ -130,7 +130,8 @@ impl DumpReader {
 
     /// Returns whether the dump was interrupted: a message up to and including its end had
     /// `NLM_F_DUMP_INTR` (netlink(7)). Its sockets changed during the dump, so that entries may be
-    /// missing or occur twice; repeat the request.
+    /// missing or occur twice; repeat the request. A dump that was not interrupted may be
+    /// incomplete too: see "Incomplete dumps" in docs/KERNELS.md.
     pub fn is_interrupted(&self) -> bool
         ensures { result ≡ (reader_progress self.now).is_interrupted }
     {
