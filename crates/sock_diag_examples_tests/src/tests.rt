@@ -79,7 +79,12 @@ fn datagrams_are_listed_and_counted(rt: HostRuntime) {
         (&DUMP[48..], cut, "Err(EnvelopeCut { got: 4 })"),
         (&FAILURES, "[Failure, Failure]", "Ok(None)"),
     ] {
-        shows(&rt, alloc, &list(alloc, datagram).expect(&rt, "memory"), lines);
+        shows(
+            &rt,
+            alloc,
+            &list(alloc, datagram).expect(&rt, "memory"),
+            lines,
+        );
         shows(&rt, alloc, &listening(datagram), count);
     }
 }

@@ -31,12 +31,18 @@ fn changed(rt: &impl Abort, alloc: Global, whole: &[u8], place: usize, change: u
 /// `counts` occurs in what `Debug` prints for the counts.
 fn changes(rt: &impl Abort, alloc: Global, subject: Subject, parts: &[&str], counts: &str) {
     let whole = bytes(rt, alloc, parts);
-    assert!(rt; parse_twice(rt, alloc, subject, &whole, None, false).first == 0, "refused");
+    assert!(rt;
+        parse_twice(rt, alloc, subject, &whole, None, false).first == 0,
+        "refused"
+    );
     let mut tally = [0; 11];
     for place in 0..whole.len() {
         for change in 1..=u8::MAX {
             let changed = changed(rt, alloc, &whole, place, change);
-            count(&mut tally, &parse_twice(rt, alloc, subject, &changed, Some(&whole), false));
+            count(
+                &mut tally,
+                &parse_twice(rt, alloc, subject, &changed, Some(&whole), false),
+            );
         }
     }
     shows(rt, alloc, &tally, counts);
@@ -59,5 +65,11 @@ fn replies(rt: HostRuntime) {
         changes(&rt, rt.alloc(), Subject::UnixReply, &[reply], counts);
     }
     let counts = "[7143, 12488, 3, 254, 0, 0, 0, 0, 4, 502, 6]";
-    changes(&rt, rt.alloc(), Subject::InetReply, &[INET, SHUTDOWN], counts);
+    changes(
+        &rt,
+        rt.alloc(),
+        Subject::InetReply,
+        &[INET, SHUTDOWN],
+        counts,
+    );
 }

@@ -110,12 +110,26 @@ fn answers(
 fn inputs_that_need_no_allocation(rt: HostRuntime) {
     let nine = (LISTENING, NINE);
     for (count, number) in [(15, 2), (53, 7), (56, 9)] {
-        answers(&rt, rt.alloc(), Subject::UnixReply, (PATH, ""), count, number);
+        answers(
+            &rt,
+            rt.alloc(),
+            Subject::UnixReply,
+            (PATH, ""),
+            count,
+            number,
+        );
     }
     for count in [16, 80] {
         answers(&rt, rt.alloc(), Subject::UnixReply, nine, count, 0);
     }
-    answers(&rt, rt.alloc(), Subject::InetReply, (INET, INET_OTHER), 80, 0);
+    answers(
+        &rt,
+        rt.alloc(),
+        Subject::InetReply,
+        (INET, INET_OTHER),
+        80,
+        0,
+    );
 }
 
 /// Feeds the datagrams to a dump. Asserts that each feed succeeds, unless the dump has failed.

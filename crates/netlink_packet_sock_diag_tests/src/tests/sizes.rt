@@ -3,7 +3,9 @@
 use super::parse_twice::{Subject, parse_twice};
 use super::{CONNECTED, INET, LISTENING, bytes, message_code, shows};
 use netlink_core::{CanonError, NetlinkMessage, NetlinkPayload, canonical};
-use netlink_packet_sock_diag::{DumpReader, DumpState, LossyDump, SockDiagDestroy, SockDiagMessage};
+use netlink_packet_sock_diag::{
+    DumpReader, DumpState, LossyDump, SockDiagDestroy, SockDiagMessage,
+};
 use std::alloc::Global;
 use std::process::Abort;
 
@@ -86,8 +88,20 @@ fn long_lists(rt: HostRuntime) {
 #[test]
 fn lists_of_attributes(rt: HostRuntime) {
     let alloc = rt.alloc();
-    has_room(&rt, alloc, Subject::UnixReply, CONNECTED, "0500060002000000");
-    has_room(&rt, alloc, Subject::UnixReply, CONNECTED, "0600000061000000");
+    has_room(
+        &rt,
+        alloc,
+        Subject::UnixReply,
+        CONNECTED,
+        "0500060002000000",
+    );
+    has_room(
+        &rt,
+        alloc,
+        Subject::UnixReply,
+        CONNECTED,
+        "0600000061000000",
+    );
     has_room(&rt, alloc, Subject::InetReply, INET, "0500080002000000");
     has_room(&rt, alloc, Subject::InetReply, INET, "0600040061000000");
 }
@@ -162,7 +176,14 @@ fn dumps_of_many_datagrams(rt: HostRuntime) {
 
 /// A header, the first four bytes of an attribute, a byte, how often the byte is repeated, and the
 /// digits that follow; and the length of the canonical form, or why there is none.
-type Long = (&'static str, &'static str, u8, usize, &'static str, &'static str);
+type Long = (
+    &'static str,
+    &'static str,
+    u8,
+    usize,
+    &'static str,
+    &'static str,
+);
 
 const LONG: [Long; 6] = [
     (LISTENING, "ffff0700", 1, 65_531, "", "Ok(65552)"),

@@ -55,7 +55,10 @@ impl Viewed for UnixDiagName {
         let view = NameView::parse(bytes).expect(rt, "refused");
         let copy = view.to_owned(alloc).expect(rt, "memory");
         let copy = copy.clone(alloc).expect(rt, "memory");
-        (debug_text(rt, alloc, &view), short_text(rt, alloc, &copy, bytes))
+        (
+            debug_text(rt, alloc, &view),
+            short_text(rt, alloc, &copy, bytes),
+        )
     }
 }
 
@@ -65,7 +68,10 @@ impl Viewed for Nla {
         let view = NlaView::parse(&nla).expect(rt, "refused");
         let copy = view.to_owned(alloc).expect(rt, "memory");
         let copy = copy.clone(alloc).expect(rt, "memory");
-        (debug_text(rt, alloc, &view), short_text(rt, alloc, &copy, bytes))
+        (
+            debug_text(rt, alloc, &view),
+            short_text(rt, alloc, &copy, bytes),
+        )
     }
 }
 
@@ -75,7 +81,10 @@ impl Viewed for inet::Nla {
         let view = inet::NlaView::parse(&nla).expect(rt, "refused");
         let copy = view.to_owned(alloc).expect(rt, "memory");
         let copy = copy.clone(alloc).expect(rt, "memory");
-        (debug_text(rt, alloc, &view), short_text(rt, alloc, &copy, bytes))
+        (
+            debug_text(rt, alloc, &view),
+            short_text(rt, alloc, &copy, bytes),
+        )
     }
 }
 
