@@ -3,6 +3,7 @@
 
 ghost use Rattle.std.specs.Iterator.{IsFinite};
 
+use netlink_core::{DecodeError, NetlinkDeserializable, NetlinkMessage};
 use std::alloc::Global;
 use std::fmt::Debug;
 use std::process::Abort;
@@ -57,10 +58,15 @@ fn cells<'a>(rt: &impl Abort, alloc: Global, front: &str, row: &'a str) -> (Vec<
     (bytes(rt, alloc, &[front, digits]), text)
 }
 
+/// Asserts that `part` occurs in the text.
+fn has_part(rt: &impl Abort, text: &str, part: &str) {
+    assert!(rt; text.contains(part), "{text}");
+}
+
 /// Asserts that `part` occurs in what `Debug` prints for the value.
 fn shows<T: Debug>(rt: &impl Abort, alloc: Global, value: &T, part: &str) {
     let shown = format!(in alloc; "{value:?}").expect(rt, "memory");
-    assert!(rt; shown.contains(part), "{shown}");
+    has_part(rt, shown.as_str(), part);
 }
 
 /// Asserts that `text` occurs in what `Debug` prints for the list of all items that the iterator
@@ -75,4 +81,17 @@ where
         answers.push(answer).expect(rt, "memory");
     }
     shows(rt, alloc, &answers, text);
+}
+
+/// Returns the code of the error, or 0 for a value.
+fn code<T: Drop>(read: &Result<T, DecodeError>) -> u8 {
+    match read {
+        Ok(_) => 0,
+        Err(error) => error.number(),
+    }
+}
+
+/// Parses a netlink message. Returns the code of the error, or 0 for a message.
+fn message_code<I: NetlinkDeserializable + Drop>(alloc: Global, bytes: &[u8]) -> u8 {
+    code(&NetlinkMessage::<I>::deserialize(alloc, bytes))
 }

@@ -9,10 +9,19 @@ mod netlink;
 mod records;
 mod sizes;
 
+/// Asserts that two texts are equal.
+fn is_text(rt: &impl Abort, shown: &str, text: &str) {
+    assert!(rt; shown == text, "{shown}");
+}
+
+/// Returns what `Debug` prints for the value.
+fn debug_text<T: Debug>(rt: &impl Abort, alloc: Global, value: &T) -> String {
+    format!(in alloc; "{value:?}").expect(rt, "memory")
+}
+
 /// Asserts that `Debug` prints the value as this text.
 fn shows<T: Debug>(rt: &impl Abort, alloc: Global, value: &T, text: &str) {
-    let shown = format!(in alloc; "{value:?}").expect(rt, "memory");
-    assert!(rt; shown.as_str() == text, "{shown}");
+    is_text(rt, debug_text(rt, alloc, value).as_str(), text);
 }
 
 /// Asserts that `Debug` prints the list of all items of the iterator as this text.

@@ -14,7 +14,6 @@ use sock_diag_families::vsock::VsockRequest;
 use std::alloc::Global;
 use std::fmt::Debug;
 use std::process::Abort;
-use std::test::Fail;
 
 /// A reply about a `NETLINK_ROUTE` socket that is a member of the multicast groups 1 and 5.
 const NETLINK: &str = "100300076a1800000000000000000000ff53010001100000000000000c000100110000000000\
@@ -49,18 +48,21 @@ const INET: &str = "02010200eb1401bbc0a8b23c000000000000000000000000acd917830000
 /// An attribute of kind 99, which no family defines.
 const OTHER: &str = "0800630007000000";
 
+/// Returns the bytes in hexadecimal.
+fn decoded(rt: &impl Abort, alloc: Global, row: &str) -> Vec<u8> {
+    hex::decode(alloc, row).expect(rt, "digits")
+}
+
 /// Asserts that the value serializes to the bytes in hexadecimal.
-fn writes<T: Emitable>(rt: &impl Abort, alloc: Global, value: &T, row: &str) -> Result<(), Fail> {
-    let written = write_new(alloc, value).ok().ok_or("unwritable")?;
-    assert!(rt; written == hex::decode(alloc, row)?, "{written:?}");
-    Ok(())
+fn writes<T: Emitable>(rt: &impl Abort, alloc: Global, value: &T, row: &str) {
+    let written = write_new(alloc, value).expect(rt, "unwritable");
+    assert!(rt; written == decoded(rt, alloc, row), "{written:?}");
 }
 
 /// Asserts that the `Debug` output of the value contains the text.
-fn shows<T: Debug>(rt: &impl Abort, alloc: Global, value: &T, part: &str) -> Result<(), Fail> {
-    let shown = format!(in alloc; "{value:?}")?;
+fn shows<T: Debug>(rt: &impl Abort, alloc: Global, value: &T, part: &str) {
+    let shown = format!(in alloc; "{value:?}").expect(rt, "memory");
     assert!(rt; shown.contains(part), "{shown}");
-    Ok(())
 }
 
 /// Asserts the `Debug` output of a reply after `more` copies of [`OTHER`] are appended to it: the
@@ -71,15 +73,15 @@ fn shows_reply(
     row: &str,
     more: usize,
     (before, count, after): (&str, usize, &str),
-) -> Result<(), Fail> {
-    let mut bytes = hex::decode(alloc, row)?;
-    let others = OTHER.repeat(alloc, more)?;
-    bytes.extend_from_slice(&hex::decode(alloc, others.as_str())?)?;
+) {
+    let others = OTHER.repeat(alloc, more).expect(rt, "memory");
+    let digits = [row, others.as_str()].concat(alloc).expect(rt, "memory");
+    let bytes = decoded(rt, alloc, digits.as_str());
     let count = count.saturating_add(more);
-    let shown = format!(in alloc; "{:?}", AnySockDiagView::parse(&bytes, 20)?)?;
-    let text = format!(in alloc; "{before} {{ bytes: {bytes:?}, count: {count} }}{after}")?;
-    assert!(rt; shown == text, "{shown}");
-    Ok(())
+    let reply = AnySockDiagView::parse(&bytes, 20).expect(rt, "refused");
+    let shown = format!(in alloc; "{reply:?}").expect(rt, "memory");
+    let text = format!(in alloc; "{before} {{ bytes: {bytes:?}, count: {count} }}{after}");
+    assert!(rt; shown == text.expect(rt, "memory"), "{shown}");
 }
 
 /// Returns the number of packets dropped at the netlink socket that a reply describes.
@@ -92,65 +94,79 @@ fn dropped_packets(reply: &[u8]) -> Result<Option<u32>, DecodeError> {
 }
 
 #[test]
-fn what_linux_sent(rt: HostRuntime) -> Result<(), Fail> {
+fn netlink_socket_that_linux_sent(rt: HostRuntime) {
     let alloc = rt.alloc();
-    let bytes = hex::decode(alloc, NETLINK)?;
-    let reply = NetlinkResponseView::parse(&bytes)?;
+    let bytes = decoded(&rt, alloc, NETLINK);
+    let reply = NetlinkResponseView::parse(&bytes).expect(&rt, "refused");
     let text = "RawHeader(NetlinkResponseHeader { kind: 3, protocol: 0, state: 7, port: 6250, \
         destination_port: 0, destination_group: 0, inode: 87039, cookie: 4097 })";
-    shows(&rt, alloc, &reply.header(), text)?;
+    shows(&rt, alloc, &reply.header(), text);
     assert!(&rt; equal_raw_reply_views(&reply, &reply));
     assert!(&rt; equal_raw_headers(&reply.header(), &reply.header()));
-    let told = (netlink::groups(&reply), netlink::flags(&reply)?);
+    let flags = netlink::flags(&reply).expect(&rt, "refused");
     let text = "(Some([17, 0, 0, 0, 0, 0, 0, 0]), Some(32))";
-    shows(&rt, alloc, &told, text)?;
+    shows(&rt, alloc, &(netlink::groups(&reply), flags), text);
     let text = "Some(RawNla(NlaBuffer { type_word: 1, value: [17, 0, 0, 0, 0, 0, 0, 0] }))";
-    shows(&rt, alloc, &reply.attributes().next(), text)?;
-    shows(&rt, alloc, &dropped_packets(&bytes)?, "Some(0)")?;
-    let bytes = hex::decode(alloc, PACKET)?;
-    let reply = PacketResponseView::parse(&bytes)?;
-    let text = "RawHeader(PacketResponseHeader { kind: 3, protocol: 2048, inode: 87040, \
-        cookie: 4099 })";
-    shows(&rt, alloc, &reply.header(), text)?;
-    let text = "Some(PacketInfo { interface: 1, version: 0, reserve: 0, copy_threshold: 0, \
-        timestamp: 0, flags: 1 })";
-    shows(&rt, alloc, &packet::info(&reply)?, text)?;
-    let text = "Some(PacketRing { block_size: 4096, blocks: 2, frame_size: 2048, frames: 4, \
-        retire_timeout: 0, private_size: 0, features: 0 })";
-    shows(&rt, alloc, &packet::receive_ring(&reply)?, text)?;
-    let told = (packet::fanout(&reply)?, packet::filter(&reply));
-    let text = "(Some(7), Some([6, 0, 0, 0, 255, 255, 0, 0]))";
-    shows(&rt, alloc, &told, text)
+    shows(&rt, alloc, &reply.attributes().next(), text);
+    shows(&rt, alloc, &dropped_packets(&bytes), "Ok(Some(0))");
 }
 
 #[test]
-fn fields_of_headers(rt: HostRuntime) -> Result<(), Fail> {
+fn packet_socket_that_linux_sent(rt: HostRuntime) {
     let alloc = rt.alloc();
-    let bytes = hex::decode(alloc, VSOCK)?;
-    let reply = VsockResponseView::parse(&bytes)?;
+    let bytes = decoded(&rt, alloc, PACKET);
+    let reply = PacketResponseView::parse(&bytes).expect(&rt, "refused");
+    let text = "RawHeader(PacketResponseHeader { kind: 3, protocol: 2048, inode: 87040, \
+        cookie: 4099 })";
+    shows(&rt, alloc, &reply.header(), text);
+    let text = "Some(PacketInfo { interface: 1, version: 0, reserve: 0, copy_threshold: 0, \
+        timestamp: 0, flags: 1 })";
+    shows(&rt, alloc, &packet::info(&reply), text);
+    let text = "Some(PacketRing { block_size: 4096, blocks: 2, frame_size: 2048, frames: 4, \
+        retire_timeout: 0, private_size: 0, features: 0 })";
+    shows(&rt, alloc, &packet::receive_ring(&reply), text);
+    let fanout = packet::fanout(&reply).expect(&rt, "refused");
+    let text = "(Some(7), Some([6, 0, 0, 0, 255, 255, 0, 0]))";
+    shows(&rt, alloc, &(fanout, packet::filter(&reply)), text);
+}
+
+#[test]
+fn fields_of_a_vsock_header(rt: HostRuntime) {
+    let bytes = decoded(&rt, rt.alloc(), VSOCK);
+    let reply = VsockResponseView::parse(&bytes).expect(&rt, "refused");
     let text =
         "RawHeader(VsockResponseHeader { kind: 1, state: 10, shutdown: 0, source_context: 2, \
         source_port: 22, destination_context: 4294967295, destination_port: 4294967295, \
         inode: 20490, cookie: 5 })";
-    shows(&rt, alloc, &reply.header(), text)?;
-    let bytes = hex::decode(alloc, XDP)?;
-    let reply = XdpResponseView::parse(&bytes)?;
+    shows(&rt, rt.alloc(), &reply.header(), text);
+}
+
+#[test]
+fn fields_of_an_xdp_socket(rt: HostRuntime) {
+    let alloc = rt.alloc();
+    let bytes = decoded(&rt, alloc, XDP);
+    let reply = XdpResponseView::parse(&bytes).expect(&rt, "refused");
     let text = "RawHeader(XdpResponseHeader { kind: 3, inode: 11, cookie: 6 })";
-    shows(&rt, alloc, &reply.header(), text)?;
+    shows(&rt, alloc, &reply.header(), text);
     let text = "Some(XdpUmem { size: 4194304, id: 2, pages: 1024, chunk_size: 4096, headroom: 0, \
         interface: 3, queue: 1, flags: 1, references: 1 })";
-    shows(&rt, alloc, &xdp::shared_memory(&reply)?, text)?;
-    let text = "(Some(XdpInfo { interface: 3, queue: 1 }), Some(XdpStatistics { \
-        received_dropped: 1, received_invalid: 2, received_full: 3, fill_ring_empty: 4, \
-        sent_invalid: 5, send_ring_empty: 6 }))";
-    let told = (xdp::info(&reply)?, xdp::statistics(&reply)?);
-    shows(&rt, alloc, &told, text)?;
+    shows(&rt, alloc, &xdp::shared_memory(&reply), text);
+    let text = "Some(XdpInfo { interface: 3, queue: 1 })";
+    shows(&rt, alloc, &xdp::info(&reply), text);
+    let text = "Some(XdpStatistics { received_dropped: 1, received_invalid: 2, received_full: 3, \
+        fill_ring_empty: 4, sent_invalid: 5, send_ring_empty: 6 })";
+    shows(&rt, alloc, &xdp::statistics(&reply), text);
+}
+
+#[test]
+fn requests(rt: HostRuntime) {
+    let alloc = rt.alloc();
     let vsock = VsockRequest {
         states: 0x400,
         cookie: 0,
     };
     let row = "280000000004000000000000000000000000000000000000";
-    writes(&rt, alloc, &vsock, row)?;
+    writes(&rt, alloc, &vsock, row);
     let netlink = NetlinkRequest {
         protocol: 255,
         inode: 0,
@@ -158,11 +174,11 @@ fn fields_of_headers(rt: HostRuntime) -> Result<(), Fail> {
         cookie: 0,
     };
     let row = "10ff0000000000000b0000000000000000000000";
-    writes(&rt, alloc, &netlink, row)
+    writes(&rt, alloc, &netlink, row);
 }
 
 #[test]
-fn debug_texts(rt: HostRuntime) -> Result<(), Fail> {
+fn debug_texts(rt: HostRuntime) {
     for (row, parts) in [
         (NETLINK, ("Netlink(NetlinkResponseView", 3, ")")),
         (PACKET, ("Packet(PacketResponseView", 7, ")")),
@@ -172,24 +188,32 @@ fn debug_texts(rt: HostRuntime) -> Result<(), Fail> {
         (INET, ("SockDiag(InetResponse(InetResponseView", 0, "))")),
     ] {
         for more in [0, 1, 300, 10_000] {
-            shows_reply(&rt, rt.alloc(), row, more, parts)?;
+            shows_reply(&rt, rt.alloc(), row, more, parts);
         }
     }
-    Ok(())
+}
+
+/// Asserts that a reply of any family serializes to its bytes.
+fn is_written(rt: &impl Abort, alloc: Global, row: &str) {
+    let bytes = decoded(rt, alloc, row);
+    let reply = AnySockDiagView::parse(&bytes, 20).expect(rt, "refused");
+    writes(rt, alloc, &reply, row);
+}
+
+/// Asserts that a reply is rejected with an error that has this text.
+fn is_rejected(rt: &impl Abort, alloc: Global, row: &str, text: &str) {
+    let bytes = decoded(rt, alloc, row);
+    let error = AnySockDiagView::parse(&bytes, 20).err().expect(rt, "read");
+    let shown = format!(in alloc; "{error}").expect(rt, "memory");
+    assert!(rt; shown.as_str() == text, "{row}");
 }
 
 #[test]
-fn of_any_family(rt: HostRuntime) -> Result<(), Fail> {
-    let alloc = rt.alloc();
+fn of_any_family(rt: HostRuntime) {
     for row in [NETLINK, PACKET, VSOCK, XDP, UNIX] {
-        let bytes = hex::decode(alloc, row)?;
-        writes(&rt, alloc, &AnySockDiagView::parse(&bytes, 20)?, row)?;
+        is_written(&rt, rt.alloc(), row);
     }
     let cut = "FamilyResponseHeader { family: 16 }: buffer of 5 bytes, at least 28 needed";
-    for (row, text) in [("1003000701", cut), ("1d03", "unknown address family 29")] {
-        let bytes = hex::decode(alloc, row)?;
-        let error = AnySockDiagView::parse(&bytes, 20).err().ok_or("read")?;
-        assert!(&rt; format!(in alloc; "{error}")?.as_str() == text, "{row}");
-    }
-    Ok(())
+    is_rejected(&rt, rt.alloc(), "1003000701", cut);
+    is_rejected(&rt, rt.alloc(), "1d03", "unknown address family 29");
 }

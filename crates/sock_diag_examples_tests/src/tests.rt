@@ -12,7 +12,6 @@ use sock_diag_values::unix::Vfs;
 use std::alloc::Global;
 use std::fmt::Debug;
 use std::process::Abort;
-use std::test::Fail;
 
 // A reply about a listening UNIX socket, without attributes.
 const LISTENING: [u8; 16] = [1, 1, 10, 0, 0x0e, 0x4f, 0, 0, 0xa0, 2, 0, 0, 0, 0, 0, 0];
@@ -51,29 +50,24 @@ const REQUEST: [u8; 40] = [
     0, 0, 0, 0, 0, 0, 0, 0, 0,
 ];
 
-fn shows<T: Debug>(rt: &impl Abort, alloc: Global, value: &T, text: &str) -> Result<(), Fail> {
-    let shown = format!(in alloc; "{value:?}")?;
+fn shows<T: Debug>(rt: &impl Abort, alloc: Global, value: &T, text: &str) {
+    let shown = format!(in alloc; "{value:?}").expect(rt, "memory");
     assert!(rt; shown.as_str() == text, "{shown}");
-    Ok(())
 }
 
 #[test]
-fn replies_are_stored_by_canonical_form(rt: HostRuntime) -> Result<(), Fail> {
+fn replies_are_stored_by_canonical_form(rt: HostRuntime) {
     let alloc = rt.alloc();
-    assert!(rt; key(alloc, NAMED)?.as_slice() == WRITTEN);
-    assert!(rt; same_reply(alloc, NAMED, WRITTEN)?);
-    assert!(rt; !same_reply(alloc, NAMED, &LISTENING)?);
+    assert!(rt; key(alloc, NAMED).expect(&rt, "refused").as_slice() == WRITTEN);
+    assert!(rt; same_reply(alloc, NAMED, WRITTEN).expect(&rt, "refused"));
+    assert!(rt; !same_reply(alloc, NAMED, &LISTENING).expect(&rt, "refused"));
     let cut = "Some(Refused(BufferTooSmall { which: UnixResponseHeader, got: 8, need: 16 }))";
-    shows(
-        &rt,
-        alloc,
-        &same_reply(alloc, &NAMED[..8], &NAMED[..9]).err(),
-        cut,
-    )
+    let error = same_reply(alloc, &NAMED[..8], &NAMED[..9]).err();
+    shows(&rt, alloc, &error, cut);
 }
 
 #[test]
-fn datagrams_are_listed_and_counted(rt: HostRuntime) -> Result<(), Fail> {
+fn datagrams_are_listed_and_counted(rt: HostRuntime) {
     let alloc = rt.alloc();
     let mut failed = DUMP;
     failed[48] = 0xfe;
@@ -85,24 +79,33 @@ fn datagrams_are_listed_and_counted(rt: HostRuntime) -> Result<(), Fail> {
         (&DUMP[48..], cut, "Err(EnvelopeCut { got: 4 })"),
         (&FAILURES, "[Failure, Failure]", "Ok(None)"),
     ] {
-        shows(&rt, alloc, &list(alloc, datagram)?, lines)?;
-        shows(&rt, alloc, &listening(datagram), count)?;
+        shows(
+            &rt,
+            alloc,
+            &list(alloc, datagram).expect(&rt, "memory"),
+            lines,
+        );
+        shows(&rt, alloc, &listening(datagram), count);
     }
-    Ok(())
 }
 
 #[test]
-fn paths_of_a_dump_are_listed(rt: HostRuntime) -> Result<(), Fail> {
+fn paths_of_a_dump_are_listed(rt: HostRuntime) {
     let alloc = rt.alloc();
-    let reply = UnixResponse::parse(alloc, NAMED)?;
-    let dump = answer(alloc, &REQUEST, &[reply]).ok().ok_or("no answer")?;
+    let reply = UnixResponse::parse(alloc, NAMED).expect(&rt, "refused");
+    let dump = answered(&rt, alloc, &[reply]);
     let mut paths = Vec::new(alloc);
-    assert!(rt; add_paths(alloc, &dump, &mut paths)?);
-    shows(&rt, alloc, &paths, "[[47, 114, 117, 110, 47, 120]]")
+    assert!(rt; add_paths(alloc, &dump, &mut paths).expect(&rt, "refused"));
+    shows(&rt, alloc, &paths, "[[47, 114, 117, 110, 47, 120]]");
+}
+
+/// Returns the datagram that answers the request with these replies.
+fn answered(rt: &impl Abort, alloc: Global, replies: &[UnixResponse]) -> Vec<u8> {
+    answer(alloc, &REQUEST, replies).expect(rt, "no answer")
 }
 
 #[test]
-fn links_have_their_name_and_their_mtu(rt: HostRuntime) -> Result<(), Fail> {
+fn links_have_their_name_and_their_mtu(rt: HostRuntime) {
     let alloc = rt.alloc();
     let mut odd = ETH0;
     odd[36] = 7;
@@ -114,92 +117,92 @@ fn links_have_their_name_and_their_mtu(rt: HostRuntime) -> Result<(), Fail> {
         (&ETH0[..15], "Err(TooShort { got: 15 })"),
         (&odd, wrong),
     ] {
-        shows(&rt, alloc, &parse_link(alloc, payload), text)?;
+        shows(&rt, alloc, &parse_link(alloc, payload), text);
     }
-    let key = attribute_key(alloc, b"\x09\0\x03\0eth0\0\x09\0\0")
-        .ok()
-        .ok_or("no key")?;
+    let key = attribute_key(alloc, b"\x09\0\x03\0eth0\0\x09\0\0").expect(&rt, "no key");
     assert!(rt; key.as_slice() == b"\x09\0\x03\0eth0\0\0\0\0".as_slice());
-    Ok(())
 }
 
 /// Asserts that `count` replies are answered by `count` messages and the end of the dump.
-fn answers(rt: &impl Abort, alloc: Global, count: usize) -> Result<(), Fail> {
+fn answers(rt: &impl Abort, alloc: Global, count: usize) {
     let mut replies = Vec::new(alloc);
     for _ in 0..count {
-        replies.push(UnixResponse::parse(alloc, NAMED)?)?;
+        let reply = UnixResponse::parse(alloc, NAMED).expect(rt, "refused");
+        replies.push(reply).expect(rt, "memory");
     }
-    let mut want = MESSAGE.repeat(alloc, count)?;
-    want.extend_from_slice(&DUMP[32..])?;
-    let answered = answer(alloc, &REQUEST, &replies).ok().ok_or("no answer")?;
-    assert!(rt; answered.as_slice() == want.as_slice());
-    Ok(())
+    let mut want = MESSAGE.repeat(alloc, count).expect(rt, "memory");
+    want.extend_from_slice(&DUMP[32..]).expect(rt, "memory");
+    assert!(rt; answered(rt, alloc, &replies).as_slice() == want.as_slice());
 }
 
 #[test]
-fn requests_are_answered(rt: HostRuntime) -> Result<(), Fail> {
-    let path = vec![in rt.alloc(); 97; 65_531]?;
-    let long = [listener(rt.alloc(), 7, &path)?];
-    let why = answer(rt.alloc(), &REQUEST, &long).err();
-    shows(&rt, rt.alloc(), &why, "Some(Unwritable)")?;
-    let why = answer(rt.alloc(), &REQUEST[..15], &long).err();
-    shows(
-        &rt,
-        rt.alloc(),
-        &why,
-        "Some(Request(EnvelopeCut { got: 15 }))",
-    )
-}
-
-#[test]
-fn debug_texts(rt: HostRuntime) -> Result<(), Fail> {
+fn requests_are_answered(rt: HostRuntime) {
     let alloc = rt.alloc();
-    shows(&rt, alloc, &AnswerError::Memory, "Memory")?;
-    shows(
-        &rt,
-        alloc,
-        &LinkError::Attribute(DecodeError::Memory),
-        "Attribute(Memory)",
-    )?;
-    shows(&rt, alloc, &[Family::Inet, Family::Inet6], "[Inet, Inet6]")
+    let path = vec![in alloc; 97; 65_531].expect(&rt, "memory");
+    let long = [listener(alloc, 7, &path).expect(&rt, "memory")];
+    for (request, text) in [
+        (&REQUEST[..], "Some(Unwritable)"),
+        (&REQUEST[..15], "Some(Request(EnvelopeCut { got: 15 }))"),
+    ] {
+        shows(&rt, alloc, &answer(alloc, request, &long).err(), text);
+    }
 }
 
 #[test]
-fn values_are_made_and_copied(rt: HostRuntime) -> Result<(), Fail> {
+fn debug_texts(rt: HostRuntime) {
     let alloc = rt.alloc();
+    shows(&rt, alloc, &AnswerError::Memory, "Memory");
+    let error = LinkError::Attribute(DecodeError::Memory);
+    shows(&rt, alloc, &error, "Attribute(Memory)");
+    shows(&rt, alloc, &[Family::Inet, Family::Inet6], "[Inet, Inet6]");
+}
+
+#[test]
+fn values_are_made_and_copied(rt: HostRuntime) {
     for inode in [0, 1, 0x2a0, 0x4f0e, u32::MAX] {
-        let replies = [listener(alloc, inode, b"/run/x")?];
-        answer(alloc, &REQUEST, &replies).ok().ok_or("no answer")?;
+        let reply = listener(rt.alloc(), inode, b"/run/x").expect(&rt, "memory");
+        answered(&rt, rt.alloc(), &[reply]);
     }
-    let vfs = Vfs::parse(&[4, 3, 2, 1, 7, 0, 0, 0])?;
-    assert!(rt; copy_by_bytes(alloc, &vfs, ())? == vfs);
-    Ok(())
+    let vfs = Vfs::parse(&[4, 3, 2, 1, 7, 0, 0, 0]).expect(&rt, "refused");
+    assert!(rt; copy_by_bytes(rt.alloc(), &vfs, ()).expect(&rt, "refused") == vfs);
 }
 
 /// Counts of attributes and of messages above 300. Tests also use each count up to 300.
 const COUNTS: [usize; 7] = [512, 1_000, 1_024, 2_048, 4_096, 8_192, 10_000];
 
 /// Asserts that `count` equal attributes or messages are parsed, listed and answered.
-fn has_room_for_many(rt: &impl Abort, alloc: Global, count: usize) -> Result<(), Fail> {
-    answers(rt, alloc, count)?;
-    assert!(rt; list(alloc, &MESSAGE.repeat(alloc, count)?)?.len() == count);
-    let mut link = Vec::from_slice(alloc, &ETH0[..16])?;
-    link.extend_from_slice(&b"\x09\0\x03\0eth0\0\0\0\0".repeat(alloc, count)?)?;
+fn has_room_for_many(rt: &impl Abort, alloc: Global, count: usize) {
+    answers(rt, alloc, count);
+    let dump = MESSAGE.repeat(alloc, count).expect(rt, "memory");
+    assert!(rt; list(alloc, &dump).expect(rt, "memory").len() == count);
+    let link = repeated(rt, alloc, &ETH0[..16], b"\x09\0\x03\0eth0\0\0\0\0", count);
     assert!(rt; parse_link(alloc, &link).is_ok());
-    let mut reply = Vec::from_slice(alloc, &LISTENING)?;
-    reply.extend_from_slice(&b"\x09\0\0\0/run\0\0\0\0".repeat(alloc, count)?)?;
-    assert!(rt; same_reply(alloc, &reply, &reply)?);
-    Ok(())
+    let reply = repeated(rt, alloc, &LISTENING, b"\x09\0\0\0/run\0\0\0\0", count);
+    assert!(rt; same_reply(alloc, &reply, &reply).expect(rt, "refused"));
+}
+
+/// Returns the bytes of a header and of a number of equal attributes.
+fn repeated(
+    rt: &impl Abort,
+    alloc: Global,
+    header: &[u8],
+    attribute: &[u8],
+    count: usize,
+) -> Vec<u8> {
+    let attributes = attribute.repeat(alloc, count).expect(rt, "memory");
+    let mut bytes = Vec::from_slice(alloc, header).expect(rt, "memory");
+    bytes.extend_from_slice(&attributes).expect(rt, "memory");
+    bytes
 }
 
 #[test]
-fn many_replies_and_attributes(rt: HostRuntime) -> Result<(), Fail> {
+fn many_replies_and_attributes(rt: HostRuntime) {
     for count in (0..301).chain(COUNTS) {
-        has_room_for_many(&rt, rt.alloc(), count)?;
+        has_room_for_many(&rt, rt.alloc(), count);
     }
-    let lines = list(rt.alloc(), &MESSAGE.repeat(rt.alloc(), 100_000)?)?;
+    let dump = MESSAGE.repeat(rt.alloc(), 100_000).expect(&rt, "memory");
+    let lines = list(rt.alloc(), &dump).expect(&rt, "memory");
     assert!(rt; lines.len() == 100_000);
-    Ok(())
 }
 
 /// Lengths of names above 300. Tests also use each length up to 300. With its NUL the last one is
@@ -209,61 +212,61 @@ const SIZES: [u16; 10] = [
 ];
 
 /// Returns the bytes, followed by an attribute whose value is a name of this length and a NUL.
-fn with_name(alloc: Global, bytes: &[u8], kind: u8, size: u16) -> Result<Vec<u8>, Fail> {
+fn with_name(rt: &impl Abort, alloc: Global, bytes: &[u8], kind: u8, size: u16) -> Vec<u8> {
     let [low, high] = size.saturating_add(5).to_le_bytes();
-    let mut named = Vec::from_slice(alloc, bytes)?;
-    named.extend_from_slice(&[low, high, kind, 0])?;
-    named.resize(named.len().saturating_add(usize::from(size)), b'a')?;
-    named.push(0)?;
-    Ok(named)
+    let mut named = Vec::from_slice(alloc, bytes).expect(rt, "memory");
+    named
+        .extend_from_slice(&[low, high, kind, 0])
+        .expect(rt, "memory");
+    let len = named.len().saturating_add(usize::from(size));
+    named.resize(len, b'a').expect(rt, "memory");
+    named.push(0).expect(rt, "memory");
+    named
 }
 
 /// Asserts that a name of this length is parsed, stored and listed.
-fn has_room(rt: &impl Abort, alloc: Global, size: u16) -> Result<(), Fail> {
-    let named = with_name(alloc, &[], 3, size)?;
-    let length = attribute_key(alloc, &named).ok().ok_or("no key")?.len();
+fn has_room(rt: &impl Abort, alloc: Global, size: u16) {
+    let named = with_name(rt, alloc, &[], 3, size);
+    let length = attribute_key(alloc, &named).expect(rt, "no key").len();
     assert!(rt; length == usize::from(size.saturating_add(5)).next_multiple_of(4));
-    let payload = with_name(alloc, &ETH0[..16], 3, size)?;
-    let link = parse_link(alloc, &payload).ok().ok_or("no link")?;
+    let payload = with_name(rt, alloc, &ETH0[..16], 3, size);
+    let link = parse_link(alloc, &payload).expect(rt, "no link");
     assert!(rt;
         link.name
             .is_some_and(|name| name.len() == usize::from(size))
     );
-    let reply = with_name(alloc, &LISTENING, 0, size)?;
-    assert!(rt; same_reply(alloc, &reply, &reply)?);
-    Ok(())
+    let reply = with_name(rt, alloc, &LISTENING, 0, size);
+    assert!(rt; same_reply(alloc, &reply, &reply).expect(rt, "refused"));
 }
 
 /// Asserts that a reply with a path of this length is built and answered.
-fn has_room_for_path(rt: &impl Abort, alloc: Global, size: u16) -> Result<(), Fail> {
-    let path = vec![in alloc; b'a'; usize::from(size)]?;
-    let answered = answer(alloc, &REQUEST, &[listener(alloc, 7, &path)?]);
-    let datagram = answered.ok().ok_or("no answer")?;
-    assert!(rt; list(alloc, &datagram)?.len() == 2);
-    Ok(())
+fn has_room_for_path(rt: &impl Abort, alloc: Global, size: u16) {
+    let path = vec![in alloc; b'a'; usize::from(size)].expect(rt, "memory");
+    let reply = listener(alloc, 7, &path).expect(rt, "memory");
+    let datagram = answered(rt, alloc, &[reply]);
+    assert!(rt; list(alloc, &datagram).expect(rt, "memory").len() == 2);
 }
 
 /// Asserts that an attribute with a value of this length is copied, if it is writable.
-fn has_room_for_copy(rt: &impl Abort, alloc: Global, size: u16) -> Result<(), Fail> {
-    let nla = DefaultNla::new(7, vec![in alloc; 1; usize::from(size)]?);
+fn has_room_for_copy(rt: &impl Abort, alloc: Global, size: u16) {
+    let value = vec![in alloc; 1; usize::from(size)].expect(rt, "memory");
+    let nla = DefaultNla::new(7, value);
     if nla.is_writable() {
-        assert!(rt; copy_by_bytes(alloc, &nla, ())? == nla);
+        assert!(rt; copy_by_bytes(alloc, &nla, ()).expect(rt, "refused") == nla);
     }
-    Ok(())
 }
 
 #[test]
-fn names_of_each_length(rt: HostRuntime) -> Result<(), Fail> {
+fn names_of_each_length(rt: HostRuntime) {
     for size in (0..301).chain(SIZES) {
-        has_room(&rt, rt.alloc(), size)?;
-        has_room_for_path(&rt, rt.alloc(), size)?;
-        has_room_for_copy(&rt, rt.alloc(), size)?;
+        has_room(&rt, rt.alloc(), size);
+        has_room_for_path(&rt, rt.alloc(), size);
+        has_room_for_copy(&rt, rt.alloc(), size);
     }
     for size in [
         65_531, 65_536, 100_000, 131_072, 262_144, 524_288, 1_000_000,
     ] {
-        let path = vec![in rt.alloc(); b'a'; size]?;
-        listener(rt.alloc(), 7, &path)?;
+        let path = vec![in rt.alloc(); b'a'; size].expect(&rt, "memory");
+        listener(rt.alloc(), 7, &path).expect(&rt, "memory");
     }
-    Ok(())
 }

@@ -1,20 +1,17 @@
 //! Two requests and four replies with each byte changed. Their truncated forms are lines of the
 //! stored input of the program `sockdiag`.
 
-use super::parse_twice::{ParseTwice, parse_twice};
+use super::parse_twice::{Report, Subject, parse_twice};
 use super::{ABSTRACT, INET, PATH, PEER, SHUTDOWN, ZEROS, bytes, shows};
-use netlink_core::DecodeError;
-use netlink_packet_sock_diag::inet::{InetRequest, InetResponse};
-use netlink_packet_sock_diag::unix::{UnixRequest, UnixResponse};
 use std::alloc::Global;
 use std::process::Abort;
 
 /// Counts one more input: at 0 if it is parsed as the original value, at 1 if it is parsed as
 /// another value, and at the code of its error if it is rejected.
-fn count<T: PartialEq + Drop>(tally: &mut [u32; 11], read: Result<T, DecodeError>, value: &T) {
-    let place = match read {
-        Ok(read) => u8::from(read != *value),
-        Err(error) => error.number(),
+fn count(tally: &mut [u32; 11], report: &Report) {
+    let place = match report.first {
+        0 => u8::from(!report.is_original),
+        number => number,
     };
     if let Some(count) = tally.get_mut(usize::from(place)) {
         *count = count.saturating_add(1);
@@ -32,14 +29,20 @@ fn changed(rt: &impl Abort, alloc: Global, whole: &[u8], place: usize, change: u
 
 /// Parses the bytes in both ways, with each byte in turn changed to each other value. Asserts that
 /// `counts` occurs in what `Debug` prints for the counts.
-fn changes<T: ParseTwice>(rt: &impl Abort, alloc: Global, parts: &[&str], counts: &str) {
+fn changes(rt: &impl Abort, alloc: Global, subject: Subject, parts: &[&str], counts: &str) {
     let whole = bytes(rt, alloc, parts);
-    let value = T::parse_once(alloc, &whole).expect(rt, "refused");
+    assert!(rt;
+        parse_twice(rt, alloc, subject, &whole, None, false).first == 0,
+        "refused"
+    );
     let mut tally = [0; 11];
     for place in 0..whole.len() {
         for change in 1..=u8::MAX {
             let changed = changed(rt, alloc, &whole, place, change);
-            count(&mut tally, parse_twice::<T>(rt, alloc, &changed), &value);
+            count(
+                &mut tally,
+                &parse_twice(rt, alloc, subject, &changed, Some(&whole), false),
+            );
         }
     }
     shows(rt, alloc, &tally, counts);
@@ -49,18 +52,24 @@ fn changes<T: ParseTwice>(rt: &impl Abort, alloc: Global, parts: &[&str], counts
 fn requests(rt: HostRuntime) {
     let unix = ["01000000020400003412000004000000ffffffffffffffff"];
     let counts = "[2552, 3568, 0, 0, 0, 0, 0, 0, 0, 0, 0]";
-    changes::<UnixRequest>(&rt, rt.alloc(), &unix, counts);
+    changes(&rt, rt.alloc(), Subject::UnixRequest, &unix, counts);
     let internet = ["0211000002000000", ZEROS, ZEROS, ZEROS];
     let counts = "[6901, 7125, 0, 254, 0, 0, 0, 0, 0, 0, 0]";
-    changes::<InetRequest>(&rt, rt.alloc(), &internet, counts);
+    changes(&rt, rt.alloc(), Subject::InetRequest, &internet, counts);
 }
 
 // For a UNIX reply, only the number of changes that do not change the value is checked.
 #[test]
 fn replies(rt: HostRuntime) {
     for (reply, counts) in [(PATH, "[1284, "), (PEER, "[1542, "), (ABSTRACT, "[1284, ")] {
-        changes::<UnixResponse>(&rt, rt.alloc(), &[reply], counts);
+        changes(&rt, rt.alloc(), Subject::UnixReply, &[reply], counts);
     }
     let counts = "[7143, 12488, 3, 254, 0, 0, 0, 0, 4, 502, 6]";
-    changes::<InetResponse>(&rt, rt.alloc(), &[INET, SHUTDOWN], counts);
+    changes(
+        &rt,
+        rt.alloc(),
+        Subject::InetReply,
+        &[INET, SHUTDOWN],
+        counts,
+    );
 }

@@ -1,11 +1,9 @@
 //! What holds in each run, whichever allocations fail.
 
-use super::parse_twice::ParseTwice;
-use super::{INET, LISTENING, PATH};
+use super::parse_twice::{Subject, examine};
+use super::{INET, LISTENING, PATH, message_code};
 use hex::FromHexError;
-use netlink_core::{CanonError, DecodeError, NetlinkMessage};
-use netlink_packet_sock_diag::inet::InetResponse;
-use netlink_packet_sock_diag::unix::UnixResponse;
+use netlink_core::CanonError;
 use netlink_packet_sock_diag::{DumpReader, DumpState, LossyDump, SockDiagMessage};
 use std::alloc::Global;
 use std::process::Abort;
@@ -33,41 +31,40 @@ fn reply(rt: &impl Abort, alloc: Global, header: &str, attributes: &str) -> Opti
     }
 }
 
-/// Returns whether the results are equal, or one of them is `Memory`.
-fn agree<T: PartialEq + Drop>(
-    first: Result<T, DecodeError>,
-    second: Result<T, DecodeError>,
-) -> bool {
-    match (first, second) {
-        (Err(DecodeError::Memory), _) | (_, Err(DecodeError::Memory)) => true,
-        (first, second) => first == second,
-    }
-}
+/// The code of `DecodeError::Memory`.
+const MEMORY: u8 = 1;
 
 /// Asserts that both parsers return equal results, and that `canonical` returns the same bytes,
 /// unless an allocation fails.
-fn copes<T: ParseTwice>(rt: &impl Abort, alloc: Global, bytes: &[u8]) {
-    assert!(rt; agree(T::parse_once(alloc, bytes), T::parse_again(alloc, bytes)));
-    match T::rewritten(alloc, bytes) {
+fn copes(rt: &impl Abort, alloc: Global, subject: Subject, bytes: &[u8]) {
+    let report = examine(alloc, subject, bytes, None, false);
+    assert!(rt; report.first == MEMORY || report.second == MEMORY || report.are_equal);
+    match &report.form {
         Ok(form) => assert!(rt; form.as_slice() == bytes),
-        Err(error) => assert!(rt; error == CanonError::Memory),
+        Err(error) => assert!(rt; *error == CanonError::Memory),
     }
 }
 
 /// Asserts the same for a reply, and for the reply as a message.
-fn copes_with_reply<T: ParseTwice>(rt: &impl Abort, alloc: Global, header: &str, attributes: &str) {
+fn copes_with_reply(
+    rt: &impl Abort,
+    alloc: Global,
+    subject: Subject,
+    header: &str,
+    attributes: &str,
+) {
     if let Some(bytes) = reply(rt, alloc, header, attributes) {
-        copes::<T>(rt, alloc, &bytes);
-        copes::<SockDiagMessage>(rt, alloc, &bytes);
+        copes(rt, alloc, subject, &bytes);
+        copes(rt, alloc, Subject::Message, &bytes);
     }
 }
 
 #[test]
 fn replies(rt: HostRuntime) {
     for (header, attributes) in [(PATH, ""), (LISTENING, NINE), (LISTENING, OTHER)] {
-        copes_with_reply::<UnixResponse>(&rt, rt.alloc(), header, attributes);
+        copes_with_reply(&rt, rt.alloc(), Subject::UnixReply, header, attributes);
     }
-    copes_with_reply::<InetResponse>(&rt, rt.alloc(), INET, INET_OTHER);
+    copes_with_reply(&rt, rt.alloc(), Subject::InetReply, INET, INET_OTHER);
 }
 
 /// A message of type `NLMSG_NOOP`.
@@ -85,33 +82,25 @@ const DONE: &[u8] = b"\x14\0\0\0\x03\0\x02\0\x07\0\0\0\0\0\0\0\0\0\0\0";
 fn netlink_messages(rt: HostRuntime) {
     let alloc = rt.alloc();
     for bytes in [BOTH, DONE] {
-        let error = NetlinkMessage::<SockDiagMessage>::deserialize(alloc, bytes).err();
-        assert!(rt; error.is_none_or(|error| error == DecodeError::Memory));
+        assert!(rt; message_code::<SockDiagMessage>(alloc, bytes) <= MEMORY);
     }
-    assert!(rt; NetlinkMessage::<SockDiagMessage>::deserialize(alloc, NOOP).is_ok());
-}
-
-/// Returns the code of the error, or 0 for a value.
-fn number<T: Drop>(read: Result<T, DecodeError>) -> u8 {
-    match read {
-        Ok(_) => 0,
-        Err(error) => error.number(),
-    }
+    assert!(rt; message_code::<SockDiagMessage>(alloc, NOOP) == 0);
 }
 
 /// Asserts that in every run both parsers accept the first `count` bytes, if `want` is 0, or return
 /// the error with the code `want`.
-fn answers<T: ParseTwice>(
+fn answers(
     rt: &impl Abort,
     alloc: Global,
+    subject: Subject,
     (header, attributes): (&str, &str),
     count: usize,
     want: u8,
 ) {
     if let Some(bytes) = reply(rt, alloc, header, attributes) {
         let bytes = bytes.get(..count).expect(rt, "so many bytes");
-        assert!(rt; number(T::parse_once(alloc, bytes)) == want);
-        assert!(rt; number(T::parse_again(alloc, bytes)) == want);
+        let report = examine(alloc, subject, bytes, None, false);
+        assert!(rt; report.first == want && report.second == want);
     }
 }
 
@@ -121,25 +110,45 @@ fn answers<T: ParseTwice>(
 fn inputs_that_need_no_allocation(rt: HostRuntime) {
     let nine = (LISTENING, NINE);
     for (count, number) in [(15, 2), (53, 7), (56, 9)] {
-        answers::<UnixResponse>(&rt, rt.alloc(), (PATH, ""), count, number);
+        answers(
+            &rt,
+            rt.alloc(),
+            Subject::UnixReply,
+            (PATH, ""),
+            count,
+            number,
+        );
     }
     for count in [16, 80] {
-        answers::<UnixResponse>(&rt, rt.alloc(), nine, count, 0);
+        answers(&rt, rt.alloc(), Subject::UnixReply, nine, count, 0);
     }
-    answers::<InetResponse>(&rt, rt.alloc(), (INET, INET_OTHER), 80, 0);
+    answers(
+        &rt,
+        rt.alloc(),
+        Subject::InetReply,
+        (INET, INET_OTHER),
+        80,
+        0,
+    );
+}
+
+/// Feeds the datagrams to a dump. Asserts that each feed succeeds, unless the dump has failed.
+/// Returns the state of the dump and the number of its messages.
+fn fed(rt: &impl Abort, alloc: Global, datagrams: &[&[u8]]) -> (DumpState, usize) {
+    let mut reader = DumpReader::new(alloc);
+    for datagram in datagrams {
+        let fed = reader.feed(datagram);
+        assert!(rt; fed.is_ok() == (reader.state() != DumpState::Failed));
+    }
+    (reader.state(), reader.messages().len())
 }
 
 /// Checks that a dump is done and has all replies, or has failed because an allocation failed, and
 /// remains failed.
 #[test]
 fn dumps(rt: HostRuntime) {
-    let mut reader = DumpReader::new(rt.alloc());
-    for datagram in [BOTH, BOTH, DONE] {
-        let fed = reader.feed(datagram);
-        assert!(rt; fed.is_ok() == (reader.state() != DumpState::Failed));
-    }
-    let all = reader.state() == DumpState::Done && reader.messages().len() == 4;
-    assert!(rt; all || reader.state() == DumpState::Failed);
+    let (state, count) = fed(&rt, rt.alloc(), &[BOTH, BOTH, DONE]);
+    assert!(rt; state == DumpState::Failed || (state == DumpState::Done && count == 4));
 }
 
 /// Checks that a failed allocation is not an entry.
@@ -157,9 +166,6 @@ fn lossy_dumps(rt: HostRuntime) {
 /// Checks that a dump that keeps no message never fails, whichever allocations fail.
 #[test]
 fn dumps_that_need_no_allocation(rt: HostRuntime) {
-    let mut reader = DumpReader::new(rt.alloc());
-    for datagram in [NOOP, DONE] {
-        assert!(rt; reader.feed(datagram).is_ok());
-    }
-    assert!(rt; reader.state() == DumpState::Done);
+    let (state, _) = fed(&rt, rt.alloc(), &[NOOP, DONE]);
+    assert!(rt; state == DumpState::Done);
 }

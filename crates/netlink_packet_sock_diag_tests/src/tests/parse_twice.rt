@@ -1,6 +1,7 @@
 //! Values that are parsed in two ways, with equal results: for example as an owned value, and as a
 //! borrowed one.
 
+use super::code;
 use netlink_core::{CanonError, DecodeError, Parseable, ParseableParametrized, Wire, canonical};
 use netlink_packet_sock_diag::SockDiagMessage;
 use netlink_packet_sock_diag::inet::{InetRequest, InetResponse, InetResponseView};
@@ -9,9 +10,38 @@ use std::alloc::Global;
 use std::fmt::Debug;
 use std::process::Abort;
 
-/// A value with two parsers. A message is parsed under the type 20. The trait does not extend
-/// `Wire`, whose laws make each call of a generic helper slow to prove.
-pub(crate) trait ParseTwice: Sized + PartialEq + Debug + Drop {
+/// The type of a value. A message is parsed under the type 20.
+#[derive(Clone, Copy)]
+pub(crate) enum Subject {
+    UnixReply,
+    InetReply,
+    Message,
+    UnixRequest,
+    InetRequest,
+}
+
+/// What the parsers return for some bytes. Tests compare reports instead of values, since a call of
+/// a generic helper takes a second to prove at each of the types of values.
+#[derive(Drop)]
+pub(crate) struct Report {
+    /// Code of the error of the first parser, or 0 for a value.
+    pub(crate) first: u8,
+    /// Code of the error of the other parser, or 0 for a value.
+    pub(crate) second: u8,
+    /// Whether both parsers return equal results.
+    pub(crate) are_equal: bool,
+    /// Whether the first parser returns the same result for the original bytes, if there are any.
+    pub(crate) is_original: bool,
+    /// What `Debug` prints for the result of the first parser; `None` if the text was not
+    /// requested, or an allocation failed.
+    pub(crate) text: Option<String>,
+    /// Canonical form.
+    pub(crate) form: Result<Vec<u8>, CanonError>,
+}
+
+/// A value with two parsers. The trait does not extend `Wire`, whose laws make each call of a
+/// generic helper slow to prove.
+trait ParseTwice: Sized + PartialEq + Debug + Drop {
     /// Parses an owned value.
     fn parse_once(alloc: Global, bytes: &[u8]) -> Result<Self, DecodeError>;
 
@@ -22,15 +52,62 @@ pub(crate) trait ParseTwice: Sized + PartialEq + Debug + Drop {
     fn rewritten(alloc: Global, bytes: &[u8]) -> Result<Vec<u8>, CanonError>;
 }
 
-/// Returns the value or the error that both parsers return.
-pub(crate) fn parse_twice<T: ParseTwice>(
-    rt: &impl Abort,
+fn examine_as<T: ParseTwice>(
     alloc: Global,
     bytes: &[u8],
-) -> Result<T, DecodeError> {
-    let read = T::parse_once(alloc, bytes);
-    assert!(rt; T::parse_again(alloc, bytes) == read, "{bytes:?}");
-    read
+    original: Option<&[u8]>,
+    with_text: bool,
+) -> Report {
+    let first = T::parse_once(alloc, bytes);
+    let second = T::parse_again(alloc, bytes);
+    let is_original = match original {
+        Some(original) => first == T::parse_once(alloc, original),
+        None => true,
+    };
+    let text = match with_text {
+        true => format!(in alloc; "{first:?}").ok(),
+        false => None,
+    };
+    Report {
+        first: code(&first),
+        second: code(&second),
+        are_equal: first == second,
+        is_original,
+        text,
+        form: T::rewritten(alloc, bytes),
+    }
+}
+
+/// Parses the bytes with both parsers. The report also compares their value with the one of the
+/// original bytes, if these are given.
+pub(crate) fn examine(
+    alloc: Global,
+    subject: Subject,
+    bytes: &[u8],
+    original: Option<&[u8]>,
+    with_text: bool,
+) -> Report {
+    match subject {
+        Subject::UnixReply => examine_as::<UnixResponse>(alloc, bytes, original, with_text),
+        Subject::InetReply => examine_as::<InetResponse>(alloc, bytes, original, with_text),
+        Subject::Message => examine_as::<SockDiagMessage>(alloc, bytes, original, with_text),
+        Subject::UnixRequest => examine_as::<UnixRequest>(alloc, bytes, original, with_text),
+        Subject::InetRequest => examine_as::<InetRequest>(alloc, bytes, original, with_text),
+    }
+}
+
+/// Returns the report on the bytes. Asserts that both parsers return equal results.
+pub(crate) fn parse_twice(
+    rt: &impl Abort,
+    alloc: Global,
+    subject: Subject,
+    bytes: &[u8],
+    original: Option<&[u8]>,
+    with_text: bool,
+) -> Report {
+    let report = examine(alloc, subject, bytes, original, with_text);
+    assert!(rt; report.are_equal, "{bytes:?}");
+    report
 }
 
 impl ParseTwice for UnixResponse {

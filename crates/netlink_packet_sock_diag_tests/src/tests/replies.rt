@@ -1,20 +1,25 @@
 //! What `Debug` prints for replies and messages, or a part of it. A row has more digits for the
 //! bytes, a space, and that part.
 
-use super::parse_twice::{ParseTwice, parse_twice};
-use super::{CONNECTED, INET, PATH, PEER, SHUTDOWN, bytes, cells, shows};
+use super::parse_twice::{Subject, parse_twice};
+use super::{CONNECTED, INET, PATH, PEER, SHUTDOWN, bytes, cells, has_part, shows};
 use netlink_core::{NetlinkDeserializable, NetlinkMessage};
-use netlink_packet_sock_diag::inet::InetResponse;
-use netlink_packet_sock_diag::unix::UnixResponse;
 use netlink_packet_sock_diag::{MessageView, SockDiagDestroy, SockDiagMessage};
 use std::alloc::Global;
 use std::fmt::Debug;
 use std::process::Abort;
 
-/// Asserts that the part in the row occurs in what `Debug` prints for the result of both parsers.
-fn tell<T: ParseTwice>(rt: &impl Abort, alloc: Global, front: &str, row: &str) {
+/// Asserts that the part occurs in what `Debug` prints for the result of both parsers.
+fn is_told(rt: &impl Abort, alloc: Global, subject: Subject, reply: &[u8], part: &str) {
+    let report = parse_twice(rt, alloc, subject, reply, None, true);
+    let text = report.text.as_deref().expect(rt, "memory");
+    has_part(rt, text, part);
+}
+
+/// Asserts the same of the part in the row.
+fn tell(rt: &impl Abort, alloc: Global, subject: Subject, front: &str, row: &str) {
     let (reply, part) = cells(rt, alloc, front, row);
-    shows(rt, alloc, &parse_twice::<T>(rt, alloc, &reply), part);
+    is_told(rt, alloc, subject, &reply, part);
 }
 
 /// For the reply `PATH`.
@@ -49,18 +54,19 @@ cookie: [52, 18, 0, 0, 4, 0, 0, 0] }, nlas: [Peer(1)] }))";
 #[test]
 fn replies_and_a_message(rt: HostRuntime) {
     let alloc = rt.alloc();
-    tell::<UnixResponse>(&rt, alloc, PATH, WITH_PATH);
-    tell::<UnixResponse>(&rt, alloc, PEER, WITH_PEER);
+    tell(&rt, alloc, Subject::UnixReply, PATH, WITH_PATH);
+    tell(&rt, alloc, Subject::UnixReply, PEER, WITH_PEER);
     let inet = [INET, SHUTDOWN].concat(alloc).expect(&rt, "memory");
-    tell::<InetResponse>(&rt, alloc, &inet, WITH_SHUTDOWN);
-    tell::<SockDiagMessage>(&rt, alloc, &inet, INET_MESSAGE);
-    tell::<SockDiagMessage>(&rt, alloc, "", MESSAGE);
+    tell(&rt, alloc, Subject::InetReply, &inet, WITH_SHUTDOWN);
+    tell(&rt, alloc, Subject::Message, &inet, INET_MESSAGE);
+    tell(&rt, alloc, Subject::Message, "", MESSAGE);
 }
 
 /// Asserts that `Debug` prints `count + 1` equal attributes of a reply.
-fn check_many<T: ParseTwice>(
+fn check_many(
     rt: &impl Abort,
     alloc: Global,
+    subject: Subject,
     header: &str,
     attribute: &str,
     count: usize,
@@ -71,14 +77,15 @@ fn check_many<T: ParseTwice>(
     let text = ["nlas: [", &many, "Shutdown(2)] })"]
         .concat(alloc)
         .expect(rt, "memory");
-    shows(rt, alloc, &parse_twice::<T>(rt, alloc, &reply), &text);
+    is_told(rt, alloc, subject, &reply, &text);
 }
 
 #[test]
 fn replies_with_many_attributes(rt: HostRuntime) {
     for count in [0, 1, 7, 8, 9, 300, 10_000] {
-        check_many::<UnixResponse>(&rt, rt.alloc(), CONNECTED, "0500060002000000", count);
-        check_many::<InetResponse>(&rt, rt.alloc(), INET, "0500080002000000", count);
+        let (unix, inet) = ("0500060002000000", "0500080002000000");
+        check_many(&rt, rt.alloc(), Subject::UnixReply, CONNECTED, unix, count);
+        check_many(&rt, rt.alloc(), Subject::InetReply, INET, inet, count);
     }
 }
 

@@ -15,7 +15,7 @@ use std::process::Abort;
 
 /// Asserts that a message with this payload, with the flags of a dump request, serializes to these
 /// bytes after `finalize`.
-fn sends<I: NetlinkSerializable + Drop>(
+fn is_sent<I: NetlinkSerializable + Drop>(
     rt: &impl Abort,
     alloc: Global,
     payload: NetlinkPayload<I>,
@@ -25,20 +25,16 @@ fn sends<I: NetlinkSerializable + Drop>(
     message.header.flags = NLM_F_REQUEST | NLM_F_DUMP;
     assert!(rt; message.is_writable());
     message.finalize();
-    is_written(rt, alloc, &message, parts);
-}
-
-fn is_written<I: NetlinkSerializable>(
-    rt: &impl Abort,
-    alloc: Global,
-    message: &NetlinkMessage<I>,
-    parts: &[&str],
-) {
     assert!(rt; message.is_writable());
     let mut buffer = vec![in alloc; 0xee; message.buffer_len()].expect(rt, "memory");
     message.serialize(&mut buffer);
     let wanted = bytes(rt, alloc, parts);
     assert!(rt; buffer == wanted, "{buffer:?}");
+}
+
+/// Asserts the same of a request.
+fn sends(rt: &impl Abort, alloc: Global, request: SockDiagMessage, parts: &[&str]) {
+    is_sent(rt, alloc, request.into(), parts);
 }
 
 // The requests of each family use the flags that its module re-exports.
@@ -55,7 +51,7 @@ fn a_unix_request(rt: HostRuntime) {
         ShowFlags(4), cookie: [255, 255, 255, 255, 255, 255, 255, 255] })";
     shows(&rt, alloc, &request.clone(alloc), text);
     let wanted = "2800000014000103000000000000000001000000000400003412000004000000ffffffffffffffff";
-    sends(&rt, alloc, request.into(), &[wanted]);
+    sends(&rt, alloc, request, &[wanted]);
 }
 
 #[test]
@@ -75,9 +71,9 @@ fn an_inet_request_and_one_to_close(rt: HostRuntime) {
         interface_id: 0, cookie: [0, 0, 0, 0, 0, 0, 0, 0] } }))";
     shows(&rt, alloc, &destroy.clone(alloc), text);
     let front = "480000001400010300000000000000000206800000080000";
-    sends(&rt, alloc, request.into(), &[front, ZEROS, ZEROS, ZEROS]);
+    sends(&rt, alloc, request, &[front, ZEROS, ZEROS, ZEROS]);
     let front = "480000001500010300000000000000000206800000080000";
-    sends(&rt, alloc, destroy.into(), &[front, ZEROS, ZEROS, ZEROS]);
+    is_sent(&rt, alloc, destroy.into(), &[front, ZEROS, ZEROS, ZEROS]);
 }
 
 // A value that no parser returns: an `InetRequest` with the family `AF_UNIX`, in whose address is
@@ -93,6 +89,5 @@ fn a_request_that_reads_as_a_reply(rt: HostRuntime) {
     request.socket_id.destination_address = IpAddr::V6(Ipv6Addr::UNSPECIFIED);
     let front = "4800000014000103000000000000000001010a0000000000000000000000000028000700";
     let parts = [front, ZEROS, ZEROS, "00000000"];
-    let message = SockDiagMessage::InetRequest(request);
-    sends(&rt, alloc, message.into(), &parts);
+    sends(&rt, alloc, SockDiagMessage::InetRequest(request), &parts);
 }

@@ -1,11 +1,11 @@
 //! Lists, payloads and dumps of each size: no allocation fails if there is memory. Long attributes.
 
-use super::parse_twice::{ParseTwice, parse_twice};
-use super::{CONNECTED, INET, LISTENING, bytes, shows};
+use super::parse_twice::{Subject, parse_twice};
+use super::{CONNECTED, INET, LISTENING, bytes, message_code, shows};
 use netlink_core::{CanonError, NetlinkMessage, NetlinkPayload, canonical};
-use netlink_packet_sock_diag::inet::InetResponse;
-use netlink_packet_sock_diag::unix::UnixResponse;
-use netlink_packet_sock_diag::{DumpReader, LossyDump, SockDiagDestroy, SockDiagMessage};
+use netlink_packet_sock_diag::{
+    DumpReader, DumpState, LossyDump, SockDiagDestroy, SockDiagMessage,
+};
 use std::alloc::Global;
 use std::process::Abort;
 
@@ -19,9 +19,9 @@ const SIZES: [u32; 15] = [
 ];
 
 /// Asserts that both parsers accept the bytes, and that the bytes have a canonical form.
-fn accepts<T: ParseTwice>(rt: &impl Abort, alloc: Global, bytes: &[u8]) {
-    assert!(rt; parse_twice::<T>(rt, alloc, bytes).is_ok());
-    assert!(rt; T::rewritten(alloc, bytes).is_ok());
+fn accepts(rt: &impl Abort, alloc: Global, subject: Subject, bytes: &[u8]) {
+    let report = parse_twice(rt, alloc, subject, bytes, None, false);
+    assert!(rt; report.first == 0 && report.form.is_ok());
 }
 
 /// Returns a netlink message of a type.
@@ -36,8 +36,8 @@ fn envelope(rt: &impl Abort, alloc: Global, kind: u8, payload: &[u8]) -> Vec<u8>
 
 /// Asserts that a complete message is parsed.
 fn opens(rt: &impl Abort, alloc: Global, message: &[u8]) {
-    assert!(rt; NetlinkMessage::<SockDiagMessage>::deserialize(alloc, message).is_ok());
-    assert!(rt; NetlinkMessage::<SockDiagDestroy>::deserialize(alloc, message).is_ok());
+    assert!(rt; message_code::<SockDiagMessage>(alloc, message) == 0);
+    assert!(rt; message_code::<SockDiagDestroy>(alloc, message) == 0);
 }
 
 /// Returns the bytes of a header and of a number of equal attributes.
@@ -54,23 +54,24 @@ fn repeated(
 
 /// Asserts that a reply with this number of attributes is parsed, by itself and in a netlink
 /// message.
-fn has_room_for<T: ParseTwice>(
+fn has_room_for(
     rt: &impl Abort,
     alloc: Global,
+    subject: Subject,
     header: &str,
     attribute: &str,
     count: usize,
 ) {
     let reply = repeated(rt, alloc, header, attribute, count);
-    accepts::<T>(rt, alloc, &reply);
-    accepts::<SockDiagMessage>(rt, alloc, &reply);
+    accepts(rt, alloc, subject, &reply);
+    accepts(rt, alloc, Subject::Message, &reply);
     opens(rt, alloc, &envelope(rt, alloc, 20, &reply));
 }
 
 /// Asserts that a reply with each number of attributes is parsed.
-fn has_room<T: ParseTwice>(rt: &impl Abort, alloc: Global, header: &str, attribute: &str) {
+fn has_room(rt: &impl Abort, alloc: Global, subject: Subject, header: &str, attribute: &str) {
     for count in (0..301).chain(COUNTS) {
-        has_room_for::<T>(rt, alloc, header, attribute, count);
+        has_room_for(rt, alloc, subject, header, attribute, count);
     }
 }
 
@@ -78,17 +79,31 @@ fn has_room<T: ParseTwice>(rt: &impl Abort, alloc: Global, header: &str, attribu
 #[test]
 fn long_lists(rt: HostRuntime) {
     for count in [16_384, 32_768, 65_536, 100_000, 131_072] {
-        has_room_for::<UnixResponse>(&rt, rt.alloc(), CONNECTED, "0500060002000000", count);
-        has_room_for::<InetResponse>(&rt, rt.alloc(), INET, "0500080002000000", count);
+        let (unix, inet) = ("0500060002000000", "0500080002000000");
+        has_room_for(&rt, rt.alloc(), Subject::UnixReply, CONNECTED, unix, count);
+        has_room_for(&rt, rt.alloc(), Subject::InetReply, INET, inet, count);
     }
 }
 
 #[test]
 fn lists_of_attributes(rt: HostRuntime) {
-    has_room::<UnixResponse>(&rt, rt.alloc(), CONNECTED, "0500060002000000");
-    has_room::<UnixResponse>(&rt, rt.alloc(), CONNECTED, "0600000061000000");
-    has_room::<InetResponse>(&rt, rt.alloc(), INET, "0500080002000000");
-    has_room::<InetResponse>(&rt, rt.alloc(), INET, "0600040061000000");
+    let alloc = rt.alloc();
+    has_room(
+        &rt,
+        alloc,
+        Subject::UnixReply,
+        CONNECTED,
+        "0500060002000000",
+    );
+    has_room(
+        &rt,
+        alloc,
+        Subject::UnixReply,
+        CONNECTED,
+        "0600000061000000",
+    );
+    has_room(&rt, alloc, Subject::InetReply, INET, "0500080002000000");
+    has_room(&rt, alloc, Subject::InetReply, INET, "0600040061000000");
 }
 
 /// Checks a payload of each size, under each type of netlink(7) whose payload is kept as bytes.
@@ -102,12 +117,16 @@ fn payloads(rt: HostRuntime) {
     }
 }
 
-/// Asserts that both readers of dumps keep all messages of a datagram.
-fn keeps(rt: &impl Abort, alloc: Global, datagram: &[u8], count: usize) {
-    let mut dump = DumpReader::new(alloc);
-    assert!(rt; dump.feed(datagram).is_ok() && dump.messages().len() == count);
-    let mut dump = LossyDump::new(alloc);
-    assert!(rt; dump.feed(datagram).is_ok() && dump.entries().len() == count);
+/// Feeds a datagram without the end of a dump so many times to both readers of dumps. Asserts that
+/// both keep `count` messages.
+pub(super) fn keeps(rt: &impl Abort, alloc: Global, datagram: &[u8], times: usize, count: usize) {
+    let mut reader = DumpReader::new(alloc);
+    let mut lossy = LossyDump::new(alloc);
+    for _ in 0..times {
+        assert!(rt; reader.feed(datagram).is_ok() && lossy.feed(datagram).is_ok());
+    }
+    assert!(rt; reader.messages().len() == count && lossy.entries().len() == count);
+    assert!(rt; reader.state() == DumpState::Reading);
 }
 
 /// Checks a dump of one datagram with each number of messages.
@@ -117,7 +136,7 @@ fn dumps_of_one_datagram(rt: HostRuntime) {
     let message = envelope(&rt, rt.alloc(), 20, &reply);
     for count in (0..301).chain(COUNTS) {
         let datagram = message.repeat(rt.alloc(), count).expect(&rt, "memory");
-        keeps(&rt, rt.alloc(), &datagram, count);
+        keeps(&rt, rt.alloc(), &datagram, 1, count);
     }
 }
 
@@ -130,16 +149,20 @@ fn is_copied(rt: &impl Abort, alloc: Global, message: &[u8]) {
     }
 }
 
-/// Checks a dump of one reply with each number of attributes, and a clone of its request to close.
+/// Checks a dump of one reply with this number of attributes, and a clone of its request to close.
+fn is_kept(rt: &impl Abort, alloc: Global, header: &str, attribute: &str, count: usize) {
+    let reply = repeated(rt, alloc, header, attribute, count);
+    let message = envelope(rt, alloc, 20, &reply);
+    keeps(rt, alloc, &message, 1, 1);
+    is_copied(rt, alloc, &message);
+}
+
+/// Checks a dump of one reply with each number of attributes.
 #[test]
 fn dumps_of_one_message(rt: HostRuntime) {
     for count in (0..301).chain(COUNTS) {
-        for (header, attribute) in [(CONNECTED, "0500060002000000"), (INET, "0500080002000000")] {
-            let reply = repeated(&rt, rt.alloc(), header, attribute, count);
-            let message = envelope(&rt, rt.alloc(), 20, &reply);
-            keeps(&rt, rt.alloc(), &message, 1);
-            is_copied(&rt, rt.alloc(), &message);
-        }
+        is_kept(&rt, rt.alloc(), CONNECTED, "0500060002000000", count);
+        is_kept(&rt, rt.alloc(), INET, "0500080002000000", count);
     }
 }
 
@@ -148,17 +171,21 @@ fn dumps_of_one_message(rt: HostRuntime) {
 fn dumps_of_many_datagrams(rt: HostRuntime) {
     let reply = bytes(&rt, rt.alloc(), &[LISTENING]);
     let message = envelope(&rt, rt.alloc(), 20, &reply);
-    let mut reader = DumpReader::new(rt.alloc());
-    let mut lossy = LossyDump::new(rt.alloc());
-    for _ in 0..100_000 {
-        assert!(rt; reader.feed(&message).is_ok() && lossy.feed(&message).is_ok());
-    }
-    assert!(rt; reader.messages().len() == 100_000 && lossy.entries().len() == 100_000);
+    keeps(&rt, rt.alloc(), &message, 100_000, 100_000);
 }
 
 /// A header, the first four bytes of an attribute, a byte, how often the byte is repeated, and the
 /// digits that follow; and the length of the canonical form, or why there is none.
-const LONG: [(&str, &str, u8, usize, &str, &str); 6] = [
+type Long = (
+    &'static str,
+    &'static str,
+    u8,
+    usize,
+    &'static str,
+    &'static str,
+);
+
+const LONG: [Long; 6] = [
     (LISTENING, "ffff0700", 1, 65_531, "", "Ok(65552)"),
     (INET, "ffff0400", 97, 65_531, "", "Err(Unwritable)"),
     (INET, "ffff0400", 97, 65_530, "00", "Ok(65608)"),
@@ -179,12 +206,19 @@ fn padded(rt: &impl Abort, alloc: Global, digits: &[&str], byte: u8, count: usiz
     padded
 }
 
+/// Returns the bytes of a row.
+fn long_reply(rt: &impl Abort, alloc: Global, row: &Long) -> Vec<u8> {
+    let (header, head, byte, count, back, _) = *row;
+    let mut reply = padded(rt, alloc, &[header, head], byte, count);
+    let back = bytes(rt, alloc, &[back]);
+    reply.extend_from_slice(&back).expect(rt, "memory");
+    reply
+}
+
 #[test]
 fn long_attributes(rt: HostRuntime) {
-    for (header, head, byte, count, back, part) in LONG {
-        let mut reply = padded(&rt, rt.alloc(), &[header, head], byte, count);
-        let back = bytes(&rt, rt.alloc(), &[back]);
-        reply.extend_from_slice(&back).expect(&rt, "memory");
-        shows(&rt, rt.alloc(), &written_len(rt.alloc(), &reply), part);
+    for row in &LONG {
+        let reply = long_reply(&rt, rt.alloc(), row);
+        shows(&rt, rt.alloc(), &written_len(rt.alloc(), &reply), row.5);
     }
 }

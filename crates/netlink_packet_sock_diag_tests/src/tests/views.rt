@@ -1,5 +1,6 @@
 //! Borrowed replies, the messages of a datagram, and the states of dumps.
 
+use super::sizes::keeps;
 use super::{INET, PATH, SHUTDOWN, bytes, gives, shows};
 use netlink_core::{DecodeError, Emitable, write_new};
 use netlink_packet_sock_diag::inet::InetResponseView;
@@ -16,6 +17,14 @@ fn writes<T: Emitable>(rt: &impl Abort, alloc: Global, value: &T, parts: &[&str]
     assert!(rt; written == bytes(rt, alloc, parts), "{written:?}");
 }
 
+/// Asserts that `part` occurs in what `Debug` prints for the borrowed reply as a message, and that
+/// the message serializes to these bytes.
+fn message_writes(rt: &impl Abort, alloc: Global, reply: &[u8], part: &str, parts: &[&str]) {
+    let message = SockDiagView::parse(reply, 20).expect(rt, "refused");
+    shows(rt, alloc, &message, part);
+    writes(rt, alloc, &message, parts);
+}
+
 #[test]
 fn a_borrowed_unix_reply(rt: HostRuntime) {
     let alloc = rt.alloc();
@@ -28,24 +37,22 @@ fn a_borrowed_unix_reply(rt: HostRuntime) {
     let attributes = view.attributes().clone().expect(&rt, "memory");
     gives(&rt, alloc, attributes, answers);
     writes(&rt, alloc, &view, &parts);
-    let message = SockDiagView::parse(&reply, 20).expect(&rt, "refused");
-    writes(&rt, alloc, &message, &parts);
+    let text = "UnixResponse(UnixResponseView { bytes: [1, 1, 10, 0, ";
+    message_writes(&rt, alloc, &reply, text, &parts);
 }
 
 #[test]
 fn a_borrowed_inet_reply(rt: HostRuntime) {
     let alloc = rt.alloc();
     let reply = bytes(&rt, alloc, &[INET, "090004006375626963000000", SHUTDOWN]);
-    let text = "InetResponse(InetResponseView { bytes: [2, 1, 2, 0, 235, 20, 1, 187, 192, ";
-    let message = SockDiagView::parse(&reply, 20).expect(&rt, "refused");
-    shows(&rt, alloc, &message, text);
     let view = InetResponseView::parse(&reply).expect(&rt, "refused");
     let answers = "[Congestion(\"cubic\"), Shutdown(0)]";
     let attributes = view.attributes().clone().expect(&rt, "memory");
     gives(&rt, alloc, attributes, answers);
     let parts = [INET, "0a0004006375626963000000", SHUTDOWN];
     writes(&rt, alloc, &view, &parts);
-    writes(&rt, alloc, &message, &parts);
+    let text = "InetResponse(InetResponseView { bytes: [2, 1, 2, 0, 235, 20, 1, 187, 192, ";
+    message_writes(&rt, alloc, &reply, text, &parts);
 }
 
 // The error of an attribute is the last item.
@@ -181,10 +188,7 @@ fn a_long_dump_keeps_all(rt: HostRuntime) {
     let many = datagram(&rt, rt.alloc(), "reply")
         .repeat(rt.alloc(), 50_000)
         .expect(&rt, "memory");
-    let mut reader = DumpReader::new(rt.alloc());
-    reader.feed(&many).expect(&rt, "refused");
-    reader.feed(&many).expect(&rt, "refused");
-    assert!(rt; reader.messages().len() == 100_000 && reader.state() == DumpState::Reading);
+    keeps(&rt, rt.alloc(), &many, 2, 100_000);
 }
 
 /// In each row: a datagram, and the items that `DumpViews` yields.

@@ -1,71 +1,156 @@
 //! Tests of names and attributes. The bytes are worked out by hand from the layouts of
 //! sock_diag(7).
 
-use super::{shows, sizes};
-use netlink_core::{DefaultNla, NlaBuffer, Parseable, Wire, canonical, write_new};
+use super::{debug_text, is_text, shows, sizes};
+use netlink_core::{
+    CanonError, DecodeError, DefaultNla, Emitable, NlaBuffer, Parseable, Wire, canonical, write_new,
+};
 use sock_diag_attributes::inet::nlas::{self as inet, TcpInfo};
 use sock_diag_attributes::unix::nlas::{NameView, Nla, NlaView, UnixDiagName};
 use std::alloc::Global;
 use std::fmt::Debug;
 use std::process::Abort;
 
+/// The type of a value.
+#[derive(Clone, Copy)]
+pub(super) enum Subject {
+    Name,
+    UnixAttribute,
+    InetAttribute,
+}
+
+/// What is known of the value that some bytes parse as. Tests compare reports instead of values,
+/// since a call of a generic helper takes some seconds to prove at each type.
+#[derive(Drop)]
+pub(super) struct Report {
+    /// What `Debug` prints for the owned value. This text and `copy` are empty if there are more
+    /// than 300 bytes, since long texts take time.
+    pub(super) owned: String,
+    /// What `Debug` prints for the view, and for a clone of its owned copy.
+    pub(super) view: String,
+    pub(super) copy: String,
+    /// Whether the value is serialized.
+    pub(super) is_written: bool,
+    /// Canonical form of the bytes.
+    pub(super) form: Result<Vec<u8>, CanonError>,
+}
+
+/// Returns what `Debug` prints for the value of these bytes, if there are at most 300.
+fn short_text<T: Debug>(rt: &impl Abort, alloc: Global, value: &T, bytes: &[u8]) -> String {
+    match bytes.len() {
+        0..=300 => debug_text(rt, alloc, value),
+        _ => String::new(alloc),
+    }
+}
+
 /// A type that has a borrowed form, a view.
-pub(super) trait Viewed: Wire<Param = ()> + Debug + Drop {
-    /// Parses a view. Returns the text that `Debug` prints for it, and a clone of its owned copy.
-    fn viewed(rt: &impl Abort, alloc: Global, bytes: &[u8]) -> (String, Self);
+trait Viewed: Wire<Param = ()> + Debug + Drop {
+    /// Parses a view. Returns the texts that `Debug` prints for it, and for a clone of its owned
+    /// copy.
+    fn viewed(rt: &impl Abort, alloc: Global, bytes: &[u8]) -> (String, String);
 }
 
 impl Viewed for UnixDiagName {
-    fn viewed(rt: &impl Abort, alloc: Global, bytes: &[u8]) -> (String, Self) {
+    fn viewed(rt: &impl Abort, alloc: Global, bytes: &[u8]) -> (String, String) {
         let view = NameView::parse(bytes).expect(rt, "refused");
         let copy = view.to_owned(alloc).expect(rt, "memory");
         let copy = copy.clone(alloc).expect(rt, "memory");
-        (format!(in alloc; "{view:?}").expect(rt, "memory"), copy)
+        (
+            debug_text(rt, alloc, &view),
+            short_text(rt, alloc, &copy, bytes),
+        )
     }
 }
 
 impl Viewed for Nla {
-    fn viewed(rt: &impl Abort, alloc: Global, bytes: &[u8]) -> (String, Self) {
+    fn viewed(rt: &impl Abort, alloc: Global, bytes: &[u8]) -> (String, String) {
         let nla = NlaBuffer::new_checked(bytes).expect(rt, "refused");
         let view = NlaView::parse(&nla).expect(rt, "refused");
         let copy = view.to_owned(alloc).expect(rt, "memory");
         let copy = copy.clone(alloc).expect(rt, "memory");
-        (format!(in alloc; "{view:?}").expect(rt, "memory"), copy)
+        (
+            debug_text(rt, alloc, &view),
+            short_text(rt, alloc, &copy, bytes),
+        )
     }
 }
 
 impl Viewed for inet::Nla {
-    fn viewed(rt: &impl Abort, alloc: Global, bytes: &[u8]) -> (String, Self) {
+    fn viewed(rt: &impl Abort, alloc: Global, bytes: &[u8]) -> (String, String) {
         let nla = NlaBuffer::new_checked(bytes).expect(rt, "refused");
         let view = inet::NlaView::parse(&nla).expect(rt, "refused");
         let copy = view.to_owned(alloc).expect(rt, "memory");
         let copy = copy.clone(alloc).expect(rt, "memory");
-        (format!(in alloc; "{view:?}").expect(rt, "memory"), copy)
+        (
+            debug_text(rt, alloc, &view),
+            short_text(rt, alloc, &copy, bytes),
+        )
     }
+}
+
+fn examine_as<T: Viewed>(
+    rt: &impl Abort,
+    alloc: Global,
+    bytes: &[u8],
+) -> Result<Report, DecodeError> {
+    let value = T::read(alloc, bytes, ())?;
+    let (view, copy) = T::viewed(rt, alloc, bytes);
+    Ok(Report {
+        owned: short_text(rt, alloc, &value, bytes),
+        view,
+        copy,
+        is_written: write_new(alloc, &value).is_ok(),
+        form: canonical::<T>(alloc, bytes, ()),
+    })
+}
+
+/// Parses the bytes as an owned value. If they are accepted, parses them as a view too.
+pub(super) fn examine(
+    rt: &impl Abort,
+    alloc: Global,
+    subject: Subject,
+    bytes: &[u8],
+) -> Result<Report, DecodeError> {
+    match subject {
+        Subject::Name => examine_as::<UnixDiagName>(rt, alloc, bytes),
+        Subject::UnixAttribute => examine_as::<Nla>(rt, alloc, bytes),
+        Subject::InetAttribute => examine_as::<inet::Nla>(rt, alloc, bytes),
+    }
+}
+
+/// Asserts that the bytes are parsed as this text, an owned value or an error.
+fn reads(rt: &impl Abort, alloc: Global, subject: Subject, bytes: &[u8], text: &str) {
+    let read = match examine(rt, alloc, subject, bytes) {
+        Ok(report) => format!(in alloc; "Ok({})", report.owned),
+        Err(error) => format!(in alloc; "Err({error:?})"),
+    };
+    is_text(rt, read.expect(rt, "memory").as_str(), text);
 }
 
 // Asserts that the bytes parse as an owned value and as a view, which `Debug` prints as these
 // texts, that the view's owned copy prints as the owned value does, and that the canonical form is
 // `written`.
-fn told<T: Viewed>(
+fn told(
     rt: &impl Abort,
     alloc: Global,
+    subject: Subject,
     (bytes, written): (&[u8], &[u8]),
     owned: &str,
     viewed: &str,
 ) {
-    let read = T::read(alloc, bytes, ()).expect(rt, "refused");
-    shows(rt, alloc, &read, owned);
-    let (shown, copy) = T::viewed(rt, alloc, bytes);
-    shows(rt, alloc, &copy, owned);
-    assert!(rt; shown.as_str() == viewed, "{shown}");
-    let form = canonical::<T>(alloc, bytes, ()).expect(rt, "refused");
-    assert!(rt; form.as_slice() == written, "{form:?}");
+    let report = examine(rt, alloc, subject, bytes).expect(rt, "refused");
+    is_text(rt, report.owned.as_str(), owned);
+    is_text(rt, report.copy.as_str(), owned);
+    is_text(rt, report.view.as_str(), viewed);
+    match &report.form {
+        Ok(form) => assert!(rt; form.as_slice() == written, "{form:?}"),
+        Err(_) => panic!(rt; "refused"),
+    }
 }
 
 // Checks each row: the bytes and their canonical form, in hexadecimal, and the text of the owned
 // value. After a `|` the text of the view follows, if it differs.
-fn rows<T: Viewed>(rt: &impl Abort, alloc: Global, rows: &str) {
+fn rows(rt: &impl Abort, alloc: Global, subject: Subject, rows: &str) {
     for row in rows.lines() {
         let (bytes, rest) = row.split_once(' ').expect(rt, "no bytes");
         let (written, texts) = rest.split_once(' ').expect(rt, "no text");
@@ -74,7 +159,7 @@ fn rows<T: Viewed>(rt: &impl Abort, alloc: Global, rows: &str) {
             hex::decode(alloc, bytes).expect(rt, "memory"),
             hex::decode(alloc, written).expect(rt, "memory"),
         );
-        told::<T>(rt, alloc, (&forms.0, &forms.1), owned, viewed);
+        told(rt, alloc, subject, (&forms.0, &forms.1), owned, viewed);
     }
 }
 
@@ -126,9 +211,9 @@ send_queue: 6, options: 7, backlog_queue_length: Some(8), drops: Some(9) })";
 #[test]
 fn names_and_attributes(rt: HostRuntime) {
     let alloc = rt.alloc();
-    rows::<UnixDiagName>(&rt, alloc, NAMES);
-    rows::<Nla>(&rt, alloc, UNIX);
-    rows::<inet::Nla>(&rt, alloc, INET);
+    rows(&rt, alloc, Subject::Name, NAMES);
+    rows(&rt, alloc, Subject::UnixAttribute, UNIX);
+    rows(&rt, alloc, Subject::InetAttribute, INET);
 }
 
 #[test]
@@ -137,7 +222,8 @@ fn information_on_a_connection(rt: HostRuntime) {
     let bytes = sizes::attribute(alloc, 236, 2, 7).expect(&rt, "memory");
     let info = TcpInfo::parse(bytes.get(4..).expect(&rt, "short")).expect(&rt, "refused");
     let text = format!(in alloc; "TcpInfo({info:?})").expect(&rt, "memory");
-    told::<inet::Nla>(&rt, alloc, (&bytes, &bytes), &text, &text);
+    let subject = Subject::InetAttribute;
+    told(&rt, alloc, subject, (&bytes, &bytes), &text, &text);
 }
 
 #[test]
@@ -154,11 +240,11 @@ fn numbers_are_shown_and_kept(rt: HostRuntime) {
 }
 
 // Checks each row: bytes in hexadecimal, and the error that rejects them.
-fn refused<T: Wire<Param = ()> + Debug + Drop>(rt: &impl Abort, alloc: Global, rows: &str) {
+fn refused(rt: &impl Abort, alloc: Global, subject: Subject, rows: &str) {
     for row in rows.lines() {
-        let (bytes, text) = row.split_once(' ').expect(rt, "no text");
-        let read = T::read(alloc, &hex::decode(alloc, bytes).expect(rt, "refused"), ());
-        shows(rt, alloc, &read, text);
+        let (digits, text) = row.split_once(' ').expect(rt, "no text");
+        let bytes = hex::decode(alloc, digits).expect(rt, "refused");
+        reads(rt, alloc, subject, &bytes, text);
     }
 }
 
@@ -181,45 +267,43 @@ const NO_INET: &str = "060005000102 Err(WrongLength { kind: Some(5), got: 2, nee
 
 #[test]
 fn refusals(rt: HostRuntime) {
-    refused::<UnixDiagName>(&rt, rt.alloc(), NO_NAMES);
-    refused::<Nla>(&rt, rt.alloc(), NO_UNIX);
-    refused::<inet::Nla>(&rt, rt.alloc(), NO_INET);
+    refused(&rt, rt.alloc(), Subject::Name, NO_NAMES);
+    refused(&rt, rt.alloc(), Subject::UnixAttribute, NO_UNIX);
+    refused(&rt, rt.alloc(), Subject::InetAttribute, NO_INET);
 }
 
-// Asserts that a value serializes to these bytes, and that these parse as this text.
-fn round_trips<T: Wire<Param = ()> + Debug + Drop>(
-    rt: &impl Abort,
-    alloc: Global,
-    value: &T,
-    bytes: &[u8],
-    text: &str,
-) {
+// Asserts that a value serializes to these bytes.
+fn writes<T: Emitable>(rt: &impl Abort, alloc: Global, value: &T, bytes: &[u8]) {
     let written = write_new(alloc, value).expect(rt, "unwritable");
     assert!(rt; written.as_slice() == bytes, "{written:?}");
-    shows(rt, alloc, &T::read(alloc, bytes, ()), text);
 }
 
 #[test]
-fn values_that_no_parser_returns(rt: HostRuntime) {
+fn names_that_no_parser_returns(rt: HostRuntime) {
     let alloc = rt.alloc();
     for (path, bytes, text) in [
         (b"".as_slice(), b"\0".as_slice(), "Ok(Abstract([]))"),
         (b"a\0b", b"a\0b\0", "Err(NameInnerZero { index: 1 })"),
         (b"\0a", b"\0a\0", "Ok(Abstract([97, 0]))"),
     ] {
-        let name = UnixDiagName::Pathname(Vec::from_slice(alloc, path).expect(&rt, "memory"));
-        round_trips(&rt, alloc, &name, bytes, text);
+        let path = Vec::from_slice(alloc, path).expect(&rt, "memory");
+        writes(&rt, alloc, &UnixDiagName::Pathname(path), bytes);
+        reads(&rt, alloc, Subject::Name, bytes, text);
     }
+}
+
+#[test]
+fn attributes_that_no_parser_returns(rt: HostRuntime) {
+    let alloc = rt.alloc();
     let peer: &[u8] = b"\x08\0\x02\0\x01\0\0\0";
     let short = "Err(WrongLength { kind: Some(2), got: 1, need: 4 })";
     for (type_word, value, bytes, text) in [
         (2, b"\x01\0\0\0".as_slice(), peer, "Ok(Peer(1))"),
         (0x8002, b"\x01", b"\x05\0\x02\x80\x01\0\0\0", short),
     ] {
-        let nla = DefaultNla::new(
-            type_word,
-            Vec::from_slice(alloc, value).expect(&rt, "memory"),
-        );
-        round_trips(&rt, alloc, &Nla::Other(nla), bytes, text);
+        let value = Vec::from_slice(alloc, value).expect(&rt, "memory");
+        let nla = Nla::Other(DefaultNla::new(type_word, value));
+        writes(&rt, alloc, &nla, bytes);
+        reads(&rt, alloc, Subject::UnixAttribute, bytes, text);
     }
 }

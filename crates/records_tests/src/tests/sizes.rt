@@ -1,10 +1,9 @@
 //! Tests that parsers, copies and serializers succeed for inputs of each size, if there is memory.
 
-use super::attributes::Viewed;
+use super::attributes::{Subject, examine};
 use super::shows;
-use netlink_core::{NlaBuffer, canonical, write_new};
-use sock_diag_attributes::inet::nlas::Nla as InetNla;
-use sock_diag_attributes::unix::nlas::{Nla, NlaView, UnixDiagName};
+use netlink_core::NlaBuffer;
+use sock_diag_attributes::unix::nlas::NlaView;
 use std::alloc::{AllocError, Global};
 use std::process::Abort;
 
@@ -22,11 +21,9 @@ pub(super) fn attribute(
 }
 
 /// Asserts that a value is parsed, copied from its view, printed, and serialized.
-fn has_room<T: Viewed>(rt: &impl Abort, alloc: Global, bytes: &[u8]) {
-    let value = T::read(alloc, bytes, ()).expect(rt, "refused");
-    T::viewed(rt, alloc, bytes);
-    assert!(rt; write_new(alloc, &value).is_ok());
-    assert!(rt; canonical::<T>(alloc, bytes, ()).is_ok());
+fn has_room(rt: &impl Abort, alloc: Global, subject: Subject, bytes: &[u8]) {
+    let report = examine(rt, alloc, subject, bytes).expect(rt, "refused");
+    assert!(rt; report.is_written && report.form.is_ok());
 }
 
 /// Sizes from 512 to 1,000,000. Tests of sizes also have each size up to 300.
@@ -43,7 +40,7 @@ fn names(rt: HostRuntime) {
             let mut bytes = vec![in alloc; first; 1].expect(&rt, "memory");
             bytes.resize(size, b'a').expect(&rt, "memory");
             bytes.push(0).expect(&rt, "memory");
-            has_room::<UnixDiagName>(&rt, alloc, &bytes);
+            has_room(&rt, alloc, Subject::Name, &bytes);
         }
     }
 }
@@ -60,14 +57,15 @@ fn unix_attributes(rt: HostRuntime) {
     for length in (4..305).chain(LENGTHS) {
         for (kind, byte, more) in [(0, 0, 1), (7, 1, 0), (7, 1, 3)] {
             let bytes = attribute(alloc, length.saturating_add(more), kind, byte);
-            has_room::<Nla>(&rt, alloc, &bytes.expect(&rt, "memory"));
+            let bytes = bytes.expect(&rt, "memory");
+            has_room(&rt, alloc, Subject::UnixAttribute, &bytes);
         }
     }
 }
 
 /// Asserts that a list of `u32` is parsed, copied from its view, printed, and serialized.
 fn has_room_for_numbers(rt: &impl Abort, alloc: Global, bytes: &[u8]) {
-    has_room::<Nla>(rt, alloc, bytes);
+    has_room(rt, alloc, Subject::UnixAttribute, bytes);
     let nla = NlaBuffer::new_checked(bytes).expect(rt, "refused");
     let NlaView::PendingConnections(numbers) = NlaView::parse(&nla).expect(rt, "refused") else {
         panic!(rt; "no numbers");
@@ -93,12 +91,13 @@ fn inet_attributes(rt: HostRuntime) {
     for length in (4..305).chain(LENGTHS) {
         for (kind, byte, more) in [(4, b'a', 2), (3, 1, 0), (3, 1, 3)] {
             let bytes = attribute(alloc, length.saturating_add(more), kind, byte);
-            has_room::<InetNla>(&rt, alloc, &bytes.expect(&rt, "memory"));
+            let bytes = bytes.expect(&rt, "memory");
+            has_room(&rt, alloc, Subject::InetAttribute, &bytes);
         }
     }
     // The longest text fills its attribute, and leaves no byte for the terminating NUL that the
     // serializer appends.
     let long = attribute(alloc, u16::MAX, 4, b'a').expect(&rt, "memory");
-    let form = canonical::<InetNla>(alloc, &long, ());
-    shows(&rt, alloc, &form, "Err(Unwritable)");
+    let report = examine(&rt, alloc, Subject::InetAttribute, &long).expect(&rt, "refused");
+    shows(&rt, alloc, &report.form, "Err(Unwritable)");
 }
