@@ -1,5 +1,5 @@
 -- An owned reply that is parsed through the view of its bytes.
-use Rattle.std.proofs.Common.{◌≡◌, ◌≢◌, ℕ, List, Bool, true, false, Result, IsOk, IfErr, OnOk}
+use Rattle.std.proofs.Common.{◌≡◌, ◌≢◌, ℕ, List, [], Bool, true, false, Result, IsOk, IfErr, OnOk}
 use Rattle.std.specs.Prelude.{IsErrAnd}
 use Rattle.std.specs.Result.{is_err}
 use Rattle.std.proofs.lemmas.Result.{err_from_is_err_and}
@@ -31,6 +31,19 @@ pub owned_error : {T : Type 0} (R : ResponseSpec) (F : AttributeSet)
 owned_error R F faults b error refused result is =
     let p = err_from_is_err_and result is in
     rw (p.1, p.2) (λ named. error_with_second_set R F faults b error refused)
+
+module _ {H : Type 0} {of : Ghosts H} (F : AttributeSet) (view : ReplyView H of)
+    (clean : (b : List ℕ) → HasNoAttributeError (decode_attribute of.reply.attribute_set) b
+    → HasNoAttributeError (decode_attribute F) b) (b : List ℕ) (kept : view_bytes view ≡ b)
+    (in_range : IsBytes b) where
+  -- the header of a view without attributes, and an empty list, are the reply
+  pub empty_value : (header : of.reply.header.Value) (nlas : List (AttributeValue F))
+      → header ≡ view.head.0 → nlas ≡ []
+      → decoded_in (decode_attribute F) (bytes_after_header view) ≡ []
+      → (owned_codec of.reply F).parses b tt (record { header = header; nlas = nlas })
+  empty_value header nlas same is_empty none =
+      rw (same, is_empty) (rw none at (parsed_with_second_set of.reply F clean _ _
+      view.head view.clean kept in_range))
 
 module _ {H : Type 0} {of : Ghosts H} (F : AttributeSet) (view : ReplyView H of)
     (clean : (b : List ℕ) → HasNoAttributeError (decode_attribute of.reply.attribute_set) b

@@ -121,10 +121,18 @@ impl<H, N> Readable for Reply<H, N> {
 macro_rules! read_reply {
     ($alloc:expr, $bytes:expr) => {{
         let view = ReplyView::<H>::parse($bytes)?;
-        let mut nlas = SmallVec::new($alloc);
-        if view.own_into($alloc, &mut nlas).is_err() {
-            return Err(without_memory(nlas));
-        }
+        // An empty list that is not passed by reference is moved once less. For a family with a
+        // large kind this branch would move the lists that have attributes once more.
+        let nlas = match H::Nla::LARGE_KIND {
+            None if view.is_empty() => SmallVec::new($alloc),
+            _ => {
+                let mut nlas = SmallVec::new($alloc);
+                if view.own_into($alloc, &mut nlas).is_err() {
+                    return Err(without_memory(nlas));
+                }
+                nlas
+            }
+        };
         Ok(Reply {
             header: view.header(),
             nlas,
@@ -146,6 +154,15 @@ impl<H: ReplyOwned> ReplyView<'_, H> {
     ghost use Rattle.sock_diag_replies.specs.ResponseModel.{response_model};
     ghost use Rattle.sock_diag_replies.specs.ViewModel.{bytes_after_header, view_model};
 
+    // Returns whether there is no attribute.
+    #[inline(always)]
+    fn is_empty(&self) -> bool
+        ensures { IsTrue result → decoded_in (decode_attribute H.Nla.FamilyNla.attribute_set)
+            (bytes_after_header self.now) ≡ [] }
+    {
+        self.count() == 0
+    }
+
     // Appends the owned attributes to the empty list `nlas`. A caller passes the list that the
     // reply keeps, so that the attributes are not moved afterwards. Never fails if the list has
     // room for eight, and there are at most eight attributes, none of which needs memory.
@@ -161,7 +178,7 @@ impl<H: ReplyOwned> ReplyView<'_, H> {
             → (length values ≤ 8) × AllByRecursion (NeedsNoMemoryIn set) values
             → IsOk result }
     {
-        if self.count() == 0 {
+        if self.is_empty() {
             return Ok(());
         }
         own_nlas(alloc, self.attribute_bytes(), self.count(), nlas)

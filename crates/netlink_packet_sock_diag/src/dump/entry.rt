@@ -16,7 +16,10 @@ ghost use Rattle.netlink_packet_sock_diag.specs.MessageModel.{message_model};
 
 use crate::message::SockDiagMessage;
 use netlink_core::{DecodeError, NetlinkDeserializable, NetlinkHeader};
+use smallvec::SmallVec;
 use std::alloc::Global;
+use std::default::MadeWith;
+use std::mem::forget;
 
 /// What the reader of a dump keeps of an inner message.
 pub(crate) trait DumpEntry: Drop + Sized {
@@ -47,9 +50,44 @@ pub(crate) trait DumpEntry: Drop + Sized {
         ensures memory_needed { IfErr result (λ e. e ≡ Memory → (m : Self.Entry)
             × Self.parses payload.now header.now.message_type m × Self.needs_memory m) };
 
+    /// Drops what was kept of a message.
+    fn free(self);
+
     // The item of a message follows from what its payload is kept as, or from the error of the
     // payload.
     ghost laws: { DeterminesItems parses rejects item_is };
+}
+
+// Drops a message. A reply has 300 to 2,000 bytes of slots for attributes. They were written when
+// the message was read, and in a long dump they have left the processor's cache since. So slots
+// that hold no attribute are not read again: they own no memory.
+fn free_message(message: SockDiagMessage) {
+    match message {
+        SockDiagMessage::InetResponse(mut reply) => {
+            if drop_inline(&mut reply.nlas) {
+                forget(Box::into_inner(reply));
+            } else {
+                drop(reply);
+            }
+        }
+        SockDiagMessage::UnixResponse(mut reply) => {
+            if drop_inline(&mut reply.nlas) {
+                forget(Box::into_inner(reply));
+            } else {
+                drop(reply);
+            }
+        }
+        SockDiagMessage::InetRequest(_) | SockDiagMessage::UnixRequest(_) => {}
+    }
+}
+
+// Drops the attributes of a list if they are stored inline, and returns whether they are.
+fn drop_inline<T: MadeWith<Global> + Drop>(nlas: &mut SmallVec<T, 8>) -> bool {
+    let is_inline = !nlas.spilled();
+    if is_inline {
+        nlas.clear();
+    }
+    is_inline
 }
 
 /// Keeps the message. An invalid message ends the dump.
@@ -68,6 +106,10 @@ impl DumpEntry for SockDiagMessage {
 
     fn take(alloc: Global, header: &NetlinkHeader, payload: &[u8]) -> Result<Self, DecodeError> {
         SockDiagMessage::deserialize(alloc, header, payload)
+    }
+
+    fn free(self) {
+        free_message(self);
     }
 
     ghost laws = { messages_determine_items message_codec message_laws };
@@ -93,6 +135,12 @@ impl DumpEntry for Result<SockDiagMessage, DecodeError> {
         match SockDiagMessage::deserialize(alloc, header, payload) {
             Err(DecodeError::Memory) => Err(DecodeError::Memory),
             answer => Ok(answer),
+        }
+    }
+
+    fn free(self) {
+        if let Ok(message) = self {
+            free_message(message);
         }
     }
 

@@ -74,7 +74,6 @@ fn take_messages<I: DumpEntry>(
 }
 
 /// The reader of a dump: what it has kept of the messages, in order, and its state.
-#[derive(Drop)]
 pub(crate) struct GenericDump<I: DumpEntry> {
     alloc: Global,
     pub(crate) entries: Vec<I>,
@@ -94,6 +93,15 @@ pub(crate) struct GenericDump<I: DumpEntry> {
         (dump_with (map I.model entries.items) status interrupted) answer))) ∥₁ },
 }
 
+// Each entry is dropped by `free`, which reads less memory than the derived drop of an entry.
+impl<I: DumpEntry> Drop for GenericDump<I> {
+    fn drop(self) {
+        for entry in self.into_entries() {
+            entry.free();
+        }
+    }
+}
+
 impl<I: DumpEntry> GenericDump<I> {
     ghost use Rattle.netlink_packet_sock_diag.specs.DumpModel.{IsFull, generic_dump_progress};
     ghost use Rattle.netlink_packet_sock_diag.specs.declared.dump.DumpError.TheVariants.{Fault};
@@ -110,6 +118,19 @@ impl<I: DumpEntry> GenericDump<I> {
             status: (DumpState::Reading, None),
             interrupted: false,
         }
+    }
+
+    /// Returns what was kept of the messages, in order.
+    pub(crate) fn into_entries(self) -> Vec<I>
+        ensures { result ≡ self.entries }
+    {
+        let GenericDump {
+            alloc: _,
+            entries,
+            status: _,
+            interrupted: _,
+        } = self;
+        entries
     }
 
     /// Reads the messages of a datagram; see [`DumpReader::feed`](crate::DumpReader::feed).

@@ -77,7 +77,7 @@ impl LossyDump {
     pub fn into_entries(self) -> Vec<Result<SockDiagMessage, DecodeError>>
         ensures { result.items ≡ lossy_entries self }
     {
-        self.dump.entries
+        self.dump.into_entries()
     }
 
     /// Returns the state of the dump.

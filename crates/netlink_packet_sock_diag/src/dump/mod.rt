@@ -109,7 +109,7 @@ impl DumpReader {
     pub fn into_messages(self) -> Vec<SockDiagMessage>
         ensures { map message_model result.items ≡ (reader_progress self).messages }
     {
-        self.dump.entries
+        self.dump.into_entries()
     }
 
     /// Returns the state of the dump.

@@ -1,6 +1,9 @@
-use Rattle.std.proofs.Common.{arith}
-use Rattle.sock_diag_replies.proofs.Owning.{owned_error, owned_value, owned_wanted}
+use Rattle.std.proofs.Common.{ap, map, arith}
+use Rattle.sock_diag_replies.proofs.Owning.{empty_value, owned_error, owned_value}
+use Rattle.sock_diag_replies.proofs.Owning.{owned_wanted}
 use Rattle.sock_diag_replies.proofs.response.ReplyNlaParseableRefSliceU8.parse.Goals as goal
+use Rattle.sock_diag_replies.proofs.response.ReplyNlaParseableRefSliceU8.parse.Goals.{in-None}
+use Rattle.sock_diag_replies.proofs.response.ReplyNlaParseableRefSliceU8.parse.Goals.{in_default+else-is_err}
 
 pub returns-in_err-view-clause-error : goal.returns-in_err-view-clause-error
 returns-in_err-view-clause-error g c =
@@ -12,10 +15,20 @@ returns-then-is_err-clause-memory_needed g c = λ memory.
     owned_wanted g.H.Nla.FamilyNla.attribute_set c.in_ok-view.view g.met.H.ReplyOwned.same.1 _
     c.in_ok-view.ensures.kept (λ i. omega (arith, c.type_inv.payload i)) c.own_into.result _
     c.if-is_err.true c.is_err.ensures.value
-    (c.own_into.ensures.needs_no_memory c.new-nlas.ensures.capacity)
+    (c.own_into.ensures.needs_no_memory c.new-nlas-in_default.ensures.capacity)
 
 pub returns-clause-value : goal.returns-clause-value
 returns-clause-value g c =
-    owned_value g.H.Nla.FamilyNla.attribute_set c.in_ok-view.view g.met.H.ReplyOwned.same.1 _
-    c.in_ok-view.ensures.kept (λ i. omega (arith, c.type_inv.payload i)) c.own_into.result _
-    c.if-is_err.false c.is_err.ensures.value _ _ c.header.ensures c.own_into.ensures.equal
+    let F = g.H.Nla.FamilyNla.attribute_set in
+    let view = c.in_ok-view.view in
+    let kept = c.in_ok-view.ensures.kept in
+    elim c.match-LARGE_KIND.branch [
+      in-None w ↦ rw w.nlas-is (empty_value F view g.met.H.ReplyOwned.same.1 _ kept
+          (λ i. omega (arith, c.type_inv.payload i)) _ _ c.header.ensures
+          (ap (map g.H.Nla.FamilyNla.model) w.new-nlas.ensures.items)
+          (w.is_empty.ensures w.if-is_empty.true))
+    | in_default+else-is_err w ↦ rw w.nlas-is (owned_value F view g.met.H.ReplyOwned.same.1 _ kept
+          (λ i. omega (arith, c.type_inv.payload i)) w.own_into.result _
+          w.if-is_err.false w.is_err.ensures.value _ _ c.header.ensures
+          w.own_into.ensures.equal)
+    ]
