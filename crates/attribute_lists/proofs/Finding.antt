@@ -1,14 +1,19 @@
 -- The values that are found in bytes (`decoded_in`) are the values of the attributes that the bytes
 -- are split into.
 use Rattle.std.proofs.Common.{Result, Ok, Err, IsOk, ◌≡◌, ◌≢◌, ℕ, List, [], ◌∷◌, drop, inl, inr}
-use Rattle.std.proofs.Common.{◌↔◌, subst, refl, arith}
+use Rattle.std.proofs.Common.{◌↔◌, ◌≤◌, ◌<◌, subst, refl, ap, length, arith}
 use Rattle.std.proofs.lemmas.List.{append-nil}
+use Rattle.byteorder.specs.Endian.{little_number}
 use Rattle.netlink_core.specs.declared.error.DecodeError.{DecodeError}
+use Rattle.netlink_core.specs.declared.error.DecodeError.TheVariants.{AttributeHeaderCut}
+use Rattle.netlink_core.specs.declared.error.DecodeError.TheVariants.{AttributeLengthUnder4}
+use Rattle.netlink_core.specs.declared.error.DecodeError.TheVariants.{AttributeLengthPast}
 use Rattle.netlink_core.specs.Bytes.{IsBytes}
 use Rattle.netlink_core.specs.Attribute.{Attribute, StartsWithAttribute, IsFramingError}
 use Rattle.netlink_core.specs.Attribute.{DecodeTo, HasAttributeError}
 use Rattle.netlink_core.specs.AttributeSet.{decode_attribute}
 use Rattle.netlink_core.specs.Response.{ResponseSpec, response_codec}
+use Rattle.netlink_core.specs.laws.Prefix.{length_field_cases}
 use Rattle.netlink_core.proofs.TableLaws.{AreBytes-drop}
 use Rattle.netlink_core.proofs.Iterating.{StartsWithAttribute-nonempty, attribute_prefix_of_start}
 use Rattle.netlink_core.proofs.Iterating.{error_of_rest, error_of_first_attribute}
@@ -80,6 +85,26 @@ module _ {A : Type 0} (parses : Attribute → Result A DecodeError) where
       → IsFramingError bytes e → ⊥
   no_framing_error_in_attributes bytes e clean some f =
       clean.none e (error_of_first_attribute parses bytes e some (inl f))
+
+  -- so their length field counts a header, and at most all bytes
+  pub length_field_is_valid : (bytes : List ℕ) → HasNoAttributeError parses bytes
+      → 0 < length bytes
+      → (4 ≤ little_number 2 bytes) × (little_number 2 bytes ≤ length bytes)
+  length_field_is_valid bytes clean some =
+      let wrong = λ (e : DecodeError). no_framing_error_in_attributes bytes e clean
+      (λ none. omega (arith, some, ap length none)) in
+      elim (length_field_cases 4 (length bytes) (little_number 2 bytes)) [
+        | inl short ↦ absurd (wrong (AttributeHeaderCut (length bytes)) (refl, short))
+        | inr (inl under) ↦ absurd (wrong (AttributeLengthUnder4 (little_number 2 bytes)) (
+          refl,
+          under.0,
+          under.1,
+        ))
+        | inr (inr (inl past)) ↦ absurd (wrong
+            (AttributeLengthPast (little_number 2 bytes) (length bytes))
+            (refl, refl, past.0, past.1, past.2))
+        | inr (inr (inr there)) ↦ there
+      ]
 
   pub first_value_is_found : (bytes rest : List ℕ) (a : Attribute)
       → HasNoAttributeError parses bytes

@@ -122,10 +122,9 @@ pub fn next_view<'a, V: FamilyView<'a>>(walk: &mut NlasIterator<'a>) -> Option<V
         result walk.new }
     ensures rest { HasNoAttributeError (decode_attribute V.attribute_set) (unread_bytes walk.new) }
 {
-    match walk.next() {
+    match walk.next_accepted() {
         None => None,
-        Some(Err(_)) => unreachable!(),
-        Some(Ok(nla)) => Some(V::read_accepted(&nla)),
+        Some(nla) => Some(V::read_accepted(&nla)),
     }
 }
 

@@ -23,5 +23,6 @@ pub mod Equality
 pub mod ValueTests
 pub mod ErrorEquality
 pub mod Rewriting
+mod Walking
 mod CompleteIteration
 mod CompleteDatagram

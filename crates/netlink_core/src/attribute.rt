@@ -5,7 +5,8 @@
 //! little-endian.
 
 ghost use Rattle.std.specs.Prelude.{◌≡◌, ◌+◌, ◌/◌, ◌≤◌, ◌<◌, ◌^◌, ◌↔◌, length, IsTrue, IsBitSet};
-ghost use Rattle.std.specs.Prelude.{MatchResult, IfSome, None};
+ghost use Rattle.std.specs.Prelude.{MatchOption, MatchResult, IfSome, None, []};
+ghost use Rattle.byteorder.specs.Endian.{little_number};
 ghost use Rattle.netlink_core.specs.Attribute.{HasAttributePrefix, IsFramingError, padding_length};
 ghost use Rattle.netlink_core.specs.Attribute.{attribute_kind, attribute_bytes};
 
@@ -70,6 +71,24 @@ impl<'a> NlaBuffer<'a> {
             type_word: LittleEndian::read_u16(&bytes[2..]),
             value: &bytes[NLA_HEADER_SIZE..end],
         })
+    }
+
+    /// Returns the attribute that [`NlaBuffer::new_checked`] returns. Requires that it accepts the
+    /// bytes, whose length field is not tested again.
+    #[inline(always)]
+    pub fn new(bytes: &'a [u8]) -> NlaBuffer<'a>
+        // little_number 2 bytes: the length field.
+        requires at_least { 4 ≤ little_number 2 bytes.now }
+        requires at_most { little_number 2 bytes.now ≤ length bytes.now }
+        // HasAttributePrefix bytes a: the bytes begin with the attribute `a`.
+        ensures { HasAttributePrefix bytes.entry.now (buffered_attribute result) }
+    {
+        let length = LittleEndian::read_u16(bytes);
+        let end = length as usize;
+        NlaBuffer {
+            type_word: LittleEndian::read_u16(&bytes[2..]),
+            value: &bytes[NLA_HEADER_SIZE..end],
+        }
     }
 
     /// Returns the length field (`nla_len`): 4 plus the number of the value's bytes, without the
@@ -137,7 +156,8 @@ pub struct NlasIterator<'a> {
 }
 
 impl<'a> NlasIterator<'a> {
-    ghost use Rattle.netlink_core.specs.Walk.{unread_bytes};
+    ghost use Rattle.netlink_core.specs.Attribute.{StartsWithAttribute};
+    ghost use Rattle.netlink_core.specs.Walk.{buffered_attribute, unread_bytes};
 
     /// Returns an iterator over the attributes in the bytes.
     pub fn new(bytes: &'a [u8]) -> NlasIterator<'a>
@@ -145,6 +165,31 @@ impl<'a> NlasIterator<'a> {
         ensures { unread_bytes result ≡ bytes.entry.now }
     {
         NlasIterator { bytes, at: 0 }
+    }
+
+    /// Returns the attribute at the start of the bytes that are left, and continues after its
+    /// padding. Returns `None` if and only if no bytes were left. Requires that
+    /// [`NlaBuffer::new_checked`] accepts these bytes, whose length field is not tested again.
+    #[inline(always)]
+    #[tactic(auto, using(crate::proofs::Walking::length_field_at, crate::proofs::Walking::starts_with_attribute_at))]
+    pub fn next_accepted(&mut self) -> Option<NlaBuffer<'a>>
+        // little_number 2 bytes: the length field.
+        requires at_least { 0 < length (unread_bytes self.old)
+            → 4 ≤ little_number 2 (unread_bytes self.old) }
+        requires at_most { 0 < length (unread_bytes self.old)
+            → little_number 2 (unread_bytes self.old) ≤ length (unread_bytes self.old) }
+        // StartsWithAttribute left a later: `left` is the attribute `a`, its padding, and `later`.
+        ensures { MatchOption result ((unread_bytes self.old ≡ []) × (unread_bytes self.new ≡ []))
+            (λ nla. StartsWithAttribute (unread_bytes self.old) (buffered_attribute nla)
+            (unread_bytes self.new)) }
+    {
+        if self.bytes.len() <= self.at {
+            return None;
+        }
+        let nla = NlaBuffer::new(&self.bytes[self.at..]);
+        let length = nla.length() as usize;
+        self.at += padded(length);
+        Some(nla)
     }
 }
 

@@ -1,6 +1,7 @@
 //! The attributes of the replies of sock_diag(7).
 #![tactic(auto)]
 
+mod accepted;
 mod borrowed;
 pub mod inet;
 pub mod laws;

@@ -82,6 +82,16 @@ impl<'a> NumbersView<'a> {
         Ok(NumbersView { bytes })
     }
 
+    // Returns a view of the numbers in the bytes, which are not tested: their length has to be a
+    // multiple of four.
+    #[inline(always)]
+    pub(crate) fn new(bytes: &'a [u8]) -> NumbersView<'a>
+        requires { IsOk (numbers_value.parses tt bytes.now) }
+        ensures { numbers_value.parses tt bytes.entry.now ≡ Ok (numbers_view_model result) }
+    {
+        NumbersView { bytes }
+    }
+
     /// Returns the count of numbers.
     #[tactic(auto, using(crate::specs::laws::Number::count_of_numbers_in))]
     pub fn len(&self) -> usize

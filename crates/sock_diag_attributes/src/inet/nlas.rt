@@ -7,6 +7,7 @@ ghost use Rattle.netlink_core.specs.AttributeSet.{NeedsNoMemoryIn, IsInRangeIn};
 ghost use Rattle.netlink_core.specs.Walk.{buffered_attribute};
 ghost use Rattle.sock_diag_attributes.specs.private.Value.{value_bytes, IsValueInRange};
 
+use crate::accepted::{accepted_record, accepted_str, accepted_u8, accepted_u32};
 use crate::borrowed::OtherNla;
 use crate::numbers::{exact_flag, exact_u8, exact_u32};
 use crate::value::Value;
@@ -238,17 +239,29 @@ impl<'a> NlaView<'a> {
         })
     }
 
-    /// Returns the view that [`NlaView::parse`] returns. Requires that it accepts the attribute.
+    /// Returns the view that [`NlaView::parse`] returns. Requires that it accepts the attribute. No
+    /// length is tested again.
     #[inline(always)]
     pub fn new(nla: &NlaBuffer<'a>) -> NlaView<'a>
         requires { IsOk (decode_attribute inet_attribute_set (buffered_attribute nla.now)) }
         ensures { decode_attribute inet_attribute_set (buffered_attribute nla.now)
             ≡ Ok (inet_nla_view_model result) }
     {
-        let Ok(view) = NlaView::parse(nla) else {
-            unreachable!();
-        };
-        view
+        let value = nla.value();
+        match nla.kind() {
+            INET_DIAG_MEMINFO => NlaView::LegacyMemInfo(accepted_record(value)),
+            INET_DIAG_INFO => NlaView::TcpInfo(accepted_record(value)),
+            INET_DIAG_CONG => NlaView::Congestion(accepted_str(value)),
+            INET_DIAG_TOS => NlaView::Tos(accepted_u8(INET_DIAG_TOS, value)),
+            INET_DIAG_TCLASS => NlaView::Tc(accepted_u8(INET_DIAG_TCLASS, value)),
+            INET_DIAG_SKMEMINFO => NlaView::MemInfo(accepted_record(value)),
+            INET_DIAG_SHUTDOWN => NlaView::Shutdown(accepted_u8(INET_DIAG_SHUTDOWN, value)),
+            INET_DIAG_PROTOCOL => NlaView::Protocol(accepted_u8(INET_DIAG_PROTOCOL, value)),
+            INET_DIAG_SKV6ONLY => NlaView::SkV6Only(accepted_u8(INET_DIAG_SKV6ONLY, value) != 0),
+            INET_DIAG_MARK => NlaView::Mark(accepted_u32(INET_DIAG_MARK, value)),
+            INET_DIAG_CLASS_ID => NlaView::ClassId(accepted_u32(INET_DIAG_CLASS_ID, value)),
+            _ => NlaView::Other(*nla),
+        }
     }
 
     /// Returns the attribute with an owned text and owned bytes: of the same kind, with an equal

@@ -7,6 +7,7 @@ ghost use Rattle.netlink_core.specs.AttributeSet.{NeedsNoMemoryIn, IsInRangeIn};
 ghost use Rattle.netlink_core.specs.Walk.{buffered_attribute};
 ghost use Rattle.sock_diag_attributes.specs.private.Value.{value_bytes, IsValueInRange};
 
+use crate::accepted::{accepted_record, accepted_u8, accepted_u32, accepted_u32_pair};
 use crate::borrowed::{BorrowName, BorrowNumbers, OtherNla};
 pub use crate::numbers::{NumbersIterator, NumbersView};
 use crate::numbers::{exact_u8, exact_u32, exact_u32_pair};
@@ -217,21 +218,28 @@ impl<'a> NlaView<'a> {
         })
     }
 
-    /// Returns the view that [`NlaView::parse`] returns. Requires that it accepts the attribute. A
-    /// name is not searched for zeros again.
+    /// Returns the view that [`NlaView::parse`] returns. Requires that it accepts the attribute. No
+    /// length is tested again, and a name is not searched for zeros again.
     #[inline(always)]
     pub fn new(nla: &NlaBuffer<'a>) -> NlaView<'a>
         requires { IsOk (decode_attribute unix_attribute_set (buffered_attribute nla.now)) }
         ensures { decode_attribute unix_attribute_set (buffered_attribute nla.now)
             ≡ Ok (unix_nla_view_model result) }
     {
-        if nla.kind() == UNIX_DIAG_NAME {
-            return NlaView::Name(NameView::new(nla.value()));
+        let value = nla.value();
+        match nla.kind() {
+            UNIX_DIAG_NAME => NlaView::Name(NameView::new(value)),
+            UNIX_DIAG_VFS => NlaView::Vfs(accepted_record(value)),
+            UNIX_DIAG_PEER => NlaView::Peer(accepted_u32(UNIX_DIAG_PEER, value)),
+            UNIX_DIAG_ICONS => NlaView::PendingConnections(NumbersView::new(value)),
+            UNIX_DIAG_RQLEN => {
+                let (first, second) = accepted_u32_pair(UNIX_DIAG_RQLEN, value);
+                NlaView::ReceiveQueueLength(first, second)
+            }
+            UNIX_DIAG_MEMINFO => NlaView::MemInfo(accepted_record(value)),
+            UNIX_DIAG_SHUTDOWN => NlaView::Shutdown(accepted_u8(UNIX_DIAG_SHUTDOWN, value)),
+            _ => NlaView::Other(*nla),
         }
-        let Ok(view) = NlaView::parse(nla) else {
-            unreachable!();
-        };
-        view
     }
 
     /// Returns the attribute with an owned name, owned numbers and owned bytes: of the same kind,

@@ -195,7 +195,9 @@ impl Record for TcpInfo {
         TCP_INFO_LEN
     }
 
+    // Inlined, so that fields that the caller does not use are not read.
     #[tactic(auto, unfolding(crate::specs::TcpInfo::tcp_info))]
+    #[inline(always)]
     fn from_fields(payload: &[u8], _param: ()) -> Result<Self, DecodeError> {
         let states = array_at::<8>(payload, 0);
         let counts = u32s_at::<9>(payload, 8);

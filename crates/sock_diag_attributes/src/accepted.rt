@@ -1,0 +1,73 @@
+//! Values of attributes that are known to be accepted: they are read without another test.
+
+ghost use Rattle.std.specs.Prelude.{◌≡◌, Ok, IsOk, Some};
+ghost use Rattle.netlink_core.specs.Layout.{parse_record};
+ghost use Rattle.netlink_core.specs.Parse.{number_of_width, parse_text};
+ghost use Rattle.sock_diag_attributes.specs.Numbers.{number_pair_value};
+
+use byteorder::{ByteOrder, LittleEndian};
+use netlink_core::{Record, parse_str};
+
+/// Returns the number in one byte. Requires that the value has exactly one byte.
+#[inline(always)]
+pub(crate) fn accepted_u8(_kind: u16, value: &[u8]) -> u8
+    // number_of_width (Some kind) width bytes: `Ok` of the little-endian number, or `Err` of the
+    // error of another length, which contains the kind.
+    requires { IsOk (number_of_width (Some _kind) 1 value.now) }
+    ensures { number_of_width (Some _kind) 1 value.now ≡ Ok result }
+{
+    value[0]
+}
+
+/// Returns the little-endian number in four bytes. Requires that the value has exactly four bytes.
+#[inline(always)]
+pub(crate) fn accepted_u32(_kind: u16, value: &[u8]) -> u32
+    requires { IsOk (number_of_width (Some _kind) 4 value.now) }
+    ensures { number_of_width (Some _kind) 4 value.now ≡ Ok result }
+{
+    LittleEndian::read_u32(value)
+}
+
+/// Returns the two little-endian numbers in eight bytes. Requires that the value has exactly eight
+/// bytes.
+#[inline(always)]
+pub(crate) fn accepted_u32_pair(_kind: u16, value: &[u8]) -> (u32, u32)
+    requires { IsOk ((number_pair_value _kind).parses tt value.now) }
+    ensures { (number_pair_value _kind).parses tt value.now ≡ Ok result }
+{
+    let (first, second) = value.split_at(4);
+    (
+        LittleEndian::read_u32(first),
+        LittleEndian::read_u32(second),
+    )
+}
+
+/// Returns the record at the start of the bytes. Requires that it is accepted.
+#[inline(always)]
+#[tactic(auto, using(netlink_core::proofs::LayoutLaws::parsed_by_fields))]
+pub(crate) fn accepted_record<T: Record<Param = ()>>(bytes: &[u8]) -> T
+    // parse_record layout param bytes: `Ok` of the value, or `Err` of the first error.
+    requires { IsOk (parse_record T.layout tt bytes.now) }
+    ensures { parse_record T.layout tt bytes.now ≡ Ok result }
+{
+    match T::from_fields(bytes, ()) {
+        Ok(record) => record,
+        Err(_) => unreachable!(),
+    }
+}
+
+/// Returns the text in the bytes, without one terminating NUL if there is one. Requires that the
+/// text is valid UTF-8.
+// It is tested again, since only the test makes a `str` of bytes. In the impossible case the text
+// is empty, and not `unreachable!`: so the compiler can remove the test if the text is not used.
+#[inline(always)]
+pub(crate) fn accepted_str(bytes: &[u8]) -> &str
+    // parse_text bytes: `Ok` of the bytes of the text, or `Err NotUtf8`.
+    requires { IsOk (parse_text bytes.now) }
+    ensures { parse_text bytes.entry.now ≡ Ok result.now }
+{
+    match parse_str(bytes) {
+        Ok(text) => text,
+        Err(_) => "",
+    }
+}
