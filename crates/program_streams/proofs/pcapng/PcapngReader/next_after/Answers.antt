@@ -38,7 +38,8 @@ returns-in_err-advance-clause-stopped g c =
       read,
       inr (inl (
         omega (arith, c.requires, length-append head rest),
-        has_frame-append (position_of c.args.self.now) head rest (omega (arith, c.requires)) (c.in_ok-order.order, frame),
+        has_frame-append (position_of c.args.self.now) head rest (omega (arith, c.requires))
+            (c.in_ok-order.order, frame),
         p.2,
       )),
     )
