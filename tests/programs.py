@@ -118,6 +118,7 @@ def caption(name):
 def test_sslist(program):
     capture, table = CAPTURE.read_bytes(), (CRATES / "sslist/stdout").read_bytes()
     note, missing = b"sslist: .*packet 12, message 1: .*\n", b"sslist: /nowhere: .*\n"
+    wrong = b"sslist: %s %s; try sslist --help\n"
     unknown = b"sslist: unknown option %s; try sslist --help\n"
     no_family = b"sslist: -f without a family; try sslist --help\n"
     no_text = b"sslist: argument is not valid UTF-8\n"
@@ -132,9 +133,10 @@ def test_sslist(program):
         (["/nowhere", CAPTURE], 1, captioned, missing + note),
         (["/\x1b[1m\\"], 1, b"", rb"sslist: /\\x1b\[1m\\x5c: .*\n"),
         (["-\x1bt"], 2, b"", unknown % rb"-\\x1bt"), (["-tf"], 2, b"", no_family),
-        (["-f", "-x"], 2, b"", unknown % b"-x"), (["-ft", "unix"], 2, b"", unknown % b"-ft"),
-        (["-f", "all"], 2, b"", b"sslist: unknown family all; try sslist --help\n"),
-        (["--family=ip", "-h"], 2, b"", unknown % b"--family=ip"),
+        (["-f", "-x"], 2, b"", wrong % (b"unknown family", b"-x")),
+        (["-ft", "unix"], 2, b"", unknown % b"-ft"),
+        (["-f", "all"], 2, b"", wrong % (b"unknown family", b"all")),
+        (["--family=ip", "-h"], 2, b"", wrong % (b"unknown family in", b"--family=ip")),
         (["-q", CAPTURE], 2, b"", unknown % b"-q"),
         (["-t", "--no", "--help"], 2, b"", unknown % b"--no"),
         ([CAPTURE, "--version"], 0, b"sslist " + VERSION, b""),
@@ -146,7 +148,8 @@ def test_sslist(program):
     for arguments in ([], ["-"], ["--", "-"], ["-n", "--"]):
         check(program, arguments, capture, 0, table, note)
     check(program, ["-", CAPTURE], capture, 0, caption("-") + table + captioned, note * 2)
-    check_failed_writes(program, [], capture, b"", b"sslist: writing failed\n")
+    failed = b"sslist: writing to standard output failed\n"
+    check_failed_writes(program, [], capture, b"", failed)
     check_failed_writes(program, ["--help"], b"", b"", b"")
 
 
@@ -247,15 +250,50 @@ def test_diagnostics(program):
     expected = "".join(f"sslist: {line}\n" for line in lines).encode()
     got = run(program, [], file_header + packets)
     assert got == (1, heading, expected), got
+    check_explanations(program, file_header, heading, errno)
     notes = [packet(errno[n], 0, kind) for n in (2, 22) for kind in (2, 3)]
     errors = b"(sslist: packet [1-4], message 1: note: .*\n){4}"
     check(program, [], file_header + b"".join(notes), 0, heading, errors)
     for given, text in [
         (b"\1\2\x0a\xff" + bytes(20), b"not a pcap capture: it begins with 01020aff"),
+        (b"\1\2\x0a\xff", b"not a pcap capture: it begins with 01020aff"),
+        (b"hi\n", b"not a pcap capture: it has fewer than 4 bytes"),
+        (b"\x1f\x8b\x08\0" + bytes(9), b"gzip is not supported; try gzip -dc CAPTURE"),
+        (file_header[:4], b"the capture is truncated"),
+        (file_header[:23], b"the capture is truncated"),
         (b"", b"the input is empty"),
         (b"\x0a\x0d\x0d\x0a" + bytes(20), b"unknown byte order of the section at offset 0"),
     ]:
         check(program, [], given, 1, b"", re.escape(b"sslist: " + text + b"\n"))
+
+
+def attribute(kind, value):
+    """Returns an attribute with its padding."""
+    size = (4 + len(value)).to_bytes(2, "little")
+    return size + kind.to_bytes(2, "little") + bytes(value) + bytes(-len(value) % 4)
+
+
+def check_explanations(program, file_header, heading, errno):
+    """Checks the lines about errors with the attributes of an extended acknowledgement
+    (NLM_F_ACK_TLVS, 512), after a whole request or after its header (NLM_F_CAPPED, 256)."""
+    text = attribute(1, b"No such attribute\x1b\0")
+    offset = attribute(2, (36).to_bytes(4, "little"))
+    request, shown = message(bytes(6)), ": No such attribute\\x1b"
+    padding = bytes(-len(request) % 4)
+    answered = "note: the kernel returned EINVAL"
+    for body, flags, kind, expected in [
+        (errno[22] + request + padding + text + offset, 512, 2, f"{answered}{shown} (offset 36)"),
+        (errno[22] + request[:16] + offset, 768, 2, f"{answered} (offset 36)"),
+        (errno[22] + request[:16] + text, 768, 2, answered + shown),
+        (errno[22] + request + padding + text + offset, 0, 2, answered),
+        (errno[22] + request[:16] + text + offset, 512, 2, answered),
+        (errno[22] + text + offset, 512, 3, f"{answered}{shown} (offset 36)"),
+        (errno[13] + text, 512, 3, f"the kernel returned error 13{shown}"),
+    ]:
+        status = 1 if "error 13" in expected else 0
+        line = f"sslist: packet 1, message 1: {expected}\n".encode()
+        given = file_header + packet(body, flags, kind)
+        check(program, [], given, status, heading, re.escape(line))
 
 
 def test_pcapng(program):
@@ -278,7 +316,8 @@ def test_pcapng(program):
     for length in range(1, 600):
         ended, printed, why = run(program, [], written[:length])
         assert ended in (0, 1) and table.startswith(printed), length
-        assert bool(ended) == bool(why) and (not ended or b" truncated\n" in why), (length, why)
+        text = b" fewer than 4 bytes\n" if length < 4 else b" truncated\n"
+        assert bool(ended) == bool(why) and (not ended or text in why), (length, why)
     long = pcapng.block("<", pcapng.UNKNOWN, bytes((1 << 24) - 12))
     start = len(pcapng.section("<"))
     check(program, [], written[:start] + long + written[start:], status, table, re.escape(errors))
@@ -466,9 +505,10 @@ def check_ports(program, capture, heading, rows, errors):
                 chosen.append(row)
         assert 0 < len(chosen) < len(rows), arguments
         check(program, ["-O", *arguments], capture, 0, heading + b"".join(chosen), errors)
-    for word in ("--sport=", "--sport=65536", "--dport=ssh", "--dport=1-2", "--state=open"):
-        unknown = f"sslist: unknown option {word}; try sslist --help\n".encode()
-        check(program, [word, "-h"], capture, 2, b"", unknown)
+    for word in ("--sport=", "--sport=65536", "--dport=ssh", "--dport=1-2", "--state=LISTEN"):
+        wrong = "unknown state in" if word.startswith("--state") else "invalid port in"
+        text = f"sslist: {wrong} {word}; try sslist --help\n".encode()
+        check(program, [word, "-h"], capture, 2, b"", text)
 
 
 def columns_of(line):
@@ -567,6 +607,62 @@ def test_json(program):
     assert example in lines, "the example of docs/JSON.md"
 
 
+def test_newer_details(program):
+    """Compares the details and the members of JSON for the upper layer protocol of a TCP socket,
+    for its MD5 keys, and for the user id of packet and XDP sockets, with values that are worked out
+    by hand."""
+    def little(count, number):
+        return number.to_bytes(count, "little")
+
+    tls = attribute(1, little(2, 0x304)) + attribute(2, little(2, 51)) + attribute(5, b"")
+    tls += attribute(3, little(2, 2)) + attribute(4, little(2, 9)) + attribute(6, b"")
+    subflow = attribute(8, little(4, 0x141)) + attribute(1, little(4, 0x6A7F01C2))
+    subflow += attribute(2, little(4, 0x53B9E4D0)) + attribute(9, b"\0") + attribute(10, b"\2")
+    subflow += attribute(4, little(8, 0x1234)) + attribute(5, little(4, 17))
+    subflow += attribute(7, little(2, 255)) + attribute(6, b"\1")
+    key = bytes([2, 24]) + little(2, 6) + bytes([192, 0, 2, 0]) + bytes(12) + b"a, b=c" + bytes(74)
+    key6 = bytes([10, 64]) + little(2, 3) + bytes.fromhex("20010db8") + bytes(11) + b"\1" + b"xyz"
+    key6, key0 = key6 + bytes(77), bytes(100)
+    members = {"name": "tls", "tls": {"version": 0x304, "cipher": 51, "txconf": 2, "rxconf": 9,
+        "zc_ro_tx": True, "rx_no_pad": True}}
+    flow = {"token_rem": 0x6A7F01C2, "token_loc": 0x53B9E4D0, "map_seq": 0x1234, "map_sfseq": 17,
+        "map_datalen": 255, "flags": 0x141, "id_rem": 0, "id_loc": 2}
+    keys = [
+        {"family": 2, "prefixlen": 24, "keylen": 6, "addr": "192.0.2.0", "key": "612c20623d63"},
+        {"family": 10, "prefixlen": 64, "keylen": 3, "addr": "2001:db8::1", "key": "78797a"},
+        {"family": 0, "prefixlen": 0, "keylen": 0, "key": ""},
+    ]
+    rejected = [{"kind": 19, "length": 8}]
+    inet = [2, 1, *bytes(70)]
+    for head, value, shown, expected in [
+        (inet, attribute(19, attribute(1, b"tls\0") + attribute(2, tls)),
+            " tcp-ulp-tls version:1.3 cipher:aes-gcm-128 rxconf:9 txconf:sw zc_ro_tx no_pad_rx",
+            {"ulp_info": members}),
+        (inet, attribute(19, attribute(1, b"mptcp\0") + attribute(3, subflow)),
+            " tcp-ulp-mptcp flags:Mev token:6a7f01c2(id:0)/53b9e4d0(id:2) seq:1234 sfseq:11 "
+            "maplen:ff", {"ulp_info": {"name": "mptcp", "mptcp": flow}}),
+        (inet, attribute(19, attribute(1, b"x y")), r" tcp-ulp-x\x20y",
+            {"ulp_info": {"name": "x y"}}),
+        (inet, attribute(19, attribute(1, b"\xff")), " unknown:(19,8)",
+            {"other_attributes": rejected}),
+        (inet, attribute(18, key + key6 + key0),
+            r" md5keys:192.0.2.0/24=a\x2c\x20b=c,2001:db8::1/64=xyz,*/0=", {"md5sig": keys}),
+        (inet, attribute(18, key + b"1234"), " unknown:(18,104)",
+            {"other_attributes": [{"kind": 18, "length": 104}]}),
+        ([17, 3, *bytes(14)], attribute(5, little(4, 1000)), " uid:1000", {"uid": 1000}),
+        ([44, *bytes(15)], attribute(2, little(4, 7)) + attribute(1, bytes(8)), " uid:7",
+            {"uid": 7, "info": {"ifindex": 0, "queue_id": 0}}),
+    ]:
+        given = CAPTURE.read_bytes()[:24] + packet([*head, *value])
+        row = run(program, ["-OH"], given)[1].decode()
+        if not re.search(re.escape(shown) + "[ \n]", row):
+            failures.append(f"{program}: {row}, expected {shown}")
+        line = json.loads(run(program, ["--json"], given)[1])
+        found = {it: line.get(it) for it in expected}
+        if found != expected:
+            failures.append(f"{program} --json: {found}, expected {expected}")
+
+
 def dict_of_pairs(pairs):
     """Returns the dictionary of the members of an object, whose names have to differ."""
     assert len(dict(pairs)) == len(pairs), pairs
@@ -611,6 +707,7 @@ if __name__ == "__main__":
     test_diagnostics(sslist)
     test_pcapng(sslist)
     test_json(sslist)
+    test_newer_details(sslist)
     test_long_inputs(sslist)
     test_unreadable_file(sslist)
     test_early_check(sslist)

@@ -4,11 +4,11 @@ use Rattle.std.proofs.Common.{ap, subst, ◌∙◌, append-nil, arith}
 use Rattle.std.specs.Prelude.{Option}
 use Rattle.std.specs.Io.KnownBytes.{Consumes}
 use Rattle.std.proofs.KnownBytes.{Consumes-trans}
-use Rattle.program_streams.specs.Capture.{IsPacketStop, IsEarlyReadStop}
+use Rattle.program_streams.specs.Capture.{IsPacketStop}
 use Rattle.program_streams.specs.private.Capture.{IsReadStop}
 use Rattle.program_streams.specs.Capture.{number_at_offset}
 use Rattle.program_streams.specs.declared.captures.CaptureError.{CaptureError}
-use Rattle.program_streams.specs.declared.captures.CaptureError.TheVariants.{Memory, Truncated}
+use Rattle.program_streams.specs.declared.captures.CaptureError.TheVariants.{Memory}
 use Rattle.program_streams.specs.declared.captures.FileHeader.{FileHeader}
 
 stop_within_packet : (file : FileHeader) (left : Option (List ℕ)) (failed : Type 0)
@@ -18,13 +18,6 @@ stop_within_packet : (file : FileHeader) (left : Option (List ℕ)) (failed : Ty
     → IsReadStop left failed e
     → IsPacketStop file left failed (header ++ part) e
 stop_within_packet file left failed header part e long short stop =
-    grind arith
-
--- A stop within the file header is one of its reasons to stop.
-pub start_stops : (left : Option (List ℕ)) (failed : Type 0) (part : List ℕ) (e : CaptureError)
-    → (e ≡ Truncated → 0 < length part) → IsReadStop left failed e
-    → IsEarlyReadStop left failed part e
-start_stops left failed part e some stop =
     grind arith
 
 -- A stop after a packet header, while its packet is read, is a reason why no packet was read.

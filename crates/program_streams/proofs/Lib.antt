@@ -3,3 +3,4 @@ pub mod LineRunLemmas
 pub mod InputEnds
 pub mod PcapngLemmas
 pub mod ReaderLemmas
+pub mod HexText

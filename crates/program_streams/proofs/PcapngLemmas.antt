@@ -24,6 +24,7 @@ use Rattle.program_streams.specs.declared.pcapng.Content.TheVariants.{SectionHea
 use Rattle.program_streams.specs.declared.pcapng.PacketSlot.{PacketSlot}
 use Rattle.program_streams.specs.private.Capture.{IsReadStop}
 use Rattle.program_streams.specs.private.Pcapng.{IsStopAfterHead, MovesOver}
+use Rattle.program_streams.specs.Pcapng.{HasFrame}
 use Rattle.program_streams.specs.Pcapng.{AreSkipped, IsBlock, IsBlockStop, IsFramed, IsInputStop}
 use Rattle.program_streams.specs.Pcapng.{IsNoPacket, Position, after_block, unit_in_option}
 use Rattle.program_streams.specs.Pcapng.{content_of, frame_of, is_section_header, option_size}
@@ -66,6 +67,11 @@ pub frame_of-append : (p : Position) (a b : List ℕ) → 12 ≤ length a
 frame_of-append p a b long =
     ap (order_or_error p (a ++ b)) (order_of_block-append p.order a b long)
     ∙ order_or_error-append p a b (order_of_block p.order a) long
+
+-- Bytes after the first 12 do not change the frame.
+pub has_frame-append : (p : Position) (a b : List ℕ) → 12 ≤ length a → HasFrame p a
+    → HasFrame p (a ++ b)
+has_frame-append p a b long frame = (frame.0, frame_of-append p a b long ∙ frame.1)
 
 -- ---- the options of an interface
 
@@ -198,7 +204,11 @@ stop_after_head p left failed head part e long stop = elim stop [
     omega (arith, length-append head part, s.1),
     frame_of-append p head part (omega arith) ∙ s.0,
   )))
-  | inr (inl s) ↦ inr (inl (omega (arith, length-append head part), s))
+  | inr (inl s) ↦ inr (inl (
+    omega (arith, length-append head part),
+    has_frame-append p head part (omega arith) s.0,
+    s.1,
+  ))
   | inr (inr (order, ok, short, s)) ↦ inl (
     inr (
       order,

@@ -1,12 +1,15 @@
 -- Lemmas about the state of a reader of captures.
-use Rattle.std.proofs.Common.{◌≡◌, ◌⊎◌, inl, inr, ℕ, ◌<◌, List, [], ◌++◌, length, refl, arith}
+use Rattle.std.proofs.Common.{◌≡◌, ◌⊎◌, inl, inr, ℕ, ◌<◌, ◌≤◌, List, [], ◌++◌, length, refl, arith}
 use Rattle.std.proofs.Common.{false, length-append}
 use Rattle.std.specs.Prelude.{Option}
-use Rattle.program_streams.proofs.PcapngLemmas.{is_section_header-append}
-use Rattle.program_streams.specs.Capture.{IsEarlyReadStop, IsFileHeaderError, IsPacketStop}
+use Rattle.program_streams.proofs.PcapngLemmas.{is_section_header-append, number_at_offset-append}
+use Rattle.program_streams.specs.Capture.{IsFileHeaderError, IsPacketStop}
+use Rattle.program_streams.specs.private.Capture.{IsReadStop}
 use Rattle.program_streams.specs.Pcapng.{IsBlockStop, IsInputStop, Position, is_section_header}
-use Rattle.program_streams.specs.Reader.{CaptureState, IsCaptureEnd, IsCaptureStartStop}
-use Rattle.program_streams.specs.Reader.{IsCaptureStop, in_pcap, in_pcapng}
+use Rattle.program_streams.specs.Reader.{CaptureState, HasMagic, IsCaptureEnd}
+use Rattle.program_streams.specs.Reader.{IsCaptureStartStop, IsCaptureStop, IsEarlyReadStop}
+use Rattle.program_streams.specs.Reader.{in_pcap, in_pcapng}
+use Rattle.program_streams.specs.declared.captures.ByteOrder.TheVariants.{BigEndian, LittleEndian}
 use Rattle.program_streams.specs.declared.captures.CaptureError.{CaptureError}
 use Rattle.program_streams.specs.declared.captures.CaptureError.TheVariants.{Memory, PacketTooLong}
 use Rattle.program_streams.specs.declared.captures.CaptureError.TheVariants.{Read, Truncated}
@@ -68,17 +71,40 @@ stopped_for_either (in_pcapng p) left A B part e h = record {
   stopped = block_stop_for_either h.mid left A B h.rest e h.stopped;
 }
 
+-- Bytes after the first four do not change the magic number.
+magic-append : (a b : List ℕ) → 4 ≤ length a → HasMagic a → HasMagic (a ++ b)
+magic-append a b long found =
+    rw (
+      number_at_offset-append BigEndian 4 0 a b long,
+      number_at_offset-append LittleEndian 4 0 a b long,
+    ) found
+
+-- A stop within the header of a capture, after its magic number, is one of its reasons to stop.
+pub early_stop : (left : Option (List ℕ)) (failed : Type 0) (head part : List ℕ) (e : CaptureError)
+    → 4 ≤ length head → HasMagic head → IsReadStop left failed e
+    → IsEarlyReadStop left failed (head ++ part) e
+early_stop left failed head part Truncated long found stop = (
+  omega (arith, length-append head part, long),
+  magic-append head part long found,
+  stop,
+)
+early_stop left failed head part (Read error) long found stop = stop
+early_stop left failed head part _ long found stop = absurd stop
+
 -- A stop within the file header of a pcap file, after its first 12 bytes, or an invalid one, is a
 -- reason why the capture could not be opened.
 pub pcap_stop : (left : Option (List ℕ)) (failed : Type 0) (head part : List ℕ) (e : CaptureError)
-    → length head ≡ 12 → is_section_header head ≡ false
-    → ((length part < 12) × IsEarlyReadStop left failed (head ++ part) e)
+    → length head ≡ 12 → HasMagic head → is_section_header head ≡ false
+    → ((length part < 12) × IsReadStop left failed e)
     ⊎ ((length part ≡ 12) × IsFileHeaderError (head ++ part) e)
     → IsCaptureStartStop left failed (head ++ part) e
-pcap_stop left failed head part e long other stop =
+pcap_stop left failed head part e long found other stop =
     let same = is_section_header-append head part (omega arith) in
     let joined = length-append head part in
     elim stop [
-      | inl s ↦ inl (omega (arith, joined, s.0), s.1)
+      | inl s ↦ inl (
+        omega (arith, joined, s.0),
+        early_stop left failed head part e (omega (arith, long)) found s.1,
+      )
       | inr s ↦ inr (inl (omega (arith, joined, s.0), λ is. absurd (cc (same, other, is)), s.1))
     ]

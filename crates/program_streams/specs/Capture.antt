@@ -1,6 +1,6 @@
 -- Captures of netlink traffic in the classic pcap format. Numbers in headers are in the byte order
 -- of the file.
-use Rattle.std.specs.Prelude.{◌≡◌, ◌≢◌, ℕ, ◌/◌, ◌%◌, ◌^◌, ◌<◌, ◌≤◌, ◌⊎◌, List, [], ◌++◌, length}
+use Rattle.std.specs.Prelude.{◌≡◌, ◌≢◌, ℕ, ◌/◌, ◌%◌, ◌^◌, ◌<◌, ◌≤◌, ◌⊎◌, List, ◌++◌, length}
 use Rattle.std.specs.Prelude.{drop, Option, ◌==◌, if◌then◌else◌}
 use Rattle.std.specs.Io.KnownBytes.{IsAtEnd}
 use Rattle.byteorder.specs.Endian.{big_number, little_number}
@@ -8,7 +8,7 @@ use Rattle.program_streams.specs.declared.captures.ByteOrder.{ByteOrder}
 use Rattle.program_streams.specs.declared.captures.ByteOrder.TheVariants.{LittleEndian, BigEndian}
 use Rattle.program_streams.specs.declared.captures.CaptureError.{CaptureError}
 use Rattle.program_streams.specs.declared.captures.CaptureError.TheVariants.{Read, Memory}
-use Rattle.program_streams.specs.declared.captures.CaptureError.TheVariants.{Truncated, Empty}
+use Rattle.program_streams.specs.declared.captures.CaptureError.TheVariants.{Truncated}
 use Rattle.program_streams.specs.declared.captures.CaptureError.TheVariants.{NoCapture, Packed}
 use Rattle.program_streams.specs.declared.captures.CaptureError.TheVariants.{OtherVersion}
 use Rattle.program_streams.specs.declared.captures.CaptureError.TheVariants.{OtherLinkType}
@@ -113,16 +113,6 @@ pub record IsPacketRecord (file : FileHeader) (header : List ℕ)
 
 -- ---- states of the input when reading stops
 
--- `IsEarlyReadStop left failed part e`: `e` is the reason why reading stopped before the file
--- header was complete, after the bytes `part`. The input is at its end, without a byte (Empty) or
--- after at least one (Truncated), or a read failed (Read). `left` are the remaining bytes, if
--- known. `failed` states that a read failed.
-abbrev pub IsEarlyReadStop : Option (List ℕ) → Type 0 → List ℕ → CaptureError → Type 0
-IsEarlyReadStop left failed part Empty = (part ≡ []) × IsAtEnd left
-IsEarlyReadStop left failed part Truncated = (0 < length part) × IsAtEnd left
-IsEarlyReadStop left failed part (Read error) = failed
-IsEarlyReadStop left failed part _ = ⊥
-
 -- `part` is a proper prefix of a packet with its packet header: fewer than 16 bytes, or a packet
 -- header of 16 bytes and fewer bytes than its captured length, which is at 8.
 abbrev pub IsPartOfPacket : FileHeader → List ℕ → Type 0
@@ -131,11 +121,12 @@ IsPartOfPacket file part =
     ⊎ ((header : List ℕ) × (front : List ℕ) × (part ≡ header ++ front) × (length header ≡ 16)
     × (length front < number_at_offset file.order 4 8 header))
 
--- `IsPacketStop file left failed part e`: `e` is the reason why no packet was read. `left` and
--- `failed` are as in `IsEarlyReadStop`. `part` are the bytes that were read: a proper prefix of a
--- packet, and the input is at its end (Truncated, after at least one byte) or a read failed (Read);
--- or a packet header, whose captured length is at most 262144, but the allocation of this memory
--- failed (Memory), or is greater than 262144 (PacketTooLong with this length).
+-- `IsPacketStop file left failed part e`: `e` is the reason why no packet was read. `left` are the
+-- remaining bytes, if known, and `failed` states that a read failed. `part` are the bytes that were
+-- read: a proper prefix of a packet, and the input is at its end (Truncated, after at least one
+-- byte) or a read failed (Read); or a packet header, whose captured length is at most 262144, but
+-- the allocation of this memory failed (Memory), or is greater than 262144 (PacketTooLong with this
+-- length).
 abbrev pub IsPacketStop : FileHeader → Option (List ℕ) → Type 0 → List ℕ → CaptureError → Type 0
 IsPacketStop file left failed part Truncated = (0 < length part) × IsPartOfPacket file part
     × IsAtEnd left

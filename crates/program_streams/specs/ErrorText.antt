@@ -14,12 +14,16 @@ use Rattle.program_streams.specs.declared.block_error.BlockError.TheVariants.{Ca
 use Rattle.program_streams.specs.declared.block_error.BlockError.TheVariants.{Time}
 use Rattle.program_streams.specs.declared.captures.CaptureError.{CaptureError}
 use Rattle.program_streams.specs.declared.captures.CaptureError.TheVariants.{Read, Memory}
-use Rattle.program_streams.specs.declared.captures.CaptureError.TheVariants.{Truncated}
+use Rattle.program_streams.specs.declared.captures.CaptureError.TheVariants.{TooShort, Truncated}
 use Rattle.program_streams.specs.declared.captures.CaptureError.TheVariants.{Empty, Block}
 use Rattle.program_streams.specs.declared.captures.CaptureError.TheVariants.{NoCapture, Packed}
 use Rattle.program_streams.specs.declared.captures.CaptureError.TheVariants.{OtherVersion}
 use Rattle.program_streams.specs.declared.captures.CaptureError.TheVariants.{OtherLinkType}
 use Rattle.program_streams.specs.declared.captures.CaptureError.TheVariants.{PacketTooLong}
+use Rattle.program_streams.specs.declared.lines.RunError.{RunError}
+use Rattle.program_streams.specs.declared.lines.RunError.TheVariants.{Read as ReadFailed}
+use Rattle.program_streams.specs.declared.lines.RunError.TheVariants.{Write as WriteFailed}
+use Rattle.program_streams.specs.declared.lines.RunError.TheVariants.{Memory as OutOfMemory}
 use Rattle.program_streams.specs.declared.error_text.ErrorText.{ErrorText}
 use Rattle.program_streams.specs.declared.error_text.ErrorText.TheVariants.{Plain, Decimal, Hex}
 
@@ -42,12 +46,19 @@ block_error_text NoInterface = codes "unknown interface of the packet at offset 
 block_error_text CapturedLength = codes "invalid captured length of the packet at offset "
 block_error_text Time = codes "unsupported time (2106 or later) of the packet at offset "
 
+-- The text of the reason why a run over lines ended.
+abbrev pub run_error_text : RunError → List ℕ
+run_error_text ReadFailed = codes "reading failed"
+run_error_text WriteFailed = codes "writing failed"
+run_error_text OutOfMemory = codes "out of memory"
+
 -- The text of an error of a capture. A magic number is shown as eight hexadecimal digits.
 abbrev pub capture_error_text : CaptureError → List ℕ
 capture_error_text (Read error) = read_error_text error
 capture_error_text Memory = codes "out of memory"
 capture_error_text Truncated = codes "the capture is truncated"
 capture_error_text Empty = codes "the input is empty"
+capture_error_text TooShort = codes "not a pcap capture: it has fewer than 4 bytes"
 capture_error_text Packed = codes "gzip is not supported; try gzip -dc CAPTURE"
 capture_error_text (NoCapture magic) =
     codes "not a pcap capture: it begins with " ++ encode_lower (big_bytes 4 magic)

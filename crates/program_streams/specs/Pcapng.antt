@@ -345,6 +345,10 @@ IsEndOfBlocks p bytes p' =
 
 -- ---- states of the input when reading stops
 
+-- the block has a valid frame, by its first 12 bytes
+abbrev pub HasFrame : Position → List ℕ → Type 0
+HasFrame p block = (order : ByteOrder) × (frame_of p block ≡ Ok order)
+
 -- `IsPartOfBlock p part`: `part` is a proper prefix of a block: fewer than 12 bytes, or more, but
 -- fewer than the length at 4
 abbrev pub IsPartOfBlock : Position → List ℕ → Type 0
@@ -363,12 +367,13 @@ IsInputStop left failed part _ = ⊥
 
 -- `IsBlockStop p left failed part e`: `e` is the reason why no block was read at the position `p`.
 -- `part` are its bytes that were read, and `left` and `failed` are as in `IsInputStop`. They are a
--- proper prefix of a block, and the input stopped there; or at least 12 bytes, and an allocation
--- failed; or 12 bytes with an invalid frame; or a whole block with invalid content.
+-- proper prefix of a block, and the input stopped there; or at least 12 bytes with a valid frame,
+-- and an allocation failed; or 12 bytes with an invalid frame; or a whole block with invalid
+-- content.
 abbrev pub IsBlockStop : Position → Option (List ℕ) → Type 0 → List ℕ → CaptureError → Type 0
 IsBlockStop p left failed part e =
     (IsPartOfBlock p part × IsInputStop left failed part e)
-    ⊎ ((12 ≤ length part) × (e ≡ Memory))
+    ⊎ ((12 ≤ length part) × HasFrame p part × (e ≡ Memory))
     ⊎ ((length part ≡ 12) × (frame_of p part ≡ Err e))
     ⊎ ((order : ByteOrder) × IsFramed p part order × (content_of p order part ≡ Err e))
 

@@ -1,13 +1,19 @@
 -- Captures of netlink traffic, in the pcap or the pcapng format.
-use Rattle.std.specs.Prelude.{◌≡◌, ℕ, ◌<◌, ◌⊎◌, List, [], ◌++◌, length, Option, IsTrue}
+use Rattle.std.specs.Prelude.{◌≡◌, ℕ, ◌<◌, ◌≤◌, ◌⊎◌, List, [], ◌++◌, length, Option, IsTrue}
+use Rattle.std.specs.Io.KnownBytes.{IsAtEnd}
 use Rattle.program_streams.specs.declared.captures.ByteOrder.{ByteOrder}
+use Rattle.program_streams.specs.declared.captures.ByteOrder.TheVariants.{BigEndian, LittleEndian}
 use Rattle.program_streams.specs.declared.captures.CaptureError.{CaptureError}
+use Rattle.program_streams.specs.declared.captures.CaptureError.TheVariants.{Empty, NoCapture}
+use Rattle.program_streams.specs.declared.captures.CaptureError.TheVariants.{Packed, Read, TooShort}
+use Rattle.program_streams.specs.declared.captures.CaptureError.TheVariants.{Truncated}
 use Rattle.program_streams.specs.declared.captures.FileHeader.{FileHeader}
 use Rattle.program_streams.specs.declared.pcapng.Content.{Content}
 use Rattle.program_streams.specs.declared.reader.CaptureReader.{CaptureReader}
 use Rattle.program_streams.specs.declared.reader.CaptureReader.TheVariants.{Pcap, Pcapng}
-use Rattle.program_streams.specs.Capture.{CapturedPacket, IsEarlyReadStop, IsFileHeader}
+use Rattle.program_streams.specs.Capture.{CapturedPacket, HasNoPcapMagic, IsFileHeader}
 use Rattle.program_streams.specs.Capture.{IsFileHeaderError, IsPacketRecord, IsPacketStop}
+use Rattle.program_streams.specs.Capture.{IsPcapMagic, number_at_offset}
 use Rattle.program_streams.specs.Pcapng.{IsBlock, IsBlockStop, IsEndOfBlocks, IsNextPacket}
 use Rattle.program_streams.specs.Pcapng.{IsNextPacketStop, Position, after_block, position_of}
 use Rattle.program_streams.specs.Pcapng.{is_section_header, start_of_file}
@@ -31,6 +37,33 @@ IsCaptureStart bytes (in_pcap file) = (length bytes ≡ 24) × IsFileHeader byte
 IsCaptureStart bytes (in_pcapng p) = (order : ByteOrder) × (content : Content)
     × IsTrue (is_section_header bytes) × IsBlock start_of_file bytes order content
     × (p ≡ after_block start_of_file order content (length bytes))
+
+-- the bytes begin with the type of a section header block, as a pcapng file does, or with a magic
+-- number of pcap in either byte order
+abbrev pub HasMagic : List ℕ → Type 0
+HasMagic bytes =
+    IsTrue (is_section_header bytes) ⊎ IsPcapMagic (number_at_offset BigEndian 4 0 bytes)
+    ⊎ IsPcapMagic (number_at_offset LittleEndian 4 0 bytes)
+
+-- the bytes begin with neither, and `e` is their error
+abbrev pub HasNoMagic : List ℕ → CaptureError → Type 0
+HasNoMagic bytes e = (¬ IsTrue (is_section_header bytes)) × HasNoPcapMagic bytes e
+
+-- `IsEarlyReadStop left failed part e`: `e` is the reason why reading stopped before the header of
+-- a capture was complete, after the bytes `part`. The input is at its end: without a byte (Empty),
+-- after one to three bytes (TooShort), or after at least four, with a known magic number
+-- (Truncated). Or a read failed (Read). Or the first four bytes are not a known magic number
+-- (Packed, NoCapture). `left` are the remaining bytes, if known. `failed` states that a read
+-- failed.
+abbrev pub IsEarlyReadStop : Option (List ℕ) → Type 0 → List ℕ → CaptureError → Type 0
+IsEarlyReadStop left failed part Empty = (part ≡ []) × IsAtEnd left
+IsEarlyReadStop left failed part TooShort = (0 < length part) × (length part < 4) × IsAtEnd left
+IsEarlyReadStop left failed part Truncated = (4 ≤ length part) × HasMagic part × IsAtEnd left
+IsEarlyReadStop left failed part (Read error) = failed
+IsEarlyReadStop left failed part Packed = (length part ≡ 4) × HasNoMagic part Packed
+IsEarlyReadStop left failed part (NoCapture magic) =
+    (length part ≡ 4) × HasNoMagic part (NoCapture magic)
+IsEarlyReadStop left failed part _ = ⊥
 
 -- `IsCaptureStartStop left failed part e`: `e` is the reason why a capture could not be opened,
 -- after the bytes `part`. They are fewer than 24, and reading stopped there; or 24 that are neither

@@ -2,7 +2,7 @@
 //! type `LINKTYPE_NETLINK`.
 
 ghost use Rattle.std.specs.Prelude.{◌≡◌, ◌↔◌, ◌+◌, ◌<◌, ◌≤◌, ◌++◌, ◌⊎◌, ℕ, List, [], length, IfOk};
-ghost use Rattle.std.specs.Prelude.{IfErr, OnOk, IsTrue, MatchBool, MatchOption, MatchResult};
+ghost use Rattle.std.specs.Prelude.{IfErr, OnOk, IsTrue, MatchBool, MatchOption, MatchResult, Some};
 ghost use Rattle.std.specs.Io.KnownBytes.{Consumes, IsAtEnd, Keeps};
 ghost use Rattle.program_streams.specs.Capture.{IsFileHeader, IsFileHeaderError};
 ghost use Rattle.program_streams.specs.Capture.{IsPcapMagic, IsMagicError, IsPacketStop};
@@ -69,6 +69,8 @@ pub enum CaptureError {
     Truncated,
     /// The input has no bytes.
     Empty,
+    /// The input has one to three bytes, fewer than a magic number.
+    TooShort,
     /// The input is compressed by gzip(1).
     Packed,
     /// The first four bytes are not the magic number of a known format. They are here as a
@@ -99,6 +101,9 @@ impl CaptureError {
             CaptureError::Memory => ErrorText::Plain("out of memory"),
             CaptureError::Truncated => ErrorText::Plain("the capture is truncated"),
             CaptureError::Empty => ErrorText::Plain("the input is empty"),
+            CaptureError::TooShort => {
+                ErrorText::Plain("not a pcap capture: it has fewer than 4 bytes")
+            }
             CaptureError::Packed => ErrorText::Plain("gzip is not supported; try gzip -dc CAPTURE"),
             CaptureError::NoCapture(magic) => {
                 ErrorText::Hex("not a pcap capture: it begins with ", *magic)
@@ -130,6 +135,8 @@ impl CaptureError {
 }
 
 impl fmt::Display for CaptureError {
+    ghost output = { λ error. Some (capture_error_text error) };
+
     fn fmt<W: fmt::Write>(&self, f: &mut fmt::Formatter<W>) -> fmt::Result {
         let text = self.text();
         write!(f, "{text}")
@@ -188,7 +195,7 @@ impl ByteOrder {
 
     /// Returns the byte order in which the first four bytes are a magic number of pcap. Returns
     /// `None` if neither order has one.
-    fn find(bytes: &[u8]) -> Option<ByteOrder>
+    pub(crate) fn find(bytes: &[u8]) -> Option<ByteOrder>
         requires { 4 ≤ length bytes.now }
         ensures { MatchOption result
             (¬ IsPcapMagic (number_at_offset ByteOrder.BigEndian 4 0 bytes.now)
@@ -214,7 +221,7 @@ fn is_magic(number: u32) -> bool
 
 /// Returns the error of a file that is not a pcap file. `magic` has its first four bytes, as a
 /// big-endian number.
-fn no_capture(magic: u32) -> CaptureError
+pub(crate) fn no_capture(magic: u32) -> CaptureError
     ensures { IsMagicError magic result }
 {
     if magic >> 16 == PACKED {

@@ -1,6 +1,13 @@
 //! Texts of errors, in parts.
 
+ghost use Rattle.std.specs.Prelude.{◌≡◌, Some};
+ghost use Rattle.byteorder.specs.Endian.{big_bytes};
+ghost use Rattle.hex.specs.Hex.{encode_lower};
+ghost use Rattle.program_streams.specs.ErrorText.{error_text_bytes};
+
+use byteorder::{BigEndian, ByteOrder};
 use std::fmt;
+use std::str;
 
 /// An error's text, in parts that need no allocation.
 #[derive(Clone, Copy, Debug)]
@@ -14,11 +21,40 @@ pub enum ErrorText {
 }
 
 impl fmt::Display for ErrorText {
+    ghost output = { λ text. Some (error_text_bytes text) };
+
     fn fmt<W: fmt::Write>(&self, f: &mut fmt::Formatter<W>) -> fmt::Result {
         match self {
             ErrorText::Plain(text) => write!(f, "{text}"),
             ErrorText::Decimal(before, number, after) => write!(f, "{before}{number}{after}"),
-            ErrorText::Hex(before, number) => write!(f, "{before}{number:08x}"),
+            ErrorText::Hex(before, number) => {
+                let digits = hex_digits(*number);
+                let shown = digits_text(&digits, *number);
+                write!(f, "{before}{shown}")
+            }
         }
+    }
+}
+
+/// Returns the eight hexadecimal digits of a number.
+pub fn hex_digits(number: u32) -> [u8; 8]
+    ensures { result ≡ encode_lower (big_bytes 4 number) }
+{
+    let mut bytes = [0u8; 4];
+    BigEndian::write_u32(&mut bytes, number);
+    let mut digits = [0u8; 8];
+    // Four bytes have eight digits, so this never fails.
+    let _ = hex::encode_to_slice(bytes.as_slice(), &mut digits);
+    digits
+}
+
+/// Returns the eight hexadecimal digits of `_number` as a text.
+fn digits_text<'a>(digits: &'a [u8; 8], _number: u32) -> &'a str
+    requires { digits.now ≡ encode_lower (big_bytes 4 _number) }
+    ensures { result.now ≡ encode_lower (big_bytes 4 _number) }
+{
+    match str::from_utf8(digits) {
+        Ok(text) => text,
+        Err(_) => unreachable!(),
     }
 }

@@ -14,7 +14,7 @@ mod streams;
 
 pub use block_error::BlockError;
 pub use captures::{ByteOrder, CaptureError, FileHeader, Packet, PacketHeader, TimeUnit};
-pub use error_text::ErrorText;
+pub use error_text::{ErrorText, hex_digits};
 pub use lines::{LineAnswers, PromptRead, RunError, Start, serve};
 pub use pcapng::PcapngReader;
 pub use reader::CaptureReader;

@@ -1,9 +1,10 @@
 //! Reads lines from an input, and writes their answers to an output.
 
 ghost use Rattle.std.specs.Prelude.{◌≡◌, ◌⊎◌, ◌+◌, ◌-◌, ◌^◌, ◌≤◌, ℕ, Bool, true, List, [], ◌++◌};
-ghost use Rattle.std.specs.Prelude.{IfOk, IfErr, OnErr, OnOk, Option, None, vec_capacity, ⊤};
+ghost use Rattle.std.specs.Prelude.{IfOk, IfErr, OnErr, OnOk, Option, None, Some, vec_capacity, ⊤};
 ghost use Rattle.std.specs.Io.KnownBytes.{Appends, Consumes, IsAtEnd, ReadConsumes};
 ghost use Rattle.std.specs.Io.{ReadsAtMost};
+ghost use Rattle.program_streams.specs.ErrorText.{run_error_text};
 ghost use Rattle.program_streams.specs.Lines.{SplitsIntoLines, all_lines};
 ghost use Rattle.program_streams.specs.LineRun.{AnswersInput, answer_lines};
 ghost use Rattle.program_streams.specs.private.LineRun.{AnswersCompleteLines, HasNoLineFeed};
@@ -15,22 +16,34 @@ ghost use Rattle.program_streams.specs.declared.streams.WriteError.{WriteError};
 use crate::streams::{ReadError, Sink, Source, WriteError, send};
 use memchr::memchr;
 use std::alloc::{AllocError, AllocFailed, Global};
+use std::error::Error;
+use std::fmt;
 use std::marker::Brand;
-use thiserror::Error;
 
 /// The reason why a run ended before the end of its input.
-#[derive(Clone, Copy, Debug, PartialEq, Eq, Error)]
+#[derive(Clone, Copy, Debug, PartialEq, Eq)]
 pub enum RunError {
     /// A read failed, or the input did not end within 2^64 - 1 reads.
-    #[error("reading failed")]
     Read,
     /// A write or the last flush failed, or a write took no bytes.
-    #[error("writing failed")]
     Write,
     /// An allocation failed.
-    #[error("out of memory")]
     Memory,
 }
+
+impl fmt::Display for RunError {
+    ghost output = { λ error. Some (run_error_text error) };
+
+    fn fmt<W: fmt::Write>(&self, f: &mut fmt::Formatter<W>) -> fmt::Result {
+        match self {
+            RunError::Read => write!(f, "reading failed"),
+            RunError::Write => write!(f, "writing failed"),
+            RunError::Memory => write!(f, "out of memory"),
+        }
+    }
+}
+
+impl Error for RunError {}
 
 impl From<ReadError> for RunError {
     ghost from_gives = { λ _ e. e ≡ Read };

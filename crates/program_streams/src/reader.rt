@@ -1,16 +1,20 @@
 //! Captures of netlink traffic, in the pcap or the pcapng format.
 
-ghost use Rattle.std.specs.Prelude.{◌≡◌, ◌++◌, ◌<◌, ◌⊎◌, ℕ, List, length, IfOk, IfErr, IsTrue};
-ghost use Rattle.std.specs.Prelude.{MatchOption};
+ghost use Rattle.std.specs.Prelude.{◌≡◌, ◌++◌, ◌<◌, ◌≤◌, ◌⊎◌, ℕ, List, length, IfOk, IfErr, OnOk};
+ghost use Rattle.std.specs.Prelude.{IsTrue, MatchOption, MatchResult};
 ghost use Rattle.std.specs.Io.KnownBytes.{Consumes, IsAtEnd};
-ghost use Rattle.program_streams.specs.Capture.{IsEarlyReadStop, IsFileHeader, IsFileHeaderError};
+ghost use Rattle.program_streams.specs.Capture.{IsFileHeader, IsFileHeaderError};
 ghost use Rattle.program_streams.specs.Capture.{captured_packet};
 ghost use Rattle.program_streams.specs.Pcapng.{IsBlockStop, is_section_header, position_of};
 ghost use Rattle.program_streams.specs.Pcapng.{start_of_file};
+ghost use Rattle.program_streams.specs.Reader.{HasMagic, HasNoMagic, IsEarlyReadStop};
 ghost use Rattle.program_streams.specs.Reader.{IsCaptureEnd, IsCaptureStart, IsCaptureStartStop};
 ghost use Rattle.program_streams.specs.Reader.{IsCaptureStop, ReadsPacket, in_pcapng, state_of};
+ghost use Rattle.program_streams.specs.private.Capture.{IsReadStop};
 
-use crate::captures::{CaptureError, FILE_HEADER, FileHeader, PacketHeader, fill, fill_or_end};
+use crate::captures::{
+    ByteOrder, CaptureError, FILE_HEADER, FileHeader, PacketHeader, fill, fill_or_end, no_capture,
+};
 use crate::pcapng::{BLOCK_HEADER, PcapngReader, is_section_header};
 use crate::streams::Source;
 use std::alloc::Global;
@@ -25,6 +29,49 @@ pub enum CaptureReader {
     Pcapng(PcapngReader),
 }
 
+/// Checks that the first four bytes are a known magic number.
+fn check_magic(bytes: &[u8]) -> Result<(), CaptureError>
+    requires { 4 ≤ length bytes.now }
+    ensures { MatchResult result (λ _. HasMagic bytes.now) (λ e. HasNoMagic bytes.now e) }
+{
+    if is_section_header(bytes) || ByteOrder::find(bytes).is_some() {
+        Ok(())
+    } else {
+        Err(no_capture(ByteOrder::BigEndian.word_at(bytes, 0)))
+    }
+}
+
+/// Reads the first four bytes of a capture, a known magic number.
+fn read_magic<R: Source>(input: &mut R, magic: &mut [u8]) -> Result<(), CaptureError>
+    requires { length magic.old ≡ 4 }
+    ensures read { OnOk result (HasMagic magic.new
+        × Consumes (R.left input.old) (R.left input.new) magic.new) }
+    ensures stopped { IfErr result (λ e. (part : List ℕ) × (length part ≤ 4)
+        × Consumes (R.left input.old) (R.left input.new) part
+        × IsEarlyReadStop (R.left input.new) (R.failed input.new) part e) }
+{
+    match fill_or_end(input, magic) {
+        Ok(true) => check_magic(magic),
+        Ok(false) => Err(CaptureError::Empty),
+        Err(CaptureError::Truncated) => Err(CaptureError::TooShort),
+        Err(error) => Err(error),
+    }
+}
+
+/// Reads the first 12 bytes of a capture, which begin with a known magic number.
+fn read_head<R: Source>(input: &mut R, head: &mut [u8]) -> Result<(), CaptureError>
+    requires { length head.old ≡ 12 }
+    ensures read { OnOk result (HasMagic head.new
+        × Consumes (R.left input.old) (R.left input.new) head.new) }
+    ensures stopped { IfErr result (λ e. (part : List ℕ) × (length part < 12)
+        × Consumes (R.left input.old) (R.left input.new) part
+        × IsEarlyReadStop (R.left input.new) (R.failed input.new) part e) }
+{
+    let (magic, rest) = head.split_at_mut(4);
+    read_magic(input, magic)?;
+    fill(input, rest)
+}
+
 /// Reads the rest of the file header of a pcap file. `head` has its first 12 bytes.
 fn open_pcap<R: Source>(head: &[u8], input: &mut R) -> Result<FileHeader, CaptureError>
     requires { length head.now ≡ 12 }
@@ -34,7 +81,7 @@ fn open_pcap<R: Source>(head: &[u8], input: &mut R) -> Result<FileHeader, Captur
     ensures stopped { IfErr result (λ e. (part : List ℕ)
         × Consumes (R.left input.old) (R.left input.new) part
         × (((length part < 12)
-        × IsEarlyReadStop (R.left input.new) (R.failed input.new) (head.now ++ part) e)
+        × IsReadStop (R.left input.new) (R.failed input.new) e)
         ⊎ ((length part ≡ 12) × IsFileHeaderError (head.now ++ part) e))) }
 {
     let mut bytes = [0u8; FILE_HEADER];
@@ -48,10 +95,12 @@ impl CaptureReader {
     /// Opens a capture: reads the file header of a pcap file, or the section header block that a
     /// pcapng file begins with.
     ///
-    /// Fails with `Empty` if the input ends before its first byte, with `Truncated` if it ends
-    /// within the header, and with `Read` if a read failed. If a pcap file has an invalid header,
-    /// fails with the error of `FileHeader::parse`. If a pcapng file begins with an invalid block,
-    /// fails with `Block`, and if an allocation failed, with `Memory`.
+    /// Fails with `Empty` if the input ends before its first byte, with `TooShort` if it ends
+    /// before its fourth one, with `Packed` or `NoCapture` if the first four bytes are not a known
+    /// magic number, with `Truncated` if the input ends after them within the header, and with
+    /// `Read` if a read failed. If a pcap file has an invalid header, fails with the error of
+    /// `FileHeader::parse`. If a pcapng file begins with an invalid block, fails with `Block`, and
+    /// if an allocation failed, with `Memory`.
     pub fn open<R: Source>(alloc: Global, input: &mut R) -> Result<CaptureReader, CaptureError>
         // R.left: the remaining bytes, if known.
         ensures read { IfOk result (λ reader. (bytes : List ℕ)
@@ -63,9 +112,7 @@ impl CaptureReader {
             × IsCaptureStartStop (R.left input.new) (R.failed input.new) part e) }
     {
         let mut head = [0u8; BLOCK_HEADER];
-        if !fill_or_end(input, &mut head)? {
-            return Err(CaptureError::Empty);
-        }
+        read_head(input, &mut head)?;
         if is_section_header(&head) {
             match PcapngReader::open(alloc, &head, input) {
                 Ok(reader) => Ok(CaptureReader::Pcapng(reader)),

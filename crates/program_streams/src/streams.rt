@@ -1,7 +1,7 @@
 //! Reading and writing: single calls, whose errors are classified, and whole texts.
 
 ghost use Rattle.std.specs.Prelude.{◌≡◌, ◌↔◌, ◌<◌, ◌≤◌, ◌==◌, ◌++◌, if◌then◌else◌, ℕ, List, Option};
-ghost use Rattle.std.specs.Prelude.{length, IfOk, IfErr, MatchResult, OnErr, OnOk, ⊤};
+ghost use Rattle.std.specs.Prelude.{length, IfOk, IfErr, MatchResult, OnErr, OnOk, Some, ⊤};
 ghost use Rattle.std.specs.Io.KnownBytes.{Appends, Keeps, ReadConsumes, WriteAppends};
 ghost use Rattle.std.specs.Io.{ReadsAtMost};
 ghost use Rattle.std.specs.IoError.{error_kind};
@@ -35,6 +35,8 @@ impl ReadError {
 }
 
 impl fmt::Display for ReadError {
+    ghost output = { λ error. Some (read_error_text error) };
+
     fn fmt<W: fmt::Write>(&self, f: &mut fmt::Formatter<W>) -> fmt::Result {
         f.write_str(self.text())
     }
@@ -64,6 +66,8 @@ impl WriteError {
 }
 
 impl fmt::Display for WriteError {
+    ghost output = { λ error. Some (write_error_text error) };
+
     fn fmt<W: fmt::Write>(&self, f: &mut fmt::Formatter<W>) -> fmt::Result {
         f.write_str(self.text())
     }

@@ -8,6 +8,7 @@ use Rattle.sock_diag_captures.specs.declared.options.Options.{Options}
 use Rattle.sock_diag_captures.specs.declared.arguments.Argument.{Argument}
 use Rattle.sock_diag_captures.specs.declared.arguments.Argument.TheVariants as argument
 use Rattle.sock_diag_captures.specs.declared.arguments.Place.{Place}
+use Rattle.sock_diag_captures.specs.declared.choice.Rejection.{Rejection}
 use Rattle.sock_diag_captures.specs.declared.arguments.Place.TheVariants as place
 
 -- After the first `i` arguments: none of them decides, the next one is at the place `p`, and the
@@ -19,12 +20,12 @@ pub record NoneDecidesSoFar {X : Type 0} (f : X → List ℕ) (xs : List X) (i :
   pub options : options_after o p (map f (drop i xs))
       ≡ options_after no_options place.Any (map f xs)
 
--- An argument that is neither Help, Version nor Unknown does not decide.
+-- An argument that is neither Help, Version nor Rejected does not decide.
 pub argument_does_not_decide : (a : Argument) → (a ≢ argument.Help) → (a ≢ argument.Version)
-    → (a ≢ argument.Unknown) → decides a ≡ false
+    → ((reason : Rejection) → a ≢ argument.Rejected reason) → decides a ≡ false
 argument_does_not_decide argument.Help h v u = absurd (h refl)
 argument_does_not_decide argument.Version h v u = absurd (v refl)
-argument_does_not_decide argument.Unknown h v u = absurd (u refl)
+argument_does_not_decide (argument.Rejected reason) h v u = absurd (u reason refl)
 argument_does_not_decide argument.Utf8 h v u = refl
 argument_does_not_decide argument.Requests h v u = refl
 argument_does_not_decide argument.Json h v u = refl

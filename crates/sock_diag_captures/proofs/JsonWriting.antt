@@ -126,6 +126,14 @@ items_of_each f (x ∷ later) =
     flat_map-append tree.json_tokens (f x) (flat_map f later)
     ∙ ap (λ (t : List Token). items_tokens (f x) ++ t) (items_of_each f later)
 
+-- The tokens of items that are mapped one to one from a list.
+pub items_of_map : {X : Type 0} (f : X → Json) (xs : List X)
+    → items_tokens (map f xs) ≡ flat_map (λ x. tree.json_tokens (f x)) xs
+unfolding items_tokens
+items_of_map f [] = refl
+items_of_map f (x ∷ later) =
+    ap (λ (t : List Token). tree.json_tokens (f x) ++ t) (items_of_map f later)
+
 -- Tokens that are appended twice are the concatenation.
 joined : (old mid new x y : List Token) → mid ≡ old ++ x → new ≡ mid ++ y → new ≡ old ++ (x ++ y)
 joined old mid new x y first second =

@@ -17,4 +17,5 @@ pub mod Choosing
 pub mod Listed
 pub mod OptionsEquality
 pub mod JsonWriting
+pub mod Md5Keys
 pub mod JsonNames

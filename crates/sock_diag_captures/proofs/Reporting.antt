@@ -1,8 +1,8 @@
 -- Lemmas about reporting several texts on a writer.
 use Rattle.std.proofs.Common.{◌≡◌, ℕ, Bool, true, false, List, [], ◌++◌, refl, sym, ap, subst, ◌∙◌}
 use Rattle.std.proofs.Common.{append_assoc, append-nil}
-use Rattle.std.proofs.Common.{◌∷◌, Ok, Err, Result}
-use Rattle.std.specs.Prelude.{IsOk, OnOk, Option, ⊤}
+use Rattle.std.proofs.Common.{◌∷◌}
+use Rattle.std.specs.Prelude.{Option, ⊤}
 use Rattle.std.specs.Io.KnownBytes.{Appends}
 use Rattle.std.proofs.KnownBytes.{Appends-nil, Appends-trans}
 use Rattle.sock_diag_captures.specs.Reports.{ReportsText, ReportsMore, WritesPrefix, closing_line}
@@ -83,8 +83,3 @@ closing_other front (Write Other) other = refl
 closing_other front (Header error) other = refl
 closing_other front (Packet packet error) other = refl
 closing_other front Memory other = refl
-
--- A clause about a success holds if the result is `Ok`.
-pub written_if_ok : {A E : Type 0} (r : Result A E) (P : Type 0) → IsOk r → OnOk r P → P
-written_if_ok (Ok x) P is h = h
-written_if_ok (Err e) P is h = absurd cc

@@ -11,6 +11,12 @@ use Rattle.sock_diag_captures.specs.declared.arguments.Place.{Place}
 use Rattle.sock_diag_captures.specs.declared.arguments.Place.TheVariants as place
 use Rattle.sock_diag_captures.specs.declared.choice.Choice.{Choice}
 use Rattle.sock_diag_captures.specs.declared.choice.Choice.TheVariants as choice
+use Rattle.sock_diag_captures.specs.declared.choice.Rejection.{Rejection}
+use Rattle.sock_diag_captures.specs.declared.choice.Rejection.TheVariants.{InvalidPortValue}
+use Rattle.sock_diag_captures.specs.declared.choice.Rejection.TheVariants.{UnknownFamily}
+use Rattle.sock_diag_captures.specs.declared.choice.Rejection.TheVariants.{UnknownFamilyValue}
+use Rattle.sock_diag_captures.specs.declared.choice.Rejection.TheVariants.{UnknownOption}
+use Rattle.sock_diag_captures.specs.declared.choice.Rejection.TheVariants.{UnknownStateValue}
 use Rattle.sock_diag_captures.specs.declared.options.AnyFamily.{AnyFamily}
 use Rattle.sock_diag_captures.specs.declared.options.AnyFamily.TheVariants.{Inet, Inet6, Unix}
 use Rattle.sock_diag_captures.specs.declared.options.AnyFamily.TheVariants.{Other}
@@ -108,27 +114,30 @@ with_family (Other Xdp) o = record o { xdp = true }
 abbrev pub is_file : List ℕ → Bool
 is_file word = nat_lt (length word) 2 || not (starts_with nat_eq word (codes "-"))
 
--- what the name of a family is parsed as
-abbrev pub family_argument : List ℕ → Argument
-family_argument name = option_map_or argument.Sockets (family_named name) argument.Unknown
+-- what the name of a family is parsed as; any other text is rejected for this reason
+abbrev pub family_argument : Rejection → List ℕ → Argument
+family_argument rejection name =
+    option_map_or argument.Sockets (family_named name) (argument.Rejected rejection)
 
 -- what the name of states is parsed as
 abbrev pub state_argument : List ℕ → Argument
-state_argument name = option_map_or argument.States (states_named name) argument.Unknown
+state_argument name =
+    option_map_or argument.States (states_named name) (argument.Rejected UnknownStateValue)
 
 -- what a condition on the local port is parsed as
 abbrev pub source_argument : List ℕ → Argument
-source_argument text = option_map_or argument.SourcePort (port_condition text) argument.Unknown
+source_argument text =
+    option_map_or argument.SourcePort (port_condition text) (argument.Rejected InvalidPortValue)
 
 -- what a condition on the remote port is parsed as
 abbrev pub destination_argument : List ℕ → Argument
-destination_argument text =
-    option_map_or argument.DestinationPort (port_condition text) argument.Unknown
+destination_argument text = option_map_or argument.DestinationPort (port_condition text)
+    (argument.Rejected InvalidPortValue)
 
 -- what letters after a hyphen are parsed as
 abbrev pub letters_argument : List ℕ → Argument
 letters_argument word =
-    if (length word == 0) || not (are_letters (drop 1 word)) then argument.Unknown
+    if (length word == 0) || not (are_letters (drop 1 word)) then argument.Rejected UnknownOption
     else argument.Letters (ends_in_f word)
 
 -- what an option is parsed as that contains a condition on a port, or consists of letters
@@ -141,7 +150,8 @@ port_argument word =
 -- what an option is parsed as that contains its value, or consists of letters
 abbrev pub valued_argument : List ℕ → Argument
 valued_argument word =
-    if starts_with nat_eq word (codes "--family=") then family_argument (drop 9 word)
+    if starts_with nat_eq word (codes "--family=")
+    then family_argument UnknownFamilyValue (drop 9 word)
     else if starts_with nat_eq word (codes "--state=") then state_argument (drop 8 word)
     else port_argument word
 
@@ -162,7 +172,7 @@ option_argument word =
 -- file.
 abbrev pub argument_at : Place → List ℕ → Argument
 argument_at place.Any word = if is_file word then argument.File else option_argument word
-argument_at place.Family word = family_argument word
+argument_at place.Family word = family_argument UnknownFamily word
 argument_at place.File word = argument.File
 
 -- The place of the argument after this one: the name of a family after letters that end in f, the
@@ -189,7 +199,7 @@ last_place p (word ∷ words) = last_place (next_place p (argument_at p word)) w
 abbrev pub decides : Argument → Bool
 decides argument.Help = true
 decides argument.Version = true
-decides argument.Unknown = true
+decides (argument.Rejected reason) = true
 decides a = false
 
 -- the argument is the name of a file
@@ -252,16 +262,16 @@ abbrev pub first_deciding : Place → List (List ℕ) → Option (Argument × Li
 first_deciding p words = find (λ a. decides a.0) (parsed p words)
 
 -- The request of the arguments after the program's name. If an argument decides, the first one that
--- does is the request: `--help` or `-h`, `--version` or `-V`, or an unknown option or family, which
--- is rejected. Else the name of a family is missing if the last argument is letters that end in f.
+-- does is the request: `--help` or `-h`, `--version` or `-V`, or an argument that is rejected, with
+-- the reason. Else the name of a family is missing if the last argument is letters that end in f.
 -- Else captures are listed with the options of all arguments.
 abbrev pub IsChoice : List (List ℕ) → Choice → Type 0
 IsChoice words choice.Help =
     option_map (λ a. a.0) (first_deciding place.Any words) ≡ Some argument.Help
 IsChoice words choice.Version =
     option_map (λ a. a.0) (first_deciding place.Any words) ≡ Some argument.Version
-IsChoice words (choice.Reject word) =
-    first_deciding place.Any words ≡ Some (argument.Unknown, word.now)
+IsChoice words (choice.Reject reason word) =
+    first_deciding place.Any words ≡ Some (argument.Rejected reason, word.now)
 IsChoice words choice.MissingFamily =
     (first_deciding place.Any words ≡ None) × (last_place place.Any words ≡ place.Family)
 IsChoice words (choice.Captures options) =

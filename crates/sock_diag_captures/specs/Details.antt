@@ -40,22 +40,27 @@ use Rattle.sock_diag_attributes.specs.InetAttributes.{inet_attribute_set}
 use Rattle.sock_diag_attributes.specs.InetModel.{inet_variant}
 use Rattle.sock_diag_attributes.specs.UnixAttributes.{unix_attribute_set}
 use Rattle.sock_diag_attributes.specs.UnixModel.{unix_variant}
+use Rattle.sock_diag_extras.specs.declared.constants.TheConstants.{INET_DIAG_ULP_INFO}
 use Rattle.sock_diag_families.specs.PacketAttributes.{packet_info}
+use Rattle.sock_diag_families.specs.XdpAttributes.{xdp_info}
 use Rattle.sock_diag_families.specs.declared.packet.attributes.PacketInfo.{PacketInfo}
 use Rattle.sock_diag_records.specs.declared.constants.TheConstants.{INET_DIAG_BBRINFO}
 use Rattle.sock_diag_records.specs.declared.constants.TheConstants.{INET_DIAG_CONG}
 use Rattle.sock_diag_records.specs.declared.constants.TheConstants.{INET_DIAG_DCTCPINFO}
 use Rattle.sock_diag_records.specs.declared.constants.TheConstants.{INET_DIAG_INFO}
+use Rattle.sock_diag_records.specs.declared.constants.TheConstants.{INET_DIAG_MD5SIG}
 use Rattle.sock_diag_records.specs.declared.constants.TheConstants.{INET_DIAG_MEMINFO}
 use Rattle.sock_diag_records.specs.declared.constants.TheConstants.{INET_DIAG_SKMEMINFO}
 use Rattle.sock_diag_records.specs.declared.constants.TheConstants.{INET_DIAG_VEGASINFO}
 use Rattle.sock_diag_records.specs.declared.constants.TheConstants.{UNIX_DIAG_MEMINFO}
 use Rattle.sock_diag_families.specs.declared.netlink.TheConstants.{NETLINK_DIAG_GROUPS}
 use Rattle.sock_diag_families.specs.declared.netlink.TheConstants.{NETLINK_DIAG_MEMINFO}
-use Rattle.sock_diag_families.specs.declared.packet.TheConstants.{PACKET_DIAG_INFO}
+use Rattle.sock_diag_families.specs.declared.packet.TheConstants.{PACKET_DIAG_INFO, PACKET_DIAG_UID}
 use Rattle.sock_diag_families.specs.declared.packet.TheConstants.{PACKET_DIAG_MEMINFO}
-use Rattle.sock_diag_families.specs.declared.xdp.TheConstants.{XDP_DIAG_MEMINFO}
+use Rattle.sock_diag_families.specs.declared.xdp.TheConstants.{XDP_DIAG_INFO, XDP_DIAG_MEMINFO}
+use Rattle.sock_diag_families.specs.declared.xdp.TheConstants.{XDP_DIAG_UID}
 use Rattle.sock_diag_captures.specs.Newer.{inet_newer_text, later_details, unix_newer_text}
+use Rattle.sock_diag_captures.specs.Newer.{user_id}
 use Rattle.sock_diag_captures.specs.Pieces.{AttributeOrError}
 use Rattle.sock_diag_captures.specs.Rows.{rows_text, unknown_attribute_text}
 use Rattle.sock_diag_captures.specs.ShortInfo.{short_tcp_details, tcp_option_flags}
@@ -226,9 +231,16 @@ packet_text p =
     rows_text Always ((codes "ver", p.version) ∷ (codes "cpy_thresh", p.copy_threshold) ∷ [])
     ++ packet_flags (p.flags % 256)
 
+-- The user id of a socket, a little-endian number of four bytes. A value of another length is shown
+-- as an unknown attribute.
+abbrev pub uid_text : Attribute → List ℕ
+uid_text a =
+    option_map_or (λ n. detail (codes "uid") n) (user_id a) (unknown_attribute_text a)
+
 -- The text of an attribute other than the memory of a netlink, packet, vsock or XDP socket. Only
--- NETLINK_DIAG_GROUPS, whose first four bytes are little-endian and have a bit for each of 32
--- groups, and PACKET_DIAG_INFO are decoded. A value that is too short for them is shown as an
+-- these are decoded: NETLINK_DIAG_GROUPS, whose first four bytes are little-endian and have a bit
+-- for each of 32 groups; PACKET_DIAG_INFO; PACKET_DIAG_UID and XDP_DIAG_UID; and XDP_DIAG_INFO,
+-- which has no text, since it has a column. A value that is too short for them is shown as an
 -- unknown attribute.
 abbrev pub family_text : Family → Attribute → List ℕ
 family_text Netlink a =
@@ -237,8 +249,12 @@ family_text Netlink a =
 family_text Packet a =
     if attribute_kind a == PACKET_DIAG_INFO
     then option_map_or packet_text (result_ok (packet_info a.value)) (unknown_attribute_text a)
-    else unknown_attribute_text a
-family_text _ a = unknown_attribute_text a
+    else if attribute_kind a == PACKET_DIAG_UID then uid_text a else unknown_attribute_text a
+family_text Vsock a = unknown_attribute_text a
+family_text Xdp a =
+    if attribute_kind a == XDP_DIAG_INFO
+    then option_map_or (λ info. []) (result_ok (xdp_info a.value)) (unknown_attribute_text a)
+    else if attribute_kind a == XDP_DIAG_UID then uid_text a else unknown_attribute_text a
 
 -- the text of an attribute of a reply about a netlink, packet, vsock or XDP socket
 abbrev pub other_text : Family → Attribute → List ℕ
@@ -274,7 +290,8 @@ detail_group Unix kind = if kind == UNIX_DIAG_MEMINFO then Memory else Extended
 detail_group (Inet is_tcp) kind =
     if (kind == INET_DIAG_MEMINFO) || (kind == INET_DIAG_SKMEMINFO) then Memory
     else if (kind == INET_DIAG_INFO) || (kind == INET_DIAG_VEGASINFO) || (kind == INET_DIAG_CONG)
-    || (kind == INET_DIAG_DCTCPINFO) || (kind == INET_DIAG_BBRINFO)
+    || (kind == INET_DIAG_DCTCPINFO) || (kind == INET_DIAG_BBRINFO) || (kind == INET_DIAG_MD5SIG)
+    || (kind == INET_DIAG_ULP_INFO)
     then Connection else Extended
 detail_group (Other family) kind = if is_memory_kind family kind then Memory else Extended
 

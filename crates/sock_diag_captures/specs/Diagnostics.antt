@@ -31,6 +31,7 @@ use Rattle.netlink_core.specs.declared.error.RecordName.TheVariants.{TcpInfo, Vf
 use Rattle.netlink_core.specs.declared.error.RecordName.TheVariants.{FamilyRequest}
 use Rattle.netlink_core.specs.declared.error.RecordName.TheVariants.{FamilyResponseHeader}
 use Rattle.netlink_core.specs.declared.error.RecordName.TheVariants.{FamilyAttribute}
+use Rattle.sock_diag_captures.specs.Explanation.{explanation}
 use Rattle.sock_diag_captures.specs.Listing.{IsRequestDatagram, IsSockDiag, message_diagnostic}
 use Rattle.sock_diag_captures.specs.declared.list.Diagnostic.{Diagnostic}
 use Rattle.sock_diag_captures.specs.declared.list.Diagnostic.TheVariants.{Refused, Answered}
@@ -128,13 +129,21 @@ abbrev pub interrupted_diagnostic : List ℕ → Option Diagnostic
 interrupted_diagnostic m =
     if bit_and (little_number 2 (drop 6 m)) 16 == 0 then None else Some Interrupted
 
+-- `explained_line front packet message diagnostic more`: the line of a diagnostic about this
+-- message, with the text `more` at its end, or nothing if there is none (None)
+abbrev pub explained_line : List ℕ → ℕ → ℕ → Option Diagnostic → List ℕ → List ℕ
+explained_line front packet message None more = []
+explained_line front packet message (Some diagnostic) more =
+    front ++ codes "packet " ++ decimal packet ++ codes ", message " ++ decimal message
+    ++ codes ": " ++ diagnostic_text diagnostic ++ more ++ 10 ∷ []
+
 -- `lines_about_message front packet message m`: the lines about the message `m`, whose number is
--- `message`. The first is about an interrupted dump, the second about its other diagnostic. Each is
--- present only if there is such a diagnostic.
+-- `message`. The first is about an interrupted dump, the second about its other diagnostic, with
+-- what the kernel explains about an error. Each is present only if there is such a diagnostic.
 abbrev pub lines_about_message : List ℕ → ℕ → ℕ → List ℕ → List ℕ
 lines_about_message front packet message m =
     diagnostic_line front packet message (interrupted_diagnostic m)
-    ++ diagnostic_line front packet message (message_diagnostic m)
+    ++ explained_line front packet message (message_diagnostic m) (explanation m)
 
 -- `lines_about front packet message messages`: the lines about consecutive messages, of which the
 -- first has the number `message`

@@ -29,6 +29,7 @@ use Rattle.sock_diag_families.specs.declared.packet.attributes.PacketInfo.{Packe
 use Rattle.sock_diag_records.specs.declared.constants.TheConstants.{INET_DIAG_CLASS_ID}
 use Rattle.sock_diag_records.specs.declared.constants.TheConstants.{INET_DIAG_CONG, INET_DIAG_INFO}
 use Rattle.sock_diag_records.specs.declared.constants.TheConstants.{INET_DIAG_MARK}
+use Rattle.sock_diag_records.specs.declared.constants.TheConstants.{INET_DIAG_MD5SIG}
 use Rattle.sock_diag_records.specs.declared.constants.TheConstants.{INET_DIAG_MEMINFO}
 use Rattle.sock_diag_records.specs.declared.constants.TheConstants.{INET_DIAG_PROTOCOL}
 use Rattle.sock_diag_records.specs.declared.constants.TheConstants.{INET_DIAG_SHUTDOWN}
@@ -54,11 +55,12 @@ use Rattle.sock_diag_captures.specs.declared.details.Sockets.TheVariants.{Inet, 
 use Rattle.sock_diag_captures.specs.declared.options.Family.{Family}
 use Rattle.sock_diag_captures.specs.declared.options.Family.TheVariants.{Netlink, Packet, Vsock}
 use Rattle.sock_diag_captures.specs.declared.options.Family.TheVariants.{Xdp}
-use Rattle.sock_diag_captures.specs.JsonNewer.{JsonOutcome, inet_newer_outcome}
-use Rattle.sock_diag_captures.specs.JsonNewer.{unix_newer_outcome}
+use Rattle.sock_diag_captures.specs.JsonNewer.{inet_newer_outcome, unix_newer_outcome}
+use Rattle.sock_diag_captures.specs.JsonOutcome.{JsonOutcome}
 use Rattle.sock_diag_captures.specs.JsonTcp.{tcp_members}
 use Rattle.sock_diag_extras.specs.declared.constants.TheConstants.{INET_DIAG_CGROUP_ID}
 use Rattle.sock_diag_extras.specs.declared.constants.TheConstants.{INET_DIAG_SOCKOPT, UNIX_DIAG_UID}
+use Rattle.sock_diag_extras.specs.declared.constants.TheConstants.{INET_DIAG_ULP_INFO}
 use Rattle.sock_diag_records.specs.declared.constants.TheConstants.{INET_DIAG_BBRINFO}
 use Rattle.sock_diag_records.specs.declared.constants.TheConstants.{INET_DIAG_DCTCPINFO}
 use Rattle.sock_diag_records.specs.declared.constants.TheConstants.{INET_DIAG_VEGASINFO}
@@ -179,7 +181,8 @@ inet_kinds =
     INET_DIAG_MEMINFO ∷ INET_DIAG_INFO ∷ INET_DIAG_VEGASINFO ∷ INET_DIAG_CONG ∷ INET_DIAG_TOS ∷
     INET_DIAG_TCLASS ∷ INET_DIAG_SKMEMINFO ∷ INET_DIAG_SHUTDOWN ∷ INET_DIAG_DCTCPINFO ∷
     INET_DIAG_PROTOCOL ∷ INET_DIAG_SKV6ONLY ∷ INET_DIAG_MARK ∷ INET_DIAG_BBRINFO ∷
-    INET_DIAG_CLASS_ID ∷ INET_DIAG_CGROUP_ID ∷ INET_DIAG_SOCKOPT ∷ []
+    INET_DIAG_CLASS_ID ∷ INET_DIAG_MD5SIG ∷ INET_DIAG_ULP_INFO ∷ INET_DIAG_CGROUP_ID ∷
+    INET_DIAG_SOCKOPT ∷ []
 
 -- What an attribute of an IPv4 or IPv6 socket yields. INET_DIAG_INFO of a TCP socket can have any
 -- length.

@@ -1,10 +1,9 @@
 -- JSON of the attributes of newer kernels, which the port leaves undecoded. Names of members are
 -- the kernel's names without the prefixes `tcpv_`, `dctcp_` and `bbr_`.
 use Rattle.std.specs.Prelude.{ℕ, ◌==◌, nat_le, if◌then◌else◌, List, [], ◌∷◌, codes, length}
-use Rattle.std.specs.Prelude.{Option, None, Some, Result, Ok}
+use Rattle.std.specs.Prelude.{None, Some, Ok}
 use Rattle.byteorder.specs.Endian.{little_number}
 use Rattle.netlink_core.specs.Attribute.{Attribute, attribute_kind}
-use Rattle.netlink_core.specs.declared.error.DecodeError.{DecodeError}
 use Rattle.sock_diag_extras.specs.Congestion.{bbr_info, dctcp_info, vegas_info}
 use Rattle.sock_diag_extras.specs.RecordTable.{RecordTable, parse_by_table}
 use Rattle.sock_diag_extras.specs.SocketOptions.{socket_options}
@@ -14,15 +13,15 @@ use Rattle.sock_diag_extras.specs.declared.congestion.VegasInfo.{VegasInfo}
 use Rattle.sock_diag_extras.specs.declared.options.SocketOptions.{SocketOptions}
 use Rattle.sock_diag_extras.specs.declared.constants.TheConstants.{INET_DIAG_CGROUP_ID}
 use Rattle.sock_diag_extras.specs.declared.constants.TheConstants.{INET_DIAG_SOCKOPT, UNIX_DIAG_UID}
+use Rattle.sock_diag_extras.specs.declared.constants.TheConstants.{INET_DIAG_ULP_INFO}
 use Rattle.sock_diag_records.specs.declared.constants.TheConstants.{INET_DIAG_BBRINFO}
 use Rattle.sock_diag_records.specs.declared.constants.TheConstants.{INET_DIAG_DCTCPINFO}
+use Rattle.sock_diag_records.specs.declared.constants.TheConstants.{INET_DIAG_MD5SIG}
 use Rattle.sock_diag_records.specs.declared.constants.TheConstants.{INET_DIAG_VEGASINFO}
 use Rattle.sock_diag_captures.specs.JsonData.{JsonMember, number_members, object_member}
-
--- An attribute yields members, or nothing (None) if its type is unknown, or an error if its value
--- is invalid.
-abbrev pub JsonOutcome : Type 0
-JsonOutcome = Result (Option (List JsonMember)) DecodeError
+use Rattle.sock_diag_captures.specs.JsonMd5Keys.{md5_outcome}
+use Rattle.sock_diag_captures.specs.JsonOutcome.{JsonOutcome}
+use Rattle.sock_diag_captures.specs.JsonUlpInfo.{ulp_outcome}
 
 -- `record_outcome layout members a`: the members of the record at the start of the value of the
 -- attribute `a`; as of an unknown attribute if the value is shorter than the record
@@ -68,6 +67,8 @@ inet_newer_outcome a =
     if attribute_kind a == INET_DIAG_VEGASINFO then record_outcome vegas_info vegas_members a
     else if attribute_kind a == INET_DIAG_DCTCPINFO then record_outcome dctcp_info dctcp_members a
     else if attribute_kind a == INET_DIAG_BBRINFO then record_outcome bbr_info bbr_members a
+    else if attribute_kind a == INET_DIAG_MD5SIG then md5_outcome a
+    else if attribute_kind a == INET_DIAG_ULP_INFO then ulp_outcome a
     else if attribute_kind a == INET_DIAG_CGROUP_ID
     then whole_number_outcome 8 (codes "cgroup_id") a
     else if attribute_kind a == INET_DIAG_SOCKOPT

@@ -2,12 +2,15 @@ pub mod Pieces
 pub mod Requests
 pub mod Table
 pub mod Rows
+pub mod Md5Keys
+pub mod UlpInfo
 pub mod Newer
 pub mod ShortInfo
 pub mod Details
 pub mod RequestLine
 pub mod Others
 pub mod Listing
+pub mod Explanation
 pub mod Diagnostics
 pub mod Run
 pub mod Escapes
@@ -23,6 +26,9 @@ pub mod Headings
 pub mod Reports
 pub mod JsonData
 pub mod JsonTcp
+pub mod JsonOutcome
+pub mod JsonMd5Keys
+pub mod JsonUlpInfo
 pub mod JsonNewer
 pub mod JsonAttributes
 pub mod JsonSockets

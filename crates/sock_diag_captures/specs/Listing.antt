@@ -194,8 +194,7 @@ diagnostic_by_type t payload =
 abbrev pub message_diagnostic : List ℕ → Option Diagnostic
 message_diagnostic m = diagnostic_by_type (type_of m) (drop 16 m)
 
--- `is_informational_or_none diagnostic`: there is no diagnostic, or it is one of the two notes, so
--- that no socket is missing from the table
+-- `is_informational_or_none diagnostic`: there is no diagnostic, or it is one of the two notes
 abbrev pub is_informational_or_none : Option Diagnostic → Bool
 is_informational_or_none None = true
 is_informational_or_none (Some NoEntry) = true

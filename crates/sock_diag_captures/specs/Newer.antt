@@ -15,11 +15,15 @@ use Rattle.sock_diag_extras.specs.declared.congestion.DctcpInfo.{DctcpInfo}
 use Rattle.sock_diag_extras.specs.declared.congestion.VegasInfo.{VegasInfo}
 use Rattle.sock_diag_extras.specs.declared.constants.TheConstants.{INET_DIAG_CGROUP_ID}
 use Rattle.sock_diag_extras.specs.declared.constants.TheConstants.{INET_DIAG_SOCKOPT, UNIX_DIAG_UID}
+use Rattle.sock_diag_extras.specs.declared.constants.TheConstants.{INET_DIAG_ULP_INFO}
 use Rattle.sock_diag_records.specs.declared.constants.TheConstants.{INET_DIAG_BBRINFO}
 use Rattle.sock_diag_records.specs.declared.constants.TheConstants.{INET_DIAG_DCTCPINFO}
+use Rattle.sock_diag_records.specs.declared.constants.TheConstants.{INET_DIAG_MD5SIG}
 use Rattle.sock_diag_records.specs.declared.constants.TheConstants.{INET_DIAG_VEGASINFO}
+use Rattle.sock_diag_captures.specs.Md5Keys.{md5_text}
 use Rattle.sock_diag_captures.specs.Parts.{detail, flag_detail, nonzero_detail}
 use Rattle.sock_diag_captures.specs.Rows.{rows_text, unknown_attribute_text}
+use Rattle.sock_diag_captures.specs.UlpInfo.{ulp_text}
 use Rattle.sock_diag_captures.specs.declared.details.Format.TheVariants.{Part}
 
 -- `record_text layout text a`: the text of the record at the start of the value of the attribute
@@ -135,6 +139,8 @@ inet_newer_text a =
     else if attribute_kind a == INET_DIAG_VEGASINFO then vegas_text a
     else if attribute_kind a == INET_DIAG_DCTCPINFO then dctcp_text a
     else if attribute_kind a == INET_DIAG_BBRINFO then bbr_text a
+    else if attribute_kind a == INET_DIAG_MD5SIG then md5_text a
+    else if attribute_kind a == INET_DIAG_ULP_INFO then ulp_text a
     else unknown_attribute_text a
 
 -- The text of an attribute of a reply about a UNIX socket that the port leaves undecoded. The user

@@ -5,7 +5,7 @@ use Rattle.std.specs.Prelude.{codes, decimal, Option}
 use Rattle.std.specs.Io.KnownBytes.{Appends}
 use Rattle.program_streams.specs.ErrorText.{capture_error_text}
 use Rattle.program_streams.specs.Streams.{write_error_text}
-use Rattle.program_streams.specs.declared.streams.WriteError.TheVariants.{Closed}
+use Rattle.program_streams.specs.declared.streams.WriteError.TheVariants.{Closed, Other}
 use Rattle.sock_diag_captures.specs.declared.list_error.ListError.{ListError}
 use Rattle.sock_diag_captures.specs.declared.list_error.ListError.TheVariants.{Header, Packet}
 use Rattle.sock_diag_captures.specs.declared.list_error.ListError.TheVariants.{Write}
@@ -42,7 +42,8 @@ abbrev pub list_error_text : ListError → List ℕ
 list_error_text (Header error) = capture_error_text error
 list_error_text (Packet packet error) =
     codes "packet " ++ decimal packet ++ codes ": " ++ capture_error_text error
-list_error_text (Write error) = write_error_text error
+list_error_text (Write Closed) = write_error_text Closed
+list_error_text (Write Other) = codes "writing to standard output failed"
 list_error_text Memory = codes "out of memory"
 
 -- the line that names a failure, or nothing if the failure is a closed output pipe

@@ -12,6 +12,7 @@ ghost use Rattle.sock_diag_captures.specs.Choice.{option_argument, valued_argume
 ghost use Rattle.sock_diag_captures.specs.Choice.{with_details, with_family, with_letters};
 ghost use Rattle.sock_diag_captures.specs.Choice.{with_sockets};
 
+use crate::choice::Rejection;
 use crate::filter::{PortCondition, port_condition, states_named};
 use crate::options::{AnyFamily, Family, Options};
 
@@ -59,8 +60,8 @@ pub(crate) enum Argument {
     EndOfOptions,
     /// The name of a file, or `-` for standard input.
     File,
-    /// An unknown option or family.
-    Unknown,
+    /// An argument that is rejected, for this reason.
+    Rejected(Rejection),
 }
 
 /// Parses an argument.
@@ -70,7 +71,7 @@ pub(crate) fn argument_at(place: Place, word: &[u8]) -> Argument
     match place {
         Place::Any if is_file(word) => Argument::File,
         Place::Any => option_argument(word),
-        Place::Family => family_argument(word),
+        Place::Family => family_argument(Rejection::UnknownFamily, word),
         Place::File => Argument::File,
     }
 }
@@ -120,7 +121,7 @@ fn valued_argument(word: &[u8]) -> Argument
     ensures { result ≡ valued_argument word.now }
 {
     if word.starts_with(b"--family=") {
-        family_argument(&word[9..])
+        family_argument(Rejection::UnknownFamilyValue, &word[9..])
     } else if word.starts_with(b"--state=") {
         state_argument(&word[8..])
     } else {
@@ -147,7 +148,7 @@ fn state_argument(name: &[u8]) -> Argument
 {
     match states_named(name) {
         Some(states) => Argument::States(states),
-        None => Argument::Unknown,
+        None => Argument::Rejected(Rejection::UnknownStateValue),
     }
 }
 
@@ -157,7 +158,7 @@ fn source_argument(text: &[u8]) -> Argument
 {
     match port_condition(text) {
         Some(condition) => Argument::SourcePort(condition),
-        None => Argument::Unknown,
+        None => Argument::Rejected(Rejection::InvalidPortValue),
     }
 }
 
@@ -167,7 +168,7 @@ fn destination_argument(text: &[u8]) -> Argument
 {
     match port_condition(text) {
         Some(condition) => Argument::DestinationPort(condition),
-        None => Argument::Unknown,
+        None => Argument::Rejected(Rejection::InvalidPortValue),
     }
 }
 
@@ -176,20 +177,20 @@ fn letters_argument(word: &[u8]) -> Argument
     ensures { result ≡ letters_argument word.now }
 {
     if word.is_empty() || !are_letters(&word[1..]) {
-        return Argument::Unknown;
+        return Argument::Rejected(Rejection::UnknownOption);
     }
     Argument::Letters {
         needs_family: ends_in_f(word),
     }
 }
 
-/// Parses the name of a family.
-fn family_argument(name: &[u8]) -> Argument
-    ensures { result ≡ family_argument name.now }
+/// Parses the name of a family. `rejection` is the reason to reject any other text.
+fn family_argument(rejection: Rejection, name: &[u8]) -> Argument
+    ensures { result ≡ family_argument rejection name.now }
 {
     match family_named(name) {
         Some(family) => Argument::Sockets(family),
-        None => Argument::Unknown,
+        None => Argument::Rejected(rejection),
     }
 }
 

@@ -6,33 +6,14 @@ ghost use Rattle.std.specs.Prelude.{vec_len, OnOk};
 ghost use Rattle.std.specs.Fmt.{digits};
 ghost use Rattle.sock_diag_captures.specs.Cells.{column, endpoint, first_columns};
 ghost use Rattle.sock_diag_captures.specs.Cells.{bracketed_address};
-ghost use Rattle.sock_diag_captures.specs.Cells.{number_cell, peer_cell, port_text, state_name};
+ghost use Rattle.sock_diag_captures.specs.Cells.{number_cell, peer_cell, port_text};
 ghost use Rattle.sock_diag_captures.specs.CellsModel.{cells_model};
 ghost use Rattle.sock_diag_captures.specs.Escapes.{byte_digits, escaped_byte};
 
+use crate::kinds::name_of_state;
 use std::alloc::AllocError;
 use std::io::Write;
 use std::net::IpAddr;
-
-/// Returns the name of a socket state, as ss(8) prints it: `UNKNOWN` for 0 and from 12 on.
-pub(crate) fn name_of_state(state: u8) -> &'static [u8]
-    ensures { result.now ≡ state_name state }
-{
-    match state {
-        1 => b"ESTAB",
-        2 => b"SYN-SENT",
-        3 => b"SYN-RECV",
-        4 => b"FIN-WAIT-1",
-        5 => b"FIN-WAIT-2",
-        6 => b"TIME-WAIT",
-        7 => b"UNCONN",
-        8 => b"CLOSE-WAIT",
-        9 => b"LAST-ACK",
-        10 => b"LISTEN",
-        11 => b"CLOSING",
-        _ => b"UNKNOWN",
-    }
-}
 
 /// Appends a number in decimal.
 pub(crate) fn push_number(text: &mut Vec<u8>, number: u64) -> Result<(), AllocError>
@@ -124,7 +105,7 @@ pub(crate) fn push_first_columns(text: &mut Vec<u8>, cells: &Cells) -> Result<()
         ++ first_columns (cells_model cells.now)) }
 {
     push_column(text, 5, cells.kind)?;
-    push_column(text, 10, name_of_state(cells.state))?;
+    push_column(text, 10, name_of_state(cells.state).as_bytes())?;
     push_number_column(text, 6, cells.receive_queue)?;
     push_number_column(text, 6, cells.send_queue)?;
     push_number_column(text, 10, Some(cells.inode))?;

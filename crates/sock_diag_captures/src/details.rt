@@ -10,18 +10,20 @@ ghost use Rattle.sock_diag_attributes.specs.NumbersModel.{numbers_view_model};
 ghost use Rattle.sock_diag_attributes.specs.UnixModel.{unix_nla_view_model as unix_view_model};
 ghost use Rattle.sock_diag_attributes.specs.UnixModel.{unix_variant};
 ghost use Rattle.sock_diag_captures.specs.Details.{attribute_or_error_detail, detail_group};
-ghost use Rattle.sock_diag_captures.specs.Details.{details, error_reason, inet_text};
+ghost use Rattle.sock_diag_captures.specs.Details.{details, inet_text};
 ghost use Rattle.sock_diag_captures.specs.Details.{invalid_attribute_text, legacy_memory};
 ghost use Rattle.sock_diag_captures.specs.Details.{memory_kind, memory_text, memory_value_text};
 ghost use Rattle.sock_diag_captures.specs.Details.{other_text, packet_text, tcp_counts};
 ghost use Rattle.sock_diag_captures.specs.Details.{tcp_details, tcp_losses, tcp_times};
-ghost use Rattle.sock_diag_captures.specs.Details.{timer_in, unix_text, unread_inet_text};
+ghost use Rattle.sock_diag_captures.specs.Details.{timer_in, uid_text, unix_text};
+ghost use Rattle.sock_diag_captures.specs.Details.{unread_inet_text};
 ghost use Rattle.sock_diag_captures.specs.Newer.{later_details};
 ghost use Rattle.sock_diag_captures.specs.ShortInfo.{tcp_option_flags};
 ghost use Rattle.sock_diag_captures.specs.Pieces.{attributes_or_error};
 ghost use Rattle.sock_diag_captures.specs.Rows.{row_text, unknown_attribute_text};
 
 use crate::cells::push_number;
+use crate::kinds::reason_of;
 use crate::names::push_shown;
 use crate::newer::{push_inet_newer, push_later_fields, push_unix_newer};
 use crate::options::{Detail, Family, Options};
@@ -36,13 +38,17 @@ use byteorder::{ByteOrder, LittleEndian};
 use netlink_core::{DecodeError, NlaBuffer, NlasIterator};
 use sock_diag_attributes::inet::nlas::NlaView as InetView;
 use sock_diag_attributes::unix::nlas::{NlaView as UnixView, NumbersView};
+use sock_diag_extras::constants::INET_DIAG_ULP_INFO;
+use sock_diag_extras::parse_uid;
 use sock_diag_families::netlink::{NETLINK_DIAG_GROUPS, NETLINK_DIAG_MEMINFO};
-use sock_diag_families::packet::{PACKET_DIAG_INFO, PACKET_DIAG_MEMINFO, PacketInfo};
-use sock_diag_families::xdp::XDP_DIAG_MEMINFO;
+use sock_diag_families::packet::{
+    PACKET_DIAG_INFO, PACKET_DIAG_MEMINFO, PACKET_DIAG_UID, PacketInfo,
+};
+use sock_diag_families::xdp::{XDP_DIAG_INFO, XDP_DIAG_MEMINFO, XDP_DIAG_UID, XdpInfo};
 use sock_diag_records::constants::{
-    INET_DIAG_BBRINFO, INET_DIAG_CONG, INET_DIAG_DCTCPINFO, INET_DIAG_INFO, INET_DIAG_MEMINFO,
-    INET_DIAG_SKMEMINFO, INET_DIAG_VEGASINFO, TCPI_OPT_ECN, TCPI_OPT_ECN_SEEN, TCPI_OPT_SACK,
-    TCPI_OPT_SYN_DATA, TCPI_OPT_TIMESTAMPS, TCPI_OPT_WSCALE, UNIX_DIAG_MEMINFO,
+    INET_DIAG_BBRINFO, INET_DIAG_CONG, INET_DIAG_DCTCPINFO, INET_DIAG_INFO, INET_DIAG_MD5SIG,
+    INET_DIAG_MEMINFO, INET_DIAG_SKMEMINFO, INET_DIAG_VEGASINFO, TCPI_OPT_ECN, TCPI_OPT_ECN_SEEN,
+    TCPI_OPT_SACK, TCPI_OPT_SYN_DATA, TCPI_OPT_TIMESTAMPS, TCPI_OPT_WSCALE, UNIX_DIAG_MEMINFO,
 };
 use sock_diag_values::inet::{LegacyMemInfo, MemInfo, TcpInfo};
 use std::alloc::AllocError;
@@ -195,7 +201,9 @@ fn detail_group(sockets: Sockets, kind: u16) -> Detail
             | INET_DIAG_VEGASINFO
             | INET_DIAG_CONG
             | INET_DIAG_DCTCPINFO
-            | INET_DIAG_BBRINFO,
+            | INET_DIAG_BBRINFO
+            | INET_DIAG_MD5SIG
+            | INET_DIAG_ULP_INFO,
         ) => Detail::Connection,
         _ => Detail::Extended,
     }
@@ -271,8 +279,9 @@ fn push_inet(
 }
 
 /// Appends the details of an attribute of a netlink, packet, vsock or XDP socket: of the memory,
-/// the first 32 groups of a netlink socket, or the settings of a packet socket. A value that is too
-/// short for the groups or the settings is shown as an unknown attribute.
+/// the first 32 groups of a netlink socket, the settings of a packet socket, or the user id. The
+/// interface and the queue of an XDP socket have a column, so they have none. A value that is too
+/// short for its attribute is shown as an unknown attribute.
 fn push_other(text: &mut Vec<u8>, family: Family, nla: &NlaBuffer<'_>) -> Result<(), AllocError>
     ensures { OnOk result (text.new.items
         ≡ text.old.items ++ other_text family (buffered_attribute nla.now)) }
@@ -287,7 +296,25 @@ fn push_other(text: &mut Vec<u8>, family: Family, nla: &NlaBuffer<'_>) -> Result
             Ok(info) => push_packet_info(text, &info),
             Err(_) => push_unknown(text, nla),
         },
+        Family::Packet if kind == PACKET_DIAG_UID => push_uid(text, nla),
+        Family::Xdp if kind == XDP_DIAG_UID => push_uid(text, nla),
+        Family::Xdp if kind == XDP_DIAG_INFO => match XdpInfo::parse(value) {
+            Ok(_) => Ok(()),
+            Err(_) => push_unknown(text, nla),
+        },
         _ => push_unknown(text, nla),
+    }
+}
+
+/// Appends the user id of a socket. A value that does not have four bytes is appended as an unknown
+/// attribute.
+fn push_uid(text: &mut Vec<u8>, nla: &NlaBuffer<'_>) -> Result<(), AllocError>
+    ensures { OnOk result (text.new.items ≡ text.old.items
+        ++ uid_text (buffered_attribute nla.now)) }
+{
+    match parse_uid(nla.value()) {
+        Some(uid) => push_detail(text, b"uid", uid.into()),
+        None => push_unknown(text, nla),
     }
 }
 
@@ -339,23 +366,8 @@ fn push_invalid(
     let (kind, length) = (nla.kind() as u64, nla.value().len() as u64);
     push_rows(text, Format::Part, &[(b" unread:(", kind), (b",", length)])?;
     text.push(b',')?;
-    text.extend_from_slice(error_reason(error))?;
+    text.extend_from_slice(reason_of(error).as_bytes())?;
     Ok(text.push(b')')?)
-}
-
-/// Returns the reason why a value is invalid, in one word.
-fn error_reason(error: &DecodeError) -> &'static [u8]
-    ensures { result.now ≡ error_reason error.now }
-{
-    match error {
-        DecodeError::BufferTooSmall { .. } => b"too-short",
-        DecodeError::WrongLength { .. } | DecodeError::NotMultipleOfFour { .. } => b"wrong-length",
-        DecodeError::NotUtf8 => b"not-utf8",
-        DecodeError::NameEmpty => b"empty",
-        DecodeError::NameInnerZero { .. } => b"inner-zero",
-        DecodeError::NameWithoutEnd => b"no-end",
-        _ => b"refused",
-    }
 }
 
 /// Appends a list of names and numbers.

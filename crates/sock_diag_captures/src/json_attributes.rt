@@ -26,7 +26,7 @@ ghost use Rattle.sock_diag_captures.specs.JsonAttributes.{memory_outcome, number
 ghost use Rattle.sock_diag_captures.specs.JsonAttributes.{other_items, outcome_members};
 ghost use Rattle.sock_diag_captures.specs.JsonAttributes.{packet_outcome, unix_attribute_outcome};
 ghost use Rattle.sock_diag_captures.specs.JsonAttributes.{unix_outcome, xdp_outcome};
-ghost use Rattle.sock_diag_captures.specs.JsonData.{array_member, flag_member, name_members};
+ghost use Rattle.sock_diag_captures.specs.JsonData.{array_member, name_members};
 ghost use Rattle.sock_diag_captures.specs.JsonData.{number_members, numbers_member, object_member};
 ghost use Rattle.sock_diag_captures.specs.JsonData.{object_of, text_member};
 ghost use Rattle.sock_diag_captures.specs.Pieces.{attributes_or_error};
@@ -37,8 +37,9 @@ use crate::details::{Sockets, memory_kind};
 use crate::json_newer::{inet_newer_status, unix_newer_status, write_inet_newer, write_unix_newer};
 use crate::json_tcp::write_tcp;
 use crate::json_writing::{
-    begin_member, write_name_members, write_numbers, write_optional, write_text,
+    begin_member, write_flag, write_name_members, write_numbers, write_optional, write_text,
 };
+use crate::kinds::reason_of;
 use crate::options::Family;
 use crate::pieces::{find_kind, next_piece};
 use byteorder::{ByteOrder, LittleEndian};
@@ -46,7 +47,9 @@ use json::Writer;
 use netlink_core::{DecodeError, NlaBuffer, NlasIterator};
 use sock_diag_attributes::inet::nlas::NlaView as InetView;
 use sock_diag_attributes::unix::nlas::{NameView, NlaView as UnixView, NumbersView};
-use sock_diag_extras::constants::{INET_DIAG_CGROUP_ID, INET_DIAG_SOCKOPT, UNIX_DIAG_UID};
+use sock_diag_extras::constants::{
+    INET_DIAG_CGROUP_ID, INET_DIAG_SOCKOPT, INET_DIAG_ULP_INFO, UNIX_DIAG_UID,
+};
 use sock_diag_families::netlink::{NETLINK_DIAG_GROUPS, NETLINK_DIAG_MEMINFO};
 use sock_diag_families::packet::{
     PACKET_DIAG_INFO, PACKET_DIAG_MEMINFO, PACKET_DIAG_UID, PacketInfo,
@@ -54,10 +57,10 @@ use sock_diag_families::packet::{
 use sock_diag_families::xdp::{XDP_DIAG_INFO, XDP_DIAG_MEMINFO, XDP_DIAG_UID, XdpInfo};
 use sock_diag_records::constants::{
     INET_DIAG_BBRINFO, INET_DIAG_CLASS_ID, INET_DIAG_CONG, INET_DIAG_DCTCPINFO, INET_DIAG_INFO,
-    INET_DIAG_MARK, INET_DIAG_MEMINFO, INET_DIAG_PROTOCOL, INET_DIAG_SHUTDOWN, INET_DIAG_SKMEMINFO,
-    INET_DIAG_SKV6ONLY, INET_DIAG_TCLASS, INET_DIAG_TOS, INET_DIAG_VEGASINFO, UNIX_DIAG_ICONS,
-    UNIX_DIAG_MEMINFO, UNIX_DIAG_NAME, UNIX_DIAG_PEER, UNIX_DIAG_RQLEN, UNIX_DIAG_SHUTDOWN,
-    UNIX_DIAG_VFS,
+    INET_DIAG_MARK, INET_DIAG_MD5SIG, INET_DIAG_MEMINFO, INET_DIAG_PROTOCOL, INET_DIAG_SHUTDOWN,
+    INET_DIAG_SKMEMINFO, INET_DIAG_SKV6ONLY, INET_DIAG_TCLASS, INET_DIAG_TOS, INET_DIAG_VEGASINFO,
+    UNIX_DIAG_ICONS, UNIX_DIAG_MEMINFO, UNIX_DIAG_NAME, UNIX_DIAG_PEER, UNIX_DIAG_RQLEN,
+    UNIX_DIAG_SHUTDOWN, UNIX_DIAG_VFS,
 };
 use sock_diag_values::inet::{LegacyMemInfo, MemInfo};
 use std::alloc::{AllocError, Global};
@@ -75,7 +78,7 @@ const UNIX_KINDS: [u16; 8] = [
 ];
 
 /// Types of the attributes of an IPv4 or IPv6 socket that yield members.
-const INET_KINDS: [u16; 16] = [
+const INET_KINDS: [u16; 18] = [
     INET_DIAG_MEMINFO,
     INET_DIAG_INFO,
     INET_DIAG_VEGASINFO,
@@ -90,6 +93,8 @@ const INET_KINDS: [u16; 16] = [
     INET_DIAG_MARK,
     INET_DIAG_BBRINFO,
     INET_DIAG_CLASS_ID,
+    INET_DIAG_MD5SIG,
+    INET_DIAG_ULP_INFO,
     INET_DIAG_CGROUP_ID,
     INET_DIAG_SOCKOPT,
 ];
@@ -203,7 +208,7 @@ fn write_attribute(
 {
     match sockets {
         Sockets::Unix => write_unix_attribute(alloc, writer, nla),
-        Sockets::Inet { is_tcp } => write_inet_attribute(writer, is_tcp, nla),
+        Sockets::Inet { is_tcp } => write_inet_attribute(alloc, writer, is_tcp, nla),
         Sockets::Other(family) => write_family_attribute(writer, family, nla),
     }
 }
@@ -296,21 +301,6 @@ fn write_attribute_members(writer: &mut Writer, nla: &NlaBuffer<'_>) -> Result<(
     write_numbers(writer, &[("kind", kind), ("length", length)])
 }
 
-/// Returns the reason why a value is invalid, in one word.
-fn reason_of(error: &DecodeError) -> &'static str
-    ensures { result.now ≡ error_reason error.now }
-{
-    match error {
-        DecodeError::BufferTooSmall { .. } => "too-short",
-        DecodeError::WrongLength { .. } | DecodeError::NotMultipleOfFour { .. } => "wrong-length",
-        DecodeError::NotUtf8 => "not-utf8",
-        DecodeError::NameEmpty => "empty",
-        DecodeError::NameInnerZero { .. } => "inner-zero",
-        DecodeError::NameWithoutEnd => "no-end",
-        _ => "refused",
-    }
-}
-
 /// Returns whether an attribute yields members, or the error of its value.
 fn status_of(sockets: Sockets, nla: &NlaBuffer<'_>) -> Result<bool, DecodeError>
     ensures { result ≡ map_ok is_some (attribute_outcome sockets (buffered_attribute nla.now)) }
@@ -396,6 +386,7 @@ fn write_unix(
 /// Writes the members that an attribute of an IPv4 or IPv6 socket yields.
 #[tactic(auto, unfolding(crate::specs::private::JsonWriting::members_tokens))]
 fn write_inet_attribute(
+    alloc: Global,
     writer: &mut Writer,
     is_tcp: bool,
     nla: &NlaBuffer<'_>,
@@ -408,7 +399,7 @@ fn write_inet_attribute(
         return write_tcp(writer, nla.value());
     }
     match InetView::parse(nla) {
-        Ok(view) => write_inet(writer, nla, &view),
+        Ok(view) => write_inet(alloc, writer, nla, &view),
         Err(_) => Ok(()),
     }
 }
@@ -416,6 +407,7 @@ fn write_inet_attribute(
 /// Writes the members that a decoded attribute of an IPv4 or IPv6 socket yields.
 #[tactic(auto, unfolding(crate::specs::private::JsonWriting::members_tokens))]
 fn write_inet(
+    alloc: Global,
     writer: &mut Writer,
     nla: &NlaBuffer<'_>,
     view: &InetView<'_>,
@@ -428,7 +420,7 @@ fn write_inet(
     match view {
         InetView::LegacyMemInfo(memory) => write_legacy_memory(writer, memory),
         InetView::TcpInfo(_) => write_tcp(writer, nla.value()),
-        InetView::Other(_) => write_inet_newer(writer, nla),
+        InetView::Other(_) => write_inet_newer(alloc, writer, nla),
         InetView::Congestion(name) => write_text(writer, "cong", name),
         InetView::Tos(tos) => write_numbers(writer, &[("tos", (*tos).into())]),
         InetView::Tc(class) => write_numbers(writer, &[("tclass", (*class).into())]),
@@ -618,16 +610,6 @@ fn uid_status(nla: &NlaBuffer<'_>) -> Result<bool, DecodeError>
     }
     let kind = Some(nla.kind());
     Err(DecodeError::WrongLength { kind, got, need: 4 })
-}
-
-/// Writes a member whose value is `true` or `false`.
-#[tactic(auto, unfolding(crate::specs::JsonData::flag_member, crate::specs::private::JsonWriting::members_tokens))]
-fn write_flag(writer: &mut Writer, name: &str, flag: bool) -> Result<(), AllocError>
-    ensures before { KeepsText result writer.old writer.new }
-    ensures members { AddsMembers result writer.old writer.new (flag_member name.now flag) }
-{
-    writer.key(name)?;
-    writer.boolean(flag)
 }
 
 /// Writes a member whose value is an object with numbers: a name and a number for each row.

@@ -15,16 +15,24 @@ ghost use Rattle.sock_diag_captures.specs.JsonNewer.{vegas_members, whole_number
 ghost use Rattle.sock_diag_captures.specs.private.JsonWriting.{AddsMembers, AddsTokens, KeepsText};
 
 use crate::json_attributes::write_object;
+use crate::json_md5_keys::write_md5;
+use crate::json_ulp_info::write_ulp;
 use crate::json_writing::write_numbers;
+use crate::md5_keys::has_md5_keys;
+use crate::ulp_info::name_of_protocol;
 use byteorder::{ByteOrder, LittleEndian};
 use json::Writer;
 use netlink_core::{DecodeError, NlaBuffer};
-use sock_diag_extras::constants::{INET_DIAG_CGROUP_ID, INET_DIAG_SOCKOPT, UNIX_DIAG_UID};
+use sock_diag_extras::constants::{
+    INET_DIAG_CGROUP_ID, INET_DIAG_SOCKOPT, INET_DIAG_ULP_INFO, UNIX_DIAG_UID,
+};
 use sock_diag_extras::{
     BbrInfo, DctcpInfo, SocketOptions, VegasInfo, parse_uid, read_attribute_record,
 };
-use sock_diag_records::constants::{INET_DIAG_BBRINFO, INET_DIAG_DCTCPINFO, INET_DIAG_VEGASINFO};
-use std::alloc::AllocError;
+use sock_diag_records::constants::{
+    INET_DIAG_BBRINFO, INET_DIAG_DCTCPINFO, INET_DIAG_MD5SIG, INET_DIAG_VEGASINFO,
+};
+use std::alloc::{AllocError, Global};
 
 /// Writes the members of an attribute of a UNIX socket that the port leaves undecoded.
 #[tactic(auto, unfolding(crate::specs::private::JsonWriting::members_tokens))]
@@ -51,7 +59,11 @@ pub(crate) fn unix_newer_status(nla: &NlaBuffer<'_>) -> Result<bool, DecodeError
 
 /// Writes the members of an attribute of an IPv4 or IPv6 socket that the port leaves undecoded.
 #[tactic(auto, unfolding(crate::specs::private::JsonWriting::members_tokens))]
-pub(crate) fn write_inet_newer(writer: &mut Writer, nla: &NlaBuffer<'_>) -> Result<(), AllocError>
+pub(crate) fn write_inet_newer(
+    alloc: Global,
+    writer: &mut Writer,
+    nla: &NlaBuffer<'_>,
+) -> Result<(), AllocError>
     ensures before { KeepsText result writer.old writer.new }
     ensures members { AddsMembers result writer.old writer.new
         (outcome_members (inet_newer_outcome (buffered_attribute nla.now))) }
@@ -60,6 +72,8 @@ pub(crate) fn write_inet_newer(writer: &mut Writer, nla: &NlaBuffer<'_>) -> Resu
         INET_DIAG_VEGASINFO => write_vegas(writer, nla),
         INET_DIAG_DCTCPINFO => write_dctcp(writer, nla),
         INET_DIAG_BBRINFO => write_bbr(writer, nla),
+        INET_DIAG_MD5SIG => write_md5(alloc, writer, nla),
+        INET_DIAG_ULP_INFO => write_ulp(writer, nla),
         INET_DIAG_CGROUP_ID => write_cgroup(writer, nla),
         INET_DIAG_SOCKOPT => write_options(writer, nla),
         _ => Ok(()),
@@ -75,6 +89,8 @@ pub(crate) fn inet_newer_status(nla: &NlaBuffer<'_>) -> Result<bool, DecodeError
     Ok(match nla.kind() {
         INET_DIAG_VEGASINFO | INET_DIAG_DCTCPINFO => length >= 16,
         INET_DIAG_BBRINFO => length >= 20,
+        INET_DIAG_MD5SIG => has_md5_keys(nla.value()),
+        INET_DIAG_ULP_INFO => name_of_protocol(nla.value()).is_some(),
         INET_DIAG_CGROUP_ID => length == 8,
         INET_DIAG_SOCKOPT => length >= 2,
         _ => false,

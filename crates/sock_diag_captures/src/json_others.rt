@@ -8,7 +8,6 @@ ghost use Rattle.sock_diag_captures.specs.JsonOthers.{netlink_header_members, ot
 ghost use Rattle.sock_diag_captures.specs.JsonOthers.{other_json, other_members};
 ghost use Rattle.sock_diag_captures.specs.JsonOthers.{packet_header_members, vsock_header_members};
 ghost use Rattle.sock_diag_captures.specs.JsonOthers.{xdp_header_members};
-ghost use Rattle.sock_diag_captures.specs.Others.{other_kind};
 ghost use Rattle.sock_diag_captures.specs.Pieces.{attributes_or_error};
 ghost use Rattle.sock_diag_captures.specs.declared.options.Family.{Family as SocketFamily};
 ghost use Rattle.sock_diag_captures.specs.declared.options.Family.TheVariants.{Netlink, Packet};
@@ -17,8 +16,8 @@ ghost use Rattle.sock_diag_captures.specs.private.JsonWriting.{AddsMembers, Adds
 
 use crate::details::Sockets;
 use crate::json_attributes::write_attributes;
-use crate::json_sockets::name_of_state;
 use crate::json_writing::{write_hex, write_numbers, write_text};
+use crate::kinds::{name_of_other_kind, name_of_state};
 use crate::options::Family;
 use json::Writer;
 use sock_diag_families::netlink::NetlinkResponseHeader;
@@ -26,7 +25,7 @@ use sock_diag_families::packet::PacketResponseHeader;
 use sock_diag_families::vsock::{AF_VSOCK, VsockResponseHeader};
 use sock_diag_families::xdp::{AF_XDP, XdpResponseHeader};
 use sock_diag_records::constants::{
-    AF_NETLINK, AF_PACKET, SOCK_DGRAM, SOCK_RAW, SOCK_SEQPACKET, SOCK_STREAM,
+    AF_NETLINK, AF_PACKET,
 };
 use std::alloc::{AllocError, Global};
 use std::mem;
@@ -115,22 +114,6 @@ fn write_header(
     write_hex(alloc, writer, "cookie", cookie)
 }
 
-/// Returns the kind of a socket, as ss(8) prints it.
-fn name_of_kind(family: Family, kind: u8) -> &'static str
-    ensures { result.now ≡ other_kind family kind }
-{
-    match family {
-        Family::Netlink => "nl",
-        Family::Packet if kind == SOCK_RAW => "p_raw",
-        Family::Packet => "p_dgr",
-        Family::Vsock if kind == SOCK_STREAM => "v_str",
-        Family::Vsock if kind == SOCK_DGRAM => "v_dgr",
-        Family::Vsock if kind == SOCK_SEQPACKET => "v_seq",
-        Family::Vsock => "vsock",
-        Family::Xdp => "xdp",
-    }
-}
-
 impl JsonHeader for NetlinkResponseHeader {
     ghost json_family = { Netlink };
 
@@ -151,7 +134,7 @@ impl JsonHeader for NetlinkResponseHeader {
             ("dst_group", self.destination_group as u64),
             ("ino", self.inode as u64),
         ];
-        let netid = name_of_kind(Family::Netlink, self.kind);
+        let netid = name_of_other_kind(Family::Netlink, self.kind);
         write_header(alloc, writer, netid, UNCONNECTED, &rows, self.cookie)
     }
 }
@@ -172,7 +155,7 @@ impl JsonHeader for PacketResponseHeader {
             ("num", self.protocol as u64),
             ("ino", self.inode as u64),
         ];
-        let netid = name_of_kind(Family::Packet, self.kind);
+        let netid = name_of_other_kind(Family::Packet, self.kind);
         write_header(alloc, writer, netid, UNCONNECTED, &rows, self.cookie)
     }
 }
@@ -198,7 +181,7 @@ impl JsonHeader for VsockResponseHeader {
             ("dst_port", self.destination_port as u64),
             ("ino", self.inode as u64),
         ];
-        let netid = name_of_kind(Family::Vsock, self.kind);
+        let netid = name_of_other_kind(Family::Vsock, self.kind);
         write_header(alloc, writer, netid, self.state, &rows, self.cookie)
     }
 }
@@ -218,7 +201,7 @@ impl JsonHeader for XdpResponseHeader {
             ("type", self.kind as u64),
             ("ino", self.inode as u64),
         ];
-        let netid = name_of_kind(Family::Xdp, self.kind);
+        let netid = name_of_other_kind(Family::Xdp, self.kind);
         write_header(alloc, writer, netid, UNCONNECTED, &rows, self.cookie)
     }
 }

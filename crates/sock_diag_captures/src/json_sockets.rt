@@ -3,23 +3,22 @@
 ghost use Rattle.std.specs.Prelude.{◌≡◌, ◌++◌, OnOk};
 ghost use Rattle.json.specs.Lex.{tokens};
 ghost use Rattle.json.specs.Tree.{json_tokens};
-ghost use Rattle.sock_diag_captures.specs.Cells.{state_name};
 ghost use Rattle.sock_diag_captures.specs.JsonData.{json_text, object_of};
 ghost use Rattle.sock_diag_captures.specs.JsonSockets.{inet_back_members, inet_front_members};
 ghost use Rattle.sock_diag_captures.specs.JsonSockets.{inet_header_members, inet_json};
 ghost use Rattle.sock_diag_captures.specs.JsonSockets.{inet_members, unix_header_members};
 ghost use Rattle.sock_diag_captures.specs.JsonSockets.{unix_json, unix_members};
 ghost use Rattle.sock_diag_captures.specs.Pieces.{attributes_or_error};
-ghost use Rattle.sock_diag_captures.specs.Table.{family_name, inet_kind, unix_kind};
 ghost use Rattle.sock_diag_captures.specs.private.JsonWriting.{AddsMembers, AddsTokens, KeepsText};
 
 use crate::details::Sockets;
 use crate::json_attributes::write_attributes;
 use crate::json_writing::{write_address, write_cookie, write_numbers, write_text};
+use crate::kinds::{name_of_inet_kind, name_of_state, name_of_unix_kind};
 use crate::line::is_tcp;
 use crate::parts::TimerFields;
 use json::Writer;
-use sock_diag_records::constants::{AF_INET6, AF_UNIX, SOCK_DGRAM, SOCK_SEQPACKET, SOCK_STREAM};
+use sock_diag_records::constants::AF_UNIX;
 use sock_diag_records::inet::InetResponseHeader;
 use sock_diag_records::unix::UnixResponseHeader;
 use std::alloc::{AllocError, Global};
@@ -75,7 +74,7 @@ fn write_unix_header(
     ensures before { KeepsText result writer.old writer.new }
     ensures members { AddsMembers result writer.old writer.new (unix_header_members header.now) }
 {
-    write_text(writer, "netid", name_of_kind(header.kind))?;
+    write_text(writer, "netid", name_of_unix_kind(header.kind))?;
     write_text(writer, "state_name", name_of_state(header.state))?;
     let rows = [
         ("family", AF_UNIX as u64),
@@ -148,7 +147,7 @@ fn write_inet_header(
         (inet_header_members protocol timer.now header.now) }
 {
     let id = &header.socket_id;
-    write_text(writer, "netid", name_of_protocol(protocol, header.family))?;
+    write_text(writer, "netid", name_of_inet_kind(protocol, header.family))?;
     write_text(writer, "state_name", name_of_state(header.state))?;
     write_inet_front(writer, timer, header)?;
     write_address(alloc, writer, "src", id.source_address)?;
@@ -197,60 +196,4 @@ fn write_inet_back(
         ("inode", header.inode as u64),
     ];
     write_numbers(writer, &rows)
-}
-
-/// Returns the name of the protocol of the request, as ss(8) prints it. Returns the name of the
-/// family if the protocol is not known or has no name here.
-fn name_of_protocol(protocol: Option<u32>, family: u8) -> &'static str
-    ensures { result.now ≡ inet_kind protocol family }
-{
-    match protocol {
-        Some(6) => "tcp",
-        Some(17) => "udp",
-        Some(33) => "dccp",
-        Some(132) => "sctp",
-        Some(136) => "udplite",
-        Some(255) => "raw",
-        Some(262) => "mptcp",
-        _ => name_of_family(family),
-    }
-}
-
-/// Returns the name of a family: `inet6` for `AF_INET6`, or else `inet`.
-fn name_of_family(family: u8) -> &'static str
-    ensures { result.now ≡ family_name family }
-{
-    if family == AF_INET6 { "inet6" } else { "inet" }
-}
-
-/// Returns the kind of a UNIX socket, by its type `SOCK_..`, as ss(8) prints it.
-fn name_of_kind(kind: u8) -> &'static str
-    ensures { result.now ≡ unix_kind kind }
-{
-    match kind {
-        SOCK_STREAM => "u_str",
-        SOCK_DGRAM => "u_dgr",
-        SOCK_SEQPACKET => "u_seq",
-        _ => "unix",
-    }
-}
-
-/// Returns the name of a socket state, as ss(8) prints it: `UNKNOWN` for 0 and from 12 on.
-pub(crate) fn name_of_state(state: u8) -> &'static str
-    ensures { result.now ≡ state_name state }
-{
-    match state {
-        1 => "ESTAB",
-        2 => "SYN-SENT",
-        3 => "SYN-RECV",
-        4 => "FIN-WAIT-1",
-        5 => "FIN-WAIT-2",
-        6 => "TIME-WAIT",
-        7 => "UNCONN",
-        8 => "CLOSE-WAIT",
-        9 => "LAST-ACK",
-        10 => "LISTEN",
-        11 => "CLOSING",
-        _ => "UNKNOWN",
-    }
 }

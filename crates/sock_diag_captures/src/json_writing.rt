@@ -7,7 +7,8 @@ ghost use Rattle.std.specs.Net.Text.{ip_text};
 ghost use Rattle.json.specs.Token.{begin_array, begin_object, end_array, end_object, key, number};
 ghost use Rattle.sock_diag_attributes.specs.NameModel.{socket_name_model};
 ghost use Rattle.sock_diag_captures.specs.JsonData.{address_member, bytes_member, cookie_member};
-ghost use Rattle.sock_diag_captures.specs.JsonData.{hex_member, name_members, number_members};
+ghost use Rattle.sock_diag_captures.specs.JsonData.{flag_member, hex_member, name_members};
+ghost use Rattle.sock_diag_captures.specs.JsonData.{number_members};
 ghost use Rattle.sock_diag_captures.specs.JsonData.{numbers_member, object_member};
 ghost use Rattle.sock_diag_captures.specs.JsonData.{optional_member, text_member};
 ghost use Rattle.sock_diag_captures.specs.private.JsonWriting.{AddsMembers, AddsTokens, KeepsText};
@@ -74,6 +75,16 @@ pub(crate) fn write_optional(
     };
     writer.key(name)?;
     writer.u64(value)
+}
+
+/// Writes a member whose value is `true` or `false`.
+#[tactic(auto, unfolding(crate::specs::JsonData::flag_member, crate::specs::private::JsonWriting::members_tokens))]
+pub(crate) fn write_flag(writer: &mut Writer, name: &str, flag: bool) -> Result<(), AllocError>
+    ensures before { KeepsText result writer.old writer.new }
+    ensures members { AddsMembers result writer.old writer.new (flag_member name.now flag) }
+{
+    writer.key(name)?;
+    writer.boolean(flag)
 }
 
 /// Writes a member whose value is a string: a number in lowercase hexadecimal digits.

@@ -16,13 +16,14 @@ ghost use Rattle.sock_diag_captures.specs.Listing.{payload_lines, lines_after_he
 ghost use Rattle.sock_diag_captures.specs.Newer.{user_id};
 ghost use Rattle.sock_diag_captures.specs.Pieces.{attributes_or_error, first_content};
 ghost use Rattle.sock_diag_captures.specs.Pieces.{first_of_kind};
-ghost use Rattle.sock_diag_captures.specs.Table.{family_name, inet_kind, inet_line, inet_lines};
+ghost use Rattle.sock_diag_captures.specs.Table.{inet_kind, inet_line, inet_lines};
 ghost use Rattle.sock_diag_captures.specs.Table.{is_tcp};
 ghost use Rattle.sock_diag_captures.specs.Table.{unix_kind, unix_line, unix_lines};
 
 use crate::cells::{Cells, push_endpoint, push_endpoint_column, push_first_columns, push_peer};
 use crate::details::{Sockets, push_details, timer_of};
 use crate::json_sockets::{push_inet_json, push_unix_json};
+use crate::kinds::{name_of_inet_kind, name_of_unix_kind};
 use crate::name_cells::push_name_column;
 use crate::options::Options;
 use crate::others::push_other;
@@ -33,7 +34,7 @@ use sock_diag_attributes::unix::nlas::{NameView, NlaView};
 use sock_diag_extras::constants::UNIX_DIAG_UID;
 use sock_diag_extras::parse_uid;
 use sock_diag_records::constants::{
-    AF_INET, AF_INET6, AF_UNIX, SOCK_DGRAM, SOCK_DIAG_BY_FAMILY, SOCK_SEQPACKET, SOCK_STREAM,
+    AF_INET, AF_INET6, AF_UNIX, SOCK_DIAG_BY_FAMILY,
     UNIX_DIAG_NAME, UNIX_DIAG_PEER, UNIX_DIAG_RQLEN,
 };
 use sock_diag_records::inet::{INET_RESPONSE_HEADER_LEN, InetResponseHeader};
@@ -175,7 +176,7 @@ fn unix_cells(header: &UnixResponseHeader, queues: Option<(u32, u32)>, uid: Opti
         None => (None, None),
     };
     Cells {
-        kind: name_of_kind(header.kind),
+        kind: name_of_unix_kind(header.kind).as_bytes(),
         state: header.state,
         receive_queue,
         send_queue,
@@ -235,18 +236,6 @@ fn user_in(attributes: &[u8]) -> Option<u32>
     match find_kind(attributes, UNIX_DIAG_UID) {
         Some(nla) => parse_uid(nla.value()),
         None => None,
-    }
-}
-
-/// Returns the kind of a UNIX socket, by its type `SOCK_..`, as ss(8) prints it.
-fn name_of_kind(kind: u8) -> &'static [u8]
-    ensures { result.now ≡ unix_kind kind }
-{
-    match kind {
-        SOCK_STREAM => b"u_str",
-        SOCK_DGRAM => b"u_dgr",
-        SOCK_SEQPACKET => b"u_seq",
-        _ => b"unix",
     }
 }
 
@@ -365,39 +354,11 @@ fn inet_cells(protocol: Option<u32>, header: &InetResponseHeader) -> Cells
     } }
 {
     Cells {
-        kind: name_of_protocol(protocol, header.family),
+        kind: name_of_inet_kind(protocol, header.family).as_bytes(),
         state: header.state,
         receive_queue: Some(header.recv_queue),
         send_queue: Some(header.send_queue),
         inode: header.inode,
         uid: Some(header.uid),
-    }
-}
-
-/// Returns the name of the protocol of the request, as ss(8) prints it. Returns the name of the
-/// family if the protocol is not known or has no name here.
-pub(crate) fn name_of_protocol(protocol: Option<u32>, family: u8) -> &'static [u8]
-    ensures { result.now ≡ inet_kind protocol family }
-{
-    match protocol {
-        Some(6) => b"tcp",
-        Some(17) => b"udp",
-        Some(33) => b"dccp",
-        Some(132) => b"sctp",
-        Some(136) => b"udplite",
-        Some(255) => b"raw",
-        Some(262) => b"mptcp",
-        _ => name_of_family(family),
-    }
-}
-
-/// Returns the name of a family: `inet6` for `AF_INET6`, or else `inet`.
-fn name_of_family(family: u8) -> &'static [u8]
-    ensures { result.now ≡ family_name family }
-{
-    if family == AF_INET6 {
-        b"inet6"
-    } else {
-        b"inet"
     }
 }

@@ -6,8 +6,10 @@ ghost use Rattle.program_streams.specs.Capture.{captured_packet};
 ghost use Rattle.sock_diag_captures.specs.Diagnostics.{DiagnosesContent, DiagnosesDatagram};
 ghost use Rattle.sock_diag_captures.specs.Diagnostics.{DiagnosesMessages, DiagnosesPacket};
 ghost use Rattle.sock_diag_captures.specs.Diagnostics.{interrupted_diagnostic, diagnostic_line};
-ghost use Rattle.sock_diag_captures.specs.Diagnostics.{diagnostic_text, lines_about_message};
+ghost use Rattle.sock_diag_captures.specs.Diagnostics.{diagnostic_text, explained_line};
+ghost use Rattle.sock_diag_captures.specs.Diagnostics.{lines_about_message};
 ghost use Rattle.sock_diag_captures.specs.Diagnostics.{message_line};
+ghost use Rattle.sock_diag_captures.specs.Explanation.{explanation};
 ghost use Rattle.sock_diag_captures.specs.Listing.{IsCleanMessage, IsRequestDatagram};
 ghost use Rattle.sock_diag_captures.specs.Listing.{ListsMessages, ListsDatagram, ListsPacket};
 ghost use Rattle.sock_diag_captures.specs.Listing.{ListsCapturedPacket, requests_after_packet};
@@ -20,6 +22,7 @@ ghost use Rattle.sock_diag_captures.specs.Requests.{with_request_in_datagram};
 ghost use Rattle.sock_diag_captures.specs.declared.list.Diagnostic.TheVariants.{Refused};
 
 use crate::error_text::DecodeErrorText;
+use crate::explanation::push_explanation;
 use crate::line::push_reply;
 use crate::options::Options;
 use crate::output::{PacketOutput, push_short, push_truncation};
@@ -52,10 +55,11 @@ pub enum Diagnostic {
     Refused(DecodeError),
     /// The kernel answered with an error or ended a dump with one. This is its number in errno(3).
     Answered(u32),
-    /// The kernel answered `ENOENT`. It has no socket of the requested kind, so no socket is
-    /// missing.
+    /// The kernel answered `ENOENT`: it has no socket of the requested kind, or its sock_diag(7)
+    /// cannot list such sockets. In the second case they may be missing from the table.
     NoEntry,
-    /// The kernel answered `EINVAL`. It does not support the request, so no socket is missing.
+    /// The kernel answered `EINVAL`: it does not support the request. Sockets that only such a
+    /// request lists are missing from the table.
     Invalid,
     /// The message has the flag `NLM_F_DUMP_INTR`. The sockets changed during the dump, so some may
     /// be missing or listed twice.
@@ -263,7 +267,7 @@ fn list_message(
     let interrupted = interruption_diagnostic(message);
     push_optional_diagnostic(written, position, &interrupted)?;
     let diagnostic = push_message(&mut written.lines, requests, options, message)?;
-    push_optional_diagnostic(written, position, &diagnostic)?;
+    push_explained_diagnostic(written, position, &diagnostic, message)?;
     Ok(interrupted.is_none() && is_informational(&diagnostic))
 }
 
@@ -279,8 +283,7 @@ fn interruption_diagnostic(message: &[u8]) -> Option<Diagnostic>
     }
 }
 
-/// Returns whether there is no diagnostic, or only a note. Then no socket is missing from the
-/// table.
+/// Returns whether there is no diagnostic, or only a note: the kernel listed what it can list.
 fn is_informational(diagnostic: &Option<Diagnostic>) -> bool
     ensures { result ≡ is_informational_or_none diagnostic.now }
 {
@@ -405,6 +408,54 @@ fn push_optional_diagnostic(
         None => Ok(()),
         Some(diagnostic) => push_diagnostic(written, position, diagnostic),
     }
+}
+
+/// Appends the line of the diagnostic of a message, if there is one, with what the message
+/// explains.
+fn push_explained_diagnostic(
+    written: &mut PacketOutput<'_>,
+    position: Position,
+    diagnostic: &Option<Diagnostic>,
+    message: &[u8],
+) -> Result<(), AllocError>
+    requires { 16 ≤ length message.now }
+    ensures lines { OnOk result (written.new.lines.items ≡ written.old.lines.items) }
+    ensures diagnostics { OnOk result (written.new.diagnostics.items ≡ written.old.diagnostics.items
+        ++ explained_line written.old.front.now position.packet position.message diagnostic.now
+        (explanation message.now)) }
+    ensures front { written.new.front ≡ written.old.front }
+{
+    match diagnostic {
+        None => Ok(()),
+        Some(diagnostic) => push_explained_line(written, position, diagnostic, message),
+    }
+}
+
+/// Appends the line of a diagnostic, with what the message explains.
+fn push_explained_line(
+    written: &mut PacketOutput<'_>,
+    position: Position,
+    diagnostic: &Diagnostic,
+    bytes: &[u8],
+) -> Result<(), AllocError>
+    requires { 16 ≤ length bytes.now }
+    ensures lines { OnOk result (written.new.lines.items ≡ written.old.lines.items) }
+    ensures diagnostics { OnOk result (written.new.diagnostics.items ≡ written.old.diagnostics.items
+        ++ explained_line written.old.front.now position.packet position.message
+        (Some diagnostic.now) (explanation bytes.now)) }
+    ensures front { written.new.front ≡ written.old.front }
+{
+    let front = written.front;
+    let Position { packet, message } = position;
+    match write!(
+        written.diagnostics,
+        "{front}packet {packet}, message {message}: {diagnostic}"
+    ) {
+        Ok(()) => {}
+        Err(_) => return Err(AllocError),
+    }
+    push_explanation(&mut written.diagnostics, bytes)?;
+    Ok(written.diagnostics.push(b'\n')?)
 }
 
 /// Appends the line of a diagnostic.

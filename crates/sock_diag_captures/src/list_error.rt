@@ -1,7 +1,7 @@
 //! The error of a run over a capture, and the steps that read its header and its packets.
 
 ghost use Rattle.std.specs.Prelude.{◌≡◌, ◌↔◌, ◌++◌, List, ℕ, IfErr, IfOk, IsTrue};
-ghost use Rattle.std.specs.Prelude.{MatchOption};
+ghost use Rattle.std.specs.Prelude.{MatchOption, Some};
 ghost use Rattle.std.specs.Io.KnownBytes.{Consumes, IsAtEnd};
 ghost use Rattle.program_streams.specs.Capture.{captured_packet};
 ghost use Rattle.program_streams.specs.Reader.{IsCaptureEnd, IsCaptureStart, IsCaptureStartStop};
@@ -42,7 +42,10 @@ impl ListError {
     {
         match self {
             ListError::Header(error) | ListError::Packet { error, .. } => error.text(),
-            ListError::Write(error) => ErrorText::Plain(error.text()),
+            ListError::Write(WriteError::Other) => {
+                ErrorText::Plain("writing to standard output failed")
+            }
+            ListError::Write(WriteError::Closed) => ErrorText::Plain(WriteError::Closed.text()),
             ListError::Memory => ErrorText::Plain("out of memory"),
         }
     }
@@ -56,12 +59,14 @@ impl ListError {
 }
 
 impl fmt::Display for ListError {
+    ghost output = { λ error. Some (list_error_text error) };
+
     fn fmt<W: fmt::Write>(&self, f: &mut fmt::Formatter<W>) -> fmt::Result {
-        if let ListError::Packet { packet, .. } = self {
-            write!(f, "packet {packet}: ")?;
-        }
         let text = self.text();
-        write!(f, "{text}")
+        match self {
+            ListError::Packet { packet, .. } => write!(f, "packet {packet}: {text}"),
+            _ => write!(f, "{text}"),
+        }
     }
 }
 

@@ -10,14 +10,20 @@ ghost use Rattle.sock_diag_captures.specs.Newer.{first_option_flags, second_opti
 ghost use Rattle.sock_diag_captures.specs.Newer.{unix_newer_text, vegas_text};
 
 use crate::details::{Format, push_rows, push_unknown};
+use crate::md5_keys::push_md5_keys;
 use crate::parts::{push_detail, push_flag, push_some};
+use crate::ulp_info::push_ulp;
 use netlink_core::NlaBuffer;
-use sock_diag_extras::constants::{INET_DIAG_CGROUP_ID, INET_DIAG_SOCKOPT, UNIX_DIAG_UID};
+use sock_diag_extras::constants::{
+    INET_DIAG_CGROUP_ID, INET_DIAG_SOCKOPT, INET_DIAG_ULP_INFO, UNIX_DIAG_UID,
+};
 use sock_diag_extras::{
     BbrInfo, DctcpInfo, SocketOptions, TcpField, TcpInfoBytes, VegasInfo, parse_cgroup_id,
     parse_uid, read_attribute_record,
 };
-use sock_diag_records::constants::{INET_DIAG_BBRINFO, INET_DIAG_DCTCPINFO, INET_DIAG_VEGASINFO};
+use sock_diag_records::constants::{
+    INET_DIAG_BBRINFO, INET_DIAG_DCTCPINFO, INET_DIAG_MD5SIG, INET_DIAG_VEGASINFO,
+};
 use std::alloc::AllocError;
 
 /// Appends the details of an attribute of an IPv4 or IPv6 socket that the port leaves undecoded. An
@@ -32,6 +38,8 @@ pub(crate) fn push_inet_newer(text: &mut Vec<u8>, nla: &NlaBuffer<'_>) -> Result
         INET_DIAG_VEGASINFO => push_vegas(text, nla),
         INET_DIAG_DCTCPINFO => push_dctcp(text, nla),
         INET_DIAG_BBRINFO => push_bbr(text, nla),
+        INET_DIAG_MD5SIG => push_md5_keys(text, nla),
+        INET_DIAG_ULP_INFO => push_ulp(text, nla),
         _ => push_unknown(text, nla),
     }
 }

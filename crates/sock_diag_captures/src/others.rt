@@ -9,9 +9,9 @@ ghost use Rattle.sock_diag_captures.specs.Listing.{family_error, family_lines, o
 ghost use Rattle.sock_diag_captures.specs.Listing.{other_reply_lines};
 ghost use Rattle.sock_diag_captures.specs.Others.{family_numbered, optional_numbers_text};
 ghost use Rattle.sock_diag_captures.specs.Others.{numbers_text, interface_number, netlink_socket};
-ghost use Rattle.sock_diag_captures.specs.Others.{other_columns, other_kind, other_line};
+ghost use Rattle.sock_diag_captures.specs.Others.{other_columns, other_line};
 ghost use Rattle.sock_diag_captures.specs.Others.{other_lines, packet_socket, none_if_equal};
-ghost use Rattle.sock_diag_captures.specs.Others.{user_kind, vsock_kind, vsock_socket};
+ghost use Rattle.sock_diag_captures.specs.Others.{user_kind, vsock_socket};
 ghost use Rattle.sock_diag_captures.specs.Others.{u32_in_attribute, u32_of_first_attribute};
 ghost use Rattle.sock_diag_captures.specs.Others.{xdp_socket};
 ghost use Rattle.sock_diag_captures.specs.Pieces.{AttributeOrError, attributes_or_error};
@@ -20,6 +20,7 @@ ghost use Rattle.sock_diag_captures.specs.declared.others.OtherSocket.{OtherSock
 use crate::cells::{Cells, end_column, push_first_columns, push_peer};
 use crate::details::{Sockets, memory_kind, push_details};
 use crate::json_others::{JsonHeader, push_other_json};
+use crate::kinds::name_of_other_kind;
 use crate::line::LOCAL;
 use crate::options::{Family, Options};
 use crate::parts::NO_TIMER;
@@ -31,7 +32,7 @@ use sock_diag_families::packet::{PACKET_DIAG_INFO, PACKET_DIAG_UID, PacketRespon
 use sock_diag_families::vsock::{AF_VSOCK, VsockResponseHeader};
 use sock_diag_families::xdp::{AF_XDP, XDP_DIAG_INFO, XDP_DIAG_UID, XdpResponseHeader};
 use sock_diag_records::constants::{
-    AF_NETLINK, AF_PACKET, SOCK_DGRAM, SOCK_RAW, SOCK_SEQPACKET, SOCK_STREAM,
+    AF_NETLINK, AF_PACKET,
 };
 use std::alloc::AllocError;
 
@@ -202,37 +203,12 @@ fn other_cells(socket: &OtherSocket, attributes: &[u8]) -> Cells
 {
     let memory = memory_kind(socket.family);
     Cells {
-        kind: name_of_kind(socket.family, socket.kind),
+        kind: name_of_other_kind(socket.family, socket.kind).as_bytes(),
         state: socket.state,
         receive_queue: word_at(attributes, memory, 0),
         send_queue: word_at(attributes, memory, 8),
         inode: socket.inode,
         uid: word_at(attributes, user_kind(socket.family), 0),
-    }
-}
-
-/// Returns the kind of a socket, as ss(8) prints it.
-fn name_of_kind(family: Family, kind: u8) -> &'static [u8]
-    ensures { result.now ≡ other_kind family kind }
-{
-    match family {
-        Family::Netlink => b"nl",
-        Family::Packet if kind == SOCK_RAW => b"p_raw",
-        Family::Packet => b"p_dgr",
-        Family::Vsock => name_of_vsock(kind),
-        Family::Xdp => b"xdp",
-    }
-}
-
-/// Returns the kind of a vsock socket, by its type.
-fn name_of_vsock(kind: u8) -> &'static [u8]
-    ensures { result.now ≡ vsock_kind kind }
-{
-    match kind {
-        SOCK_STREAM => b"v_str",
-        SOCK_DGRAM => b"v_dgr",
-        SOCK_SEQPACKET => b"v_seq",
-        _ => b"vsock",
     }
 }
 

@@ -9,9 +9,8 @@ ghost use Rattle.program_streams.specs.ErrorText.{error_text_bytes};
 ghost use Rattle.program_streams.specs.declared.streams.WriteError.{WriteError};
 
 use crate::list_error::ListError;
-use byteorder::{BigEndian, ByteOrder};
 use itoa::Buffer;
-use program_streams::{ErrorText, Sink, send};
+use program_streams::{ErrorText, Sink, hex_digits, send};
 
 /// Writes a text on `errors` if `is_open` is set. If a write fails, clears `is_open`, so that
 /// nothing more is written there. Then a prefix of the text was written.
@@ -119,16 +118,4 @@ fn report_hex<E: Sink>(errors: &mut E, is_open: &mut bool, number: u32)
         (encode_lower (big_bytes 4 number)) }
 {
     report(errors, is_open, &hex_digits(number));
-}
-
-/// Returns the eight hexadecimal digits of a number.
-fn hex_digits(number: u32) -> [u8; 8]
-    ensures { result ≡ encode_lower (big_bytes 4 number) }
-{
-    let mut bytes = [0u8; 4];
-    BigEndian::write_u32(&mut bytes, number);
-    let mut digits = [0u8; 8];
-    // Four bytes have eight digits, so this never fails.
-    let _ = hex::encode_to_slice(bytes.as_slice(), &mut digits);
-    digits
 }

@@ -6,7 +6,7 @@ ghost use Rattle.sock_diag_captures.specs.RequestLine.{requested_family_text, re
 ghost use Rattle.sock_diag_captures.specs.RequestLine.{request_line_if_selected};
 ghost use Rattle.sock_diag_captures.specs.RequestLine.{requested_unix_states};
 
-use crate::line::name_of_protocol;
+use crate::kinds::name_of_inet_kind;
 use crate::options::{Family, Options};
 use crate::others::family_numbered;
 use crate::parts::push_hex_detail;
@@ -75,7 +75,7 @@ fn push_asked(
 {
     let (name, states) = match (inet, unix_states) {
         (Some(asked), _) => (
-            name_of_protocol(Some(asked.protocol), asked.family),
+            name_of_inet_kind(Some(asked.protocol), asked.family).as_bytes(),
             asked.states,
         ),
         (None, Some(states)) => (&b"unix"[..], states),

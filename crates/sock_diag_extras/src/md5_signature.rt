@@ -1,6 +1,6 @@
 //! The MD5 keys that a TCP socket signs segments with: INET_DIAG_MD5SIG.
 
-ghost use Rattle.std.specs.Prelude.{refl};
+ghost use Rattle.std.specs.Prelude.{◌≡◌, refl};
 ghost use Rattle.netlink_core.proofs.FieldReads.{first_numbers_are_all};
 ghost use Rattle.netlink_core.proofs.LayoutLaws.{plain_sound, record_laws};
 ghost use Rattle.sock_diag_extras.specs.Md5Signature.{md5_signature};
@@ -9,6 +9,13 @@ ghost use Rattle.sock_diag_extras.specs.RecordTable.{layout_with_name};
 use crate::record::AttributeRecord;
 use byteorder::{ByteOrder, LittleEndian};
 use netlink_core::fields::array_at;
+use std::net::{IpAddr, Ipv4Addr, Ipv6Addr};
+
+/// The address family of IPv4, `AF_INET`.
+const INET: u8 = 2;
+
+/// The address family of IPv6, `AF_INET6`.
+const INET6: u8 = 10;
 
 /// An MD5 signature key for the segments of some peers: one of the records in the value of
 /// `INET_DIAG_MD5SIG`, `struct tcp_diag_md5sig` of `linux/tcp.h`, 100 bytes. The kernel sends it
@@ -61,4 +68,31 @@ impl AttributeRecord for Md5Signature {
         let address = first_numbers_are_all 16 v.address shaped.0 in
         let key = first_numbers_are_all 80 v.key shaped.1 in
         λ i. record v { address = address i; key = key i })) };
+}
+
+impl Md5Signature {
+    ghost use Rattle.sock_diag_extras.specs.Md5Signature.{peer_ip, used_key};
+
+    /// Returns the IP address of the peers: the IPv4 address in the first four bytes of `address`
+    /// if the family is 2 (`AF_INET`), and the IPv6 address in all of them if it is 10
+    /// (`AF_INET6`). Returns `None` for any other family.
+    pub fn ip(&self) -> Option<IpAddr>
+        ensures { result ≡ peer_ip self.now }
+    {
+        let [a, b, c, d, ..] = self.address;
+        match self.family {
+            INET => Some(IpAddr::V4(Ipv4Addr::new(a, b, c, d))),
+            INET6 => Some(IpAddr::V6(Ipv6Addr::from_octets(self.address))),
+            _ => None,
+        }
+    }
+
+    /// Returns the bytes of the key that are used: the first `key_length` bytes of `key`, or all 80
+    /// if it is greater.
+    pub fn used_key(&self) -> &[u8]
+        ensures { result.now ≡ used_key self.now }
+    {
+        let length = self.key_length as usize;
+        if length < 80 { &self.key[..length] } else { &self.key }
+    }
 }

@@ -4,8 +4,8 @@
 ghost use Rattle.std.specs.Prelude.{⊤};
 
 use sock_diag_captures::{
-    Choice, HELP, ListCapture, Options, VERSION, choose, escaped, heading, list_captures,
-    names_several, run_to_status,
+    Choice, HELP, ListCapture, Options, Rejection, VERSION, choose, escaped, heading,
+    list_captures, names_several, run_to_status,
 };
 use std::env;
 use std::fs::File;
@@ -33,7 +33,7 @@ fn answer(rt: &HostRuntime, arguments: &[String]) -> ExitCode {
     match choose(arguments) {
         Choice::Help => status_of(rt.println(HELP)),
         Choice::Version => status_of(println!(rt; "sslist {VERSION}")),
-        Choice::Reject(argument) => reject(rt, argument),
+        Choice::Reject(reason, argument) => reject(rt, reason, argument),
         Choice::MissingFamily => {
             let _ = rt.eprintln("sslist: -f without a family; try sslist --help");
             ExitCode::from(2)
@@ -121,17 +121,19 @@ fn status_of(printed: io::Result<()>) -> ExitCode {
     }
 }
 
-/// Reports an unknown option or family, with status 2.
-fn reject(rt: &HostRuntime, argument: &str) -> ExitCode {
+/// Reports an argument that is rejected, with status 2.
+fn reject(rt: &HostRuntime, reason: Rejection, argument: &str) -> ExitCode {
     let Ok(shown) = escaped(rt.alloc(), argument) else {
         return out_of_memory(rt);
     };
-    let kind = if argument.starts_with('-') {
-        "option"
-    } else {
-        "family"
+    let front = match reason {
+        Rejection::UnknownOption => "unknown option",
+        Rejection::UnknownFamily => "unknown family",
+        Rejection::UnknownFamilyValue => "unknown family in",
+        Rejection::UnknownStateValue => "unknown state in",
+        Rejection::InvalidPortValue => "invalid port in",
     };
-    let _ = eprintln!(rt; "sslist: unknown {kind} {shown}; try sslist --help");
+    let _ = eprintln!(rt; "sslist: {front} {shown}; try sslist --help");
     ExitCode::from(2)
 }
 

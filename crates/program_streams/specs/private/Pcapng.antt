@@ -7,7 +7,7 @@ use Rattle.program_streams.specs.declared.captures.CaptureError.TheVariants.{Mem
 use Rattle.program_streams.specs.declared.pcapng.Content.{Content}
 use Rattle.program_streams.specs.declared.pcapng.Content.TheVariants.{Captured}
 use Rattle.program_streams.specs.Capture.{number_at_offset}
-use Rattle.program_streams.specs.Pcapng.{IsBlock, Position, after_block, frame_of}
+use Rattle.program_streams.specs.Pcapng.{HasFrame, IsBlock, Position, after_block, frame_of}
 use Rattle.program_streams.specs.private.Capture.{IsReadStop}
 
 -- the packet in a block, if its content is one, is within the block
@@ -22,7 +22,7 @@ abbrev pub IsStopAfterHead : Position → Option (List ℕ) → Type 0 → List 
     → Type 0
 IsStopAfterHead p left failed head part e =
     ((frame_of p head ≡ Err e) × (length part ≡ 0))
-    ⊎ (e ≡ Memory)
+    ⊎ (HasFrame p head × (e ≡ Memory))
     ⊎ ((order : ByteOrder) × (frame_of p head ≡ Ok order)
     × (12 + length part < number_at_offset order 4 4 head) × IsReadStop left failed e)
 

@@ -191,36 +191,42 @@ fn lists_captures_of_both_orders(rt: HostRuntime) {
     }
 }
 
-/// Replies about sockets of other families, each with its lines: the replies of a kernel about a
-/// netlink and a packet socket, and replies about a listening vsock socket, an XDP socket and a
-/// netlink socket with groups, which were written by hand from the kernel's headers.
-const FAMILIES: [[&str; 2]; 5] = [
+/// Replies about sockets of other families, each with its lines and with its object in JSON: the
+/// replies of a kernel about a netlink and a packet socket, and replies about a listening vsock
+/// socket, an XDP socket and a netlink socket with groups, which were written by hand from the
+/// kernel's headers.
+const FAMILIES: [[&str; 3]; 5] = [
     [
         "5c00000014000200070000009340000010020007000000000000000000000000040000000300000000000000280000000000000000400300000000000040030000000000000000000000000000000000000000000800040000000000",
         "nl    UNCONN     0      0      4          -     0:0                            *\n\t sk:3 skmem:(r0,rb212992,t0,tb212992,f0,w0,o0,bl0,d0) unknown:(4,4)\n",
+        "{\"netid\":\"nl\",\"state_name\":\"UNCONN\",\"family\":16,\"type\":2,\"protocol\":0,\"state\":7,\"portid\":0,\"dst_portid\":0,\"dst_group\":0,\"ino\":4,\"cookie\":\"3\",\"meminfo\":{\"rmem_alloc\":0,\"rcvbuf\":212992,\"wmem_alloc\":0,\"sndbuf\":212992,\"fwd_alloc\":0,\"wmem_queued\":0,\"optmem\":0,\"backlog\":0,\"drops\":0},\"other_attributes\":[{\"kind\":4,\"length\":4}]}",
     ],
     [
         "70000000140002000700000093400000110303001bb0030002300000000000001c00000001000000000000000000000000000000000000000100000008000500000000000400010028000600000000000040030000000000004003000000000000000000000000000000000000000000",
-        "p_raw UNCONN     0      0      241691     0     3:1                            *\n\t sk:3002 ver:0 cpy_thresh:0 running unknown:(5,4) unknown:(1,0) skmem:(r0,rb212992,t0,tb212992,f0,w0,o0,bl0,d0)\n",
+        "p_raw UNCONN     0      0      241691     0     3:1                            *\n\t sk:3002 ver:0 cpy_thresh:0 running uid:0 unknown:(1,0) skmem:(r0,rb212992,t0,tb212992,f0,w0,o0,bl0,d0)\n",
+        "{\"netid\":\"p_raw\",\"state_name\":\"UNCONN\",\"family\":17,\"type\":3,\"num\":3,\"ino\":241691,\"cookie\":\"3002\",\"info\":{\"index\":1,\"version\":0,\"reserve\":0,\"copy_thresh\":0,\"tstamp\":0,\"flags\":1},\"uid\":0,\"meminfo\":{\"rmem_alloc\":0,\"rcvbuf\":212992,\"wmem_alloc\":0,\"sndbuf\":212992,\"fwd_alloc\":0,\"wmem_queued\":0,\"optmem\":0,\"backlog\":0,\"drops\":0},\"other_attributes\":[{\"kind\":1,\"length\":0}]}",
     ],
     [
         "3000000014000200070000000000000028010a00ffffffffd2040000ffffffffffffffff050000000900000000000000",
         "v_str LISTEN     -      -      5          -     *:1234                         *:*\n\t sk:9\n",
+        "{\"netid\":\"v_str\",\"state_name\":\"LISTEN\",\"family\":40,\"type\":1,\"state\":10,\"shutdown\":0,\"src_cid\":4294967295,\"src_port\":1234,\"dst_cid\":4294967295,\"dst_port\":4294967295,\"ino\":5,\"cookie\":\"9\",\"other_attributes\":[]}",
     ],
     [
         "2c0000001400020007000000000000002c0300000700000008000000000000000c0001000200000001000000",
-        "xdp   UNCONN     -      -      7          -     2:1                            *\n\t sk:8 unknown:(1,8)\n",
+        "xdp   UNCONN     -      -      7          -     2:1                            *\n\t sk:8\n",
+        "{\"netid\":\"xdp\",\"state_name\":\"UNCONN\",\"family\":44,\"type\":3,\"ino\":7,\"cookie\":\"8\",\"info\":{\"ifindex\":2,\"queue_id\":1},\"other_attributes\":[]}",
     ],
     [
         "38000000140002000700000000000000100200009210000000000000000000000900000001000000000000000c0001001100000002000000",
         "nl    UNCONN     -      -      9          -     0:4242                         *\n\t sk:1 groups:0x11\n",
+        "{\"netid\":\"nl\",\"state_name\":\"UNCONN\",\"family\":16,\"type\":2,\"protocol\":0,\"state\":0,\"portid\":4242,\"dst_portid\":0,\"dst_group\":0,\"ino\":9,\"cookie\":\"1\",\"groups\":17,\"other_attributes\":[]}",
     ],
 ];
 
 /// Netlink, packet, vsock and XDP sockets have lines.
 #[test]
 fn lists_other_families(rt: HostRuntime) {
-    for [reply, line] in FAMILIES {
+    for [reply, line, _] in FAMILIES {
         let capture = captured(&rt, rt.alloc(), HEADERS[0], &[[SOCK_DIAG, reply]]);
         lists(&rt, rt.alloc(), &capture, Ok(true), Some(&[line]));
     }
@@ -308,6 +314,61 @@ fn shows_names_in_utf8(rt: HostRuntime) {
     }
 }
 
+/// Replies with their objects in JSON: a UNIX socket for each form of a name (an abstract name, a
+/// path, and both if they are not valid UTF-8), an IPv4 and an IPv6 socket, and one with an invalid
+/// value.
+const OBJECTS: [[&str; 2]; 7] = [
+    [
+        UNIX,
+        "{\"netid\":\"u_str\",\"state_name\":\"LISTEN\",\"family\":1,\"type\":1,\"state\":10,\"ino\":20238,\"cookie\":\"2a0\",\"name\":{\"abstract\":\"a b\\\\\"},\"rqlen\":{\"rqueue\":2,\"wqueue\":128},\"other_attributes\":[]}",
+    ],
+    [
+        "2800000014000200070000000000000001010a000e4f0000a002000000000000080000002fc3a900",
+        "{\"netid\":\"u_str\",\"state_name\":\"LISTEN\",\"family\":1,\"type\":1,\"state\":10,\"ino\":20238,\"cookie\":\"2a0\",\"name\":{\"path\":\"/é\"},\"other_attributes\":[]}",
+    ],
+    [
+        NO_UTF8,
+        "{\"netid\":\"u_str\",\"state_name\":\"LISTEN\",\"family\":1,\"type\":1,\"state\":10,\"ino\":20238,\"cookie\":\"2a0\",\"name\":{\"path_hex\":\"2fc3a9ff\"},\"other_attributes\":[]}",
+    ],
+    [
+        "2800000014000200070000000000000001010a000e4f0000a0020000000000000600000000ff0000",
+        "{\"netid\":\"u_str\",\"state_name\":\"LISTEN\",\"family\":1,\"type\":1,\"state\":10,\"ino\":20238,\"cookie\":\"2a0\",\"name\":{\"abstract_hex\":\"ff\"},\"other_attributes\":[]}",
+    ],
+    [
+        "580000001400020007000000000000000201000000169c40c0000201000000000000000000000000c0000202000000000000000000000000000000000000000000000000000000000000000000000000e803000005000000",
+        "{\"netid\":\"inet\",\"state_name\":\"ESTAB\",\"family\":2,\"state\":1,\"timer\":0,\"retrans\":0,\"sport\":22,\"dport\":40000,\"src\":\"192.0.2.1\",\"dst\":\"192.0.2.2\",\"if\":0,\"cookie\":\"0\",\"expires\":0,\"rqueue\":0,\"wqueue\":0,\"uid\":1000,\"inode\":5,\"other_attributes\":[]}",
+    ],
+    [
+        INET6,
+        "{\"netid\":\"inet6\",\"state_name\":\"TIME-WAIT\",\"family\":10,\"state\":6,\"timer\":3,\"retrans\":0,\"sport\":22,\"dport\":40000,\"src\":\"fe80::1\",\"dst\":\"2001:db8::ff\",\"if\":3,\"cookie\":\"0\",\"expires\":0,\"rqueue\":0,\"wqueue\":0,\"uid\":1000,\"inode\":0,\"other_attributes\":[]}",
+    ],
+    [
+        SHORT_INFO,
+        "{\"netid\":\"inet6\",\"state_name\":\"TIME-WAIT\",\"family\":10,\"state\":6,\"timer\":3,\"retrans\":0,\"sport\":22,\"dport\":40000,\"src\":\"fe80::1\",\"dst\":\"2001:db8::ff\",\"if\":3,\"cookie\":\"0\",\"expires\":0,\"rqueue\":0,\"wqueue\":0,\"uid\":1000,\"inode\":0,\"other_attributes\":[{\"kind\":2,\"length\":104,\"error\":\"too-short\"}]}",
+    ],
+];
+
+/// Checks that the line of a reply with `--json` is this object.
+fn lists_object(rt: &impl Abort, alloc: Global, reply: &str, object: &str) {
+    let options = Options {
+        json: true,
+        ..Options::default()
+    };
+    let capture = captured(rt, alloc, HEADERS[0], &[[SOCK_DIAG, reply]]);
+    lists_by(rt, alloc, options, &capture, Ok(true), Some(&[object, "\n"]));
+}
+
+/// Each family has an object, with its unknown and its invalid attributes.
+#[test]
+fn lists_objects(rt: HostRuntime) {
+    for [reply, object] in OBJECTS {
+        lists_object(&rt, rt.alloc(), reply, object);
+    }
+    for [reply, _, object] in FAMILIES {
+        lists_object(&rt, rt.alloc(), reply, object);
+    }
+}
+
 /// A request for MPTCP sockets. `OTHER_REQUEST` is one for netlink sockets.
 const MPTCP_REQUEST: &str =
     "5000000014000103070000000000000002ff0000800400000000000000000000000000000000000000000000000000000000000000000000000000000000000000000000000000000800030006010000";
@@ -360,7 +421,8 @@ fn reports_where_a_capture_is_truncated(rt: HostRuntime) {
         let error = CaptureError::Truncated;
         let want = match len {
             0 => Err(ListError::Header(CaptureError::Empty)),
-            1..24 => Err(ListError::Header(error)),
+            1..4 => Err(ListError::Header(CaptureError::TooShort)),
+            4..24 => Err(ListError::Header(error)),
             24 => Ok(true),
             _ if len < whole => Err(ListError::Packet { packet: 1, error }),
             _ if len == whole => Ok(true),
@@ -465,7 +527,7 @@ fn errors_of_a_run_have_texts(rt: HostRuntime) {
         CaptureError::OtherVersion(1),
     );
     let text = format!(in rt.alloc(); "{full}, {closed}, {other}, {old}").expect(&rt, "memory");
-    let want = "writing failed, the output pipe is closed, \
+    let want = "writing to standard output failed, the output pipe is closed, \
 not a pcap capture: it begins with 00000a0b, unsupported pcap version 1, expected 2";
     assert!(rt; text.as_str() == want);
 }

@@ -150,7 +150,8 @@ fn reports_where_a_file_is_truncated(rt: HostRuntime) {
         let error = CaptureError::Truncated;
         let want = match len {
             0 => Err(ListError::Header(CaptureError::Empty)),
-            1..28 => Err(ListError::Header(error)),
+            1..4 => Err(ListError::Header(CaptureError::TooShort)),
+            4..28 => Err(ListError::Header(error)),
             28 | 48 => Ok(true),
             _ if len < whole => Err(ListError::Packet { packet: 1, error }),
             _ if len == whole || len == whole + 28 || len == whole + 48 => Ok(true),

@@ -30,12 +30,12 @@ returns-in-Version c =
     c.loop-argument-test.true c.argument-item.is refl kind (rw c.in-Version.is refl) in
     rw c.in-Version.is at (ap (option_map (λ (a : Argument × List ℕ). a.0)) found)
 
-pub returns-in-Unknown : goal.returns-in-Unknown
-returns-in-Unknown c =
+pub returns-in-Rejected : goal.returns-in-Rejected
+returns-in-Rejected c =
     let kind = rw c.as_bytes.ensures.value at c.argument_at-parsed.ensures in
     let found = first_deciding_argument_found string_bytes _ _ _ _ _ _ _ c.loop-argument.invariant
-    c.loop-argument-test.true c.argument-item.is refl kind (rw c.in-Unknown.is refl) in
-    rw (c.in-Unknown.is, sym c.as_str.ensures.value) at found
+    c.loop-argument-test.true c.argument-item.is refl kind (rw c.in-Rejected.is refl) in
+    rw (c.in-Rejected.is, sym c.as_str.ensures.value) at found
 
 pub loop-argument-preserved : goal.loop-argument-preserved
 loop-argument-preserved c =
@@ -43,6 +43,6 @@ loop-argument-preserved c =
     argument_is_added string_bytes _ _ _ _ _ _ _ _ _ c.loop-argument.invariant
     c.loop-argument-test.true c.argument-item.is refl kind
     (argument_does_not_decide _ c.in_default.not-Help c.in_default.not-Version
-    c.in_default.not-Unknown)
+    c.in_default.not-Rejected)
     (rw c.as_bytes-in_default.ensures.value at c.add_argument.ensures)
     c.next_place-place.ensures

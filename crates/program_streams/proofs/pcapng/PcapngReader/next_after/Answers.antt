@@ -1,7 +1,8 @@
-use Rattle.std.proofs.Common.{◌∙◌, arith, ap, length, length-append}
+use Rattle.std.proofs.Common.{◌∙◌, arith, ap, inl, inr, length, length-append}
 use Rattle.std.proofs.lemmas.Result.{err_from_is_err_and}
 use Rattle.program_streams.specs.Pcapng.{Position, position_of}
-use Rattle.program_streams.proofs.PcapngLemmas.{frame_fits, moved_over, stop_after_head}
+use Rattle.program_streams.proofs.PcapngLemmas.{frame_fits, has_frame-append, moved_over}
+use Rattle.program_streams.proofs.PcapngLemmas.{stop_after_head}
 use Rattle.program_streams.proofs.PcapngLemmas.{stop_at_content}
 use Rattle.program_streams.proofs.pcapng.PcapngReader.next_after.Goals as goal
 
@@ -23,6 +24,24 @@ returns-in_err-content-clause-stopped g c =
           c.args.head.now c.read_rest.new.rest.items c.read_rest.new.self.block.items
           c.as_slice.result.now c.in_ok-order.order _ c.requires frame count stored
           c.as_slice.ensures.value c.in_ok-order.ensures.kept c.in_err-content.ensures.value,
+    )
+
+pub returns-in_err-advance-clause-stopped : goal.returns-in_err-advance-clause-stopped
+returns-in_err-advance-clause-stopped g c =
+    let p = err_from_is_err_and c.from_residual-in_err-advance.result
+    c.from_residual-in_err-advance.ensures.1 in
+    let (frame, count, stored, read) = c.in_ok-order.ensures.read in
+    let head = c.args.head.now in
+    let rest = c.read_rest.new.rest.items in
+    rw p.1 (
+      rest,
+      read,
+      inr (inl (
+        omega (arith, c.requires, length-append head rest),
+        has_frame-append (position_of c.args.self.now) head rest (omega (arith, c.requires))
+            (c.in_ok-order.order, frame),
+        p.2,
+      )),
     )
 
 pub advance-requires : goal.advance-requires

@@ -41,7 +41,7 @@ returns-in_err-copy_packet-clause-stopped g c =
         rest = c.next.new.self.block.items;
         skipped = skipped;
         parts = refl;
-        stopped = inr (inl (moves.1.framed.long, p.2));
+        stopped = inr (inl (moves.1.framed.long, (moves.0, moves.1.framed.frame), p.2));
       },
     )
 

@@ -1,8 +1,8 @@
 use Rattle.std.proofs.Common.{◌∙◌, append-nil, arith}
 use Rattle.byteorder.specs.Endian.{big_bytes}
 use Rattle.byteorder.specs.Numbers.{length-bytes_high_first}
-use Rattle.sock_diag_captures.proofs.Reporting.{written_if_ok}
-use Rattle.sock_diag_captures.proofs.reports.hex_digits.Goals as goal
+use Rattle.program_streams.proofs.HexText.{written_if_ok}
+use Rattle.program_streams.proofs.error_text.hex_digits.Goals as goal
 
 pub returns : goal.returns
 returns c =

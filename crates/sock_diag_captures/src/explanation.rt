@@ -1,0 +1,132 @@
+//! What the kernel explains about an error, by an extended acknowledgement (netlink(7)). A function
+//! of this module that appends allocates only to grow the text. If it fails, an allocation failed,
+//! and the content of the text is not specified.
+
+ghost use Rattle.std.specs.Prelude.{◌≡◌, ◌≤◌, ◌++◌, OnOk, flat_map, length, option_map};
+ghost use Rattle.netlink_core.specs.Parse.{without_terminating_nul};
+ghost use Rattle.sock_diag_captures.specs.Explanation.{attributes_by_type, done_attributes};
+ghost use Rattle.sock_diag_captures.specs.Explanation.{error_attributes, explained_byte};
+ghost use Rattle.sock_diag_captures.specs.Explanation.{explanation, explanation_in};
+ghost use Rattle.sock_diag_captures.specs.Explanation.{explanation_text, offset_text};
+
+use crate::cells::{push_escaped_byte, push_number};
+use crate::ulp_info::{find_number, find_value};
+use byteorder::{ByteOrder, LittleEndian};
+use netlink_core::{NETLINK_HEADER_LEN, NLMSG_DONE, NLMSG_ERROR};
+use sock_diag_extras::AckView;
+use sock_diag_extras::constants::{NLMSGERR_ATTR_MSG, NLMSGERR_ATTR_OFFS};
+use std::alloc::AllocError;
+
+/// Appends what a message explains: the kernel's text, and the offset of the invalid attribute.
+/// Appends nothing if it has neither.
+pub(crate) fn push_explanation(text: &mut Vec<u8>, message: &[u8]) -> Result<(), AllocError>
+    requires { 16 ≤ length message.now }
+    ensures { OnOk result (text.new.items ≡ text.old.items ++ explanation message.now) }
+{
+    let message_type = LittleEndian::read_u16(&message[4..]);
+    let flags = LittleEndian::read_u16(&message[6..]);
+    push_explanation_in(
+        text,
+        attributes_of(message_type, flags, &message[NETLINK_HEADER_LEN..]),
+    )
+}
+
+/// Returns the attributes of an extended acknowledgement, by the type and the flags of the header.
+fn attributes_of(message_type: u16, flags: u16, payload: &[u8]) -> &[u8]
+    ensures { result.now ≡ attributes_by_type message_type flags payload.entry.now }
+{
+    match message_type {
+        NLMSG_ERROR => attributes_of_error(flags, payload),
+        NLMSG_DONE => attributes_of_done(flags, payload),
+        _ => &[],
+    }
+}
+
+/// Returns the attributes in the payload of an `NLMSG_ERROR`.
+fn attributes_of_error(flags: u16, payload: &[u8]) -> &[u8]
+    ensures { result.now ≡ error_attributes flags payload.entry.now }
+{
+    match AckView::of_error(flags, payload) {
+        Some(ack) => ack.attribute_bytes(),
+        None => &[],
+    }
+}
+
+/// Returns the attributes in the payload of an `NLMSG_DONE`.
+fn attributes_of_done(flags: u16, payload: &[u8]) -> &[u8]
+    ensures { result.now ≡ done_attributes flags payload.entry.now }
+{
+    match AckView::of_done(flags, payload) {
+        Some(ack) => ack.attribute_bytes(),
+        None => &[],
+    }
+}
+
+/// Appends what these attributes explain.
+fn push_explanation_in(text: &mut Vec<u8>, bytes: &[u8]) -> Result<(), AllocError>
+    ensures { OnOk result (text.new.items ≡ text.old.items ++ explanation_in bytes.now) }
+{
+    push_explanation_text(text, find_value(bytes, NLMSGERR_ATTR_MSG))?;
+    push_offset(text, find_number(bytes, NLMSGERR_ATTR_OFFS, 4))
+}
+
+/// Appends a colon, a space and the kernel's text. Appends nothing for `None`.
+fn push_explanation_text(text: &mut Vec<u8>, value: Option<&[u8]>) -> Result<(), AllocError>
+    ensures { OnOk result (text.new.items ≡ text.old.items
+        ++ explanation_text (option_map (λ bytes. bytes.now) value.entry)) }
+{
+    let Some(value) = value else {
+        return Ok(());
+    };
+    text.extend_from_slice(b": ")?;
+    push_explained(text, without_nul(value))
+}
+
+/// Returns the bytes without one terminating NUL, if there is one.
+fn without_nul(value: &[u8]) -> &[u8]
+    ensures { result.now ≡ without_terminating_nul value.entry.now }
+{
+    match value.split_last() {
+        Some((last, text)) => {
+            if *last == 0 {
+                text
+            } else {
+                value
+            }
+        }
+        None => value,
+    }
+}
+
+/// Appends the bytes of the kernel's text.
+fn push_explained(text: &mut Vec<u8>, bytes: &[u8]) -> Result<(), AllocError>
+    ensures { OnOk result (text.new.items ≡ text.old.items ++ flat_map explained_byte bytes.now) }
+{
+    for byte in bytes {
+        push_explained_byte(text, *byte)?;
+    }
+    Ok(())
+}
+
+/// Appends a byte as [`push_escaped_byte`] does, except for a space, which is appended unchanged.
+fn push_explained_byte(text: &mut Vec<u8>, byte: u8) -> Result<(), AllocError>
+    ensures { OnOk result (text.new.items ≡ text.old.items ++ explained_byte byte) }
+{
+    if byte == b' ' {
+        Ok(text.push(byte)?)
+    } else {
+        push_escaped_byte(text, byte)
+    }
+}
+
+/// Appends an offset in bytes. Appends nothing for `None`.
+fn push_offset(text: &mut Vec<u8>, offset: Option<u64>) -> Result<(), AllocError>
+    ensures { OnOk result (text.new.items ≡ text.old.items ++ offset_text offset) }
+{
+    let Some(offset) = offset else {
+        return Ok(());
+    };
+    text.extend_from_slice(b" (offset ")?;
+    push_number(text, offset)?;
+    Ok(text.push(b')')?)
+}
