@@ -34,7 +34,8 @@ PROGRAM = ["program_streams", "sock_diag_lines"]
 CRATES = PORT + PROGRAM
 # The other crates, whose definitions are only counted.
 OTHERS = ["sock_diag_families", "sock_diag_any", "sock_diag_extras", "sock_diag_filters",
-    "sock_diag_examples", "sock_diag_captures", "sockdiag_c", "sockdiag", "sslist"]
+    "sock_diag_examples", "sock_diag_listing", "sock_diag_captures",
+    "sockdiag_c", "sockdiag", "sslist"]
 # A module of these crates, except those that are generated from Rust.
 OURS = re.compile(rf"Rattle\.({'|'.join(CRATES + OTHERS)})\.specs\.(?!declared|contracts)")
 # Ghost members whose bodies need not be read. Most are laws, and their bodies are proofs. `eq`,

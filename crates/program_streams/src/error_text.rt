@@ -6,8 +6,7 @@ ghost use Rattle.hex.specs.Hex.{encode_lower};
 ghost use Rattle.program_streams.specs.ErrorText.{error_text_bytes};
 
 use byteorder::{BigEndian, ByteOrder};
-use std::fmt;
-use std::str;
+use std::{fmt, str};
 
 /// An error's text, in parts that need no allocation.
 #[derive(Clone, Copy, Debug)]

@@ -3,7 +3,7 @@ use Rattle.std.proofs.Common.{◌≡◌, ◌≢◌, ℕ, ◌+◌, ◌≤◌, Lis
 use Rattle.std.proofs.Common.{ap, subst, ◌∙◌, append_assoc, arith, inr, ◌<◌}
 use Rattle.std.proofs.lemmas.Bool.{le-ltb, lt-ltb}
 use Rattle.program_streams.specs.Cooked.{IsOfSockDiag}
-use Rattle.sock_diag_captures.specs.Reports.{short_line}
+use Rattle.sock_diag_listing.specs.Reports.{short_line}
 use Rattle.std.specs.Prelude.{Option, None, Some}
 use Rattle.std.proofs.lemmas.List.{append-nil, length-append}
 use Rattle.netlink_core.proofs.Datagrams.{shorter-rest}

@@ -13,14 +13,14 @@ use Rattle.program_streams.specs.Reader.{IsCaptureStartStop, IsCaptureStop, Read
 use Rattle.program_streams.proofs.ReaderLemmas.{nothing_more, stopped_at_once, stopped_for_either}
 use Rattle.program_streams.specs.declared.captures.CaptureError.{CaptureError}
 use Rattle.program_streams.specs.declared.captures.CaptureError.TheVariants.{Read}
-use Rattle.sock_diag_captures.specs.declared.list_error.ListError.{ListError}
-use Rattle.sock_diag_captures.specs.declared.list_error.ListError.TheVariants.{Header, Packet}
-use Rattle.sock_diag_captures.specs.declared.list_error.ListError.TheVariants.{Memory}
-use Rattle.sock_diag_captures.specs.declared.list_error.ListError.TheVariants.{Write}
+use Rattle.sock_diag_listing.specs.declared.list_error.ListError.{ListError}
+use Rattle.sock_diag_listing.specs.declared.list_error.ListError.TheVariants.{Header, Packet}
+use Rattle.sock_diag_listing.specs.declared.list_error.ListError.TheVariants.{Memory}
+use Rattle.sock_diag_listing.specs.declared.list_error.ListError.TheVariants.{Write}
 use Rattle.program_streams.specs.declared.streams.ReadError.TheVariants.{Other}
 use Rattle.program_streams.specs.declared.streams.WriteError.{WriteError}
-use Rattle.sock_diag_captures.specs.declared.options.Options.{Options}
-use Rattle.sock_diag_captures.specs.Reports.{closing_line}
+use Rattle.sock_diag_listing.specs.declared.options.Options.{Options}
+use Rattle.sock_diag_listing.specs.Reports.{closing_line}
 use Rattle.sock_diag_captures.specs.Diagnostics.{DiagnosesPacket}
 use Rattle.sock_diag_captures.specs.Listing.{requests_after_packet}
 use Rattle.sock_diag_captures.specs.declared.requests.Query.{Query}

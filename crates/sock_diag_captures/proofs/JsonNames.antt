@@ -8,9 +8,10 @@ use Rattle.json.specs.Json as json
 use Rattle.json.proofs.Printed.Trees.{document-print}
 use Rattle.sock_diag_attributes.specs.declared.unix.name.SocketName.{SocketName}
 use Rattle.sock_diag_attributes.specs.declared.unix.name.SocketName.TheVariants.{Abstract, Pathname}
-use Rattle.sock_diag_captures.specs.JsonData.{bytes_member, json_text, name_members}
-use Rattle.sock_diag_captures.specs.JsonData.{text_member}
-use Rattle.sock_diag_captures.specs.private.JsonWriting.{HaveSameText, name_bytes}
+use Rattle.sock_diag_listing.specs.JsonData.{bytes_member, json_text}
+use Rattle.sock_diag_captures.specs.JsonNames.{name_members}
+use Rattle.sock_diag_listing.specs.JsonData.{text_member}
+use Rattle.sock_diag_captures.specs.private.JsonNames.{HaveSameText, name_bytes}
 
 -- the object with one member, a string
 abbrev object_of_text : List ℕ → List ℕ → json.Json

@@ -7,15 +7,6 @@ pub mod Progress
 pub mod Failing
 pub mod DiagnosticEquality
 pub mod Adding
-pub mod UtcTimes
-pub mod Utf8Names
-pub mod ShownNames
-pub mod VisibleNames
 pub mod CellWidths
-pub mod Reporting
-pub mod Choosing
-pub mod Listed
-pub mod OptionsEquality
-pub mod JsonWriting
 pub mod Md5Keys
 pub mod JsonNames

@@ -11,7 +11,7 @@ pub keys_step : (bytes : List ℕ) → 100 ≤ length bytes
     → md5_keys bytes ≡ key_at bytes ∷ md5_keys (drop 100 bytes)
 keys_step bytes long =
     let more : length bytes / 100 ≡ suc (length (drop 100 bytes) / 100) =
-        omega (arith, long, length-drop 100 bytes) in
+    omega (arith, long, length-drop 100 bytes) in
     ap (λ (count : ℕ). first_keys count bytes) more
 
 -- No key is left.

@@ -4,9 +4,9 @@ use Rattle.std.proofs.Common.{inl, inr, refl, sym, ap, subst, ◌∙◌, arith, 
 use Rattle.std.proofs.Common.{length}
 use Rattle.std.specs.Prelude.{Some}
 use Rattle.std.proofs.lemmas.Bool.{and_parts, cases_Bool, cases_eq, eqb-true, lt-ltb, ne_eqb}
-use Rattle.sock_diag_captures.specs.Escapes.{byte_digits, unescaped_bytes, shown_name}
-use Rattle.sock_diag_captures.proofs.ShownNames.{unescaped_shown_name, unescaped_byte_digits}
-use Rattle.sock_diag_captures.proofs.ShownNames.{unescaped_printable_byte}
+use Rattle.sock_diag_listing.specs.Escapes.{byte_digits, unescaped_bytes, shown_name}
+use Rattle.sock_diag_listing.proofs.ShownNames.{unescaped_shown_name, unescaped_byte_digits}
+use Rattle.sock_diag_listing.proofs.ShownNames.{unescaped_printable_byte}
 use Rattle.netlink_core.specs.Bytes.{IsBytes}
 use Rattle.sock_diag_attributes.specs.declared.unix.name.SocketName.TheVariants.{Abstract, Pathname}
 use Rattle.sock_diag_captures.specs.Table.{needs_escaped_first_byte, name_cell, name_of_cell}

@@ -10,7 +10,7 @@ use Rattle.sock_diag_extras.specs.Acknowledgement.{ack_attribute_bytes_from}
 use Rattle.sock_diag_extras.specs.Acknowledgement.{acked_request_length, error_attribute_bytes}
 use Rattle.sock_diag_extras.specs.declared.constants.TheConstants.{NLMSGERR_ATTR_MSG}
 use Rattle.sock_diag_extras.specs.declared.constants.TheConstants.{NLMSGERR_ATTR_OFFS}
-use Rattle.sock_diag_captures.specs.Escapes.{escaped_byte}
+use Rattle.sock_diag_listing.specs.Escapes.{escaped_byte}
 use Rattle.sock_diag_captures.specs.UlpInfo.{nested_number, nested_value}
 
 -- `error_attributes flags payload`: the attributes in the payload of an NLMSG_ERROR. None if the

@@ -52,9 +52,9 @@ use Rattle.sock_diag_families.specs.declared.xdp.TheConstants.{XDP_DIAG_INFO, XD
 use Rattle.sock_diag_families.specs.declared.xdp.TheConstants.{XDP_DIAG_UID}
 use Rattle.sock_diag_captures.specs.declared.details.Sockets.{Sockets}
 use Rattle.sock_diag_captures.specs.declared.details.Sockets.TheVariants.{Inet, Other, Unix}
-use Rattle.sock_diag_captures.specs.declared.options.Family.{Family}
-use Rattle.sock_diag_captures.specs.declared.options.Family.TheVariants.{Netlink, Packet, Vsock}
-use Rattle.sock_diag_captures.specs.declared.options.Family.TheVariants.{Xdp}
+use Rattle.sock_diag_listing.specs.declared.options.Family.{Family}
+use Rattle.sock_diag_listing.specs.declared.options.Family.TheVariants.{Netlink, Packet, Vsock}
+use Rattle.sock_diag_listing.specs.declared.options.Family.TheVariants.{Xdp}
 use Rattle.sock_diag_captures.specs.JsonNewer.{inet_newer_outcome, unix_newer_outcome}
 use Rattle.sock_diag_captures.specs.JsonOutcome.{JsonOutcome}
 use Rattle.sock_diag_captures.specs.JsonTcp.{tcp_members}
@@ -65,10 +65,11 @@ use Rattle.sock_diag_records.specs.declared.constants.TheConstants.{INET_DIAG_BB
 use Rattle.sock_diag_records.specs.declared.constants.TheConstants.{INET_DIAG_DCTCPINFO}
 use Rattle.sock_diag_records.specs.declared.constants.TheConstants.{INET_DIAG_VEGASINFO}
 use Rattle.sock_diag_captures.specs.Details.{error_reason, is_memory_kind}
-use Rattle.sock_diag_captures.specs.JsonData.{JsonMember, name_members, number_members}
-use Rattle.sock_diag_captures.specs.JsonData.{array_member, flag_member, numbers_member}
-use Rattle.sock_diag_captures.specs.JsonData.{object_member, object_of, optional_member}
-use Rattle.sock_diag_captures.specs.JsonData.{text_member}
+use Rattle.sock_diag_listing.specs.JsonData.{JsonMember, number_members}
+use Rattle.sock_diag_captures.specs.JsonNames.{name_members}
+use Rattle.sock_diag_listing.specs.JsonData.{array_member, flag_member, numbers_member}
+use Rattle.sock_diag_listing.specs.JsonData.{object_member, object_of, optional_member}
+use Rattle.sock_diag_listing.specs.JsonData.{text_member}
 use Rattle.sock_diag_captures.specs.Pieces.{AttributeOrError, first_of_kind}
 
 -- ---- what an attribute yields

@@ -3,17 +3,17 @@
 use Rattle.std.specs.Prelude.{ℕ, if◌then◌else◌, List, [], Option}
 use Rattle.sock_diag_records.specs.declared.inet.response.InetResponseHeader.{InetResponseHeader}
 use Rattle.sock_diag_records.specs.declared.unix.response.UnixResponseHeader.{UnixResponseHeader}
-use Rattle.sock_diag_captures.specs.JsonData.{JsonMember}
+use Rattle.sock_diag_listing.specs.JsonData.{JsonMember}
 use Rattle.sock_diag_captures.specs.JsonOthers.{other_json}
 use Rattle.sock_diag_captures.specs.JsonSockets.{inet_json, unix_json}
-use Rattle.sock_diag_captures.specs.Options.{lists_family, lists_inet, lists_unix}
+use Rattle.sock_diag_listing.specs.Options.{lists_family, lists_inet, lists_unix}
 use Rattle.sock_diag_captures.specs.Others.{other_lines}
 use Rattle.sock_diag_captures.specs.Pieces.{AttributeOrError}
 use Rattle.sock_diag_captures.specs.Table.{inet_lines, unix_lines}
-use Rattle.sock_diag_captures.specs.declared.options.Family.{Family}
-use Rattle.sock_diag_captures.specs.declared.options.Options.{Options}
+use Rattle.sock_diag_listing.specs.declared.options.Family.{Family}
+use Rattle.sock_diag_listing.specs.declared.options.Options.{Options}
 use Rattle.sock_diag_captures.specs.declared.others.OtherSocket.{OtherSocket}
-use Rattle.sock_diag_captures.specs.declared.parts.TimerFields.{TimerFields}
+use Rattle.sock_diag_listing.specs.declared.parts.TimerFields.{TimerFields}
 
 -- `unix_output o h given`: what is written for a UNIX socket; nothing if the options do not select
 -- it

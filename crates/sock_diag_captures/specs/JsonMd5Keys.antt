@@ -8,8 +8,8 @@ use Rattle.json.specs.Json.{Json}
 use Rattle.netlink_core.specs.Attribute.{Attribute}
 use Rattle.sock_diag_extras.specs.Md5Signature.{peer_ip, used_key}
 use Rattle.sock_diag_extras.specs.declared.md5_signature.Md5Signature.{Md5Signature}
-use Rattle.sock_diag_captures.specs.JsonData.{JsonMember, address_member, array_member}
-use Rattle.sock_diag_captures.specs.JsonData.{number_members, object_of, text_member}
+use Rattle.sock_diag_listing.specs.JsonData.{JsonMember, address_member, array_member}
+use Rattle.sock_diag_listing.specs.JsonData.{number_members, object_of, text_member}
 use Rattle.sock_diag_captures.specs.JsonOutcome.{JsonOutcome}
 use Rattle.sock_diag_captures.specs.Md5Keys.{are_md5_keys, md5_keys}
 

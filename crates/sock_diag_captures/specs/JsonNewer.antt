@@ -18,7 +18,7 @@ use Rattle.sock_diag_records.specs.declared.constants.TheConstants.{INET_DIAG_BB
 use Rattle.sock_diag_records.specs.declared.constants.TheConstants.{INET_DIAG_DCTCPINFO}
 use Rattle.sock_diag_records.specs.declared.constants.TheConstants.{INET_DIAG_MD5SIG}
 use Rattle.sock_diag_records.specs.declared.constants.TheConstants.{INET_DIAG_VEGASINFO}
-use Rattle.sock_diag_captures.specs.JsonData.{JsonMember, number_members, object_member}
+use Rattle.sock_diag_listing.specs.JsonData.{JsonMember, number_members, object_member}
 use Rattle.sock_diag_captures.specs.JsonMd5Keys.{md5_outcome}
 use Rattle.sock_diag_captures.specs.JsonOutcome.{JsonOutcome}
 use Rattle.sock_diag_captures.specs.JsonUlpInfo.{ulp_outcome}

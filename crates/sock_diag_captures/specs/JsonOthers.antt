@@ -7,16 +7,16 @@ use Rattle.sock_diag_families.specs.declared.xdp.response.XdpResponseHeader.{Xdp
 use Rattle.sock_diag_records.specs.declared.constants.TheConstants.{AF_NETLINK, AF_PACKET}
 use Rattle.sock_diag_families.specs.declared.vsock.TheConstants.{AF_VSOCK}
 use Rattle.sock_diag_families.specs.declared.xdp.TheConstants.{AF_XDP}
-use Rattle.sock_diag_captures.specs.Cells.{state_name}
+use Rattle.sock_diag_listing.specs.Cells.{state_name}
 use Rattle.sock_diag_captures.specs.JsonAttributes.{attributes_members}
-use Rattle.sock_diag_captures.specs.JsonData.{JsonMember, hex_member, json_line, number_members}
-use Rattle.sock_diag_captures.specs.JsonData.{text_member}
+use Rattle.sock_diag_listing.specs.JsonData.{JsonMember, hex_member, json_line, number_members}
+use Rattle.sock_diag_listing.specs.JsonData.{text_member}
 use Rattle.sock_diag_captures.specs.Others.{other_kind}
 use Rattle.sock_diag_captures.specs.Pieces.{AttributeOrError}
 use Rattle.sock_diag_captures.specs.declared.details.Sockets.TheVariants.{Other}
-use Rattle.sock_diag_captures.specs.declared.options.Family.{Family}
-use Rattle.sock_diag_captures.specs.declared.options.Family.TheVariants.{Netlink, Packet, Vsock}
-use Rattle.sock_diag_captures.specs.declared.options.Family.TheVariants.{Xdp}
+use Rattle.sock_diag_listing.specs.declared.options.Family.{Family}
+use Rattle.sock_diag_listing.specs.declared.options.Family.TheVariants.{Netlink, Packet, Vsock}
+use Rattle.sock_diag_listing.specs.declared.options.Family.TheVariants.{Xdp}
 
 -- `other_header_members netid state rows cookie`: the members of a header: the columns Netid and
 -- State of the table, the fields in `rows`, and the cookie in hexadecimal digits

@@ -5,14 +5,14 @@ use Rattle.std.specs.Prelude.{ℕ, List, [], ◌∷◌, ◌++◌, codes, Option}
 use Rattle.sock_diag_records.specs.declared.inet.response.InetResponseHeader.{InetResponseHeader}
 use Rattle.sock_diag_records.specs.declared.unix.response.UnixResponseHeader.{UnixResponseHeader}
 use Rattle.sock_diag_records.specs.declared.constants.TheConstants.{AF_UNIX}
-use Rattle.sock_diag_captures.specs.Cells.{state_name}
+use Rattle.sock_diag_listing.specs.Cells.{state_name}
 use Rattle.sock_diag_captures.specs.JsonAttributes.{attributes_members}
-use Rattle.sock_diag_captures.specs.JsonData.{JsonMember, address_member, cookie_member}
-use Rattle.sock_diag_captures.specs.JsonData.{json_line, number_members, text_member}
+use Rattle.sock_diag_listing.specs.JsonData.{JsonMember, address_member, cookie_member}
+use Rattle.sock_diag_listing.specs.JsonData.{json_line, number_members, text_member}
 use Rattle.sock_diag_captures.specs.Pieces.{AttributeOrError}
 use Rattle.sock_diag_captures.specs.Table.{inet_kind, is_tcp, unix_kind}
 use Rattle.sock_diag_captures.specs.declared.details.Sockets.TheVariants.{Inet, Unix}
-use Rattle.sock_diag_captures.specs.declared.parts.TimerFields.{TimerFields}
+use Rattle.sock_diag_listing.specs.declared.parts.TimerFields.{TimerFields}
 
 -- The members of the header of a UNIX socket, `struct unix_diag_msg` of linux/unix_diag.h:
 -- `udiag_family`, `udiag_type`, `udiag_state`, `udiag_ino` and `udiag_cookie`.

@@ -5,7 +5,7 @@ use Rattle.std.specs.Prelude.{nat_le, Option, None, Some, option_map}
 use Rattle.sock_diag_extras.specs.TcpFields.{end_offset, tcp_field_value}
 use Rattle.sock_diag_extras.specs.declared.tcp_info.TcpField.{TcpField}
 use Rattle.sock_diag_extras.specs.declared.tcp_info.TcpField.TheVariants as field
-use Rattle.sock_diag_captures.specs.JsonData.{JsonMember, optional_member}
+use Rattle.sock_diag_listing.specs.JsonData.{JsonMember, optional_member}
 use Rattle.sock_diag_captures.specs.declared.json_tcp.TcpPart.{TcpPart}
 use Rattle.sock_diag_captures.specs.declared.json_tcp.TcpPart.TheVariants.{FirstBit, HighFour}
 use Rattle.sock_diag_captures.specs.declared.json_tcp.TcpPart.TheVariants.{LowFour, NextTwo, Whole}

@@ -11,8 +11,8 @@ use Rattle.sock_diag_extras.specs.declared.ulp_info.SubflowField.{SubflowField}
 use Rattle.sock_diag_extras.specs.declared.ulp_info.SubflowField.TheVariants as subflow
 use Rattle.sock_diag_extras.specs.declared.ulp_info.TlsField.{TlsField}
 use Rattle.sock_diag_extras.specs.declared.ulp_info.TlsField.TheVariants as tls
-use Rattle.sock_diag_captures.specs.JsonData.{JsonMember, flag_member, object_member}
-use Rattle.sock_diag_captures.specs.JsonData.{optional_member, text_member}
+use Rattle.sock_diag_listing.specs.JsonData.{JsonMember, flag_member, object_member}
+use Rattle.sock_diag_listing.specs.JsonData.{optional_member, text_member}
 use Rattle.sock_diag_captures.specs.JsonOutcome.{JsonOutcome}
 use Rattle.sock_diag_captures.specs.UlpInfo.{nested_value, subflow_number, tls_number, ulp_name}
 

@@ -13,18 +13,8 @@ pub mod Listing
 pub mod Explanation
 pub mod Diagnostics
 pub mod Run
-pub mod Escapes
-pub mod Widths
-pub mod Options
-pub mod Cells
-pub mod CellsModel
-pub mod Parts
-pub mod Times
-pub mod Choice
-pub mod Files
 pub mod Headings
-pub mod Reports
-pub mod JsonData
+pub mod JsonNames
 pub mod JsonTcp
 pub mod JsonOutcome
 pub mod JsonMd5Keys
@@ -35,5 +25,3 @@ pub mod JsonSockets
 pub mod JsonOthers
 pub mod JsonListing
 pub mod private
-pub mod Filter
-pub mod laws

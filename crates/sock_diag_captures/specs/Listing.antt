@@ -9,10 +9,10 @@ use Rattle.byteorder.specs.Endian.{big_number, little_number}
 use Rattle.program_streams.specs.Capture.{CapturedPacket}
 use Rattle.program_streams.specs.Cooked.{IsOfSockDiag}
 use Rattle.program_streams.specs.declared.captures.PacketHeader.{PacketHeader}
-use Rattle.sock_diag_captures.specs.declared.options.Family.{Family}
-use Rattle.sock_diag_captures.specs.declared.options.Family.TheVariants.{Netlink, Packet, Vsock}
-use Rattle.sock_diag_captures.specs.declared.options.Family.TheVariants.{Xdp}
-use Rattle.sock_diag_captures.specs.declared.options.Options.{Options}
+use Rattle.sock_diag_listing.specs.declared.options.Family.{Family}
+use Rattle.sock_diag_listing.specs.declared.options.Family.TheVariants.{Netlink, Packet, Vsock}
+use Rattle.sock_diag_listing.specs.declared.options.Family.TheVariants.{Xdp}
+use Rattle.sock_diag_listing.specs.declared.options.Options.{Options}
 use Rattle.netlink_core.specs.Datagram.{SplitsIntoMessages}
 use Rattle.netlink_core.specs.Layout.{Layout, parse_record}
 use Rattle.netlink_core.specs.Header.{HasHeader}
@@ -37,7 +37,7 @@ use Rattle.sock_diag_captures.specs.declared.requests.Query.{Query}
 use Rattle.sock_diag_captures.specs.Details.{timer_in}
 use Rattle.sock_diag_captures.specs.Others.{family_numbered, netlink_socket}
 use Rattle.sock_diag_captures.specs.Others.{packet_socket, vsock_socket, xdp_socket}
-use Rattle.sock_diag_captures.specs.JsonData.{JsonMember}
+use Rattle.sock_diag_listing.specs.JsonData.{JsonMember}
 use Rattle.sock_diag_captures.specs.JsonListing.{inet_output, other_output, unix_output}
 use Rattle.sock_diag_captures.specs.JsonOthers.{netlink_header_members, packet_header_members}
 use Rattle.sock_diag_captures.specs.JsonOthers.{vsock_header_members, xdp_header_members}

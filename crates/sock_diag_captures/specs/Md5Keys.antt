@@ -9,7 +9,7 @@ use Rattle.netlink_core.specs.Attribute.{Attribute}
 use Rattle.sock_diag_extras.specs.Md5Signature.{md5_signature, peer_ip, used_key}
 use Rattle.sock_diag_extras.specs.RecordTable.{parse_by_table}
 use Rattle.sock_diag_extras.specs.declared.md5_signature.Md5Signature.{Md5Signature}
-use Rattle.sock_diag_captures.specs.Escapes.{byte_digits, escaped_byte}
+use Rattle.sock_diag_listing.specs.Escapes.{byte_digits, escaped_byte}
 use Rattle.sock_diag_captures.specs.Rows.{unknown_attribute_text}
 
 -- the record in the first 100 bytes

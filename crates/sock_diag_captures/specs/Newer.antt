@@ -21,7 +21,7 @@ use Rattle.sock_diag_records.specs.declared.constants.TheConstants.{INET_DIAG_DC
 use Rattle.sock_diag_records.specs.declared.constants.TheConstants.{INET_DIAG_MD5SIG}
 use Rattle.sock_diag_records.specs.declared.constants.TheConstants.{INET_DIAG_VEGASINFO}
 use Rattle.sock_diag_captures.specs.Md5Keys.{md5_text}
-use Rattle.sock_diag_captures.specs.Parts.{detail, flag_detail, nonzero_detail}
+use Rattle.sock_diag_listing.specs.Parts.{detail, flag_detail, nonzero_detail}
 use Rattle.sock_diag_captures.specs.Rows.{rows_text, unknown_attribute_text}
 use Rattle.sock_diag_captures.specs.UlpInfo.{ulp_text}
 use Rattle.sock_diag_captures.specs.declared.details.Format.TheVariants.{Part}

@@ -3,13 +3,13 @@ use Rattle.std.specs.Prelude.{◌&&◌}
 use Rattle.std.specs.Prelude.{ℕ, ◌==◌, ◌||◌, not, nat_lt, if◌then◌else◌, List, [], ◌∷◌, ◌++◌}
 use Rattle.std.specs.Prelude.{length, codes, drop, slice_index, Option, None, Some}
 use Rattle.byteorder.specs.Endian.{little_number}
-use Rattle.sock_diag_captures.specs.Times.{time_text}
-use Rattle.sock_diag_captures.specs.Parts.{hex_detail}
+use Rattle.sock_diag_listing.specs.Times.{time_text}
+use Rattle.sock_diag_listing.specs.Parts.{hex_detail}
 use Rattle.program_streams.specs.declared.captures.PacketHeader.{PacketHeader}
-use Rattle.sock_diag_captures.specs.declared.options.Family.{Family}
-use Rattle.sock_diag_captures.specs.declared.options.Family.TheVariants.{Netlink, Packet, Vsock}
-use Rattle.sock_diag_captures.specs.declared.options.Family.TheVariants.{Xdp}
-use Rattle.sock_diag_captures.specs.declared.options.Options.{Options}
+use Rattle.sock_diag_listing.specs.declared.options.Family.{Family}
+use Rattle.sock_diag_listing.specs.declared.options.Family.TheVariants.{Netlink, Packet, Vsock}
+use Rattle.sock_diag_listing.specs.declared.options.Family.TheVariants.{Xdp}
+use Rattle.sock_diag_listing.specs.declared.options.Options.{Options}
 use Rattle.sock_diag_records.specs.declared.constants.TheConstants.{AF_UNIX, SOCK_DIAG_BY_FAMILY}
 use Rattle.sock_diag_captures.specs.Requests.{inet_request_in_datagram}
 use Rattle.sock_diag_captures.specs.Table.{inet_kind}

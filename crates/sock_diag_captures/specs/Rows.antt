@@ -1,7 +1,7 @@
 -- Texts of names with numbers.
 use Rattle.std.specs.Prelude.{ℕ, List, ◌++◌, codes, decimal, flat_map, length}
 use Rattle.netlink_core.specs.Attribute.{Attribute, attribute_kind}
-use Rattle.sock_diag_captures.specs.Parts.{detail, nonzero_detail, pair_detail}
+use Rattle.sock_diag_listing.specs.Parts.{detail, nonzero_detail, pair_detail}
 use Rattle.sock_diag_captures.specs.declared.details.Format.{Format}
 use Rattle.sock_diag_captures.specs.declared.details.Format.TheVariants.{Always, Nonzero, Part}
 

@@ -3,14 +3,14 @@ use Rattle.std.specs.Prelude.{◌≡◌, ◌↔◌, ℕ, ◌+◌, ◌-◌, ◌^�
 use Rattle.std.specs.Prelude.{flat_map, Bool, IsTrue, Option, ⊤}
 use Rattle.std.specs.Io.KnownBytes.{Appends, Consumes, IsAtEnd, Keeps}
 use Rattle.std.specs.List.{AllByRecursion}
-use Rattle.sock_diag_captures.specs.declared.list_error.ListError.{ListError}
-use Rattle.sock_diag_captures.specs.declared.list_error.ListError.TheVariants.{Header, Packet}
-use Rattle.sock_diag_captures.specs.declared.list_error.ListError.TheVariants.{Write}
-use Rattle.sock_diag_captures.specs.declared.list_error.ListError.TheVariants.{Memory}
+use Rattle.sock_diag_listing.specs.declared.list_error.ListError.{ListError}
+use Rattle.sock_diag_listing.specs.declared.list_error.ListError.TheVariants.{Header, Packet}
+use Rattle.sock_diag_listing.specs.declared.list_error.ListError.TheVariants.{Write}
+use Rattle.sock_diag_listing.specs.declared.list_error.ListError.TheVariants.{Memory}
 use Rattle.program_streams.specs.Capture.{CapturedPacket}
 use Rattle.program_streams.specs.Reader.{CaptureState, IsCaptureEnd, IsCaptureStart}
 use Rattle.program_streams.specs.Reader.{IsCaptureStartStop, IsCaptureStop, ReadsPacket}
-use Rattle.sock_diag_captures.specs.declared.options.Options.{Options}
+use Rattle.sock_diag_listing.specs.declared.options.Options.{Options}
 use Rattle.sock_diag_captures.specs.Diagnostics.{AreDiagnosed}
 use Rattle.sock_diag_captures.specs.Listing.{ListsCapturedPacket, requests_after_packet}
 use Rattle.sock_diag_captures.specs.declared.requests.Query.{Query}

@@ -3,7 +3,7 @@
 use Rattle.std.specs.Prelude.{ℕ, ◌==◌, ◌/◌, ◌%◌, nat_le, if◌then◌else◌, List, [], ◌∷◌, ◌++◌}
 use Rattle.std.specs.Prelude.{bit_and, codes, flat_map, length, slice_index, Option, None, Some}
 use Rattle.sock_diag_captures.specs.Newer.{tcp_field_in, tcp_field_text}
-use Rattle.sock_diag_captures.specs.Parts.{flag_detail, pair_detail, threshold_detail}
+use Rattle.sock_diag_listing.specs.Parts.{flag_detail, pair_detail, threshold_detail}
 use Rattle.sock_diag_extras.specs.declared.tcp_info.TcpField.TheVariants as field
 
 -- `tcp_option_flags options wscale`: the flags of `tcpi_options`: TCPI_OPT_TIMESTAMPS (1),

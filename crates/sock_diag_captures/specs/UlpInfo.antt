@@ -21,7 +21,7 @@ use Rattle.sock_diag_extras.specs.declared.ulp_info.SubflowField.{SubflowField}
 use Rattle.sock_diag_extras.specs.declared.ulp_info.SubflowField.TheVariants as subflow
 use Rattle.sock_diag_extras.specs.declared.ulp_info.TlsField.{TlsField}
 use Rattle.sock_diag_extras.specs.declared.ulp_info.TlsField.TheVariants as tls
-use Rattle.sock_diag_captures.specs.Escapes.{shown_name}
+use Rattle.sock_diag_listing.specs.Escapes.{shown_name}
 use Rattle.sock_diag_captures.specs.Pieces.{attributes_or_error, first_of_kind}
 use Rattle.sock_diag_captures.specs.Rows.{unknown_attribute_text}
 

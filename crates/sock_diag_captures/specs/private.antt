@@ -1,4 +1,3 @@
 -- Definitions that only the contracts of private functions need.
-pub mod Report
 pub mod Run
-pub mod JsonWriting
+pub mod JsonNames

@@ -2,7 +2,7 @@
 //! invalid.
 
 ghost use Rattle.std.specs.Prelude.{◌≡◌, ◌≤◌, ◌++◌, Ok, flat_map, codes, length, OnOk};
-ghost use Rattle.sock_diag_captures.specs.Parts.{detail, separator, details_after_separator};
+ghost use Rattle.sock_diag_listing.specs.Parts.{detail, separator, details_after_separator};
 ghost use Rattle.netlink_core.specs.Walk.{buffered_attribute};
 ghost use Rattle.sock_diag_attributes.specs.InetModel.{inet_nla_view_model as inet_view_model};
 ghost use Rattle.sock_diag_attributes.specs.InetModel.{inet_variant};
@@ -22,16 +22,8 @@ ghost use Rattle.sock_diag_captures.specs.ShortInfo.{tcp_option_flags};
 ghost use Rattle.sock_diag_captures.specs.Pieces.{attributes_or_error};
 ghost use Rattle.sock_diag_captures.specs.Rows.{row_text, unknown_attribute_text};
 
-use crate::cells::push_number;
 use crate::kinds::reason_of;
-use crate::names::push_shown;
 use crate::newer::{push_inet_newer, push_later_fields, push_unix_newer};
-use crate::options::{Detail, Family, Options};
-use crate::parts::{
-    TimerFields, push_detail, push_directions, push_flag, push_hex_detail, push_packet_flags,
-    push_pair, push_part, push_shown_cookie, push_shown_timer, push_some, push_threshold,
-    separator,
-};
 use crate::pieces::next_piece;
 use crate::short_info::push_short_tcp;
 use byteorder::{ByteOrder, LittleEndian};
@@ -45,6 +37,14 @@ use sock_diag_families::packet::{
     PACKET_DIAG_INFO, PACKET_DIAG_MEMINFO, PACKET_DIAG_UID, PacketInfo,
 };
 use sock_diag_families::xdp::{XDP_DIAG_INFO, XDP_DIAG_MEMINFO, XDP_DIAG_UID, XdpInfo};
+use sock_diag_listing::cells::push_number;
+use sock_diag_listing::names::push_shown;
+use sock_diag_listing::parts::{
+    TimerFields, push_detail, push_directions, push_flag, push_hex_detail, push_packet_flags,
+    push_pair, push_part, push_shown_cookie, push_shown_timer, push_some, push_threshold,
+    separator,
+};
+use sock_diag_listing::{Detail, Family, Options};
 use sock_diag_records::constants::{
     INET_DIAG_BBRINFO, INET_DIAG_CONG, INET_DIAG_DCTCPINFO, INET_DIAG_INFO, INET_DIAG_MD5SIG,
     INET_DIAG_MEMINFO, INET_DIAG_SKMEMINFO, INET_DIAG_VEGASINFO, TCPI_OPT_ECN, TCPI_OPT_ECN_SEEN,

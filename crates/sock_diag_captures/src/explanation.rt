@@ -9,12 +9,12 @@ ghost use Rattle.sock_diag_captures.specs.Explanation.{error_attributes, explain
 ghost use Rattle.sock_diag_captures.specs.Explanation.{explanation, explanation_in};
 ghost use Rattle.sock_diag_captures.specs.Explanation.{explanation_text, offset_text};
 
-use crate::cells::{push_escaped_byte, push_number};
 use crate::ulp_info::{find_number, find_value};
 use byteorder::{ByteOrder, LittleEndian};
 use netlink_core::{NETLINK_HEADER_LEN, NLMSG_DONE, NLMSG_ERROR};
 use sock_diag_extras::AckView;
 use sock_diag_extras::constants::{NLMSGERR_ATTR_MSG, NLMSGERR_ATTR_OFFS};
+use sock_diag_listing::cells::{push_escaped_byte, push_number};
 use std::alloc::AllocError;
 
 /// Appends what a message explains: the kernel's text, and the offset of the invalid attribute.
@@ -87,13 +87,7 @@ fn without_nul(value: &[u8]) -> &[u8]
     ensures { result.now ≡ without_terminating_nul value.entry.now }
 {
     match value.split_last() {
-        Some((last, text)) => {
-            if *last == 0 {
-                text
-            } else {
-                value
-            }
-        }
+        Some((last, text)) => { if *last == 0 { text } else { value } }
         None => value,
     }
 }

@@ -26,21 +26,19 @@ ghost use Rattle.sock_diag_captures.specs.JsonAttributes.{memory_outcome, number
 ghost use Rattle.sock_diag_captures.specs.JsonAttributes.{other_items, outcome_members};
 ghost use Rattle.sock_diag_captures.specs.JsonAttributes.{packet_outcome, unix_attribute_outcome};
 ghost use Rattle.sock_diag_captures.specs.JsonAttributes.{unix_outcome, xdp_outcome};
-ghost use Rattle.sock_diag_captures.specs.JsonData.{array_member, name_members};
-ghost use Rattle.sock_diag_captures.specs.JsonData.{number_members, numbers_member, object_member};
-ghost use Rattle.sock_diag_captures.specs.JsonData.{object_of, text_member};
+ghost use Rattle.sock_diag_listing.specs.JsonData.{array_member};
+ghost use Rattle.sock_diag_captures.specs.JsonNames.{name_members};
+ghost use Rattle.sock_diag_listing.specs.JsonData.{number_members, numbers_member, object_member};
+ghost use Rattle.sock_diag_listing.specs.JsonData.{object_of, text_member};
 ghost use Rattle.sock_diag_captures.specs.Pieces.{attributes_or_error};
-ghost use Rattle.sock_diag_captures.specs.private.JsonWriting.{AddsMembers, AddsTokens, KeepsText};
-ghost use Rattle.sock_diag_captures.specs.private.JsonWriting.{items_tokens, members_tokens};
+ghost use Rattle.sock_diag_listing.specs.JsonWriting.{AddsMembers, AddsTokens, KeepsText};
+ghost use Rattle.sock_diag_listing.specs.JsonWriting.{items_tokens, members_tokens};
 
 use crate::details::{Sockets, memory_kind};
+use crate::json_names::write_name_members;
 use crate::json_newer::{inet_newer_status, unix_newer_status, write_inet_newer, write_unix_newer};
 use crate::json_tcp::write_tcp;
-use crate::json_writing::{
-    begin_member, write_flag, write_name_members, write_numbers, write_optional, write_text,
-};
 use crate::kinds::reason_of;
-use crate::options::Family;
 use crate::pieces::{find_kind, next_piece};
 use byteorder::{ByteOrder, LittleEndian};
 use json::Writer;
@@ -55,6 +53,10 @@ use sock_diag_families::packet::{
     PACKET_DIAG_INFO, PACKET_DIAG_MEMINFO, PACKET_DIAG_UID, PacketInfo,
 };
 use sock_diag_families::xdp::{XDP_DIAG_INFO, XDP_DIAG_MEMINFO, XDP_DIAG_UID, XdpInfo};
+use sock_diag_listing::Family;
+use sock_diag_listing::json_writing::{
+    begin_member, write_flag, write_numbers, write_optional, write_text,
+};
 use sock_diag_records::constants::{
     INET_DIAG_BBRINFO, INET_DIAG_CLASS_ID, INET_DIAG_CONG, INET_DIAG_DCTCPINFO, INET_DIAG_INFO,
     INET_DIAG_MARK, INET_DIAG_MD5SIG, INET_DIAG_MEMINFO, INET_DIAG_PROTOCOL, INET_DIAG_SHUTDOWN,
@@ -117,7 +119,7 @@ macro_rules! write_fields {
 
 /// Writes the members of the attributes of a reply, and then the attributes that are unknown or
 /// invalid.
-#[tactic(auto, using(crate::proofs::JsonWriting::json_rules), unfolding(crate::specs::JsonAttributes::attributes_members))]
+#[tactic(auto, using(sock_diag_listing::proofs::JsonWriting::json_rules), unfolding(crate::specs::JsonAttributes::attributes_members))]
 pub(crate) fn write_attributes(
     alloc: Global,
     writer: &mut Writer,
@@ -133,7 +135,7 @@ pub(crate) fn write_attributes(
 }
 
 /// Writes the members of the attributes of a reply: of each type, of the first attribute.
-#[tactic(auto, using(crate::proofs::JsonWriting::tokens_of_each))]
+#[tactic(auto, using(sock_diag_listing::proofs::JsonWriting::tokens_of_each))]
 fn write_members(
     alloc: Global,
     writer: &mut Writer,
@@ -177,7 +179,7 @@ fn write_each_kind(
 }
 
 /// Writes the members of the first attribute of this type, if there is one.
-#[tactic(auto, unfolding(crate::specs::private::JsonWriting::members_tokens))]
+#[tactic(auto, unfolding(sock_diag_listing::specs::JsonWriting::members_tokens))]
 fn write_kind(
     alloc: Global,
     writer: &mut Writer,
@@ -214,7 +216,7 @@ fn write_attribute(
 }
 
 /// Writes the member `other_attributes`: the attributes that are unknown or invalid.
-#[tactic(auto, using(crate::proofs::JsonWriting::json_rules, crate::proofs::JsonWriting::items_of_each))]
+#[tactic(auto, using(sock_diag_listing::proofs::JsonWriting::json_rules, sock_diag_listing::proofs::JsonWriting::items_of_each))]
 fn write_others(writer: &mut Writer, sockets: Sockets, bytes: &[u8]) -> Result<(), AllocError>
     ensures before { KeepsText result writer.old writer.new }
     ensures members { AddsMembers result writer.old writer.new (array_member
@@ -228,7 +230,7 @@ fn write_others(writer: &mut Writer, sockets: Sockets, bytes: &[u8]) -> Result<(
 }
 
 /// Writes an item for each attribute that is unknown or invalid.
-#[tactic(auto, unfolding(crate::specs::private::JsonWriting::items_tokens))]
+#[tactic(auto, unfolding(sock_diag_listing::specs::JsonWriting::items_tokens))]
 fn write_other_items(writer: &mut Writer, sockets: Sockets, bytes: &[u8]) -> Result<(), AllocError>
     ensures before { KeepsText result writer.old writer.new }
     ensures tokens { AddsTokens result writer.old writer.new (flat_map
@@ -244,7 +246,7 @@ fn write_other_items(writer: &mut Writer, sockets: Sockets, bytes: &[u8]) -> Res
 }
 
 /// Writes an item for an attribute with this status.
-#[tactic(auto, using(crate::proofs::JsonWriting::json_rules), unfolding(crate::specs::JsonAttributes::other_items, crate::specs::private::JsonWriting::items_tokens))]
+#[tactic(auto, using(sock_diag_listing::proofs::JsonWriting::json_rules), unfolding(crate::specs::JsonAttributes::other_items, sock_diag_listing::specs::JsonWriting::items_tokens))]
 fn write_other(
     writer: &mut Writer,
     nla: &NlaBuffer<'_>,
@@ -336,7 +338,7 @@ fn memory_status(nla: &NlaBuffer<'_>, _name: &str) -> Result<bool, DecodeError>
 }
 
 /// Writes the members that an attribute of a UNIX socket yields.
-#[tactic(auto, unfolding(crate::specs::private::JsonWriting::members_tokens))]
+#[tactic(auto, unfolding(sock_diag_listing::specs::JsonWriting::members_tokens))]
 fn write_unix_attribute(
     alloc: Global,
     writer: &mut Writer,
@@ -354,7 +356,7 @@ fn write_unix_attribute(
 
 /// Writes the members that a decoded attribute of a UNIX socket yields. The memory is parsed again,
 /// since its view has only three of nine fields.
-#[tactic(auto, unfolding(crate::specs::private::JsonWriting::members_tokens))]
+#[tactic(auto, unfolding(sock_diag_listing::specs::JsonWriting::members_tokens))]
 fn write_unix(
     alloc: Global,
     writer: &mut Writer,
@@ -384,7 +386,7 @@ fn write_unix(
 }
 
 /// Writes the members that an attribute of an IPv4 or IPv6 socket yields.
-#[tactic(auto, unfolding(crate::specs::private::JsonWriting::members_tokens))]
+#[tactic(auto, unfolding(sock_diag_listing::specs::JsonWriting::members_tokens))]
 fn write_inet_attribute(
     alloc: Global,
     writer: &mut Writer,
@@ -405,7 +407,7 @@ fn write_inet_attribute(
 }
 
 /// Writes the members that a decoded attribute of an IPv4 or IPv6 socket yields.
-#[tactic(auto, unfolding(crate::specs::private::JsonWriting::members_tokens))]
+#[tactic(auto, unfolding(sock_diag_listing::specs::JsonWriting::members_tokens))]
 fn write_inet(
     alloc: Global,
     writer: &mut Writer,
@@ -466,7 +468,7 @@ fn inet_status(is_tcp: bool, nla: &NlaBuffer<'_>) -> Result<bool, DecodeError>
 }
 
 /// Writes the members that an attribute of a netlink, packet, vsock or XDP socket yields.
-#[tactic(auto, unfolding(crate::specs::private::JsonWriting::members_tokens))]
+#[tactic(auto, unfolding(sock_diag_listing::specs::JsonWriting::members_tokens))]
 fn write_family_attribute(
     writer: &mut Writer,
     family: Family,
@@ -491,7 +493,7 @@ fn write_family_attribute(
 }
 
 /// Writes the groups of a netlink socket as a member. Writes nothing if the value is too short.
-#[tactic(auto, unfolding(crate::specs::private::JsonWriting::members_tokens))]
+#[tactic(auto, unfolding(sock_diag_listing::specs::JsonWriting::members_tokens))]
 fn write_groups(writer: &mut Writer, value: &[u8]) -> Result<(), AllocError>
     ensures before { KeepsText result writer.old writer.new }
     ensures members { AddsMembers result writer.old writer.new
@@ -504,7 +506,7 @@ fn write_groups(writer: &mut Writer, value: &[u8]) -> Result<(), AllocError>
 }
 
 /// Writes the settings of a packet socket as a member. Writes nothing if the value is invalid.
-#[tactic(auto, unfolding(crate::specs::private::JsonWriting::members_tokens))]
+#[tactic(auto, unfolding(sock_diag_listing::specs::JsonWriting::members_tokens))]
 fn write_packet_info(writer: &mut Writer, value: &[u8]) -> Result<(), AllocError>
     ensures before { KeepsText result writer.old writer.new }
     ensures members { AddsMembers result writer.old writer.new
@@ -526,7 +528,7 @@ fn write_packet_info(writer: &mut Writer, value: &[u8]) -> Result<(), AllocError
 
 /// Writes the interface and the queue of an XDP socket as a member. Writes nothing if the value is
 /// invalid.
-#[tactic(auto, unfolding(crate::specs::private::JsonWriting::members_tokens))]
+#[tactic(auto, unfolding(sock_diag_listing::specs::JsonWriting::members_tokens))]
 fn write_xdp_info(writer: &mut Writer, value: &[u8]) -> Result<(), AllocError>
     ensures before { KeepsText result writer.old writer.new }
     ensures members { AddsMembers result writer.old writer.new
@@ -543,7 +545,7 @@ fn write_xdp_info(writer: &mut Writer, value: &[u8]) -> Result<(), AllocError>
 }
 
 /// Writes the user id of a socket's owner as a member. Writes nothing if the value is invalid.
-#[tactic(auto, unfolding(crate::specs::private::JsonWriting::members_tokens))]
+#[tactic(auto, unfolding(sock_diag_listing::specs::JsonWriting::members_tokens))]
 fn write_uid(writer: &mut Writer, nla: &NlaBuffer<'_>) -> Result<(), AllocError>
     ensures before { KeepsText result writer.old writer.new }
     ensures members { AddsMembers result writer.old writer.new
@@ -664,7 +666,7 @@ fn write_items(writer: &mut Writer, numbers: &NumbersView<'_>) -> Result<(), All
 
 /// Writes the memory in the value of an attribute as a member. Writes nothing if the value is
 /// invalid.
-#[tactic(auto, unfolding(crate::specs::private::JsonWriting::members_tokens))]
+#[tactic(auto, unfolding(sock_diag_listing::specs::JsonWriting::members_tokens))]
 fn write_memory_value(
     writer: &mut Writer,
     name: &str,
@@ -681,7 +683,7 @@ fn write_memory_value(
 }
 
 /// Writes the memory of a socket as a member.
-#[tactic(auto, using(crate::proofs::JsonWriting::json_rules))]
+#[tactic(auto, using(sock_diag_listing::proofs::JsonWriting::json_rules))]
 fn write_memory(writer: &mut Writer, name: &str, memory: &MemInfo) -> Result<(), AllocError>
     ensures before { KeepsText result writer.old writer.new }
     ensures members { AddsMembers result writer.old writer.new

@@ -3,8 +3,9 @@
 ghost use Rattle.std.specs.Prelude.{◌≡◌};
 ghost use Rattle.hex.specs.Hex.{IsBytes};
 ghost use Rattle.sock_diag_attributes.specs.NameModel.{socket_name_model};
-ghost use Rattle.sock_diag_captures.specs.JsonData.{json_text, name_members, object_of};
-ghost use Rattle.sock_diag_captures.specs.private.JsonWriting.{name_bytes};
+ghost use Rattle.sock_diag_listing.specs.JsonData.{json_text, object_of};
+ghost use Rattle.sock_diag_captures.specs.JsonNames.{name_members};
+ghost use Rattle.sock_diag_captures.specs.private.JsonNames.{name_bytes};
 
 use sock_diag_attributes::unix::nlas::NameView;
 

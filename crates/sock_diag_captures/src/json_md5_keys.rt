@@ -5,23 +5,23 @@ ghost use Rattle.std.specs.Prelude.{◌≡◌, ◌++◌, OnOk, codes, flat_map, 
 ghost use Rattle.json.specs.Tree.{json_tokens};
 ghost use Rattle.netlink_core.specs.Walk.{buffered_attribute};
 ghost use Rattle.sock_diag_captures.specs.JsonAttributes.{outcome_members};
-ghost use Rattle.sock_diag_captures.specs.JsonData.{array_member};
+ghost use Rattle.sock_diag_listing.specs.JsonData.{array_member};
 ghost use Rattle.sock_diag_captures.specs.JsonMd5Keys.{md5_key_members, md5_key_value, md5_outcome};
 ghost use Rattle.sock_diag_captures.specs.JsonMd5Keys.{peer_member};
 ghost use Rattle.sock_diag_captures.specs.Md5Keys.{md5_keys};
-ghost use Rattle.sock_diag_captures.specs.private.JsonWriting.{AddsMembers, AddsTokens, KeepsText};
+ghost use Rattle.sock_diag_listing.specs.JsonWriting.{AddsMembers, AddsTokens, KeepsText};
 
-use crate::json_writing::{write_address, write_numbers, write_text};
 use crate::md5_keys::{KEY_LENGTH, has_md5_keys, read_key};
 use json::Writer;
 use netlink_core::NlaBuffer;
 use sock_diag_extras::Md5Signature;
+use sock_diag_listing::json_writing::{write_address, write_numbers, write_text};
 use std::alloc::{AllocError, Global};
 use std::net::IpAddr;
 
 /// Writes the MD5 keys of a socket as a member. Writes nothing if the value does not consist of
 /// keys.
-#[tactic(auto, unfolding(crate::specs::private::JsonWriting::members_tokens))]
+#[tactic(auto, unfolding(sock_diag_listing::specs::JsonWriting::members_tokens))]
 pub(crate) fn write_md5(
     alloc: Global,
     writer: &mut Writer,
@@ -76,7 +76,7 @@ fn write_key(alloc: Global, writer: &mut Writer, key: &Md5Signature) -> Result<(
 }
 
 /// Writes the members of a key.
-#[tactic(auto, using(crate::proofs::JsonWriting::json_rules), unfolding(crate::specs::JsonMd5Keys::md5_key_members))]
+#[tactic(auto, using(sock_diag_listing::proofs::JsonWriting::json_rules), unfolding(crate::specs::JsonMd5Keys::md5_key_members))]
 fn write_key_members(
     alloc: Global,
     writer: &mut Writer,
@@ -97,7 +97,7 @@ fn write_key_members(
 }
 
 /// Writes the address of the peers. Writes nothing for `None`.
-#[tactic(auto, unfolding(crate::specs::JsonMd5Keys::peer_member, crate::specs::private::JsonWriting::members_tokens))]
+#[tactic(auto, unfolding(crate::specs::JsonMd5Keys::peer_member, sock_diag_listing::specs::JsonWriting::members_tokens))]
 fn write_peer(alloc: Global, writer: &mut Writer, ip: Option<IpAddr>) -> Result<(), AllocError>
     ensures before { KeepsText result writer.old writer.new }
     ensures members { AddsMembers result writer.old writer.new (peer_member ip) }

@@ -12,12 +12,11 @@ ghost use Rattle.sock_diag_captures.specs.JsonNewer.{bbr_members, dctcp_members}
 ghost use Rattle.sock_diag_captures.specs.JsonNewer.{inet_newer_outcome, record_outcome};
 ghost use Rattle.sock_diag_captures.specs.JsonNewer.{sockopt_members, unix_newer_outcome};
 ghost use Rattle.sock_diag_captures.specs.JsonNewer.{vegas_members, whole_number_outcome};
-ghost use Rattle.sock_diag_captures.specs.private.JsonWriting.{AddsMembers, AddsTokens, KeepsText};
+ghost use Rattle.sock_diag_listing.specs.JsonWriting.{AddsMembers, AddsTokens, KeepsText};
 
 use crate::json_attributes::write_object;
 use crate::json_md5_keys::write_md5;
 use crate::json_ulp_info::write_ulp;
-use crate::json_writing::write_numbers;
 use crate::md5_keys::has_md5_keys;
 use crate::ulp_info::name_of_protocol;
 use byteorder::{ByteOrder, LittleEndian};
@@ -29,13 +28,14 @@ use sock_diag_extras::constants::{
 use sock_diag_extras::{
     BbrInfo, DctcpInfo, SocketOptions, VegasInfo, parse_uid, read_attribute_record,
 };
+use sock_diag_listing::json_writing::write_numbers;
 use sock_diag_records::constants::{
     INET_DIAG_BBRINFO, INET_DIAG_DCTCPINFO, INET_DIAG_MD5SIG, INET_DIAG_VEGASINFO,
 };
 use std::alloc::{AllocError, Global};
 
 /// Writes the members of an attribute of a UNIX socket that the port leaves undecoded.
-#[tactic(auto, unfolding(crate::specs::private::JsonWriting::members_tokens))]
+#[tactic(auto, unfolding(sock_diag_listing::specs::JsonWriting::members_tokens))]
 pub(crate) fn write_unix_newer(writer: &mut Writer, nla: &NlaBuffer<'_>) -> Result<(), AllocError>
     ensures before { KeepsText result writer.old writer.new }
     ensures members { AddsMembers result writer.old writer.new
@@ -58,7 +58,7 @@ pub(crate) fn unix_newer_status(nla: &NlaBuffer<'_>) -> Result<bool, DecodeError
 }
 
 /// Writes the members of an attribute of an IPv4 or IPv6 socket that the port leaves undecoded.
-#[tactic(auto, unfolding(crate::specs::private::JsonWriting::members_tokens))]
+#[tactic(auto, unfolding(sock_diag_listing::specs::JsonWriting::members_tokens))]
 pub(crate) fn write_inet_newer(
     alloc: Global,
     writer: &mut Writer,
@@ -98,7 +98,7 @@ pub(crate) fn inet_newer_status(nla: &NlaBuffer<'_>) -> Result<bool, DecodeError
 }
 
 /// Writes the measurements of TCP Vegas. Writes nothing if the value is too short.
-#[tactic(auto, unfolding(crate::specs::private::JsonWriting::members_tokens))]
+#[tactic(auto, unfolding(sock_diag_listing::specs::JsonWriting::members_tokens))]
 fn write_vegas(writer: &mut Writer, nla: &NlaBuffer<'_>) -> Result<(), AllocError>
     ensures before { KeepsText result writer.old writer.new }
     ensures members { AddsMembers result writer.old writer.new (outcome_members
@@ -125,7 +125,7 @@ fn write_vegas_info(writer: &mut Writer, info: &VegasInfo) -> Result<(), AllocEr
 }
 
 /// Writes the measurements of DCTCP. Writes nothing if the value is too short.
-#[tactic(auto, unfolding(crate::specs::private::JsonWriting::members_tokens))]
+#[tactic(auto, unfolding(sock_diag_listing::specs::JsonWriting::members_tokens))]
 fn write_dctcp(writer: &mut Writer, nla: &NlaBuffer<'_>) -> Result<(), AllocError>
     ensures before { KeepsText result writer.old writer.new }
     ensures members { AddsMembers result writer.old writer.new (outcome_members
@@ -153,7 +153,7 @@ fn write_dctcp_info(writer: &mut Writer, info: &DctcpInfo) -> Result<(), AllocEr
 }
 
 /// Writes the measurements of BBR. Writes nothing if the value is too short.
-#[tactic(auto, unfolding(crate::specs::private::JsonWriting::members_tokens))]
+#[tactic(auto, unfolding(sock_diag_listing::specs::JsonWriting::members_tokens))]
 fn write_bbr(writer: &mut Writer, nla: &NlaBuffer<'_>) -> Result<(), AllocError>
     ensures before { KeepsText result writer.old writer.new }
     ensures members { AddsMembers result writer.old writer.new (outcome_members
@@ -180,7 +180,7 @@ fn write_bbr_info(writer: &mut Writer, info: &BbrInfo) -> Result<(), AllocError>
 }
 
 /// Writes the id of the control group. Writes nothing if the value has another length.
-#[tactic(auto, unfolding(crate::specs::private::JsonWriting::members_tokens))]
+#[tactic(auto, unfolding(sock_diag_listing::specs::JsonWriting::members_tokens))]
 fn write_cgroup(writer: &mut Writer, nla: &NlaBuffer<'_>) -> Result<(), AllocError>
     ensures before { KeepsText result writer.old writer.new }
     ensures members { AddsMembers result writer.old writer.new (outcome_members
@@ -196,7 +196,7 @@ fn write_cgroup(writer: &mut Writer, nla: &NlaBuffer<'_>) -> Result<(), AllocErr
 }
 
 /// Writes the options of a socket as a number. Writes nothing if the value is too short.
-#[tactic(auto, unfolding(crate::specs::private::JsonWriting::members_tokens))]
+#[tactic(auto, unfolding(sock_diag_listing::specs::JsonWriting::members_tokens))]
 fn write_options(writer: &mut Writer, nla: &NlaBuffer<'_>) -> Result<(), AllocError>
     ensures before { KeepsText result writer.old writer.new }
     ensures members { AddsMembers result writer.old writer.new (outcome_members

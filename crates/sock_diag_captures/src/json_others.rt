@@ -3,30 +3,29 @@
 ghost use Rattle.std.specs.Prelude.{◌≡◌, ◌++◌, ℕ, List, OnOk, map};
 ghost use Rattle.json.specs.Lex.{tokens};
 ghost use Rattle.json.specs.Tree.{json_tokens};
-ghost use Rattle.sock_diag_captures.specs.JsonData.{JsonMember, json_text, object_of};
+ghost use Rattle.sock_diag_listing.specs.JsonData.{JsonMember, json_text, object_of};
 ghost use Rattle.sock_diag_captures.specs.JsonOthers.{netlink_header_members, other_header_members};
 ghost use Rattle.sock_diag_captures.specs.JsonOthers.{other_json, other_members};
 ghost use Rattle.sock_diag_captures.specs.JsonOthers.{packet_header_members, vsock_header_members};
 ghost use Rattle.sock_diag_captures.specs.JsonOthers.{xdp_header_members};
 ghost use Rattle.sock_diag_captures.specs.Pieces.{attributes_or_error};
-ghost use Rattle.sock_diag_captures.specs.declared.options.Family.{Family as SocketFamily};
-ghost use Rattle.sock_diag_captures.specs.declared.options.Family.TheVariants.{Netlink, Packet};
-ghost use Rattle.sock_diag_captures.specs.declared.options.Family.TheVariants.{Vsock, Xdp};
-ghost use Rattle.sock_diag_captures.specs.private.JsonWriting.{AddsMembers, AddsTokens, KeepsText};
+ghost use Rattle.sock_diag_listing.specs.declared.options.Family.{Family as SocketFamily};
+ghost use Rattle.sock_diag_listing.specs.declared.options.Family.TheVariants.{Netlink, Packet};
+ghost use Rattle.sock_diag_listing.specs.declared.options.Family.TheVariants.{Vsock, Xdp};
+ghost use Rattle.sock_diag_listing.specs.JsonWriting.{AddsMembers, AddsTokens, KeepsText};
 
 use crate::details::Sockets;
 use crate::json_attributes::write_attributes;
-use crate::json_writing::{write_hex, write_numbers, write_text};
-use crate::kinds::{name_of_other_kind, name_of_state};
-use crate::options::Family;
+use crate::kinds::name_of_other_kind;
 use json::Writer;
 use sock_diag_families::netlink::NetlinkResponseHeader;
 use sock_diag_families::packet::PacketResponseHeader;
 use sock_diag_families::vsock::{AF_VSOCK, VsockResponseHeader};
 use sock_diag_families::xdp::{AF_XDP, XdpResponseHeader};
-use sock_diag_records::constants::{
-    AF_NETLINK, AF_PACKET,
-};
+use sock_diag_listing::Family;
+use sock_diag_listing::cells::name_of_state;
+use sock_diag_listing::json_writing::{write_hex, write_numbers, write_text};
+use sock_diag_records::constants::{AF_NETLINK, AF_PACKET};
 use std::alloc::{AllocError, Global};
 use std::mem;
 
@@ -76,7 +75,7 @@ pub(crate) fn push_other_json<H: JsonHeader>(
 }
 
 /// Writes the object of a socket with this header and these attributes.
-#[tactic(auto, using(crate::proofs::JsonWriting::json_rules, crate::proofs::JsonWriting::object_tokens))]
+#[tactic(auto, using(sock_diag_listing::proofs::JsonWriting::json_rules, sock_diag_listing::proofs::JsonWriting::object_tokens))]
 fn write_object<H: JsonHeader>(
     alloc: Global,
     writer: &mut Writer,

@@ -3,21 +3,22 @@
 ghost use Rattle.std.specs.Prelude.{◌≡◌, ◌++◌, OnOk};
 ghost use Rattle.json.specs.Lex.{tokens};
 ghost use Rattle.json.specs.Tree.{json_tokens};
-ghost use Rattle.sock_diag_captures.specs.JsonData.{json_text, object_of};
+ghost use Rattle.sock_diag_listing.specs.JsonData.{json_text, object_of};
 ghost use Rattle.sock_diag_captures.specs.JsonSockets.{inet_back_members, inet_front_members};
 ghost use Rattle.sock_diag_captures.specs.JsonSockets.{inet_header_members, inet_json};
 ghost use Rattle.sock_diag_captures.specs.JsonSockets.{inet_members, unix_header_members};
 ghost use Rattle.sock_diag_captures.specs.JsonSockets.{unix_json, unix_members};
 ghost use Rattle.sock_diag_captures.specs.Pieces.{attributes_or_error};
-ghost use Rattle.sock_diag_captures.specs.private.JsonWriting.{AddsMembers, AddsTokens, KeepsText};
+ghost use Rattle.sock_diag_listing.specs.JsonWriting.{AddsMembers, AddsTokens, KeepsText};
 
 use crate::details::Sockets;
 use crate::json_attributes::write_attributes;
-use crate::json_writing::{write_address, write_cookie, write_numbers, write_text};
-use crate::kinds::{name_of_inet_kind, name_of_state, name_of_unix_kind};
+use crate::kinds::{name_of_inet_kind, name_of_unix_kind};
 use crate::line::is_tcp;
-use crate::parts::TimerFields;
 use json::Writer;
+use sock_diag_listing::cells::name_of_state;
+use sock_diag_listing::json_writing::{write_address, write_cookie, write_numbers, write_text};
+use sock_diag_listing::parts::TimerFields;
 use sock_diag_records::constants::AF_UNIX;
 use sock_diag_records::inet::InetResponseHeader;
 use sock_diag_records::unix::UnixResponseHeader;
@@ -48,7 +49,7 @@ pub(crate) fn push_unix_json(
 }
 
 /// Writes the object of a UNIX socket.
-#[tactic(auto, using(crate::proofs::JsonWriting::json_rules, crate::proofs::JsonWriting::object_tokens))]
+#[tactic(auto, using(sock_diag_listing::proofs::JsonWriting::json_rules, sock_diag_listing::proofs::JsonWriting::object_tokens))]
 fn write_unix_object(
     alloc: Global,
     writer: &mut Writer,
@@ -112,7 +113,7 @@ pub(crate) fn push_inet_json(
 }
 
 /// Writes the object of an IPv4 or IPv6 socket.
-#[tactic(auto, using(crate::proofs::JsonWriting::json_rules, crate::proofs::JsonWriting::object_tokens))]
+#[tactic(auto, using(sock_diag_listing::proofs::JsonWriting::json_rules, sock_diag_listing::proofs::JsonWriting::object_tokens))]
 fn write_inet_object(
     alloc: Global,
     writer: &mut Writer,

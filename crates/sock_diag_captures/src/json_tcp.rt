@@ -3,14 +3,14 @@
 
 ghost use Rattle.std.specs.Prelude.{◌≡◌, ◌++◌, OnOk, codes, flat_map, option_map};
 ghost use Rattle.sock_diag_extras.specs.Models.{tcp_info_bytes};
-ghost use Rattle.sock_diag_captures.specs.JsonData.{object_member};
+ghost use Rattle.sock_diag_listing.specs.JsonData.{object_member};
 ghost use Rattle.sock_diag_captures.specs.JsonTcp.{field_in, part_of, tcp_member, tcp_members};
-ghost use Rattle.sock_diag_captures.specs.private.JsonWriting.{AddsMembers, AddsTokens, KeepsText};
-ghost use Rattle.sock_diag_captures.specs.private.JsonWriting.{members_tokens};
+ghost use Rattle.sock_diag_listing.specs.JsonWriting.{AddsMembers, AddsTokens, KeepsText};
+ghost use Rattle.sock_diag_listing.specs.JsonWriting.{members_tokens};
 
-use crate::json_writing::{begin_member, write_optional};
 use json::Writer;
 use sock_diag_extras::{TcpField, TcpInfoBytes};
+use sock_diag_listing::json_writing::{begin_member, write_optional};
 use std::alloc::AllocError;
 
 /// The part of a field that a member has.
@@ -139,7 +139,7 @@ const TCP_ROWS: [(&str, TcpField, TcpPart); 70] = [
 ];
 
 /// Writes the member `info` with each field of `struct tcp_info` that the bytes contain.
-#[tactic(auto, using(crate::proofs::JsonWriting::json_rules))]
+#[tactic(auto, using(sock_diag_listing::proofs::JsonWriting::json_rules))]
 pub(crate) fn write_tcp(writer: &mut Writer, bytes: &[u8]) -> Result<(), AllocError>
     ensures before { KeepsText result writer.old writer.new }
     ensures members { AddsMembers result writer.old writer.new

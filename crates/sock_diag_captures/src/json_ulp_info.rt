@@ -5,14 +5,13 @@
 ghost use Rattle.std.specs.Prelude.{◌≡◌, ◌++◌, OnOk, codes, flat_map, option_map};
 ghost use Rattle.netlink_core.specs.Walk.{buffered_attribute};
 ghost use Rattle.sock_diag_captures.specs.JsonAttributes.{outcome_members};
-ghost use Rattle.sock_diag_captures.specs.JsonData.{object_member};
+ghost use Rattle.sock_diag_listing.specs.JsonData.{object_member};
 ghost use Rattle.sock_diag_captures.specs.JsonUlpInfo.{optional_object, subflow_member};
 ghost use Rattle.sock_diag_captures.specs.JsonUlpInfo.{subflow_members, tls_member, tls_members};
 ghost use Rattle.sock_diag_captures.specs.JsonUlpInfo.{tls_rows, ulp_members, ulp_outcome};
-ghost use Rattle.sock_diag_captures.specs.private.JsonWriting.{AddsMembers, AddsTokens, KeepsText};
-ghost use Rattle.sock_diag_captures.specs.private.JsonWriting.{members_tokens};
+ghost use Rattle.sock_diag_listing.specs.JsonWriting.{AddsMembers, AddsTokens, KeepsText};
+ghost use Rattle.sock_diag_listing.specs.JsonWriting.{members_tokens};
 
-use crate::json_writing::{begin_member, write_flag, write_optional, write_text};
 use crate::ulp_info::{find_value, name_of_protocol, number_of_subflow, number_of_tls};
 use json::Writer;
 use netlink_core::NlaBuffer;
@@ -20,6 +19,7 @@ use sock_diag_extras::constants::{
     INET_ULP_INFO_MPTCP, INET_ULP_INFO_TLS, TLS_INFO_RX_NO_PAD, TLS_INFO_ZC_RO_TX,
 };
 use sock_diag_extras::{SubflowField, TlsField};
+use sock_diag_listing::json_writing::{begin_member, write_flag, write_optional, write_text};
 use std::alloc::AllocError;
 
 /// The numbers about TLS: the name of the member, and the field.
@@ -46,7 +46,7 @@ const SUBFLOW_ROWS: [(&str, SubflowField); 10] = [
 
 /// Writes the upper layer protocol of a TCP socket as a member. Writes nothing if the value has no
 /// name.
-#[tactic(auto, unfolding(crate::specs::private::JsonWriting::members_tokens))]
+#[tactic(auto, unfolding(sock_diag_listing::specs::JsonWriting::members_tokens))]
 pub(crate) fn write_ulp(writer: &mut Writer, nla: &NlaBuffer<'_>) -> Result<(), AllocError>
     ensures before { KeepsText result writer.old writer.new }
     ensures members { AddsMembers result writer.old writer.new
@@ -59,7 +59,7 @@ pub(crate) fn write_ulp(writer: &mut Writer, nla: &NlaBuffer<'_>) -> Result<(), 
 }
 
 /// Writes the member `ulp_info`.
-#[tactic(auto, using(crate::proofs::JsonWriting::json_rules))]
+#[tactic(auto, using(sock_diag_listing::proofs::JsonWriting::json_rules))]
 fn write_ulp_info(writer: &mut Writer, name: &str, value: &[u8]) -> Result<(), AllocError>
     ensures before { KeepsText result writer.old writer.new }
     ensures members { AddsMembers result writer.old writer.new
@@ -71,7 +71,7 @@ fn write_ulp_info(writer: &mut Writer, name: &str, value: &[u8]) -> Result<(), A
 }
 
 /// Writes the name of the protocol, and what TLS and MPTCP report.
-#[tactic(auto, using(crate::proofs::JsonWriting::json_rules), unfolding(crate::specs::JsonUlpInfo::ulp_members))]
+#[tactic(auto, using(sock_diag_listing::proofs::JsonWriting::json_rules), unfolding(crate::specs::JsonUlpInfo::ulp_members))]
 fn write_ulp_members(writer: &mut Writer, name: &str, value: &[u8]) -> Result<(), AllocError>
     ensures before { KeepsText result writer.old writer.new }
     ensures members { AddsMembers result writer.old writer.new (ulp_members name.now value.now) }
@@ -82,7 +82,7 @@ fn write_ulp_members(writer: &mut Writer, name: &str, value: &[u8]) -> Result<()
 }
 
 /// Writes the member `tls`. Writes nothing for `None`.
-#[tactic(auto, using(crate::proofs::JsonWriting::json_rules), unfolding(crate::specs::JsonUlpInfo::optional_object, crate::specs::private::JsonWriting::members_tokens))]
+#[tactic(auto, using(sock_diag_listing::proofs::JsonWriting::json_rules), unfolding(crate::specs::JsonUlpInfo::optional_object, sock_diag_listing::specs::JsonWriting::members_tokens))]
 fn write_tls(writer: &mut Writer, found: Option<&[u8]>) -> Result<(), AllocError>
     ensures before { KeepsText result writer.old writer.new }
     ensures members { AddsMembers result writer.old writer.new
@@ -95,7 +95,7 @@ fn write_tls(writer: &mut Writer, found: Option<&[u8]>) -> Result<(), AllocError
 }
 
 /// Writes the member `tls`.
-#[tactic(auto, using(crate::proofs::JsonWriting::json_rules))]
+#[tactic(auto, using(sock_diag_listing::proofs::JsonWriting::json_rules))]
 fn write_tls_object(writer: &mut Writer, bytes: &[u8]) -> Result<(), AllocError>
     ensures before { KeepsText result writer.old writer.new }
     ensures members { AddsMembers result writer.old writer.new
@@ -107,14 +107,22 @@ fn write_tls_object(writer: &mut Writer, bytes: &[u8]) -> Result<(), AllocError>
 }
 
 /// Writes the numbers about TLS, and whether each flag is present.
-#[tactic(auto, using(crate::proofs::JsonWriting::json_rules), unfolding(crate::specs::JsonUlpInfo::tls_members))]
+#[tactic(auto, using(sock_diag_listing::proofs::JsonWriting::json_rules), unfolding(crate::specs::JsonUlpInfo::tls_members))]
 fn write_tls_members(writer: &mut Writer, bytes: &[u8]) -> Result<(), AllocError>
     ensures before { KeepsText result writer.old writer.new }
     ensures members { AddsMembers result writer.old writer.new (tls_members bytes.now) }
 {
     write_tls_numbers(writer, bytes)?;
-    write_flag(writer, "zc_ro_tx", find_value(bytes, TLS_INFO_ZC_RO_TX).is_some())?;
-    write_flag(writer, "rx_no_pad", find_value(bytes, TLS_INFO_RX_NO_PAD).is_some())
+    write_flag(
+        writer,
+        "zc_ro_tx",
+        find_value(bytes, TLS_INFO_ZC_RO_TX).is_some(),
+    )?;
+    write_flag(
+        writer,
+        "rx_no_pad",
+        find_value(bytes, TLS_INFO_RX_NO_PAD).is_some(),
+    )
 }
 
 /// Writes the numbers about TLS.
@@ -143,7 +151,7 @@ fn write_tls_rows(
 }
 
 /// Writes the member `mptcp`. Writes nothing for `None`.
-#[tactic(auto, using(crate::proofs::JsonWriting::json_rules), unfolding(crate::specs::JsonUlpInfo::optional_object, crate::specs::private::JsonWriting::members_tokens))]
+#[tactic(auto, using(sock_diag_listing::proofs::JsonWriting::json_rules), unfolding(crate::specs::JsonUlpInfo::optional_object, sock_diag_listing::specs::JsonWriting::members_tokens))]
 fn write_subflow(writer: &mut Writer, found: Option<&[u8]>) -> Result<(), AllocError>
     ensures before { KeepsText result writer.old writer.new }
     ensures members { AddsMembers result writer.old writer.new
@@ -157,7 +165,7 @@ fn write_subflow(writer: &mut Writer, found: Option<&[u8]>) -> Result<(), AllocE
 }
 
 /// Writes the member `mptcp`.
-#[tactic(auto, using(crate::proofs::JsonWriting::json_rules))]
+#[tactic(auto, using(sock_diag_listing::proofs::JsonWriting::json_rules))]
 fn write_subflow_object(writer: &mut Writer, bytes: &[u8]) -> Result<(), AllocError>
     ensures before { KeepsText result writer.old writer.new }
     ensures members { AddsMembers result writer.old writer.new

@@ -1,35 +1,14 @@
-//! Names of kinds and states of sockets, and of reasons why a value is invalid: one list of each,
+//! Names of kinds of sockets, and of reasons why a value is invalid: one list of each,
 //! for the table and for the lines of JSON.
 
 ghost use Rattle.std.specs.Prelude.{◌≡◌};
-ghost use Rattle.sock_diag_captures.specs.Cells.{state_name};
 ghost use Rattle.sock_diag_captures.specs.Details.{error_reason};
 ghost use Rattle.sock_diag_captures.specs.Others.{other_kind, vsock_kind};
 ghost use Rattle.sock_diag_captures.specs.Table.{family_name, inet_kind, unix_kind};
 
-use crate::options::Family;
 use netlink_core::DecodeError;
+use sock_diag_listing::Family;
 use sock_diag_records::constants::{AF_INET6, SOCK_DGRAM, SOCK_RAW, SOCK_SEQPACKET, SOCK_STREAM};
-
-/// Returns the name of a socket state, as ss(8) prints it: `UNKNOWN` for 0 and from 12 on.
-pub(crate) fn name_of_state(state: u8) -> &'static str
-    ensures { result.now ≡ state_name state }
-{
-    match state {
-        1 => "ESTAB",
-        2 => "SYN-SENT",
-        3 => "SYN-RECV",
-        4 => "FIN-WAIT-1",
-        5 => "FIN-WAIT-2",
-        6 => "TIME-WAIT",
-        7 => "UNCONN",
-        8 => "CLOSE-WAIT",
-        9 => "LAST-ACK",
-        10 => "LISTEN",
-        11 => "CLOSING",
-        _ => "UNKNOWN",
-    }
-}
 
 /// Returns the kind of a UNIX socket, by its type `SOCK_..`, as ss(8) prints it.
 pub(crate) fn name_of_unix_kind(kind: u8) -> &'static str

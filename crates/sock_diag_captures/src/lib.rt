@@ -5,69 +5,54 @@ ghost use Rattle.std.specs.Prelude.{◌≡◌, ◌↔◌, ◌++◌, Bool, true};
 ghost use Rattle.std.specs.Prelude.{MatchResult, Result, ⊤};
 ghost use Rattle.std.specs.Process.{exit_status};
 ghost use Rattle.std.specs.Io.KnownBytes.{IsAtEnd};
-ghost use Rattle.sock_diag_captures.specs.Reports.{ReportsText, ReportsMore, WritesPrefix};
-ghost use Rattle.sock_diag_captures.specs.Reports.{closing_line};
+ghost use Rattle.sock_diag_listing.specs.Reports.{ReportsText, ReportsMore, WritesPrefix};
+ghost use Rattle.sock_diag_listing.specs.Reports.{closing_line};
 ghost use Rattle.program_streams.specs.declared.streams.WriteError.{WriteError};
-ghost use Rattle.sock_diag_captures.specs.declared.list_error.ListError.{ListError};
+ghost use Rattle.sock_diag_listing.specs.declared.list_error.ListError.{ListError};
 ghost use Rattle.sock_diag_captures.specs.Run.{Fails, Finishes};
 ghost use Rattle.sock_diag_captures.specs.private.Run.{closing_text};
 
-mod arguments;
-mod cells;
-mod choice;
 mod details;
 mod error_text;
 mod explanation;
-mod files;
-mod filter;
 mod headings;
 mod json_attributes;
 pub mod json_laws;
 mod json_md5_keys;
+mod json_names;
 mod json_newer;
 mod json_others;
 mod json_sockets;
 mod json_tcp;
 mod json_ulp_info;
-mod json_writing;
 mod kinds;
 pub mod laws;
 mod line;
 mod list;
-mod list_error;
 mod md5_keys;
 mod name_cells;
-mod names;
 mod newer;
-mod options;
 mod others;
-mod output;
-mod parts;
 mod pieces;
-mod reports;
 mod request_line;
 mod requests;
 mod short_info;
 mod stream;
-mod times;
 mod ulp_info;
 
-pub use choice::{Choice, Rejection, choose};
-pub use files::{ListCapture, list_captures, names_several};
-pub use filter::{PortCondition, SocketFilter};
 pub use headings::heading;
 pub use line::HEADING;
 pub use list::{Diagnostic, list_packet};
-pub use list_error::ListError;
-pub use names::escaped;
-pub use options::{Detail, Family, Options};
-pub use output::PacketOutput;
 pub use program_streams::{
     ByteOrder, CaptureError, FileHeader, Packet, PacketHeader, ReadError, TimeUnit, WriteError,
 };
 use program_streams::{Sink, Source};
-use reports::report_failure;
 pub use requests::{Query, Requests};
+use sock_diag_listing::reports::report_failure;
+pub use sock_diag_listing::{
+    Choice, Detail, Family, ListCapture, ListError, Options, PacketOutput, PortCondition,
+    Rejection, SocketFilter, choose, escaped, list_captures, names_several,
+};
 use std::alloc::Global;
 use std::io::{Read, Write};
 use std::process::ExitCode;

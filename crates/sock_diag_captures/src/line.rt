@@ -2,7 +2,7 @@
 
 ghost use Rattle.std.specs.Prelude.{◌≡◌, ◌++◌, Some, drop, IfOk, OnOk, option_map};
 ghost use Rattle.std.specs.Prelude.{option_and_then};
-ghost use Rattle.sock_diag_captures.specs.CellsModel.{cells_model};
+ghost use Rattle.sock_diag_listing.specs.CellsModel.{cells_model};
 ghost use Rattle.netlink_core.specs.Layout.{parse_record};
 ghost use Rattle.sock_diag_records.specs.InetResponse.{inet_response_header};
 ghost use Rattle.sock_diag_records.specs.UnixResponseHeader.{unix_response_header};
@@ -20,22 +20,24 @@ ghost use Rattle.sock_diag_captures.specs.Table.{inet_kind, inet_line, inet_line
 ghost use Rattle.sock_diag_captures.specs.Table.{is_tcp};
 ghost use Rattle.sock_diag_captures.specs.Table.{unix_kind, unix_line, unix_lines};
 
-use crate::cells::{Cells, push_endpoint, push_endpoint_column, push_first_columns, push_peer};
 use crate::details::{Sockets, push_details, timer_of};
 use crate::json_sockets::{push_inet_json, push_unix_json};
 use crate::kinds::{name_of_inet_kind, name_of_unix_kind};
 use crate::name_cells::push_name_column;
-use crate::options::Options;
 use crate::others::push_other;
-use crate::parts::{NO_TIMER, TimerFields};
 use crate::pieces::{find_framing_error, find_kind};
 use netlink_core::DecodeError;
 use sock_diag_attributes::unix::nlas::{NameView, NlaView};
 use sock_diag_extras::constants::UNIX_DIAG_UID;
 use sock_diag_extras::parse_uid;
+use sock_diag_listing::Options;
+use sock_diag_listing::cells::{
+    Cells, push_endpoint, push_endpoint_column, push_first_columns, push_peer,
+};
+use sock_diag_listing::parts::{NO_TIMER, TimerFields};
 use sock_diag_records::constants::{
-    AF_INET, AF_INET6, AF_UNIX, SOCK_DIAG_BY_FAMILY,
-    UNIX_DIAG_NAME, UNIX_DIAG_PEER, UNIX_DIAG_RQLEN,
+    AF_INET, AF_INET6, AF_UNIX, SOCK_DIAG_BY_FAMILY, UNIX_DIAG_NAME, UNIX_DIAG_PEER,
+    UNIX_DIAG_RQLEN,
 };
 use sock_diag_records::inet::{INET_RESPONSE_HEADER_LEN, InetResponseHeader};
 use sock_diag_records::unix::{UNIX_RESPONSE_HEADER_LEN, UnixResponseHeader};

@@ -24,8 +24,6 @@ ghost use Rattle.sock_diag_captures.specs.declared.list.Diagnostic.TheVariants.{
 use crate::error_text::DecodeErrorText;
 use crate::explanation::push_explanation;
 use crate::line::push_reply;
-use crate::options::Options;
-use crate::output::{PacketOutput, push_short, push_truncation};
 use crate::request_line::push_shown_request;
 use crate::requests::Requests;
 use byteorder::{ByteOrder, LittleEndian};
@@ -34,6 +32,8 @@ use netlink_core::{
     NetlinkHeader, error_number,
 };
 use program_streams::{Packet, PacketHeader};
+use sock_diag_listing::output::{push_short, push_truncation};
+use sock_diag_listing::{Options, PacketOutput};
 use std::alloc::AllocError;
 use std::error::Error;
 use std::fmt;

@@ -7,10 +7,10 @@ ghost use Rattle.netlink_core.specs.Walk.{buffered_attribute};
 ghost use Rattle.sock_diag_captures.specs.Md5Keys.{are_md5_keys, key_at, key_byte, md5_key_text};
 ghost use Rattle.sock_diag_captures.specs.Md5Keys.{md5_keys, md5_keys_text, md5_text, peer_text};
 
-use crate::cells::{push_digits, push_escaped_byte, push_number};
 use crate::details::push_unknown;
 use netlink_core::NlaBuffer;
 use sock_diag_extras::{Md5Signature, read_attribute_record};
+use sock_diag_listing::cells::{push_digits, push_escaped_byte, push_number};
 use std::alloc::AllocError;
 use std::io::Write;
 use std::net::IpAddr;

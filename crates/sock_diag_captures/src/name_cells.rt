@@ -2,16 +2,16 @@
 
 ghost use Rattle.std.specs.Prelude.{◌≡◌, ◌++◌, ◌≤◌, [], ℕ, List, OnOk, Some, drop};
 ghost use Rattle.std.specs.Prelude.{option_map, vec_len};
-ghost use Rattle.sock_diag_captures.specs.Escapes.{unescaped_bytes};
+ghost use Rattle.sock_diag_listing.specs.Escapes.{unescaped_bytes};
 ghost use Rattle.sock_diag_attributes.specs.declared.unix.name.SocketName.TheVariants.{Abstract};
 ghost use Rattle.sock_diag_attributes.specs.declared.unix.name.SocketName.TheVariants.{Pathname};
 ghost use Rattle.sock_diag_attributes.specs.NameModel.{socket_name_model};
-ghost use Rattle.sock_diag_captures.specs.Widths.{cell_width, name_column, spaces_after};
+ghost use Rattle.sock_diag_listing.specs.Widths.{cell_width, name_column, spaces_after};
 ghost use Rattle.sock_diag_captures.specs.Table.{needs_escaped_first_byte, name_cell, name_of_cell};
 
-use crate::cells::push_digits;
-use crate::names::push_shown;
 use sock_diag_attributes::unix::nlas::NameView;
+use sock_diag_listing::cells::push_digits;
+use sock_diag_listing::names::push_shown;
 use std::alloc::AllocError;
 use unicode_width::UnicodeWidthStr;
 

@@ -11,7 +11,6 @@ ghost use Rattle.sock_diag_captures.specs.Newer.{unix_newer_text, vegas_text};
 
 use crate::details::{Format, push_rows, push_unknown};
 use crate::md5_keys::push_md5_keys;
-use crate::parts::{push_detail, push_flag, push_some};
 use crate::ulp_info::push_ulp;
 use netlink_core::NlaBuffer;
 use sock_diag_extras::constants::{
@@ -21,6 +20,7 @@ use sock_diag_extras::{
     BbrInfo, DctcpInfo, SocketOptions, TcpField, TcpInfoBytes, VegasInfo, parse_cgroup_id,
     parse_uid, read_attribute_record,
 };
+use sock_diag_listing::parts::{push_detail, push_flag, push_some};
 use sock_diag_records::constants::{
     INET_DIAG_BBRINFO, INET_DIAG_DCTCPINFO, INET_DIAG_MD5SIG, INET_DIAG_VEGASINFO,
 };

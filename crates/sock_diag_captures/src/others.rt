@@ -1,8 +1,8 @@
 //! Lines of the replies about netlink, packet, vsock and XDP sockets.
 
 ghost use Rattle.std.specs.Prelude.{◌≡◌, ◌++◌, ◌≤◌, drop, IfOk, OnOk, List, option_map};
-ghost use Rattle.sock_diag_captures.specs.CellsModel.{cells_model};
-ghost use Rattle.sock_diag_captures.specs.Cells.{column};
+ghost use Rattle.sock_diag_listing.specs.CellsModel.{cells_model};
+ghost use Rattle.sock_diag_listing.specs.Cells.{column};
 ghost use Rattle.netlink_core.specs.Walk.{buffered_attribute};
 ghost use Rattle.sock_diag_captures.specs.JsonListing.{other_output};
 ghost use Rattle.sock_diag_captures.specs.Listing.{family_error, family_lines, other_reply_error};
@@ -17,13 +17,10 @@ ghost use Rattle.sock_diag_captures.specs.Others.{xdp_socket};
 ghost use Rattle.sock_diag_captures.specs.Pieces.{AttributeOrError, attributes_or_error};
 ghost use Rattle.sock_diag_captures.specs.declared.others.OtherSocket.{OtherSocket as SocketShown};
 
-use crate::cells::{Cells, end_column, push_first_columns, push_peer};
 use crate::details::{Sockets, memory_kind, push_details};
 use crate::json_others::{JsonHeader, push_other_json};
 use crate::kinds::name_of_other_kind;
 use crate::line::LOCAL;
-use crate::options::{Family, Options};
-use crate::parts::NO_TIMER;
 use crate::pieces::{find_framing_error, find_kind};
 use byteorder::{ByteOrder, LittleEndian};
 use netlink_core::{DecodeError, NlaBuffer, Record, read_record};
@@ -31,9 +28,10 @@ use sock_diag_families::netlink::NetlinkResponseHeader;
 use sock_diag_families::packet::{PACKET_DIAG_INFO, PACKET_DIAG_UID, PacketResponseHeader};
 use sock_diag_families::vsock::{AF_VSOCK, VsockResponseHeader};
 use sock_diag_families::xdp::{AF_XDP, XDP_DIAG_INFO, XDP_DIAG_UID, XdpResponseHeader};
-use sock_diag_records::constants::{
-    AF_NETLINK, AF_PACKET,
-};
+use sock_diag_listing::cells::{Cells, end_column, push_first_columns, push_peer};
+use sock_diag_listing::parts::NO_TIMER;
+use sock_diag_listing::{Family, Options};
+use sock_diag_records::constants::{AF_NETLINK, AF_PACKET};
 use std::alloc::AllocError;
 
 /// State that ss(8) prints as `UNCONN`.

@@ -7,14 +7,14 @@ ghost use Rattle.sock_diag_captures.specs.RequestLine.{request_line_if_selected}
 ghost use Rattle.sock_diag_captures.specs.RequestLine.{requested_unix_states};
 
 use crate::kinds::name_of_inet_kind;
-use crate::options::{Family, Options};
 use crate::others::family_numbered;
-use crate::parts::push_hex_detail;
 use crate::requests::{Query, find_request};
-use crate::times::push_time;
 use byteorder::{ByteOrder, LittleEndian};
 use netlink_core::NETLINK_HEADER_LEN;
 use program_streams::PacketHeader;
+use sock_diag_listing::parts::push_hex_detail;
+use sock_diag_listing::times::push_time;
+use sock_diag_listing::{Family, Options};
 use sock_diag_records::constants::{AF_UNIX, SOCK_DIAG_BY_FAMILY};
 use sock_diag_records::unix::UNIX_REQUEST_LEN;
 use std::alloc::AllocError;

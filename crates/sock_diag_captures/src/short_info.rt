@@ -7,8 +7,8 @@ ghost use Rattle.sock_diag_captures.specs.ShortInfo.{short_losses, short_tcp_det
 
 use crate::details::push_options;
 use crate::newer::push_tcp_fields;
-use crate::parts::push_threshold;
 use sock_diag_extras::{TcpField, TcpInfoBytes};
+use sock_diag_listing::parts::push_threshold;
 use std::alloc::AllocError;
 
 /// Appends the details of a TCP connection in `struct tcp_info`, as far as the value contains them.

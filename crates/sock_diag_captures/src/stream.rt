@@ -2,17 +2,16 @@
 
 ghost use Rattle.std.specs.Prelude.{◌≡◌, OnOk, IfErr, IfOk, ⊤};
 ghost use Rattle.std.specs.Io.KnownBytes.{IsAtEnd};
-ghost use Rattle.sock_diag_captures.specs.Reports.{ReportsMore, WritesPrefix};
+ghost use Rattle.sock_diag_listing.specs.Reports.{ReportsMore, WritesPrefix};
 ghost use Rattle.program_streams.specs.declared.streams.WriteError.{WriteError};
 ghost use Rattle.sock_diag_captures.specs.Run.{Fails, Finishes};
 
 use crate::list::list_packet;
-use crate::list_error::{ListError, read_header, read_packet};
-use crate::options::Options;
-use crate::output::PacketOutput;
-use crate::reports::report;
 use crate::requests::Requests;
 use program_streams::{CaptureError, ReadError, Sink, Source, send};
+use sock_diag_listing::list_error::{read_header, read_packet};
+use sock_diag_listing::reports::report;
+use sock_diag_listing::{ListError, Options, PacketOutput};
 use std::alloc::Global;
 use std::io::{Read, Write};
 

@@ -15,9 +15,7 @@ ghost use Rattle.sock_diag_captures.specs.UlpInfo.{tls_text, tls_version_name, t
 ghost use Rattle.sock_diag_captures.specs.UlpInfo.{token_text, tokens_text, ulp_details, ulp_name};
 ghost use Rattle.sock_diag_captures.specs.UlpInfo.{ulp_text};
 
-use crate::cells::{push_hex, push_number};
 use crate::details::push_unknown;
-use crate::names::push_shown;
 use crate::pieces::find_kind;
 use byteorder::{ByteOrder, LittleEndian};
 use netlink_core::{NlaBuffer, parse_str};
@@ -26,6 +24,8 @@ use sock_diag_extras::constants::{
     TLS_INFO_ZC_RO_TX,
 };
 use sock_diag_extras::{SubflowField, TlsField};
+use sock_diag_listing::cells::{push_hex, push_number};
+use sock_diag_listing::names::push_shown;
 use std::alloc::AllocError;
 
 /// Returns the value of the first attribute of this kind in the bytes, if there is one.
@@ -242,10 +242,26 @@ fn push_subflow(text: &mut Vec<u8>, bytes: &[u8]) -> Result<(), AllocError>
 {
     push_subflow_flags(text, number_of_subflow(bytes, SubflowField::Flags))?;
     push_subflow_tokens(text, bytes)?;
-    push_optional_hex(text, b"seq", number_of_subflow(bytes, SubflowField::MapSequence))?;
-    push_optional_hex(text, b"sfseq", number_of_subflow(bytes, SubflowField::MapSubflowSequence))?;
-    push_optional_hex(text, b"ssnoff", number_of_subflow(bytes, SubflowField::SequenceOffset))?;
-    push_optional_hex(text, b"maplen", number_of_subflow(bytes, SubflowField::MapLength))
+    push_optional_hex(
+        text,
+        b"seq",
+        number_of_subflow(bytes, SubflowField::MapSequence),
+    )?;
+    push_optional_hex(
+        text,
+        b"sfseq",
+        number_of_subflow(bytes, SubflowField::MapSubflowSequence),
+    )?;
+    push_optional_hex(
+        text,
+        b"ssnoff",
+        number_of_subflow(bytes, SubflowField::SequenceOffset),
+    )?;
+    push_optional_hex(
+        text,
+        b"maplen",
+        number_of_subflow(bytes, SubflowField::MapLength),
+    )
 }
 
 /// Appends the flags of a subflow that are set, a letter for each. Appends nothing if there are no
@@ -336,11 +352,7 @@ fn push_token(text: &mut Vec<u8>, token: u64, id: u64) -> Result<(), AllocError>
 
 /// Appends a space, a name, a colon and a number in lowercase hexadecimal digits. Appends nothing
 /// for `None`.
-fn push_optional_hex(
-    text: &mut Vec<u8>,
-    word: &[u8],
-    number: Option<u64>,
-) -> Result<(), AllocError>
+fn push_optional_hex(text: &mut Vec<u8>, word: &[u8], number: Option<u64>) -> Result<(), AllocError>
     ensures { OnOk result (text.new.items ≡ text.old.items ++ optional_hex word.now number) }
 {
     let Some(number) = number else {

@@ -39,8 +39,8 @@ abbrev pub peer_ip : Md5Signature → Option IpAddr
 peer_ip k =
     if k.family == AF_INET
     then Some (V4 record {
-    octets = slice_index k.address 0 ∷ slice_index k.address 1 ∷ slice_index k.address 2
-        ∷ slice_index k.address 3 ∷ [];
+      octets = slice_index k.address 0 ∷ slice_index k.address 1 ∷ slice_index k.address 2
+          ∷ slice_index k.address 3 ∷ [];
     })
     else if k.family == AF_INET6 then Some (V6 record { segments = segments_of k.address })
     else None

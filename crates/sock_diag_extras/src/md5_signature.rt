@@ -93,6 +93,10 @@ impl Md5Signature {
         ensures { result.now ≡ used_key self.now }
     {
         let length = self.key_length as usize;
-        if length < 80 { &self.key[..length] } else { &self.key }
+        if length < 80 {
+            &self.key[..length]
+        } else {
+            &self.key
+        }
     }
 }

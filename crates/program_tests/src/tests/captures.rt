@@ -355,7 +355,14 @@ fn lists_object(rt: &impl Abort, alloc: Global, reply: &str, object: &str) {
         ..Options::default()
     };
     let capture = captured(rt, alloc, HEADERS[0], &[[SOCK_DIAG, reply]]);
-    lists_by(rt, alloc, options, &capture, Ok(true), Some(&[object, "\n"]));
+    lists_by(
+        rt,
+        alloc,
+        options,
+        &capture,
+        Ok(true),
+        Some(&[object, "\n"]),
+    );
 }
 
 /// Each family has an object, with its unknown and its invalid attributes.

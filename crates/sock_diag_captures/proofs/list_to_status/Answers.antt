@@ -1,6 +1,6 @@
 use Rattle.std.proofs.Common.{true, ◌++◌}
-use Rattle.sock_diag_captures.proofs.Reporting.{reports_from_start, reports_then}
-use Rattle.sock_diag_captures.specs.Reports.{ReportsText, ReportsMore}
+use Rattle.sock_diag_listing.proofs.Reporting.{reports_from_start, reports_then}
+use Rattle.sock_diag_listing.specs.Reports.{ReportsText, ReportsMore}
 use Rattle.program_streams.specs.declared.streams.WriteError.{WriteError}
 use Rattle.sock_diag_captures.proofs.Failing.{run_outcome}
 use Rattle.sock_diag_captures.specs.private.Run.{closing_text}

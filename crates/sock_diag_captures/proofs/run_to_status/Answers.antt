@@ -1,8 +1,8 @@
 use Rattle.std.specs.Prelude.{⊤}
 use Rattle.std.proofs.Common.{◌++◌, true}
 use Rattle.std.proofs.lemmas.Result.{MatchResult-weaker}
-use Rattle.sock_diag_captures.proofs.Reporting.{reports_prefix}
-use Rattle.sock_diag_captures.specs.Reports.{ReportsText, WritesPrefix, closing_line}
+use Rattle.sock_diag_listing.proofs.Reporting.{reports_prefix}
+use Rattle.sock_diag_listing.specs.Reports.{ReportsText, WritesPrefix, closing_line}
 use Rattle.program_streams.specs.declared.streams.WriteError.{WriteError}
 use Rattle.sock_diag_captures.proofs.Failing.{fails_implies, finishes_implies, complete_outcome}
 use Rattle.sock_diag_captures.proofs.run_to_status.Goals as goal

@@ -1,7 +1,7 @@
 -- Output of the steps of a run.
 use Rattle.std.specs.Prelude.{Bool, List, [], ℕ, Result, Ok, Err}
-use Rattle.sock_diag_captures.specs.Reports.{closing_line}
-use Rattle.sock_diag_captures.specs.declared.list_error.ListError.{ListError}
+use Rattle.sock_diag_listing.specs.Reports.{closing_line}
+use Rattle.sock_diag_listing.specs.declared.list_error.ListError.{ListError}
 
 -- the line that names the failure of a run, or nothing if it did not fail
 abbrev pub closing_text : List ℕ → Result Bool ListError → List ℕ

@@ -1,5 +1,5 @@
 use Rattle.std.proofs.Common.{◌≡◌, ◌++◌, codes, flat_map}
-use Rattle.sock_diag_captures.specs.Parts.{detail}
+use Rattle.sock_diag_listing.specs.Parts.{detail}
 use Rattle.sock_diag_attributes.specs.NumbersModel.{numbers_view_model}
 use Rattle.sock_diag_captures.proofs.details.push_pending.Given as goal
 

@@ -1,7 +1,7 @@
 use Rattle.std.proofs.Common.{◌≡◌, ◌++◌, drop, flat_map}
 use Rattle.sock_diag_captures.specs.JsonAttributes.{members_of_kind}
 use Rattle.sock_diag_captures.specs.Pieces.{attributes_or_error}
-use Rattle.sock_diag_captures.specs.private.JsonWriting.{members_tokens}
+use Rattle.sock_diag_listing.specs.JsonWriting.{members_tokens}
 use Rattle.sock_diag_captures.proofs.json_attributes.write_each_kind.Given as goal
 
 -- the text before the writer's is unchanged, and the tokens so far, followed by those of the

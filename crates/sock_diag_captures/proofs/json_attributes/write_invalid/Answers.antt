@@ -1,5 +1,5 @@
 use Rattle.std.proofs.lemmas.Result.{on_ok_weaker}
-use Rattle.sock_diag_captures.proofs.JsonWriting.{joined_members, joined_value}
+use Rattle.sock_diag_listing.proofs.JsonWriting.{joined_members, joined_value}
 use Rattle.sock_diag_captures.proofs.json_attributes.write_invalid.Goals as goal
 
 pub returns-clause-tokens : goal.returns-clause-tokens

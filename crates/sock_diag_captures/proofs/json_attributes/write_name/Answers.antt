@@ -1,5 +1,5 @@
 use Rattle.std.proofs.lemmas.Result.{on_ok_weaker}
-use Rattle.sock_diag_captures.proofs.JsonWriting.{joined_object}
+use Rattle.sock_diag_listing.proofs.JsonWriting.{joined_object}
 use Rattle.sock_diag_captures.proofs.json_attributes.write_name.Goals as goal
 
 pub returns-clause-members : goal.returns-clause-members

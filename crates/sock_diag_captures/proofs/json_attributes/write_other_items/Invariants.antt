@@ -1,7 +1,7 @@
 use Rattle.std.proofs.Common.{◌≡◌, ◌++◌, flat_map, length}
 use Rattle.sock_diag_captures.specs.JsonAttributes.{items_of_piece}
 use Rattle.sock_diag_captures.specs.Pieces.{attributes_or_error, attributes_or_error_left}
-use Rattle.sock_diag_captures.specs.private.JsonWriting.{items_tokens}
+use Rattle.sock_diag_listing.specs.JsonWriting.{items_tokens}
 use Rattle.sock_diag_captures.proofs.json_attributes.write_other_items.Given as goal
 
 -- the text before the writer's is unchanged, and the tokens so far, followed by those of the

@@ -3,7 +3,7 @@ use Rattle.std.proofs.lemmas.Result.{on_ok_weaker}
 use Rattle.json.specs.Token.{Token}
 use Rattle.sock_diag_captures.specs.JsonAttributes.{items_of_piece}
 use Rattle.sock_diag_captures.specs.Pieces.{attributes_or_error}
-use Rattle.sock_diag_captures.proofs.JsonWriting.{items_of_each, joined_array}
+use Rattle.sock_diag_listing.proofs.JsonWriting.{items_of_each, joined_array}
 use Rattle.sock_diag_captures.proofs.json_attributes.write_others.Goals as goal
 
 pub returns-clause-members : goal.returns-clause-members

@@ -3,7 +3,7 @@ use Rattle.std.proofs.lemmas.Result.{on_ok_weaker}
 use Rattle.json.specs.Token.{Token}
 use Rattle.sock_diag_captures.specs.JsonMd5Keys.{md5_key_value}
 use Rattle.sock_diag_captures.specs.Md5Keys.{md5_keys}
-use Rattle.sock_diag_captures.proofs.JsonWriting.{items_of_map, joined_array}
+use Rattle.sock_diag_listing.proofs.JsonWriting.{items_of_map, joined_array}
 use Rattle.sock_diag_captures.proofs.json_md5_keys.write_md5_array.Goals as goal
 
 pub returns-clause-members : goal.returns-clause-members

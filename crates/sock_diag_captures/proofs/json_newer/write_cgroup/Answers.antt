@@ -4,9 +4,9 @@ use Rattle.byteorder.specs.Endian.{little_number}
 use Rattle.netlink_core.specs.Attribute.{Attribute}
 use Rattle.netlink_core.specs.Walk.{buffered_attribute}
 use Rattle.sock_diag_captures.specs.JsonAttributes.{outcome_members}
-use Rattle.sock_diag_captures.specs.JsonData.{JsonMember, number_members}
+use Rattle.sock_diag_listing.specs.JsonData.{JsonMember, number_members}
 use Rattle.sock_diag_captures.specs.JsonNewer.{whole_number_outcome}
-use Rattle.sock_diag_captures.specs.private.JsonWriting.{members_tokens}
+use Rattle.sock_diag_listing.specs.JsonWriting.{members_tokens}
 use Rattle.sock_diag_captures.proofs.json_newer.write_cgroup.Goals as goal
 
 whole_number : (a : Attribute) (n : ℕ) → length a.value ≡ 8 → n ≡ little_number 8 a.value

@@ -1,6 +1,6 @@
 use Rattle.std.proofs.lemmas.Result.{on_ok_weaker}
 use Rattle.sock_diag_captures.specs.JsonOthers.{other_header_members}
-use Rattle.sock_diag_captures.proofs.JsonWriting.{joined_members}
+use Rattle.sock_diag_listing.proofs.JsonWriting.{joined_members}
 use Rattle.sock_diag_captures.proofs.json_others.write_header.Goals as goal
 
 pub returns-clause-members : goal.returns-clause-members

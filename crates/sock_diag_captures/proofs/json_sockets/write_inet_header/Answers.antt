@@ -1,6 +1,6 @@
 use Rattle.std.proofs.lemmas.Result.{on_ok_weaker}
 use Rattle.sock_diag_captures.specs.JsonSockets.{inet_header_members}
-use Rattle.sock_diag_captures.proofs.JsonWriting.{joined_members}
+use Rattle.sock_diag_listing.proofs.JsonWriting.{joined_members}
 use Rattle.sock_diag_captures.proofs.json_sockets.write_inet_header.Goals as goal
 
 pub returns-clause-members : goal.returns-clause-members

@@ -2,7 +2,7 @@ use Rattle.std.proofs.Common.{◌∙◌, ◌++◌, ap, sym, List}
 use Rattle.std.proofs.lemmas.Result.{on_ok_weaker}
 use Rattle.json.specs.Token.{Token}
 use Rattle.sock_diag_captures.specs.JsonUlpInfo.{subflow_member, subflow_members, subflow_rows}
-use Rattle.sock_diag_captures.proofs.JsonWriting.{tokens_of_each}
+use Rattle.sock_diag_listing.proofs.JsonWriting.{tokens_of_each}
 use Rattle.sock_diag_captures.proofs.json_ulp_info.write_subflow_members.Goals as goal
 
 pub returns-clause-members : goal.returns-clause-members

@@ -1,6 +1,6 @@
 use Rattle.std.proofs.Common.{◌≡◌, ◌++◌, drop, flat_map}
 use Rattle.sock_diag_captures.specs.JsonUlpInfo.{tls_member}
-use Rattle.sock_diag_captures.specs.private.JsonWriting.{members_tokens}
+use Rattle.sock_diag_listing.specs.JsonWriting.{members_tokens}
 use Rattle.sock_diag_captures.proofs.json_ulp_info.write_tls_rows.Given as goal
 
 -- the text before the writer's is unchanged, and the tokens so far, followed by those of the

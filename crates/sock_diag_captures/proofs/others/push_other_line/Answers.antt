@@ -1,6 +1,6 @@
 use Rattle.std.proofs.Common.{◌++◌, ap, ◌∙◌}
 use Rattle.std.proofs.lemmas.Result.{on_ok_weaker}
-use Rattle.sock_diag_captures.specs.Cells.{first_columns}
+use Rattle.sock_diag_listing.specs.Cells.{first_columns}
 use Rattle.sock_diag_captures.proofs.Adding.{appended_texts_concatenate}
 use Rattle.sock_diag_captures.proofs.others.push_other_line.Goals as goal
 

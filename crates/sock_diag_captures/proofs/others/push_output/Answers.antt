@@ -1,11 +1,11 @@
 use Rattle.std.proofs.Common.{◌≡◌, ◌∙◌, ◌++◌, ap, refl, sym, not, Bool, true, false, ℕ, List}
 use Rattle.std.proofs.lemmas.Result.{on_ok_weaker}
-use Rattle.sock_diag_captures.specs.JsonData.{JsonMember}
+use Rattle.sock_diag_listing.specs.JsonData.{JsonMember}
 use Rattle.sock_diag_captures.specs.JsonListing.{other_output}
 use Rattle.sock_diag_captures.specs.Others.{other_lines}
 use Rattle.sock_diag_captures.specs.Pieces.{AttributeOrError}
-use Rattle.sock_diag_captures.specs.declared.options.Family.{Family}
-use Rattle.sock_diag_captures.specs.declared.options.Options.{Options}
+use Rattle.sock_diag_listing.specs.declared.options.Family.{Family}
+use Rattle.sock_diag_listing.specs.declared.options.Options.{Options}
 use Rattle.sock_diag_captures.specs.declared.others.OtherSocket.{OtherSocket}
 use Rattle.sock_diag_captures.proofs.others.push_output.Goals as goal
 

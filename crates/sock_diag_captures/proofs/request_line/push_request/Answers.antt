@@ -1,5 +1,5 @@
 use Rattle.std.proofs.Common.{List, ℕ, [], ◌∷◌, ◌++◌, codes}
-use Rattle.sock_diag_captures.specs.Times.{time_text}
+use Rattle.sock_diag_listing.specs.Times.{time_text}
 use Rattle.sock_diag_captures.proofs.Adding.{appended_texts_concatenate}
 use Rattle.sock_diag_captures.specs.RequestLine.{requested_family, request_text}
 use Rattle.sock_diag_captures.specs.RequestLine.{requested_unix_states}

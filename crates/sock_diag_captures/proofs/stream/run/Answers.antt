@@ -1,8 +1,8 @@
 use Rattle.std.specs.Prelude.{⊤}
 use Rattle.std.proofs.lemmas.Result.{IfErr-weaker, IfOk-weaker}
 use Rattle.std.proofs.Common.{true}
-use Rattle.sock_diag_captures.proofs.Reporting.{reports_from_start, reports_prefix}
-use Rattle.sock_diag_captures.specs.Reports.{ReportsMore, WritesPrefix}
+use Rattle.sock_diag_listing.proofs.Reporting.{reports_from_start, reports_prefix}
+use Rattle.sock_diag_listing.specs.Reports.{ReportsMore, WritesPrefix}
 use Rattle.program_streams.specs.declared.streams.WriteError.{WriteError}
 use Rattle.sock_diag_captures.proofs.Failing.{fails_implies, finishes_implies}
 use Rattle.sock_diag_captures.proofs.stream.run.Goals as goal

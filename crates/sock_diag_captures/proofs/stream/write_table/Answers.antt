@@ -3,9 +3,9 @@ use Rattle.std.specs.Prelude.{flat_map, MatchOption, Option, None, Some}
 use Rattle.std.proofs.KnownBytes.{Appends-kept, Appends-trans}
 use Rattle.std.proofs.KnownBytes.{Consumes-trans}
 use Rattle.std.proofs.lemmas.Result.{err_from_is_err_and}
-use Rattle.sock_diag_captures.proofs.Reporting.{reports_nothing, reports_then}
+use Rattle.sock_diag_listing.proofs.Reporting.{reports_nothing, reports_then}
 use Rattle.program_streams.specs.Reader.{state_of}
-use Rattle.sock_diag_captures.specs.Reports.{ReportsMore}
+use Rattle.sock_diag_listing.specs.Reports.{ReportsMore}
 use Rattle.sock_diag_captures.specs.Run.{lines_of_packet}
 use Rattle.sock_diag_captures.proofs.Failing.{fails_at_flush, fails_at_header, fails_at_heading}
 use Rattle.sock_diag_captures.proofs.Failing.{fails_at_lines, fails_at_memory, fails_at_packet}

@@ -1,6 +1,6 @@
 use Rattle.std.proofs.Common.{◌≡◌}
 use Rattle.program_streams.specs.Reader.{state_of}
-use Rattle.sock_diag_captures.specs.Reports.{ReportsMore}
+use Rattle.sock_diag_listing.specs.Reports.{ReportsMore}
 use Rattle.program_streams.specs.declared.streams.WriteError.{WriteError}
 use Rattle.sock_diag_captures.proofs.Progress.{Progress}
 use Rattle.sock_diag_captures.proofs.stream.write_table.Given as goal

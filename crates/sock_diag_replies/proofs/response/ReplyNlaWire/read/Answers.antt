@@ -23,11 +23,11 @@ returns-clause-value g c =
     let view = c.in_ok-view.view in
     let kept = c.in_ok-view.ensures.kept in
     elim c.match-LARGE_KIND.branch [
-      in-None w ↦ rw w.nlas-is (empty_value F view g.met.H.ReplyOwned.same.1 _ kept
+      | in-None w ↦ rw w.nlas-is (empty_value F view g.met.H.ReplyOwned.same.1 _ kept
           (λ i. omega (arith, c.type_inv.bytes i)) _ _ c.header.ensures
           (ap (map g.H.Nla.FamilyNla.model) w.new-nlas.ensures.items)
           (w.is_empty.ensures w.if-is_empty.true))
-    | in_default+else-is_err w ↦ rw w.nlas-is (owned_value F view g.met.H.ReplyOwned.same.1 _ kept
+      | in_default+else-is_err w ↦ rw w.nlas-is (owned_value F view g.met.H.ReplyOwned.same.1 _ kept
           (λ i. omega (arith, c.type_inv.bytes i)) w.own_into.result _
           w.if-is_err.false w.is_err.ensures.value _ _ c.header.ensures
           w.own_into.ensures.equal)

@@ -1,2 +1,0 @@
-mod extras;
-mod filters;

@@ -1,0 +1,9 @@
+pub mod UtcTimes
+pub mod Utf8Names
+pub mod ShownNames
+pub mod VisibleNames
+pub mod Reporting
+pub mod Choosing
+pub mod Listed
+pub mod OptionsEquality
+pub mod JsonWriting

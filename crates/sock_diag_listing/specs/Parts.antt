@@ -1,0 +1,95 @@
+-- Details of a line. Texts are lists of ASCII codes: 32 is a space, 58 a colon, 44 a comma, 41 a
+-- closing parenthesis. Arguments named `word` are names of details.
+use Rattle.std.specs.Prelude.{ℕ, ◌==◌, if◌then◌else◌, List, [], ◌∷◌, ◌++◌, false, codes, decimal}
+use Rattle.std.specs.Prelude.{bit_and, ◌||◌, Option, None, Some}
+use Rattle.std.specs.Fmt.{digits}
+use Rattle.byteorder.specs.Endian.{little_number}
+use Rattle.sock_diag_listing.specs.Options.{shows_detail}
+use Rattle.sock_diag_listing.specs.declared.options.Detail.TheVariants.{Timer, Extended}
+use Rattle.sock_diag_listing.specs.declared.options.Options.{Options}
+use Rattle.sock_diag_listing.specs.declared.parts.TimerFields.{TimerFields}
+
+-- a space, the name, a colon and a number in decimal
+abbrev pub detail : List ℕ → ℕ → List ℕ
+detail word n = 32 ∷ word ++ 58 ∷ decimal n
+
+-- a space, the name, a colon, `0x` and a number in hexadecimal digits (`digits 16 false`: in
+-- lowercase, without leading zeros)
+abbrev pub hex_detail : List ℕ → ℕ → List ℕ
+hex_detail word n = 32 ∷ word ++ codes ":0x" ++ digits 16 false n
+
+-- a space, the name, a colon and two numbers in parentheses, separated by a comma
+abbrev pub pair_detail : List ℕ → ℕ → ℕ → List ℕ
+pair_detail word n m = 32 ∷ word ++ codes ":(" ++ decimal n ++ 44 ∷ decimal m ++ 41 ∷ []
+
+-- the detail with a name and a number, or nothing if the number is 0, or 2 ^ 64 - 1, which is no
+-- limit
+abbrev pub nonzero_detail : List ℕ → ℕ → List ℕ
+nonzero_detail word n = if n == 0 || n == 0xffffffffffffffff then [] else detail word n
+
+-- the slow start threshold, or nothing if it is 0, or 0x7fffffff (TCP_INFINITE_SSTHRESH)
+abbrev pub threshold_detail : ℕ → List ℕ
+threshold_detail n = if n == 0 || n == 0x7fffffff then [] else detail (codes "ssthresh") n
+
+-- `flag_detail word bits n`: a space and the name, if the number `n` has at least one of these bits
+abbrev pub flag_detail : List ℕ → ℕ → ℕ → List ℕ
+flag_detail word bits n = if bit_and n bits == 0 then [] else 32 ∷ word
+
+-- a comma, the name and a number, or nothing for None
+abbrev pub optional_part : List ℕ → Option ℕ → List ℕ
+optional_part word None = []
+optional_part word (Some n) = 44 ∷ word ++ decimal n
+
+-- A space, and the directions that are not shut down, by the bits of `sk_shutdown`: `<->` if none
+-- is. `<` (60) is `-` (45) if bit 1 (RCV_SHUTDOWN) is set, and `>` (62) is `-` if bit 2
+-- (SEND_SHUTDOWN) is set.
+abbrev pub directions : ℕ → List ℕ
+directions state =
+    32 ∷ (if bit_and state 1 == 0 then 60 else 45) ∷ 45
+    ∷ (if bit_and state 2 == 0 then 62 else 45) ∷ []
+
+-- the names of the flags that are set, by the bits PDI_.. of linux/packet_diag.h (`pdi_flags`)
+abbrev pub packet_flags : ℕ → List ℕ
+packet_flags n =
+    flag_detail (codes "running") 1 n ++ flag_detail (codes "auxdata") 2 n
+    ++ flag_detail (codes "origdev") 4 n ++ flag_detail (codes "vnethdr") 8 n
+    ++ flag_detail (codes "loss") 16 n
+
+-- the name of a kind of timer (`idiag_timer`), as ss(8) prints it
+abbrev pub timer_name : ℕ → List ℕ
+timer_name class =
+    if class == 1 then codes "on" else if class == 2 then codes "keepalive"
+    else if class == 3 then codes "timewait" else if class == 4 then codes "persist"
+    else codes "unknown"
+
+-- The timer: its kind, the time until it expires, in milliseconds, and the number of retransmits.
+-- Nothing if no timer runs. Example: ` timer:(on,200ms,3)`.
+abbrev pub timer_text : TimerFields → List ℕ
+timer_text t =
+    if t.class == 0 then []
+    else codes " timer:(" ++ timer_name t.class ++ 44 ∷ decimal t.expires ++ codes "ms,"
+    ++ decimal t.retransmits ++ 41 ∷ []
+
+-- the timer fields of a socket without a timer
+abbrev pub no_timer : TimerFields
+no_timer = record { class = 0; retransmits = 0; expires = 0 }
+
+-- the timer, if its group of details is shown
+abbrev pub timer_if_shown : Options → TimerFields → List ℕ
+timer_if_shown o timer = if shows_detail o Timer then timer_text timer else []
+
+-- ` sk:` and the cookie as a little-endian number of eight bytes, in hexadecimal digits, if the
+-- group of details of `-e` is shown
+abbrev pub cookie_if_shown : Options → List ℕ → List ℕ
+cookie_if_shown o cookie =
+    if shows_detail o Extended then codes " sk:" ++ digits 16 false (little_number 8 cookie) else []
+
+-- what separates the columns from the details: nothing with `-O`, or else a line feed (10) and a
+-- tab (9)
+abbrev pub separator : Options → List ℕ
+separator o = if o.one_line then [] else 10 ∷ 9 ∷ []
+
+-- the separator and the details, or nothing if there are no details
+abbrev pub details_after_separator : Options → List ℕ → List ℕ
+details_after_separator o [] = []
+details_after_separator o (c ∷ told) = separator o ++ c ∷ told
