@@ -2,7 +2,7 @@
 //! are derived by hand from sock_diag(7) and `linux/inet_diag.h`, except for the bytes that Linux
 //! sent, as noted below.
 
-use netlink_core::{DecodeError, FamilyView, NlasIterator};
+use netlink_core::{DecodeError, FamilyView, NlaBuffer, NlasIterator};
 use sock_diag_extras::{
     AckAttributes, AckView, AttributeRecord, AttributeRecords, BbrInfo, BpfStorage, DctcpInfo,
     LenientInetReply, LenientNlas, LenientUnixReply, Md5Signature, NestedNlas, SocketOption,
@@ -12,63 +12,68 @@ use sock_diag_extras::{
 use std::alloc::Global;
 use std::fmt::Debug;
 use std::process::Abort;
-use std::test::Fail;
 
 /// Returns the bytes of a reply: a header of `header` bytes, zero after the family, and attributes.
-fn reply(alloc: Global, family: u8, header: usize, attributes: &[u8]) -> Result<Vec<u8>, Fail> {
-    let mut bytes = Vec::from_slice(alloc, &[family])?;
-    bytes.resize(header, 0)?;
-    bytes.extend_from_slice(attributes)?;
-    Ok(bytes)
+fn reply(rt: &impl Abort, alloc: Global, family: u8, header: usize, attributes: &[u8]) -> Vec<u8> {
+    let mut bytes = Vec::from_slice(alloc, &[family]).expect(rt, "memory");
+    bytes.resize(header, 0).expect(rt, "memory");
+    bytes.extend_from_slice(attributes).expect(rt, "memory");
+    bytes
 }
 
 /// Returns the `Debug` output of the view of each attribute, or the kind and the error of a
 /// rejected one.
-fn items<'a, V>(alloc: Global, attributes: LenientNlas<'a, V>) -> Result<String, Fail>
+fn items<'a, V>(rt: &impl Abort, alloc: Global, attributes: LenientNlas<'a, V>) -> String
 where
     V: FamilyView<'a> + Debug + Drop,
 {
     let mut text = String::new(alloc);
     for item in attributes {
         let line = match item {
-            Ok(view) => format!(in alloc; "{view:?};")?,
-            Err(refused) => format!(in alloc; "{:?} {};", refused.kind(), refused.error())?,
+            Ok(view) => format!(in alloc; "{view:?};"),
+            Err(refused) => format!(in alloc; "{:?} {};", refused.kind(), refused.error()),
         };
-        text.push_str(line.as_str())?;
+        text.push_str(line.expect(rt, "memory").as_str())
+            .expect(rt, "memory");
     }
-    Ok(text)
+    text
 }
 
 /// Returns the `Debug` output of the record in the bytes, and whether it serializes to the same
 /// bytes.
-fn record<T: AttributeRecord + Debug + Drop>(alloc: Global, bytes: &[u8]) -> Result<String, Fail> {
-    let told = read_attribute_record::<T>(bytes).ok_or("too short")?;
-    let mut back = vec![in alloc; 1; bytes.len()]?;
+fn record<T: AttributeRecord + Debug + Drop>(
+    rt: &impl Abort,
+    alloc: Global,
+    bytes: &[u8],
+) -> String {
+    let told = read_attribute_record::<T>(bytes).expect(rt, "too short");
+    let mut back = vec![in alloc; 1; bytes.len()].expect(rt, "memory");
     write_attribute_record(&told, &mut back);
     let same = back.as_slice() == bytes;
-    Ok(format!(in alloc; "{told:?} {same}")?)
+    format!(in alloc; "{told:?} {same}").expect(rt, "memory")
 }
 
 /// Returns the port, the IP address and the scope of a stored address. Its bytes are `front`,
 /// padded with zeros.
-fn address(alloc: Global, front: &[u8]) -> Result<String, Fail> {
-    let mut value = Vec::from_slice(alloc, front)?;
-    value.resize(128, 0)?;
-    let told = read_attribute_record::<StoredAddress>(&value).ok_or("too short")?;
-    Ok(format!(in alloc; "{} {:?} {}", told.port, told.ip(), told.scope_id)?)
+fn address(rt: &impl Abort, alloc: Global, front: &[u8]) -> String {
+    let mut value = Vec::from_slice(alloc, front).expect(rt, "memory");
+    value.resize(128, 0).expect(rt, "memory");
+    let told = read_attribute_record::<StoredAddress>(&value).expect(rt, "too short");
+    format!(in alloc; "{} {:?} {}", told.port, told.ip(), told.scope_id).expect(rt, "memory")
 }
 
 /// Returns the content of an acknowledgement as text, or `nothing` if it could not be parsed.
-fn acknowledgement(alloc: Global, ack: Option<AckView<'_>>) -> Result<String, Fail> {
+fn acknowledgement(rt: &impl Abort, alloc: Global, ack: Option<AckView<'_>>) -> String {
     let Some(ack) = ack else {
-        return Ok(String::from_str(alloc, "nothing")?);
+        return String::from_str(alloc, "nothing").expect(rt, "memory");
     };
-    let told = ack.attributes()?;
+    let told = ack.attributes().expect(rt, "refused");
     let sequence = ack.request_header().map(|header| header.sequence_number);
     let numbers = (ack.number(), ack.request().len(), sequence);
     let policy = told.policy().map(|policy| policy.len());
-    let (message, offset) = (told.message()?, told.offset()?);
-    Ok(format!(in alloc; "{numbers:?} {message:?} {offset:?} {policy:?}")?)
+    let message = told.message().expect(rt, "refused");
+    let offset = told.offset().expect(rt, "refused");
+    format!(in alloc; "{numbers:?} {message:?} {offset:?} {policy:?}").expect(rt, "memory")
 }
 
 /// Returns the upper layer protocol of a connection as text: its name, and fields of TLS and MPTCP.
@@ -89,43 +94,72 @@ fn upper_protocol(alloc: Global, value: &[u8]) -> Result<String, DecodeError> {
 }
 
 /// Returns the map id and the value of each storage of BPF programs as text.
-fn storages(alloc: Global, value: &[u8]) -> Result<String, Fail> {
+fn storages(rt: &impl Abort, alloc: Global, value: &[u8]) -> String {
     let mut text = String::new(alloc);
     for item in NlasIterator::new(value) {
-        let line = match BpfStorage::parse(&item?)? {
-            Some(told) => format!(in alloc; "{:?} {:?};", told.map_id()?, told.map_value())?,
-            None => String::from_str(alloc, "other;")?,
-        };
-        text.push_str(line.as_str())?;
+        let line = storage(rt, alloc, &item.expect(rt, "refused"));
+        text.push_str(line.as_str()).expect(rt, "memory");
     }
-    Ok(text)
+    text
+}
+
+/// Returns the map id and the value of one storage as text, or `other` if the attribute is none.
+fn storage(rt: &impl Abort, alloc: Global, nla: &NlaBuffer) -> String {
+    let line = match BpfStorage::parse(nla).expect(rt, "refused") {
+        Some(told) => {
+            let id = told.map_id().expect(rt, "refused");
+            format!(in alloc; "{id:?} {:?};", told.map_value())
+        }
+        None => String::from_str(alloc, "other;"),
+    };
+    line.expect(rt, "memory")
 }
 
 /// Returns the content of the bytes as text. The word before them in a row selects the parser; a
 /// number is the flags of an `NLMSG_ERROR`.
-fn told(alloc: Global, word: &str, bytes: &[u8]) -> Result<String, Fail> {
+fn told(rt: &impl Abort, alloc: Global, word: &str, bytes: &[u8]) -> String {
     match word {
-        "reply" => {
-            let bytes = reply(alloc, 2, 72, bytes)?;
-            items(alloc, LenientInetReply::parse(&bytes)?.attributes())
-        }
-        "unix" => {
-            let bytes = reply(alloc, 1, 16, bytes)?;
-            items(alloc, LenientUnixReply::parse(&bytes)?.attributes())
-        }
-        "vegas" => record::<VegasInfo>(alloc, bytes),
-        "dctcp" => record::<DctcpInfo>(alloc, bytes),
-        "bbr" => record::<BbrInfo>(alloc, bytes),
-        "options" => record::<SocketOptions>(alloc, bytes),
-        "address" => address(alloc, bytes),
-        "storages" => storages(alloc, bytes),
-        "ulp" => match upper_protocol(alloc, bytes) {
-            Ok(text) => Ok(text),
-            Err(error) => Ok(format!(in alloc; "{error}")?),
-        },
-        "done" => acknowledgement(alloc, AckView::of_done(514, bytes)),
-        flags => acknowledgement(alloc, AckView::of_error(flags.parse::<u16>()?, bytes)),
+        "reply" => inet_items(rt, alloc, bytes),
+        "unix" => unix_items(rt, alloc, bytes),
+        "vegas" => record::<VegasInfo>(rt, alloc, bytes),
+        "dctcp" => record::<DctcpInfo>(rt, alloc, bytes),
+        "bbr" => record::<BbrInfo>(rt, alloc, bytes),
+        "options" => record::<SocketOptions>(rt, alloc, bytes),
+        "address" => address(rt, alloc, bytes),
+        "storages" => storages(rt, alloc, bytes),
+        "ulp" => upper_protocol_or_error(rt, alloc, bytes),
+        "done" => acknowledgement(rt, alloc, AckView::of_done(514, bytes)),
+        flags => error_message(rt, alloc, flags, bytes),
     }
+}
+
+/// Returns the items of a reply about an IPv4 socket with these attributes.
+fn inet_items(rt: &impl Abort, alloc: Global, attributes: &[u8]) -> String {
+    let bytes = reply(rt, alloc, 2, 72, attributes);
+    let reply = LenientInetReply::parse(&bytes).expect(rt, "refused");
+    items(rt, alloc, reply.attributes())
+}
+
+/// Returns the items of a reply about a UNIX socket with these attributes.
+fn unix_items(rt: &impl Abort, alloc: Global, attributes: &[u8]) -> String {
+    let bytes = reply(rt, alloc, 1, 16, attributes);
+    let reply = LenientUnixReply::parse(&bytes).expect(rt, "refused");
+    items(rt, alloc, reply.attributes())
+}
+
+/// Returns the upper layer protocol of a connection as text, or the text of the error.
+fn upper_protocol_or_error(rt: &impl Abort, alloc: Global, value: &[u8]) -> String {
+    let text = match upper_protocol(alloc, value) {
+        Ok(text) => Ok(text),
+        Err(error) => format!(in alloc; "{error}"),
+    };
+    text.expect(rt, "memory")
+}
+
+/// Returns the content of an `NLMSG_ERROR` with these flags as text.
+fn error_message(rt: &impl Abort, alloc: Global, flags: &str, bytes: &[u8]) -> String {
+    let flags = flags.parse::<u16>().expect(rt, "a number");
+    acknowledgement(rt, alloc, AckView::of_error(flags, bytes))
 }
 
 // A row has a word, bytes in hexadecimal, and after `|` the expected text. Linux 6.18 sent the
@@ -186,22 +220,21 @@ storages 0400020014000180080002000900000005000300070000000c000180080003000100000
 other;Some(9) Some([7]);None Some([1, 0, 0, 0]);";
 
 #[test]
-fn rows(rt: HostRuntime) -> Result<(), Fail> {
-    let alloc = rt.alloc();
+fn rows(rt: HostRuntime) {
     for row in ROWS.lines() {
-        let (given, text) = row.split_once('|').ok_or("no text")?;
-        let (word, digits) = given.split_once(' ').ok_or("no word")?;
-        let shown = told(alloc, word, &hex::decode(alloc, digits)?)?;
+        let (given, text) = row.split_once('|').expect(&rt, "no text");
+        let (word, digits) = given.split_once(' ').expect(&rt, "no word");
+        let bytes = hex::decode(rt.alloc(), digits).expect(&rt, "digits");
+        let shown = told(&rt, rt.alloc(), word, &bytes);
         assert!(&rt; shown.as_str() == text, "{row}");
     }
-    Ok(())
 }
 
 /// Checks two fields of `struct tcp_info` (total retransmissions, and bytes received with the ECN
 /// mark CE) and the port's record, for values of several lengths. A field has a value only if the
 /// bytes contain all of it.
 #[test]
-fn as_far_as_the_bytes_go(rt: HostRuntime) -> Result<(), Fail> {
+fn as_far_as_the_bytes_go(rt: HostRuntime) {
     let mut value = [0; 281];
     value[100] = 7;
     value[273] = 1;
@@ -219,88 +252,92 @@ fn as_far_as_the_bytes_go(rt: HostRuntime) -> Result<(), Fail> {
             "{told}"
         );
     }
-    Ok(())
 }
 
 /// Checks a record with a key that Linux 6.18 sent. It is padded with zeros, and 7 bytes remain
 /// after the record.
 #[test]
-fn signatures(rt: HostRuntime) -> Result<(), Fail> {
+fn signatures(rt: HostRuntime) {
     let digits = "022006007f000002000000000000000000000000736563726574";
-    let mut value = hex::decode(rt.alloc(), digits)?;
-    value.resize(107, 0)?;
+    let mut value = hex::decode(rt.alloc(), digits).expect(&rt, "digits");
+    value.resize(107, 0).expect(&rt, "memory");
     let mut records = AttributeRecords::<Md5Signature>::new(&value);
-    let told = records.next().ok_or("too short")?;
+    let told = records.next().expect(&rt, "too short");
     assert!(&rt; (told.family, told.prefix_length, told.key_length) == (2, 32, 6));
     assert!(&rt; told.address.starts_with(&[127, 0, 0, 2]) && told.key.starts_with(b"secret\0"));
     assert!(&rt; records.next().is_none() && records.rest().len() == 7);
-    Ok(())
 }
 
 /// Asserts that `Debug` prints the value as the text.
-fn is_text(
-    rt: &impl Abort,
-    alloc: Global,
-    value: impl Debug + Drop,
-    text: &str,
-) -> Result<(), Fail> {
-    let shown = format!(in alloc; "{value:?}")?;
+fn is_text(rt: &impl Abort, alloc: Global, value: impl Debug + Drop, text: &str) {
+    let shown = format!(in alloc; "{value:?}").expect(rt, "memory");
     assert!(rt; shown.as_str() == text, "{shown}");
-    Ok(())
 }
 
 /// Returns the `Debug` output of each item of the iterator.
-fn debug_items<'a, V>(alloc: Global, attributes: LenientNlas<'a, V>) -> Result<String, Fail>
+fn debug_items<'a, V>(rt: &impl Abort, alloc: Global, attributes: LenientNlas<'a, V>) -> String
 where
     V: FamilyView<'a> + Debug + Drop,
 {
     let mut text = String::new(alloc);
     for item in attributes {
-        text.push_str(format!(in alloc; "{item:?};")?.as_str())?;
+        let line = format!(in alloc; "{item:?};").expect(rt, "memory");
+        text.push_str(line.as_str()).expect(rt, "memory");
     }
-    Ok(text)
+    text
+}
+
+/// Returns the bytes of an attribute of type 1 with this value.
+fn attribute(rt: &impl Abort, alloc: Global, value: &[u8]) -> Vec<u8> {
+    let length = u16::try_from(value.len().saturating_add(4)).expect(rt, "too long");
+    let [low, high] = length.to_le_bytes();
+    let mut bytes = Vec::from_slice(alloc, &[low, high, 1, 0]).expect(rt, "memory");
+    bytes.extend_from_slice(value).expect(rt, "memory");
+    bytes
 }
 
 /// Asserts that `Debug` prints the bytes of each type that borrows an attribute with this value, or
 /// the value itself.
-fn values_have_texts_of(rt: &impl Abort, alloc: Global, value: &[u8]) -> Result<(), Fail> {
-    let [low, high] = u16::try_from(value.len().saturating_add(4))?.to_le_bytes();
-    let mut bytes = Vec::from_slice(alloc, &[low, high, 1, 0])?;
-    bytes.extend_from_slice(value)?;
-    let nested = NestedNlas::parse(&bytes)?;
-    let nested_text = format!(in alloc; "NestedNlas {{ bytes: {bytes:?} }}")?;
-    is_text(rt, alloc, nested, &nested_text)?;
+fn values_have_texts_of(rt: &impl Abort, alloc: Global, value: &[u8]) {
+    let bytes = attribute(rt, alloc, value);
+    let nested = NestedNlas::parse(&bytes).expect(rt, "refused");
     let all = (
+        nested,
         UlpInfo(nested),
         TlsInfo(nested),
         SubflowInfo(nested),
         BpfStorage(nested),
         AckAttributes(nested),
+        TcpInfoBytes::new(value),
     );
+    let nested = format!(in alloc; "NestedNlas {{ bytes: {bytes:?} }}").expect(rt, "memory");
     let text = format!(in alloc;
-        "(UlpInfo({nested_text}), TlsInfo({nested_text}), SubflowInfo({nested_text}), \
-        BpfStorage({nested_text}), AckAttributes({nested_text}))"
-    )?;
-    is_text(rt, alloc, all, &text)?;
-    let text = format!(in alloc; "TcpInfoBytes {{ bytes: {value:?} }}")?;
-    is_text(rt, alloc, TcpInfoBytes::new(value), &text)
+        "({nested}, UlpInfo({nested}), TlsInfo({nested}), SubflowInfo({nested}), \
+        BpfStorage({nested}), AckAttributes({nested}), TcpInfoBytes {{ bytes: {value:?} }})"
+    );
+    is_text(rt, alloc, all, text.expect(rt, "memory").as_str());
 }
 
 #[test]
-fn values_have_texts(rt: HostRuntime) -> Result<(), Fail> {
-    let alloc = rt.alloc();
+fn values_have_texts(rt: HostRuntime) {
     for size in [0, 1, 2, 232, 280, 300, 65_531] {
-        values_have_texts_of(&rt, alloc, &vec![in alloc; 7; size]?)?;
+        let value = vec![in rt.alloc(); 7; size].expect(&rt, "memory");
+        values_have_texts_of(&rt, rt.alloc(), &value);
     }
+}
+
+#[test]
+fn acknowledgements_and_items_have_texts(rt: HostRuntime) {
+    let alloc = rt.alloc();
     let text = "AckView { number: 1, request: [], attributes: [9] }";
-    let ack = AckView::of_done(512, &[1, 0, 0, 0, 9]).ok_or("too short")?;
-    is_text(&rt, alloc, ack, text)?;
-    let bytes = reply(alloc, 1, 16, &[5, 0, 2, 128, 7, 0, 0, 0, 0, 0])?;
-    let shown = debug_items(alloc, LenientUnixReply::parse(&bytes)?.attributes())?;
+    let ack = AckView::of_done(512, &[1, 0, 0, 0, 9]).expect(&rt, "too short");
+    is_text(&rt, alloc, ack, text);
+    let bytes = reply(&rt, alloc, 1, 16, &[5, 0, 2, 128, 7, 0, 0, 0, 0, 0]);
+    let reply = LenientUnixReply::parse(&bytes).expect(&rt, "refused");
+    let shown = debug_items(&rt, alloc, reply.attributes());
     let text = "Err(Attribute(NlaBuffer { type_word: 32770, value: [7] }, WrongLength { kind: \
         Some(2), got: 1, need: 4 }));Err(Framing(AttributeHeaderCut { left: 2 }));";
     assert!(&rt; shown.as_str() == text, "{shown}");
-    Ok(())
 }
 
 /// All fields of `struct tcp_info`, in order.
@@ -403,19 +440,19 @@ const OPTIONS: [SocketOption; 11] = [
 ];
 
 #[test]
-fn fields_and_records_have_texts(rt: HostRuntime) -> Result<(), Fail> {
+fn fields_have_texts(rt: HostRuntime) {
     let alloc = rt.alloc();
-    is_text(&rt, alloc, TCP_FIELDS, TCP_TEXT)?;
+    is_text(&rt, alloc, TCP_FIELDS, TCP_TEXT);
     let text = "[RecvErr, IsIcsk, FreeBind, HdrIncl, McLoop, Transparent, McAll, NoDefrag, \
         BindAddressNoPort, RecvErrRfc4884, DeferConnect]";
-    is_text(&rt, alloc, OPTIONS, text)?;
+    is_text(&rt, alloc, OPTIONS, text);
     let fields = [
         TlsField::Version,
         TlsField::Cipher,
         TlsField::Sending,
         TlsField::Receiving,
     ];
-    is_text(&rt, alloc, fields, "[Version, Cipher, Sending, Receiving]")?;
+    is_text(&rt, alloc, fields, "[Version, Cipher, Sending, Receiving]");
     let fields = [
         SubflowField::RemoteToken,
         SubflowField::LocalToken,
@@ -430,21 +467,29 @@ fn fields_and_records_have_texts(rt: HostRuntime) -> Result<(), Fail> {
     ];
     let text = "[RemoteToken, LocalToken, RelativeWriteSequence, MapSequence, MapSubflowSequence, \
         SequenceOffset, MapLength, Flags, RemoteId, LocalId]";
-    is_text(&rt, alloc, fields, text)?;
-    let zeros = [0; 128];
+    is_text(&rt, alloc, fields, text);
+}
+
+/// Asserts that `Debug` prints the record that consists of zeros as this text.
+fn zeros_have_text<T: AttributeRecord + Debug + Drop>(rt: &impl Abort, alloc: Global, text: &str) {
+    let record = read_attribute_record::<T>(&[0; 128]).expect(rt, "too short");
+    is_text(rt, alloc, record, text);
+}
+
+#[test]
+fn records_have_texts(rt: HostRuntime) {
+    let (alloc, zeros) = (rt.alloc(), [0; 100]);
     let text = format!(in alloc;
         "StoredAddress {{ family: 0, port: 0, front: [0, 0, 0, 0], segments: {:?}, scope_id: 0, \
         rest: {:?} }}",
         &zeros[..8],
-        &zeros[..100]
-    )?;
-    let record = read_attribute_record::<StoredAddress>(&zeros).ok_or("too short")?;
-    is_text(&rt, alloc, record, &text)?;
+        &zeros
+    );
+    zeros_have_text::<StoredAddress>(&rt, alloc, text.expect(&rt, "memory").as_str());
     let text = format!(in alloc;
         "Md5Signature {{ family: 0, prefix_length: 0, key_length: 0, address: {:?}, key: {:?} }}",
         &zeros[..16],
         &zeros[..80]
-    )?;
-    let record = read_attribute_record::<Md5Signature>(&zeros).ok_or("too short")?;
-    is_text(&rt, alloc, record, &text)
+    );
+    zeros_have_text::<Md5Signature>(&rt, alloc, text.expect(&rt, "memory").as_str());
 }

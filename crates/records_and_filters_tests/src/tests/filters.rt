@@ -9,19 +9,18 @@ use sock_diag_filters::{
 use std::alloc::Global;
 use std::net::{IpAddr, Ipv4Addr, Ipv6Addr};
 use std::process::Abort;
-use std::test::Fail;
 
 /// Asserts that the filter assembles to the program in hexadecimal.
-fn assembles(rt: &impl Abort, alloc: Global, filter: &Filter, program: &str) -> Result<(), Fail> {
-    let made = hex::encode(alloc, assemble(alloc, filter)?)?;
+fn assembles(rt: &impl Abort, alloc: Global, filter: &Filter, program: &str) {
+    let program_bytes = assemble(alloc, filter).expect(rt, "refused");
+    let made = hex::encode(alloc, program_bytes).expect(rt, "memory");
     assert!(rt; made.as_str() == program, "{made}");
-    Ok(())
 }
 
 /// Checks the programs that ss(8) sends for `dst [::1]:53`, `autobound`, `cgroup /` (with the id
 /// 0), and `fwmark = 0x01/0x03`, and the program for interface 3.
 #[test]
-fn conditions_are_those_of_ss(rt: HostRuntime) -> Result<(), Fail> {
+fn conditions_are_those_of_ss(rt: HostRuntime) {
     let local = Host {
         prefix: Prefix::new(IpAddr::V6(Ipv6Addr::LOCALHOST), 128),
         port: Some(53),
@@ -39,15 +38,14 @@ fn conditions_are_those_of_ss(rt: HostRuntime) -> Result<(), Fail> {
         ),
         (Condition::Interface(3), "09080c0003000000"),
     ] {
-        assembles(&rt, rt.alloc(), &Filter::Condition(condition), program)?;
+        assembles(&rt, rt.alloc(), &Filter::Condition(condition), program);
     }
-    Ok(())
 }
 
 /// Checks the program that ss(8) sends for
 /// `sport >= :1024 and ( dport <= :99 or not src 10.0.0.0/8 )`.
 #[test]
-fn a_filter_is_that_of_ss(rt: HostRuntime) -> Result<(), Fail> {
+fn a_filter_is_that_of_ss(rt: HostRuntime) {
     let source = Filter::Condition(Condition::Source(Host {
         prefix: Prefix::new(IpAddr::V4(Ipv4Addr::new(10, 0, 0, 0)), 8),
         port: None,
@@ -58,7 +56,7 @@ fn a_filter_is_that_of_ss(rt: HostRuntime) -> Result<(), Fail> {
     let high = Filter::Condition(Condition::SourcePort(Comparison::AtLeast, 1024));
     let program =
         "02082c000000000405080c0000006300010418000710140002080000ffffffff0a00000001040800";
-    assembles(&rt, rt.alloc(), &Filter::And(&high, &either), program)
+    assembles(&rt, rt.alloc(), &Filter::And(&high, &either), program);
 }
 
 /// A dump request for listening IPv4 sockets, with the sequence number 9, the program of
@@ -68,10 +66,10 @@ const ASKED: &str = "\
 00000000000000000000000000000000000000000000000008000100060408000800030006010000";
 
 #[test]
-fn requests_are_written(rt: HostRuntime) -> Result<(), Fail> {
+fn requests_are_written(rt: HostRuntime) {
     let alloc = rt.alloc();
     assert!(rt; listening_on(alloc, 443, 80, 9).is_ok());
-    let message = listening_on(alloc, 80, 443, 9)?;
+    let message = listening_on(alloc, 80, 443, 9).expect(&rt, "refused");
     let view = RequestView::parse(&message).expect(&rt, "a request");
     assert!(rt; view.protocol == 6);
     let program = RequestAttribute::Program(&[6, 4, 8, 0]);
@@ -81,10 +79,10 @@ fn requests_are_written(rt: HostRuntime) -> Result<(), Fail> {
         attributes: &[program, RequestAttribute::Protocol(262)],
     };
     assert!(rt; request.is_writable());
-    let mut bytes = vec![in alloc; 0; request.buffer_len()]?;
+    let mut bytes = vec![in alloc; 0; request.buffer_len()].expect(&rt, "memory");
     request.emit(&mut bytes);
-    assert!(rt; hex::encode(alloc, bytes)?.as_str() == ASKED);
-    Ok(())
+    let digits = hex::encode(alloc, bytes).expect(&rt, "memory");
+    assert!(rt; digits.as_str() == ASKED);
 }
 
 /// Requests derived by hand from the kernel's headers, each with its `Debug` output: to close the
@@ -130,21 +128,20 @@ destination_port: 0, source_address: 0.0.0.0, destination_address: 0.0.0.0, inte
 cookie: [0, 0, 0, 0, 0, 0, 0, 0] } }, protocol: 262, program: Some([6, 4, 8, 0]) }))";
 
 /// Asserts that `Debug` prints the result of parsing a request as the text in the row.
-fn is_shown(rt: &impl Abort, alloc: Global, row: &str) -> Result<(), Fail> {
-    let (digits, text) = row.split_once('|').ok_or("no text")?;
-    let bytes = hex::decode(alloc, digits)?;
-    let shown = format!(in alloc; "{:?}", AnyRequestView::parse(&bytes))?;
+fn is_shown(rt: &impl Abort, alloc: Global, row: &str) {
+    let (digits, text) = row.split_once('|').expect(rt, "no text");
+    let bytes = hex::decode(alloc, digits).expect(rt, "digits");
+    let shown = format!(in alloc; "{:?}", AnyRequestView::parse(&bytes)).expect(rt, "memory");
     is_text(rt, shown.as_str(), text);
-    Ok(())
 }
 
 #[test]
-fn requests_are_read(rt: HostRuntime) -> Result<(), Fail> {
+fn requests_are_read(rt: HostRuntime) {
     for row in BY_FAMILY.lines() {
-        is_shown(&rt, rt.alloc(), row)?;
+        is_shown(&rt, rt.alloc(), row);
     }
-    let asked = [ASKED, ASKED_TEXT];
-    is_shown(&rt, rt.alloc(), asked.concat(rt.alloc())?.as_str())
+    let asked = [ASKED, ASKED_TEXT].concat(rt.alloc()).expect(&rt, "memory");
+    is_shown(&rt, rt.alloc(), asked.as_str());
 }
 
 /// Asserts that two texts are equal.
@@ -154,7 +151,7 @@ fn is_text(rt: &impl Abort, shown: &str, text: &str) {
 
 /// Checks the names of records of other families, and the texts of errors of `assemble`.
 #[test]
-fn names_and_errors_have_texts(rt: HostRuntime) -> Result<(), Fail> {
+fn names_and_errors_have_texts(rt: HostRuntime) {
     let alloc = rt.alloc();
     for (name, text) in [
         (
@@ -173,7 +170,8 @@ fn names_and_errors_have_texts(rt: HostRuntime) -> Result<(), Fail> {
             "FamilyAttribute { family: 17, kind: 2 }",
         ),
     ] {
-        is_text(&rt, format!(in alloc; "{name}")?.as_str(), text);
+        let shown = format!(in alloc; "{name}").expect(&rt, "memory");
+        is_text(&rt, shown.as_str(), text);
     }
     for (error, text) in [
         (
@@ -182,14 +180,14 @@ fn names_and_errors_have_texts(rt: HostRuntime) -> Result<(), Fail> {
         ),
         (AssembleError::Memory, "Memory: out of memory"),
     ] {
-        is_text(&rt, format!(in alloc; "{error:?}: {error}")?.as_str(), text);
+        let shown = format!(in alloc; "{error:?}: {error}").expect(&rt, "memory");
+        is_text(&rt, shown.as_str(), text);
     }
-    Ok(())
 }
 
 /// Checks the `Debug` output of conditions and of attributes of requests.
 #[test]
-fn conditions_have_texts(rt: HostRuntime) -> Result<(), Fail> {
+fn conditions_have_texts(rt: HostRuntime) {
     let alloc = rt.alloc();
     let local = Host {
         prefix: Prefix::new(IpAddr::V4(Ipv4Addr::LOCALHOST), 8),
@@ -236,15 +234,16 @@ fn conditions_have_texts(rt: HostRuntime) -> Result<(), Fail> {
         (Condition::Cgroup(7), "Cgroup(7)"),
         (Condition::AutoBound, "AutoBound"),
     ] {
-        is_text(&rt, format!(in alloc; "{condition:?}")?.as_str(), text);
+        let shown = format!(in alloc; "{condition:?}").expect(&rt, "memory");
+        is_text(&rt, shown.as_str(), text);
     }
     for (attribute, text) in [
         (RequestAttribute::Program(&[6, 4]), "Program([6, 4])"),
         (RequestAttribute::Protocol(262), "Protocol(262)"),
     ] {
-        is_text(&rt, format!(in alloc; "{attribute:?}")?.as_str(), text);
+        let shown = format!(in alloc; "{attribute:?}").expect(&rt, "memory");
+        is_text(&rt, shown.as_str(), text);
     }
-    Ok(())
 }
 
 /// Asserts that an allocation for the program of a filter does not fail.
