@@ -112,7 +112,7 @@ def json_errors(sslist):
 
 def diagnostic_errors():
     """Looks for each diagnostic in the string literals of `sslist` and its libraries: as the whole
-    text, or each part of it between numbers."""
+    text, or each part of it between numbers and options with a value."""
     page = "docs/CAPTURE.md"
     words = [TOP / "tools/libraries", "sslist"]
     used = subprocess.run(words, stdout=subprocess.PIPE, text=True, check=True).stdout.split()
@@ -124,7 +124,7 @@ def diagnostic_errors():
     shown = section(page, "Diagnostics")
     items = re.findall(r"(?m)^ *- (?:for a pcapng file )?`([^`]+)`", shown)
     for item in items + [spans(row[0])[0] for row in rows(shown)[2:]]:
-        parts = [it.strip(" :;,") for it in re.split(r"\b(?:[A-Z]|\d+)\b|\.\.", item)]
+        parts = [it.strip(" :;,") for it in re.split(r"--\w+=|\b(?:[A-Z]|\d+)\b|\.\.", item)]
         is_whole = any(re.fullmatch(form, item) for form in forms)
         if not is_whole and not all(any(it in text for text in literals) for it in parts):
             yield page, f"no source has the text {item}"
