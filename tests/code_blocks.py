@@ -6,6 +6,7 @@
   ignored.
 - In a README.md a block may omit the contracts. There a `rust` block may also occur in an example,
   and a `c` block has to. tests/bindings.py and tests/api/rust_api.sh compile the examples.
+- A `rust,ignore` block has to occur in an example over the Rust crate, under bench/original.
 - A `text` block in a CALLING.md quotes contracts below a line that names the file. Each quoted line
   has to occur in that file, in the notation of these pages.
 
@@ -26,10 +27,11 @@ DOCUMENTS = ["*.md", "crates/*.md", "crates/*/*.md", "docs/*.md", "rust/*/*.md"]
 # README.md may be a copy of.
 SOURCES = {
     "rust": ["crates/*/src/**/*.rt"],
+    "rust,ignore": ["bench/original/examples/*.rs"],
     "antt": ["crates/*/proofs/**/*.antt", "crates/*/specs/**/*.antt"],
     "c": [],
 }
-EXAMPLES = {"rust": ["rust/sockdiag/examples/*.rs"], "antt": [], "c": ["examples/*.c"]}
+EXAMPLES = {"rust": ["rust/sockdiag/examples/*.rs"], "c": ["examples/*.c"]}
 FENCE = "```"
 # The language of a block that is indented and has no fence.
 INDENTED = "indented"
@@ -133,7 +135,7 @@ def likely_files(language, page):
     patterns = SOURCES[language]
     if page != "README.md":
         return lines_of(patterns)
-    examples = lines_of(EXAMPLES[language])
+    examples = lines_of(EXAMPLES.get(language, []))
     return lines_of(patterns) + lines_of(patterns, without_contracts) + examples
 
 

@@ -8,7 +8,7 @@ tests/code_blocks.py does not check. The arguments are the paths of both built p
 - Commands that NOT_RUN lists are not run. The files and options that they name have to exist, and
   so have those in the commands of the text.
 - FORMS lists the other forms of blocks, such as input and answers of `sockdiag`, and how each is
-  checked. NOT_CHECKED lists the languages that are not checked.
+  checked.
 - tests/tables.py compares tables.
 
 A block that is none of these is an error: to add a command of another kind, add it to RUN or
@@ -66,7 +66,6 @@ NOT_RUN = {
     r"apt install": "it needs root; tests/release.sh installs the packages in another root",
     r"(modprobe|ip link|tcpdump) ": "it needs root and the kernel module nlmon",
 }
-NOT_CHECKED = {"rust,ignore": "it needs the crates of netlink-packet-sock-diag"}
 # The first names of input lines of `sockdiag`.
 NAMES = "unixreq|unix|unixview|inetreq|inet|sockid4|sockid6|message|netlink|dump"
 ANSWER = re.compile(r"(ok|refused|unwritable|bad line)\b")
@@ -312,7 +311,7 @@ class Checker:
         is_prepared = False
         for number, language, lines in blocks:
             is_quote = language == "text" and page.name == "CALLING.md"
-            if is_quote or language in code_blocks.SOURCES or language in NOT_CHECKED:
+            if is_quote or language in code_blocks.SOURCES:
                 continue
             while lines and not lines[-1].strip():
                 lines.pop()
