@@ -384,8 +384,12 @@ def print_of(function):
         for path, names in source.roots(starts):
             outline.add(path, names)
     if not count:
-        print(f"{function} has no clauses; a method of an impl has those of its trait",
-              file=sys.stderr)
+        found = dict.fromkeys(
+            "::".join([it, *others, name]) for it in CRATES + OTHERS for source in sources()
+            if [*source.clauses_of(it, *others, name=name)])
+        where = f"there is {', '.join(found)}" if found else (
+            "a method of an impl has those of its trait, and Display has a member output")
+        print(f"{function} has no clauses; {where}", file=sys.stderr)
         return 1
     print(f"{function}: number of clauses: {count}", *outline.lines, sep="\n")
     parts = (("members of traits", sorted(outline.members)),
