@@ -3,13 +3,19 @@
 crates of the port and of the program `sockdiag` (module: name, lines, comment); the members by
 which impls name their definitions; and the number of definitions, lines and tokens of each crate.
 
-With `--of CRATE::FUNCTION`, prints the definitions that one contract depends on, each once, with
-its file and line: a definition follows the one that names it, and is indented below it. For a
-function of another crate the definitions of the port and of the program are not followed. They are
-listed after the others, and then the types and constants of the code, and the names of the kit. The
-modules and the type of the function may be given too, as in `netlink_core::Wire::read`. A method of
-an impl has the clauses of its trait. Members of traits that a contract names, such as `T.codec`,
-are listed and not followed: the impls name their definitions.
+With `--of CRATE::FUNCTION`, prints where the clauses of one contract are, and the definitions that
+they depend on, each once, with its file and line: a definition follows the one that names it, and
+is indented below it. For a function of another crate the definitions of the port and of the program
+are not followed. They are listed after the others, and then the types and constants of the code,
+and the names of the kit. The modules and the type of the function may be given too, as in
+`netlink_core::Wire::read`. Members of traits that a contract names, such as `T.codec`, are listed
+and not followed: the impls name their definitions.
+
+A ghost member is named like a function, as in `netlink_core::Exact::exact`. An impl of a trait is
+named by its type and its trait, as in `program_streams::<CaptureError as Display>`, or by a method,
+as in `program_streams::CaptureError::fmt`. Its contract has the ghost members of the impl, such as
+`output`, their types in the trait, and the clauses of the method in the trait. The body of a member
+is not followed if it is a proof.
 
 The roots are the clauses of public functions and of the methods of public traits, the invariants of
 public structs, and the ghost members of public traits and of their impls. From each root the script
@@ -22,6 +28,7 @@ Without an option it fails, with status 1, if an import that is used is not foun
 a lemma is in a module of definitions, or if a promise reaches a module that need not be believed.
 """
 
+import difflib
 import re
 import sys
 from pathlib import Path
@@ -66,6 +73,7 @@ COMPUTES = re.compile(
     r"ℕ|(List|Bool|Option|Result|Type|Codec|Layout|AttributeSet|AttributeSpec|ValueCodec"
     r"|IpVersion)\b"
 )
+WORDS = re.compile(r"\w+").findall
 WORD = r"[A-Za-z_](?:[A-Za-z0-9_']|-(?=[A-Za-z]))*"
 TOKEN = re.compile(
     rf"⟦[^⟧]*⟧|(?<=[)\]}}⟧])\.[\w.]+|(?P<path>{WORD}(?:\.(?:{WORD}|\d+))*)|\d\w*|\"[^\"]*\"|==|\S"
@@ -179,6 +187,7 @@ class Source:
 
     def __init__(self, path, private_traits):
         text, self.private_traits = path.read_text("utf-8"), private_traits
+        self.file = path.relative_to(ROOT.parent)
         self.modules = path.relative_to(ROOT).with_suffix("").parts
         self.text = self.UNREAD.sub(lambda m: re.sub(r"[^\n]", " ", m[0]), text)
         self.blocks = [(m, self.closing(m.end() - 1)) for m in self.BLOCK.finditer(self.text)]
@@ -212,13 +221,23 @@ class Source:
             function = [*self.FUNCTION.finditer(self.text, 0, clause.start())][-1]
             yield clause.start(1), function[2], function[1], self.block(function.start())
 
-    def clauses_of(self, crate, *others, name):
-        """Yields where each clause of a function starts. `others` are words of its path: of its
-        modules, and of its type or trait."""
-        for at, function, _, block in self.clauses():
-            around = {*self.modules, *re.findall(r"\w+", block[3] if block else "")}
-            if self.modules[0] == crate and function == name and around.issuperset(others):
-                yield at
+    def members(self):
+        """Yields where the type or the body of each ghost member starts, its name, the sign before
+        it, and the trait, impl or struct around it."""
+        name = None
+        for ghost in self.GHOST.finditer(self.text):
+            name = ghost[1] or name
+            yield ghost.start(3), name, ghost[2], self.block(ghost.start())
+
+    def parts(self):
+        """Yields the parts of all contracts."""
+        for at, name, _, block in self.clauses():
+            yield Part(self, at, name, block)
+        for at, name, sign, block in self.members():
+            yield Part(self, at, name, block, "proof" if sign == "=" and name in LAWS else "")
+        for block, _ in self.blocks:
+            if " for " in block[3]:
+                yield Part(self, block.start(2), None, block, "impl")
 
     def promises(self):
         """Yields where each promise starts: a clause, or the type or the body of a ghost member."""
@@ -231,12 +250,10 @@ class Source:
     def ghosts(self):
         """Yields each ghost member that is a promise: where its type or its body starts, its name,
         and whether this is the body in an impl."""
-        name = None
-        for ghost in self.GHOST.finditer(self.text):
-            block, name = self.block(ghost.start()), ghost[1] or name
+        for at, name, sign, block in self.members():
             cited = block[2] != "trait" and not CITED.isdisjoint(re.findall(r"\w+", block[3]))
-            if (ghost[2] == ":" or name not in LAWS) and (cited or self.is_promised(block)):
-                yield ghost.start(3), name, ghost[2] == "=" and block[2] == "impl"
+            if (sign == ":" or name not in LAWS) and (cited or self.is_promised(block)):
+                yield at, name, sign == "=" and block[2] == "impl"
 
     def roots(self, starts):
         """Yields each path of the clauses and members that start there, and what names refer to
@@ -249,6 +266,54 @@ class Source:
                 names |= listed if block in (None, self.block(at)) else {}
             for path in paths_in(self.text[at + 1 : self.closing(at)]):
                 yield path, names
+
+
+class Part:
+    """A part of a contract: a clause, the type or the body of a ghost member, or an impl of a trait.
+    `name` is the name of the function or of the member, and `owner` the trait or the type around
+    it. Of an impl of a trait, `type` has the words of the type, and `methods` its functions. If
+    there is a kind, `proof` or `impl`, the part is not followed."""
+
+    def __init__(self, source, at, name, block, kind=""):
+        self.source, self.at, self.name, self.kind = source, at, name, kind
+        head, self.methods = block[3] if block else "", []
+        self.is_trait = bool(block) and block[2] == "trait"
+        bare = head
+        for _ in range(3):
+            bare = re.sub(r"<[^<>]*>", "", bare)
+        before, of_trait, _ = bare.partition(" for ")
+        self.head, self.type = WORDS(head), WORDS(head.partition(" for ")[2])
+        self.owner = (WORDS(before) or [""])[-1 if of_trait else 0]
+        if of_trait:
+            inside = source.text[block.start() : source.closing(block.end() - 1)]
+            self.methods = [function[2] for function in source.FUNCTION.finditer(inside)]
+
+    def is_named(self, crate, words):
+        """Returns whether a path with these words names the contract."""
+        around, (*others, last) = {*self.source.modules, *self.head}, words
+        if self.type and {"as", "for"}.intersection(words):
+            is_named = {"as", *around, *self.methods}.issuperset(words)
+        else:
+            is_named = last in (self.name, *self.methods) and around.issuperset(others)
+            is_named &= not self.type or not {*others[-1:]}.isdisjoint(self.type)
+        return is_named and self.source.modules[0] == crate
+
+    def paths(self):
+        """Returns the paths that name the contract."""
+        crate = self.source.modules[0]
+        if self.type:
+            methods = [f"{crate}::{self.type[0]}::{method}" for method in self.methods]
+            return [f"{crate}::<{self.type[0]} as {self.owner}>", *methods]
+        return [f"{crate}::{self.owner}::{self.name}" if self.owner else f"{crate}::{self.name}"]
+
+    def place(self):
+        """Returns the file, the line, and the text before the brace."""
+        text = self.source.text
+        start, end = text.rfind("\n", 0, self.at) + 1, text.find("{", self.at)
+        shown = " ".join(text[start:end].rpartition("}")[2].split())
+        shown = f"ghost {self.name} =" if shown == "=" else shown
+        shown += " (a proof)" * (self.kind == "proof")
+        return f"{self.source.file}:{text.count(chr(10), 0, start) + 1}: {shown}"
 
 
 class Specs:
@@ -373,29 +438,39 @@ def sources():
     return [Source(path, private) for path in paths]
 
 
-def print_of(function):
-    """Prints the definitions that the contract of a function depends on."""
-    crate, *others, name = function.split("::") if "::" in function else ("", function)
-    ends = [] if crate in CRATES else CRATES
-    outline, count = Outline(Specs(), ends), 0
-    for source in sources():
-        starts = [*source.clauses_of(crate, *others, name=name)]
-        count += len(starts)
-        for path, names in source.roots(starts):
-            outline.add(path, names)
-    if not count:
-        found = dict.fromkeys(
-            "::".join([it, *others, name]) for it in CRATES + OTHERS for source in sources()
-            if [*source.clauses_of(it, *others, name=name)])
-        where = f"there is {', '.join(found)}" if found else (
-            "a method of an impl has those of its trait, and Display has a member output")
-        print(f"{function} has no clauses; {where}", file=sys.stderr)
+def parts_of(crate, words, parts):
+    """Returns the parts of the contract that a path names. For an impl of a trait these include the
+    parts of the trait that have the name of a member, or the last name of the path."""
+    named = [part for part in parts if part.is_named(crate, words)]
+    named.sort(key=lambda part: (part.source.file, part.at))
+    stated = {(part.owner, name) for part in named if part.type for name in (part.name, words[-1])}
+    return named + [part for part in parts if part.is_trait and (part.owner, part.name) in stated]
+
+
+def print_of(path):
+    """Prints the definitions that the contract of a path depends on."""
+    crate, _, rest = path.partition("::")
+    crate, rest = (crate, rest) if crate in CRATES + OTHERS else ("", path)
+    parts = [part for source in sources() for part in source.parts()]
+    found = parts_of(crate, WORDS(rest) or [""], parts)
+    if not found:
+        paths = {}
+        for other in dict.fromkeys(other for part in parts for other in part.paths()):
+            paths.setdefault(other.partition("::")[2], []).append(other)
+        close = difflib.get_close_matches(rest, paths, 5, 0.5)
+        close = [other for one in close for other in paths[one]]
+        print(f"{path} has no clauses and no members; close names:", *close or ["none"], sep="\n",
+            file=sys.stderr)
         return 1
-    print(f"{function}: number of clauses: {count}", *outline.lines, sep="\n")
-    parts = (("members of traits", sorted(outline.members)),
-             ("the port and the program", outline.others),
-             ("the code", sorted(outline.code)), ("the kit", sorted(outline.kit)))
-    for title, lines in parts:
+    outline = Outline(Specs(), [] if crate in CRATES else CRATES)
+    for part in found:
+        for name, names in [] if part.kind else part.source.roots([part.at]):
+            outline.add(name, names)
+    print(f"the contract of {path}:", *[part.place() for part in found], sep="\n")
+    for title, lines in (
+            ("definitions", outline.lines), ("members of traits", sorted(outline.members)),
+            ("the port and the program", outline.others),
+            ("the code", sorted(outline.code)), ("the kit", sorted(outline.kit))):
         if lines:
             print(f"{title}:", *lines, sep="\n")
     return 0
@@ -430,7 +505,8 @@ def main(arguments):
     if arguments[:1] == ["--of"] and len(arguments) == 2:
         return print_of(arguments[1])
     if arguments:
-        print("usage: tests/believed.py [--of CRATE::FUNCTION]", file=sys.stderr)
+        print("usage: tests/believed.py [--of CRATE::FUNCTION | --of 'CRATE::<TYPE as TRAIT>']",
+            file=sys.stderr)
         return 2
     return print_all()
 
