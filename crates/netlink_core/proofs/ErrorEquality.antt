@@ -1,6 +1,7 @@
 -- `==` of decode errors and of errors of `canonical` decides whether they are equal.
-use Rattle.std.proofs.Common.{◌≡◌, ◌↔◌, IsTrue, rules, arith}
+use Rattle.std.proofs.Common.{◌≡◌, ◌↔◌, IsTrue, T, eqb, subst, rules, arith}
 use Rattle.netlink_core.proofs.Equality.{false_decides}
+use Rattle.netlink_core.specs.Errors.{error_code}
 use Rattle.netlink_core.specs.declared.canonical_form.CanonError.{CanonError}
 use Rattle.netlink_core.specs.declared.canonical_form.CanonError.TheVariants as canon
 use Rattle.netlink_core.specs.declared.error.DecodeError.{DecodeError}
@@ -27,7 +28,8 @@ decode_error_equal error.NameWithoutEnd error.NameWithoutEnd = search rules
 decode_error_equal (error.EnvelopeCut a) (error.EnvelopeCut x) = search rules
 decode_error_equal (error.EnvelopeLengthUnder16 a) (error.EnvelopeLengthUnder16 x) = search rules
 decode_error_equal (error.EnvelopeLengthPast a b) (error.EnvelopeLengthPast x y) = search rules
-decode_error_equal e f = false_decides (λ p. cc)
+decode_error_equal e f =
+    false_decides (λ p. subst (λ (g : DecodeError). T (eqb (error_code e) (error_code g))) p tt)
 
 pub error_equal : (v w : CanonError) → IsTrue (of_canon.eq v w) ↔ (v ≡ w)
 error_equal (canon.Refused a) (canon.Refused b) =

@@ -1,11 +1,11 @@
 //! Netlink messages: a header and a payload.
 
-ghost use Rattle.std.specs.Prelude.{◌≡◌, ◌≢◌, ◌≤◌, ◌<◌, ◌↔◌, length, IfOk, IfErr};
+ghost use Rattle.std.specs.Prelude.{◌≡◌, ◌≢◌, ◌≤◌, ◌<◌, ◌↔◌, ◌-◌, length, drop, take, IfOk, IfErr};
 ghost use Rattle.std.specs.Prelude.{IsTrue, List, ℕ, vec_items, ⊤};
 ghost use Rattle.std.specs.Borrow.{Bor};
 ghost use Rattle.netlink_core.specs.Bytes.{HoldsAtStart};
 ghost use Rattle.netlink_core.specs.declared.error.DecodeError.TheVariants.{Memory};
-ghost use Rattle.netlink_core.specs.Header.{message_type_in};
+ghost use Rattle.netlink_core.specs.Header.{HasHeader, message_type_in};
 ghost use Rattle.netlink_core.specs.NetlinkMessage.{Payload, NetlinkMessageModel};
 ghost use Rattle.netlink_core.specs.NetlinkMessage.{leading_error_number};
 ghost use Rattle.netlink_core.specs.NetlinkMessage.{error_number_of, ParsesAsPayload};
@@ -353,10 +353,19 @@ impl<I: NetlinkDeserializable> NetlinkMessage<I> {
             × (netlink_codec I.codec).parses bytes.now tt m) }
     {
         let header = NetlinkHeader::from_prefix(bytes)?;
-        let payload = &bytes[NETLINK_HEADER_LEN..header.length as usize];
-        let payload = NetlinkPayload::read(alloc, &header, payload)?;
+        let payload = NetlinkPayload::read(alloc, &header, payload_of(&header, bytes))?;
         Ok(NetlinkMessage { header, payload })
     }
+}
+
+// Returns the payload of the message at the start of the bytes, which has this header: the bytes
+// after the header, up to the header's length.
+#[inline(always)]
+fn payload_of<'a>(header: &NetlinkHeader, bytes: &'a [u8]) -> &'a [u8]
+    requires { HasHeader bytes.now header.now }
+    ensures { result.now ≡ take (header.now.length - 16) (drop 16 bytes.entry.now) }
+{
+    &bytes[NETLINK_HEADER_LEN..header.length as usize]
 }
 
 impl<I: NetlinkSerializable> NetlinkMessage<I> {

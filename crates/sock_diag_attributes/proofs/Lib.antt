@@ -1,1 +1,2 @@
+pub mod AcceptedValues
 pub mod Reading

@@ -13,14 +13,17 @@ ghost use Rattle.sock_diag_attributes.specs.Flag.{flag_value};
 ghost use Rattle.sock_diag_attributes.specs.Numbers.{number_pair_value, numbers_value};
 
 use byteorder::{ByteOrder, LittleEndian};
-use netlink_core::{DecodeError, parse_u8, parse_u32};
+use netlink_core::DecodeError;
 use std::alloc::{AllocError, Global};
 
 /// Parses the number in exactly one byte. Returns `WrongLength` with the kind for any other length.
 pub(crate) fn exact_u8(kind: u16, value: &[u8]) -> Result<u8, DecodeError>
     ensures { result ≡ number_of_width (Some kind) 1 value.now }
 {
-    parse_u8(value).map_err(|error| error.with_kind(kind))
+    match value {
+        [byte] => Ok(*byte),
+        _ => Err(wrong_length(kind, value, 1)),
+    }
 }
 
 /// Parses the little-endian number in exactly four bytes. Returns `WrongLength` with the kind for
@@ -28,7 +31,10 @@ pub(crate) fn exact_u8(kind: u16, value: &[u8]) -> Result<u8, DecodeError>
 pub(crate) fn exact_u32(kind: u16, value: &[u8]) -> Result<u32, DecodeError>
     ensures { result ≡ number_of_width (Some kind) 4 value.now }
 {
-    parse_u32(value).map_err(|error| error.with_kind(kind))
+    if value.len() != 4 {
+        return Err(wrong_length(kind, value, 4));
+    }
+    Ok(LittleEndian::read_u32(value))
 }
 
 /// Parses the flag in exactly one byte, which is true if the byte is not zero. Returns
@@ -45,17 +51,24 @@ pub(crate) fn exact_u32_pair(kind: u16, value: &[u8]) -> Result<(u32, u32), Deco
     ensures { result ≡ (number_pair_value kind).parses tt value.now }
 {
     if value.len() != 8 {
-        return Err(DecodeError::WrongLength {
-            kind: Some(kind),
-            got: value.len(),
-            need: 8,
-        });
+        return Err(wrong_length(kind, value, 8));
     }
     let (first, second) = value.split_at(4);
     Ok((
         LittleEndian::read_u32(first),
         LittleEndian::read_u32(second),
     ))
+}
+
+// Returns the error for a value that does not have `need` bytes.
+fn wrong_length(kind: u16, value: &[u8], need: usize) -> DecodeError
+    ensures { result ≡ DecodeError.WrongLength (Some kind) (length value.now) need }
+{
+    DecodeError::WrongLength {
+        kind: Some(kind),
+        got: value.len(),
+        need,
+    }
 }
 
 /// Consecutive little-endian numbers of four bytes each, borrowed.

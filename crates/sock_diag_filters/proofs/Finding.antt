@@ -1,18 +1,27 @@
 -- The kernel's evaluation of a condition's operation is whether the socket meets the condition.
-use Rattle.std.proofs.Common.{◌≡◌, ℕ, ◌<◌, ◌^◌, List, [], ◌++◌, ap, arith}
-use Rattle.std.proofs.Common.{Option}
-use Rattle.std.specs.Prelude.{◌||◌, ◌==◌, not, slice_index, drop, unwrap_or}
+use Rattle.std.proofs.Common.{◌≡◌, ℕ, ◌<◌, ◌^◌, List, [], ◌++◌, refl, ap, arith}
+use Rattle.std.proofs.Common.{Option, Some, None}
+use Rattle.std.specs.Prelude.{◌||◌, ◌==◌, nat_le, not, slice_index, drop, unwrap_or}
 use Rattle.std.proofs.lemmas.Bool.{ne_eqb}
 use Rattle.byteorder.specs.Endian.{little_bytes, little_number}
 use Rattle.netlink_core.proofs.Numbers.{little_endian}
 use Rattle.netlink_core.proofs.Numbers.{number-reads_back}
 use Rattle.std.specs.declared.net.ip_addr.IpAddr.{IpAddr}
+use Rattle.std.specs.declared.net.ip_addr.IpAddr.TheVariants.{V4, V6}
+use Rattle.sock_diag_filters.specs.declared.condition.Comparison.TheVariants.{AtLeast, AtMost}
+use Rattle.sock_diag_filters.specs.declared.condition.Comparison.TheVariants.{Equal}
 use Rattle.sock_diag_filters.specs.declared.condition.Prefix.{Prefix}
 use Rattle.sock_diag_filters.specs.declared.condition.Host.{Host}
 use Rattle.sock_diag_filters.specs.declared.condition.Condition.{Condition}
+use Rattle.sock_diag_filters.specs.declared.condition.Condition.TheVariants.{SourcePort, Source}
+use Rattle.sock_diag_filters.specs.declared.condition.Condition.TheVariants.{DestinationPort}
+use Rattle.sock_diag_filters.specs.declared.condition.Condition.TheVariants.{Destination, Interface}
+use Rattle.sock_diag_filters.specs.declared.condition.Condition.TheVariants.{Mark, Cgroup}
+use Rattle.sock_diag_filters.specs.declared.condition.Condition.TheVariants.{AutoBound}
 use Rattle.sock_diag_filters.specs.declared.filter.Filter.{Filter}
 use Rattle.sock_diag_filters.specs.declared.filter.Filter.TheVariants as parts
 use Rattle.sock_diag_filters.specs.Conditions.{arguments, code_of}
+use Rattle.sock_diag_filters.specs.Prefixes.{octets_of}
 use Rattle.sock_diag_filters.specs.Filters.{meaning}
 use Rattle.sock_diag_filters.specs.Sockets.{AreInRange, IsConditionInRange, IsPort, Socket}
 use Rattle.sock_diag_filters.specs.Sockets.{kernel_matches_address, kernel_matches_host}
@@ -49,47 +58,61 @@ address_found : (a : IpAddr) (bits port family : ℕ) (octets : List ℕ)
     → kernel_matches_address family octets (slice_index (with_address a bits port) 0)
     (slice_index (with_address a bits port) 1) (drop 8 (with_address a bits port))
     ≡ address_has_prefix a bits family octets
-address_found a bits port family octets =
-    grind arith
+address_found (V4 ip) bits port family octets = refl
+address_found (V6 ip) bits port family octets = refl
 
 prefix_found : (o : Option Prefix) (port family : ℕ) (octets : List ℕ)
     → kernel_matches_address family octets (slice_index (host o port) 0)
     (slice_index (host o port) 1)
     (drop 8 (host o port)) ≡ address_has_optional_prefix o family octets
-prefix_found o port family octets =
-    grind (arith, address_found)
+prefix_found None port family octets = refl
+prefix_found (Some p) port family octets = address_found p.address p.bits port family octets
 
 port_at : (o : Option Prefix) (port : ℕ) → port < 2 ^ 32
     → little_number 4 (drop 4 (host o port)) ≡ port
-port_at o port h =
-    grind (arith, little_endian_round_trips 4 port)
+port_at None port h = little_endian_round_trips 4 port [] h
+port_at (Some p) port h = little_endian_round_trips 4 port (octets_of p.address) h
 
 host_found : (h : Host) (family port : ℕ) (octets : List ℕ) → IsPort h.port
     → kernel_matches_host family port octets (host h.prefix (unwrap_or h.port 0xffffffff))
     ≡ is_host h family port octets
 host_found h family port octets range =
-    grind (
-      arith,
-      host h.prefix,
-      port_at h.prefix,
-      optional_port_is_u32 h.port range,
+    let asked : ℕ = unwrap_or h.port 0xffffffff in
+    cc (
+      port_at h.prefix asked (optional_port_is_u32 h.port range),
       port_found h.port port range,
-      prefix_found h.prefix,
+      prefix_found h.prefix asked family octets,
     )
 
 -- ---- conditions and filters
 
 condition_found : (s : Socket) (c : Condition) → IsConditionInRange c
     → kernel_evaluates s (code_of c) (arguments c) ≡ meets s c
-condition_found s c range =
-    grind (
-      arith,
-      port_round_trips,
-      host_found,
-      u32_round_trips,
-      little_endian_round_trips 4,
-      u64_round_trips,
+condition_found s (SourcePort AtLeast port) range =
+    ap (λ (n : ℕ). nat_le n s.source_port) (port_round_trips port range)
+condition_found s (SourcePort AtMost port) range =
+    ap (λ (n : ℕ). nat_le s.source_port n) (port_round_trips port range)
+condition_found s (SourcePort Equal port) range =
+    ap (λ (n : ℕ). s.source_port == n) (port_round_trips port range)
+condition_found s (DestinationPort AtLeast port) range =
+    ap (λ (n : ℕ). nat_le n s.destination_port) (port_round_trips port range)
+condition_found s (DestinationPort AtMost port) range =
+    ap (λ (n : ℕ). nat_le s.destination_port n) (port_round_trips port range)
+condition_found s (DestinationPort Equal port) range =
+    ap (λ (n : ℕ). s.destination_port == n) (port_round_trips port range)
+condition_found s (Source h) range = host_found h s.family s.source_port s.source range
+condition_found s (Destination h) range =
+    host_found h s.family s.destination_port s.destination range
+condition_found s (Interface number) range =
+    ap (λ (n : ℕ). s.interface == n) (u32_round_trips number range)
+condition_found s (Mark mark mask) range =
+    cc (
+      little_endian_round_trips 4 mark (little_bytes 4 mask) range.0,
+      u32_round_trips mask range.1,
     )
+condition_found s (Cgroup number) range =
+    ap (λ (n : ℕ). s.cgroup == n) (u64_round_trips number range)
+condition_found s AutoBound range = refl
 
 pub evaluation_is_meaning : (s : Socket) (f : Filter) → AreInRange f
     → meaning (λ c. kernel_evaluates s (code_of c) (arguments c)) f ≡ meaning (meets s) f

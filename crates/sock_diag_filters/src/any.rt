@@ -6,6 +6,7 @@ ghost use Rattle.netlink_core.specs.Layout.{parse_record};
 ghost use Rattle.sock_diag_filters.specs.AnyRequest.{ParsesAsAnyRequest, IsRejectedAnyRequest};
 ghost use Rattle.sock_diag_filters.specs.AnyRequest.{any_request_content, family_of_message};
 ghost use Rattle.sock_diag_filters.specs.AnyRequest.{IsRejectedByRequestFamily};
+ghost use Rattle.sock_diag_filters.specs.AnyRequest.{family_by_byte, family_of_request_payload};
 
 use crate::view::{RequestView, is_request};
 use netlink_core::{DecodeError, NETLINK_HEADER_LEN, NetlinkHeader, Record, read_record};
@@ -108,21 +109,31 @@ fn read_under<'a>(
         (IsRejectedByRequestFamily (family_of_message message.entry.now header) message.entry.now
         header) }
 {
-    let message_type = header.message_type;
     let payload = &message[NETLINK_HEADER_LEN..header.length as usize];
+    match first_byte(header.message_type, payload)? {
+        AF_INET | AF_INET6 => RequestView::parse(message).map(AnyRequestView::Inet),
+        AF_UNIX => RecordRequestView::read(header, payload).map(AnyRequestView::Unix),
+        AF_NETLINK => RecordRequestView::read(header, payload).map(AnyRequestView::Netlink),
+        AF_PACKET => RecordRequestView::read(header, payload).map(AnyRequestView::Packet),
+        AF_VSOCK => RecordRequestView::read(header, payload).map(AnyRequestView::Vsock),
+        AF_XDP => RecordRequestView::read(header, payload).map(AnyRequestView::Xdp),
+        family => Err(DecodeError::UnknownFamily { family }),
+    }
+}
+
+// Returns the first byte of the payload of a request, which determines the family. Returns
+// `MessageTooShort` if the payload has fewer than 2 bytes, and then `UnknownMessageType` if
+// messages of the type are not requests.
+fn first_byte(message_type: u16, payload: &[u8]) -> Result<u8, DecodeError>
+    ensures family { IfOk result (λ first. family_of_request_payload payload.now message_type
+        ≡ family_by_byte first) }
+    ensures error { IfErr result (λ e. family_of_request_payload payload.now message_type ≡ Err e) }
+{
     if payload.len() < 2 {
         return Err(DecodeError::MessageTooShort { got: payload.len() });
     }
     if !is_request(message_type) {
         return Err(DecodeError::UnknownMessageType { message_type });
     }
-    match payload[0] {
-        AF_INET | AF_INET6 => Ok(AnyRequestView::Inet(RequestView::parse(message)?)),
-        AF_UNIX => Ok(AnyRequestView::Unix(RecordRequestView::read(header, payload)?)),
-        AF_NETLINK => Ok(AnyRequestView::Netlink(RecordRequestView::read(header, payload)?)),
-        AF_PACKET => Ok(AnyRequestView::Packet(RecordRequestView::read(header, payload)?)),
-        AF_VSOCK => Ok(AnyRequestView::Vsock(RecordRequestView::read(header, payload)?)),
-        AF_XDP => Ok(AnyRequestView::Xdp(RecordRequestView::read(header, payload)?)),
-        family => Err(DecodeError::UnknownFamily { family }),
-    }
+    Ok(payload[0])
 }

@@ -195,14 +195,13 @@ impl Host {
     {
         let (front, rest) = buffer.split_at_mut(4);
         let (port, address) = rest.split_at_mut(4);
-        let (family, bits) = match self.prefix {
-            None => (0, 0),
-            Some(prefix) => (family(prefix.address), prefix.bits),
-        };
-        front.copy_from_slice(&[family, bits, 0, 0]);
         LittleEndian::write_u32(port, self.port.map_or(u32::MAX, u32::from));
-        if let Some(prefix) = self.prefix {
-            write_address(prefix.address, address);
+        match self.prefix {
+            None => front.fill(0),
+            Some(prefix) => {
+                front.copy_from_slice(&[family(prefix.address), prefix.bits, 0, 0]);
+                write_address(prefix.address, address);
+            }
         }
     }
 

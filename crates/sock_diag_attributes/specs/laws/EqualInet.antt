@@ -1,6 +1,5 @@
 -- `==` of attributes is true if and only if their models are equal.
-use Rattle.std.proofs.Common.{arith}
-use Rattle.std.proofs.Common.{◌≡◌, ◌↔◌, ℕ, List, Bool, eqb, IsTrue, rules}
+use Rattle.std.proofs.Common.{◌≡◌, ◌↔◌, ℕ, List, Bool, eqb, IsTrue, refl, rules}
 use mathlib.Core.Bool.{beq}
 use mir.Syntax.{given}
 use denote.RattleType.{RattleType}
@@ -19,6 +18,7 @@ use Rattle.sock_diag_values.specs.contracts.inet.mem_info.MemInfoPartialEq.TheIm
 use Rattle.sock_diag_attributes.specs.InetAttributes.{inet_attribute_set}
 use Rattle.sock_diag_attributes.specs.InetModel.{inet_nla_value}
 use Rattle.sock_diag_attributes.specs.declared.inet.nlas.InetNla.{InetNla}
+use Rattle.sock_diag_attributes.specs.declared.inet.nlas.InetNla.TheVariants as nla
 use Rattle.sock_diag_attributes.specs.contracts.inet.nlas.InetNlaPartialEq.TheImpl.{ghosts}
 
 pub truth : (a b : Bool) → IsTrue (beq a b) ↔ (a ≡ b)
@@ -43,8 +43,19 @@ module _ (T O : RattleType) (t : Ghosts T.Denot) (o : Ghosts O.Denot) (text : T.
       → (ghosts T O t (given 0) o (given 0)).eq v w
       ≡ value_test inet_attribute_set inet_tests (inet_nla_value text other v)
       (inet_nla_value text other w)
-  inet_test_is_model_test v w =
-      grind arith
+  inet_test_is_model_test (nla.LegacyMemInfo a) (nla.LegacyMemInfo b) = refl
+  inet_test_is_model_test (nla.TcpInfo a) (nla.TcpInfo b) = refl
+  inet_test_is_model_test (nla.Congestion a) (nla.Congestion b) = texts a b
+  inet_test_is_model_test (nla.Tos a) (nla.Tos b) = refl
+  inet_test_is_model_test (nla.Tc a) (nla.Tc b) = refl
+  inet_test_is_model_test (nla.MemInfo a) (nla.MemInfo b) = refl
+  inet_test_is_model_test (nla.Shutdown a) (nla.Shutdown b) = refl
+  inet_test_is_model_test (nla.Protocol a) (nla.Protocol b) = refl
+  inet_test_is_model_test (nla.SkV6Only a) (nla.SkV6Only b) = refl
+  inet_test_is_model_test (nla.Mark a) (nla.Mark b) = refl
+  inet_test_is_model_test (nla.ClassId a) (nla.ClassId b) = refl
+  inet_test_is_model_test (nla.Other a) (nla.Other b) = others a b
+  inet_test_is_model_test v w = refl
 
   pub inet_nlas_equal : (v w : InetNla T.Denot O.Denot)
       → IsTrue ((ghosts T O t (given 0) o (given 0)).eq v w)
