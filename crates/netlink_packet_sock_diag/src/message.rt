@@ -165,6 +165,7 @@ impl<'a> SockDiagView<'a> {
     /// - `UnknownMessageType`, if the type is not `SOCK_DIAG_BY_FAMILY`;
     /// - `UnknownFamily`, if the first byte is not `AF_UNIX`, `AF_INET` or `AF_INET6`;
     /// - the error that the view of the family's replies returns.
+    #[inline(always)]
     pub fn parse(payload: &'a [u8], message_type: u16) -> Result<SockDiagView<'a>, DecodeError>
         // `message_codec.parses b t m`: the bytes `b` parse under the message type `t` as the
         // message `m`. `message_codec.rejects b t e`: they are rejected with the error `e`.

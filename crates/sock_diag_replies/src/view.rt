@@ -185,8 +185,7 @@ impl<'a, H: ReplyHeader> ReplyView<'a, H> {
     /// Checks all of the bytes, and returns a view of all of them. Returns the error of the header,
     /// which is `BufferTooSmall` if it is truncated, or else the first error of an attribute. The
     /// error is never `Memory`. Does not allocate.
-    // Out of line, to keep the loop over the attributes out of callers that build a list.
-    #[inline(never)]
+    #[inline(always)]
     pub fn parse(bytes: &'a [u8]) -> Result<ReplyView<'a, H>, DecodeError>
         // `response_codec reply`: the codec of the replies of this format. `view_model view`: the
         // header and the decoded attributes of the view. `view_bytes view`: all of its bytes.
