@@ -121,10 +121,11 @@ def test_sslist(program):
     wrong = b"sslist: %s %s; try sslist --help\n"
     unknown = b"sslist: unknown option %s; try sslist --help\n"
     no_family = b"sslist: -f without a family; try sslist --help\n"
-    no_text = b"sslist: argument is not valid UTF-8\n"
+    no_text = rb"sslist: argument %s is not valid UTF-8; rename the file, or write sslist <FILE\n"
     captioned = caption(CAPTURE) + table
     for arguments, status, printed, errors in [
-        ([], 1, b"", b"sslist: .*\n"), ([b"\xff"], 2, b"", no_text),
+        ([], 1, b"", b"sslist: .*\n"), ([b"\xff"], 2, b"", no_text % rb"\\xff"),
+        (["--help", CAPTURE, b"a\xffb"], 2, b"", no_text % rb"a\\xffb"),
         ([""], 1, b"", b"sslist: : .*\n"),
         ([CAPTURE], 0, table, note), ([CAPTURE, CAPTURE], 0, captioned * 2, note * 2),
         (["--", CAPTURE], 0, table, note), (["--", "-t"], 1, b"", b"sslist: -t: .*\n"),
@@ -132,12 +133,14 @@ def test_sslist(program):
         ([CAPTURE, "/nowhere"], 1, captioned, note + missing),
         (["/nowhere", CAPTURE], 1, captioned, missing + note),
         (["/\x1b[1m\\"], 1, b"", rb"sslist: /\\x1b\[1m\\x5c: .*\n"),
-        (["-\x1bt"], 2, b"", unknown % rb"-\\x1bt"), (["-tf"], 2, b"", no_family),
+        (["-\x1bt"], 2, b"", unknown % rb"-\\x1b in -\\x1bt"), (["-tf"], 2, b"", no_family),
         (["-f", "-x"], 2, b"", wrong % (b"unknown family", b"-x")),
-        (["-ft", "unix"], 2, b"", unknown % b"-ft"),
         (["-f", "all"], 2, b"", wrong % (b"unknown family", b"all")),
         (["--family=ip", "-h"], 2, b"", wrong % (b"unknown family in", b"--family=ip")),
         (["-q", CAPTURE], 2, b"", unknown % b"-q"),
+        (["-tlnp", "-q"], 2, b"", unknown % b"-p in -tlnp"),
+        (["-tqf", "x"], 2, b"", unknown % b"-q in -tqf"),
+        (["-\u00e9"], 2, b"", unknown % rb"-\\xc3 in -\\xc3\\xa9"),
         (["-t", "--no", "--help"], 2, b"", unknown % b"--no"),
         ([CAPTURE, "--version"], 0, b"sslist " + VERSION, b""),
         (["-V"], 0, b"sslist " + VERSION, b""),
@@ -150,7 +153,37 @@ def test_sslist(program):
     check(program, ["-", CAPTURE], capture, 0, caption("-") + table + captioned, note * 2)
     failed = b"sslist: writing to standard output failed\n"
     check_failed_writes(program, [], capture, b"", failed)
-    check_failed_writes(program, ["--help"], b"", b"", b"")
+    check_failed_writes(program, ["--help"], b"", b"", failed)
+    check_failed_writes(program, ["--version"], b"", b"", failed)
+
+
+def test_terminal(program):
+    """Checks that a terminal as standard input is reported, instead of waiting for a capture."""
+    outer, terminal = os.openpty()
+    line = rb"sslist: standard input is a terminal; try sockdump \| sslist, or sslist FILE\n"
+    check(program, ["-tln"], terminal, 1, b"", line)
+    os.close(terminal)
+    os.close(outer)
+
+
+def test_rejections(program):
+    """Compares the lines about misplaced letters, and about missing and unexpected values."""
+    misplaced = "-f has to be the last letter in %s, as in -f FAMILY"
+    for arguments, text in [
+        (["-ft", "unix"], misplaced % "-ft"), (["-finet"], misplaced % "-finet"),
+        (["-tff", "unix"], misplaced % "-tff"), (["-fq"], misplaced % "-fq"),
+        (["-th", "-q"], "-h has to be alone, not in -th"),
+        (["-Vt", "--help"], "-V has to be alone, not in -Vt"),
+        (["--sport", "22"], "--sport needs a value: write --sport=PORT"),
+        (["-t", "--dport"], "--dport needs a value: write --dport=PORT"),
+        (["--state", "listening"], "--state needs a value: write --state=STATE"),
+        (["--family", "inet"], "--family needs a value: write --family=FAMILY"),
+        *[([f"--{it}=1", "-h"], f"--{it} takes no value")
+            for it in "help version utf8 requests json vsock xdp".split()],
+        (["--utf8=\x1b="], "--utf8 takes no value"), (["--json="], "--json takes no value"),
+    ]:
+        line = f"sslist: {text}; try sslist --help\n".encode()
+        check(program, arguments, b"", 2, b"", re.escape(line))
 
 
 def test_early_check(program):
@@ -159,7 +192,10 @@ def test_early_check(program):
     script = CRATES.parent / "tools/arguments"
     for arguments in (
         ["-q"], ["--nope"], ["-tq", "--help"], ["--utf8=1"], ["/nowhere", "-q"], ["/nowhere"],
-        ["/", "/nowhere"], [""], [f"{CAPTURE}/x"], ["-tun", "/nowhere"],
+        ["/", "/nowhere"], [""], [f"{CAPTURE}/x"], ["-tun", "/nowhere"], ["-tlnp"], ["-\u00e9"],
+        ["-ft"], ["-finet", "x"], ["-tff"], ["-fq"], ["-hq"], ["-tV"], ["-t\n"], ["--=1"],
+        ["--sport", "22"], ["--state"], ["--family", "-q"], ["--help=1"], ["--json="],
+        [b"\xff"], ["-q", b"\xc3"], ["-h", b"a\xe2\x82 \\"], ["/\u00e9\u20ac"],
     ):
         status, _, errors = run(program, arguments, b"")
         assert status in (1, 2), (arguments, status)
@@ -254,10 +290,12 @@ def test_diagnostics(program):
     notes = [packet(errno[n], 0, kind) for n in (2, 22) for kind in (2, 3)]
     errors = b"(sslist: packet [1-4], message 1: note: .*\n){4}"
     check(program, [], file_header + b"".join(notes), 0, heading, errors)
+    check_truncations(program, file_header, heading)
+    no_capture = b"neither a pcap nor a pcapng capture: "
     for given, text in [
-        (b"\1\2\x0a\xff" + bytes(20), b"not a pcap capture: it begins with 01020aff"),
-        (b"\1\2\x0a\xff", b"not a pcap capture: it begins with 01020aff"),
-        (b"hi\n", b"not a pcap capture: it has fewer than 4 bytes"),
+        (b"\1\2\x0a\xff" + bytes(20), no_capture + b"its first four bytes are 0x01020aff"),
+        (b"hello\n", no_capture + b"its first four bytes are 0x68656c6c"),
+        (b"hi\n", no_capture + b"it has fewer than 4 bytes"),
         (b"\x1f\x8b\x08\0" + bytes(9), b"gzip is not supported; try gzip -dc CAPTURE"),
         (file_header[:4], b"the capture is truncated"),
         (file_header[:23], b"the capture is truncated"),
@@ -265,6 +303,24 @@ def test_diagnostics(program):
         (b"\x0a\x0d\x0d\x0a" + bytes(20), b"unknown byte order of the section at offset 0"),
     ]:
         check(program, [], given, 1, b"", re.escape(b"sslist: " + text + b"\n"))
+
+
+def check_truncations(program, file_header, heading):
+    """Checks that a packet that is truncated at any byte has one line, and lists its complete
+    messages."""
+    first, second = message([1, 1, 10, *bytes(13)]), message([1, 1, 10, *bytes(13)])
+    whole = packet([1, 1, 10, *bytes(13)], more=second)[16:]
+    listed = run(program, [], file_header + packet([1, 1, 10, *bytes(13)]))
+    for length in range(len(whole)):
+        lengths = length.to_bytes(4, "little") + len(whole).to_bytes(4, "little")
+        given = file_header + bytes(8) + lengths + whole[:length]
+        text = f"sslist: packet 1: truncated to {length} of {len(whole)} bytes\n".encode()
+        table = listed[1] if length >= 16 + len(first) else heading
+        check(program, [], given, 1, table, re.escape(text))
+    # A message that is wrong for another reason has its line.
+    given = file_header + bytes(8) + lengths + whole[:16] + b"\3" + whole[17:-1]
+    text = b"sslist: packet 1, message 1: message length 3 is under 16\n"
+    check(program, [], given, 1, heading, b"sslist: packet 1: truncated to .*\n" + text)
 
 
 def attribute(kind, value):
@@ -275,13 +331,23 @@ def attribute(kind, value):
 
 def check_explanations(program, file_header, heading, errno):
     """Checks the lines about errors with the attributes of an extended acknowledgement
-    (NLM_F_ACK_TLVS, 512), after a whole request or after its header (NLM_F_CAPPED, 256)."""
+    (NLM_F_ACK_TLVS, 512), after a whole request or after its header (NLM_F_CAPPED, 256). The
+    sockets that a whole request is for are named if their family is known."""
     text = attribute(1, b"No such attribute\x1b\0")
     offset = attribute(2, (36).to_bytes(4, "little"))
     request, shown = message(bytes(6)), ": No such attribute\\x1b"
     padding = bytes(-len(request) % 4)
     answered = "note: the kernel returned EINVAL"
+    raw = message([10, 255, 0, 0, 0xFE, *bytes(51)], 0x301)
+    raw_shown = " (request: raw family:inet6 states:0xfe)"
     for body, flags, kind, expected in [
+        (errno[22] + raw, 0, 2, answered + raw_shown),
+        (errno[22] + raw[:16], 256, 2, answered), (errno[22] + raw, 0, 3, answered),
+        (errno[22] + raw + text, 512, 2, answered + raw_shown + shown),
+        (errno[13] + message([1, *bytes(23)]), 0, 2,
+            "the kernel returned error 13 (request: unix states:0x0)"),
+        (errno[2] + message([40, *bytes(23)]), 0, 2,
+            "note: the kernel returned ENOENT (request: vsock)"),
         (errno[22] + request + padding + text + offset, 512, 2, f"{answered}{shown} (offset 36)"),
         (errno[22] + request[:16] + offset, 768, 2, f"{answered} (offset 36)"),
         (errno[22] + request[:16] + text, 768, 2, answered + shown),
@@ -447,7 +513,8 @@ def test_options(program):
         assert shown == [option], (shown, option)
     text = run(program, ["--requests"], capture)[1]
     assert re.sub(rb"(?m)^-- .*\n", b"", text) == table, "--requests"
-    assert b"\n-- 1970-01-01T00:00:00.000000000Z udp states:0xfe\n" in text, "--requests"
+    start = b"\n-- 1970-01-01T00:00:00.000000000Z "
+    assert start + b"udp family:inet states:0xfe\n" in text, "--requests"
     name = "/hörening".encode()
     named = capture.replace(b"/listening", name)
     printed = table.replace(b"/listening ", name + b"  ")
@@ -506,8 +573,10 @@ def check_ports(program, capture, heading, rows, errors):
         assert 0 < len(chosen) < len(rows), arguments
         check(program, ["-O", *arguments], capture, 0, heading + b"".join(chosen), errors)
     for word in ("--sport=", "--sport=65536", "--dport=ssh", "--dport=1-2", "--state=LISTEN"):
-        wrong = "unknown state in" if word.startswith("--state") else "invalid port in"
-        text = f"sslist: {wrong} {word}; try sslist --help\n".encode()
+        wrong = f"invalid port in {word}: a port is N, N- or -N"
+        if word.startswith("--state"):
+            wrong = f"unknown state in {word}"
+        text = f"sslist: {wrong}; try sslist --help\n".encode()
         check(program, [word, "-h"], capture, 2, b"", text)
 
 
@@ -704,6 +773,8 @@ if __name__ == "__main__":
     test_options(sslist)
     test_times(sslist)
     test_letters(sslist)
+    test_rejections(sslist)
+    test_terminal(sslist)
     test_diagnostics(sslist)
     test_pcapng(sslist)
     test_json(sslist)

@@ -58,10 +58,12 @@ capture_error_text (Read error) = read_error_text error
 capture_error_text Memory = codes "out of memory"
 capture_error_text Truncated = codes "the capture is truncated"
 capture_error_text Empty = codes "the input is empty"
-capture_error_text TooShort = codes "not a pcap capture: it has fewer than 4 bytes"
+capture_error_text TooShort =
+    codes "neither a pcap nor a pcapng capture: it has fewer than 4 bytes"
 capture_error_text Packed = codes "gzip is not supported; try gzip -dc CAPTURE"
 capture_error_text (NoCapture magic) =
-    codes "not a pcap capture: it begins with " ++ encode_lower (big_bytes 4 magic)
+    codes "neither a pcap nor a pcapng capture: its first four bytes are 0x"
+    ++ encode_lower (big_bytes 4 magic)
 capture_error_text (OtherVersion version) =
     codes "unsupported pcap version " ++ decimal version ++ codes ", expected 2"
 capture_error_text (OtherLinkType link_type) =

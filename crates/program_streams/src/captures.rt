@@ -101,13 +101,14 @@ impl CaptureError {
             CaptureError::Memory => ErrorText::Plain("out of memory"),
             CaptureError::Truncated => ErrorText::Plain("the capture is truncated"),
             CaptureError::Empty => ErrorText::Plain("the input is empty"),
-            CaptureError::TooShort => {
-                ErrorText::Plain("not a pcap capture: it has fewer than 4 bytes")
-            }
+            CaptureError::TooShort => ErrorText::Plain(
+                "neither a pcap nor a pcapng capture: it has fewer than 4 bytes",
+            ),
             CaptureError::Packed => ErrorText::Plain("gzip is not supported; try gzip -dc CAPTURE"),
-            CaptureError::NoCapture(magic) => {
-                ErrorText::Hex("not a pcap capture: it begins with ", *magic)
-            }
+            CaptureError::NoCapture(magic) => ErrorText::Hex(
+                "neither a pcap nor a pcapng capture: its first four bytes are 0x",
+                *magic,
+            ),
             CaptureError::OtherVersion(version) => {
                 ErrorText::Decimal(
                     "unsupported pcap version ",

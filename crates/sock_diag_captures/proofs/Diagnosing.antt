@@ -1,10 +1,9 @@
 -- Lemmas about the diagnostics of a datagram, message by message.
 use Rattle.std.proofs.Common.{◌≡◌, ◌≢◌, ℕ, ◌+◌, ◌≤◌, List, [], ◌∷◌, ◌++◌, length, refl, sym}
 use Rattle.std.proofs.Common.{ap, subst, ◌∙◌, append_assoc, arith, inr, ◌<◌}
-use Rattle.std.proofs.lemmas.Bool.{le-ltb, lt-ltb}
+use Rattle.std.proofs.lemmas.Bool.{le-leb, le-ltb, leb-true, lt-ltb}
 use Rattle.program_streams.specs.Cooked.{IsOfSockDiag}
-use Rattle.sock_diag_listing.specs.Reports.{short_line}
-use Rattle.std.specs.Prelude.{Option, None, Some}
+use Rattle.std.specs.Prelude.{◌↔◌, Bool, true, false, IsTrue, nat_le, Option, None, Some}
 use Rattle.std.proofs.lemmas.List.{append-nil, length-append}
 use Rattle.netlink_core.proofs.Datagrams.{shorter-rest}
 use Rattle.netlink_core.specs.Datagram.{SplitsIntoMessages, StartsWithMessage}
@@ -12,7 +11,7 @@ use Rattle.netlink_core.specs.Header.{IsMessageError}
 use Rattle.netlink_core.specs.declared.error.DecodeError.{DecodeError}
 use Rattle.sock_diag_captures.specs.Diagnostics.{DiagnosesContent, DiagnosesMessages, end_line}
 use Rattle.sock_diag_captures.specs.Diagnostics.{lines_about}
-use Rattle.sock_diag_captures.specs.Diagnostics.{lines_about_message}
+use Rattle.sock_diag_captures.specs.Diagnostics.{lines_about_message, short_line_if_whole}
 
 -- A list that is not empty has a positive length.
 pub has_bytes : (bytes : List ℕ) → bytes ≢ [] → 0 < length bytes
@@ -98,10 +97,10 @@ module _ (front : List ℕ) (packet : ℕ) where
       (append-nil so_far.passed) (so_far.walk [] end cut)
 
   -- If no bytes remain, all messages were diagnosed.
-  pub diagnosed_ends : (datagram rest before after : List ℕ) (count : ℕ)
+  pub diagnosed_ends : (whole : Bool) (datagram rest before after : List ℕ) (count : ℕ)
       → Diagnosed datagram rest before after count → rest ≡ []
-      → DiagnosesMessages front packet datagram before after
-  diagnosed_ends datagram rest before after count so_far none = record {
+      → DiagnosesMessages front packet whole datagram before after
+  diagnosed_ends whole datagram rest before after count so_far none = record {
     messages = so_far.passed;
     end = None;
     cut = all_of datagram rest before after count None so_far none;
@@ -109,34 +108,49 @@ module _ (front : List ℕ) (packet : ℕ) where
         (sym (append-nil (lines_about front packet 1 so_far.passed)));
   }
 
-  -- If bytes remain that are not a message, their line follows.
-  pub diagnosed_stops : (datagram rest before after after' : List ℕ) (count : ℕ) (e : DecodeError)
+  -- If bytes remain that are not a message, their line follows, if they have one.
+  pub diagnosed_stops : (whole : Bool) (datagram rest before after after' : List ℕ) (count : ℕ)
+      (e : DecodeError)
       → Diagnosed datagram rest before after count → rest ≢ [] → IsMessageError rest e
-      → after' ≡ after ++ end_line front packet (count + 1) (Some e)
-      → DiagnosesMessages front packet datagram before after'
-  diagnosed_stops datagram rest before after after' count e so_far some error added = record {
+      → after' ≡ after ++ end_line front packet (count + 1) whole (Some e)
+      → DiagnosesMessages front packet whole datagram before after'
+  diagnosed_stops whole datagram rest before after after' count e so_far some error added = record {
     messages = so_far.passed;
     end = Some e;
     cut = all_of datagram rest before after count (Some e) so_far (some, error);
     lines =
-        added ∙ ap (λ (t : List ℕ). t ++ end_line front packet (count + 1) (Some e)) so_far.lines
+        added
+        ∙ ap (λ (t : List ℕ). t ++ end_line front packet (count + 1) whole (Some e)) so_far.lines
         ∙ append_assoc before (lines_about front packet 1 so_far.passed)
-        (end_line front packet (count + 1) (Some e))
+        (end_line front packet (count + 1) whole (Some e))
         ∙ ap (λ (k : ℕ). before ++ (lines_about front packet 1 so_far.passed
-        ++ end_line front packet (k + 1) (Some e))) so_far.counted;
+        ++ end_line front packet (k + 1) whole (Some e))) so_far.counted;
   }
 
+by_comparison : (whole complete : Bool) (m n : ℕ) → nat_le m n ≡ complete
+    → (IsTrue whole ↔ (m ≤ n)) → whole ≡ complete
+by_comparison whole true m n compared same = same.1 (leb-true m n compared)
+by_comparison true false m n compared same =
+    absurd (let above = le-leb m n (same.0 refl) in cc)
+by_comparison false false m n compared same = refl
+
+-- A packet is complete (`is_complete`) if and only if it was not truncated.
+pub complete_if_not_truncated : (whole : Bool) (m n : ℕ) → (IsTrue whole ↔ (m ≤ n))
+    → whole ≡ nat_le m n
+complete_if_not_truncated whole m n same = by_comparison whole (nat_le m n) m n refl same
+
 -- A packet of another protocol has no diagnostics.
-pub diagnosed_other : (front : List ℕ) (packet : ℕ) (bytes before : List ℕ) → 16 ≤ length bytes
-    → ¬ IsOfSockDiag bytes → DiagnosesContent front packet bytes before before
-diagnosed_other front packet bytes before long wrong =
+pub diagnosed_other : (front : List ℕ) (packet : ℕ) (whole : Bool) (bytes before : List ℕ)
+    → 16 ≤ length bytes
+    → ¬ IsOfSockDiag bytes → DiagnosesContent front packet whole bytes before before
+diagnosed_other front packet whole bytes before long wrong =
     inr (λ is. wrong is.1, sym (rw (le-ltb (length bytes) 16 long) (append-nil before)))
 
--- A packet that is too short has one line.
-pub diagnosed_short : (front : List ℕ) (packet : ℕ) (bytes before after : List ℕ)
-    → length bytes < 16 → after ≡ before ++ short_line front packet
-    → DiagnosesContent front packet bytes before after
-diagnosed_short front packet bytes before after short added =
+-- A packet that is too short has one line, unless it was truncated.
+pub diagnosed_short : (front : List ℕ) (packet : ℕ) (whole : Bool) (bytes before after : List ℕ)
+    → length bytes < 16 → after ≡ before ++ short_line_if_whole front packet whole
+    → DiagnosesContent front packet whole bytes before after
+diagnosed_short front packet whole bytes before after short added =
     inr (
       λ is. absurd (omega (arith, is.0, short)),
       added ∙ sym (rw (lt-ltb (length bytes) 16 short) refl),

@@ -2,6 +2,7 @@
 -- numbered from 1 on.
 use Rattle.std.specs.Prelude.{◌≡◌, ℕ, ◌+◌, ◌==◌, if◌then◌else◌, nat_lt, List, [], ◌∷◌, ◌++◌, ◌⊎◌}
 use Rattle.std.specs.Prelude.{bit_and, codes, decimal, drop, length, Option, None, Some}
+use Rattle.std.specs.Prelude.{◌||◌, Bool, false, nat_le, not, true}
 use Rattle.byteorder.specs.Endian.{little_number}
 use Rattle.program_streams.specs.Capture.{CapturedPacket}
 use Rattle.sock_diag_listing.specs.Reports.{truncation_line, short_line}
@@ -152,50 +153,69 @@ lines_about front packet message [] = []
 lines_about front packet message (m ∷ later) =
     lines_about_message front packet message m ++ lines_about front packet (message + 1) later
 
--- `end_line front packet message error`: the line about the bytes after the last message, with
--- their decode error, or nothing if there are no such bytes. They count as the message with the
--- number `message`.
-abbrev pub end_line : List ℕ → ℕ → ℕ → Option DecodeError → List ℕ
-end_line front packet message None = []
-end_line front packet message (Some error) = message_line front packet message (Refused error)
+-- the decode error of a message whose last bytes are missing
+abbrev pub is_cut : DecodeError → Bool
+is_cut (EnvelopeCut got) = true
+is_cut (EnvelopeLengthPast len got) = true
+is_cut error = false
+
+-- `end_line front packet message whole error`: the line about the bytes after the last message,
+-- with their decode error, or nothing if there are no such bytes. They count as the message with
+-- the number `message`. `whole` is false if the packet was truncated. Then a message whose last
+-- bytes are missing has no line, since the line about the truncation names the cause.
+abbrev pub end_line : List ℕ → ℕ → ℕ → Bool → Option DecodeError → List ℕ
+end_line front packet message whole None = []
+end_line front packet message whole (Some error) =
+    if whole || not (is_cut error) then message_line front packet message (Refused error) else []
 
 -- ---- datagrams and packets
 
 -- The text `after` is the text `before`, the lines about the messages of the datagram in order, and
--- the line about the bytes after the last message, if there are any. `packet` is the number of the
--- packet that contains the datagram.
-pub record DiagnosesMessages (front : List ℕ) (packet : ℕ) (datagram before after : List ℕ)
-    : Type 0 where
+-- the line about the bytes after the last message, if there is one. `packet` is the number of the
+-- packet that contains the datagram, and `whole` is false if the packet was truncated.
+pub record DiagnosesMessages (front : List ℕ) (packet : ℕ) (whole : Bool)
+    (datagram before after : List ℕ) : Type 0 where
   -- the messages of the datagram, without the padding between them
   pub messages : List (List ℕ)
   -- the error of the bytes after the last message, if there are any
   pub end : Option DecodeError
   pub cut : SplitsIntoMessages datagram messages end
   pub lines : after ≡ before ++ (lines_about front packet 1 messages
-      ++ end_line front packet (length messages + 1) end)
+      ++ end_line front packet (length messages + 1) whole end)
 
--- `DiagnosesDatagram front packet datagram before after`: the text `after` is the text `before` and
--- the lines about the datagram. A request has none.
-abbrev pub DiagnosesDatagram : List ℕ → ℕ → List ℕ → List ℕ → List ℕ → Type 0
-DiagnosesDatagram front packet datagram before after =
-    ((IsRequestDatagram datagram → ⊥) × DiagnosesMessages front packet datagram before after)
+-- `DiagnosesDatagram front packet whole datagram before after`: the text `after` is the text
+-- `before` and the lines about the datagram. A request has none.
+abbrev pub DiagnosesDatagram : List ℕ → ℕ → Bool → List ℕ → List ℕ → List ℕ → Type 0
+DiagnosesDatagram front packet whole datagram before after =
+    ((IsRequestDatagram datagram → ⊥)
+    × DiagnosesMessages front packet whole datagram before after)
     ⊎ (IsRequestDatagram datagram × (after ≡ before))
 
--- `DiagnosesContent front packet bytes before after`: the text `after` is the text `before` and the
--- lines about the bytes of the packet with this number. These are the lines about its datagram if
--- it is one of sock_diag(7), a line if it has fewer than 16 bytes, or else none.
-abbrev pub DiagnosesContent : List ℕ → ℕ → List ℕ → List ℕ → List ℕ → Type 0
-DiagnosesContent front packet bytes before after =
-    (IsSockDiag bytes × DiagnosesDatagram front packet (drop 16 bytes) before after)
+-- the line about a packet with fewer than 16 bytes, if it was not truncated
+abbrev pub short_line_if_whole : List ℕ → ℕ → Bool → List ℕ
+short_line_if_whole front packet whole = if whole then short_line front packet else []
+
+-- `DiagnosesContent front packet whole bytes before after`: the text `after` is the text `before`
+-- and the lines about the bytes of the packet with this number. These are the lines about its
+-- datagram if it is one of sock_diag(7), a line if it has fewer than 16 bytes and was not
+-- truncated, or else none. `whole` is false if the packet was truncated.
+abbrev pub DiagnosesContent : List ℕ → ℕ → Bool → List ℕ → List ℕ → List ℕ → Type 0
+DiagnosesContent front packet whole bytes before after =
+    (IsSockDiag bytes × DiagnosesDatagram front packet whole (drop 16 bytes) before after)
     ⊎ ((¬ IsSockDiag bytes)
-    × (after ≡ before ++ (if nat_lt (length bytes) 16 then short_line front packet else [])))
+    × (after ≡ before
+    ++ (if nat_lt (length bytes) 16 then short_line_if_whole front packet whole else [])))
+
+-- the packet has at least as many bytes as its original length: it was not truncated
+abbrev pub is_complete : CapturedPacket → Bool
+is_complete packet = nat_le packet.header.whole_length (length packet.bytes)
 
 -- `DiagnosesPacket front number packet before after`: the text `after` is the text `before` and the
 -- lines about the packet, whose number is `number`: first a line if it was truncated, then those
 -- about its bytes.
 abbrev pub DiagnosesPacket : List ℕ → ℕ → CapturedPacket → List ℕ → List ℕ → Type 0
 DiagnosesPacket front number packet before after =
-    DiagnosesContent front number packet.bytes
+    DiagnosesContent front number (is_complete packet) packet.bytes
     (before ++ truncation_line front number (length packet.bytes) packet.header.whole_length) after
 
 -- `AreDiagnosed front number packets lines`: `lines` are the lines about consecutive packets, of

@@ -1,25 +1,42 @@
--- What the kernel explains about an error: the attributes of an extended acknowledgement
--- (netlink(7)) that follow an NLMSG_ERROR or NLMSG_DONE. Texts are lists of ASCII codes: 32 is a
--- space, 41 a closing parenthesis.
+-- What the kernel explains about an error: the request in an NLMSG_ERROR, and the attributes of an
+-- extended acknowledgement (netlink(7)) that follow an NLMSG_ERROR or NLMSG_DONE. Texts are lists
+-- of ASCII codes: 32 is a space, 41 a closing parenthesis.
 use Rattle.std.specs.Prelude.{ℕ, ◌+◌, ◌==◌, ◌&&◌, nat_le, if◌then◌else◌, List, [], ◌∷◌, ◌++◌, codes}
-use Rattle.std.specs.Prelude.{decimal, drop, flat_map, length, Option, None, Some}
+use Rattle.std.specs.Prelude.{Bool, decimal, drop, flat_map, length, Option, None, Some}
 use Rattle.byteorder.specs.Endian.{little_number}
 use Rattle.netlink_core.specs.Parse.{without_terminating_nul}
 use Rattle.netlink_core.specs.declared.message.TheConstants.{NLMSG_DONE, NLMSG_ERROR}
 use Rattle.sock_diag_extras.specs.Acknowledgement.{ack_attribute_bytes_from}
-use Rattle.sock_diag_extras.specs.Acknowledgement.{acked_request_length, error_attribute_bytes}
+use Rattle.sock_diag_extras.specs.Acknowledgement.{acked_request_bytes, acked_request_length}
+use Rattle.sock_diag_extras.specs.Acknowledgement.{error_attribute_bytes}
 use Rattle.sock_diag_extras.specs.declared.constants.TheConstants.{NLMSGERR_ATTR_MSG}
 use Rattle.sock_diag_extras.specs.declared.constants.TheConstants.{NLMSGERR_ATTR_OFFS}
 use Rattle.sock_diag_listing.specs.Escapes.{escaped_byte}
+use Rattle.sock_diag_captures.specs.RequestLine.{request_note}
 use Rattle.sock_diag_captures.specs.UlpInfo.{nested_number, nested_value}
 
+-- `has_acked_request flags payload`: the payload of an NLMSG_ERROR contains the request that it
+-- answers, of at least 16 bytes
+abbrev pub has_acked_request : ℕ → List ℕ → Bool
+has_acked_request flags payload =
+    let sent = acked_request_length flags payload in
+    nat_le 20 (length payload) && (nat_le 16 sent && nat_le (4 + sent) (length payload))
+
 -- `error_attributes flags payload`: the attributes in the payload of an NLMSG_ERROR. None if the
--- payload does not contain the request that it answers, of at least 16 bytes.
+-- payload does not contain the request.
 abbrev pub error_attributes : ℕ → List ℕ → List ℕ
 error_attributes flags payload =
-    let sent = acked_request_length flags payload in
-    if nat_le 20 (length payload) && (nat_le 16 sent && nat_le (4 + sent) (length payload))
-    then error_attribute_bytes flags payload else []
+    if has_acked_request flags payload then error_attribute_bytes flags payload else []
+
+-- `error_request flags payload`: the request in the payload of an NLMSG_ERROR, or nothing
+abbrev pub error_request : ℕ → List ℕ → List ℕ
+error_request flags payload =
+    if has_acked_request flags payload then acked_request_bytes flags payload else []
+
+-- `answered_request t flags payload`: the request in the payload of a message with the type `t`;
+-- nothing if it is not an NLMSG_ERROR
+abbrev pub answered_request : ℕ → ℕ → List ℕ → List ℕ
+answered_request t flags payload = if t == NLMSG_ERROR then error_request flags payload else []
 
 -- `done_attributes flags payload`: the attributes in the payload of an NLMSG_DONE, after the four
 -- bytes of the error number
@@ -57,8 +74,10 @@ explanation_in bytes =
     ++ offset_text (nested_number (NLMSGERR_ATTR_OFFS, 4) bytes)
 
 -- `explanation m`: what the message `m` explains, by its type at 4, its flags at 6, and its payload
--- at 16
+-- at 16: which request it answers, and what its attributes explain
 abbrev pub explanation : List ℕ → List ℕ
 explanation m =
-    explanation_in (attributes_by_type (little_number 2 (drop 4 m)) (little_number 2 (drop 6 m))
+    request_note (answered_request (little_number 2 (drop 4 m)) (little_number 2 (drop 6 m))
+    (drop 16 m))
+    ++ explanation_in (attributes_by_type (little_number 2 (drop 4 m)) (little_number 2 (drop 6 m))
     (drop 16 m))

@@ -12,7 +12,7 @@ use Rattle.sock_diag_listing.specs.declared.options.Family.TheVariants.{Xdp}
 use Rattle.sock_diag_listing.specs.declared.options.Options.{Options}
 use Rattle.sock_diag_records.specs.declared.constants.TheConstants.{AF_UNIX, SOCK_DIAG_BY_FAMILY}
 use Rattle.sock_diag_captures.specs.Requests.{inet_request_in_datagram}
-use Rattle.sock_diag_captures.specs.Table.{inet_kind}
+use Rattle.sock_diag_captures.specs.Table.{family_name, inet_kind}
 use Rattle.sock_diag_captures.specs.Others.{family_numbered}
 use Rattle.sock_diag_captures.specs.declared.requests.Query.{Query}
 
@@ -43,14 +43,32 @@ requested_family_text (Some Vsock) = codes "vsock"
 requested_family_text (Some Xdp) = codes "xdp"
 requested_family_text None = codes "other"
 
--- `request_text asked states family`: the text about the requested sockets. It has the protocol and
--- the requested states of IPv4 or IPv6 sockets (`asked`), or else `unix` and the requested states,
--- or else the name of the family. Example: `tcp states:0xfff`.
+-- the text about requested IPv4 or IPv6 sockets: the protocol, the family and a bit for each
+-- requested state. Example: `tcp family:inet states:0xfff`.
+abbrev pub inet_request_text : Query → List ℕ
+inet_request_text a =
+    inet_kind (Some a.protocol) a.family ++ codes " family:" ++ family_name a.family
+    ++ hex_detail (codes "states") a.states
+
+-- `request_text asked states family`: the text about the requested sockets: IPv4 or IPv6 sockets
+-- (`asked`), or else `unix` and the requested states, or else the name of the family
 abbrev pub request_text : Option Query → Option ℕ → Option Family → List ℕ
-request_text (Some a) states family =
-    inet_kind (Some a.protocol) a.family ++ hex_detail (codes "states") a.states
+request_text (Some a) states family = inet_request_text a
 request_text None (Some states) family = codes "unix" ++ hex_detail (codes "states") states
 request_text None None family = requested_family_text family
+
+-- ` (request: `, the text about the requested sockets, and `)`; nothing if none of the three
+-- arguments, which are those of `request_text`, is known
+abbrev pub known_request_text : Option Query → Option ℕ → Option Family → List ℕ
+known_request_text None None None = []
+known_request_text asked states family =
+    codes " (request: " ++ request_text asked states family ++ codes ")"
+
+-- the same about the request in a datagram; nothing if there is none for sockets of a known family
+abbrev pub request_note : List ℕ → List ℕ
+request_note datagram =
+    known_request_text (inet_request_in_datagram datagram) (requested_unix_states datagram)
+    (requested_family datagram)
 
 -- `request_line h datagram`: the line of a request. It has `-- `, the time of its capture, which is
 -- in the packet header `h`, a space (32), the text about the requested sockets and a line feed

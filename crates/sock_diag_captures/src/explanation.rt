@@ -1,14 +1,16 @@
-//! What the kernel explains about an error, by an extended acknowledgement (netlink(7)). A function
-//! of this module that appends allocates only to grow the text. If it fails, an allocation failed,
-//! and the content of the text is not specified.
+//! What the kernel explains about an error: the request that it answers, and an extended
+//! acknowledgement (netlink(7)). A function of this module that appends allocates only to grow the
+//! text. If it fails, an allocation failed, and the content of the text is not specified.
 
 ghost use Rattle.std.specs.Prelude.{◌≡◌, ◌≤◌, ◌++◌, OnOk, flat_map, length, option_map};
 ghost use Rattle.netlink_core.specs.Parse.{without_terminating_nul};
-ghost use Rattle.sock_diag_captures.specs.Explanation.{attributes_by_type, done_attributes};
-ghost use Rattle.sock_diag_captures.specs.Explanation.{error_attributes, explained_byte};
+ghost use Rattle.sock_diag_captures.specs.Explanation.{answered_request, attributes_by_type};
+ghost use Rattle.sock_diag_captures.specs.Explanation.{done_attributes, error_attributes};
+ghost use Rattle.sock_diag_captures.specs.Explanation.{error_request, explained_byte};
 ghost use Rattle.sock_diag_captures.specs.Explanation.{explanation, explanation_in};
 ghost use Rattle.sock_diag_captures.specs.Explanation.{explanation_text, offset_text};
 
+use crate::request_line::push_request_note;
 use crate::ulp_info::{find_number, find_value};
 use byteorder::{ByteOrder, LittleEndian};
 use netlink_core::{NETLINK_HEADER_LEN, NLMSG_DONE, NLMSG_ERROR};
@@ -17,18 +19,38 @@ use sock_diag_extras::constants::{NLMSGERR_ATTR_MSG, NLMSGERR_ATTR_OFFS};
 use sock_diag_listing::cells::{push_escaped_byte, push_number};
 use std::alloc::AllocError;
 
-/// Appends what a message explains: the kernel's text, and the offset of the invalid attribute.
-/// Appends nothing if it has neither.
+/// Appends what a message explains: the request that it answers, the kernel's text, and the offset
+/// of the invalid attribute. Appends nothing if it has none of them.
 pub(crate) fn push_explanation(text: &mut Vec<u8>, message: &[u8]) -> Result<(), AllocError>
     requires { 16 ≤ length message.now }
     ensures { OnOk result (text.new.items ≡ text.old.items ++ explanation message.now) }
 {
     let message_type = LittleEndian::read_u16(&message[4..]);
     let flags = LittleEndian::read_u16(&message[6..]);
-    push_explanation_in(
-        text,
-        attributes_of(message_type, flags, &message[NETLINK_HEADER_LEN..]),
-    )
+    let payload = &message[NETLINK_HEADER_LEN..];
+    push_request_note(text, request_of(message_type, flags, payload))?;
+    push_explanation_in(text, attributes_of(message_type, flags, payload))
+}
+
+/// Returns the bytes of the request in the payload of a message, by the type and the flags of its
+/// header. There are none if it is not an `NLMSG_ERROR`.
+fn request_of(message_type: u16, flags: u16, payload: &[u8]) -> &[u8]
+    ensures { result.now ≡ answered_request message_type flags payload.entry.now }
+{
+    match message_type {
+        NLMSG_ERROR => request_of_error(flags, payload),
+        _ => &[],
+    }
+}
+
+/// Returns the bytes of the request in the payload of an `NLMSG_ERROR`.
+fn request_of_error(flags: u16, payload: &[u8]) -> &[u8]
+    ensures { result.now ≡ error_request flags payload.entry.now }
+{
+    match AckView::of_error(flags, payload) {
+        Some(ack) => ack.request(),
+        None => &[],
+    }
 }
 
 /// Returns the attributes of an extended acknowledgement, by the type and the flags of the header.

@@ -40,7 +40,7 @@ pub(crate) fn name_of_inet_kind(protocol: Option<u32>, family: u8) -> &'static s
 }
 
 /// Returns the name of a family: `inet6` for `AF_INET6`, or else `inet`.
-fn name_of_inet_family(family: u8) -> &'static str
+pub(crate) fn name_of_inet_family(family: u8) -> &'static str
     ensures { result.now ≡ family_name family }
 {
     if family == AF_INET6 { "inet6" } else { "inet" }

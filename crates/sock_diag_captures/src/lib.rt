@@ -82,9 +82,14 @@ Select sockets (several options of a line add up):
 
 Filter sockets (a socket is listed if it meets all of these):
       --state=STATE      in this state; several options add up
-      --sport=PORT       with this local port; PORT- is at least PORT, -PORT at
-                         most PORT
+      --sport=PORT       with this local port
       --dport=PORT       with this remote port
+  STATE is established, syn-sent, syn-recv, fin-wait-1, fin-wait-2, time-wait,
+  closed (or unconnected), close-wait, last-ack, listening or closing; or a
+  group: all, connected (all but closed and listening), synchronized (connected
+  but not syn-sent), bucket (syn-recv and time-wait), big (all but bucket).
+  PORT is a number, not a name: N is port N, N- is N or more, -N is N or less.
+  Filters as in ss(8), such as state listening, would be names of files.
 
 Select details (all by default; several options add up):
   -o                     the timer
@@ -104,8 +109,12 @@ Format:
   -h, --help             print this text and exit
   -V, --version          print the version and exit
 
-Exit status: 0 if everything was listed, 1 if not (details on standard error,
-except for a closed output pipe), 2 for usage errors.";
+Exit status:
+  0: each capture was read to its end, and standard error has nothing but notes,
+     which say that the kernel has no sockets of a kind or cannot list them.
+     Sockets that the options leave out do not change the status.
+  1: anything else, which standard error names, except for a closed output pipe.
+  2: an argument is wrong, and nothing was listed.";
 
 /// Lists a capture by [`run`], whose table begins with `heading`, and writes a line on `errors` if
 /// the run fails. The line begins with `front` and names the failure. A closed output pipe has no

@@ -6,9 +6,9 @@ ghost use Rattle.program_streams.specs.Capture.{captured_packet};
 ghost use Rattle.sock_diag_captures.specs.Diagnostics.{DiagnosesContent, DiagnosesDatagram};
 ghost use Rattle.sock_diag_captures.specs.Diagnostics.{DiagnosesMessages, DiagnosesPacket};
 ghost use Rattle.sock_diag_captures.specs.Diagnostics.{interrupted_diagnostic, diagnostic_line};
-ghost use Rattle.sock_diag_captures.specs.Diagnostics.{diagnostic_text, explained_line};
-ghost use Rattle.sock_diag_captures.specs.Diagnostics.{lines_about_message};
-ghost use Rattle.sock_diag_captures.specs.Diagnostics.{message_line};
+ghost use Rattle.sock_diag_captures.specs.Diagnostics.{diagnostic_text, explained_line, end_line};
+ghost use Rattle.sock_diag_captures.specs.Diagnostics.{is_cut, lines_about_message};
+ghost use Rattle.sock_diag_captures.specs.Diagnostics.{message_line, short_line_if_whole};
 ghost use Rattle.sock_diag_captures.specs.Explanation.{explanation};
 ghost use Rattle.sock_diag_captures.specs.Listing.{IsCleanMessage, IsRequestDatagram};
 ghost use Rattle.sock_diag_captures.specs.Listing.{ListsMessages, ListsDatagram, ListsPacket};
@@ -131,18 +131,19 @@ pub fn list_packet(
     ensures front { written.new.front ≡ written.old.front }
 {
     let is_whole = push_truncation(written, number, packet, header.whole_length)?;
-    let is_listed = list_content(written, requests, options, number, packet, header)?;
+    let is_listed = list_content(written, requests, options, number, is_whole, packet, header)?;
     Ok(is_listed & is_whole)
 }
 
-/// Appends the lines and the diagnostics of the captured bytes of a packet. Does not check whether
-/// the packet was truncated.
+/// Appends the lines and the diagnostics of the captured bytes of a packet. `is_whole` is false if
+/// the packet was truncated, which is reported already.
 #[tactic(auto, using(crate::proofs::RequestsAfterPacket::requests_rules))]
 fn list_content(
     written: &mut PacketOutput<'_>,
     requests: &mut Requests,
     options: Options,
     number: u64,
+    is_whole: bool,
     packet: &[u8],
     header: &PacketHeader,
 ) -> Result<bool, AllocError>
@@ -150,19 +151,38 @@ fn list_content(
         (captured_packet packet.now header.now) written.old.lines.items written.new.lines.items) }
     ensures asked { OnOk result (requests.new.asked.items
         ≡ requests_after_packet requests.old.asked.items packet.now) }
-    ensures diagnosed { OnOk result (DiagnosesContent written.old.front.now number packet.now
-        written.old.diagnostics.items written.new.diagnostics.items) }
+    ensures diagnosed { OnOk result (DiagnosesContent written.old.front.now number is_whole
+        packet.now written.old.diagnostics.items written.new.diagnostics.items) }
     ensures front { written.new.front ≡ written.old.front }
 {
     match Packet::parse(packet) {
-        Packet::SockDiag(datagram) => {
-            list_sock_diag(written, requests, options, number, datagram, header)
-        }
+        Packet::SockDiag(datagram) => list_sock_diag(
+            written, requests, options, number, is_whole, datagram, header,
+        ),
         Packet::Other => Ok(true),
         Packet::Short => {
-            push_short(written, number)?;
+            push_short_if_whole(written, number, is_whole)?;
             Ok(false)
         }
+    }
+}
+
+/// Appends the diagnostic of a packet that is shorter than the cooked header, unless the packet was
+/// truncated.
+fn push_short_if_whole(
+    written: &mut PacketOutput<'_>,
+    number: u64,
+    is_whole: bool,
+) -> Result<(), AllocError>
+    ensures lines { OnOk result (written.new.lines.items ≡ written.old.lines.items) }
+    ensures diagnostics { OnOk result (written.new.diagnostics.items ≡ written.old.diagnostics.items
+        ++ short_line_if_whole written.old.front.now number is_whole) }
+    ensures front { written.new.front ≡ written.old.front }
+{
+    if is_whole {
+        push_short(written, number)
+    } else {
+        Ok(())
     }
 }
 
@@ -172,6 +192,7 @@ fn list_sock_diag(
     requests: &mut Requests,
     options: Options,
     number: u64,
+    is_whole: bool,
     datagram: &[u8],
     header: &PacketHeader,
 ) -> Result<bool, AllocError>
@@ -179,8 +200,8 @@ fn list_sock_diag(
         datagram.now written.old.lines.items written.new.lines.items) }
     ensures asked { OnOk result (requests.new.asked.items
         ≡ with_request_in_datagram requests.old.asked.items datagram.now) }
-    ensures diagnosed { OnOk result (DiagnosesDatagram written.old.front.now number datagram.now
-        written.old.diagnostics.items written.new.diagnostics.items) }
+    ensures diagnosed { OnOk result (DiagnosesDatagram written.old.front.now number is_whole
+        datagram.now written.old.diagnostics.items written.new.diagnostics.items) }
     ensures front { written.new.front ≡ written.old.front }
 {
     requests.add(datagram)?;
@@ -188,7 +209,7 @@ fn list_sock_diag(
         push_shown_request(&mut written.lines, options, header, datagram)?;
         return Ok(true);
     }
-    list_datagram(written, requests, options, number, datagram)
+    list_datagram(written, requests, options, number, is_whole, datagram)
 }
 
 /// Returns whether a datagram begins with a request, which is sent by a program to the kernel.
@@ -202,18 +223,20 @@ fn is_request(datagram: &[u8]) -> bool
 }
 
 /// Appends the lines and the diagnostics of the messages of a datagram. Stops at bytes that are not
-/// a message. Returns whether the datagram was listed without errors.
+/// a message. Returns whether the datagram was listed without errors. `is_whole` is false if its
+/// packet was truncated.
 fn list_datagram(
     written: &mut PacketOutput<'_>,
     requests: &Requests,
     options: Options,
     number: u64,
+    is_whole: bool,
     datagram: &[u8],
 ) -> Result<bool, AllocError>
     ensures lists { IfOk result (ListsMessages options requests.now.asked.items datagram.now
         written.old.lines.items written.new.lines.items) }
-    ensures diagnosed { OnOk result (DiagnosesMessages written.old.front.now number datagram.now
-        written.old.diagnostics.items written.new.diagnostics.items) }
+    ensures diagnosed { OnOk result (DiagnosesMessages written.old.front.now number is_whole
+        datagram.now written.old.diagnostics.items written.new.diagnostics.items) }
     ensures front { written.new.front ≡ written.old.front }
 {
     let mut is_clean = true;
@@ -230,12 +253,42 @@ fn list_datagram(
                 is_clean = is_clean && is_plain;
             }
             Err(error) => {
-                push_diagnostic(written, position, &Diagnostic::Refused(error))?;
+                push_end(written, position, is_whole, error)?;
                 return Ok(false);
             }
         }
     }
     Ok(is_clean)
+}
+
+/// Appends the diagnostic of the bytes after the last message of a datagram, which have this decode
+/// error. In a truncated packet a message whose last bytes are missing has none.
+fn push_end(
+    written: &mut PacketOutput<'_>,
+    position: Position,
+    is_whole: bool,
+    error: DecodeError,
+) -> Result<(), AllocError>
+    ensures lines { OnOk result (written.new.lines.items ≡ written.old.lines.items) }
+    ensures diagnostics { OnOk result (written.new.diagnostics.items ≡ written.old.diagnostics.items
+        ++ end_line written.old.front.now position.packet position.message is_whole (Some error)) }
+    ensures front { written.new.front ≡ written.old.front }
+{
+    if is_whole || !is_cut(&error) {
+        push_diagnostic(written, position, &Diagnostic::Refused(error))
+    } else {
+        Ok(())
+    }
+}
+
+/// Returns whether an error is that of a message whose last bytes are missing.
+fn is_cut(error: &DecodeError) -> bool
+    ensures { result ≡ is_cut error.now }
+{
+    matches!(
+        error,
+        DecodeError::EnvelopeCut { .. } | DecodeError::EnvelopeLengthPast { .. }
+    )
 }
 
 /// Returns the number of the next message of a datagram. It is at most the length of the datagram,

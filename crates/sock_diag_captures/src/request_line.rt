@@ -1,12 +1,14 @@
 //! Lines of requests. They separate the dumps of a capture.
 
 ghost use Rattle.std.specs.Prelude.{◌≡◌, ◌++◌, OnOk};
-ghost use Rattle.sock_diag_captures.specs.RequestLine.{requested_family, request_text};
-ghost use Rattle.sock_diag_captures.specs.RequestLine.{requested_family_text, request_line};
+ghost use Rattle.sock_diag_captures.specs.RequestLine.{inet_request_text, requested_family};
+ghost use Rattle.sock_diag_captures.specs.RequestLine.{known_request_text, request_line};
+ghost use Rattle.sock_diag_captures.specs.RequestLine.{request_note, request_text};
 ghost use Rattle.sock_diag_captures.specs.RequestLine.{request_line_if_selected};
+ghost use Rattle.sock_diag_captures.specs.RequestLine.{requested_family_text};
 ghost use Rattle.sock_diag_captures.specs.RequestLine.{requested_unix_states};
 
-use crate::kinds::name_of_inet_kind;
+use crate::kinds::{name_of_inet_family, name_of_inet_kind};
 use crate::others::family_numbered;
 use crate::requests::{Query, find_request};
 use byteorder::{ByteOrder, LittleEndian};
@@ -62,8 +64,41 @@ fn push_request(
     Ok(text.push(b'\n')?)
 }
 
-/// Appends the protocol of the requested sockets and a bit for each requested state, or else the
-/// name of their family.
+/// Appends, in parentheses, the text about the request in a datagram. Appends nothing if there is
+/// none for sockets of a known family.
+pub(crate) fn push_request_note(text: &mut Vec<u8>, datagram: &[u8]) -> Result<(), AllocError>
+    ensures { OnOk result (text.new.items ≡ text.old.items ++ request_note datagram.now) }
+{
+    push_known_request(
+        text,
+        find_request(datagram),
+        find_unix_states(datagram),
+        find_family(datagram),
+    )
+}
+
+/// Appends, in parentheses, the text about the requested sockets. Appends nothing if they are not
+/// known.
+fn push_known_request(
+    text: &mut Vec<u8>,
+    inet: Option<Query>,
+    unix_states: Option<u32>,
+    family: Option<Family>,
+) -> Result<(), AllocError>
+    ensures { OnOk result (text.new.items ≡ text.old.items
+        ++ known_request_text inet unix_states family) }
+{
+    if inet.is_none() && unix_states.is_none() && family.is_none() {
+        return Ok(());
+    }
+    text.extend_from_slice(b" (request: ")?;
+    push_asked(text, inet, unix_states, family)?;
+    text.extend_from_slice(b")")
+}
+
+/// Appends the text about the requested sockets: of IPv4 and IPv6 sockets the protocol, the family
+/// and a bit for each requested state, of UNIX sockets the same bits, or else the name of the
+/// family.
 fn push_asked(
     text: &mut Vec<u8>,
     inet: Option<Query>,
@@ -73,16 +108,25 @@ fn push_asked(
     ensures { OnOk result (text.new.items ≡ text.old.items
         ++ request_text inet unix_states family) }
 {
-    let (name, states) = match (inet, unix_states) {
-        (Some(asked), _) => (
-            name_of_inet_kind(Some(asked.protocol), asked.family).as_bytes(),
-            asked.states,
-        ),
-        (None, Some(states)) => (&b"unix"[..], states),
-        (None, None) => return text.extend_from_slice(name_of_family(family)),
-    };
-    text.extend_from_slice(name)?;
-    push_hex_detail(text, b"states", states.into())
+    match (inet, unix_states) {
+        (Some(asked), _) => push_inet_request(text, asked),
+        (None, Some(states)) => {
+            text.extend_from_slice(b"unix")?;
+            push_hex_detail(text, b"states", states.into())
+        }
+        (None, None) => text.extend_from_slice(name_of_family(family)),
+    }
+}
+
+/// Appends the text about requested IPv4 or IPv6 sockets.
+fn push_inet_request(text: &mut Vec<u8>, asked: Query) -> Result<(), AllocError>
+    ensures { OnOk result (text.new.items ≡ text.old.items ++ inet_request_text asked) }
+{
+    let kind = name_of_inet_kind(Some(asked.protocol), asked.family);
+    text.extend_from_slice(kind.as_bytes())?;
+    text.extend_from_slice(b" family:")?;
+    text.extend_from_slice(name_of_inet_family(asked.family).as_bytes())?;
+    push_hex_detail(text, b"states", asked.states.into())
 }
 
 /// Returns the name of a family of requested sockets.

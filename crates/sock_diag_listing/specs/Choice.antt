@@ -1,9 +1,9 @@
 -- The request of a command line. Arguments are lists of bytes.
 use Rattle.std.specs.Prelude.{◌≡◌, ◌≢◌, ℕ, ◌-◌, ◌&&◌, ◌||◌, ◌==◌, if◌then◌else◌, not, Bool, true}
 use Rattle.std.specs.Prelude.{false, List, [], ◌∷◌, Option, Some, None, bytes_eq, codes, drop, find}
-use Rattle.std.specs.Prelude.{fold, length, nat_eq, nat_lt, option_map, slice_index, take}
+use Rattle.std.specs.Prelude.{fold, length, nat_eq, nat_lt, option_map, take}
 use Rattle.std.specs.Prelude.{bit_or}
-use Rattle.std.specs.List.{ends_with, list_all, list_any, starts_with}
+use Rattle.std.specs.List.{ends_with, list_any, starts_with}
 use Rattle.std.specs.Option.{option_map_or}
 use Rattle.sock_diag_listing.specs.declared.arguments.Argument.{Argument}
 use Rattle.sock_diag_listing.specs.declared.arguments.Argument.TheVariants as argument
@@ -13,8 +13,12 @@ use Rattle.sock_diag_listing.specs.declared.choice.Choice.{Choice}
 use Rattle.sock_diag_listing.specs.declared.choice.Choice.TheVariants as choice
 use Rattle.sock_diag_listing.specs.declared.choice.Rejection.{Rejection}
 use Rattle.sock_diag_listing.specs.declared.choice.Rejection.TheVariants.{InvalidPortValue}
+use Rattle.sock_diag_listing.specs.declared.choice.Rejection.TheVariants.{MisplacedLetter}
+use Rattle.sock_diag_listing.specs.declared.choice.Rejection.TheVariants.{MissingValue}
+use Rattle.sock_diag_listing.specs.declared.choice.Rejection.TheVariants.{UnexpectedValue}
 use Rattle.sock_diag_listing.specs.declared.choice.Rejection.TheVariants.{UnknownFamily}
 use Rattle.sock_diag_listing.specs.declared.choice.Rejection.TheVariants.{UnknownFamilyValue}
+use Rattle.sock_diag_listing.specs.declared.choice.Rejection.TheVariants.{UnknownLetter}
 use Rattle.sock_diag_listing.specs.declared.choice.Rejection.TheVariants.{UnknownOption}
 use Rattle.sock_diag_listing.specs.declared.choice.Rejection.TheVariants.{UnknownStateValue}
 use Rattle.sock_diag_listing.specs.declared.options.AnyFamily.{AnyFamily}
@@ -39,12 +43,18 @@ is_letter letter = contains_letter letter (codes "tuxM046oemiOHlna")
 abbrev pub ends_in_f : List ℕ → Bool
 ends_in_f letters = ends_with nat_eq letters (codes "f")
 
--- There is at least one letter, and each is an option. The last one may also be f, which needs the
--- name of a family as the next argument.
-abbrev pub are_letters : List ℕ → Bool
-are_letters letters =
-    not (length letters == 0) && list_all is_letter (take (length letters - 1) letters)
-    && (ends_in_f letters || is_letter (slice_index letters (length letters - 1)))
+-- the letters without an f at their end
+abbrev pub without_last_f : List ℕ → List ℕ
+without_last_f letters = if ends_in_f letters then take (length letters - 1) letters else letters
+
+-- the first letter for which `is_letter` does not hold; None if there is none
+abbrev pub first_unknown_letter : List ℕ → Option ℕ
+first_unknown_letter letters = find (λ letter. not (is_letter letter)) letters
+
+-- The first letter that is not an option at its place; None if each is an option. The last one may
+-- also be f, which needs the name of a family as the next argument.
+abbrev pub first_other_letter : List ℕ → Option ℕ
+first_other_letter letters = first_unknown_letter (without_last_f letters)
 
 -- The options `o`, and the options of these letters that select details or their form: -o (111), -e
 -- (101), -m (109), -i (105), -O (79) and -H (72).
@@ -134,11 +144,39 @@ abbrev pub destination_argument : List ℕ → Argument
 destination_argument text = option_map_or argument.DestinationPort (port_condition text)
     (argument.Rejected InvalidPortValue)
 
--- what letters after a hyphen are parsed as
+-- The reason why letters are rejected of which `letter` is the first one that is not an option at
+-- its place: f, h and V are options too, but f only as the last letter, and h and V only alone.
+abbrev pub letter_rejection : ℕ → Rejection
+letter_rejection letter =
+    if contains_letter letter (codes "fhV") then MisplacedLetter letter else UnknownLetter letter
+
+-- the word is an option that needs a value, without one
+abbrev pub misses_value : List ℕ → Bool
+misses_value word =
+    bytes_eq word (codes "--family") || bytes_eq word (codes "--state")
+    || bytes_eq word (codes "--sport") || bytes_eq word (codes "--dport")
+
+-- the word is an option that takes no value, with an equals sign and a value
+abbrev pub has_unexpected_value : List ℕ → Bool
+has_unexpected_value word =
+    starts_with nat_eq word (codes "--help=") || starts_with nat_eq word (codes "--version=")
+    || starts_with nat_eq word (codes "--utf8=") || starts_with nat_eq word (codes "--requests=")
+    || starts_with nat_eq word (codes "--json=") || starts_with nat_eq word (codes "--vsock=")
+    || starts_with nat_eq word (codes "--xdp=")
+
+-- the reason why a word is rejected that begins with two hyphens and is not an option
+abbrev pub long_rejection : List ℕ → Rejection
+long_rejection word =
+    if misses_value word then MissingValue else if has_unexpected_value word then UnexpectedValue
+    else UnknownOption
+
+-- What letters after a hyphen are parsed as. A word that begins with two hyphens is rejected.
 abbrev pub letters_argument : List ℕ → Argument
 letters_argument word =
-    if (length word == 0) || not (are_letters (drop 1 word)) then argument.Rejected UnknownOption
-    else argument.Letters (ends_in_f word)
+    if (length word == 0) || starts_with nat_eq word (codes "--")
+    then argument.Rejected (long_rejection word)
+    else option_map_or (λ letter. argument.Rejected (letter_rejection letter))
+    (first_other_letter (drop 1 word)) (argument.Letters (ends_in_f word))
 
 -- what an option is parsed as that contains a condition on a port, or consists of letters
 abbrev pub port_argument : List ℕ → Argument

@@ -1,12 +1,13 @@
 //! Arguments of the command line of a program that lists captures.
 
 ghost use Rattle.std.specs.Prelude.{◌≡◌, bytes_eq};
-ghost use Rattle.std.specs.List.{list_all};
-ghost use Rattle.sock_diag_listing.specs.Choice.{are_letters, argument_at, destination_argument};
+ghost use Rattle.sock_diag_listing.specs.Choice.{argument_at, destination_argument};
 ghost use Rattle.sock_diag_listing.specs.Choice.{ends_in_f, source_argument, state_argument};
 ghost use Rattle.sock_diag_listing.specs.Choice.{family_argument, family_named, is_file};
-ghost use Rattle.sock_diag_listing.specs.Choice.{is_letter};
+ghost use Rattle.sock_diag_listing.specs.Choice.{first_other_letter, first_unknown_letter};
+ghost use Rattle.sock_diag_listing.specs.Choice.{has_unexpected_value, letter_rejection};
 ghost use Rattle.sock_diag_listing.specs.Choice.{letters_argument, listening_after, names_file};
+ghost use Rattle.sock_diag_listing.specs.Choice.{long_rejection, misses_value, without_last_f};
 ghost use Rattle.sock_diag_listing.specs.Choice.{next_place, port_argument};
 ghost use Rattle.sock_diag_listing.specs.Choice.{option_argument, valued_argument, with_argument};
 ghost use Rattle.sock_diag_listing.specs.Choice.{with_details, with_family, with_letters};
@@ -172,15 +173,66 @@ fn destination_argument(text: &[u8]) -> Argument
     }
 }
 
-/// Parses letters after a hyphen.
+/// Parses letters after a hyphen. A word that begins with two hyphens is rejected.
 fn letters_argument(word: &[u8]) -> Argument
     ensures { result ≡ letters_argument word.now }
 {
-    if word.is_empty() || !are_letters(&word[1..]) {
-        return Argument::Rejected(Rejection::UnknownOption);
+    if word.is_empty() || word.starts_with(b"--") {
+        return Argument::Rejected(long_rejection(word));
     }
-    Argument::Letters {
-        needs_family: ends_in_f(word),
+    match first_other_letter(&word[1..]) {
+        Some(letter) => Argument::Rejected(letter_rejection(letter)),
+        None => Argument::Letters {
+            needs_family: ends_in_f(word),
+        },
+    }
+}
+
+/// Returns the reason why a long option is rejected.
+fn long_rejection(word: &[u8]) -> Rejection
+    ensures { result ≡ long_rejection word.now }
+{
+    if misses_value(word) {
+        Rejection::MissingValue
+    } else if has_unexpected_value(word) {
+        Rejection::UnexpectedValue
+    } else {
+        Rejection::UnknownOption
+    }
+}
+
+/// Returns whether a word is an option that needs a value, without one.
+fn misses_value(word: &[u8]) -> bool
+    ensures { result ≡ misses_value word.now }
+{
+    equal(word, "--family")
+        || equal(word, "--state")
+        || equal(word, "--sport")
+        || equal(word, "--dport")
+}
+
+/// Returns whether a word is an option that takes no value, with one.
+fn has_unexpected_value(word: &[u8]) -> bool
+    ensures { result ≡ has_unexpected_value word.now }
+{
+    word.starts_with(b"--help=")
+        || word.starts_with(b"--version=")
+        || word.starts_with(b"--utf8=")
+        || word.starts_with(b"--requests=")
+        || word.starts_with(b"--json=")
+        || word.starts_with(b"--vsock=")
+        || word.starts_with(b"--xdp=")
+}
+
+/// Returns the reason why letters are rejected. `letter` is the first of them that is not an option
+/// at its place.
+fn letter_rejection(letter: u8) -> Rejection
+    ensures { result ≡ letter_rejection letter }
+{
+    if letter == b'f' || letter == b'h' || letter == b'V' {
+        Rejection::MisplacedLetter(letter)
+    } else {
+        Rejection::UnknownLetter(letter)
     }
 }
 
@@ -218,25 +270,34 @@ fn family_named(name: &[u8]) -> Option<AnyFamily>
     }
 }
 
-/// Returns whether there is at least one letter, and each letter is an option. The last one may
-/// also be `f`.
-fn are_letters(letters: &[u8]) -> bool
-    ensures { result ≡ are_letters letters.now }
+/// Returns the first letter that is not an option at its place. The last letter may also be `f`.
+fn first_other_letter(letters: &[u8]) -> Option<u8>
+    ensures { result ≡ first_other_letter letters.now }
 {
-    match letters.len() {
-        0 => false,
-        len => {
-            are_options(&letters[..len - 1])
-                && (ends_in_f(letters) || LETTERS.contains(&letters[len - 1]))
-        }
+    first_unknown_letter(without_last_f(letters))
+}
+
+/// Returns the letters without an `f` at their end.
+fn without_last_f(letters: &[u8]) -> &[u8]
+    ensures { result.now ≡ without_last_f letters.now }
+{
+    if letters.ends_with(b"f") {
+        &letters[..letters.len() - 1]
+    } else {
+        letters
     }
 }
 
-/// Returns whether each letter is an option.
-fn are_options(letters: &[u8]) -> bool
-    ensures { result ≡ list_all is_letter letters.now }
+/// Returns the first letter that is not in `LETTERS`.
+fn first_unknown_letter(letters: &[u8]) -> Option<u8>
+    ensures { result ≡ first_unknown_letter letters.now }
 {
-    letters.iter().all(|letter| LETTERS.contains(letter))
+    for &letter in letters {
+        if !LETTERS.contains(&letter) {
+            return Some(letter);
+        }
+    }
+    None
 }
 
 /// Returns whether the last letter is `f`.

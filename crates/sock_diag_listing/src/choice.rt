@@ -9,8 +9,17 @@ use crate::options::Options;
 /// The reason why an argument is rejected.
 #[derive(Clone, Copy, Debug)]
 pub enum Rejection {
-    /// It is an unknown option.
+    /// It is an unknown long option.
     UnknownOption,
+    /// It is a hyphen and letters. The first of them that is not an option, as a byte, is here.
+    UnknownLetter(u8),
+    /// It is a hyphen and letters. The first of them that is not an option at its place is here: an
+    /// `f` that is not the last letter, or an `h` or `V` that is not the only one.
+    MisplacedLetter(u8),
+    /// It is `--family`, `--state`, `--sport` or `--dport` without an equals sign and a value.
+    MissingValue,
+    /// It is a long option that takes no value, with an equals sign and a value.
+    UnexpectedValue,
     /// It follows `-f`, and is not the name of a family.
     UnknownFamily,
     /// It is `--family=` with a value that is not the name of a family.
@@ -37,9 +46,10 @@ pub enum Choice<'a> {
 }
 
 /// Returns the request of the arguments after the program's name. The first argument that requests
-/// the help text or the version, or is rejected, decides: an unknown option, the name of an unknown
-/// family after `-f`, or an option with an unknown or invalid value. If there is none, captures are
-/// listed with the options of all arguments. Names of files are not considered.
+/// the help text or the version, or is rejected, decides: an unknown option, letters of which one
+/// is unknown or misplaced, the name of an unknown family after `-f`, or an option whose value is
+/// missing, unexpected, unknown or invalid. If there is none, captures are listed with the options
+/// of all arguments. Names of files are not considered.
 pub fn choose(arguments: &[String]) -> Choice<'_>
     ensures { IsChoice (map string_bytes arguments.entry.now) result }
 {

@@ -121,10 +121,9 @@ fn push_escaped(text: &mut Vec<u8>, bytes: &[u8]) -> Result<(), AllocError>
 
 /// Returns an argument or the name of a file as it is shown on standard error: each byte that is
 /// not from `!` to `~`, and each backslash, is `\x` and two digits.
-pub fn escaped(alloc: Global, text: &str) -> Result<String, AllocError>
-    ensures { IfOk result (λ shown. string_bytes shown ≡ flat_map escaped_byte text.now) }
+pub fn escaped(alloc: Global, bytes: &[u8]) -> Result<String, AllocError>
+    ensures { IfOk result (λ shown. string_bytes shown ≡ flat_map escaped_byte bytes.now) }
 {
-    let bytes = text.as_bytes();
     let mut shown = String::new(alloc);
     for byte in bytes {
         push_escaped_char(alloc, &mut shown, *byte)?;

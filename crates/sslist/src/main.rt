@@ -7,19 +7,21 @@ use sock_diag_captures::{
     Choice, HELP, ListCapture, Options, Rejection, VERSION, choose, escaped, heading,
     list_captures, names_several, run_to_status,
 };
-use std::env;
+use std::alloc::{AllocError, Global};
 use std::fs::File;
-use std::io::{self, BufReader, ErrorKind, Read};
+use std::io::{self, BufReader, ErrorKind, IsTerminal, Read};
 use std::process::ExitCode;
+use std::rt::Env;
+use std::{env, str};
+
+/// Greatest length in bytes of an argument that Linux passes to a program (`MAX_ARG_STRLEN`).
+const LONGEST_ARGUMENT: usize = 131_072;
 
 fn main(rt: HostRuntime) -> ExitCode {
     let mut arguments = match env::args(&rt) {
         Ok(arguments) => arguments,
         Err(error) if error.kind() == ErrorKind::OutOfMemory => return out_of_memory(&rt),
-        Err(_) => {
-            let _ = rt.eprintln("sslist: argument is not valid UTF-8");
-            return ExitCode::from(2);
-        }
+        Err(_) => return reject_bytes(&rt),
     };
     let _program = arguments.next();
     match arguments.collect::<Vec<String>>(rt.alloc()) {
@@ -31,8 +33,8 @@ fn main(rt: HostRuntime) -> ExitCode {
 /// Does what the arguments request.
 fn answer(rt: &HostRuntime, arguments: &[String]) -> ExitCode {
     match choose(arguments) {
-        Choice::Help => status_of(rt.println(HELP)),
-        Choice::Version => status_of(println!(rt; "sslist {VERSION}")),
+        Choice::Help => status_of(rt, rt.println(HELP)),
+        Choice::Version => status_of(rt, println!(rt; "sslist {VERSION}")),
         Choice::Reject(reason, argument) => reject(rt, reason, argument),
         Choice::MissingFamily => {
             let _ = rt.eprintln("sslist: -f without a family; try sslist --help");
@@ -73,17 +75,14 @@ impl ListCapture for Lister<'_> {
         };
         match name {
             Some(name) => list_file(self.rt, self.options, name, heading.as_slice()),
-            None => {
-                let input = self.rt.stdin();
-                list(self.rt, self.options, "sslist: ", heading.as_slice(), input)
-            }
+            None => list_standard_input(self.rt, self.options, heading.as_slice()),
         }
     }
 }
 
 /// Lists the capture in a file.
 fn list_file(rt: &HostRuntime, options: Options, name: &str, heading: &[u8]) -> ExitCode {
-    let Ok(shown) = escaped(rt.alloc(), name) else {
+    let Ok(shown) = escaped(rt.alloc(), name.as_bytes()) else {
         return out_of_memory(rt);
     };
     let Ok(front) = format!(in rt.alloc(); "sslist: {shown}: ") else {
@@ -96,6 +95,18 @@ fn list_file(rt: &HostRuntime, options: Options, name: &str, heading: &[u8]) -> 
             ExitCode::FAILURE
         }
     }
+}
+
+/// Lists the capture on standard input. A terminal is rejected, since nobody types a capture.
+fn list_standard_input(rt: &HostRuntime, options: Options, heading: &[u8]) -> ExitCode {
+    let input = rt.stdin();
+    if input.is_terminal() {
+        let _ = rt.eprintln(
+            "sslist: standard input is a terminal; try sockdump | sslist, or sslist FILE",
+        );
+        return ExitCode::FAILURE;
+    }
+    list(rt, options, "sslist: ", heading, input)
 }
 
 /// Lists the capture that a reader returns.
@@ -113,27 +124,112 @@ fn list<R: Read + Drop>(
     }
 }
 
-/// Returns status 0 if printing succeeded, or else status 1.
-fn status_of(printed: io::Result<()>) -> ExitCode {
+/// Returns status 0 if a text was printed. Otherwise reports the failure, except for a closed
+/// output pipe, and returns status 1.
+fn status_of(rt: &HostRuntime, printed: io::Result<()>) -> ExitCode {
     match printed {
-        Ok(()) => ExitCode::SUCCESS,
-        Err(_) => ExitCode::FAILURE,
+        Ok(()) => return ExitCode::SUCCESS,
+        Err(error) if error.kind() == ErrorKind::BrokenPipe => {}
+        Err(_) => {
+            let _ = rt.eprintln("sslist: writing to standard output failed");
+        }
     }
+    ExitCode::FAILURE
 }
 
 /// Reports an argument that is rejected, with status 2.
 fn reject(rt: &HostRuntime, reason: Rejection, argument: &str) -> ExitCode {
+    match rejection_text(rt.alloc(), reason, argument) {
+        Ok(text) => {
+            let _ = eprintln!(rt; "sslist: {text}; try sslist --help");
+            ExitCode::from(2)
+        }
+        Err(_) => out_of_memory(rt),
+    }
+}
+
+/// Returns the text about an argument that is rejected for this reason.
+fn rejection_text(alloc: Global, reason: Rejection, argument: &str) -> Result<String, AllocError> {
+    let shown = escaped(alloc, argument.as_bytes())?;
+    match reason {
+        Rejection::UnknownOption => format!(in alloc; "unknown option {shown}"),
+        Rejection::UnknownLetter(letter) => unknown_letter_text(alloc, letter, shown),
+        Rejection::MisplacedLetter(b'f') => {
+            format!(in alloc; "-f has to be the last letter in {shown}, as in -f FAMILY")
+        }
+        Rejection::MisplacedLetter(letter) => {
+            let letter = escaped(alloc, &[letter])?;
+            format!(in alloc; "-{letter} has to be alone, not in {shown}")
+        }
+        Rejection::MissingValue => {
+            let value = name_of_value(argument);
+            format!(in alloc; "{shown} needs a value: write {shown}={value}")
+        }
+        Rejection::UnexpectedValue => {
+            let name = name_of_option(argument);
+            format!(in alloc; "{name} takes no value")
+        }
+        Rejection::UnknownFamily => format!(in alloc; "unknown family {shown}"),
+        Rejection::UnknownFamilyValue => format!(in alloc; "unknown family in {shown}"),
+        Rejection::UnknownStateValue => format!(in alloc; "unknown state in {shown}"),
+        Rejection::InvalidPortValue => {
+            format!(in alloc; "invalid port in {shown}: a port is N, N- or -N")
+        }
+    }
+}
+
+/// Returns the text about letters of which one is not an option. `shown` is the whole argument.
+fn unknown_letter_text(alloc: Global, letter: u8, shown: String) -> Result<String, AllocError> {
+    let letter = escaped(alloc, &[letter])?;
+    let option = format!(in alloc; "-{letter}")?;
+    if option.as_str() == shown.as_str() {
+        format!(in alloc; "unknown option {option}")
+    } else {
+        format!(in alloc; "unknown option {option} in {shown}")
+    }
+}
+
+/// Returns what the usage calls the value of an option.
+fn name_of_value(option: &str) -> &'static str {
+    match option {
+        "--family" => "FAMILY",
+        "--state" => "STATE",
+        _ => "PORT",
+    }
+}
+
+/// Returns the part of an argument before its first equals sign.
+fn name_of_option(argument: &str) -> &str {
+    match argument.split_once('=') {
+        Some((name, _)) => name,
+        None => argument,
+    }
+}
+
+/// Reports the first argument that is not valid UTF-8, with status 2.
+fn reject_bytes(rt: &HostRuntime) -> ExitCode {
+    let mut bytes = Vec::new(rt.alloc());
+    if bytes.resize(LONGEST_ARGUMENT, 0).is_err() {
+        return out_of_memory(rt);
+    }
+    for index in 0..usize::MAX {
+        match rt.arg(index, bytes.as_mut_slice()) {
+            Ok(length) if str::from_utf8(&bytes[..length]).is_ok() => {}
+            Ok(length) => return report_bytes(rt, &bytes[..length]),
+            Err(_) => break,
+        }
+    }
+    let _ = rt.eprintln("sslist: an argument is not valid UTF-8");
+    ExitCode::from(2)
+}
+
+/// Reports an argument that is not valid UTF-8, with status 2.
+fn report_bytes(rt: &HostRuntime, argument: &[u8]) -> ExitCode {
     let Ok(shown) = escaped(rt.alloc(), argument) else {
         return out_of_memory(rt);
     };
-    let front = match reason {
-        Rejection::UnknownOption => "unknown option",
-        Rejection::UnknownFamily => "unknown family",
-        Rejection::UnknownFamilyValue => "unknown family in",
-        Rejection::UnknownStateValue => "unknown state in",
-        Rejection::InvalidPortValue => "invalid port in",
-    };
-    let _ = eprintln!(rt; "sslist: {front} {shown}; try sslist --help");
+    let advice = "rename the file, or write sslist <FILE";
+    let _ = eprintln!(rt; "sslist: argument {shown} is not valid UTF-8; {advice}");
     ExitCode::from(2)
 }
 

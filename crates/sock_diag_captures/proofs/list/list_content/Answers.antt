@@ -32,8 +32,9 @@ returns-in-SockDiag-clause-diagnosed c =
     on_ok_weaker c.list_sock_diag.result
     (λ diagnosed. inl (
       (found.0, found.1),
-      subst (λ (d : List ℕ). DiagnosesDatagram c.args.written.now.front.now c.args.number d
-          c.args.written.now.diagnostics.items c.list_sock_diag.new.written.diagnostics.items)
+      subst (λ (d : List ℕ). DiagnosesDatagram c.args.written.now.front.now c.args.number
+          c.args.is_whole d c.args.written.now.diagnostics.items
+          c.list_sock_diag.new.written.diagnostics.items)
           found.2
           diagnosed,
     ))
@@ -41,9 +42,10 @@ returns-in-SockDiag-clause-diagnosed c =
 
 pub returns-in-Other-clause-diagnosed : goal.returns-in-Other-clause-diagnosed
 returns-in-Other-clause-diagnosed c =
-    diagnosed_other _ _ _ _ c.in-Other.ensures.0 c.in-Other.ensures.1
+    diagnosed_other _ _ _ _ _ c.in-Other.ensures.0 c.in-Other.ensures.1
 
-pub returns-in_ok-push_short-in-Short-clause-diagnosed :
-    goal.returns-in_ok-push_short-in-Short-clause-diagnosed
-returns-in_ok-push_short-in-Short-clause-diagnosed c =
-    diagnosed_short _ _ _ _ _ c.in-Short.ensures c.in_ok-push_short-in-Short.ensures.diagnostics
+pub returns-in_ok-push_short_if_whole-in-Short-clause-diagnosed :
+    goal.returns-in_ok-push_short_if_whole-in-Short-clause-diagnosed
+returns-in_ok-push_short_if_whole-in-Short-clause-diagnosed c =
+    diagnosed_short _ _ _ _ _ _ c.in-Short.ensures
+    c.in_ok-push_short_if_whole-in-Short.ensures.diagnostics

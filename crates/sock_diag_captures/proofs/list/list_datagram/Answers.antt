@@ -58,7 +58,7 @@ returns-in-Err-clause-lists c =
       cut = listing_stops (message_lines c.args.options c.args.requests.now.asked.items)
           IsCleanMessage
           _ _ _ _ _ c.in-Err.error inv stop.0 stop.1;
-      lines = c.in_ok-push_diagnostic-in-Err.ensures.lines ∙ inv.lines;
+      lines = c.in_ok-push_end-in-Err.ensures.lines ∙ inv.lines;
       clean = (λ wrong. absurd cc, λ both. absurd (let none = both.1 in cc));
     }
 
@@ -68,8 +68,8 @@ returns-in-Err-clause-diagnosed c =
     let inv = c.loop-item.invariant in
     let more = counted_on _ _ _ _ _ _ _ _ inv.diagnosed (has_bytes _ stop.0)
     c.next_number-count.ensures in
-    diagnosed_stops _ _ _ _ _ _ _ _ c.in-Err.error inv.diagnosed stop.0 stop.1
-    (rw (more, inv.front) at c.in_ok-push_diagnostic-in-Err.ensures.diagnostics)
+    diagnosed_stops _ _ _ _ _ _ _ _ _ c.in-Err.error inv.diagnosed stop.0 stop.1
+    (rw (more, inv.front) at c.in_ok-push_end-in-Err.ensures.diagnostics)
 
 pub returns-clause-lists : goal.returns-clause-lists
 returns-clause-lists c =
@@ -88,4 +88,4 @@ returns-clause-lists c =
 
 pub returns-clause-diagnosed : goal.returns-clause-diagnosed
 returns-clause-diagnosed c =
-    diagnosed_ends _ _ _ _ _ _ _ c.loop-item.invariant.diagnosed c.in-None.ensures.steps.0
+    diagnosed_ends _ _ _ _ _ _ _ _ c.loop-item.invariant.diagnosed c.in-None.ensures.steps.0

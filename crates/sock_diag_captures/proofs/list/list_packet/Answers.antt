@@ -1,4 +1,5 @@
 use Rattle.program_streams.specs.Capture.{captured_packet}
+use Rattle.sock_diag_captures.proofs.Diagnosing.{complete_if_not_truncated}
 use Rattle.sock_diag_captures.proofs.Listings.{listed_without_errors}
 use Rattle.sock_diag_captures.proofs.list.list_packet.Goals as goal
 
@@ -10,5 +11,6 @@ returns-clause-lists c =
 
 pub returns-clause-diagnosed : goal.returns-clause-diagnosed
 returns-clause-diagnosed c =
-    rw (c.in_ok-is_whole.ensures.diagnostics, c.in_ok-is_whole.ensures.front) at
+    let whole = complete_if_not_truncated _ _ _ c.in_ok-is_whole.ensures.whole in
+    rw (c.in_ok-is_whole.ensures.diagnostics, c.in_ok-is_whole.ensures.front, whole) at
     c.in_ok-is_listed.ensures.diagnosed
