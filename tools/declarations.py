@@ -240,7 +240,7 @@ class Library:
 
     def __init__(self):
         own = (CRATES / "sockdiag_c/src").glob("*.rt")
-        text = text_of(*(path for path in own if path.name != "tests.rt"))
+        text = text_of(*own)
         shared = text_of(*(CRATES / "sock_diag_families/src").rglob("*.rt"))
         shared += text_of(*(CRATES / "sock_diag_extras/src").rglob("*.rt"))
         records = CRATES / "sock_diag_records/src"

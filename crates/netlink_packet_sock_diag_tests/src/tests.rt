@@ -58,6 +58,11 @@ fn cells<'a>(rt: &impl Abort, alloc: Global, front: &str, row: &'a str) -> (Vec<
     (bytes(rt, alloc, &[front, digits]), text)
 }
 
+/// Asserts that the bytes are equal.
+fn same(rt: &impl Abort, bytes: &[u8], wanted: &[u8]) {
+    assert!(rt; bytes == wanted, "{bytes:?}");
+}
+
 /// Asserts that `part` occurs in the text.
 fn has_part(rt: &impl Abort, text: &str, part: &str) {
     assert!(rt; text.contains(part), "{text}");

@@ -16,6 +16,11 @@ fn is_text(rt: &impl Abort, shown: &str, text: &str) {
     assert!(rt; shown == text, "{shown}");
 }
 
+/// Asserts that the bytes are equal.
+fn same(rt: &impl Abort, bytes: &[u8], wanted: &[u8]) {
+    assert!(rt; bytes == wanted, "{bytes:?}");
+}
+
 /// Returns what `Debug` prints for the value.
 fn debug_text<T: Debug>(rt: &impl Abort, alloc: Global, value: &T) -> String {
     format!(in alloc; "{value:?}").expect(rt, "memory")

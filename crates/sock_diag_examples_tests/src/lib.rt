@@ -1,6 +1,5 @@
 //! Tests of `sock_diag_examples`, for functions that allocate or have no contract.
 #![tactic(auto)]
 
-mod ported;
 #[cfg(test)]
 mod tests;

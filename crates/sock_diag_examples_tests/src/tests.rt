@@ -1,4 +1,4 @@
-use crate::ported::add_paths;
+use self::ported::add_paths;
 use netlink_core::{DecodeError, DefaultNla, Emitable, Parseable};
 use netlink_packet_sock_diag::unix::UnixResponse;
 use sock_diag_examples::link::{LinkError, attribute_key, parse_link};
@@ -12,6 +12,8 @@ use sock_diag_values::unix::Vfs;
 use std::alloc::Global;
 use std::fmt::Debug;
 use std::process::Abort;
+
+mod ported;
 
 // A reply about a listening UNIX socket, without attributes.
 const LISTENING: [u8; 16] = [1, 1, 10, 0, 0x0e, 0x4f, 0, 0, 0xa0, 2, 0, 0, 0, 0, 0, 0];
@@ -52,7 +54,11 @@ const REQUEST: [u8; 40] = [
 
 fn shows<T: Debug>(rt: &impl Abort, alloc: Global, value: &T, text: &str) {
     let shown = format!(in alloc; "{value:?}").expect(rt, "memory");
-    assert!(rt; shown.as_str() == text, "{shown}");
+    is_text(rt, shown.as_str(), text);
+}
+
+fn is_text(rt: &impl Abort, shown: &str, text: &str) {
+    assert!(rt; shown == text, "{shown}");
 }
 
 #[test]
@@ -66,27 +72,24 @@ fn replies_are_stored_by_canonical_form(rt: HostRuntime) {
     shows(&rt, alloc, &error, cut);
 }
 
+/// Asserts what `list` and `listening` return for a datagram.
+fn is_listed(rt: &impl Abort, alloc: Global, datagram: &[u8], lines: &str, count: &str) {
+    let listed = list(alloc, datagram).expect(rt, "memory");
+    shows(rt, alloc, &listed, lines);
+    shows(rt, alloc, &listening(datagram), count);
+}
+
 #[test]
 fn datagrams_are_listed_and_counted(rt: HostRuntime) {
     let alloc = rt.alloc();
     let mut failed = DUMP;
     failed[48] = 0xfe;
     let one = "[Socket { state: 10, inode: 20238 }, End]";
+    is_listed(&rt, alloc, &DUMP, one, "Ok(Some(1))");
+    is_listed(&rt, alloc, &failed, one, "Ok(None)");
     let cut = "[Refused(EnvelopeCut { got: 4 })]";
-    for (datagram, lines, count) in [
-        (&DUMP[..], one, "Ok(Some(1))"),
-        (&failed, one, "Ok(None)"),
-        (&DUMP[48..], cut, "Err(EnvelopeCut { got: 4 })"),
-        (&FAILURES, "[Failure, Failure]", "Ok(None)"),
-    ] {
-        shows(
-            &rt,
-            alloc,
-            &list(alloc, datagram).expect(&rt, "memory"),
-            lines,
-        );
-        shows(&rt, alloc, &listening(datagram), count);
-    }
+    is_listed(&rt, alloc, &DUMP[48..], cut, "Err(EnvelopeCut { got: 4 })");
+    is_listed(&rt, alloc, &FAILURES, "[Failure, Failure]", "Ok(None)");
 }
 
 #[test]
@@ -104,21 +107,27 @@ fn answered(rt: &impl Abort, alloc: Global, replies: &[UnixResponse]) -> Vec<u8>
     answer(alloc, &REQUEST, replies).expect(rt, "no answer")
 }
 
+/// Asserts what `Debug` prints for the result of `parse_link`.
+fn is_link(rt: &impl Abort, alloc: Global, payload: &[u8], text: &str) {
+    shows(rt, alloc, &parse_link(alloc, payload), text);
+}
+
 #[test]
 fn links_have_their_name_and_their_mtu(rt: HostRuntime) {
     let alloc = rt.alloc();
     let mut odd = ETH0;
     odd[36] = 7;
     let link = "Ok(Link { name: Some(\"eth0\"), mtu: Some(1500) })";
+    is_link(&rt, alloc, &ETH0, link);
+    is_link(
+        &rt,
+        alloc,
+        &ETH0[..16],
+        "Ok(Link { name: None, mtu: None })",
+    );
+    is_link(&rt, alloc, &ETH0[..15], "Err(TooShort { got: 15 })");
     let wrong = "Err(Attribute(WrongLength { kind: None, got: 3, need: 4 }))";
-    for (payload, text) in [
-        (&ETH0[..], link),
-        (&ETH0[..16], "Ok(Link { name: None, mtu: None })"),
-        (&ETH0[..15], "Err(TooShort { got: 15 })"),
-        (&odd, wrong),
-    ] {
-        shows(&rt, alloc, &parse_link(alloc, payload), text);
-    }
+    is_link(&rt, alloc, &odd, wrong);
     let key = attribute_key(alloc, b"\x09\0\x03\0eth0\0\x09\0\0").expect(&rt, "no key");
     assert!(rt; key.as_slice() == b"\x09\0\x03\0eth0\0\0\0\0".as_slice());
 }
@@ -140,12 +149,20 @@ fn requests_are_answered(rt: HostRuntime) {
     let alloc = rt.alloc();
     let path = vec![in alloc; 97; 65_531].expect(&rt, "memory");
     let long = [listener(alloc, 7, &path).expect(&rt, "memory")];
-    for (request, text) in [
-        (&REQUEST[..], "Some(Unwritable)"),
-        (&REQUEST[..15], "Some(Request(EnvelopeCut { got: 15 }))"),
-    ] {
-        shows(&rt, alloc, &answer(alloc, request, &long).err(), text);
-    }
+    is_refused(&rt, alloc, &REQUEST, &long, "Some(Unwritable)");
+    let text = "Some(Request(EnvelopeCut { got: 15 }))";
+    is_refused(&rt, alloc, &REQUEST[..15], &long, text);
+}
+
+/// Asserts the error with which the request is answered.
+fn is_refused(
+    rt: &impl Abort,
+    alloc: Global,
+    request: &[u8],
+    replies: &[UnixResponse],
+    text: &str,
+) {
+    shows(rt, alloc, &answer(alloc, request, replies).err(), text);
 }
 
 #[test]
@@ -157,9 +174,12 @@ fn debug_texts(rt: HostRuntime) {
     shows(&rt, alloc, &[Family::Inet, Family::Inet6], "[Inet, Inet6]");
 }
 
+/// Inodes of replies that are built and answered.
+const INODES: [u32; 5] = [0, 1, 0x2a0, 0x4f0e, u32::MAX];
+
 #[test]
 fn values_are_made_and_copied(rt: HostRuntime) {
-    for inode in [0, 1, 0x2a0, 0x4f0e, u32::MAX] {
+    for &inode in &INODES {
         let reply = listener(rt.alloc(), inode, b"/run/x").expect(&rt, "memory");
         answered(&rt, rt.alloc(), &[reply]);
     }
@@ -197,7 +217,10 @@ fn repeated(
 
 #[test]
 fn many_replies_and_attributes(rt: HostRuntime) {
-    for count in (0..301).chain(COUNTS) {
+    for count in 0..301 {
+        has_room_for_many(&rt, rt.alloc(), count);
+    }
+    for &count in &COUNTS {
         has_room_for_many(&rt, rt.alloc(), count);
     }
     let dump = MESSAGE.repeat(rt.alloc(), 100_000).expect(&rt, "memory");
@@ -256,16 +279,31 @@ fn has_room_for_copy(rt: &impl Abort, alloc: Global, size: u16) {
     }
 }
 
+/// Checks names and values of this length.
+fn has_room_for_all(rt: &impl Abort, alloc: Global, size: u16) {
+    has_room(rt, alloc, size);
+    has_room_for_path(rt, alloc, size);
+    has_room_for_copy(rt, alloc, size);
+}
+
 #[test]
 fn names_of_each_length(rt: HostRuntime) {
-    for size in (0..301).chain(SIZES) {
-        has_room(&rt, rt.alloc(), size);
-        has_room_for_path(&rt, rt.alloc(), size);
-        has_room_for_copy(&rt, rt.alloc(), size);
+    for size in 0..301 {
+        has_room_for_all(&rt, rt.alloc(), size);
     }
-    for size in [
-        65_531, 65_536, 100_000, 131_072, 262_144, 524_288, 1_000_000,
-    ] {
+    for &size in &SIZES {
+        has_room_for_all(&rt, rt.alloc(), size);
+    }
+}
+
+/// Lengths of paths that no attribute can have.
+const LONG: [usize; 7] = [
+    65_531, 65_536, 100_000, 131_072, 262_144, 524_288, 1_000_000,
+];
+
+#[test]
+fn long_paths(rt: HostRuntime) {
+    for &size in &LONG {
         let path = vec![in rt.alloc(); b'a'; size].expect(&rt, "memory");
         listener(rt.alloc(), 7, &path).expect(&rt, "memory");
     }

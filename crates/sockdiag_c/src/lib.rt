@@ -23,8 +23,6 @@ mod pending;
 mod requests;
 mod rewriting;
 mod tcp_info;
-#[cfg(test)]
-mod tests;
 mod unix_details;
 mod version;
 mod vsock_details;

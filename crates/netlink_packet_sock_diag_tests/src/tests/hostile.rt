@@ -39,10 +39,8 @@ fn changes(rt: &impl Abort, alloc: Global, subject: Subject, parts: &[&str], cou
     for place in 0..whole.len() {
         for change in 1..=u8::MAX {
             let changed = changed(rt, alloc, &whole, place, change);
-            count(
-                &mut tally,
-                &parse_twice(rt, alloc, subject, &changed, Some(&whole), false),
-            );
+            let report = parse_twice(rt, alloc, subject, &changed, Some(&whole), false);
+            count(&mut tally, &report);
         }
     }
     shows(rt, alloc, &tally, counts);
@@ -61,15 +59,10 @@ fn requests(rt: HostRuntime) {
 // For a UNIX reply, only the number of changes that do not change the value is checked.
 #[test]
 fn replies(rt: HostRuntime) {
-    for (reply, counts) in [(PATH, "[1284, "), (PEER, "[1542, "), (ABSTRACT, "[1284, ")] {
-        changes(&rt, rt.alloc(), Subject::UnixReply, &[reply], counts);
-    }
+    let alloc = rt.alloc();
+    changes(&rt, alloc, Subject::UnixReply, &[PATH], "[1284, ");
+    changes(&rt, alloc, Subject::UnixReply, &[PEER], "[1542, ");
+    changes(&rt, alloc, Subject::UnixReply, &[ABSTRACT], "[1284, ");
     let counts = "[7143, 12488, 3, 254, 0, 0, 0, 0, 4, 502, 6]";
-    changes(
-        &rt,
-        rt.alloc(),
-        Subject::InetReply,
-        &[INET, SHUTDOWN],
-        counts,
-    );
+    changes(&rt, alloc, Subject::InetReply, &[INET, SHUTDOWN], counts);
 }

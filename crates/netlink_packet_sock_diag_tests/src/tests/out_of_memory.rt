@@ -61,10 +61,11 @@ fn copes_with_reply(
 
 #[test]
 fn replies(rt: HostRuntime) {
-    for (header, attributes) in [(PATH, ""), (LISTENING, NINE), (LISTENING, OTHER)] {
-        copes_with_reply(&rt, rt.alloc(), Subject::UnixReply, header, attributes);
-    }
-    copes_with_reply(&rt, rt.alloc(), Subject::InetReply, INET, INET_OTHER);
+    let alloc = rt.alloc();
+    copes_with_reply(&rt, alloc, Subject::UnixReply, PATH, "");
+    copes_with_reply(&rt, alloc, Subject::UnixReply, LISTENING, NINE);
+    copes_with_reply(&rt, alloc, Subject::UnixReply, LISTENING, OTHER);
+    copes_with_reply(&rt, alloc, Subject::InetReply, INET, INET_OTHER);
 }
 
 /// A message of type `NLMSG_NOOP`.
@@ -81,9 +82,8 @@ const DONE: &[u8] = b"\x14\0\0\0\x03\0\x02\0\x07\0\0\0\0\0\0\0\0\0\0\0";
 #[test]
 fn netlink_messages(rt: HostRuntime) {
     let alloc = rt.alloc();
-    for bytes in [BOTH, DONE] {
-        assert!(rt; message_code::<SockDiagMessage>(alloc, bytes) <= MEMORY);
-    }
+    assert!(rt; message_code::<SockDiagMessage>(alloc, BOTH) <= MEMORY);
+    assert!(rt; message_code::<SockDiagMessage>(alloc, DONE) <= MEMORY);
     assert!(rt; message_code::<SockDiagMessage>(alloc, NOOP) == 0);
 }
 
@@ -108,28 +108,15 @@ fn answers(
 /// attributes that are neither a name nor a text nor a list.
 #[test]
 fn inputs_that_need_no_allocation(rt: HostRuntime) {
+    let (alloc, path) = (rt.alloc(), (PATH, ""));
+    answers(&rt, alloc, Subject::UnixReply, path, 15, 2);
+    answers(&rt, alloc, Subject::UnixReply, path, 53, 7);
+    answers(&rt, alloc, Subject::UnixReply, path, 56, 9);
     let nine = (LISTENING, NINE);
-    for (count, number) in [(15, 2), (53, 7), (56, 9)] {
-        answers(
-            &rt,
-            rt.alloc(),
-            Subject::UnixReply,
-            (PATH, ""),
-            count,
-            number,
-        );
-    }
-    for count in [16, 80] {
-        answers(&rt, rt.alloc(), Subject::UnixReply, nine, count, 0);
-    }
-    answers(
-        &rt,
-        rt.alloc(),
-        Subject::InetReply,
-        (INET, INET_OTHER),
-        80,
-        0,
-    );
+    answers(&rt, alloc, Subject::UnixReply, nine, 16, 0);
+    answers(&rt, alloc, Subject::UnixReply, nine, 80, 0);
+    let inet = (INET, INET_OTHER);
+    answers(&rt, alloc, Subject::InetReply, inet, 80, 0);
 }
 
 /// Feeds the datagrams to a dump. Asserts that each feed succeeds, unless the dump has failed.

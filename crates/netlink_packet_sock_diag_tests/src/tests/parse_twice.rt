@@ -60,21 +60,33 @@ fn examine_as<T: ParseTwice>(
 ) -> Report {
     let first = T::parse_once(alloc, bytes);
     let second = T::parse_again(alloc, bytes);
-    let is_original = match original {
-        Some(original) => first == T::parse_once(alloc, original),
-        None => true,
-    };
-    let text = match with_text {
-        true => format!(in alloc; "{first:?}").ok(),
-        false => None,
-    };
     Report {
         first: code(&first),
         second: code(&second),
         are_equal: first == second,
-        is_original,
-        text,
+        is_original: is_original(alloc, &first, original),
+        text: text_of(alloc, &first, with_text),
         form: T::rewritten(alloc, bytes),
+    }
+}
+
+/// Returns whether the result for the original bytes, if there are any, is equal.
+fn is_original<T: ParseTwice>(
+    alloc: Global,
+    read: &Result<T, DecodeError>,
+    original: Option<&[u8]>,
+) -> bool {
+    match original {
+        Some(original) => *read == T::parse_once(alloc, original),
+        None => true,
+    }
+}
+
+/// Returns what `Debug` prints for the value, if the text is requested and no allocation fails.
+fn text_of<T: Debug>(alloc: Global, value: &T, with_text: bool) -> Option<String> {
+    match with_text {
+        true => format!(in alloc; "{value:?}").ok(),
+        false => None,
     }
 }
 

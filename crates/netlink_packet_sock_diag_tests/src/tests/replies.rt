@@ -10,16 +10,16 @@ use std::fmt::Debug;
 use std::process::Abort;
 
 /// Asserts that the part occurs in what `Debug` prints for the result of both parsers.
-fn is_told(rt: &impl Abort, alloc: Global, subject: Subject, reply: &[u8], part: &str) {
+fn is_shown(rt: &impl Abort, alloc: Global, subject: Subject, reply: &[u8], part: &str) {
     let report = parse_twice(rt, alloc, subject, reply, None, true);
     let text = report.text.as_deref().expect(rt, "memory");
     has_part(rt, text, part);
 }
 
 /// Asserts the same of the part in the row.
-fn tell(rt: &impl Abort, alloc: Global, subject: Subject, front: &str, row: &str) {
+fn shows_attribute(rt: &impl Abort, alloc: Global, subject: Subject, front: &str, row: &str) {
     let (reply, part) = cells(rt, alloc, front, row);
-    is_told(rt, alloc, subject, &reply, part);
+    is_shown(rt, alloc, subject, &reply, part);
 }
 
 /// For the reply `PATH`.
@@ -54,12 +54,12 @@ cookie: [52, 18, 0, 0, 4, 0, 0, 0] }, nlas: [Peer(1)] }))";
 #[test]
 fn replies_and_a_message(rt: HostRuntime) {
     let alloc = rt.alloc();
-    tell(&rt, alloc, Subject::UnixReply, PATH, WITH_PATH);
-    tell(&rt, alloc, Subject::UnixReply, PEER, WITH_PEER);
+    shows_attribute(&rt, alloc, Subject::UnixReply, PATH, WITH_PATH);
+    shows_attribute(&rt, alloc, Subject::UnixReply, PEER, WITH_PEER);
     let inet = [INET, SHUTDOWN].concat(alloc).expect(&rt, "memory");
-    tell(&rt, alloc, Subject::InetReply, &inet, WITH_SHUTDOWN);
-    tell(&rt, alloc, Subject::Message, &inet, INET_MESSAGE);
-    tell(&rt, alloc, Subject::Message, "", MESSAGE);
+    shows_attribute(&rt, alloc, Subject::InetReply, &inet, WITH_SHUTDOWN);
+    shows_attribute(&rt, alloc, Subject::Message, &inet, INET_MESSAGE);
+    shows_attribute(&rt, alloc, Subject::Message, "", MESSAGE);
 }
 
 /// Asserts that `Debug` prints `count + 1` equal attributes of a reply.
@@ -73,17 +73,23 @@ fn check_many(
 ) {
     let many = attribute.repeat(alloc, count).expect(rt, "memory");
     let reply = bytes(rt, alloc, &[header, attribute, &many]);
-    let many = "Shutdown(2), ".repeat(alloc, count).expect(rt, "memory");
-    let text = ["nlas: [", &many, "Shutdown(2)] })"]
-        .concat(alloc)
-        .expect(rt, "memory");
-    is_told(rt, alloc, subject, &reply, &text);
+    is_shown(rt, alloc, subject, &reply, &many_text(rt, alloc, count));
 }
+
+/// Returns what `Debug` prints for `count + 1` equal attributes.
+fn many_text(rt: &impl Abort, alloc: Global, count: usize) -> String {
+    let many = "Shutdown(2), ".repeat(alloc, count).expect(rt, "memory");
+    let parts = ["nlas: [", many.as_str(), "Shutdown(2)] })"];
+    parts.concat(alloc).expect(rt, "memory")
+}
+
+/// Numbers of attributes.
+const COUNTS: [usize; 7] = [0, 1, 7, 8, 9, 300, 10_000];
 
 #[test]
 fn replies_with_many_attributes(rt: HostRuntime) {
-    for count in [0, 1, 7, 8, 9, 300, 10_000] {
-        let (unix, inet) = ("0500060002000000", "0500080002000000");
+    let (unix, inet) = ("0500060002000000", "0500080002000000");
+    for &count in &COUNTS {
         check_many(&rt, rt.alloc(), Subject::UnixReply, CONNECTED, unix, count);
         check_many(&rt, rt.alloc(), Subject::InetReply, INET, inet, count);
     }

@@ -1,6 +1,6 @@
 //! How requests are built, printed and serialized.
 
-use super::{ZEROS, bytes, shows};
+use super::{ZEROS, bytes, same, shows};
 use netlink_core::{
     NLM_F_DUMP, NLM_F_REQUEST, NetlinkHeader, NetlinkMessage, NetlinkPayload, NetlinkSerializable,
     Parseable,
@@ -21,6 +21,16 @@ fn is_sent<I: NetlinkSerializable + Drop>(
     payload: NetlinkPayload<I>,
     parts: &[&str],
 ) {
+    let sent = sent_bytes(rt, alloc, payload);
+    same(rt, &sent, &bytes(rt, alloc, parts));
+}
+
+/// Returns the bytes of this message, written over other bytes.
+fn sent_bytes<I: NetlinkSerializable + Drop>(
+    rt: &impl Abort,
+    alloc: Global,
+    payload: NetlinkPayload<I>,
+) -> Vec<u8> {
     let mut message = NetlinkMessage::new(NetlinkHeader::default(), payload);
     message.header.flags = NLM_F_REQUEST | NLM_F_DUMP;
     assert!(rt; message.is_writable());
@@ -28,8 +38,7 @@ fn is_sent<I: NetlinkSerializable + Drop>(
     assert!(rt; message.is_writable());
     let mut buffer = vec![in alloc; 0xee; message.buffer_len()].expect(rt, "memory");
     message.serialize(&mut buffer);
-    let wanted = bytes(rt, alloc, parts);
-    assert!(rt; buffer == wanted, "{buffer:?}");
+    buffer
 }
 
 /// Asserts the same of a request.

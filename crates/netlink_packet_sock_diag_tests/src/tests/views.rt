@@ -1,7 +1,7 @@
 //! Borrowed replies, the messages of a datagram, and the states of dumps.
 
 use super::sizes::keeps;
-use super::{INET, PATH, SHUTDOWN, bytes, gives, shows};
+use super::{INET, PATH, SHUTDOWN, bytes, gives, same, shows};
 use netlink_core::{DecodeError, Emitable, write_new};
 use netlink_packet_sock_diag::inet::InetResponseView;
 use netlink_packet_sock_diag::unix::UnixResponseView;
@@ -14,7 +14,7 @@ use std::process::Abort;
 /// Asserts that the value serializes to these bytes.
 fn writes<T: Emitable>(rt: &impl Abort, alloc: Global, value: &T, parts: &[&str]) {
     let written = write_new(alloc, value).expect(rt, "unwritable");
-    assert!(rt; written == bytes(rt, alloc, parts), "{written:?}");
+    same(rt, &written, &bytes(rt, alloc, parts));
 }
 
 /// Asserts that `part` occurs in what `Debug` prints for the borrowed reply as a message, and that
@@ -65,6 +65,11 @@ fn attributes_are_checked_as_they_are_given(rt: HostRuntime) {
     let answers = "Ok(ReceiveQueueLength(0, 128)), Ok(Shutdown(0)), \
         Err(WrongLength { kind: Some(2), got: 1, need: 4 })]";
     gives(&rt, alloc, nlas, answers);
+}
+
+#[test]
+fn inet_attributes_are_checked_as_they_are_given(rt: HostRuntime) {
+    let alloc = rt.alloc();
     let parts = [INET, "0a0004006375626963000000", SHUTDOWN, "0300"];
     let reply = bytes(&rt, alloc, &parts);
     let (_, nlas) = InetResponseView::walk(&reply).expect(&rt, "refused");

@@ -1,7 +1,7 @@
 //! Tests of names and attributes. The bytes are worked out by hand from the layouts of
 //! sock_diag(7).
 
-use super::{debug_text, is_text, shows, sizes};
+use super::{debug_text, is_text, same, shows, sizes};
 use netlink_core::{
     CanonError, DecodeError, DefaultNla, Emitable, NlaBuffer, Parseable, Wire, canonical, write_new,
 };
@@ -43,48 +43,84 @@ fn short_text<T: Debug>(rt: &impl Abort, alloc: Global, value: &T, bytes: &[u8])
     }
 }
 
-/// A type that has a borrowed form, a view.
-trait Viewed: Wire<Param = ()> + Debug + Drop {
-    /// Parses a view. Returns the texts that `Debug` prints for it, and for a clone of its owned
-    /// copy.
-    fn viewed(rt: &impl Abort, alloc: Global, bytes: &[u8]) -> (String, String);
+/// A type that has a borrowed form, a view. The trait does not extend `Wire`, whose laws make each
+/// call of a generic helper slow to prove.
+trait Viewed: Sized + Debug + Drop {
+    /// Parses an owned value.
+    fn parsed(alloc: Global, bytes: &[u8]) -> Result<Self, DecodeError>;
+
+    /// Parses a view. Returns the text that `Debug` prints for it, and a clone of its owned copy.
+    fn viewed(rt: &impl Abort, alloc: Global, bytes: &[u8]) -> (String, Self);
+
+    /// Returns whether the value is serialized.
+    fn is_written(&self, alloc: Global) -> bool;
+
+    /// Returns the canonical form.
+    fn form(alloc: Global, bytes: &[u8]) -> Result<Vec<u8>, CanonError>;
 }
 
 impl Viewed for UnixDiagName {
-    fn viewed(rt: &impl Abort, alloc: Global, bytes: &[u8]) -> (String, String) {
+    fn parsed(alloc: Global, bytes: &[u8]) -> Result<Self, DecodeError> {
+        UnixDiagName::read(alloc, bytes, ())
+    }
+
+    fn viewed(rt: &impl Abort, alloc: Global, bytes: &[u8]) -> (String, Self) {
         let view = NameView::parse(bytes).expect(rt, "refused");
         let copy = view.to_owned(alloc).expect(rt, "memory");
         let copy = copy.clone(alloc).expect(rt, "memory");
-        (
-            debug_text(rt, alloc, &view),
-            short_text(rt, alloc, &copy, bytes),
-        )
+        (debug_text(rt, alloc, &view), copy)
+    }
+
+    fn is_written(&self, alloc: Global) -> bool {
+        write_new(alloc, self).is_ok()
+    }
+
+    fn form(alloc: Global, bytes: &[u8]) -> Result<Vec<u8>, CanonError> {
+        canonical::<UnixDiagName>(alloc, bytes, ())
     }
 }
 
 impl Viewed for Nla {
-    fn viewed(rt: &impl Abort, alloc: Global, bytes: &[u8]) -> (String, String) {
+    fn parsed(alloc: Global, bytes: &[u8]) -> Result<Self, DecodeError> {
+        Nla::read(alloc, bytes, ())
+    }
+
+    fn viewed(rt: &impl Abort, alloc: Global, bytes: &[u8]) -> (String, Self) {
         let nla = NlaBuffer::new_checked(bytes).expect(rt, "refused");
         let view = NlaView::parse(&nla).expect(rt, "refused");
         let copy = view.to_owned(alloc).expect(rt, "memory");
         let copy = copy.clone(alloc).expect(rt, "memory");
-        (
-            debug_text(rt, alloc, &view),
-            short_text(rt, alloc, &copy, bytes),
-        )
+        (debug_text(rt, alloc, &view), copy)
+    }
+
+    fn is_written(&self, alloc: Global) -> bool {
+        write_new(alloc, self).is_ok()
+    }
+
+    fn form(alloc: Global, bytes: &[u8]) -> Result<Vec<u8>, CanonError> {
+        canonical::<Nla>(alloc, bytes, ())
     }
 }
 
 impl Viewed for inet::Nla {
-    fn viewed(rt: &impl Abort, alloc: Global, bytes: &[u8]) -> (String, String) {
+    fn parsed(alloc: Global, bytes: &[u8]) -> Result<Self, DecodeError> {
+        inet::Nla::read(alloc, bytes, ())
+    }
+
+    fn viewed(rt: &impl Abort, alloc: Global, bytes: &[u8]) -> (String, Self) {
         let nla = NlaBuffer::new_checked(bytes).expect(rt, "refused");
         let view = inet::NlaView::parse(&nla).expect(rt, "refused");
         let copy = view.to_owned(alloc).expect(rt, "memory");
         let copy = copy.clone(alloc).expect(rt, "memory");
-        (
-            debug_text(rt, alloc, &view),
-            short_text(rt, alloc, &copy, bytes),
-        )
+        (debug_text(rt, alloc, &view), copy)
+    }
+
+    fn is_written(&self, alloc: Global) -> bool {
+        write_new(alloc, self).is_ok()
+    }
+
+    fn form(alloc: Global, bytes: &[u8]) -> Result<Vec<u8>, CanonError> {
+        canonical::<inet::Nla>(alloc, bytes, ())
     }
 }
 
@@ -93,14 +129,14 @@ fn examine_as<T: Viewed>(
     alloc: Global,
     bytes: &[u8],
 ) -> Result<Report, DecodeError> {
-    let value = T::read(alloc, bytes, ())?;
+    let value = T::parsed(alloc, bytes)?;
     let (view, copy) = T::viewed(rt, alloc, bytes);
     Ok(Report {
         owned: short_text(rt, alloc, &value, bytes),
         view,
-        copy,
-        is_written: write_new(alloc, &value).is_ok(),
-        form: canonical::<T>(alloc, bytes, ()),
+        copy: short_text(rt, alloc, &copy, bytes),
+        is_written: value.is_written(alloc),
+        form: T::form(alloc, bytes),
     })
 }
 
@@ -143,23 +179,25 @@ fn told(
     is_text(rt, report.copy.as_str(), owned);
     is_text(rt, report.view.as_str(), viewed);
     match &report.form {
-        Ok(form) => assert!(rt; form.as_slice() == written, "{form:?}"),
+        Ok(form) => same(rt, form, written),
         Err(_) => panic!(rt; "refused"),
     }
 }
 
-// Checks each row: the bytes and their canonical form, in hexadecimal, and the text of the owned
+// Checks a row: the bytes and their canonical form, in hexadecimal, and the text of the owned
 // value. After a `|` the text of the view follows, if it differs.
+fn row(rt: &impl Abort, alloc: Global, subject: Subject, row: &str) {
+    let (bytes, rest) = row.split_once(' ').expect(rt, "no bytes");
+    let (written, texts) = rest.split_once(' ').expect(rt, "no text");
+    let (owned, viewed) = texts.split_once('|').unwrap_or((texts, texts));
+    let bytes = hex::decode(alloc, bytes).expect(rt, "memory");
+    let written = hex::decode(alloc, written).expect(rt, "memory");
+    told(rt, alloc, subject, (&bytes, &written), owned, viewed);
+}
+
 fn rows(rt: &impl Abort, alloc: Global, subject: Subject, rows: &str) {
-    for row in rows.lines() {
-        let (bytes, rest) = row.split_once(' ').expect(rt, "no bytes");
-        let (written, texts) = rest.split_once(' ').expect(rt, "no text");
-        let (owned, viewed) = texts.split_once('|').unwrap_or((texts, texts));
-        let forms = (
-            hex::decode(alloc, bytes).expect(rt, "memory"),
-            hex::decode(alloc, written).expect(rt, "memory"),
-        );
-        told(rt, alloc, subject, (&forms.0, &forms.1), owned, viewed);
+    for text in rows.lines() {
+        row(rt, alloc, subject, text);
     }
 }
 
@@ -275,35 +313,50 @@ fn refusals(rt: HostRuntime) {
 // Asserts that a value serializes to these bytes.
 fn writes<T: Emitable>(rt: &impl Abort, alloc: Global, value: &T, bytes: &[u8]) {
     let written = write_new(alloc, value).expect(rt, "unwritable");
-    assert!(rt; written.as_slice() == bytes, "{written:?}");
+    same(rt, &written, bytes);
+}
+
+// Asserts that the pathname serializes to these bytes, and that they are parsed as the text.
+fn path_writes(rt: &impl Abort, alloc: Global, path: &[u8], bytes: &[u8], text: &str) {
+    let path = Vec::from_slice(alloc, path).expect(rt, "memory");
+    writes(rt, alloc, &UnixDiagName::Pathname(path), bytes);
+    reads(rt, alloc, Subject::Name, bytes, text);
 }
 
 #[test]
 fn names_that_no_parser_returns(rt: HostRuntime) {
     let alloc = rt.alloc();
-    for (path, bytes, text) in [
-        (b"".as_slice(), b"\0".as_slice(), "Ok(Abstract([]))"),
-        (b"a\0b", b"a\0b\0", "Err(NameInnerZero { index: 1 })"),
-        (b"\0a", b"\0a\0", "Ok(Abstract([97, 0]))"),
-    ] {
-        let path = Vec::from_slice(alloc, path).expect(&rt, "memory");
-        writes(&rt, alloc, &UnixDiagName::Pathname(path), bytes);
-        reads(&rt, alloc, Subject::Name, bytes, text);
-    }
+    path_writes(&rt, alloc, b"", b"\0", "Ok(Abstract([]))");
+    let text = "Err(NameInnerZero { index: 1 })";
+    path_writes(&rt, alloc, b"a\0b", b"a\0b\0", text);
+    path_writes(&rt, alloc, b"\0a", b"\0a\0", "Ok(Abstract([97, 0]))");
+}
+
+// Asserts that the attribute of this type and value serializes to these bytes, and that they are
+// parsed as the text.
+fn other_writes(
+    rt: &impl Abort,
+    alloc: Global,
+    (type_word, value): (u16, &[u8]),
+    bytes: &[u8],
+    text: &str,
+) {
+    let value = Vec::from_slice(alloc, value).expect(rt, "memory");
+    writes(
+        rt,
+        alloc,
+        &Nla::Other(DefaultNla::new(type_word, value)),
+        bytes,
+    );
+    reads(rt, alloc, Subject::UnixAttribute, bytes, text);
 }
 
 #[test]
 fn attributes_that_no_parser_returns(rt: HostRuntime) {
     let alloc = rt.alloc();
-    let peer: &[u8] = b"\x08\0\x02\0\x01\0\0\0";
-    let short = "Err(WrongLength { kind: Some(2), got: 1, need: 4 })";
-    for (type_word, value, bytes, text) in [
-        (2, b"\x01\0\0\0".as_slice(), peer, "Ok(Peer(1))"),
-        (0x8002, b"\x01", b"\x05\0\x02\x80\x01\0\0\0", short),
-    ] {
-        let value = Vec::from_slice(alloc, value).expect(&rt, "memory");
-        let nla = Nla::Other(DefaultNla::new(type_word, value));
-        writes(&rt, alloc, &nla, bytes);
-        reads(&rt, alloc, Subject::UnixAttribute, bytes, text);
-    }
+    let peer = b"\x08\0\x02\0\x01\0\0\0";
+    other_writes(&rt, alloc, (2, b"\x01\0\0\0"), peer, "Ok(Peer(1))");
+    let short = b"\x05\0\x02\x80\x01\0\0\0";
+    let text = "Err(WrongLength { kind: Some(2), got: 1, need: 4 })";
+    other_writes(&rt, alloc, (0x8002, b"\x01"), short, text);
 }

@@ -2,6 +2,7 @@
 //! are derived by hand from sock_diag(7) and `linux/inet_diag.h`, except for the bytes that Linux
 //! sent, as noted below.
 
+use super::{debug_text, gives, is_text, shows};
 use netlink_core::{DecodeError, FamilyView, NlaBuffer, NlasIterator};
 use sock_diag_extras::{
     AckAttributes, AckView, AttributeRecord, AttributeRecords, BbrInfo, BpfStorage, DctcpInfo,
@@ -46,11 +47,20 @@ fn record<T: AttributeRecord + Debug + Drop>(
     alloc: Global,
     bytes: &[u8],
 ) -> String {
-    let told = read_attribute_record::<T>(bytes).expect(rt, "too short");
+    let parsed = read_attribute_record::<T>(bytes).expect(rt, "too short");
     let mut back = vec![in alloc; 1; bytes.len()].expect(rt, "memory");
-    write_attribute_record(&told, &mut back);
-    let same = back.as_slice() == bytes;
-    format!(in alloc; "{told:?} {same}").expect(rt, "memory")
+    write_attribute_record(&parsed, &mut back);
+    and_same(
+        rt,
+        alloc,
+        &debug_text(rt, alloc, &parsed),
+        back.as_slice() == bytes,
+    )
+}
+
+/// Returns the text, followed by whether the bytes are the same.
+fn and_same(rt: &impl Abort, alloc: Global, text: &str, is_same: bool) -> String {
+    format!(in alloc; "{text} {is_same}").expect(rt, "memory")
 }
 
 /// Returns the port, the IP address and the scope of a stored address. Its bytes are `front`,
@@ -58,8 +68,8 @@ fn record<T: AttributeRecord + Debug + Drop>(
 fn address(rt: &impl Abort, alloc: Global, front: &[u8]) -> String {
     let mut value = Vec::from_slice(alloc, front).expect(rt, "memory");
     value.resize(128, 0).expect(rt, "memory");
-    let told = read_attribute_record::<StoredAddress>(&value).expect(rt, "too short");
-    format!(in alloc; "{} {:?} {}", told.port, told.ip(), told.scope_id).expect(rt, "memory")
+    let parsed = read_attribute_record::<StoredAddress>(&value).expect(rt, "too short");
+    format!(in alloc; "{} {:?} {}", parsed.port, parsed.ip(), parsed.scope_id).expect(rt, "memory")
 }
 
 /// Returns the content of an acknowledgement as text, or `nothing` if it could not be parsed.
@@ -67,30 +77,70 @@ fn acknowledgement(rt: &impl Abort, alloc: Global, ack: Option<AckView<'_>>) -> 
     let Some(ack) = ack else {
         return String::from_str(alloc, "nothing").expect(rt, "memory");
     };
-    let told = ack.attributes().expect(rt, "refused");
+    let numbers = acknowledged(&ack);
+    let parsed = ack.attributes().expect(rt, "refused");
+    let attributes = attributes_text(rt, alloc, &parsed);
+    format!(in alloc; "{numbers:?} {attributes}").expect(rt, "memory")
+}
+
+/// Returns the number, and the length and the sequence number of the request.
+fn acknowledged(ack: &AckView<'_>) -> (i32, usize, Option<u32>) {
     let sequence = ack.request_header().map(|header| header.sequence_number);
-    let numbers = (ack.number(), ack.request().len(), sequence);
-    let policy = told.policy().map(|policy| policy.len());
-    let message = told.message().expect(rt, "refused");
-    let offset = told.offset().expect(rt, "refused");
-    format!(in alloc; "{numbers:?} {message:?} {offset:?} {policy:?}").expect(rt, "memory")
+    (ack.number(), ack.request().len(), sequence)
+}
+
+/// Returns the message, the offset and the length of the policy as text.
+fn attributes_text(rt: &impl Abort, alloc: Global, parsed: &AckAttributes<'_>) -> String {
+    let policy = parsed.policy().map(|policy| policy.len());
+    let message = parsed.message().expect(rt, "refused");
+    let offset = parsed.offset().expect(rt, "refused");
+    format!(in alloc; "{message:?} {offset:?} {policy:?}").expect(rt, "memory")
 }
 
 /// Returns the upper layer protocol of a connection as text: its name, and fields of TLS and MPTCP.
-fn upper_protocol(alloc: Global, value: &[u8]) -> Result<String, DecodeError> {
+fn upper_protocol(rt: &impl Abort, alloc: Global, value: &[u8]) -> Result<String, DecodeError> {
     let info = UlpInfo::parse(value)?;
-    let mut text = format!(in alloc; "{:?}", info.name()?)?;
-    if let Some(tls) = info.tls()? {
-        let numbers = (tls.get(TlsField::Version)?, tls.get(TlsField::Receiving)?);
-        let flags = (tls.sends_without_copy(), tls.expects_no_padding());
-        text.push_str(format!(in alloc; " {numbers:?} {flags:?}")?.as_str())?;
-    }
-    if let Some(subflow) = info.mptcp()? {
-        let sequence = subflow.get(SubflowField::MapSequence)?;
-        let id = subflow.get(SubflowField::LocalId)?;
-        text.push_str(format!(in alloc; " {sequence:?} {id:?}")?.as_str())?;
-    }
-    Ok(text)
+    let name = info.name()?;
+    let tls = match info.tls()? {
+        Some(tls) => tls_text(rt, alloc, &tls)?,
+        None => String::new(alloc),
+    };
+    let subflow = match info.mptcp()? {
+        Some(subflow) => subflow_text(rt, alloc, &subflow)?,
+        None => String::new(alloc),
+    };
+    Ok(format!(in alloc; "{name:?}{tls}{subflow}").expect(rt, "memory"))
+}
+
+/// Returns fields of TLS as text.
+fn tls_text(rt: &impl Abort, alloc: Global, tls: &TlsInfo) -> Result<String, DecodeError> {
+    let numbers = tls_numbers(tls)?;
+    let flags = (tls.sends_without_copy(), tls.expects_no_padding());
+    Ok(format!(in alloc; " {numbers:?} {flags:?}").expect(rt, "memory"))
+}
+
+/// Returns the version of TLS, and whether the kernel decrypts what the socket receives.
+fn tls_numbers(tls: &TlsInfo) -> Result<(Option<u64>, Option<u64>), DecodeError> {
+    let version = tls.get(TlsField::Version)?;
+    let receiving = tls.get(TlsField::Receiving)?;
+    Ok((version, receiving))
+}
+
+/// Returns fields of MPTCP as text.
+fn subflow_text(
+    rt: &impl Abort,
+    alloc: Global,
+    subflow: &SubflowInfo,
+) -> Result<String, DecodeError> {
+    let (sequence, id) = subflow_numbers(subflow)?;
+    Ok(format!(in alloc; " {sequence:?} {id:?}").expect(rt, "memory"))
+}
+
+/// Returns the sequence number at which the mapping begins, and the local id.
+fn subflow_numbers(subflow: &SubflowInfo) -> Result<(Option<u64>, Option<u64>), DecodeError> {
+    let sequence = subflow.get(SubflowField::MapSequence)?;
+    let id = subflow.get(SubflowField::LocalId)?;
+    Ok((sequence, id))
 }
 
 /// Returns the map id and the value of each storage of BPF programs as text.
@@ -106,9 +156,9 @@ fn storages(rt: &impl Abort, alloc: Global, value: &[u8]) -> String {
 /// Returns the map id and the value of one storage as text, or `other` if the attribute is none.
 fn storage(rt: &impl Abort, alloc: Global, nla: &NlaBuffer) -> String {
     let line = match BpfStorage::parse(nla).expect(rt, "refused") {
-        Some(told) => {
-            let id = told.map_id().expect(rt, "refused");
-            format!(in alloc; "{id:?} {:?};", told.map_value())
+        Some(parsed) => {
+            let id = parsed.map_id().expect(rt, "refused");
+            format!(in alloc; "{id:?} {:?};", parsed.map_value())
         }
         None => String::from_str(alloc, "other;"),
     };
@@ -117,7 +167,7 @@ fn storage(rt: &impl Abort, alloc: Global, nla: &NlaBuffer) -> String {
 
 /// Returns the content of the bytes as text. The word before them in a row selects the parser; a
 /// number is the flags of an `NLMSG_ERROR`.
-fn told(rt: &impl Abort, alloc: Global, word: &str, bytes: &[u8]) -> String {
+fn content_text(rt: &impl Abort, alloc: Global, word: &str, bytes: &[u8]) -> String {
     match word {
         "reply" => inet_items(rt, alloc, bytes),
         "unix" => unix_items(rt, alloc, bytes),
@@ -149,7 +199,7 @@ fn unix_items(rt: &impl Abort, alloc: Global, attributes: &[u8]) -> String {
 
 /// Returns the upper layer protocol of a connection as text, or the text of the error.
 fn upper_protocol_or_error(rt: &impl Abort, alloc: Global, value: &[u8]) -> String {
-    let text = match upper_protocol(alloc, value) {
+    let text = match upper_protocol(rt, alloc, value) {
         Ok(text) => Ok(text),
         Err(error) => format!(in alloc; "{error}"),
     };
@@ -219,39 +269,42 @@ address 0100|0 None 0
 storages 0400020014000180080002000900000005000300070000000c0001800800030001000000|\
 other;Some(9) Some([7]);None Some([1, 0, 0, 0]);";
 
+/// Asserts that the content of the bytes in a row is the text in it.
+fn row_holds(rt: &impl Abort, alloc: Global, row: &str) {
+    let (given, text) = row.split_once('|').expect(rt, "no text");
+    let (word, digits) = given.split_once(' ').expect(rt, "no word");
+    let bytes = hex::decode(alloc, digits).expect(rt, "digits");
+    let shown = content_text(rt, alloc, word, &bytes);
+    assert!(rt; shown.as_str() == text, "{row}");
+}
+
 #[test]
 fn rows(rt: HostRuntime) {
     for row in ROWS.lines() {
-        let (given, text) = row.split_once('|').expect(&rt, "no text");
-        let (word, digits) = given.split_once(' ').expect(&rt, "no word");
-        let bytes = hex::decode(rt.alloc(), digits).expect(&rt, "digits");
-        let shown = told(&rt, rt.alloc(), word, &bytes);
-        assert!(&rt; shown.as_str() == text, "{row}");
+        row_holds(&rt, rt.alloc(), row);
     }
 }
 
-/// Checks two fields of `struct tcp_info` (total retransmissions, and bytes received with the ECN
-/// mark CE) and the port's record, for values of several lengths. A field has a value only if the
-/// bytes contain all of it.
+/// Asserts what `Debug` prints for two fields of `struct tcp_info` (total retransmissions, and
+/// bytes received with the ECN mark CE), and for whether the bytes contain all of the port's
+/// record.
+fn shows_tcp_fields(rt: &impl Abort, alloc: Global, bytes: &[u8], text: &str) {
+    let info = TcpInfoBytes::new(bytes);
+    let resent = info.get(TcpField::TotalRetrans);
+    let marked = info.get(TcpField::ReceivedCeBytes);
+    shows(rt, alloc, &(resent, marked, info.whole().is_some()), text);
+}
+
+/// Checks values of several lengths. A field has a value only if the bytes contain all of it.
 #[test]
 fn as_far_as_the_bytes_go(rt: HostRuntime) {
     let mut value = [0; 281];
     value[100] = 7;
     value[273] = 1;
-    for (told, wanted) in [
-        (103, (None, None, false)),
-        (104, (Some(7), None, false)),
-        (275, (Some(7), None, true)),
-        (281, (Some(7), Some(256), true)),
-    ] {
-        let info = TcpInfoBytes::new(&value[..told]);
-        let resent = info.get(TcpField::TotalRetrans);
-        let marked = info.get(TcpField::ReceivedCeBytes);
-        assert!(&rt;
-            (resent, marked, info.whole().is_some()) == wanted,
-            "{told}"
-        );
-    }
+    shows_tcp_fields(&rt, rt.alloc(), &value[..103], "(None, None, false)");
+    shows_tcp_fields(&rt, rt.alloc(), &value[..104], "(Some(7), None, false)");
+    shows_tcp_fields(&rt, rt.alloc(), &value[..275], "(Some(7), None, true)");
+    shows_tcp_fields(&rt, rt.alloc(), &value, "(Some(7), Some(256), true)");
 }
 
 /// Checks a record with a key that Linux 6.18 sent. It is padded with zeros, and 7 bytes remain
@@ -262,29 +315,15 @@ fn signatures(rt: HostRuntime) {
     let mut value = hex::decode(rt.alloc(), digits).expect(&rt, "digits");
     value.resize(107, 0).expect(&rt, "memory");
     let mut records = AttributeRecords::<Md5Signature>::new(&value);
-    let told = records.next().expect(&rt, "too short");
-    assert!(&rt; (told.family, told.prefix_length, told.key_length) == (2, 32, 6));
-    assert!(&rt; told.address.starts_with(&[127, 0, 0, 2]) && told.key.starts_with(b"secret\0"));
+    let parsed = records.next().expect(&rt, "too short");
+    is_signature(&rt, &parsed);
     assert!(&rt; records.next().is_none() && records.rest().len() == 7);
 }
 
-/// Asserts that `Debug` prints the value as the text.
-fn is_text(rt: &impl Abort, alloc: Global, value: impl Debug + Drop, text: &str) {
-    let shown = format!(in alloc; "{value:?}").expect(rt, "memory");
-    assert!(rt; shown.as_str() == text, "{shown}");
-}
-
-/// Returns the `Debug` output of each item of the iterator.
-fn debug_items<'a, V>(rt: &impl Abort, alloc: Global, attributes: LenientNlas<'a, V>) -> String
-where
-    V: FamilyView<'a> + Debug + Drop,
-{
-    let mut text = String::new(alloc);
-    for item in attributes {
-        let line = format!(in alloc; "{item:?};").expect(rt, "memory");
-        text.push_str(line.as_str()).expect(rt, "memory");
-    }
-    text
+/// Asserts that the record is the one of the test above.
+fn is_signature(rt: &impl Abort, parsed: &Md5Signature) {
+    assert!(rt; parsed.family == 2 && parsed.prefix_length == 32 && parsed.key_length == 6);
+    assert!(rt; parsed.address.starts_with(&[127, 0, 0, 2]) && parsed.key.starts_with(b"secret\0"));
 }
 
 /// Returns the bytes of an attribute of type 1 with this value.
@@ -296,31 +335,59 @@ fn attribute(rt: &impl Abort, alloc: Global, value: &[u8]) -> Vec<u8> {
     bytes
 }
 
+/// Asserts that `Debug` prints the value as this text, in parentheses after the name.
+fn wraps<T: Debug>(rt: &impl Abort, alloc: Global, value: &T, name: &str, text: &str) {
+    shows(
+        rt,
+        alloc,
+        value,
+        in_parentheses(rt, alloc, name, text).as_str(),
+    );
+}
+
+/// Returns the text in parentheses after the name.
+fn in_parentheses(rt: &impl Abort, alloc: Global, name: &str, text: &str) -> String {
+    format!(in alloc; "{name}({text})").expect(rt, "memory")
+}
+
 /// Asserts that `Debug` prints the bytes of each type that borrows an attribute with this value, or
 /// the value itself.
 fn values_have_texts_of(rt: &impl Abort, alloc: Global, value: &[u8]) {
     let bytes = attribute(rt, alloc, value);
     let nested = NestedNlas::parse(&bytes).expect(rt, "refused");
-    let all = (
-        nested,
-        UlpInfo(nested),
-        TlsInfo(nested),
-        SubflowInfo(nested),
-        BpfStorage(nested),
-        AckAttributes(nested),
-        TcpInfoBytes::new(value),
+    let text = fields_text(rt, alloc, "NestedNlas", &bytes);
+    shows(rt, alloc, &nested, text.as_str());
+    wraps(rt, alloc, &UlpInfo(nested), "UlpInfo", text.as_str());
+    wraps(rt, alloc, &TlsInfo(nested), "TlsInfo", text.as_str());
+    wraps(
+        rt,
+        alloc,
+        &SubflowInfo(nested),
+        "SubflowInfo",
+        text.as_str(),
     );
-    let nested = format!(in alloc; "NestedNlas {{ bytes: {bytes:?} }}").expect(rt, "memory");
-    let text = format!(in alloc;
-        "({nested}, UlpInfo({nested}), TlsInfo({nested}), SubflowInfo({nested}), \
-        BpfStorage({nested}), AckAttributes({nested}), TcpInfoBytes {{ bytes: {value:?} }})"
+    wraps(rt, alloc, &BpfStorage(nested), "BpfStorage", text.as_str());
+    wraps(
+        rt,
+        alloc,
+        &AckAttributes(nested),
+        "AckAttributes",
+        text.as_str(),
     );
-    is_text(rt, alloc, all, text.expect(rt, "memory").as_str());
+    let text = fields_text(rt, alloc, "TcpInfoBytes", value);
+    shows(rt, alloc, &TcpInfoBytes::new(value), text.as_str());
 }
+
+/// Returns the text of a struct of this name with one field, `bytes`.
+fn fields_text(rt: &impl Abort, alloc: Global, name: &str, bytes: &[u8]) -> String {
+    format!(in alloc; "{name} {{ bytes: {bytes:?} }}").expect(rt, "memory")
+}
+
+const VALUE_SIZES: [usize; 7] = [0, 1, 2, 232, 280, 300, 65_531];
 
 #[test]
 fn values_have_texts(rt: HostRuntime) {
-    for size in [0, 1, 2, 232, 280, 300, 65_531] {
+    for &size in &VALUE_SIZES {
         let value = vec![in rt.alloc(); 7; size].expect(&rt, "memory");
         values_have_texts_of(&rt, rt.alloc(), &value);
     }
@@ -331,13 +398,12 @@ fn acknowledgements_and_items_have_texts(rt: HostRuntime) {
     let alloc = rt.alloc();
     let text = "AckView { number: 1, request: [], attributes: [9] }";
     let ack = AckView::of_done(512, &[1, 0, 0, 0, 9]).expect(&rt, "too short");
-    is_text(&rt, alloc, ack, text);
+    shows(&rt, alloc, &ack, text);
     let bytes = reply(&rt, alloc, 1, 16, &[5, 0, 2, 128, 7, 0, 0, 0, 0, 0]);
     let reply = LenientUnixReply::parse(&bytes).expect(&rt, "refused");
-    let shown = debug_items(&rt, alloc, reply.attributes());
-    let text = "Err(Attribute(NlaBuffer { type_word: 32770, value: [7] }, WrongLength { kind: \
-        Some(2), got: 1, need: 4 }));Err(Framing(AttributeHeaderCut { left: 2 }));";
-    assert!(&rt; shown.as_str() == text, "{shown}");
+    let text = "[Err(Attribute(NlaBuffer { type_word: 32770, value: [7] }, WrongLength { kind: \
+        Some(2), got: 1, need: 4 })), Err(Framing(AttributeHeaderCut { left: 2 }))]";
+    gives(&rt, alloc, reply.attributes(), text);
 }
 
 /// All fields of `struct tcp_info`, in order.
@@ -442,17 +508,17 @@ const OPTIONS: [SocketOption; 11] = [
 #[test]
 fn fields_have_texts(rt: HostRuntime) {
     let alloc = rt.alloc();
-    is_text(&rt, alloc, TCP_FIELDS, TCP_TEXT);
+    shows(&rt, alloc, &TCP_FIELDS, TCP_TEXT);
     let text = "[RecvErr, IsIcsk, FreeBind, HdrIncl, McLoop, Transparent, McAll, NoDefrag, \
         BindAddressNoPort, RecvErrRfc4884, DeferConnect]";
-    is_text(&rt, alloc, OPTIONS, text);
+    shows(&rt, alloc, &OPTIONS, text);
     let fields = [
         TlsField::Version,
         TlsField::Cipher,
         TlsField::Sending,
         TlsField::Receiving,
     ];
-    is_text(&rt, alloc, fields, "[Version, Cipher, Sending, Receiving]");
+    shows(&rt, alloc, &fields, "[Version, Cipher, Sending, Receiving]");
     let fields = [
         SubflowField::RemoteToken,
         SubflowField::LocalToken,
@@ -467,29 +533,32 @@ fn fields_have_texts(rt: HostRuntime) {
     ];
     let text = "[RemoteToken, LocalToken, RelativeWriteSequence, MapSequence, MapSubflowSequence, \
         SequenceOffset, MapLength, Flags, RemoteId, LocalId]";
-    is_text(&rt, alloc, fields, text);
+    shows(&rt, alloc, &fields, text);
 }
 
 /// Asserts that `Debug` prints the record that consists of zeros as this text.
 fn zeros_have_text<T: AttributeRecord + Debug + Drop>(rt: &impl Abort, alloc: Global, text: &str) {
     let record = read_attribute_record::<T>(&[0; 128]).expect(rt, "too short");
-    is_text(rt, alloc, record, text);
+    shows(rt, alloc, &record, text);
 }
+
+/// The `Debug` output of the address that consists of zeros.
+const NO_ADDRESS: &str = "\
+StoredAddress { family: 0, port: 0, front: [0, 0, 0, 0], segments: [0, 0, 0, 0, 0, 0, 0, 0], \
+scope_id: 0, rest: [0, 0, 0, 0, 0, 0, 0, 0, 0, 0, 0, 0, 0, 0, 0, 0, 0, 0, 0, 0, 0, 0, 0, 0, \
+0, 0, 0, 0, 0, 0, 0, 0, 0, 0, 0, 0, 0, 0, 0, 0, 0, 0, 0, 0, 0, 0, 0, 0, 0, 0, 0, 0, 0, 0, 0, \
+0, 0, 0, 0, 0, 0, 0, 0, 0, 0, 0, 0, 0, 0, 0, 0, 0, 0, 0, 0, 0, 0, 0, 0, 0, 0, 0, 0, 0, 0, 0, \
+0, 0, 0, 0, 0, 0, 0, 0, 0, 0, 0, 0, 0, 0] }";
+
+/// The `Debug` output of the signature that consists of zeros.
+const NO_SIGNATURE: &str = "\
+Md5Signature { family: 0, prefix_length: 0, key_length: 0, address: [0, 0, 0, 0, 0, 0, 0, 0, \
+0, 0, 0, 0, 0, 0, 0, 0], key: [0, 0, 0, 0, 0, 0, 0, 0, 0, 0, 0, 0, 0, 0, 0, 0, 0, 0, 0, 0, 0, \
+0, 0, 0, 0, 0, 0, 0, 0, 0, 0, 0, 0, 0, 0, 0, 0, 0, 0, 0, 0, 0, 0, 0, 0, 0, 0, 0, 0, 0, 0, 0, \
+0, 0, 0, 0, 0, 0, 0, 0, 0, 0, 0, 0, 0, 0, 0, 0, 0, 0, 0, 0, 0, 0, 0, 0, 0, 0, 0, 0] }";
 
 #[test]
 fn records_have_texts(rt: HostRuntime) {
-    let (alloc, zeros) = (rt.alloc(), [0; 100]);
-    let text = format!(in alloc;
-        "StoredAddress {{ family: 0, port: 0, front: [0, 0, 0, 0], segments: {:?}, scope_id: 0, \
-        rest: {:?} }}",
-        &zeros[..8],
-        &zeros
-    );
-    zeros_have_text::<StoredAddress>(&rt, alloc, text.expect(&rt, "memory").as_str());
-    let text = format!(in alloc;
-        "Md5Signature {{ family: 0, prefix_length: 0, key_length: 0, address: {:?}, key: {:?} }}",
-        &zeros[..16],
-        &zeros[..80]
-    );
-    zeros_have_text::<Md5Signature>(&rt, alloc, text.expect(&rt, "memory").as_str());
+    zeros_have_text::<StoredAddress>(&rt, rt.alloc(), NO_ADDRESS);
+    zeros_have_text::<Md5Signature>(&rt, rt.alloc(), NO_SIGNATURE);
 }

@@ -1,5 +1,6 @@
 //! Tests of programs against those that ss(8) sends, of requests, and of `Debug` outputs.
 
+use super::{is_text, shows};
 use netlink_core::{Emitable, RecordName};
 use sock_diag_filters::uses::listening_on;
 use sock_diag_filters::{
@@ -12,9 +13,23 @@ use std::process::Abort;
 
 /// Asserts that the filter assembles to the program in hexadecimal.
 fn assembles(rt: &impl Abort, alloc: Global, filter: &Filter, program: &str) {
-    let program_bytes = assemble(alloc, filter).expect(rt, "refused");
-    let made = hex::encode(alloc, program_bytes).expect(rt, "memory");
-    assert!(rt; made.as_str() == program, "{made}");
+    is_hex(rt, alloc, &assembled(rt, alloc, filter), program);
+}
+
+/// Returns the program of the filter.
+fn assembled(rt: &impl Abort, alloc: Global, filter: &Filter) -> Vec<u8> {
+    assemble(alloc, filter).expect(rt, "refused")
+}
+
+/// Asserts that the digits of the bytes are these.
+fn is_hex(rt: &impl Abort, alloc: Global, bytes: &[u8], digits: &str) {
+    let encoded = hex::encode(alloc, bytes).expect(rt, "memory");
+    is_text(rt, encoded.as_str(), digits);
+}
+
+/// Asserts that the condition assembles to the program in hexadecimal.
+fn one_assembles(rt: &impl Abort, alloc: Global, condition: Condition, program: &str) {
+    assembles(rt, alloc, &Filter::Condition(condition), program);
 }
 
 /// Checks the programs that ss(8) sends for `dst [::1]:53`, `autobound`, `cgroup /` (with the id
@@ -25,22 +40,23 @@ fn conditions_are_those_of_ss(rt: HostRuntime) {
         prefix: Prefix::new(IpAddr::V6(Ipv6Addr::LOCALHOST), 128),
         port: Some(53),
     };
-    for (condition, program) in [
-        (
-            Condition::Destination(local),
-            "081c20000a8000003500000000000000000000000000000000000001",
-        ),
-        (Condition::AutoBound, "06040800"),
-        (Condition::Cgroup(0), "0d0c10000000000000000000"),
-        (
-            Condition::Mark { mark: 1, mask: 3 },
-            "0a0c10000100000003000000",
-        ),
-        (Condition::Interface(3), "09080c0003000000"),
-    ] {
-        assembles(&rt, rt.alloc(), &Filter::Condition(condition), program);
+    let program = "081c20000a8000003500000000000000000000000000000000000001";
+    one_assembles(&rt, rt.alloc(), Condition::Destination(local), program);
+    for (condition, program) in &PROGRAMS {
+        one_assembles(&rt, rt.alloc(), *condition, program);
     }
 }
+
+/// Conditions, and their programs in hexadecimal.
+const PROGRAMS: [(Condition, &str); 4] = [
+    (Condition::AutoBound, "06040800"),
+    (Condition::Cgroup(0), "0d0c10000000000000000000"),
+    (
+        Condition::Mark { mark: 1, mask: 3 },
+        "0a0c10000100000003000000",
+    ),
+    (Condition::Interface(3), "09080c0003000000"),
+];
 
 /// Checks the program that ss(8) sends for
 /// `sport >= :1024 and ( dport <= :99 or not src 10.0.0.0/8 )`.
@@ -131,8 +147,7 @@ cookie: [0, 0, 0, 0, 0, 0, 0, 0] } }, protocol: 262, program: Some([6, 4, 8, 0])
 fn is_shown(rt: &impl Abort, alloc: Global, row: &str) {
     let (digits, text) = row.split_once('|').expect(rt, "no text");
     let bytes = hex::decode(alloc, digits).expect(rt, "digits");
-    let shown = format!(in alloc; "{:?}", AnyRequestView::parse(&bytes)).expect(rt, "memory");
-    is_text(rt, shown.as_str(), text);
+    shows(rt, alloc, &AnyRequestView::parse(&bytes), text);
 }
 
 #[test]
@@ -144,111 +159,127 @@ fn requests_are_read(rt: HostRuntime) {
     is_shown(&rt, rt.alloc(), asked.as_str());
 }
 
-/// Asserts that two texts are equal.
-fn is_text(rt: &impl Abort, shown: &str, text: &str) {
-    assert!(rt; shown == text, "{shown}");
+/// Asserts that `Display` prints the name of a record as this text.
+fn is_named(rt: &impl Abort, alloc: Global, name: RecordName, text: &str) {
+    let shown = format!(in alloc; "{name}").expect(rt, "memory");
+    is_text(rt, shown.as_str(), text);
+}
+
+/// Asserts that `Debug` and `Display` print the error of `assemble` as these texts.
+fn fails(rt: &impl Abort, alloc: Global, error: AssembleError, name: &str, text: &str) {
+    shows(rt, alloc, &error, name);
+    let shown = format!(in alloc; "{error}").expect(rt, "memory");
+    is_text(rt, shown.as_str(), text);
 }
 
 /// Checks the names of records of other families, and the texts of errors of `assemble`.
 #[test]
 fn names_and_errors_have_texts(rt: HostRuntime) {
     let alloc = rt.alloc();
-    for (name, text) in [
-        (
-            RecordName::FamilyRequest { family: 16 },
-            "FamilyRequest { family: 16 }",
-        ),
-        (
-            RecordName::FamilyResponseHeader { family: 44 },
-            "FamilyResponseHeader { family: 44 }",
-        ),
-        (
-            RecordName::FamilyAttribute {
-                family: 17,
-                kind: 2,
-            },
-            "FamilyAttribute { family: 17, kind: 2 }",
-        ),
-    ] {
-        let shown = format!(in alloc; "{name}").expect(&rt, "memory");
-        is_text(&rt, shown.as_str(), text);
-    }
-    for (error, text) in [
-        (
-            AssembleError::TooLong,
-            "TooLong: a filter of more than 65531 bytes",
-        ),
-        (AssembleError::Memory, "Memory: out of memory"),
-    ] {
-        let shown = format!(in alloc; "{error:?}: {error}").expect(&rt, "memory");
-        is_text(&rt, shown.as_str(), text);
-    }
+    let name = RecordName::FamilyRequest { family: 16 };
+    is_named(&rt, alloc, name, "FamilyRequest { family: 16 }");
+    let name = RecordName::FamilyResponseHeader { family: 44 };
+    is_named(&rt, alloc, name, "FamilyResponseHeader { family: 44 }");
+    let name = RecordName::FamilyAttribute {
+        family: 17,
+        kind: 2,
+    };
+    is_named(&rt, alloc, name, "FamilyAttribute { family: 17, kind: 2 }");
+    let text = "a filter of more than 65531 bytes";
+    fails(&rt, alloc, AssembleError::TooLong, "TooLong", text);
+    fails(&rt, alloc, AssembleError::Memory, "Memory", "out of memory");
 }
 
-/// Checks the `Debug` output of conditions and of attributes of requests.
+/// Asserts that `Debug` prints the condition as this text.
+fn is_shown_as(rt: &impl Abort, alloc: Global, condition: Condition, text: &str) {
+    shows(rt, alloc, &condition, text);
+}
+
+/// Checks the `Debug` output of conditions on addresses.
 #[test]
-fn conditions_have_texts(rt: HostRuntime) {
+fn conditions_on_addresses_have_texts(rt: HostRuntime) {
     let alloc = rt.alloc();
     let local = Host {
         prefix: Prefix::new(IpAddr::V4(Ipv4Addr::LOCALHOST), 8),
         port: None,
     };
+    let text = "Source(Host { prefix: Some(Prefix { address: 127.0.0.1, bits: 8 }), port: None })";
+    is_shown_as(&rt, alloc, Condition::Source(local), text);
     let any = Host {
         prefix: None,
         port: Some(53),
     };
+    let text = "Destination(Host { prefix: None, port: Some(53) })";
+    is_shown_as(&rt, alloc, Condition::Destination(any), text);
     let far = Host {
         prefix: Prefix::new(IpAddr::V6(Ipv6Addr::LOCALHOST), 128),
         port: Some(53),
     };
-    for (condition, text) in [
-        (
-            Condition::SourcePort(Comparison::AtLeast, 1),
-            "SourcePort(AtLeast, 1)",
-        ),
-        (
-            Condition::DestinationPort(Comparison::AtMost, 2),
-            "DestinationPort(AtMost, 2)",
-        ),
-        (
-            Condition::SourcePort(Comparison::Equal, 3),
-            "SourcePort(Equal, 3)",
-        ),
-        (
-            Condition::Source(local),
-            "Source(Host { prefix: Some(Prefix { address: 127.0.0.1, bits: 8 }), port: None })",
-        ),
-        (
-            Condition::Destination(any),
-            "Destination(Host { prefix: None, port: Some(53) })",
-        ),
-        (
-            Condition::Destination(far),
-            "Destination(Host { prefix: Some(Prefix { address: ::1, bits: 128 }), port: Some(53) })",
-        ),
-        (Condition::Interface(4), "Interface(4)"),
-        (
-            Condition::Mark { mark: 5, mask: 6 },
-            "Mark { mark: 5, mask: 6 }",
-        ),
-        (Condition::Cgroup(7), "Cgroup(7)"),
-        (Condition::AutoBound, "AutoBound"),
-    ] {
-        let shown = format!(in alloc; "{condition:?}").expect(&rt, "memory");
-        is_text(&rt, shown.as_str(), text);
+    let text =
+        "Destination(Host { prefix: Some(Prefix { address: ::1, bits: 128 }), port: Some(53) })";
+    is_shown_as(&rt, alloc, Condition::Destination(far), text);
+}
+
+/// Conditions, and their `Debug` output.
+const CONDITIONS: [(Condition, &str); 7] = [
+    (
+        Condition::SourcePort(Comparison::AtLeast, 1),
+        "SourcePort(AtLeast, 1)",
+    ),
+    (
+        Condition::DestinationPort(Comparison::AtMost, 2),
+        "DestinationPort(AtMost, 2)",
+    ),
+    (
+        Condition::SourcePort(Comparison::Equal, 3),
+        "SourcePort(Equal, 3)",
+    ),
+    (Condition::Interface(4), "Interface(4)"),
+    (
+        Condition::Mark { mark: 5, mask: 6 },
+        "Mark { mark: 5, mask: 6 }",
+    ),
+    (Condition::Cgroup(7), "Cgroup(7)"),
+    (Condition::AutoBound, "AutoBound"),
+];
+
+/// Checks the `Debug` output of other conditions, and of attributes of requests.
+#[test]
+fn conditions_have_texts(rt: HostRuntime) {
+    let alloc = rt.alloc();
+    for (condition, text) in &CONDITIONS {
+        is_shown_as(&rt, alloc, *condition, text);
     }
-    for (attribute, text) in [
-        (RequestAttribute::Program(&[6, 4]), "Program([6, 4])"),
-        (RequestAttribute::Protocol(262), "Protocol(262)"),
-    ] {
-        let shown = format!(in alloc; "{attribute:?}").expect(&rt, "memory");
-        is_text(&rt, shown.as_str(), text);
-    }
+    let program = RequestAttribute::Program(&[6, 4]);
+    shows(&rt, alloc, &program, "Program([6, 4])");
+    shows(
+        &rt,
+        alloc,
+        &RequestAttribute::Protocol(262),
+        "Protocol(262)",
+    );
 }
 
 /// Asserts that an allocation for the program of a filter does not fail.
 fn has_room(rt: &impl Abort, alloc: Global, filter: &Filter) {
     assert!(rt; assemble(alloc, filter).err() != Some(AssembleError::Memory));
+}
+
+/// Asserts the same for the filter, and for filters of 2, 4, 8, 16, 32 and 64 times as many
+/// operations.
+fn has_room_up_to_64(rt: &impl Abort, alloc: Global, one: &Filter) {
+    let two = Filter::And(one, one);
+    let four = Filter::And(&two, &two);
+    let eight = Filter::And(&four, &four);
+    let of_16 = Filter::And(&eight, &eight);
+    let of_32 = Filter::And(&of_16, &of_16);
+    has_room(rt, alloc, one);
+    has_room(rt, alloc, &two);
+    has_room(rt, alloc, &four);
+    has_room(rt, alloc, &eight);
+    has_room(rt, alloc, &of_16);
+    has_room(rt, alloc, &of_32);
+    has_room(rt, alloc, &Filter::And(&of_32, &of_32));
 }
 
 /// Checks filters of 1, 2, 4 and so on up to 8,192 operations of 4 bytes.
@@ -261,25 +292,6 @@ fn programs_of_each_size(rt: HostRuntime) {
     let of_16 = Filter::And(&eight, &eight);
     let of_32 = Filter::And(&of_16, &of_16);
     let of_64 = Filter::And(&of_32, &of_32);
-    let of_128 = Filter::And(&of_64, &of_64);
-    let of_256 = Filter::And(&of_128, &of_128);
-    let of_512 = Filter::And(&of_256, &of_256);
-    let of_1024 = Filter::And(&of_512, &of_512);
-    let of_2048 = Filter::And(&of_1024, &of_1024);
-    let of_4096 = Filter::And(&of_2048, &of_2048);
-    let of_8192 = Filter::And(&of_4096, &of_4096);
-    has_room(&rt, rt.alloc(), &one);
-    has_room(&rt, rt.alloc(), &two);
-    has_room(&rt, rt.alloc(), &four);
-    has_room(&rt, rt.alloc(), &eight);
-    has_room(&rt, rt.alloc(), &of_16);
-    has_room(&rt, rt.alloc(), &of_32);
-    has_room(&rt, rt.alloc(), &of_64);
-    has_room(&rt, rt.alloc(), &of_128);
-    has_room(&rt, rt.alloc(), &of_256);
-    has_room(&rt, rt.alloc(), &of_512);
-    has_room(&rt, rt.alloc(), &of_1024);
-    has_room(&rt, rt.alloc(), &of_2048);
-    has_room(&rt, rt.alloc(), &of_4096);
-    has_room(&rt, rt.alloc(), &of_8192);
+    has_room_up_to_64(&rt, rt.alloc(), &one);
+    has_room_up_to_64(&rt, rt.alloc(), &Filter::And(&of_64, &of_64));
 }

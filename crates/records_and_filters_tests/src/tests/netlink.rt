@@ -1,5 +1,5 @@
 use super::sizes::LARGE;
-use super::{gives, shows};
+use super::{gives, is_text, shows};
 use netlink_core::{
     CanonError, DecodeError, DefaultNla, MessageStrings, NlaBuffer, NlasIterator, Parseable,
     RecordBuffer, RecordName, canonical, copy_list, parse_string, write_new,
@@ -35,17 +35,18 @@ fn attributes_and_their_errors(rt: HostRuntime) {
     gives(&rt, rt.alloc(), NlasIterator::new(two), text);
     let text = "[Ok(NlaBuffer { type_word: 32775, value: [1] })]";
     gives(&rt, rt.alloc(), NlasIterator::new(&two[..5]), text);
-    let past = "Err(Refused(AttributeLengthPast { length: 5, left: 4 }))";
-    let under = "Err(Refused(AttributeLengthUnder4 { length: 3 }))";
-    for (bytes, text) in [
-        (two, "Ok([5, 0, 7, 128, 1, 0, 0, 0])"),
-        (&two[..4], past),
-        (&[], "Err(Refused(AttributeHeaderCut { left: 0 }))"),
-        (&[3, 0, 6, 0, 0], under),
-    ] {
-        let form = canonical::<DefaultNla>(rt.alloc(), bytes, ());
-        shows(&rt, rt.alloc(), &form, text);
-    }
+    is_formed(&rt, rt.alloc(), two, "Ok([5, 0, 7, 128, 1, 0, 0, 0])");
+    let text = "Err(Refused(AttributeLengthPast { length: 5, left: 4 }))";
+    is_formed(&rt, rt.alloc(), &two[..4], text);
+    let text = "Err(Refused(AttributeHeaderCut { left: 0 }))";
+    is_formed(&rt, rt.alloc(), &[], text);
+    let text = "Err(Refused(AttributeLengthUnder4 { length: 3 }))";
+    is_formed(&rt, rt.alloc(), &[3, 0, 6, 0, 0], text);
+}
+
+// Asserts that the canonical form of the bytes, as an attribute, is printed as this text.
+fn is_formed(rt: &impl Abort, alloc: Global, bytes: &[u8], text: &str) {
+    shows(rt, alloc, &canonical::<DefaultNla>(alloc, bytes, ()), text);
 }
 
 // A message of type 16 with one byte after its header and three bytes of padding, and a message of
@@ -62,9 +63,16 @@ fn messages_of_a_datagram(rt: HostRuntime) {
         Ok([16, 0, 0, 0, 3, 0, 0, 0, 0, 0, 0, 0, 0, 0, 0, 0])]";
     let cut = "[Ok([17, 0, 0, 0, 16, 0, 0, 0, 0, 0, 0, 0, 0, 0, 0, 0, 7]), \
         Err(EnvelopeCut { got: 15 })]";
-    for (end, text) in [(17, one), (19, one), (20, one), (35, cut), (36, two)] {
-        gives(&rt, rt.alloc(), MessageStrings::new(&TWO[..end]), text);
-    }
+    has_messages(&rt, rt.alloc(), &TWO[..17], one);
+    has_messages(&rt, rt.alloc(), &TWO[..19], one);
+    has_messages(&rt, rt.alloc(), &TWO[..20], one);
+    has_messages(&rt, rt.alloc(), &TWO[..35], cut);
+    has_messages(&rt, rt.alloc(), &TWO, two);
+}
+
+// Asserts that `Debug` prints the messages in the bytes, or the errors, as this text.
+fn has_messages(rt: &impl Abort, alloc: Global, bytes: &[u8], text: &str) {
+    gives(rt, alloc, MessageStrings::new(bytes), text);
 }
 
 // Returns each error, in the order of the codes.
@@ -116,19 +124,27 @@ family: 5 })
 (18, \"message length 9 is past the 7 bytes given\", EnvelopeLengthPast { length: 9, got: 7 })
 ";
 
+// Asserts that `Debug` prints the code, the text and the error as this text.
+fn tells(rt: &impl Abort, alloc: Global, error: &DecodeError, told: &str) {
+    let text = format!(in alloc; "{error}").expect(rt, "memory");
+    shows(rt, alloc, &(error.number(), text, error), told);
+}
+
 #[test]
 fn errors_have_codes_and_texts(rt: HostRuntime) {
     let mut lines = FAULTS.lines();
     for error in &faults() {
-        let text = format!(in rt.alloc(); "{error}").expect(&rt, "memory");
-        let told = (error.number(), text, error);
-        shows(&rt, rt.alloc(), &told, lines.next().expect(&rt, "no line"));
+        tells(&rt, rt.alloc(), error, lines.next().expect(&rt, "no line"));
     }
     let reasons = [CanonError::Unwritable, CanonError::Memory];
     shows(&rt, rt.alloc(), &reasons, "[Unwritable, Memory]");
-    for (name, text) in RECORDS {
+}
+
+#[test]
+fn record_names_have_texts(rt: HostRuntime) {
+    for (name, text) in &RECORDS {
         let shown = format!(in rt.alloc(); "{name}").expect(&rt, "memory");
-        assert!(&rt; shown.as_str() == text, "{shown}");
+        is_text(&rt, shown.as_str(), text);
     }
 }
 
@@ -165,7 +181,10 @@ fn has_room(rt: &impl Abort, alloc: Global, size: usize) {
 
 #[test]
 fn sizes(rt: HostRuntime) {
-    for size in (0..301).chain(LARGE) {
+    for size in 0..301 {
+        has_room(&rt, rt.alloc(), size);
+    }
+    for &size in &LARGE {
         has_room(&rt, rt.alloc(), size);
     }
 }

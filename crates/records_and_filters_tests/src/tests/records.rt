@@ -1,4 +1,4 @@
-use super::shows;
+use super::{same, shows};
 use bitflags::Flags;
 use netlink_core::{
     Fills, Parseable, ParseableParametrized, Record, RecordBuffer, Wire, canonical,
@@ -46,10 +46,6 @@ fn places() -> [u8; 232] {
         places[usize::from(place)] = place;
     }
     places
-}
-
-fn same(rt: &impl Abort, bytes: &[u8], wanted: &[u8]) {
-    assert!(rt; bytes == wanted, "{bytes:?}");
 }
 
 // Asserts that the bytes parse as the text, and that their canonical form is `written`. With one
@@ -137,9 +133,9 @@ fn memory_of_seven_to_nine_fields(rt: HostRuntime) {
         "backlog_queue_length: Some(522067228), drops: None }, MemInfoBuffer { bytes: Eight";
     let nine = "backlog_queue_length: Some(522067228), drops: Some(589439264) }, \
         MemInfoBuffer { bytes: Nine";
-    for (given, end, kept) in [(28, seven, 28), (35, eight, 32), (40, nine, 36)] {
-        words(&rt, rt.alloc(), &places[..given], end, &places[..kept]);
-    }
+    words(&rt, rt.alloc(), &places[..28], seven, &places[..28]);
+    words(&rt, rt.alloc(), &places[..35], eight, &places[..32]);
+    words(&rt, rt.alloc(), &places[..40], nine, &places[..36]);
     let short = &[0; 27];
     let text = "(Err(BufferTooSmall { which: MemInfo, got: 27, need: 28 }), None)";
     let refused = (MemInfo::parse(short), MemInfoBuffer::read_prefix(short));
@@ -172,23 +168,26 @@ fn with_timer(timer: [u8; 2], expires: [u8; 4]) -> [u8; 72] {
     bytes
 }
 
+const TIME: [u8; 4] = [0x80, 0x60, 0, 0];
+
+// Timers and numbers of retransmits, what `Debug` prints for the timer, and the serialized bytes.
+const TIMERS: [([u8; 2], &str, [u8; 2], [u8; 4]); 6] = [
+    ([0, 0], "None", [0, 0], [0; 4]),
+    ([9, 7], "None", [0, 0], [0; 4]),
+    ([1, 7], "Some(Retransmit(24.704s, 7))", [1, 7], TIME),
+    ([2, 7], "Some(KeepAlive(24.704s))", [2, 0], TIME),
+    ([3, 0], "Some(TimeWait)", [3, 0], [0; 4]),
+    ([4, 0], "Some(Probe(24.704s))", [4, 0], TIME),
+];
+
 #[test]
 fn timers(rt: HostRuntime) {
-    let time = [0x80, 0x60, 0, 0];
-    for (given, text, timer, expires) in [
-        ([0, 0], "None", [0, 0], [0; 4]),
-        ([9, 7], "None", [0, 0], [0; 4]),
-        ([1, 7], "Some(Retransmit(24.704s, 7))", [1, 7], time),
-        ([2, 7], "Some(KeepAlive(24.704s))", [2, 0], time),
-        ([3, 0], "Some(TimeWait)", [3, 0], [0; 4]),
-        ([4, 0], "Some(Probe(24.704s))", [4, 0], time),
-    ] {
-        let header = InetResponseHeader::parse(
-            rt.alloc(),
-            with_timer(given, time).as_slice(),
-        ).expect(&rt, "refused");
+    for (given, text, timer, expires) in &TIMERS {
+        let given = with_timer(*given, TIME);
+        let header = InetResponseHeader::parse(rt.alloc(), given.as_slice());
+        let header = header.expect(&rt, "refused");
         shows(&rt, rt.alloc(), &header.timer, text);
-        is_written(&rt, &header, with_timer(timer, expires));
+        is_written(&rt, &header, with_timer(*timer, *expires));
     }
 }
 
@@ -235,39 +234,48 @@ fn requests(rt: HostRuntime) {
     reads::<InetRequest, 56>(&rt, alloc, &LOOSE_INET, (), (text, short), &written);
 }
 
-#[test]
-fn durations_that_do_not_fit_milliseconds(rt: HostRuntime) {
-    for (duration, expires) in [
-        (Duration::from_nanos(1_500_000), [1, 0, 0, 0]),
-        (Duration::from_millis(4_294_967_301), [5, 0, 0, 0]),
-        (Duration::MAX, [255, 255, 255, 255]),
-    ] {
-        let mut header = InetResponseHeader::parse(rt.alloc(), HEADER.as_slice()).expect(
-            &rt, "refused",
-        );
-        header.timer = Some(Timer::KeepAlive(duration));
-        is_written(&rt, &header, with_timer([2, 0], expires));
-    }
+// Asserts that a keepalive timer of this duration serializes to these bytes.
+fn expires_in(rt: &impl Abort, alloc: Global, duration: Duration, expires: [u8; 4]) {
+    let header = InetResponseHeader::parse(alloc, HEADER.as_slice());
+    let mut header = header.expect(rt, "refused");
+    header.timer = Some(Timer::KeepAlive(duration));
+    is_written(rt, &header, with_timer([2, 0], expires));
 }
 
 #[test]
-fn values_that_no_parser_returns(rt: HostRuntime) {
+fn durations_that_do_not_fit_milliseconds(rt: HostRuntime) {
+    let alloc = rt.alloc();
+    expires_in(&rt, alloc, Duration::from_nanos(1_500_000), [1, 0, 0, 0]);
+    let long = Duration::from_millis(4_294_967_301);
+    expires_in(&rt, alloc, long, [5, 0, 0, 0]);
+    expires_in(&rt, alloc, Duration::MAX, [255; 4]);
+}
+
+#[test]
+fn an_identity_that_no_parser_returns(rt: HostRuntime) {
     let octets = [1, 2, 3, 4, 5, 6, 7, 8, 9, 10, 11, 12, 13, 14, 15, 16];
     let mut identity = SocketId::new_v4();
     identity.source_address = IpAddr::V6(Ipv6Addr::from(octets));
     let mut wanted = [0; 48];
     wanted[4..20].copy_from_slice(&octets);
     is_written(&rt, &identity, wanted);
+}
+
+#[test]
+fn a_request_that_no_parser_returns(rt: HostRuntime) {
     let mut request = UnixRequest::parse(rt.alloc(), UNIX.as_slice()).expect(&rt, "refused");
     request.state_flags = StateFlags::from_bits_retain(0xffff_ffff);
     let mut wanted = UNIX;
     wanted[4..8].fill(255);
     is_written(&rt, &request, wanted);
+}
+
+#[test]
+fn a_memory_that_no_parser_returns(rt: HostRuntime) {
     let mut memory = MemInfo::parse(&places()).expect(&rt, "refused");
     memory.backlog_queue_length = None;
-    let again = MemInfo::parse(MemInfoBuffer::from(&memory).to_bytes().as_slice()).expect(
-        &rt, "refused",
-    );
+    let written = MemInfoBuffer::from(&memory);
+    let again = MemInfo::parse(written.to_bytes().as_slice()).expect(&rt, "refused");
     let drops = (again.backlog_queue_length, again.drops);
     shows(&rt, rt.alloc(), &drops, "(Some(0), Some(589439264))");
 }

@@ -32,16 +32,27 @@ pub(super) const LARGE: [usize; 16] = [
     131_072, 262_144, 524_288, 1_000_000,
 ];
 
+/// Checks a pathname and an abstract name of this size.
+fn names_of_size(rt: &impl Abort, alloc: Global, size: usize) {
+    name_of_size(rt, alloc, size, b'a');
+    name_of_size(rt, alloc, size, 0);
+}
+
+/// Checks the name that begins with this byte, followed by `a` up to the size, and a zero byte.
+fn name_of_size(rt: &impl Abort, alloc: Global, size: usize, first: u8) {
+    let mut bytes = vec![in alloc; first; 1].expect(rt, "memory");
+    bytes.resize(size, b'a').expect(rt, "memory");
+    bytes.push(0).expect(rt, "memory");
+    has_room(rt, alloc, Subject::Name, &bytes);
+}
+
 #[test]
 fn names(rt: HostRuntime) {
-    let alloc = rt.alloc();
-    for size in (0..301).chain(LARGE) {
-        for first in [b'a', 0] {
-            let mut bytes = vec![in alloc; first; 1].expect(&rt, "memory");
-            bytes.resize(size, b'a').expect(&rt, "memory");
-            bytes.push(0).expect(&rt, "memory");
-            has_room(&rt, alloc, Subject::Name, &bytes);
-        }
+    for size in 0..301 {
+        names_of_size(&rt, rt.alloc(), size);
+    }
+    for &size in &LARGE {
+        names_of_size(&rt, rt.alloc(), size);
     }
 }
 
@@ -51,15 +62,32 @@ const LENGTHS: [u16; 11] = [
     516, 1_004, 1_028, 2_052, 4_100, 8_196, 10_004, 16_388, 32_772, 50_004, 65_532,
 ];
 
+/// Checks an attribute of this length and kind. Each byte of the value is `byte`.
+fn of_length(
+    rt: &impl Abort,
+    alloc: Global,
+    subject: Subject,
+    length: u16,
+    (kind, byte, more): (u8, u8, u16),
+) {
+    let bytes = attribute(alloc, length.saturating_add(more), kind, byte);
+    has_room(rt, alloc, subject, &bytes.expect(rt, "memory"));
+}
+
+/// Checks an abstract name of one byte more, and attributes of an unknown kind.
+fn unix_attributes_of(rt: &impl Abort, alloc: Global, length: u16) {
+    of_length(rt, alloc, Subject::UnixAttribute, length, (0, 0, 1));
+    of_length(rt, alloc, Subject::UnixAttribute, length, (7, 1, 0));
+    of_length(rt, alloc, Subject::UnixAttribute, length, (7, 1, 3));
+}
+
 #[test]
 fn unix_attributes(rt: HostRuntime) {
-    let alloc = rt.alloc();
-    for length in (4..305).chain(LENGTHS) {
-        for (kind, byte, more) in [(0, 0, 1), (7, 1, 0), (7, 1, 3)] {
-            let bytes = attribute(alloc, length.saturating_add(more), kind, byte);
-            let bytes = bytes.expect(&rt, "memory");
-            has_room(&rt, alloc, Subject::UnixAttribute, &bytes);
-        }
+    for length in 4..305 {
+        unix_attributes_of(&rt, rt.alloc(), length);
+    }
+    for &length in &LENGTHS {
+        unix_attributes_of(&rt, rt.alloc(), length);
     }
 }
 
@@ -76,27 +104,45 @@ fn has_room_for_numbers(rt: &impl Abort, alloc: Global, bytes: &[u8]) {
 /// Lengths of lists of `u32`, from 512 to 16,382.
 const COUNTS: [u16; 7] = [512, 1_000, 1_024, 4_096, 8_192, 10_000, 16_382];
 
+/// Checks a list of this many `u32`.
+fn numbers_of(rt: &impl Abort, alloc: Global, count: u16) {
+    let length = count.saturating_add(1).saturating_mul(4);
+    let bytes = attribute(alloc, length, 3, 1).expect(rt, "memory");
+    has_room_for_numbers(rt, alloc, &bytes);
+}
+
 #[test]
 fn lists_of_numbers(rt: HostRuntime) {
-    for count in (0..301).chain(COUNTS) {
-        let length = count.saturating_add(1).saturating_mul(4);
-        let bytes = attribute(rt.alloc(), length, 3, 1).expect(&rt, "memory");
-        has_room_for_numbers(&rt, rt.alloc(), &bytes);
+    for count in 0..301 {
+        numbers_of(&rt, rt.alloc(), count);
     }
+    for &count in &COUNTS {
+        numbers_of(&rt, rt.alloc(), count);
+    }
+}
+
+/// Checks a text of two bytes more, and attributes of an unknown kind.
+fn inet_attributes_of(rt: &impl Abort, alloc: Global, length: u16) {
+    of_length(rt, alloc, Subject::InetAttribute, length, (4, b'a', 2));
+    of_length(rt, alloc, Subject::InetAttribute, length, (3, 1, 0));
+    of_length(rt, alloc, Subject::InetAttribute, length, (3, 1, 3));
 }
 
 #[test]
 fn inet_attributes(rt: HostRuntime) {
-    let alloc = rt.alloc();
-    for length in (4..305).chain(LENGTHS) {
-        for (kind, byte, more) in [(4, b'a', 2), (3, 1, 0), (3, 1, 3)] {
-            let bytes = attribute(alloc, length.saturating_add(more), kind, byte);
-            let bytes = bytes.expect(&rt, "memory");
-            has_room(&rt, alloc, Subject::InetAttribute, &bytes);
-        }
+    for length in 4..305 {
+        inet_attributes_of(&rt, rt.alloc(), length);
     }
-    // The longest text fills its attribute, and leaves no byte for the terminating NUL that the
-    // serializer appends.
+    for &length in &LENGTHS {
+        inet_attributes_of(&rt, rt.alloc(), length);
+    }
+}
+
+// The longest text fills its attribute, and leaves no byte for the terminating NUL that the
+// serializer appends.
+#[test]
+fn the_longest_text(rt: HostRuntime) {
+    let alloc = rt.alloc();
     let long = attribute(alloc, u16::MAX, 4, b'a').expect(&rt, "memory");
     let report = examine(&rt, alloc, Subject::InetAttribute, &long).expect(&rt, "refused");
     shows(&rt, alloc, &report.form, "Err(Unwritable)");

@@ -399,7 +399,10 @@ fn lists_requests(rt: HostRuntime) {
     let nanos = "-- 1970-01-01T00:00:07.000000009Z ";
     for (header, time) in [(0, micros), (2, nanos)] {
         let capture = captured(&rt, rt.alloc(), HEADERS[header], &packets);
-        let (unix, mptcp) = ("unix states:0xffffffff\n", "mptcp states:0x480\n");
+        let (unix, mptcp) = (
+            "unix states:0xffffffff\n",
+            "mptcp family:inet states:0x480\n",
+        );
         let lines = [time, unix, UNIX_LINE, time, mptcp, time, "netlink\n"];
         lists_by(&rt, rt.alloc(), options, &capture, Ok(true), Some(&lines));
     }
@@ -467,6 +470,16 @@ const FAILED: &str =
 /// A packet of another protocol that is truncated to 16 of 101 bytes.
 const CUT: &str = "0700000009000000100000006500000000000000000000000000000000000000";
 
+/// A packet with an `NLMSG_ERROR` that has the error 2 and answers `MPTCP_REQUEST`, which follows.
+const NO_ENTRY: &str =
+    "0700000009000000740000007400000000040338000000000000000000000004640000000200000007000000\
+00000000feffffff";
+
+/// A packet that is truncated to 32 of 72 bytes, in the middle of its message.
+const CUT_MESSAGE: &str =
+    "0700000009000000200000004800000000040338000000000000000000000004380000001400020007000000\
+00000000";
+
 /// Checks what a run over a capture writes on standard error. The parts of the capture are in
 /// hexadecimal digits.
 fn tells(rt: &impl Abort, alloc: Global, parts: &[&str], want: &str) {
@@ -495,6 +508,11 @@ sslist: packet 3, message 1: the kernel lost data\n\
 sslist: packet 4, message 1: note: the kernel returned ENOENT\n\
 sslist: packet 5: truncated to 16 of 101 bytes\n\
 sslist: packet 6: the capture is truncated";
+    tells(&rt, alloc, &parts, want);
+    let parts = [FRONT, OF_100, NO_ENTRY, MPTCP_REQUEST, CUT_MESSAGE];
+    let want = "packet 1, message 1: note: the kernel returned ENOENT \
+(request: mptcp family:inet states:0x480)\n\
+sslist: packet 2: truncated to 32 of 72 bytes";
     tells(&rt, alloc, &parts, want);
     tells(&rt, alloc, &[], "the input is empty");
     tells(&rt, alloc, &[FRONT, "48"], "the capture is truncated");
@@ -535,7 +553,8 @@ fn errors_of_a_run_have_texts(rt: HostRuntime) {
     );
     let text = format!(in rt.alloc(); "{full}, {closed}, {other}, {old}").expect(&rt, "memory");
     let want = "writing to standard output failed, the output pipe is closed, \
-not a pcap capture: it begins with 00000a0b, unsupported pcap version 1, expected 2";
+neither a pcap nor a pcapng capture: its first four bytes are 0x00000a0b, \
+unsupported pcap version 1, expected 2";
     assert!(rt; text.as_str() == want);
 }
 

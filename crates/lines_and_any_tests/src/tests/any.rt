@@ -56,13 +56,28 @@ fn decoded(rt: &impl Abort, alloc: Global, row: &str) -> Vec<u8> {
 /// Asserts that the value serializes to the bytes in hexadecimal.
 fn writes<T: Emitable>(rt: &impl Abort, alloc: Global, value: &T, row: &str) {
     let written = write_new(alloc, value).expect(rt, "unwritable");
-    assert!(rt; written == decoded(rt, alloc, row), "{written:?}");
+    same(rt, &written, &decoded(rt, alloc, row));
+}
+
+/// Asserts that the bytes are equal.
+fn same(rt: &impl Abort, bytes: &[u8], wanted: &[u8]) {
+    assert!(rt; bytes == wanted, "{bytes:?}");
 }
 
 /// Asserts that the `Debug` output of the value contains the text.
 fn shows<T: Debug>(rt: &impl Abort, alloc: Global, value: &T, part: &str) {
     let shown = format!(in alloc; "{value:?}").expect(rt, "memory");
-    assert!(rt; shown.contains(part), "{shown}");
+    has_part(rt, shown.as_str(), part);
+}
+
+/// Asserts that `part` occurs in the text.
+fn has_part(rt: &impl Abort, text: &str, part: &str) {
+    assert!(rt; text.contains(part), "{text}");
+}
+
+/// Asserts that two texts are equal.
+fn is_text(rt: &impl Abort, shown: &str, text: &str) {
+    assert!(rt; shown == text, "{shown}");
 }
 
 /// Asserts the `Debug` output of a reply after `more` copies of [`OTHER`] are appended to it: the
@@ -78,10 +93,15 @@ fn shows_reply(
     let digits = [row, others.as_str()].concat(alloc).expect(rt, "memory");
     let bytes = decoded(rt, alloc, digits.as_str());
     let count = count.saturating_add(more);
-    let reply = AnySockDiagView::parse(&bytes, 20).expect(rt, "refused");
-    let shown = format!(in alloc; "{reply:?}").expect(rt, "memory");
     let text = format!(in alloc; "{before} {{ bytes: {bytes:?}, count: {count} }}{after}");
-    assert!(rt; shown == text.expect(rt, "memory"), "{shown}");
+    is_shown(rt, alloc, &bytes, text.expect(rt, "memory").as_str());
+}
+
+/// Asserts the `Debug` output of the reply in the bytes.
+fn is_shown(rt: &impl Abort, alloc: Global, bytes: &[u8], text: &str) {
+    let reply = AnySockDiagView::parse(bytes, 20).expect(rt, "refused");
+    let shown = format!(in alloc; "{reply:?}").expect(rt, "memory");
+    is_text(rt, shown.as_str(), text);
 }
 
 /// Returns the number of packets dropped at the netlink socket that a reply describes.
@@ -177,19 +197,23 @@ fn requests(rt: HostRuntime) {
     writes(&rt, alloc, &netlink, row);
 }
 
+/// Replies, and the parts of their `Debug` output, as in [`shows_reply`].
+const REPLIES: [(&str, (&str, usize, &str)); 6] = [
+    (NETLINK, ("Netlink(NetlinkResponseView", 3, ")")),
+    (PACKET, ("Packet(PacketResponseView", 7, ")")),
+    (VSOCK, ("Vsock(VsockResponseView", 0, ")")),
+    (XDP, ("Xdp(XdpResponseView", 6, ")")),
+    (UNIX, ("SockDiag(UnixResponse(UnixResponseView", 0, "))")),
+    (INET, ("SockDiag(InetResponse(InetResponseView", 0, "))")),
+];
+
 #[test]
 fn debug_texts(rt: HostRuntime) {
-    for (row, parts) in [
-        (NETLINK, ("Netlink(NetlinkResponseView", 3, ")")),
-        (PACKET, ("Packet(PacketResponseView", 7, ")")),
-        (VSOCK, ("Vsock(VsockResponseView", 0, ")")),
-        (XDP, ("Xdp(XdpResponseView", 6, ")")),
-        (UNIX, ("SockDiag(UnixResponse(UnixResponseView", 0, "))")),
-        (INET, ("SockDiag(InetResponse(InetResponseView", 0, "))")),
-    ] {
-        for more in [0, 1, 300, 10_000] {
-            shows_reply(&rt, rt.alloc(), row, more, parts);
-        }
+    for (row, parts) in &REPLIES {
+        shows_reply(&rt, rt.alloc(), row, 0, *parts);
+        shows_reply(&rt, rt.alloc(), row, 1, *parts);
+        shows_reply(&rt, rt.alloc(), row, 300, *parts);
+        shows_reply(&rt, rt.alloc(), row, 10_000, *parts);
     }
 }
 
@@ -208,9 +232,12 @@ fn is_rejected(rt: &impl Abort, alloc: Global, row: &str, text: &str) {
     assert!(rt; shown.as_str() == text, "{row}");
 }
 
+/// Replies that are in their canonical form.
+const WRITABLE: [&str; 5] = [NETLINK, PACKET, VSOCK, XDP, UNIX];
+
 #[test]
 fn of_any_family(rt: HostRuntime) {
-    for row in [NETLINK, PACKET, VSOCK, XDP, UNIX] {
+    for row in &WRITABLE {
         is_written(&rt, rt.alloc(), row);
     }
     let cut = "FamilyResponseHeader { family: 16 }: buffer of 5 bytes, at least 28 needed";

@@ -420,7 +420,7 @@ fn each_byte_is_read(rt: HostRuntime) {
 }
 
 /// Asserts that a run writes to `errors` why it failed, and nothing else.
-fn tells(rt: &impl Abort, alloc: Global, read_fails: usize, write_fails: usize, want: &str) {
+fn reports(rt: &impl Abort, alloc: Global, read_fails: usize, write_fails: usize, want: &str) {
     let answered = Cell::new(0);
     let (mut reads, mut writes) = (steady(1), steady(1));
     reads.fails_at = read_fails;
@@ -440,6 +440,6 @@ fn reports_on_errors_why_it_failed(rt: HostRuntime) {
         (NEVER, FLUSH, "sockdiag: writing failed\n"),
         (NEVER, NEVER, ""),
     ] {
-        tells(&rt, rt.alloc(), read_fails, write_fails, want);
+        reports(&rt, rt.alloc(), read_fails, write_fails, want);
     }
 }

@@ -1,2 +1,0 @@
-mod captures;
-mod lines;
