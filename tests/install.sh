@@ -66,7 +66,8 @@ for signal in INT TERM HUP; do
     # shellcheck disable=SC2016
     printf '#!/bin/sh\nkill -%s $PPID\nsleep 1\n' "$signal" >"$work/killer"
     chmod +x "$work/killer"
-    fails 130 "$signal" env CC="$work/killer" "$install" "$work/none"
+    # A script that is started in the background ignores SIGINT.
+    fails 130 "$signal" env --default-signal="$signal" CC="$work/killer" "$install" "$work/none"
 done
 
 # The same files, whatever the umask is. tests/release.sh lists them.
