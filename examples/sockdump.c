@@ -306,12 +306,21 @@ static int mark(const char *name, uint8_t *is_named) {
     return count;
 }
 
+/* Reports an argument that is no kind. A byte that could control a terminal is shown as a question
+ * mark. Returns -1. */
+static int reject(const char *argument) {
+    fputs("sockdump: unknown kind ", stderr);
+    for (; *argument; argument++)
+        fputc(*argument > ' ' && *argument <= '~' ? *argument : '?', stderr);
+    return fputs("; try sockdump -h\n", stderr), -1;
+}
+
 /* Marks the kinds that the arguments name. Returns 0, or -1 if an argument is no kind. */
 static int read_arguments(int count, char **arguments, uint8_t *is_named) {
     int index;
     for (index = 1; index < count; index++)
         if (mark(arguments[index], is_named) == 0)
-            return fprintf(stderr, "sockdump: unknown kind; try sockdump -h\n"), -1;
+            return reject(arguments[index]);
     return 0;
 }
 

@@ -220,7 +220,7 @@ def test_sockdump(program):
         subprocess.run(["gcc", *words, dump, source], check=True)
         status, usage, errors = run(dump, ["-h"], b"")
         assert (status, errors) == (0, b"") and usage.startswith(b"usage: sockdump"), usage
-        check(dump, ["tcp", "nope"], b"", 2, b"", b"sockdump: unknown kind; try sockdump -h\n")
+        check(dump, ["tcp", "nope"], b"", 2, b"", b"sockdump: unknown kind nope; try sockdump -h\n")
         check(dump, [], b"", 1, b"", b"sockdump: .*\n", os.open("/dev/full", os.O_WRONLY))
         status, capture, errors = run(dump, [], b"")
         if errors.startswith(b"sockdump: socket: "):
