@@ -1,16 +1,15 @@
 #!/usr/bin/env python3
-"""Compiles the C header and rust/sockdiag, and runs their tests if the library is soon built.
+"""Compiles the C header and rust/sockdiag without the C library.
 
 - With a C compiler, `$CC` or `cc`, it compiles the header with tests/c_layout.c, which asserts the
   offset of each field and the size of each struct, and as C99 the examples and the C files in
   tests/api that use it. Some are also compiled as C++.
 - Without the C library it checks rust/sockdiag with its tests and examples, and writes its
   documentation. A build has to fail, and to name the folder and the remedy.
-- If the library is built and is newer than the sources, tests/api/c_api.sh runs the calls from C,
-  and tests/api/rust_api.sh runs the tests of rust/sockdiag.
 
 It prints which of these parts it skips. tools/bindings writes the header, tests/c_layout.c and the
-declarations of rust/sockdiag.
+declarations of rust/sockdiag. With the library, tests/api/c_api.sh runs the calls from C, and
+tests/api/rust_api.sh the tests of rust/sockdiag.
 """
 
 import os
@@ -22,13 +21,6 @@ from pathlib import Path
 
 TOP = Path(__file__).resolve().parent.parent
 RUST = TOP / "rust" / "sockdiag"
-
-
-def is_soon_built():
-    """Returns whether the library takes only seconds to build here."""
-    built = TOP / "crates" / "sockdiag_c" / "out" / "libsockdiag_c.a"
-    sources = [*TOP.glob("crates/*/src/**/*.rt"), *TOP.glob("crates/*/specs/**/*.antt")]
-    return built.exists() and all(it.stat().st_mtime <= built.stat().st_mtime for it in sources)
 
 
 def compile_c(compiler):
@@ -100,17 +92,7 @@ def main():
     status = compile_c(compiler)
     if status != 0:
         return status
-    has_rust = has_cargo()
-    status = check_rust() if has_rust else 0
-    if status != 0:
-        return status
-    if not is_soon_built():
-        print("skipped: running the calls from C; tests/api/c_api.sh runs them")
-        return 0
-    status = subprocess.run([TOP / "tests" / "api" / "c_api.sh"]).returncode
-    if status == 0 and has_rust:
-        status = subprocess.run([TOP / "tests" / "api" / "rust_api.sh"]).returncode
-    return status
+    return check_rust() if has_cargo() else 0
 
 
 if __name__ == "__main__":

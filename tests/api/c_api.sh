@@ -4,15 +4,15 @@
 # each call is linear, tests/api/fuzz_c.c calls them with changed replies, and
 # tests/live/compare_lenient.sh compares the lenient calls with an independent reader. Then installs
 # the library, and lists the sockets of this machine by examples/list_sockets.c, if the kernel
-# permits it. Needs the kit's rt, a C compiler and Python. tools/release runs this script. So does
-# tests/bindings.py, which the gate runs, if the library takes only seconds to build.
+# permits it. Needs the kit's rt, a C compiler and Python. The gate and tools/release run this
+# script.
 set -eu
 top=$(CDPATH='' cd -- "$(dirname -- "$0")/../.." && pwd)
 work=$(mktemp -d)
 trap 'rm -rf "$work"' EXIT
 
-echo "c_api: proving and building the library"
-(cd "$top/crates/sockdiag_c" && rt lib) >"$work/log" 2>&1 || { cat "$work/log" >&2; exit 1; }
+echo "c_api: proving and building the library, if it is older than a source"
+"$top/tests/api/library.sh" >"$work/log" 2>&1 || { cat "$work/log" >&2; exit 1; }
 
 # The library does not allocate, so it must not call an allocator.
 if nm -u "$top/crates/sockdiag_c/out/libsockdiag_c.a" | grep -E 'alloc|free'; then

@@ -1,9 +1,8 @@
 #!/bin/sh
 # Tests rust/sockdiag with the C library, offline, and also under valgrind if it is installed. Then
-# lists the sockets of this machine by its example. Builds the C library first if it is missing.
-# Compares the crate with the program sockdiag if it is built. Needs cargo. tools/release runs this
-# script. So does tests/bindings.py, which the gate runs, if the library takes only seconds to
-# build.
+# lists the sockets of this machine by its example. Builds the C library first if it is older than a
+# source. Compares the crate with the program sockdiag if it is built. Needs cargo. The gate and
+# tools/release run this script.
 set -eu
 top=$(CDPATH='' cd -- "$(dirname -- "$0")/../.." && pwd)
 work=$(mktemp -d)
@@ -14,7 +13,7 @@ quiet() {
     "$@" >"$work/log" 2>&1 || { cat "$work/log" >&2; exit 1; }
 }
 
-[ -f "$top/crates/sockdiag_c/out/libsockdiag_c.a" ] || (cd "$top/crates/sockdiag_c" && quiet rt lib)
+quiet "$top/tests/api/library.sh"
 cd "$top/rust/sockdiag"
 if command -v valgrind >/dev/null; then
     quiet env CARGO_TARGET_X86_64_UNKNOWN_LINUX_GNU_RUNNER='valgrind -q --error-exitcode=1' \
