@@ -13,8 +13,8 @@ crate=crates/sockdiag_c
 library=$crate/out/libsockdiag_c.a
 
 is_current() {
-    [ -f "$library" ] &&
-        [ -z "$(find crates \( -name '*.rt' -o -name '*.antt' \) -newer "$library" | head -n 1)" ]
+    [ -f "$library" ] && [ -z "$(find crates -name out -prune -o \
+        \( -name '*.rt' -o -name '*.antt' \) -newer "$library" -print | head -n 1)" ]
 }
 
 # Returns whether the libraries are those that `rt ci` leaves: the others have a stamp.
