@@ -1,6 +1,6 @@
 -- Attributes of netlink, packet and XDP sockets, as C structs. Of each kind the first attribute
 -- counts.
-use Rattle.std.specs.Prelude.{◌≡◌, ℕ, ◌⊎◌, List, Option, Some, None, option_map, option_and_then}
+use Rattle.std.specs.Prelude.{◌≡◌, ℕ, ◌⊎◌, List, Option, Some, option_map, option_and_then}
 use Rattle.std.specs.Prelude.{Result}
 use Rattle.netlink_core.specs.Attribute.{Attribute}
 use Rattle.netlink_core.specs.Layout.{parse_record}

@@ -1,4 +1,4 @@
-use Rattle.std.proofs.Common.{length, refl, ap, append_assoc, rules, arith}
+use Rattle.std.proofs.Common.{length, ap, append_assoc, rules, arith}
 use Rattle.std.proofs.lemmas.List.{length-append, map_push}
 use Rattle.netlink_core.specs.AttributeSet.{decode_attribute}
 use Rattle.attribute_lists.proofs.Finding.{first_value_is_found, value_first, rest_has_no_error}

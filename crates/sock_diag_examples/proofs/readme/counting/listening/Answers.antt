@@ -1,4 +1,4 @@
-use Rattle.std.proofs.Common.{◌≡◌, Bool, refl, sym, ap, ◌∙◌, arith, Ok, Err}
+use Rattle.std.proofs.Common.{Bool, refl, sym, ap, ◌∙◌, arith, Ok, Err}
 use Rattle.std.specs.Bool.{then_some}
 use Rattle.std.proofs.lemmas.Bool.{eq-eqb, ne_eqb}
 use Rattle.std.proofs.lemmas.Result.{err_from_is_err_and}
@@ -69,8 +69,8 @@ loop-item-preserved c =
 
 pub returns-in-Done : goal.returns-in-Done
 returns-in-Done c =
-    let item = Ok (Done c.in-Done.status) in
     let in_range : IsBytes c.args.datagram.now = λ i. omega (arith, c.type_inv.datagram i) in
+    let item = Ok (Done c.in-Done.status) in
     let step = step_of c.loop-item.item-iterator c.next.new.self item
     (rw (c.in_ok-reply.was, c.in-Done.is) at c.in-Some.ensures.steps) in
     let answer = c.then_some.ensures ∙ ap (λ (b : Bool). then_some b c.loop-item.count)
@@ -81,8 +81,8 @@ returns-in-Done c =
 
 pub returns-in-Error : goal.returns-in-Error
 returns-in-Error c =
-    let item = Ok (Error c.in-Error.field-0) in
     let in_range : IsBytes c.args.datagram.now = λ i. omega (arith, c.type_inv.datagram i) in
+    let item = Ok (Error c.in-Error.field-0) in
     let step = step_of c.loop-item.item-iterator c.next.new.self item
     (rw (c.in_ok-reply.was, c.in-Error.is) at c.in-Some.ensures.steps) in
     counts_to _ _ _ _ (map_ok payload_view_model item) _ in_range c.loop-item.invariant step
@@ -90,8 +90,8 @@ returns-in-Error c =
 
 pub returns-in-Overrun : goal.returns-in-Overrun
 returns-in-Overrun c =
-    let item = Ok (Overrun c.in-Overrun.field-0) in
     let in_range : IsBytes c.args.datagram.now = λ i. omega (arith, c.type_inv.datagram i) in
+    let item = Ok (Overrun c.in-Overrun.field-0) in
     let step = step_of c.loop-item.item-iterator c.next.new.self item
     (rw (c.in_ok-reply.was, c.in-Overrun.is) at c.in-Some.ensures.steps) in
     counts_to _ _ _ _ (map_ok payload_view_model item) _ in_range c.loop-item.invariant step
