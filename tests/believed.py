@@ -38,6 +38,8 @@ PORT = ["netlink_core", "attribute_lists", "sock_diag_values", "sock_diag_record
     "sock_diag_attributes", "sock_diag_replies", "netlink_packet_sock_diag"]
 # The libraries of the program `sockdiag`.
 PROGRAM = ["program_streams", "sock_diag_lines"]
+# Modules of program_streams that only sslist needs.
+CAPTURES = [f"program_streams.specs.{name}" for name in ("Capture", "Cooked", "Pcapng", "Reader")]
 CRATES = PORT + PROGRAM
 # The other crates, whose definitions are only counted.
 OTHERS = ["sock_diag_families", "sock_diag_any", "sock_diag_extras", "sock_diag_filters",
@@ -57,7 +59,8 @@ LAWS = set("""laws fills exact eq_is_model bytes_by_codec writable_by_codec
 # Private items that count as promises: functions whose clauses docs/PROMISES.md cites, a struct
 # whose invariant docs/DECISIONS.md cites, and the trait whose impls define what the invariant
 # names.
-CITED = {"serve", "read_prompt", "GenericDump", "DumpEntry"}
+CITED = {"serve", "read_prompt", "answer_and_report", "utc_text", "push_path", "push_abstract",
+    "GenericDump", "DumpEntry"}
 # Folders in specs/ with modules that need not be believed: lemmas and what they need, definitions
 # that only the contracts of private functions need, and the inverses of layouts' `values`. Only a
 # layout may refer to an inverse. The script does not follow this reference: the law
@@ -419,10 +422,12 @@ def misplaced(specs):
                 yield f"{module.name}: a promise reaches {name}"
 
 
-def sums(specs, crates):
-    """Returns the number of reached definitions in specs/, of their lines and of their tokens."""
+def sums(specs, crates, without=()):
+    """Returns the number of reached definitions in specs/ of these crates or modules, except those
+    of the modules `without`, and the numbers of their lines and of their tokens."""
     reached = [item for module in specs.modules.values() for item in module.items.values()
-               if item.reached and module.name.split(".")[0] in crates and ".specs." in module.name]
+               if item.reached and ".specs." in module.name and module.name not in without
+               and (module.name in crates or module.name.split(".")[0] in crates)]
     lines = [line for item in reached for line in item.lines]
     tokens = sum(len(TOKEN.findall(line)) for line in lines)
     definitions = sum(item.kind != "module" for item in reached)
@@ -492,10 +497,12 @@ def print_all():
     members = {name for source in files for _, name, is_impl in source.ghosts() if is_impl}
     print(f"members of impls that name definitions: {', '.join(sorted(members))}")
     for title, crates in (("the port", PORT), ("the program sockdiag", PROGRAM),
+                          ("captures, of program_streams", CAPTURES),
                           ("extension crates and programs", OTHERS)):
+        without = CAPTURES if crates is PROGRAM else ()
         for crate in crates:
-            print(f"{crate}: {sums(specs, [crate])}")
-        print(f"{title}: {sums(specs, crates)}")
+            print(f"{crate}: {sums(specs, [crate], without)}")
+        print(f"{title}: {sums(specs, crates, without)}")
     wrong = [*specs.errors, *misplaced(specs)]
     print(*wrong, sep="\n", end="\n" * bool(wrong), file=sys.stderr)
     return 1 if wrong else 0

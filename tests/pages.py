@@ -56,8 +56,7 @@ NOT_RUN = {
     r"examples/list_sockets": "it needs the built library; tests/api/c_api.sh runs it",
     r"SOCKDIAG_LIB_DIR=\S+ cargo ": "it needs the built library; tests/api/rust_api.sh runs cargo",
     r"cc .*tests/api/fuzz_c\.c|out/fuzz_c": "it needs the library; tests/api/c_api.sh runs both",
-    r"tests/(api/\w+_api|live/compare_lenient)\.sh": "it needs the library; tests/bindings.py "
-        "runs it if the library is built",
+    r"tests/(api/\w+_api|live/compare_lenient)\.sh": "it needs the library; the gate runs it later",
     r"tests/(programs|pages)\.py": "the gate runs both",
     r"python3 tests/believed\.py$": "the gate runs it",
     r"tests/edits\.sh": "it proves each crate again",

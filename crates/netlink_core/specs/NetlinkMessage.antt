@@ -24,8 +24,9 @@ pub record NetlinkMessageModel (A : Type 0) : Type 0 where
   pub header : NetlinkHeader
   pub payload : Payload A
 
--- `t` is the message type of an inner message: 0, or any above 4 (NLMSG_OVERRUN); the control
--- messages have 1 to 4
+-- `t` is the message type of an inner message: 0, or any above 4 (NLMSG_OVERRUN). The control
+-- messages have 1 to 4. The kernel's header reserves the other types below NLMSG_MIN_TYPE (16) for
+-- control messages, and defines none of them: here they count as types of inner messages.
 abbrev pub IsInnerMessageType : ℕ → Type 0
 IsInnerMessageType t = (t ≡ 0) ⊎ (NLMSG_OVERRUN < t)
 
@@ -107,7 +108,7 @@ finalized_header bytes type_of e = record e.header {
 -- The codec of netlink messages, given the codec of inner messages, whose parameter is the message
 -- type. It does not keep the codec law `round_trips`, since the header of a value may have any
 -- length and any type: see `laws::finalized_message_round_trips`. `b` and `c` are byte strings, and
--- `p` is `tt`, since there is no parameter; `e` is a netlink message, and in `rejects` the error.
+-- `p` is `tt`, since there is no parameter; `m` is a netlink message, and `e` is the error.
 abbrev pub netlink_codec : Codec ℕ → Codec (Unit {0})
 netlink_codec C = record {
   Value = NetlinkMessageModel C.Value;

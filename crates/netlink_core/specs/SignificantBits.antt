@@ -16,7 +16,8 @@ abbrev pub masked : List ℕ → List ℕ → List ℕ
 masked (mask ∷ masks) (one ∷ bytes) = bit_and one mask ∷ masked masks bytes
 masked _ _ = []
 
--- EqualUnder masks b c: both byte strings have the same bits under the masks; bytes after those
--- that have a mask are not considered
+-- EqualUnder masks b c: both byte strings have the same bits under the masks. Bytes after those
+-- that have a mask are not considered. A string with fewer bytes than there are masks is equal only
+-- to strings of its length.
 abbrev pub EqualUnder : List ℕ → List ℕ → List ℕ → Type 0
 EqualUnder masks b c = masked masks b ≡ masked masks c

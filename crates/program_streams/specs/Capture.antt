@@ -47,8 +47,9 @@ pub record IsFileHeader (bytes : List ℕ) (h : FileHeader) : Type 0 where
   pub link_type : number_at_offset h.order 4 20 bytes % 65536 ≡ 253
   pub unit : h.unit ≡ unit_of (number_at_offset h.order 4 0 bytes)
 
--- The error of a file that is not a pcap file. `first` is the big-endian number at offset 0. It is
--- Packed if the first two bytes are 0x1f8b (a gzip file), and else NoCapture with `first`.
+-- The error of four bytes that are no magic number (`HasNoPcapMagic` says when they are none).
+-- `first` is their big-endian number. The error is Packed if the first two bytes are 0x1f8b (a gzip
+-- file), and else NoCapture with `first`.
 abbrev pub IsMagicError : ℕ → CaptureError → Type 0
 IsMagicError first Packed = first / 2 ^ 16 ≡ 0x1f8b
 IsMagicError first (NoCapture magic) = (magic ≡ first) × (first / 2 ^ 16 ≢ 0x1f8b)

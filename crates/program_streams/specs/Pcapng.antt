@@ -96,7 +96,8 @@ order_or_error p block (Some order) =
     if is_block_length p.offset (number_at_offset order 4 4 block) then Ok order
     else Err (Block p.offset Length)
 
--- `frame_of p block`: the byte order of the block, by its first 12 bytes, or their error
+-- `frame_of p block`: the byte order of the block, by its first 12 bytes, or the error of these
+-- bytes
 abbrev pub frame_of : Position → List ℕ → Result ByteOrder CaptureError
 frame_of p block = order_or_error p block (order_of_block p.order block)
 
@@ -338,7 +339,8 @@ pub record IsNextPacket (p : Position) (bytes : List ℕ) (packet : CapturedPack
   pub captured : packet ≡ packet_in_slot slot block
   pub after : p' ≡ after_block mid order (Captured slot) (length block)
 
--- the bytes are blocks without a packet, which lead from the position `p` to `p'`
+-- `IsEndOfBlocks p bytes p'`: the bytes are blocks without a packet, as those after the last packet
+-- of a capture are. They lead from the position `p` to `p'`.
 abbrev pub IsEndOfBlocks : Position → List ℕ → Position → Type 0
 IsEndOfBlocks p bytes p' =
     (blocks : List (List ℕ)) × AreSkipped p blocks p' × (bytes ≡ concat blocks)

@@ -4,4 +4,5 @@ pub mod MessageLine
 pub mod ViewLine
 pub mod DumpLine
 pub mod Answer
+pub mod FailureLine
 pub mod private

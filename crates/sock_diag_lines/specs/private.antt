@@ -3,4 +3,3 @@ pub mod Text
 pub mod View
 pub mod ReadDump
 pub mod LineRequest
-pub mod Run

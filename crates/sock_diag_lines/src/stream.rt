@@ -9,7 +9,7 @@ ghost use Rattle.program_streams.specs.declared.lines.RunError.{RunError};
 ghost use Rattle.program_streams.specs.declared.streams.WriteError.{WriteError};
 ghost use Rattle.sock_diag_lines.specs.Answer.{IsAnswerOf, is_good};
 ghost use Rattle.sock_diag_lines.specs.private.LineRequest.{IsParsedAs};
-ghost use Rattle.sock_diag_lines.specs.private.Run.{failure_line};
+ghost use Rattle.sock_diag_lines.specs.FailureLine.{failure_line};
 
 use crate::answer_parts::OK;
 use crate::answers::{LineRequest, push_answer_text, read_request};

@@ -3,7 +3,7 @@ use Rattle.std.proofs.Common.{Ok, Err, sym}
 use Rattle.std.specs.Prelude.{IfErr, codes}
 use Rattle.std.specs.Io.KnownBytes.{Appends}
 use Rattle.program_streams.specs.Streams.{WritesAllOrFails}
-use Rattle.sock_diag_lines.specs.private.Run.{failure_line}
+use Rattle.sock_diag_lines.specs.FailureLine.{failure_line}
 use Rattle.program_streams.specs.declared.lines.RunError.{RunError}
 use Rattle.program_streams.specs.declared.lines.RunError.TheVariants.{Read, Write, Memory}
 use Rattle.sock_diag_lines.proofs.run_to_status.Goals as goal
