@@ -54,7 +54,7 @@ NOT_RUN = {
     r"rt ": "proofs take minutes, and `rt ci` runs all of them",
     r"tools/vendor ": "it copies results of proofs; tests/vendor.sh runs it",
     r"examples/list_sockets": "it needs the built library; tests/api/c_api.sh runs it",
-    r"SOCKDIAG_LIB_DIR=\S+ cargo ": "it needs the built library; tests/api/rust_api.sh runs cargo",
+    r"(SOCKDIAG_\w+=\S+ )?cargo ": "it needs the built library; tests/api/rust_api.sh runs cargo",
     r"cc .*tests/api/fuzz_c\.c|out/fuzz_c": "it needs the library; tests/api/c_api.sh runs both",
     r"tests/(api/\w+_api|live/compare_lenient)\.sh": "it needs the library; the gate runs it later",
     r"tests/(programs|pages)\.py": "the gate runs both",

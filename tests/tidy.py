@@ -14,6 +14,8 @@ TOP = Path(__file__).resolve().parent.parent
 CODE = {".rt", ".antt", ".py", ".sh", ".c", ".h"}
 # Allowed number of consecutive equal lines of two files.
 MOST_EQUAL = 20
+# The pages of a release in which a path in code marks may be one of the sources.
+ABOUT_SOURCES = {"CHANGELOG.md", "docs/GLOSSARY.md", "docs/PROMISES.md"}
 COLUMNS = 100
 LINK = re.compile(r"\[[^\]]*\]\(([^)\s]+)\)")
 # A path from the top of the repository, or from the page's folder, in code marks. NAME, CRATE and
@@ -97,7 +99,8 @@ def broken_links(top, files):
             if is_broken(page, link):
                 yield f"{name}: {link} does not exist"
         for path in PATH.findall(text):
-            exists = (top / path).exists() or (page.parent / path).exists()
+            folders = [top, page.parent] + [TOP] * (name in ABOUT_SOURCES)
+            exists = any((folder / path).exists() for folder in folders)
             if not exists and not PLACEHOLDER.search(path):
                 yield f"{name}: {path} does not exist"
 
