@@ -88,6 +88,7 @@ uint32_t sockdiag_abi_1_0(void);
  * version cannot be linked. Define SOCKDIAG_NO_LINK_CHECK before the header in a file that is not
  * linked with the library: one that only uses constants and structs, or that calls the library by
  * dlopen(3) and dlsym(3). Without __GNUC__, which gcc and clang define, the linker checks nothing.
+ * Nor does it with --gc-sections if the compiler lacks the attribute retain, as gcc 10 does.
  */
 #if defined __GNUC__ && !defined SOCKDIAG_NO_LINK_CHECK
 #ifdef __has_attribute

@@ -128,7 +128,11 @@ not_linked() {
     if "$@" >"$work/said" 2>&1; then fail "a library of another version is linked: $what"; fi
     grep -qF "sockdiag_abi_${version%%.*}_" "$work/said" || fail "$what: $(cat "$work/said")"
 }
-for flags in -O0 -O2 '-O2 -fdata-sections -Wl,--gc-sections'; do
+# Without the attribute retain the linker may drop the reference with --gc-sections.
+drop=-Wl,--gc-sections
+echo 'int kept __attribute__((used, retain));' >"$work/kept.c"
+${CC:-cc} -Werror -c -o "$work/kept.o" "$work/kept.c" 2>/dev/null || drop=-O1
+for flags in -O0 -O2 "-O2 $drop"; do
     # shellcheck disable=SC2086
     not_linked "C $flags" ${CC:-cc} $flags -Iinclude -o "$work/other/program" \
         examples/list_sockets.c "$work/other/libsockdiag.a"
