@@ -6,9 +6,10 @@
  *
  * Each kind is requested from NETLINK_SOCK_DIAG by a dump request, as sock_diag(7) shows. Replies
  * are parsed in the buffer that recv(2) filled. An attribute that is rejected does not hide its
- * socket: the line ends with its kind and its error. A reply whose header is rejected is reported,
- * and the dump continues. A dump that was interrupted, or of which data was lost, is requested
- * again; its lines are not printed. The exit status is 0 if every reply was listed and no dump was
+ * socket: the line ends with its kind and its error. Only a short INET_DIAG_INFO of TCP is not
+ * reported if it contains the round-trip time. A reply whose header is rejected is reported, and
+ * the dump continues. A dump that was interrupted, or of which data was lost, is requested again;
+ * its lines are not printed. The exit status is 0 if every reply was listed and no dump was
  * reported as interrupted or lost data, 1 if not, and 2 for wrong arguments. Sockets that open or
  * close during a dump may be missing or listed twice with status 0 too: the kernel does not report
  * it. The program is valid C99 and C++.
@@ -82,8 +83,8 @@ static void print_number(FILE *lines, const char *name, struct sockdiag_number n
         fprintf(lines, " %s %u", name, number.value);
 }
 
-/* Prints the inodes of the connections that wait to be accepted. They are the value of an attribute
- * that the details lack. */
+/* Prints the inodes of the sockets that connected and were not yet accepted. They are the value of
+ * an attribute that the details lack. */
 static void print_pending(FILE *lines, const uint8_t *payload, size_t length) {
     struct sockdiag_cursor cursor = {SOCKDIAG_UNIX_ATTRIBUTES}, step = {0};
     struct sockdiag_attribute it;
@@ -145,12 +146,16 @@ static uint32_t print_inet(FILE *lines, const char *protocol, const uint8_t *pay
             it.header.inode);
     print_text(lines, &it.congestion);
     print_number(lines, "mark", it.mark);
-    /* Each kernel sends struct tcp_info in its own size. Does it contain this field? An MPTCP
-     * socket has struct mptcp_info there. */
+    /* Each kernel sends struct tcp_info in its own size, and a short one is rejected. Does it
+     * contain this field? An MPTCP socket has struct mptcp_info there. */
     if (strcmp(protocol, "tcp") == 0 &&
         sockdiag_inet_get_long_tcp_info(payload, length, &info)
-            >= offsetof(struct sockdiag_long_tcp_info, rtt) + sizeof info.rtt)
-        fprintf(lines, " rtt %u", info.rtt);
+            >= offsetof(struct sockdiag_long_tcp_info, rtt) + sizeof info.rtt) {
+        rejections.errors[SOCKDIAG_INET_DIAG_INFO] = SOCKDIAG_OK;
+        /* 0: not measured, as of a socket that listens. */
+        if (info.rtt != 0)
+            fprintf(lines, " rtt %uus", info.rtt);
+    }
     end_line(lines, &rejections);
     return SOCKDIAG_OK;
 }

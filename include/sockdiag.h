@@ -2,11 +2,11 @@
  * Parses and serializes messages of sock_diag(7) with the headers of netlink(7), in the caller's
  * memory.
  *
- * The library is crates/sockdiag_c. tools/install builds it and installs it under a prefix. What
- * this header says of a call is proved there, by the contract of the function of the same name and
- * by the four theorem functions in src/laws.rt: a_step_passes_the_first_attribute and
- * a_step_passes_the_first_message, about iteration; lenient_calls_agree_with_strict_calls; and
- * every_rejected_kind_has_a_code. No clause states:
+ * The source of the library is the crate sockdiag_c of the sources, in crates/sockdiag_c, which a
+ * release does not contain. What this header says of a call is proved there, by the contract of the
+ * function of the same name and by the four theorem functions in src/laws.rt:
+ * a_step_passes_the_first_attribute and a_step_passes_the_first_message, about iteration;
+ * lenient_calls_agree_with_strict_calls; and every_rejected_kind_has_a_code. No clause states:
  * - that the library does not allocate, opens no files or sockets, and has no state;
  * - that a call makes one pass over the attributes, and how long it takes;
  * - where the pointer of a text points: the clauses state the bytes of the text;
@@ -16,12 +16,13 @@
  * sockdiag_is_answer, sockdiag_is_interrupted and sockdiag_ends_answer.
  *
  * The library does not allocate, opens no files or sockets, and has no state between calls. So any
- * thread may call it at any time, with memory that meets the requirements below. It needs memcpy,
- * memmove and memset of the C library.
+ * thread may call it at any time, with memory that meets the requirements below. It needs at most
+ * memcpy, memmove and memset of the C library.
  *
  * The caller has to ensure the following, and nothing checks it:
  * - A pointer to bytes is valid for the length in bytes that the parameter next to it gives. The
- *   length is at most PTRDIFF_MAX. The pointer may be null if the length is 0.
+ *   length is at most PTRDIFF_MAX. The pointer may be null if the length is 0. Bytes need no
+ *   alignment.
  * - A pointer to a struct is aligned for it. All fields of a const struct, and of a cursor, are
  *   initialized.
  * - Memory that a call writes, which is a buffer or a struct that is not const, overlaps no other
@@ -49,7 +50,7 @@
  * message. The cookie of a netlink, packet, vsock or XDP socket is a number, which is little-endian
  * in the message. Offsets in comments are those in the kernel's structs.
  *
- * tools/bindings writes this file from the source of the library.
+ * In the sources, tools/bindings writes this file from the source of the library.
  */
 #ifndef SOCKDIAG_H
 #define SOCKDIAG_H
@@ -76,11 +77,33 @@ extern "C" {
 uint32_t sockdiag_version(void);
 
 /*
+ * Returns 1,000 times the first number of the version of the library, plus the second one. The name
+ * of the function has these two numbers too, so libraries of other versions do not have it. A
+ * program that refers to it, as the header does, links with a library of its version only.
+ */
+uint32_t sockdiag_abi_1_0(void);
+
+/*
+ * Refers to this function in each file that includes the header, so that a library of another
+ * version cannot be linked. Define SOCKDIAG_NO_LINK_CHECK before the header in a file that is not
+ * linked with the library: one that only uses constants and structs, or that calls the library by
+ * dlopen(3) and dlsym(3). Without __GNUC__, which gcc and clang define, the linker checks nothing.
+ * Nor does it with --gc-sections if the compiler lacks the attribute retain, as gcc 10 does.
+ */
+#if defined __GNUC__ && !defined SOCKDIAG_NO_LINK_CHECK
+#ifdef __has_attribute
+#if __has_attribute(retain)
+__attribute__((retain))
+#endif
+#endif
+__attribute__((used)) static uint32_t (*const sockdiag_linked_abi)(void) = sockdiag_abi_1_0;
+#endif
+
+/*
  * Returns 1 if the program was compiled with the header of a version that is compatible with the
- * library that is linked, else 0. The first two numbers of both versions have to be equal. The
- * loader of programs ensures this for the shared library, by its soname. Call this function first
- * if the program is linked with the static library, or loads the library by itself: structs of
- * another version may have another size.
+ * library that is linked, else 0. The first two numbers of both versions have to be equal: structs
+ * of another version may have another size. The linker ensures this by the pointer above, and the
+ * loader of programs by the soname of the shared library. Call this function first if neither does.
  */
 static inline int sockdiag_is_compatible(void)
 {
@@ -94,7 +117,10 @@ static inline int sockdiag_is_compatible(void)
                            that returns a value. It is not the code of an error here: code 1 is
                            an allocation failure, which cannot happen. */
 
-/* Decode errors: why bytes are rejected. If bytes have several errors, a call returns the first. */
+/*
+ * Decode errors: why bytes are rejected. If bytes have several errors, a call returns the first.
+ * The only text that has to be valid UTF-8 is the name of a congestion control algorithm.
+ */
 enum sockdiag_error {
     SOCKDIAG_BUFFER_TOO_SMALL = 2,          /* A record has fewer bytes than it needs. */
     SOCKDIAG_UNSUPPORTED_FAMILY = 3,        /* The family of an internet socket is neither
@@ -128,8 +154,8 @@ enum sockdiag_error {
 
 /*
  * Returns the text of a decode error: a constant string in English, the text of DecodeError in
- * crates/netlink_core without the values. Any number may be passed. The text of 0 is "no error".
- * The text of a number that is not the code of an error is "unknown error code".
+ * crates/netlink_core of the sources without the values. Any number may be passed. The text of 0 is
+ * "no error". The text of a number that is not the code of an error is "unknown error code".
  */
 static inline const char *sockdiag_error_text(uint32_t error)
 {
@@ -509,7 +535,7 @@ uint32_t sockdiag_check_unix_reply(const uint8_t *payload, size_t length,
  * the header is unchanged.
  *
  * An attribute with an invalid value makes the whole reply invalid. INET_DIAG_INFO with fewer than
- * 232 bytes has SOCKDIAG_BUFFER_TOO_SMALL. TCP sockets of kernels before Linux 5.4 have such
+ * 232 bytes has SOCKDIAG_BUFFER_TOO_SMALL. TCP sockets of kernels without tcpi_snd_wnd have such
  * values, and MPTCP sockets of all kernels. sockdiag_inet_get_lenient_details returns the header of
  * such a reply, and the first valid attribute of each kind that has a field in the details. These
  * calls accept a value of any length:
@@ -542,14 +568,17 @@ struct sockdiag_number {
 #define SOCKDIAG_TEXT 1     /* Kind of a pathname, and of the name of a congestion control
                                algorithm. */
 #define SOCKDIAG_ABSTRACT 2 /* Kind of an abstract name. */
-#define SOCKDIAG_BYTES 3    /* Kind of bytes that are not text. */
+#define SOCKDIAG_BYTES 3    /* Kind of the groups of a netlink socket, and of memberships and the
+                               filter of a packet socket. */
 
 /* A text that a reply may contain, as a pointer into the bytes of the reply. */
 struct sockdiag_text {
-    uint32_t kind;        /* Kind of the text. SOCKDIAG_TEXT: a pathname, or the name of a
-                             congestion control algorithm. SOCKDIAG_ABSTRACT: an abstract name.
-                             SOCKDIAG_BYTES: bytes that are not text. 0: the reply contains no
-                             such text; then do not use the other fields. */
+    uint32_t kind;        /* Kind of the text. SOCKDIAG_TEXT: a pathname, which may contain any
+                             bytes except NUL, or the name of a congestion control algorithm,
+                             which is valid UTF-8. SOCKDIAG_ABSTRACT: an abstract name, of any
+                             bytes. SOCKDIAG_BYTES: the groups of a netlink socket, or the
+                             memberships or the filter of a packet socket. 0: the reply contains
+                             no such text; then do not use the other fields. */
     const uint8_t *bytes; /* The text, without the NUL that ends a text or precedes an abstract
                              name. Do not use it as a string of C: an abstract name may contain
                              NULs, and only a pathname is always followed by its NUL in the
@@ -642,10 +671,12 @@ uint32_t sockdiag_inet_get_details(const uint8_t *payload, size_t length,
                                    struct sockdiag_inet_details *details);
 
 /*
- * Stores the inode of a connection that waits to be accepted on a UNIX socket: the one at this
- * index of the first UNIX_DIAG_ICONS of a reply, which is the payload of a netlink message. The
- * first connection has index 0. Returns 1. Returns 0 if the reply is rejected, or has no connection
- * at this index; then the inode is unchanged.
+ * Stores the inode of a socket that connected to a UNIX socket, and was not yet accepted: the one
+ * at this index of the first UNIX_DIAG_ICONS of a reply, which is the payload of a netlink message.
+ * The first connection has index 0. Returns 1. Returns 0 if the reply is rejected, or has no
+ * connection at this index; then the inode is unchanged. The inode is 0 if the socket was closed
+ * since. The other end of such a connection, which accept(2) will return, has no inode yet, and the
+ * kernel does not list it.
  *
  * Each call checks the whole reply. To read all connections, find UNIX_DIAG_ICONS once by
  * sockdiag_next_attribute, and step through its value by sockdiag_next_pending.
@@ -781,8 +812,9 @@ struct sockdiag_tcp_info {
  * socket, which has 72 bytes: at most the 232 bytes of info. The remaining bytes of info are set to
  * 0. Returns the length of the value in bytes, or 0 if there is none.
  *
- * Kernels before Linux 5.4 send fewer than 232 bytes: a field that ends after the returned length
- * is 0, and not known. Newer kernels send more; the bytes after 232 are not copied. The value is
+ * Kernels without tcpi_snd_wnd send fewer than 232 bytes: a field that ends after the returned
+ * length is 0, and not known. Newer kernels send more; the bytes after 232 are not copied. A time
+ * that the kernel has not measured is 0 too, such as rtt of a socket that listens. The value is
  * struct tcp_info only if the protocol is TCP: MPTCP has struct mptcp_info, and SCTP has struct
  * sctp_info, whose bytes have no meaning in info.
  *
@@ -951,7 +983,11 @@ struct sockdiag_long_tcp_info {
  * Copies the value of the first INET_DIAG_INFO after the header of a reply about an IPv4 or IPv6
  * socket, as sockdiag_inet_get_tcp_info does, into the longer struct of Linux 6.18: at most the 280
  * bytes of info. The remaining bytes of info are set to 0. Returns the length of the value in
- * bytes, or 0 if there is none: a field that ends after it is 0, and not known.
+ * bytes, or 0 if there is none: a field that ends after it is 0, and not known. A time that the
+ * kernel has not measured is 0 too, such as rtt of a socket that listens.
+ *
+ * The values of attributes are not checked. So this call also works for a value that is rejected
+ * with SOCKDIAG_BUFFER_TOO_SMALL, as a lenient call reports it.
  */
 size_t sockdiag_inet_get_long_tcp_info(const uint8_t *payload, size_t length,
                                        struct sockdiag_long_tcp_info *info);
@@ -997,8 +1033,9 @@ size_t sockdiag_inet_get_memory(const uint8_t *payload, size_t length,
  * A call of this section rejects a reply only if its header is invalid. It returns the first valid
  * attribute of each kind that has a field in the details, and the first error of each kind. Use
  * these calls to list sockets. Real kernels send values that the library does not accept: an
- * INET_DIAG_INFO of fewer than 232 bytes (before Linux 5.4, and of MPTCP), and a UNIX_DIAG_MEMINFO
- * of fewer than 36 bytes. By the calls of the previous section, one of them hides its whole socket.
+ * INET_DIAG_INFO of fewer than 232 bytes (of MPTCP, and of TCP from kernels without tcpi_snd_wnd),
+ * and a UNIX_DIAG_MEMINFO of fewer than 36 bytes. By the calls of the previous section, one of them
+ * hides its whole socket.
  */
 
 #define SOCKDIAG_REJECTION_KINDS 32 /* Number of the elements of errors of struct
@@ -1524,9 +1561,9 @@ static inline int sockdiag_ends_answer(const struct sockdiag_message *message)
 
 /*
  * Stores the inode at the cursor, and advances the cursor by its 4 bytes. The bytes are the value
- * of UNIX_DIAG_ICONS: the inodes of the connections that wait to be accepted on a UNIX socket.
- * Returns 1; or 0 if fewer bytes are left, and then nothing is written. The time for a whole list
- * is proportional to its length.
+ * of UNIX_DIAG_ICONS: the inodes of the sockets that connected to a UNIX socket, and were not yet
+ * accepted; 0 for one that was closed since. Returns 1; or 0 if fewer bytes are left, and then
+ * nothing is written. The time for a whole list is proportional to its length.
  */
 uint32_t sockdiag_next_pending(const uint8_t *value, size_t length, struct sockdiag_cursor *cursor,
                                uint32_t *inode);
@@ -1864,8 +1901,8 @@ struct sockdiag_inet_request {
     uint8_t extensions;                    /* Attributes that the replies shall have, with the
                                               bit 1 << (kind - 1) for each kind (idiag_ext).
                                               Leave out INET_DIAG_INFO for MPTCP, and for kernels
-                                              before Linux 5.4: sockdiag_inet_get_details rejects
-                                              their replies. */
+                                              without tcpi_snd_wnd: sockdiag_inet_get_details
+                                              rejects their replies. */
     uint32_t protocol;                     /* Protocol, one of IPPROTO_... Request one protocol
                                               at a time, since replies do not contain it. The low
                                               byte is written to the record (sdiag_protocol, byte

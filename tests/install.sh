@@ -47,7 +47,7 @@ for program in sockdiag sslist; do
 done
 {
     echo '#include "sockdiag.h"'
-    tr '\n' ' ' <include/sockdiag.h | grep -oE '(size_t|uint32_t) sockdiag_[a-z_]*\([^;{]*\);' |
+    tr '\n' ' ' <include/sockdiag.h | grep -oE '(size_t|uint32_t) sockdiag_[a-z0-9_]*\([^;{]*\);' |
         sed 's/;$/ { return 0; }/'
 } >"$work/fake.c"
 "$CC" -w -fPIC -c -Iinclude -o "$work/fake.o" "$work/fake.c"

@@ -5,8 +5,8 @@
 # - tests/release.txt lists the members of each archive and package in order, with modes, owners and
 #   times, and the files that tools/install installs. --write writes a new list.
 # - Two copies at different paths, with other times and modes, are packed to the same bytes.
-# - The archive for users has no broken link. Its examples in C and Rust can be built, and its Rust
-#   crate can be packaged.
+# - The archive for users has no broken link. Its examples in C and Rust can be built, but not with
+#   a library of another version, and its Rust crate can be packaged.
 # - The packages can be installed into another root and removed from it (skipped without root).
 # - tools/pack fails if a file or the date of the version is missing.
 #
@@ -35,12 +35,19 @@ printf '#!/bin/sh\n# GLIBC_2.4 GLIBC_2.34\n' | tee built/sockdiag >built/sslist
 echo 'rattle-kit-1 logic 0123456789abcdef' >built/KIT
 names=$(grep -oE '\bsockdiag_[a-z0-9_]+\(' "$top/include/sockdiag.h" | tr -d '(' | sort -u)
 {
-    for name in $names; do printf '.globl %s\n%s:\n' "$name" "$name"; done
+    for name in $names; do
+        printf '.globl %s\n.type %s, @function\n%s:\n' "$name" "$name" "$name"
+    done
     printf '    xor %%eax, %%eax\n    ret\n.section .note.GNU-stack, "", @progbits\n'
 } >fake.s
 has "${CC:-cc}" || exit 0
 ${CC:-cc} -c fake.s
 ar rcD built/libsockdiag_c.a fake.o
+# The same library with another version.
+mkdir other
+sed 's/sockdiag_abi_[0-9]*_[0-9]*/sockdiag_abi_0_0/' fake.s >other/fake.s
+${CC:-cc} -c -o other/fake.o other/fake.s
+ar rcD other/libsockdiag.a other/fake.o
 
 # A copy of the tree with files that must not be packed, and with proof results, of which one file
 # has two names. An archive must not have the second one as a link.
@@ -114,13 +121,31 @@ cd "$unpacked"
 ${CC:-cc} -Iinclude -o "$work/static" examples/list_sockets.c lib/libsockdiag.a
 ${CC:-cc} -I"$work/prefix/include" -L"$work/prefix/lib" -o "$work/shared" examples/list_sockets.c \
     -lsockdiag
+# not_linked WHAT COMMAND..: fails if the command does not fail for lack of the version's function.
+not_linked() {
+    what=$1
+    shift
+    if "$@" >"$work/said" 2>&1; then fail "a library of another version is linked: $what"; fi
+    grep -qF "sockdiag_abi_${version%%.*}_" "$work/said" || fail "$what: $(cat "$work/said")"
+}
+# Without the attribute retain the linker may drop the reference with --gc-sections.
+drop=-Wl,--gc-sections
+echo 'int kept __attribute__((used, retain));' >"$work/kept.c"
+${CC:-cc} -Werror -c -o "$work/kept.o" "$work/kept.c" 2>/dev/null || drop=-O1
+for flags in -O0 -O2 "-O2 $drop"; do
+    # shellcheck disable=SC2086
+    not_linked "C $flags" ${CC:-cc} $flags -Iinclude -o "$work/other/program" \
+        examples/list_sockets.c "$work/other/libsockdiag.a"
+done
 if has make && has pkg-config; then
     PKG_CONFIG_PATH=$work/prefix/lib/pkgconfig make -s -C examples
 fi
 if has cargo; then
     (cd rust/sockdiag && unset SOCKDIAG_LIB_DIR && export CARGO_TARGET_DIR="$work/target" &&
         cargo build --offline --quiet --example list_sockets &&
-        SOCKDIAG_LIB_DIR="$unpacked/lib" cargo package --offline --quiet)
+        SOCKDIAG_LIB_DIR="$unpacked/lib" cargo package --offline --quiet &&
+        not_linked Rust env SOCKDIAG_LIB_DIR="$work/other" \
+            cargo build --offline --quiet --release --example list_sockets)
 fi
 cd "$work"
 

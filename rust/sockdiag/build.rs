@@ -31,10 +31,12 @@ fn is_set() -> bool {
     env::var_os("SOCKDIAG_LIB_DIR").is_some()
 }
 
-/// Returns the folders that may have the library.
+/// Returns the folders that may have the library. Cargo runs this script in the folder of its
+/// package, so a relative `SOCKDIAG_LIB_DIR` is a path from there.
 fn folders() -> Vec<PathBuf> {
     if let Some(folder) = env::var_os("SOCKDIAG_LIB_DIR") {
-        return vec![PathBuf::from(folder)];
+        let here = env::current_dir().unwrap_or_default();
+        return vec![here.join(folder)];
     }
     // Cargo runs a build script in the folder of its package, and sets this variable.
     let package = env::var_os("CARGO_MANIFEST_DIR").map_or_else(PathBuf::new, PathBuf::from);
@@ -83,8 +85,9 @@ fn warn_of_absence(folders: &[PathBuf]) {
     }
     let searched = folders.iter().map(|folder| folder.display().to_string());
     println!(
-        "cargo::warning=libsockdiag.a not found in {}{}; only cargo doc and cargo check work without \
-         it: install it by tools/install, and set SOCKDIAG_LIB_DIR to its folder",
+        "cargo::warning=libsockdiag.a not found in {}{}; only cargo doc and cargo check work \
+         without it: install it by tools/install, and set SOCKDIAG_LIB_DIR to the absolute path of \
+         its folder",
         searched.collect::<Vec<_>>().join(" or "),
         if is_set() { "" } else { " or by pkg-config" }
     );

@@ -1006,6 +1006,7 @@ static void has_numbers(void) {
           SOCKDIAG_VERSION_NUMBER == 1000000 * first + 1000 * second + third, "the version");
     check(sockdiag_version() == SOCKDIAG_VERSION_NUMBER && sockdiag_is_compatible(),
           "the version of the library");
+    check(sockdiag_abi_1_0() == SOCKDIAG_VERSION_NUMBER / 1000, "the first numbers of the version");
     check(SOCKDIAG_NETLINK_SOCK_DIAG == NETLINK_SOCK_DIAG &&
           SOCKDIAG_SOCK_DIAG_BY_FAMILY == SOCK_DIAG_BY_FAMILY &&
           SOCKDIAG_NLMSG_DONE == NLMSG_DONE && SOCKDIAG_NLM_F_DUMP_INTR == NLM_F_DUMP_INTR,

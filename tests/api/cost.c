@@ -165,7 +165,7 @@ static void write_requests(const uint8_t *bytes, size_t length) {
     sink += sockdiag_write_inet_destroy(&inet, output, length);
     sink += sockdiag_write_show_request(&show, output, length);
     sink += sockdiag_write_vsock_request(&vsock, output, length);
-    sink += sockdiag_version();
+    sink += sockdiag_version() + sockdiag_abi_1_0();
 }
 
 /* Each row has a call, the type of what it stores, which is not read, and forms of inputs. */

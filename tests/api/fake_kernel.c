@@ -17,7 +17,8 @@
  * requested again on another socket. Each other request is answered by ENOENT. The state of the
  * sockets shows which states were requested. tests/api/c_api.sh compares the output.
  */
-#define _DEFAULT_SOURCE /* For syscall. */
+#define _DEFAULT_SOURCE        /* For syscall. */
+#define SOCKDIAG_NO_LINK_CHECK /* Only constants are used: a lister in Rust exports no function. */
 #include "sockdiag.h"
 
 #include <errno.h>

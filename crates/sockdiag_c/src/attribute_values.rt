@@ -110,9 +110,9 @@ pub extern "C" fn sockdiag_next_address(
 }
 
 /// Stores the inode at the cursor, and advances the cursor by its 4 bytes. The bytes are the value
-/// of `UNIX_DIAG_ICONS`: the inodes of the connections that wait to be accepted on a UNIX socket.
-/// Returns 1; or 0 if fewer bytes are left, and then nothing is written. The time for a whole list
-/// is proportional to its length.
+/// of `UNIX_DIAG_ICONS`: the inodes of the sockets that connected to a UNIX socket, and were not
+/// yet accepted; 0 for one that was closed since. Returns 1; or 0 if fewer bytes are left, and then
+/// nothing is written. The time for a whole list is proportional to its length.
 #[unsafe(no_mangle)]
 pub extern "C" fn sockdiag_next_pending(value: &[u8], cursor: &mut Cursor, inode: &mut u32) -> u32
     ensures { NextItem 4 (little_number 4) value.now cursor.old cursor.new inode.old inode.new

@@ -46,9 +46,9 @@ pub extern "C" fn sockdiag_check_unix_reply(payload: &[u8], header: &mut UnixHea
 /// then the header is unchanged.
 ///
 /// An attribute with an invalid value makes the whole reply invalid. `INET_DIAG_INFO` with fewer
-/// than 232 bytes has `SOCKDIAG_BUFFER_TOO_SMALL`. TCP sockets of kernels before Linux 5.4 have
-/// such values, and MPTCP sockets of all kernels. `sockdiag_inet_get_lenient_details` returns the
-/// header of such a reply, and the first valid attribute of each kind that has a field in the
+/// than 232 bytes has `SOCKDIAG_BUFFER_TOO_SMALL`. TCP sockets of kernels without `tcpi_snd_wnd`
+/// have such values, and MPTCP sockets of all kernels. `sockdiag_inet_get_lenient_details` returns
+/// the header of such a reply, and the first valid attribute of each kind that has a field in the
 /// details. These calls accept a value of any length:
 /// - the connection: `sockdiag_inet_get_long_tcp_info` and `sockdiag_inet_get_tcp_info`;
 /// - the memory: `sockdiag_inet_get_memory`;

@@ -33,9 +33,11 @@ pub struct Number {
 #[repr(C)]
 #[derive(Clone, Copy)]
 pub struct Text<'a> {
-    /// Kind of the text. `SOCKDIAG_TEXT`: a pathname, or the name of a congestion control
-    /// algorithm. `SOCKDIAG_ABSTRACT`: an abstract name. `SOCKDIAG_BYTES`: bytes that are not text.
-    /// 0: the reply contains no such text; then do not use the other fields.
+    /// Kind of the text. `SOCKDIAG_TEXT`: a pathname, which may contain any bytes except NUL, or
+    /// the name of a congestion control algorithm, which is valid UTF-8. `SOCKDIAG_ABSTRACT`: an
+    /// abstract name, of any bytes. `SOCKDIAG_BYTES`: the groups of a netlink socket, or the
+    /// memberships or the filter of a packet socket. 0: the reply contains no such text; then do
+    /// not use the other fields.
     pub kind: u32,
     /// The text, without the NUL that ends a text or precedes an abstract name. Do not use it as a
     /// string of C: an abstract name may contain NULs, and only a pathname is always followed by
@@ -49,7 +51,7 @@ pub(crate) const TEXT: u32 = 1;
 /// Kind of an abstract name.
 pub(crate) const ABSTRACT: u32 = 2;
 
-/// Kind of bytes that are not text.
+/// Kind of the groups of a netlink socket, and of memberships and the filter of a packet socket.
 pub(crate) const BYTES: u32 = 3;
 
 /// The text of a reply that contains none.

@@ -1,4 +1,4 @@
-//! The connections that wait to be accepted on a UNIX socket.
+//! The sockets whose connections wait to be accepted on a UNIX socket.
 
 ghost use Rattle.std.specs.Prelude.{◌≡◌, ◌⊎◌, slice_get};
 ghost use Rattle.netlink_core.specs.declared.error.DecodeError.{DecodeError};
@@ -10,10 +10,12 @@ ghost use Rattle.sockdiag_c.specs.UnixDetails.{pending_inodes};
 use crate::walks::{END, ITEM};
 use netlink_packet_sock_diag::unix::UnixResponseView;
 
-/// Stores the inode of a connection that waits to be accepted on a UNIX socket: the one at this
-/// index of the first `UNIX_DIAG_ICONS` of a reply, which is the payload of a netlink message. The
-/// first connection has index 0. Returns 1. Returns 0 if the reply is rejected, or has no
-/// connection at this index; then the inode is unchanged.
+/// Stores the inode of a socket that connected to a UNIX socket, and was not yet accepted: the one
+/// at this index of the first `UNIX_DIAG_ICONS` of a reply, which is the payload of a netlink
+/// message. The first connection has index 0. Returns 1. Returns 0 if the reply is rejected, or has
+/// no connection at this index; then the inode is unchanged. The inode is 0 if the socket was
+/// closed since. The other end of such a connection, which accept(2) will return, has no inode yet,
+/// and the kernel does not list it.
 ///
 /// Each call checks the whole reply. To read all connections, find `UNIX_DIAG_ICONS` once by
 /// `sockdiag_next_attribute`, and step through its value by `sockdiag_next_pending`.

@@ -18,8 +18,9 @@ pub(crate) const LONG_TCP_INFO_LEN: usize = 280;
 /// socket, which has 72 bytes: at most the 232 bytes of `info`. The remaining bytes of `info` are
 /// set to 0. Returns the length of the value in bytes, or 0 if there is none.
 ///
-/// Kernels before Linux 5.4 send fewer than 232 bytes: a field that ends after the returned length
-/// is 0, and not known. Newer kernels send more; the bytes after 232 are not copied. The value is
+/// Kernels without `tcpi_snd_wnd` send fewer than 232 bytes: a field that ends after the returned
+/// length is 0, and not known. Newer kernels send more; the bytes after 232 are not copied. A time
+/// that the kernel has not measured is 0 too, such as `rtt` of a socket that listens. The value is
 /// `struct tcp_info` only if the protocol is TCP: MPTCP has `struct mptcp_info`, and SCTP has
 /// `struct sctp_info`, whose bytes have no meaning in `info`.
 ///
@@ -41,7 +42,11 @@ pub extern "C" fn sockdiag_inet_get_tcp_info(payload: &[u8], info: &mut [u8; TCP
 /// Copies the value of the first `INET_DIAG_INFO` after the header of a reply about an IPv4 or IPv6
 /// socket, as `sockdiag_inet_get_tcp_info` does, into the longer struct of Linux 6.18: at most the
 /// 280 bytes of `info`. The remaining bytes of `info` are set to 0. Returns the length of the value
-/// in bytes, or 0 if there is none: a field that ends after it is 0, and not known.
+/// in bytes, or 0 if there is none: a field that ends after it is 0, and not known. A time that the
+/// kernel has not measured is 0 too, such as `rtt` of a socket that listens.
+///
+/// The values of attributes are not checked. So this call also works for a value that is rejected
+/// with `SOCKDIAG_BUFFER_TOO_SMALL`, as a lenient call reports it.
 #[unsafe(no_mangle)]
 pub extern "C" fn sockdiag_inet_get_long_tcp_info(
     payload: &[u8],

@@ -11,3 +11,13 @@ pub extern "C" fn sockdiag_version() -> u32
 {
     1_000_000
 }
+
+/// Returns 1,000 times the first number of the version of the library, plus the second one. The
+/// name of the function has these two numbers too, so libraries of other versions do not have it. A
+/// program that refers to it, as the header does, links with a library of its version only.
+#[unsafe(no_mangle)]
+pub extern "C" fn sockdiag_abi_1_0() -> u32
+    ensures { result ≡ 1000 }
+{
+    1_000
+}

@@ -2,24 +2,25 @@
 //! MPTCP socket over IPv4 and IPv6.
 //!
 //! An attribute that is rejected does not hide its socket: the line ends with its kind and its
-//! error. A reply whose header is rejected is reported, and the list continues. A dump that was
+//! error. Only a short `INET_DIAG_INFO` of TCP is not reported if it contains the round-trip time.
+//! A reply whose header is rejected is reported, and the list continues. A dump that was
 //! interrupted, or of which data was lost, is requested again. The exit status is 0 if every reply
 //! was listed and no dump was reported as interrupted or lost data, and else 1. Sockets that open
 //! or close during a dump may be missing or listed twice with status 0 too: the kernel does not
 //! report it. The crate opens no socket. This example does, by calls of the C library.
 
 use sockdiag::constants::{AF_INET, AF_INET6, IPPROTO_MPTCP, IPPROTO_TCP, IPPROTO_UDP};
-use sockdiag::constants::{NLM_F_DUMP, NLM_F_REQUEST};
+use sockdiag::constants::{INET_DIAG_INFO, NLM_F_DUMP, NLM_F_REQUEST};
 use sockdiag::inet::{ExtensionFlags, InetReply, InetRequest, SocketId, TcpField};
 use sockdiag::unix::{ShowFlags, UnixDiagName, UnixReply, UnixRequest};
 use sockdiag::{inet, unix, AnswerCheck, Dump, LenientMessage, NetlinkHeader, NetlinkPayload};
 use sockdiag::{RejectedAttributes, RejectedMessage, SockDiagMessage};
 use std::fs::File;
 use std::io::{self, Read, Write};
-use std::os::fd::FromRawFd;
+use std::os::fd::{AsRawFd, FromRawFd};
 use std::process::ExitCode;
 
-const AF_NETLINK: i32 = 16;
+const AF_NETLINK: u16 = 16;
 const SOCK_RAW: i32 = 3;
 const SOCK_CLOEXEC: i32 = 0o2000000;
 const NETLINK_SOCK_DIAG: i32 = 4;
@@ -31,20 +32,43 @@ const ATTEMPTS: u32 = 5;
 /// Offset of `sdiag_protocol` in a request for internet sockets.
 const RECORD_PROTOCOL: usize = 17;
 
-extern "C" {
-    fn socket(family: i32, kind: i32, protocol: i32) -> i32;
+/// The address of a netlink socket: `struct sockaddr_nl` of netlink(7).
+#[repr(C)]
+struct Address {
+    family: u16,
+    pad: u16,
+    port_number: u32,
+    groups: u32,
 }
 
+extern "C" {
+    fn socket(family: i32, kind: i32, protocol: i32) -> i32;
+    fn connect(fd: i32, address: *const Address, length: u32) -> i32;
+}
+
+/// Opens a socket to which only the kernel can send: port id 0 is the kernel's.
 fn open() -> io::Result<File> {
+    let (family, kind) = (AF_NETLINK.into(), SOCK_RAW | SOCK_CLOEXEC);
     // SAFETY: socket(2) takes three numbers and accesses no memory.
-    let fd = unsafe { socket(AF_NETLINK, SOCK_RAW | SOCK_CLOEXEC, NETLINK_SOCK_DIAG) };
+    let fd = unsafe { socket(family, kind, NETLINK_SOCK_DIAG) };
     if fd < 0 {
         return Err(io::Error::last_os_error());
     }
     // SAFETY: the descriptor is open, and nothing else owns it. Reads and writes of a `File` are
     // read(2) and write(2). On a netlink socket they receive and send datagrams from and to the
     // kernel.
-    Ok(unsafe { File::from_raw_fd(fd) })
+    let file = unsafe { File::from_raw_fd(fd) };
+    let address = Address {
+        family: AF_NETLINK,
+        pad: 0,
+        port_number: 0,
+        groups: 0,
+    };
+    // SAFETY: connect(2) reads the address, a local, which has this length.
+    if unsafe { connect(file.as_raw_fd(), &address, size_of::<Address>() as u32) } != 0 {
+        return Err(io::Error::last_os_error());
+    }
+    Ok(file)
 }
 
 /// Returns the line about a UNIX socket.
@@ -85,22 +109,30 @@ fn inet_line(protocol: &str, reply: &InetReply<'_>) -> String {
     if let Some(algorithm) = reply.congestion() {
         line += &format!(" {algorithm}");
     }
-    // Each kernel sends `struct tcp_info` in its own size. Does it contain this field? An MPTCP
-    // socket has `struct mptcp_info` there.
-    let info = reply.tcp_info_bytes().filter(|_| protocol == "tcp");
-    if let Some(rtt) = info.and_then(|info| info.get(TcpField::Rtt)) {
-        line += &format!(" rtt {rtt}");
+    // 0: not measured, as of a socket that listens.
+    if let Some(rtt) = round_trip_time(protocol, reply).filter(|rtt| *rtt != 0) {
+        line += &format!(" rtt {rtt}us");
     }
     line
 }
 
-/// Returns the end of a line: the kinds of the attributes that are rejected, with their errors.
-fn rejected_text(rejected: RejectedAttributes<'_>) -> String {
+/// Returns the round-trip time of a TCP connection in microseconds, if the reply contains it. Each
+/// kernel sends `struct tcp_info` in its own size, and a short one is rejected. An MPTCP socket has
+/// `struct mptcp_info` there.
+fn round_trip_time(protocol: &str, reply: &InetReply<'_>) -> Option<u64> {
+    let info = reply.tcp_info_bytes().filter(|_| protocol == "tcp")?;
+    info.get(TcpField::Rtt)
+}
+
+/// Returns the end of a line: the kinds of the attributes that are rejected, with their errors,
+/// except the kind `read`, whose value was read.
+fn rejected_text(rejected: RejectedAttributes<'_>, read: Option<u16>) -> String {
     let text = |it: sockdiag::RejectedAttribute<'_>| match it.kind {
         Some(kind) => format!(" rejected {kind} ({it})"),
         None => format!(" rejected ({it})"),
     };
-    rejected.map(text).collect()
+    let is_unread = |it: &sockdiag::RejectedAttribute<'_>| it.kind.is_none() || it.kind != read;
+    rejected.filter(is_unread).map(text).collect()
 }
 
 /// The answer to one request.
@@ -173,10 +205,11 @@ impl Answer<'_> {
     fn take_rejected(&mut self, rejected: &RejectedMessage<'_>) {
         let line = match rejected.lenient() {
             Some(LenientMessage::Unix(reply)) => {
-                unix_line(&reply) + &rejected_text(reply.rejected())
+                unix_line(&reply) + &rejected_text(reply.rejected(), None)
             }
             Some(LenientMessage::Inet(reply)) => {
-                inet_line(self.protocol, &reply) + &rejected_text(reply.rejected())
+                let read = round_trip_time(self.protocol, &reply).map(|_| INET_DIAG_INFO);
+                inet_line(self.protocol, &reply) + &rejected_text(reply.rejected(), read)
             }
             None => {
                 eprintln!("list_sockets: {}: invalid reply: {rejected}", self.protocol);

@@ -12,6 +12,11 @@ use core::fmt;
 /// of a message, which may be the last one. So give each request another sequence number, check
 /// each header, and repeat the request if the dump was interrupted.
 ///
+/// **A message does not show who sent it.** Other processes can send to a netlink socket, with any
+/// numbers in the header. Connect the socket to port id 0 by connect(2), as
+/// `examples/list_sockets.rs` does: then only the kernel can send to it. After that,
+/// getsockname(2) returns the port id of the socket in `nl_pid`, for [`AnswerCheck::new`].
+///
 /// **A dump without this flag may be incomplete too.** Linux 6.18 did not set it in any message of
 /// dumps during which sockets opened and closed, and sockets were missing or listed twice. For a
 /// complete list request several dumps, and merge them by the cookies of the sockets.
@@ -52,8 +57,8 @@ pub enum UnrelatedMessage {
 
 impl AnswerCheck {
     /// Returns a check for the answer to a request with this sequence number, which was sent from a
-    /// socket with this port id. A number that is 0, here or in a message, is not compared: 0 if
-    /// the port id is not known.
+    /// socket with this port id, the one that getsockname(2) returns in `nl_pid`. A number that is
+    /// 0, here or in a message, is not compared: 0 if the port id is not known.
     pub const fn new(sequence_number: u32, port_number: u32) -> Self {
         AnswerCheck {
             sequence_number,

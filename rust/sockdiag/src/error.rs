@@ -91,8 +91,9 @@ impl fmt::Display for RecordName {
 /// and payload, and returns the part of the reply that is valid.
 ///
 /// Real kernels send replies that are rejected with `BufferTooSmall` (an `INET_DIAG_INFO` of fewer
-/// than 232 bytes, as from Linux before 5.4 or of MPTCP, and a `UNIX_DIAG_MEMINFO` of fewer than 36
-/// bytes) and with `UnknownFamily` (families that [`Dump`](crate::Dump) does not parse).
+/// than 232 bytes, of MPTCP or of TCP from kernels without `tcpi_snd_wnd`, and a
+/// `UNIX_DIAG_MEMINFO` of fewer than 36 bytes) and with `UnknownFamily` (families that
+/// [`Dump`](crate::Dump) does not parse).
 ///
 /// ```
 /// use sockdiag::unix::UnixReply;
@@ -197,7 +198,9 @@ pub enum DecodeError {
         /// Number of bytes that were found.
         got: usize,
     },
-    /// An error of a later version of the library, by its code.
+    /// An error that this version does not have, by its code. The library of the same version
+    /// returns no such code, and the tables of errors do not contain it. It displays `unknown error
+    /// code`.
     Other(u32),
 }
 

@@ -58,7 +58,7 @@ crate::flags! {
         /// `INET_DIAG_MEMINFO`.
         MEMINFO = 1 << (INET_DIAG_MEMINFO - 1);
         /// `INET_DIAG_INFO`. A reply is rejected with `BufferTooSmall` if this attribute has fewer
-        /// than 232 bytes, as Linux before 5.4 sends it, and any version for MPTCP.
+        /// than 232 bytes, as kernels without `tcpi_snd_wnd` send it, and any version for MPTCP.
         /// [`LenientInetReply`] has its other attributes, and
         /// [`tcp_info_bytes`](InetReply::tcp_info_bytes) the value.
         INFO = 1 << (INET_DIAG_INFO - 1);

@@ -1,19 +1,21 @@
 //! Messages of sock_diag(7), by which a Linux program asks the kernel about its sockets.
 //!
-//! This crate has safe bindings of `libsockdiag`. Each function of that library is proved to return
-//! what its contract says (`crates/sockdiag_c` of its sources). This crate does not allocate and
-//! opens no socket. It has no dependencies and no features. Replies are borrowed from the bytes
-//! that were parsed.
+//! This crate has safe bindings of `libsockdiag`, a library of functions that are proved to return
+//! what their contracts say. [No Rust code of this crate is proved](#what-is-proved). This crate
+//! does not allocate and opens no socket. It has no dependencies and no features. Replies are
+//! borrowed from the bytes that were parsed. All types are `Send` and `Sync`; those with a type
+//! parameter are so if it is. The only target is Linux on x86-64.
 //!
 //! # A dump
 //!
-//! A program sends a request on a netlink socket, and reads datagrams until a message ends the
-//! answer. A loop over the messages continues after a reply that is rejected. One rejected
-//! attribute makes a reply invalid: [`RejectedMessage::lenient`] returns its socket with the other
-//! attributes, so that no socket is lost on old kernels. After the end, repeat the request if the
-//! dump was interrupted; [`AnswerCheck`] has what is not reported. A `RejectedMessage` without a
-//! header is a framing error: the rest of the datagram is lost, and possibly the end, so repeat the
-//! request on another socket. `examples/list_sockets.rs` is a complete program.
+//! A program connects a netlink socket to port id 0 by connect(2), so that only the kernel can send
+//! to it. It sends a request, and reads datagrams until a message ends the answer. A loop over the
+//! messages continues after a reply that is rejected. One rejected attribute makes a reply invalid:
+//! [`RejectedMessage::lenient`] returns its socket with the other attributes, so that no socket is
+//! lost on old kernels. After the end, repeat the request if the dump was interrupted;
+//! [`AnswerCheck`] has what is not reported. A `RejectedMessage` without a header is a framing
+//! error: the rest of the datagram is lost, and possibly the end, so repeat the request on another
+//! socket. `examples/list_sockets.rs` is a complete program.
 //!
 //! The datagrams of a dump have at most 32 KiB. recv(2) cuts a longer datagram than the buffer
 //! silently: use 64 KiB, and treat a datagram that fills the buffer as cut.
@@ -47,6 +49,7 @@
 //! # let datagram = &[memory, datagram].concat()[..];
 //! // This datagram has a reply with a short UNIX_DIAG_MEMINFO, a reply whose header is too short,
 //! // another reply, and the end of the dump.
+//! // The second number is the port id of the socket, or 0 if it is not to be compared.
 //! let mut answer = AnswerCheck::new(header.sequence_number, 0);
 //! let mut listening = 0;
 //! for message in Dump::new(datagram) {
@@ -78,6 +81,27 @@
 //! }
 //! assert_eq!((listening, answer.is_interrupted()), (2, false));
 //! ```
+//!
+//! # What is proved
+//!
+//! Each function of the C library is proved to return what its contract says (`crates/sockdiag_c`
+//! of its sources). **No Rust code of this crate is proved, neither safe code nor an `unsafe`
+//! block**: it is tested, and a comment at each `unsafe` block names the contract that the block
+//! relies on. This crate calls the library with the caller's bytes and copies what it returns:
+//!
+//! | results of the proved library | code of this crate, which is tested |
+//! |---|---|
+//! | the messages of a datagram and the attributes of a reply, as offsets, lengths and types; framing errors | the slices of these; [`Numbers`]; [`AnswerCheck`] |
+//! | which payload of a family is accepted; [`DecodeError`] with its numbers | the choice of the function by the message type and the family; texts |
+//! | the numbers and the bytes of addresses in each header | [`inet::Timer`], IP addresses |
+//! | the getters of a reply, except those named on the right | the values of `nlas`, which are decoded a second time, with all [`nlas::MemInfo`](inet::nlas::MemInfo) of UNIX and internet sockets; `pending_connections`; which queue getters of a UNIX socket return `None`; `tcp_info` of a lenient reply whose first `INET_DIAG_INFO` is short; [`inet::TcpInfoBytes`] |
+//! | the fields of [`netlink`], [`packet`], [`vsock`] and [`xdp`] replies | `None` for what a reply does not contain |
+//! | the values of single attributes, such as `parse_uid` and [`inet::BbrInfo`] | which attribute of a reply a getter of these takes |
+//! | which kinds of a lenient reply are rejected, and the error of each attribute | the iterator [`RejectedAttributes`] |
+//! | the bytes of requests and of canonical forms | sets of flags; [`NetlinkMessage::serialize`] |
+//!
+//! The declarations of the library's structs and functions in this crate are written by a script
+//! from the source of the library, and not proved to agree with it.
 //!
 //! # From `netlink-packet-sock-diag`
 //!
@@ -181,6 +205,16 @@
 //! | `AF_VSOCK` | [`vsock::VsockRequest`] | [`vsock::VsockReply`] | `struct vsock_diag_msg` | [`vsock::VSOCK_RESPONSE_HEADER_LEN`] |
 //! | `AF_XDP` | [`xdp::XdpRequest`] | [`xdp::XdpReply`] | `struct xdp_diag_msg` | [`xdp::XDP_RESPONSE_HEADER_LEN`] |
 #![no_std]
+
+#[cfg(not(any(
+    docsrs,
+    all(
+        target_os = "linux",
+        target_arch = "x86_64",
+        target_pointer_width = "64"
+    )
+)))]
+compile_error!("libsockdiag is built only for Linux on x86-64");
 
 mod answer;
 mod attribute;

@@ -1084,6 +1084,7 @@ extern "C" {
         memory: *mut InetMemory,
     ) -> usize;
     pub(crate) fn sockdiag_version() -> u32;
+    pub(crate) fn sockdiag_abi_1_0() -> u32;
     pub(crate) fn sockdiag_vsock_get_details(
         payload: *const u8,
         length: usize,
@@ -1118,3 +1119,8 @@ extern "C" {
         details: *mut XdpDetails,
     ) -> u32;
 }
+
+// Only a library with the same first two numbers of the version has this function, so no other one
+// can be linked: its structs might differ. Nothing calls the function.
+#[used]
+static LINKED_ABI: unsafe extern "C" fn() -> u32 = sockdiag_abi_1_0;

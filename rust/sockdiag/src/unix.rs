@@ -261,8 +261,10 @@ impl<'a> UnixReply<'a> {
         self.details.peer.get()
     }
 
-    /// Returns an iterator over the inodes of the connections that wait to be accepted. The time to
-    /// find them and for all of them is proportional to the length of the reply.
+    /// Returns an iterator over the inodes of the sockets that connected to this one and were not
+    /// yet accepted; 0 for one that was closed since. The other ends of these connections, which
+    /// accept(2) will return, have no inodes yet, and the kernel does not list them. The time to
+    /// find the inodes and for all of them is proportional to the length of the reply.
     pub fn pending_connections(&self) -> impl Iterator<Item = u32> + 'a {
         let inodes = self.nlas.iter().find_map(|nla| match nla {
             nlas::Nla::PendingConnections(inodes) => Some(inodes),

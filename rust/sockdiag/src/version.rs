@@ -3,18 +3,19 @@
 use crate::calls;
 
 /// Version of this crate: 1,000,000 times the first number, plus 1,000 times the second one, plus
-/// the third one. The library that is linked has to have the same one, which [`version`] returns.
+/// the third one. The library that is linked has the same first and second number: any other one
+/// lacks a function that this crate refers to, so it cannot be linked.
 pub const VERSION: u32 = number(env!("CARGO_PKG_VERSION_MAJOR")) * 1_000_000
     + number(env!("CARGO_PKG_VERSION_MINOR")) * 1_000
     + number(env!("CARGO_PKG_VERSION_PATCH"));
 
 /// Returns the version of the library that is linked, as a number like [`VERSION`].
 ///
-/// Nothing else compares the two: a library of another version may have other structs. So a program
-/// that may be built with another library compares them first.
+/// The linker ensures that the first two numbers of both are equal, since a library of another
+/// version may have other structs. It does not compare the third number.
 ///
 /// ```
-/// assert_eq!(sockdiag::version(), sockdiag::VERSION, "libsockdiag of another version");
+/// assert_eq!(sockdiag::version() / 1_000, sockdiag::VERSION / 1_000);
 /// ```
 pub fn version() -> u32 {
     calls::version()

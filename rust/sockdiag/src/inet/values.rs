@@ -12,7 +12,8 @@ use core::net::{IpAddr, Ipv4Addr, Ipv6Addr};
 const ALL_FIELDS: usize = 280;
 
 /// The borrowed value of `INET_DIAG_INFO` of a TCP connection, of any length. Each kernel version
-/// sends `struct tcp_info` in its own size; newer versions append fields.
+/// sends `struct tcp_info` in its own size; newer versions append fields. A time that the kernel
+/// has not measured is 0, such as `Rtt` of a socket that listens.
 ///
 /// ```
 /// use sockdiag::inet::{TcpField, TcpInfoBytes};

@@ -26,7 +26,7 @@ pub enum Nla<'a> {
     Vfs(Vfs),
     /// Inode of the peer (`UNIX_DIAG_PEER`).
     Peer(u32),
-    /// Inodes of the connections that wait to be accepted (`UNIX_DIAG_ICONS`).
+    /// Inodes of the sockets that connected and were not yet accepted (`UNIX_DIAG_ICONS`).
     PendingConnections(Numbers<'a>),
     /// Lengths of the queues (`UNIX_DIAG_RQLEN`). For a listening socket: the number of connections
     /// that wait to be accepted, and the limit of this number. Else: the number of bytes that have
