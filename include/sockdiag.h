@@ -1529,7 +1529,8 @@ static inline int sockdiag_is_answer(const struct sockdiag_message *message,
  * each message of a dump, also its end. If one has the flag, read up to the end, and send the
  * request again. 0 does not mean that the list is complete: Linux 6.18 did not set the flag in any
  * message of dumps during which sockets opened and closed, and sockets were missing or listed
- * twice. For a complete list request several dumps, and merge them by the cookies of the sockets.
+ * twice. To miss fewer sockets, request several dumps, and collect the sockets by their cookies. No
+ * number of dumps gives a complete list for certain.
  */
 static inline int sockdiag_is_interrupted(const struct sockdiag_message *message)
 {

@@ -18,8 +18,9 @@ use core::fmt;
 /// getsockname(2) returns the port id of the socket in `nl_pid`, for [`AnswerCheck::new`].
 ///
 /// **A dump without this flag may be incomplete too.** Linux 6.18 did not set it in any message of
-/// dumps during which sockets opened and closed, and sockets were missing or listed twice. For a
-/// complete list request several dumps, and merge them by the cookies of the sockets.
+/// dumps during which sockets opened and closed, and sockets were missing or listed twice. To miss
+/// fewer sockets, request several dumps, and collect the sockets by their cookies. No number of
+/// dumps gives a complete list for certain.
 ///
 /// ```
 /// use sockdiag::constants::{NLMSG_DONE, NLM_F_DUMP_INTR, NLM_F_MULTI};
