@@ -133,7 +133,8 @@ def test_sslist(program):
     for arguments, status, printed, errors in [
         ([], 1, b"", b"sslist: .*\n"), ([b"\xff"], 2, b"", no_text % rb"\\xff"),
         (["--help", CAPTURE, b"a\xffb"], 2, b"", no_text % rb"a\\xffb"),
-        ([""], 1, b"", b"sslist: : .*\n"),
+        ([""], 1, b"", b"sslist: '': .*\n"),
+        (["-f", ""], 2, b"", wrong % (b"unknown family", b"''")),
         ([CAPTURE], 0, table, note), ([CAPTURE, CAPTURE], 0, captioned * 2, note * 2),
         (["--", CAPTURE], 0, table, note), (["--", "-t"], 1, b"", b"sslist: -t: .*\n"),
         (["/"], 1, b"", b"sslist: /: the input is a directory\n"),
