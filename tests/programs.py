@@ -308,7 +308,7 @@ def test_diagnostics(program):
         (b"\1\2\x0a\xff" + bytes(20), no_capture + b"its first four bytes are 0x01020aff"),
         (b"hello\n", no_capture + b"its first four bytes are 0x68656c6c"),
         (b"hi\n", no_capture + b"it has fewer than 4 bytes"),
-        (b"\x1f\x8b\x08\0" + bytes(9), b"gzip is not supported; try gzip -dc CAPTURE"),
+        (b"\x1f\x8b\x08\0" + bytes(9), b"gzip is not supported; try gzip -dc FILE | sslist"),
         (file_header[:4], b"the capture is truncated"),
         (file_header[:23], b"the capture is truncated"),
         (b"", b"the input is empty"),

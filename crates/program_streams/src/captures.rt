@@ -104,7 +104,9 @@ impl CaptureError {
             CaptureError::TooShort => ErrorText::Plain(
                 "neither a pcap nor a pcapng capture: it has fewer than 4 bytes",
             ),
-            CaptureError::Packed => ErrorText::Plain("gzip is not supported; try gzip -dc CAPTURE"),
+            CaptureError::Packed => ErrorText::Plain(
+                "gzip is not supported; try gzip -dc FILE | sslist",
+            ),
             CaptureError::NoCapture(magic) => ErrorText::Hex(
                 "neither a pcap nor a pcapng capture: its first four bytes are 0x",
                 *magic,
