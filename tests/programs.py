@@ -138,6 +138,7 @@ def test_sslist(program):
         ([CAPTURE], 0, table, note), ([CAPTURE, CAPTURE], 0, captioned * 2, note * 2),
         (["--", CAPTURE], 0, table, note), (["--", "-t"], 1, b"", b"sslist: -t: .*\n"),
         (["/"], 1, b"", b"sslist: /: the input is a directory\n"),
+        (["/proc/self/mem"], 1, b"", rb"sslist: /proc/self/mem: reading failed \(os error 5\)\n"),
         ([CAPTURE, "/nowhere"], 1, captioned, note + missing),
         (["/nowhere", CAPTURE], 1, captioned, missing + note),
         (["/\x1b[1m\\"], 1, b"", rb"sslist: /\\x1b\[1m\\x5c: .*\n"),

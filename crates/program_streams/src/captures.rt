@@ -97,7 +97,7 @@ impl CaptureError {
         ensures { error_text_bytes result ≡ capture_error_text self.now }
     {
         match self {
-            CaptureError::Read(error) => ErrorText::Plain(error.text()),
+            CaptureError::Read(error) => error.text(),
             CaptureError::Memory => ErrorText::Plain("out of memory"),
             CaptureError::Truncated => ErrorText::Plain("the capture is truncated"),
             CaptureError::Empty => ErrorText::Plain("the input is empty"),

@@ -536,12 +536,15 @@ sslist: packet 2: truncated to 32 of 72 bytes";
 fn errors_of_a_run_have_texts(rt: HostRuntime) {
     let (packet, error) = (2, CaptureError::Read(ReadError::Other));
     let (cut, memory) = (ListError::Packet { packet, error }, ListError::Memory);
-    let (lack, folder) = (
+    let (lack, folder, bad) = (
         CaptureError::Memory,
         CaptureError::Read(ReadError::Directory),
+        CaptureError::Read(ReadError::Os(5)),
     );
-    let text = format!(in rt.alloc(); "{cut}, {memory}, {lack}, {folder}").expect(&rt, "memory");
-    let want = "packet 2: reading failed, out of memory, out of memory, the input is a directory";
+    let text = format!(in rt.alloc(); "{cut}, {memory}, {lack}, {folder}, {bad}");
+    let text = text.expect(&rt, "memory");
+    let want = "packet 2: reading failed, out of memory, out of memory, the input is a directory, \
+reading failed (os error 5)";
     assert!(rt; text.as_str() == want);
     let (full, closed) = (
         ListError::Write(WriteError::Other),
