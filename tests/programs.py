@@ -38,6 +38,13 @@ KINDS = {
 DETAILS = {"-o": b" timer:", "-e": b" sk:", "-m": b" skmem:", "-i": b" cwnd:"}
 # An attribute of an unknown type, with the longest value whose length is a multiple of 4.
 LONG_ATTRIBUTE = (65_532).to_bytes(2, "little") + bytes([200, 0]) + bytes(65_528)
+# The long names of letters.
+LONG_NAMES = {
+    "-n": "--numeric", "-a": "--all", "-l": "--listening", "-o": "--options", "-e": "--extended",
+    "-m": "--memory", "-i": "--info", "-4": "--ipv4", "-6": "--ipv6", "-0": "--packet",
+    "-t": "--tcp", "-u": "--udp", "-x": "--unix", "-M": "--mptcp", "-H": "--no-header",
+    "-O": "--oneline",
+}
 # The general categories of characters that an encoding or a later version of Unicode may define.
 UNKNOWN = ("Cn", "Cs", "Co")
 failures = []
@@ -126,10 +133,12 @@ def test_sslist(program):
     for arguments, status, printed, errors in [
         ([], 1, b"", b"sslist: .*\n"), ([b"\xff"], 2, b"", no_text % rb"\\xff"),
         (["--help", CAPTURE, b"a\xffb"], 2, b"", no_text % rb"a\\xffb"),
-        ([""], 1, b"", b"sslist: : .*\n"),
+        ([""], 1, b"", b"sslist: '': .*\n"),
+        (["-f", ""], 2, b"", wrong % (b"unknown family", b"''")),
         ([CAPTURE], 0, table, note), ([CAPTURE, CAPTURE], 0, captioned * 2, note * 2),
         (["--", CAPTURE], 0, table, note), (["--", "-t"], 1, b"", b"sslist: -t: .*\n"),
         (["/"], 1, b"", b"sslist: /: the input is a directory\n"),
+        (["/proc/self/mem"], 1, b"", rb"sslist: /proc/self/mem: reading failed \(os error 5\)\n"),
         ([CAPTURE, "/nowhere"], 1, captioned, note + missing),
         (["/nowhere", CAPTURE], 1, captioned, missing + note),
         (["/\x1b[1m\\"], 1, b"", rb"sslist: /\\x1b\[1m\\x5c: .*\n"),
@@ -180,6 +189,9 @@ def test_rejections(program):
         (["--family", "inet"], "--family needs a value: write --family=FAMILY"),
         *[([f"--{it}=1", "-h"], f"--{it} takes no value")
             for it in "help version utf8 requests json vsock xdp".split()],
+        *[([f"{it}=1", "-h"], f"{it} takes no value") for it in LONG_NAMES.values()],
+        (["--tcp=1=2"], "--tcp takes no value"), (["--tcp="], "--tcp takes no value"),
+        *[([it], f"unknown option {it}") for it in ("--tc", "--tcpx", "--=", "--tc=1", "--t")],
         (["--utf8=\x1b="], "--utf8 takes no value"), (["--json="], "--json takes no value"),
     ]:
         line = f"sslist: {text}; try sslist --help\n".encode()
@@ -195,6 +207,7 @@ def test_early_check(program):
         ["/", "/nowhere"], [""], [f"{CAPTURE}/x"], ["-tun", "/nowhere"], ["-tlnp"], ["-\u00e9"],
         ["-ft"], ["-finet", "x"], ["-tff"], ["-fq"], ["-hq"], ["-tV"], ["-t\n"], ["--=1"],
         ["--sport", "22"], ["--state"], ["--family", "-q"], ["--help=1"], ["--json="],
+        ["--tcp=1"], ["--no-header=", "-t"], ["--tcpx"], ["--all", "--numeric", "-q"],
         [b"\xff"], ["-q", b"\xc3"], ["-h", b"a\xe2\x82 \\"], ["/\u00e9\u20ac"],
     ):
         status, _, errors = run(program, arguments, b"")
@@ -296,7 +309,7 @@ def test_diagnostics(program):
         (b"\1\2\x0a\xff" + bytes(20), no_capture + b"its first four bytes are 0x01020aff"),
         (b"hello\n", no_capture + b"its first four bytes are 0x68656c6c"),
         (b"hi\n", no_capture + b"it has fewer than 4 bytes"),
-        (b"\x1f\x8b\x08\0" + bytes(9), b"gzip is not supported; try gzip -dc CAPTURE"),
+        (b"\x1f\x8b\x08\0" + bytes(9), b"gzip is not supported; try gzip -dc FILE | sslist"),
         (file_header[:4], b"the capture is truncated"),
         (file_header[:23], b"the capture is truncated"),
         (b"", b"the input is empty"),
@@ -504,6 +517,13 @@ def test_options(program):
         chosen = [row for row in rows if row.split()[0].decode() in kinds]
         assert 0 < len(chosen) < len(rows), (one, other)
         check(program, ["-O", one, other], capture, status, heading + b"".join(chosen), errors)
+    for letters, names in [
+        *((letter, [name]) for letter, name in LONG_NAMES.items()),
+        ("-la", ["--listening", "--all"]), ("-al", ["--all", "--listening"]),
+        ("-t6nOH", ["--tcp", "--ipv6", "--numeric", "--oneline", "--no-header"]),
+    ]:
+        expected = run(program, [letters], capture)[:2]
+        check(program, names, capture, *expected, errors)
     check_selections(program, capture, heading, rows, errors)
     check_ports(program, capture, heading, rows, errors)
     for arguments in (["-n"], ["-a"], ["-na"], ["-la"], ["-oemi"], ["-o", "-e", "-mi"]):

@@ -60,7 +60,7 @@ capture_error_text Truncated = codes "the capture is truncated"
 capture_error_text Empty = codes "the input is empty"
 capture_error_text TooShort =
     codes "neither a pcap nor a pcapng capture: it has fewer than 4 bytes"
-capture_error_text Packed = codes "gzip is not supported; try gzip -dc CAPTURE"
+capture_error_text Packed = codes "gzip is not supported; try gzip -dc FILE | sslist"
 capture_error_text (NoCapture magic) =
     codes "neither a pcap nor a pcapng capture: its first four bytes are 0x"
     ++ encode_lower (big_bytes 4 magic)

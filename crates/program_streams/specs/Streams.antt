@@ -1,8 +1,9 @@
 -- Texts of failed reads and writes, and what a step that writes a text has written.
-use Rattle.std.specs.Prelude.{◌≡◌, ◌⊎◌, ℕ, List, [], ◌++◌, Option, codes}
+use Rattle.std.specs.Prelude.{◌≡◌, ◌⊎◌, ℕ, ℤ, pos, negsuc, List, [], ◌++◌, Option, Some, None}
+use Rattle.std.specs.Prelude.{codes, decimal}
 use Rattle.std.specs.Io.KnownBytes.{Appends}
 use Rattle.program_streams.specs.declared.streams.ReadError.{ReadError}
-use Rattle.program_streams.specs.declared.streams.ReadError.TheVariants.{Directory}
+use Rattle.program_streams.specs.declared.streams.ReadError.TheVariants.{Directory, Os}
 use Rattle.program_streams.specs.declared.streams.ReadError.TheVariants.{Other as OtherRead}
 use Rattle.program_streams.specs.declared.streams.WriteError.{WriteError}
 use Rattle.program_streams.specs.declared.streams.WriteError.TheVariants.{Closed}
@@ -11,7 +12,14 @@ use Rattle.program_streams.specs.declared.streams.WriteError.TheVariants.{Other 
 -- the text of the error of a failed read
 abbrev pub read_error_text : ReadError → List ℕ
 read_error_text Directory = codes "the input is a directory"
+read_error_text (Os code) = codes "reading failed (os error " ++ decimal code ++ codes ")"
 read_error_text OtherRead = codes "reading failed"
+
+-- the error of a failed read with the system's number, if there is one and it is not negative
+abbrev pub numbered_read_error : Option ℤ → ReadError
+numbered_read_error (Some (pos code)) = Os code
+numbered_read_error (Some (negsuc n)) = OtherRead
+numbered_read_error None = OtherRead
 
 -- the text of the error of a failed write or flush
 abbrev pub write_error_text : WriteError → List ℕ

@@ -97,14 +97,16 @@ impl CaptureError {
         ensures { error_text_bytes result ≡ capture_error_text self.now }
     {
         match self {
-            CaptureError::Read(error) => ErrorText::Plain(error.text()),
+            CaptureError::Read(error) => error.text(),
             CaptureError::Memory => ErrorText::Plain("out of memory"),
             CaptureError::Truncated => ErrorText::Plain("the capture is truncated"),
             CaptureError::Empty => ErrorText::Plain("the input is empty"),
             CaptureError::TooShort => ErrorText::Plain(
                 "neither a pcap nor a pcapng capture: it has fewer than 4 bytes",
             ),
-            CaptureError::Packed => ErrorText::Plain("gzip is not supported; try gzip -dc CAPTURE"),
+            CaptureError::Packed => ErrorText::Plain(
+                "gzip is not supported; try gzip -dc FILE | sslist",
+            ),
             CaptureError::NoCapture(magic) => ErrorText::Hex(
                 "neither a pcap nor a pcapng capture: its first four bytes are 0x",
                 *magic,

@@ -1,14 +1,16 @@
 //! Reading and writing: single calls, whose errors are classified, and whole texts.
 
 ghost use Rattle.std.specs.Prelude.{◌≡◌, ◌↔◌, ◌<◌, ◌≤◌, ◌==◌, ◌++◌, if◌then◌else◌, ℕ, List, Option};
-ghost use Rattle.std.specs.Prelude.{length, IfOk, IfErr, MatchResult, OnErr, OnOk, Some, ⊤};
+ghost use Rattle.std.specs.Prelude.{◌≢◌, length, IfOk, IfErr, MatchResult, OnErr, OnOk, Some, ⊤};
 ghost use Rattle.std.specs.Io.KnownBytes.{Appends, Keeps, ReadConsumes, WriteAppends};
 ghost use Rattle.std.specs.Io.{ReadsAtMost};
-ghost use Rattle.std.specs.IoError.{error_kind};
-ghost use Rattle.program_streams.specs.Streams.{WritesAllOrFails};
+ghost use Rattle.std.specs.IoError.{error_kind, raw_os_error};
+ghost use Rattle.program_streams.specs.ErrorText.{error_text_bytes};
+ghost use Rattle.program_streams.specs.Streams.{WritesAllOrFails, numbered_read_error};
 ghost use Rattle.program_streams.specs.Streams.{read_error_text, write_error_text};
 ghost use Rattle.program_streams.specs.declared.streams.WriteError.{WriteError};
 
+use crate::error_text::ErrorText;
 use std::error::Error;
 use std::io::{ErrorKind, Read, Write};
 use std::{fmt, io};
@@ -18,18 +20,23 @@ use std::{fmt, io};
 pub enum ReadError {
     /// The input is a directory.
     Directory,
-    /// The read failed for any other reason.
+    /// The read failed for another reason, with this errno(3).
+    Os(u32),
+    /// The read failed for a reason that has no number.
     Other,
 }
 
 impl ReadError {
     /// Returns the text of the error.
-    pub fn text(&self) -> &'static str
-        ensures { result.now ≡ read_error_text self.now }
+    pub fn text(&self) -> ErrorText
+        ensures { error_text_bytes result ≡ read_error_text self.now }
     {
         match self {
-            ReadError::Directory => "the input is a directory",
-            ReadError::Other => "reading failed",
+            ReadError::Directory => ErrorText::Plain("the input is a directory"),
+            ReadError::Os(code) => {
+                ErrorText::Decimal("reading failed (os error ", u64::from(*code), ")")
+            }
+            ReadError::Other => ErrorText::Plain("reading failed"),
         }
     }
 }
@@ -38,7 +45,8 @@ impl fmt::Display for ReadError {
     ghost output = { λ error. Some (read_error_text error) };
 
     fn fmt<W: fmt::Write>(&self, f: &mut fmt::Formatter<W>) -> fmt::Result {
-        f.write_str(self.text())
+        let text = self.text();
+        write!(f, "{text}")
     }
 }
 
@@ -111,20 +119,32 @@ impl<R: Read> Source for R {
 fn read_outcome(outcome: io::Result<usize>) -> Result<usize, ReadError>
     ensures { MatchResult outcome (λ n. result ≡ Ok n)
         (λ error. (e : ReadError) × (result ≡ Err e)
-        × ((e ≡ ReadError.Directory) ↔ (error_kind error ≡ ErrorKind.IsADirectory))) }
+        × ((e ≡ ReadError.Directory) ↔ (error_kind error ≡ ErrorKind.IsADirectory))
+        × (e ≢ ReadError.Directory → e ≡ numbered_read_error (raw_os_error error))) }
 {
     match outcome {
         Ok(count) => Ok(count),
-        Err(error) => Err(read_failure(error.kind())),
+        Err(error) => Err(read_failure(error.kind(), error.raw_os_error())),
     }
 }
 
-/// Returns the error of a failed read.
-fn read_failure(kind: ErrorKind) -> ReadError
-    ensures { (result ≡ ReadError.Directory) ↔ (kind ≡ ErrorKind.IsADirectory) }
+/// Returns the error of a failed read, by its kind and the system's number.
+fn read_failure(kind: ErrorKind, code: Option<i32>) -> ReadError
+    ensures directory { (result ≡ ReadError.Directory) ↔ (kind ≡ ErrorKind.IsADirectory) }
+    ensures other { result ≢ ReadError.Directory → result ≡ numbered_read_error code }
 {
     match kind {
         ErrorKind::IsADirectory => ReadError::Directory,
+        _ => numbered_read_error(code),
+    }
+}
+
+/// Returns the error of a failed read with the system's number, if there is one.
+fn numbered_read_error(code: Option<i32>) -> ReadError
+    ensures { result ≡ numbered_read_error code }
+{
+    match code {
+        Some(code) if code >= 0 => ReadError::Os(code.unsigned_abs()),
         _ => ReadError::Other,
     }
 }

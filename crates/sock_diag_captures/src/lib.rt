@@ -70,15 +70,20 @@ Lists the sockets in captures of netlink traffic: in each FILE, or in standard
 input if there is none, or if FILE is -. A capture is in pcap or pcapng format,
 as written by tcpdump -i nlmon0 -w -. Arguments after -- are files.
 
-Select sockets (several options of a line add up):
-  -t, -u, -M             TCP, UDP or MPTCP sockets
-  -4, -6                 IPv4 or IPv6 sockets
-  -x, -0                 UNIX or packet sockets
-      --vsock, --xdp     vsock or XDP sockets
+Select sockets (several options add up):
+  -t, --tcp              TCP sockets
+  -u, --udp              UDP sockets
+  -M, --mptcp            MPTCP sockets
+  -4, --ipv4             IPv4 sockets; with -t, -u or -M only these protocols
+  -6, --ipv6             IPv6 sockets; with -t, -u or -M only these protocols
+  -x, --unix             UNIX sockets
+  -0, --packet           packet sockets
+      --vsock            vsock sockets
+      --xdp              XDP sockets
   -f, --family=FAMILY    sockets of inet, inet6, unix, link (packet), netlink,
                          vsock or xdp
-  -l                     listening sockets: states LISTEN and UNCONN
-  -a                     sockets in all states (default)
+  -l, --listening        only listening sockets: states LISTEN and UNCONN
+  -a, --all              sockets in all states (default)
 
 Filter sockets (a socket is listed if it meets all of these):
       --state=STATE      in this state; several options add up
@@ -92,15 +97,15 @@ Filter sockets (a socket is listed if it meets all of these):
   Filters as in ss(8), such as state listening, would be names of files.
 
 Select details (all by default; several options add up):
-  -o                     the timer
-  -m                     the memory
-  -i                     the TCP connection
-  -e                     the cookie and all other details
+  -o, --options          the timer
+  -m, --memory           the memory
+  -i, --info             the TCP connection
+  -e, --extended         the cookie and all other details
 
 Format:
-  -H                     no heading
-  -O                     one line per socket
-  -n                     ignored: service names are never resolved
+  -H, --no-header        no heading
+  -O, --oneline          one line per socket
+  -n, --numeric          ignored: service names are never resolved
       --utf8             in names that are valid UTF-8, show letters instead of
                          escaped bytes
       --requests         also a line for each request, with its time

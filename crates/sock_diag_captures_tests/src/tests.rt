@@ -520,7 +520,7 @@ sslist: packet 2: truncated to 32 of 72 bytes";
     tells(&rt, alloc, &[FRONT, "4800000001000000"], want);
     let want = "unsupported pcap version 3, expected 2";
     tells(&rt, alloc, &["d4c3b2a10300", FRONT, OF_100], want);
-    let want = "gzip is not supported; try gzip -dc CAPTURE";
+    let want = "gzip is not supported; try gzip -dc FILE | sslist";
     tells(&rt, alloc, &["1f8b0800", FRONT, OF_100], want);
     let want = "packet 1: packet length 262145 exceeds the maximum of 262144";
     tells(
@@ -536,12 +536,15 @@ sslist: packet 2: truncated to 32 of 72 bytes";
 fn errors_of_a_run_have_texts(rt: HostRuntime) {
     let (packet, error) = (2, CaptureError::Read(ReadError::Other));
     let (cut, memory) = (ListError::Packet { packet, error }, ListError::Memory);
-    let (lack, folder) = (
+    let (lack, folder, bad) = (
         CaptureError::Memory,
         CaptureError::Read(ReadError::Directory),
+        CaptureError::Read(ReadError::Os(5)),
     );
-    let text = format!(in rt.alloc(); "{cut}, {memory}, {lack}, {folder}").expect(&rt, "memory");
-    let want = "packet 2: reading failed, out of memory, out of memory, the input is a directory";
+    let text = format!(in rt.alloc(); "{cut}, {memory}, {lack}, {folder}, {bad}");
+    let text = text.expect(&rt, "memory");
+    let want = "packet 2: reading failed, out of memory, out of memory, the input is a directory, \
+reading failed (os error 5)";
     assert!(rt; text.as_str() == want);
     let (full, closed) = (
         ListError::Write(WriteError::Other),

@@ -34,6 +34,7 @@ argument_does_not_decide (argument.States states) h v u = refl
 argument_does_not_decide (argument.SourcePort condition) h v u = refl
 argument_does_not_decide (argument.DestinationPort condition) h v u = refl
 argument_does_not_decide (argument.Letters needs) h v u = refl
+argument_does_not_decide (argument.Letter letter) h v u = refl
 argument_does_not_decide argument.EndOfOptions h v u = refl
 argument_does_not_decide argument.File h v u = refl
 

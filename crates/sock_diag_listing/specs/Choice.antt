@@ -1,9 +1,9 @@
 -- The request of a command line. Arguments are lists of bytes.
-use Rattle.std.specs.Prelude.{◌≡◌, ◌≢◌, ℕ, ◌-◌, ◌&&◌, ◌||◌, ◌==◌, if◌then◌else◌, not, Bool, true}
+use Rattle.std.specs.Prelude.{◌≡◌, ◌≢◌, ℕ, ◌-◌, ◌||◌, ◌==◌, if◌then◌else◌, not, Bool, true}
 use Rattle.std.specs.Prelude.{false, List, [], ◌∷◌, Option, Some, None, bytes_eq, codes, drop, find}
-use Rattle.std.specs.Prelude.{fold, length, nat_eq, nat_lt, option_map, take}
+use Rattle.std.specs.Prelude.{fold, is_some, length, nat_eq, nat_lt, option_map, slice_index, take}
 use Rattle.std.specs.Prelude.{bit_or}
-use Rattle.std.specs.List.{ends_with, list_any, starts_with}
+use Rattle.std.specs.List.{ends_with, list_any, position_from, starts_with}
 use Rattle.std.specs.Option.{option_map_or}
 use Rattle.sock_diag_listing.specs.declared.arguments.Argument.{Argument}
 use Rattle.sock_diag_listing.specs.declared.arguments.Argument.TheVariants as argument
@@ -93,6 +93,36 @@ with_sockets letters o = record o {
 abbrev pub with_letters : List ℕ → Options → Options
 with_letters letters o = with_sockets letters (with_details letters o)
 
+-- ---- long names of letters
+
+-- `long_name name letter`: a long name, and the letter in the second text
+abbrev pub long_name : List ℕ → List ℕ → List ℕ × ℕ
+long_name name letter = (name, slice_index letter 0)
+
+-- the long names of letters, as in ss(8): each name (`.0`) and its letter (`.1`)
+abbrev pub long_names : List (List ℕ × ℕ)
+long_names =
+    long_name (codes "--numeric") (codes "n") ∷
+    long_name (codes "--all") (codes "a") ∷
+    long_name (codes "--listening") (codes "l") ∷
+    long_name (codes "--options") (codes "o") ∷
+    long_name (codes "--extended") (codes "e") ∷
+    long_name (codes "--memory") (codes "m") ∷
+    long_name (codes "--info") (codes "i") ∷
+    long_name (codes "--ipv4") (codes "4") ∷
+    long_name (codes "--ipv6") (codes "6") ∷
+    long_name (codes "--packet") (codes "0") ∷
+    long_name (codes "--tcp") (codes "t") ∷
+    long_name (codes "--udp") (codes "u") ∷
+    long_name (codes "--unix") (codes "x") ∷
+    long_name (codes "--mptcp") (codes "M") ∷
+    long_name (codes "--no-header") (codes "H") ∷
+    long_name (codes "--oneline") (codes "O") ∷ []
+
+-- the letter with this long name; None if there is none
+unfoldable pub letter_named : List ℕ → Option ℕ
+letter_named name = option_map (λ row. row.1) (find (λ row. bytes_eq name row.0) long_names)
+
 -- ---- families
 
 -- The family of this name, as the option -f of ss(8) has it. `packet` is another name of `link`.
@@ -156,13 +186,22 @@ misses_value word =
     bytes_eq word (codes "--family") || bytes_eq word (codes "--state")
     || bytes_eq word (codes "--sport") || bytes_eq word (codes "--dport")
 
+-- the index of the first equals sign (61); None if there is none
+abbrev pub first_equals : List ℕ → Option ℕ
+first_equals word = position_from (λ c. c == 61) 0 word
+
+-- the word is the long name of a letter, with an equals sign and a value
+abbrev pub has_letter_value : List ℕ → Bool
+has_letter_value word =
+    option_map_or (λ index. is_some (letter_named (take index word))) (first_equals word) false
+
 -- the word is an option that takes no value, with an equals sign and a value
 abbrev pub has_unexpected_value : List ℕ → Bool
 has_unexpected_value word =
     starts_with nat_eq word (codes "--help=") || starts_with nat_eq word (codes "--version=")
     || starts_with nat_eq word (codes "--utf8=") || starts_with nat_eq word (codes "--requests=")
     || starts_with nat_eq word (codes "--json=") || starts_with nat_eq word (codes "--vsock=")
-    || starts_with nat_eq word (codes "--xdp=")
+    || starts_with nat_eq word (codes "--xdp=") || has_letter_value word
 
 -- the reason why a word is rejected that begins with two hyphens and is not an option
 abbrev pub long_rejection : List ℕ → Rejection
@@ -170,22 +209,29 @@ long_rejection word =
     if misses_value word then MissingValue else if has_unexpected_value word then UnexpectedValue
     else UnknownOption
 
--- What letters after a hyphen are parsed as. A word that begins with two hyphens is rejected.
+-- what the long name of a letter is parsed as; any other word is rejected
+abbrev pub long_argument : List ℕ → Argument
+long_argument word =
+    option_map_or argument.Letter (letter_named word) (argument.Rejected (long_rejection word))
+
+-- What letters after a hyphen are parsed as. A word that begins with two hyphens is the long name
+-- of a letter, or rejected.
 abbrev pub letters_argument : List ℕ → Argument
 letters_argument word =
-    if (length word == 0) || starts_with nat_eq word (codes "--")
-    then argument.Rejected (long_rejection word)
+    if (length word == 0) || starts_with nat_eq word (codes "--") then long_argument word
     else option_map_or (λ letter. argument.Rejected (letter_rejection letter))
     (first_other_letter (drop 1 word)) (argument.Letters (ends_in_f word))
 
--- what an option is parsed as that contains a condition on a port, or consists of letters
+-- what an option is parsed as that contains a condition on a port, consists of letters, or is the
+-- long name of a letter
 abbrev pub port_argument : List ℕ → Argument
 port_argument word =
     if starts_with nat_eq word (codes "--sport=") then source_argument (drop 8 word)
     else if starts_with nat_eq word (codes "--dport=") then destination_argument (drop 8 word)
     else letters_argument word
 
--- what an option is parsed as that contains its value, or consists of letters
+-- what an option is parsed as that contains its value, consists of letters, or is the long name of
+-- a letter
 abbrev pub valued_argument : List ℕ → Argument
 valued_argument word =
     if starts_with nat_eq word (codes "--family=")
@@ -248,8 +294,8 @@ names_file a = false
 -- ---- the command line
 
 -- `with_argument o a word`: the options `o`, and those of an argument with the bytes `word` that is
--- parsed as `a`. Letters follow a hyphen. States add up. Of several conditions on the same port the
--- last one counts.
+-- parsed as `a`. Letters follow a hyphen. A long name means what its letter means. States add up.
+-- Of several conditions on the same port the last one counts.
 abbrev pub with_argument : Options → Argument → List ℕ → Options
 with_argument o argument.Utf8 word = record o { utf8 = true }
 with_argument o argument.Requests word = record o { requests = true }
@@ -263,6 +309,7 @@ with_argument o (argument.DestinationPort condition) word =
     record o { filter = record o.filter { destination_port = Some condition } }
 with_argument o (argument.Letters needs) word =
     if length word == 0 then o else with_letters (drop 1 word) o
+with_argument o (argument.Letter letter) word = with_letters (letter ∷ []) o
 with_argument o a word = o
 
 -- the options of a command line without options: none is set

@@ -3,6 +3,7 @@ use Rattle.std.specs.Prelude.{ℕ, zero, suc, ◌+◌, ◌-◌, ◌*◌, ◌==�
 use Rattle.std.specs.Prelude.{◌≡◌, ◌||◌, not}
 use Rattle.std.specs.List.{AllByRecursion}
 use Rattle.std.specs.Prelude.{false, ◌&&◌, List, [], slice_index, ◌∷◌, chars, encode_utf8, flat_map}
+use Rattle.std.specs.Prelude.{codes, length}
 use Rattle.std.specs.Str.{is_utf8}
 use Rattle.hex.specs.Hex.{encode_lower}
 use Rattle.ucd_bidi.specs.BidiClass.{bidi_class}
@@ -28,6 +29,11 @@ byte_digits c = 92 ∷ 120 ∷ encode_lower (c ∷ [])
 -- a printable byte unchanged, any other as `\x` and two digits
 abbrev pub escaped_byte : ℕ → List ℕ
 escaped_byte c = if is_printable_byte c then c ∷ [] else byte_digits c
+
+-- An argument or the name of a file as it is shown on standard error: each byte as it is escaped,
+-- or `''` if there is none.
+abbrev pub shown_argument : List ℕ → List ℕ
+shown_argument bytes = if length bytes == 0 then codes "''" else flat_map escaped_byte bytes
 
 -- ---- names under `--utf8`
 

@@ -1,2 +1,3 @@
 -- Properties of the definitions.
 pub mod EqualFilter
+pub mod LongNames

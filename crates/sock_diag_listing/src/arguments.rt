@@ -1,13 +1,15 @@
 //! Arguments of the command line of a program that lists captures.
 
-ghost use Rattle.std.specs.Prelude.{◌≡◌, bytes_eq};
+ghost use Rattle.std.specs.Prelude.{◌≡◌, ◌≤◌, IfSome, bytes_eq, find, length, option_map};
 ghost use Rattle.sock_diag_listing.specs.Choice.{argument_at, destination_argument};
 ghost use Rattle.sock_diag_listing.specs.Choice.{ends_in_f, source_argument, state_argument};
 ghost use Rattle.sock_diag_listing.specs.Choice.{family_argument, family_named, is_file};
 ghost use Rattle.sock_diag_listing.specs.Choice.{first_other_letter, first_unknown_letter};
 ghost use Rattle.sock_diag_listing.specs.Choice.{has_unexpected_value, letter_rejection};
+ghost use Rattle.sock_diag_listing.specs.Choice.{first_equals, has_letter_value, letter_named};
 ghost use Rattle.sock_diag_listing.specs.Choice.{letters_argument, listening_after, names_file};
-ghost use Rattle.sock_diag_listing.specs.Choice.{long_rejection, misses_value, without_last_f};
+ghost use Rattle.sock_diag_listing.specs.Choice.{long_argument, long_rejection, misses_value};
+ghost use Rattle.sock_diag_listing.specs.Choice.{without_last_f};
 ghost use Rattle.sock_diag_listing.specs.Choice.{next_place, port_argument};
 ghost use Rattle.sock_diag_listing.specs.Choice.{option_argument, valued_argument, with_argument};
 ghost use Rattle.sock_diag_listing.specs.Choice.{with_details, with_family, with_letters};
@@ -19,6 +21,26 @@ use crate::options::{AnyFamily, Family, Options};
 
 /// Letters that are options. The letter `f`, which needs the name of a family, is not among them.
 const LETTERS: &[u8] = b"tuxM046oemiOHlna";
+
+/// The long names of letters, as in ss(8): each name and its letter.
+const LONG_NAMES: [(&str, u8); 16] = [
+    ("--numeric", b'n'),
+    ("--all", b'a'),
+    ("--listening", b'l'),
+    ("--options", b'o'),
+    ("--extended", b'e'),
+    ("--memory", b'm'),
+    ("--info", b'i'),
+    ("--ipv4", b'4'),
+    ("--ipv6", b'6'),
+    ("--packet", b'0'),
+    ("--tcp", b't'),
+    ("--udp", b'u'),
+    ("--unix", b'x'),
+    ("--mptcp", b'M'),
+    ("--no-header", b'H'),
+    ("--oneline", b'O'),
+];
 
 /// What an argument can be, by the arguments before it.
 #[derive(Clone, Copy)]
@@ -57,6 +79,8 @@ pub(crate) enum Argument {
         /// The last letter is `f`, so that the next argument is the name of a family.
         needs_family: bool,
     },
+    /// The long name of this letter.
+    Letter(u8),
     /// `--`.
     EndOfOptions,
     /// The name of a file, or `-` for standard input.
@@ -117,7 +141,7 @@ pub(crate) fn equal(word: &[u8], text: &str) -> bool
     word == text.as_bytes()
 }
 
-/// Parses an option that contains its value, or consists of letters.
+/// Parses an option that contains its value, consists of letters, or is the long name of a letter.
 fn valued_argument(word: &[u8]) -> Argument
     ensures { result ≡ valued_argument word.now }
 {
@@ -130,7 +154,8 @@ fn valued_argument(word: &[u8]) -> Argument
     }
 }
 
-/// Parses an option that contains a condition on a port, or consists of letters.
+/// Parses an option that contains a condition on a port, consists of letters, or is the long name
+/// of a letter.
 fn port_argument(word: &[u8]) -> Argument
     ensures { result ≡ port_argument word.now }
 {
@@ -173,12 +198,12 @@ fn destination_argument(text: &[u8]) -> Argument
     }
 }
 
-/// Parses letters after a hyphen. A word that begins with two hyphens is rejected.
+/// Parses letters after a hyphen, or the long name of a letter.
 fn letters_argument(word: &[u8]) -> Argument
     ensures { result ≡ letters_argument word.now }
 {
     if word.is_empty() || word.starts_with(b"--") {
-        return Argument::Rejected(long_rejection(word));
+        return long_argument(word);
     }
     match first_other_letter(&word[1..]) {
         Some(letter) => Argument::Rejected(letter_rejection(letter)),
@@ -186,6 +211,37 @@ fn letters_argument(word: &[u8]) -> Argument
             needs_family: ends_in_f(word),
         },
     }
+}
+
+/// Parses the long name of a letter. Any other word is rejected.
+fn long_argument(word: &[u8]) -> Argument
+    ensures { result ≡ long_argument word.now }
+{
+    match letter_named(word) {
+        Some(letter) => Argument::Letter(letter),
+        None => Argument::Rejected(long_rejection(word)),
+    }
+}
+
+/// Returns the letter with this long name.
+#[tactic(auto, unfolding(crate::specs::Choice::letter_named))]
+fn letter_named(name: &[u8]) -> Option<u8>
+    ensures { result ≡ letter_named name.now }
+{
+    letter_in(&LONG_NAMES, name)
+}
+
+/// Returns the letter of the first row with this name.
+fn letter_in(rows: &[(&str, u8)], name: &[u8]) -> Option<u8>
+    ensures { result ≡ option_map (λ row. row.1)
+        (find (λ row. bytes_eq name.now row.0.now) rows.now) }
+{
+    for &(other, letter) in rows {
+        if equal(name, other) {
+            return Some(letter);
+        }
+    }
+    None
 }
 
 /// Returns the reason why a long option is rejected.
@@ -222,6 +278,30 @@ fn has_unexpected_value(word: &[u8]) -> bool
         || word.starts_with(b"--json=")
         || word.starts_with(b"--vsock=")
         || word.starts_with(b"--xdp=")
+        || has_letter_value(word)
+}
+
+/// Returns whether a word is the long name of a letter, with a value.
+fn has_letter_value(word: &[u8]) -> bool
+    ensures { result ≡ has_letter_value word.now }
+{
+    match first_equals(word) {
+        Some(index) => letter_named(&word[..index]).is_some(),
+        None => false,
+    }
+}
+
+/// Returns the index of the first equals sign.
+fn first_equals(word: &[u8]) -> Option<usize>
+    ensures value { result ≡ first_equals word.now }
+    ensures bound { IfSome result (λ index. index ≤ length word.now) }
+{
+    for (index, &byte) in word.iter().enumerate() {
+        if byte == b'=' {
+            return Some(index);
+        }
+    }
+    None
 }
 
 /// Returns the reason why letters are rejected. `letter` is the first of them that is not an option
@@ -341,6 +421,7 @@ impl Options {
             Argument::SourcePort(condition) => self.filter.source_port = Some(condition),
             Argument::DestinationPort(condition) => self.filter.destination_port = Some(condition),
             Argument::Letters { .. } if !word.is_empty() => self.add_letters(&word[1..]),
+            Argument::Letter(letter) => self.add_letters(&[letter]),
             _ => {}
         }
     }

@@ -5,7 +5,8 @@ ghost use Rattle.std.specs.Prelude.{◌≡◌, ◌++◌, ℕ, List, IfOk, OnOk, 
 ghost use Rattle.std.specs.Prelude.{string_bytes};
 ghost use Rattle.sock_diag_listing.specs.Escapes.{unescaped_bytes, shown_character, escaped_byte};
 ghost use Rattle.sock_diag_listing.specs.Escapes.{is_blank, is_left_to_right, is_shown_character};
-ghost use Rattle.sock_diag_listing.specs.Escapes.{is_visible, shown_name, IsVisibleText};
+ghost use Rattle.sock_diag_listing.specs.Escapes.{is_visible, shown_argument, shown_name};
+ghost use Rattle.sock_diag_listing.specs.Escapes.{IsVisibleText};
 
 use crate::cells::push_escaped_byte;
 use std::alloc::{AllocError, Global};
@@ -120,10 +121,13 @@ fn push_escaped(text: &mut Vec<u8>, bytes: &[u8]) -> Result<(), AllocError>
 }
 
 /// Returns an argument or the name of a file as it is shown on standard error: each byte that is
-/// not from `!` to `~`, and each backslash, is `\x` and two digits.
+/// not from `!` to `~`, and each backslash, is `\x` and two digits. An empty one is `''`.
 pub fn escaped(alloc: Global, bytes: &[u8]) -> Result<String, AllocError>
-    ensures { IfOk result (λ shown. string_bytes shown ≡ flat_map escaped_byte bytes.now) }
+    ensures { IfOk result (λ shown. string_bytes shown ≡ shown_argument bytes.now) }
 {
+    if bytes.is_empty() {
+        return String::from_str(alloc, "''");
+    }
     let mut shown = String::new(alloc);
     for byte in bytes {
         push_escaped_char(alloc, &mut shown, *byte)?;
