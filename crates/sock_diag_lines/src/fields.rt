@@ -23,11 +23,11 @@ pub(crate) fn read_field(bytes: &mut Vec<u8>, field: &[u8]) -> Result<bool, Allo
     ensures { IfOk result (λ is_field. MatchBool is_field (IsHexField field.now bytes.new.items)
         ((content : List ℕ) → ¬ IsHexField field.now content)) }
 {
-    bytes.clear();
     if field.is_empty() {
         return Ok(false);
     }
     if field == b"-".as_slice() {
+        bytes.clear();
         return Ok(true);
     }
     bytes.resize(field.len() / 2, 0)?;
