@@ -45,11 +45,13 @@ pub(crate) fn read_dump(
         (λ dump. (datagrams : List (List ℕ)) × AreHexFields fields.now datagrams
         × IsReadDump datagrams dump)) }
 {
+    // The texts of the messages are seldom longer than the fields.
+    let text = Vec::with_capacity(alloc, fields.len())?;
     let mut dump = ReadDump {
         end: Ok(DumpState::Reading),
         is_writable: true,
         count: 0,
-        text: Vec::new(alloc),
+        text,
         buffer: Vec::new(alloc),
     };
     let mut rest = fields;

@@ -14,12 +14,12 @@ fields-init c =
       end = Ok Reading;
       is_writable = true;
       count = 0;
-      text = c.new.result;
-      buffer = c.new-2.result;
+      text = c.in_ok-text.text;
+      buffer = c.new.result;
     } in
     record {
       datagrams = [];
-      read = reads_no_datagrams dump refl refl refl c.new.ensures.items;
+      read = reads_no_datagrams dump refl refl refl c.in_ok-text.ensures.items;
       before = λ more each. each;
       behind = each_has_bytes (slice_split is_space c.args.fields.now);
       within = omega arith;
