@@ -1,9 +1,9 @@
--- There is one dump over datagrams, and how it grows by a datagram and by a message.
-use Rattle.std.proofs.Common.{◌≡◌, ◌≢◌, ◌⊎◌, inl, inr, ℕ, ◌+◌, ◌%◌, ◌^◌, ◌<◌, ◌≤◌, List, [], ◌∷◌, ◌++◌}
-use Rattle.std.proofs.Common.{length, Some, None}
-use Rattle.std.proofs.Common.{true, false, codes, decimal, Result, Ok, Err, refl, sym, ap, subst, ◌∙◌}
-use Rattle.std.proofs.Common.{append_assoc, arith}
-use Rattle.std.proofs.lemmas.List.{append-nil, flat_map_more, length-append}
+-- There is one dump over datagrams, how it grows by a datagram and by a message, and its answer.
+use Rattle.std.proofs.Common.{◌≡◌, ◌≢◌, ◌⊎◌, inl, inr, ℕ, List, [], ◌∷◌, ◌++◌}
+use Rattle.std.proofs.Common.{length, map, take, drop, Some, None, true, codes, decimal}
+use Rattle.std.proofs.Common.{Result, Ok, Err, refl, sym, ap, subst, ◌∙◌, append_assoc, arith}
+use Rattle.std.proofs.lemmas.List.{append-nil, drop-append-le, drop_all, flat_map_more}
+use Rattle.std.proofs.lemmas.List.{length-map, map-append, take-append-le, take_all}
 use Rattle.std.proofs.lemmas.List.Concat.{flat_map-append}
 use Rattle.std.specs.List.{AllByRecursion, AllZip, concat, flat_map}
 use Rattle.netlink_core.specs.Bytes.{IsBytes}
@@ -31,10 +31,10 @@ use Rattle.netlink_packet_sock_diag.proofs.DumpRows.{equal_dumps, split_of_dump,
 use Rattle.netlink_packet_sock_diag.proofs.DumpRows.{reading_has_no_error_number}
 use Rattle.sock_diag_lines.specs.declared.dump_line.ReadDump.{ReadDump}
 use Rattle.sock_diag_lines.specs.DumpLine.{IsDumpAnswer, dump_state_text, dump_text}
-use Rattle.sock_diag_lines.specs.HexField.{IsHexField}
+use Rattle.sock_diag_lines.specs.HexField.{IsHexField, hex_field_of}
 use Rattle.sock_diag_lines.specs.private.ReadDump.{AnswersDump, DumpOutcome, FeedsOneDatagram}
-use Rattle.sock_diag_lines.specs.private.ReadDump.{HasTexts, IsDumpOf, IsReadDump, IsWritable}
-use Rattle.sock_diag_lines.specs.private.ReadDump.{message_text, shown_end, state_or_error}
+use Rattle.sock_diag_lines.specs.private.ReadDump.{HasMessages, IsDumpOf, IsReadDump, IsWritable}
+use Rattle.sock_diag_lines.specs.private.ReadDump.{shown_end, state_or_error, texts_in}
 use Rattle.sock_diag_lines.proofs.Deciding.{each_or_not, message_fits_or_not}
 use Rattle.sock_diag_lines.proofs.MessageLaws.{netlink_message_answer_laws}
 use Rattle.sock_diag_lines.proofs.FieldLaws.{IsBytes-field}
@@ -125,11 +125,22 @@ reading_end later (Ok status) ends is =
     ap Ok (reading_has_no_error_number later status ends reading)
 reading_end later (Err error) ends is = cc
 
--- ---- the texts of the messages
+-- an answer does not show the error number of the end
+shown_text : (end : Result DumpStatus DecodeError)
+    → dump_state_text (map_ok (λ (state : DumpState). (state, None)) (state_or_error end))
+    ≡ dump_state_text end
+shown_text (Ok (Reading, number)) = refl
+shown_text (Ok (Done, number)) = refl
+shown_text (Ok (Error, number)) = refl
+shown_text (Ok (Overrun, number)) = refl
+shown_text (Ok (Failed, number)) = refl
+shown_text (Err error) = refl
+
+-- ---- the messages of a dump
 
 -- a new dump
 pub reads_no_datagrams : (dump : ReadDump) → dump.end ≡ Ok Reading → dump.is_writable ≡ true
-    → dump.count ≡ 0 → dump.text.items ≡ [] → IsReadDump [] dump
+    → dump.lengths.items ≡ [] → dump.bytes.items ≡ [] → IsReadDump [] dump
 reads_no_datagrams dump reading writable none empty = (
   ([], Ok reading_status),
   ([], tt, ([], [], refl, tt, refl, refl)),
@@ -142,33 +153,57 @@ all_with_last : {A : Type 0} (P : A → Type 0) (xs : List A) (x : A) → AllByR
 all_with_last P [] x each is = (is, tt)
 all_with_last P (y ∷ xs) x each is = (each.0, all_with_last P xs x each.1 is)
 
--- the texts have at least one byte for each message
-texts_have_length : (messages : List Message)
-    → length messages ≤ length (flat_map message_text messages)
-texts_have_length [] = omega arith
-texts_have_length (message ∷ messages) =
-    let rest = texts_have_length messages in
-    omega (arith, rest, length-append (message_text message) (flat_map message_text messages))
-
 -- a writable message that follows writable ones
-pub text_is_added : (old new : ReadDump) (message : Message) → old.is_writable ≡ true
+pub message_is_added : (old new : ReadDump) (message : Message) → old.is_writable ≡ true
     → new.is_writable ≡ true → message_codec.is_writable message
-    → new.count ≡ (old.count + 1) % 2 ^ 64
-    → new.text.items ≡ old.text.items ++ message_text message
-    → (messages : List Message) → HasTexts old messages
-    → HasTexts new (messages ++ message ∷ [])
-text_is_added old new message before after fits counted added messages has =
+    → new.lengths.items ≡ old.lengths.items ++ length (message_codec.serialized message) ∷ []
+    → new.bytes.items ≡ old.bytes.items ++ message_codec.serialized message
+    → (messages : List Message) → HasMessages old messages
+    → HasMessages new (messages ++ message ∷ [])
+message_is_added old new message before after fits counted added messages has =
     let all = rw before at has in
-    let more = messages ++ message ∷ [] in
-    let texts : new.text.items ≡ flat_map message_text more =
-    rw (added, all.2) (flat_map_more message_text [] messages message) in
-    let count : length more < 2 ^ 63 = omega (arith, texts_have_length more, ap length texts,
-    new.text.ok.0, new.text.ok.1, new.text.small) in
     rw after (
       all_with_last _ messages message all.0 fits,
-      omega (arith, count, all.1, counted, length-append messages (message ∷ [])),
-      texts,
+      rw (counted, all.1, map-append) refl,
+      rw (added, all.2) (flat_map_more message_codec.serialized [] messages message),
     )
+
+-- the first of two concatenated lists, and the second
+take_first : (a b : List ℕ) → take (length a) (a ++ b) ≡ a
+take_first a b = take-append-le (length a) a b (omega arith) ∙ take_all (length a) a (omega arith)
+
+drop_first : (a b : List ℕ) → drop (length a) (a ++ b) ≡ b
+drop_first a b = drop-append-le (length a) a b (omega arith)
+    ∙ ap (λ (front : List ℕ). front ++ b) (drop_all (length a) a (omega arith))
+
+-- the texts of the lengths and bytes of messages are the texts of these messages
+texts_of_messages : (messages : List Message)
+    → texts_in (map (λ message. length (message_codec.serialized message)) messages)
+    (flat_map message_codec.serialized messages)
+    ≡ flat_map (λ message. 32 ∷ hex_field_of (message_codec.serialized message)) messages
+texts_of_messages [] = refl
+texts_of_messages (message ∷ messages) =
+    let bytes = message_codec.serialized message in
+    let later = flat_map message_codec.serialized messages in
+    rw (take_first bytes later, drop_first bytes later, texts_of_messages messages) refl
+
+-- what is appended for a dump, in the order of the answer
+pub dump_text_after : (old state count texts : List ℕ)
+    → old ++ codes "ok " ++ state ++ 32 ∷ [] ++ count ++ texts
+    ≡ old ++ (codes "ok " ++ (state ++ 32 ∷ count ++ texts))
+dump_text_after old state count texts = simp append_assoc
+
+-- the answer to a dump whose messages are all writable
+pub texts_answer_dump : (dump : ReadDump) → dump.is_writable ≡ true → AnswersDump dump (codes "ok "
+    ++ (dump_state_text (shown_end dump) ++ 32 ∷ decimal (length dump.lengths.items)
+    ++ texts_in dump.lengths.items dump.bytes.items))
+texts_answer_dump dump writable outcome has =
+    let all = rw writable at has.0 in
+    let end : dump_state_text (shown_end dump) ≡ dump_state_text outcome.1 =
+    ap (λ (end : Result DumpState DecodeError).
+    dump_state_text (map_ok (λ (state : DumpState). (state, None)) end)) has.1
+    ∙ shown_text outcome.1 in
+    inl (outcome, refl, all.0, rw (end, all.1, all.2, length-map, texts_of_messages) refl)
 
 -- ---- one more datagram
 
@@ -179,8 +214,8 @@ pub record ReadsSoFar (datagram rest : List ℕ) (old new : ReadDump) : Type 0 w
   pub found : FoundItemsSoFar (IsItemOf message_codec) datagram passed rest
   pub plain : AllByRecursion (λ one. dump_end_at one ≡ None) passed
   pub reading : new.end ≡ Ok Reading
-  pub texts : (messages : List Message) → HasTexts old messages
-      → HasTexts new (messages ++ flat_map inner_message_list passed)
+  pub texts : (messages : List Message) → HasMessages old messages
+      → HasMessages new (messages ++ flat_map inner_message_list passed)
 
 pub reads_no_messages : (datagram : List ℕ) (dump : ReadDump) → dump.end ≡ Ok Reading
     → ReadsSoFar datagram datagram dump dump
@@ -226,7 +261,7 @@ module _ {datagram rest : List ℕ} {old dump : ReadDump} (so_far : ReadsSoFar d
       (end : Result DumpStatus DecodeError) → old.end ≡ Ok Reading
       → AreItemsOf (IsItemOf message_codec) datagram (so_far.passed ++ later)
       → DumpEndsAt later end → new.end ≡ state_or_error end
-      → ((messages : List Message) → HasTexts dump messages → HasTexts new messages)
+      → ((messages : List Message) → HasMessages dump messages → HasMessages new messages)
       → FeedsOneDatagram old datagram new
   datagram_is_read new later end reading are ends is same datagrams (outcome, of, has) =
       let on = reading_end of.2.1 outcome.1 of.2.5 (sym has.1 ∙ reading) in
@@ -249,8 +284,8 @@ abbrev with_end : ReadDump → Result DumpState DecodeError → ReadDump
 with_end dump end = record {
   end = end;
   is_writable = dump.is_writable;
-  count = dump.count;
-  text = dump.text;
+  lengths = dump.lengths;
+  bytes = dump.bytes;
   buffer = dump.buffer;
 }
 
@@ -266,8 +301,8 @@ module _ {datagram rest : List ℕ} {old dump : ReadDump} (so_far : ReadsSoFar d
   pub reads_one_message : (payload : PayloadView) (next : List ℕ) (new : ReadDump)
       → YieldsItem rest (Ok payload) next
       → dump_end_at (Ok (payload_view_model payload)) ≡ None → new.end ≡ dump.end
-      → ((messages : List Message) → HasTexts dump messages
-      → HasTexts new (messages ++ inner_message_list (Ok (payload_view_model payload))))
+      → ((messages : List Message) → HasMessages dump messages
+      → HasMessages new (messages ++ inner_message_list (Ok (payload_view_model payload))))
       → ReadsSoFar datagram next old new
   reads_one_message payload next new (inl (message, starts, is)) plain same adds = record {
     passed = so_far.passed ++ Ok (payload_view_model payload) ∷ [];
@@ -275,7 +310,7 @@ module _ {datagram rest : List ℕ} {old dump : ReadDump} (so_far : ReadsSoFar d
         so_far.found starts is;
     plain = all_with_last _ so_far.passed _ so_far.plain plain;
     reading = same ∙ so_far.reading;
-    texts = λ messages has. subst (HasTexts new)
+    texts = λ messages has. subst (HasMessages new)
         (flat_map_more inner_message_list messages so_far.passed (Ok (payload_view_model payload)))
         (adds _ (so_far.texts messages has));
   }

@@ -9,7 +9,7 @@ ghost use Rattle.sock_diag_lines.specs.DumpLine.{dump_state_text};
 ghost use Rattle.sock_diag_lines.specs.HexField.{IsHexField};
 ghost use Rattle.sock_diag_lines.specs.private.ReadDump.{AnswersDump, AppendsMessage, AreHexFields};
 ghost use Rattle.sock_diag_lines.specs.private.ReadDump.{FeedsOneDatagram, IsReadDump};
-ghost use Rattle.sock_diag_lines.specs.private.ReadDump.{message_text, shown_end};
+ghost use Rattle.sock_diag_lines.specs.private.ReadDump.{shown_end, texts_in};
 ghost use Rattle.sock_diag_lines.specs.private.Text.{AppendsSome};
 
 use crate::answer_parts::{OK, UNWRITABLE, push_field, push_number};
@@ -18,18 +18,18 @@ use netlink_core::{DecodeError, Emitable};
 use netlink_packet_sock_diag::{DumpState, DumpViews, PayloadView, SockDiagView};
 use std::alloc::{AllocError, Global};
 
-/// A dump after its datagrams were read. Its messages are not retained, only their texts.
+/// A dump after its datagrams were read. Its messages are retained as they are serialized.
 #[derive(Drop)]
 pub(crate) struct ReadDump {
     /// The state, or the decode error that ended the dump.
     end: Result<DumpState, DecodeError>,
-    /// Whether each message is writable. If not, the number and the texts are not complete.
+    /// Whether each message is writable. If not, the next two fields are not complete.
     is_writable: bool,
-    /// The number of messages.
-    count: u64,
-    /// A space and the bytes as a hex field, for each message.
-    text: Vec<u8>,
-    /// A buffer for the bytes of a message.
+    /// The length of each serialized message.
+    lengths: Vec<usize>,
+    /// The serialized messages, concatenated.
+    bytes: Vec<u8>,
+    /// A buffer for a serialized message.
     buffer: Vec<u8>,
 }
 
@@ -45,13 +45,13 @@ pub(crate) fn read_dump(
         (λ dump. (datagrams : List (List ℕ)) × AreHexFields fields.now datagrams
         × IsReadDump datagrams dump)) }
 {
-    // The texts of the messages are seldom longer than the fields.
-    let text = Vec::with_capacity(alloc, fields.len())?;
+    // Serialized messages are seldom longer than their datagrams.
+    let serialized = Vec::with_capacity(alloc, fields.len() / 2)?;
     let mut dump = ReadDump {
         end: Ok(DumpState::Reading),
         is_writable: true,
-        count: 0,
-        text,
+        lengths: Vec::new(alloc),
+        bytes: serialized,
         buffer: Vec::new(alloc),
     };
     let mut rest = fields;
@@ -100,7 +100,7 @@ fn is_reading(dump: &ReadDump) -> bool
     matches!(dump.end, Ok(DumpState::Reading))
 }
 
-/// Reads the messages of a datagram up to the end of the dump, and appends their texts.
+/// Reads the messages of a datagram up to the end of the dump, and serializes them.
 fn take_messages(dump: &mut ReadDump, datagram: &[u8]) -> Result<(), AllocError>
     requires { dump.old.end ≡ Ok Reading }
     ensures { OnOk result (FeedsOneDatagram dump.old datagram.now dump.new) }
@@ -133,7 +133,7 @@ fn take_messages(dump: &mut ReadDump, datagram: &[u8]) -> Result<(), AllocError>
     Ok(())
 }
 
-/// Appends the text of a message. If a message is not writable, no more texts are appended.
+/// Serializes a message. If a message is not writable, no further messages are serialized.
 fn push_message(dump: &mut ReadDump, message: &SockDiagView<'_>) -> Result<(), AllocError>
     ensures { OnOk result (AppendsMessage dump.old (message_view_model message.now) dump.new) }
 {
@@ -144,29 +144,26 @@ fn push_message(dump: &mut ReadDump, message: &SockDiagView<'_>) -> Result<(), A
         dump.is_writable = false;
         return Ok(());
     };
-    push_bytes(&mut dump.text, &mut dump.buffer, message, len)?;
-    // It does not wrap: the text has at least one byte for each message.
-    dump.count = dump.count.wrapping_add(1);
-    Ok(())
+    dump.lengths.push(len)?;
+    push_bytes(&mut dump.bytes, &mut dump.buffer, message, len)
 }
 
-/// Appends a space and the bytes of a writable message as a hex field. `len` is their number, and
-/// `buffer` a buffer for them.
+/// Appends the bytes of a writable message. `len` is their number, and `buffer` is a buffer for
+/// them.
 fn push_bytes(
-    text: &mut Vec<u8>,
+    bytes: &mut Vec<u8>,
     buffer: &mut Vec<u8>,
     message: &SockDiagView<'_>,
     len: usize,
 ) -> Result<(), AllocError>
     requires writable { message_codec.is_writable (message_view_model message.now) }
     requires len { len ≡ length (message_codec.serialized (message_view_model message.now)) }
-    ensures { OnOk result (text.new.items ≡ text.old.items
-        ++ message_text (message_view_model message.now)) }
+    ensures { OnOk result (bytes.new.items ≡ bytes.old.items
+        ++ message_codec.serialized (message_view_model message.now)) }
 {
     buffer.resize(len, 0)?;
     message.emit(buffer.as_mut_slice());
-    text.push(b' ')?;
-    push_field(text, buffer.as_slice())
+    bytes.extend_from_slice(buffer.as_slice())
 }
 
 /// Appends `ok`, the state of the dump, the number of its messages and the bytes of each, or
@@ -180,8 +177,22 @@ pub(crate) fn push_dump(text: &mut Vec<u8>, dump: &ReadDump) -> Result<(), Alloc
     text.extend_from_slice(OK)?;
     push_end(text, dump)?;
     text.push(b' ')?;
-    push_number(text, dump.count)?;
-    text.extend_from_slice(&dump.text)
+    push_number(text, dump.lengths.len() as u64)?;
+    push_messages(text, dump.lengths.as_slice(), dump.bytes.as_slice())
+}
+
+/// Appends a space and a hex field for each length: so many of the bytes, in order.
+fn push_messages(text: &mut Vec<u8>, lengths: &[usize], bytes: &[u8]) -> Result<(), AllocError>
+    ensures { OnOk result (text.new.items ≡ text.old.items ++ texts_in lengths.now bytes.now) }
+{
+    let mut rest = bytes;
+    for len in lengths {
+        let (message, later) = rest.split_at((*len).min(rest.len()));
+        text.push(b' ')?;
+        push_field(text, message)?;
+        rest = later;
+    }
+    Ok(())
 }
 
 /// Appends the name of the state, or `failed:` and the code of the error.

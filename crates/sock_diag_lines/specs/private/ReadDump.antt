@@ -1,5 +1,6 @@
 -- The model of a dump that the program reads, how it grows, and the parts of its answer.
-use Rattle.std.specs.Prelude.{◌≡◌, ◌==◌, ℕ, List, [], ◌∷◌, ◌++◌, length, None, Result, MatchBool}
+use Rattle.std.specs.Prelude.{◌≡◌, ◌==◌, ℕ, List, [], ◌∷◌, ◌++◌, length, map, take, drop, None}
+use Rattle.std.specs.Prelude.{Result, MatchBool}
 use Rattle.netlink_core.specs.declared.error.DecodeError.{DecodeError}
 use Rattle.netlink_core.specs.Errors.{map_ok}
 use Rattle.sock_diag_lines.specs.declared.dump_line.ReadDump.{ReadDump}
@@ -30,9 +31,11 @@ IsDumpOf datagrams dump = DumpOfDatagrams (IsItemOf message_codec) [] datagrams 
 abbrev pub IsWritable : DumpOutcome → Type 0
 IsWritable dump = AllByRecursion message_codec.is_writable dump.0
 
--- a space and the bytes of a message as a hex field
-abbrev pub message_text : Message → List ℕ
-message_text message = 32 ∷ hex_field_of (message_codec.serialized message)
+-- `texts_in lengths bytes`: a space (32) and a hex field for each length: of so many bytes, in order
+abbrev pub texts_in : List ℕ → List ℕ → List ℕ
+texts_in [] bytes = []
+texts_in (n ∷ lengths) bytes =
+    (32 ∷ hex_field_of (take n bytes)) ++ texts_in lengths (drop n bytes)
 
 -- `state_or_error end`: the end of a dump without the error number of its state, which no answer
 -- shows
@@ -43,20 +46,21 @@ state_or_error end = map_ok (λ (status : DumpStatus). status.0) end
 abbrev pub shown_end : ReadDump → Result DumpStatus DecodeError
 shown_end dump = map_ok (λ (state : DumpState). (state, None)) dump.end
 
--- `HasTexts dump messages`: either each of these messages is writable, and the dump has their
--- number and their texts; or one of them is not writable, and the dump has noted this
-abbrev pub HasTexts : ReadDump → List Message → Type 0
-HasTexts dump messages = MatchBool dump.is_writable
-    (AllByRecursion message_codec.is_writable messages × (dump.count ≡ length messages)
-    × (dump.text.items ≡ flat_map message_text messages))
+-- `HasMessages dump messages`: either each of these messages is writable, and the dump has their
+-- lengths and their bytes; or not each of them is writable, and `is_writable` is false
+abbrev pub HasMessages : ReadDump → List Message → Type 0
+HasMessages dump messages = MatchBool dump.is_writable
+    (AllByRecursion message_codec.is_writable messages
+    × (dump.lengths.items ≡ map (λ message. length (message_codec.serialized message)) messages)
+    × (dump.bytes.items ≡ flat_map message_codec.serialized messages))
     (¬ AllByRecursion message_codec.is_writable messages)
 
--- `HasOutcome dump outcome`: the dump has the texts of the messages of the outcome, and its end
+-- `HasOutcome dump outcome`: the dump has the messages of the outcome, and its end
 abbrev pub HasOutcome : ReadDump → DumpOutcome → Type 0
-HasOutcome dump outcome = HasTexts dump outcome.0 × (dump.end ≡ state_or_error outcome.1)
+HasOutcome dump outcome = HasMessages dump outcome.0 × (dump.end ≡ state_or_error outcome.1)
 
 -- `IsReadDump datagrams dump`: the dump over these datagrams has an outcome, and `dump` has its
--- texts and its end
+-- messages and its end
 abbrev pub IsReadDump : List (List ℕ) → ReadDump → Type 0
 IsReadDump datagrams dump = (outcome : DumpOutcome) × IsDumpOf datagrams outcome
     × HasOutcome dump outcome
@@ -67,11 +71,11 @@ abbrev pub FeedsOneDatagram : ReadDump → List ℕ → ReadDump → Type 0
 FeedsOneDatagram old datagram new = (datagrams : List (List ℕ)) → IsReadDump datagrams old
     → IsReadDump (datagrams ++ datagram ∷ []) new
 
--- AppendsMessage old message new: `new` has the end of `old`; and if `old` has the texts of some
--- messages, then `new` has the texts of these messages and then of this one
+-- AppendsMessage old message new: `new` has the end of `old`; and if `old` has some messages, then
+-- `new` has these messages and then this one
 abbrev pub AppendsMessage : ReadDump → Message → ReadDump → Type 0
 AppendsMessage old message new = (new.end ≡ old.end) × ((messages : List Message)
-    → HasTexts old messages → HasTexts new (messages ++ message ∷ []))
+    → HasMessages old messages → HasMessages new (messages ++ message ∷ []))
 
 -- AnswersDump dump text: the text is the answer to each outcome that the dump may have
 abbrev pub AnswersDump : ReadDump → List ℕ → Type 0

@@ -13,13 +13,14 @@ fields-init c =
     let dump : ReadDump = record {
       end = Ok Reading;
       is_writable = true;
-      count = 0;
-      text = c.in_ok-text.text;
-      buffer = c.new.result;
+      lengths = c.new.result;
+      bytes = c.in_ok-serialized.serialized;
+      buffer = c.new-2.result;
     } in
     record {
       datagrams = [];
-      read = reads_no_datagrams dump refl refl refl c.in_ok-text.ensures.items;
+      read = reads_no_datagrams dump refl refl c.new.ensures.items
+          c.in_ok-serialized.ensures.items;
       before = λ more each. each;
       behind = each_has_bytes (slice_split is_space c.args.fields.now);
       within = omega arith;
