@@ -207,14 +207,14 @@ texts_answer_dump dump writable outcome has =
 
 -- ---- one more datagram
 
--- `old` has read no message of the datagram; `new` has read the messages before `rest`, and none of
--- them ended the dump
+-- `old` has read no message of the datagram; `new` has read and serialized the messages before
+-- `rest`, and none of them ended the dump
 pub record ReadsSoFar (datagram rest : List ℕ) (old new : ReadDump) : Type 0 where
   pub passed : List (Result (Payload Message) DecodeError)
   pub found : FoundItemsSoFar (IsItemOf message_codec) datagram passed rest
   pub plain : AllByRecursion (λ one. dump_end_at one ≡ None) passed
   pub reading : new.end ≡ Ok Reading
-  pub texts : (messages : List Message) → HasMessages old messages
+  pub serialized : (messages : List Message) → HasMessages old messages
       → HasMessages new (messages ++ flat_map inner_message_list passed)
 
 pub reads_no_messages : (datagram : List ℕ) (dump : ReadDump) → dump.end ≡ Ok Reading
@@ -224,7 +224,7 @@ reads_no_messages datagram dump reading = record {
   found = no_items_yet (IsItemOf message_codec) datagram;
   plain = tt;
   reading = reading;
-  texts = λ messages has. rw append-nil has;
+  serialized = λ messages has. rw append-nil has;
 }
 
 -- one more datagram continues a dump that is being read, and leaves any other unchanged
@@ -254,8 +254,25 @@ ended_dump_is_unchanged dump datagram in_range over datagrams (outcome, is, has)
       has,
     )
 
-module _ {datagram rest : List ℕ} {old dump : ReadDump} (so_far : ReadsSoFar datagram rest old dump)
-    where
+-- the dump with this end
+abbrev with_end : ReadDump → Result DumpState DecodeError → ReadDump
+with_end dump end = record {
+  end = end;
+  is_writable = dump.is_writable;
+  lengths = dump.lengths;
+  bytes = dump.bytes;
+  buffer = dump.buffer;
+}
+
+-- a call of `next` on the iterator over the bytes `rest` yields this item, and the bytes `next` are
+-- left
+abbrev YieldsItem : List ℕ → Result PayloadView DecodeError → List ℕ → Type 0
+YieldsItem rest item next = ((message : List ℕ) × StartsWithMessage rest message next
+    × IsItemOf message_codec message (map_ok payload_view_model item))
+    ⊎ ((e : DecodeError) × (item ≡ Err e) × (rest ≢ []) × IsMessageError rest e × (next ≡ []))
+
+module _ {datagram rest : List ℕ} {old dump : ReadDump}
+    (so_far : ReadsSoFar datagram rest old dump) where
   -- the dump has read the datagram up to an item that ends the dump, or to the end of the datagram
   datagram_is_read : (new : ReadDump) (later : List (Result (Payload Message) DecodeError))
       (end : Result DumpStatus DecodeError) → old.end ≡ Ok Reading
@@ -269,7 +286,7 @@ module _ {datagram rest : List ℕ} {old dump : ReadDump} (so_far : ReadsSoFar d
         next,
         one_more_datagram datagrams datagram outcome next (so_far.passed ++ later) are of
             (inl (on, (so_far.passed, later, refl, so_far.plain, refl, ends))),
-        (same next.0 (so_far.texts outcome.0 has.0), is),
+        (same next.0 (so_far.serialized outcome.0 has.0), is),
       )
 
   -- no message is left
@@ -279,44 +296,6 @@ module _ {datagram rest : List ℕ} {old dump : ReadDump} (so_far : ReadsSoFar d
       (so_far.found.items [] (rw none (no_items (IsItemOf message_codec)))) refl so_far.reading
       (λ messages has. has)
 
--- the dump with this end
-abbrev with_end : ReadDump → Result DumpState DecodeError → ReadDump
-with_end dump end = record {
-  end = end;
-  is_writable = dump.is_writable;
-  lengths = dump.lengths;
-  bytes = dump.bytes;
-  buffer = dump.buffer;
-}
-
--- a call of `next` on the iterator over the bytes `rest` yields this item, and `next` are left
-abbrev YieldsItem : List ℕ → Result PayloadView DecodeError → List ℕ → Type 0
-YieldsItem rest item next = ((message : List ℕ) × StartsWithMessage rest message next
-    × IsItemOf message_codec message (map_ok payload_view_model item))
-    ⊎ ((e : DecodeError) × (item ≡ Err e) × (rest ≢ []) × IsMessageError rest e × (next ≡ []))
-
-module _ {datagram rest : List ℕ} {old dump : ReadDump} (so_far : ReadsSoFar datagram rest old dump)
-    where
-  -- a message that does not end the dump
-  pub reads_one_message : (payload : PayloadView) (next : List ℕ) (new : ReadDump)
-      → YieldsItem rest (Ok payload) next
-      → dump_end_at (Ok (payload_view_model payload)) ≡ None → new.end ≡ dump.end
-      → ((messages : List Message) → HasMessages dump messages
-      → HasMessages new (messages ++ inner_message_list (Ok (payload_view_model payload))))
-      → ReadsSoFar datagram next old new
-  reads_one_message payload next new (inl (message, starts, is)) plain same adds = record {
-    passed = so_far.passed ++ Ok (payload_view_model payload) ∷ [];
-    found = next_item_found (IsItemOf message_codec) datagram rest next message so_far.passed _
-        so_far.found starts is;
-    plain = all_with_last _ so_far.passed _ so_far.plain plain;
-    reading = same ∙ so_far.reading;
-    texts = λ messages has. subst (HasMessages new)
-        (flat_map_more inner_message_list messages so_far.passed (Ok (payload_view_model payload)))
-        (adds _ (so_far.texts messages has));
-  }
-  reads_one_message payload next new (inr (error, is, some, framing, none)) plain same adds =
-      cc
-
   -- an item that ends the dump
   pub ends_dump : (item : Result PayloadView DecodeError) (next : List ℕ)
       (end : Result DumpStatus DecodeError) → IsBytes datagram → old.end ≡ Ok Reading
@@ -325,10 +304,31 @@ module _ {datagram rest : List ℕ} {old dump : ReadDump} (so_far : ReadsSoFar d
   ends_dump item next end in_range reading (inl (message, starts, is)) ends =
       let left = items_with_next message_codec message_laws.is_total datagram rest next message
       so_far.passed _ in_range so_far.found starts is in
-      datagram_is_read so_far (with_end dump (state_or_error end)) (map_ok payload_view_model item ∷ left.0) end reading left.1 ends
-      refl (λ messages has. has)
+      datagram_is_read (with_end dump (state_or_error end))
+      (map_ok payload_view_model item ∷ left.0) end reading left.1 ends refl (λ messages has. has)
   ends_dump item next end in_range reading (inr (error, is, some, framing, none)) ends =
-      datagram_is_read so_far (with_end dump (state_or_error end)) (Err error ∷ []) end reading
+      datagram_is_read (with_end dump (state_or_error end)) (Err error ∷ []) end reading
       (so_far.found.items (Err error ∷ [])
       (error_is_only_item (IsItemOf message_codec) rest error some framing))
       (rw is at ends) refl (λ messages has. has)
+
+  -- a message that does not end the dump
+  pub reads_one_message : (payload : PayloadView) (next : List ℕ) (new : ReadDump)
+      → YieldsItem rest (Ok payload) next
+      → dump_end_at (Ok (payload_view_model payload)) ≡ None → new.end ≡ dump.end
+      → ((messages : List Message) → HasMessages dump messages
+      → HasMessages new (messages ++ inner_message_list (Ok (payload_view_model payload))))
+      → ReadsSoFar datagram next old new
+  reads_one_message payload next new (inl (message, starts, is)) plain same adds =
+      let item : Result (Payload Message) DecodeError = Ok (payload_view_model payload) in
+      record {
+        passed = so_far.passed ++ item ∷ [];
+        found = next_item_found (IsItemOf message_codec) datagram rest next message so_far.passed
+            item so_far.found starts is;
+        plain = all_with_last _ so_far.passed item so_far.plain plain;
+        reading = same ∙ so_far.reading;
+        serialized = λ messages has. subst (HasMessages new)
+            (flat_map_more inner_message_list messages so_far.passed item)
+            (adds _ (so_far.serialized messages has));
+      }
+  reads_one_message payload next new (inr (error, is, some, framing, none)) plain same adds = cc

@@ -181,10 +181,14 @@ pub(crate) fn push_dump(text: &mut Vec<u8>, dump: &ReadDump) -> Result<(), Alloc
     push_messages(text, dump.lengths.as_slice(), dump.bytes.as_slice())
 }
 
-/// Appends a space and a hex field for each length: so many of the bytes, in order.
+/// Appends a space and the bytes as a hex field, for each message. `bytes` are the bytes of all
+/// messages, which have these lengths.
 fn push_messages(text: &mut Vec<u8>, lengths: &[usize], bytes: &[u8]) -> Result<(), AllocError>
     ensures { OnOk result (text.new.items ≡ text.old.items ++ texts_in lengths.now bytes.now) }
 {
+    // A space for each message, two digits for each byte, and the line feed after the answer.
+    let digits = bytes.len().saturating_mul(2);
+    text.reserve(digits.saturating_add(lengths.len()).saturating_add(1))?;
     let mut rest = bytes;
     for len in lengths {
         let (message, later) = rest.split_at((*len).min(rest.len()));

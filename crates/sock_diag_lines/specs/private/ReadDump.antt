@@ -31,7 +31,8 @@ IsDumpOf datagrams dump = DumpOfDatagrams (IsItemOf message_codec) [] datagrams 
 abbrev pub IsWritable : DumpOutcome → Type 0
 IsWritable dump = AllByRecursion message_codec.is_writable dump.0
 
--- `texts_in lengths bytes`: a space (32) and a hex field for each length: of so many bytes, in order
+-- `texts_in lengths bytes`: the bytes are split into parts of these lengths, in order; the text has
+-- a space (32) and a hex field for each part
 abbrev pub texts_in : List ℕ → List ℕ → List ℕ
 texts_in [] bytes = []
 texts_in (n ∷ lengths) bytes =

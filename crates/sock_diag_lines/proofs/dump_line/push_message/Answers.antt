@@ -17,6 +17,9 @@ returns c =
     } in
     let lengths = rw c.in-Some.ensures.1 at c.in_ok-push.ensures.items in
     on_ok_weaker c.push_bytes.result
-    (λ added. (refl, message_is_added old new (message_view_model c.args.message.now)
-    c.if-not-dump.false c.if-not-dump.false c.in-Some.ensures.0 lengths added))
+    (λ added. (
+      refl,
+      message_is_added old new (message_view_model c.args.message.now)
+          c.if-not-dump.false c.if-not-dump.false c.in-Some.ensures.0 lengths added,
+    ))
     c.push_bytes.ensures
