@@ -248,8 +248,8 @@ read_answer line (Field name) bytes text asked tells =
     field_answers line name bytes text asked tells
 read_answer line (Dump dump) bytes text (datagrams, asked, read) tells =
     dump_answers line datagrams text asked
-    (answers_more IsWritable dump_text (λ d same. rw same read.is) (λ error never. absurd never)
-    tells)
+    (answers_more IsWritable dump_text (λ d same. rw same read.1) (λ error never. absurd never)
+    (tells read.0 read.2))
 read_answer line Nothing bytes text none e = bad_line_answers line text none e
 
 -- ---- the answers to two lines

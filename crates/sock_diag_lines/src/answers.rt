@@ -194,7 +194,7 @@ pub(crate) fn push_answer_text(
 {
     match asked {
         LineRequest::Field(name) => push_named(alloc, text, name, bytes),
-        LineRequest::Dump(dump) => push_dump(alloc, text, &dump),
+        LineRequest::Dump(dump) => push_dump(text, &dump),
         LineRequest::Nothing => text.extend_from_slice(BAD_LINE),
     }
 }

@@ -1,9 +1,9 @@
 -- The request in a line, and its answer.
 use Rattle.std.specs.Prelude.{◌≡◌, ℕ, List, codes}
 use Rattle.sock_diag_lines.specs.Answer.{IsRequest, name_entry}
-use Rattle.sock_diag_lines.specs.DumpLine.{IsDumpRequest, dump_text}
-use Rattle.sock_diag_lines.specs.private.ReadDump.{IsReadDump, IsWritable, read_dump_outcome}
-use Rattle.sock_diag_lines.specs.AnswerText.{IsAnswerText, IsAnswerUnder}
+use Rattle.sock_diag_lines.specs.DumpLine.{IsDumpRequest}
+use Rattle.sock_diag_lines.specs.private.ReadDump.{AnswersDump, IsReadDump}
+use Rattle.sock_diag_lines.specs.AnswerText.{IsAnswerUnder}
 use Rattle.sock_diag_lines.specs.declared.answers.Name.{Name}
 use Rattle.sock_diag_lines.specs.declared.answers.LineRequest.{LineRequest}
 use Rattle.sock_diag_lines.specs.declared.answers.LineRequest.TheVariants.{Field, Dump, Nothing}
@@ -24,7 +24,5 @@ IsParsedAs line Nothing bytes = IsBadLine line
 -- IsAnswerTo asked bytes text: the text answers the request
 abbrev pub IsAnswerTo : LineRequest → List ℕ → List ℕ → Type 0
 IsAnswerTo (Field name) bytes text = IsAnswerUnder (name_entry name).1 bytes text
-IsAnswerTo (Dump dump) bytes text =
-    IsAnswerText (λ d. d ≡ read_dump_outcome dump) (λ error. ⊥) IsWritable
-    dump_text text
+IsAnswerTo (Dump dump) bytes text = AnswersDump dump text
 IsAnswerTo Nothing bytes text = text ≡ codes "bad line"

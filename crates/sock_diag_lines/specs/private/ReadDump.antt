@@ -1,14 +1,16 @@
 -- The model of a dump that the program reads, how it grows, and the parts of its answer.
-use Rattle.std.specs.Prelude.{◌≡◌, ◌==◌, ℕ, List, [], ◌∷◌, ◌++◌, Option, Some, None, Result, Ok}
-use Rattle.std.specs.Prelude.{Err}
+use Rattle.std.specs.Prelude.{◌≡◌, ◌==◌, ℕ, List, [], ◌∷◌, ◌++◌, length, map, take, drop, None}
+use Rattle.std.specs.Prelude.{Result, MatchBool}
 use Rattle.netlink_core.specs.declared.error.DecodeError.{DecodeError}
-use Rattle.netlink_packet_sock_diag.specs.DumpModel.{reader_progress}
-use Rattle.netlink_packet_sock_diag.specs.Feed.{IsReading, status_of_dump}
+use Rattle.netlink_core.specs.Errors.{map_ok}
 use Rattle.sock_diag_lines.specs.declared.dump_line.ReadDump.{ReadDump}
-use Rattle.std.specs.List.{AllByRecursion, AllZip, slice_split}
+use Rattle.std.specs.List.{AllByRecursion, AllZip, flat_map, slice_split}
 use Rattle.netlink_core.specs.Items.{IsItemOf}
+use Rattle.netlink_packet_sock_diag.specs.declared.dump.DumpState.{DumpState}
 use Rattle.netlink_packet_sock_diag.specs.Dump.{DumpOfDatagrams, DumpStatus}
 use Rattle.netlink_packet_sock_diag.specs.Message.{Message, message_codec}
+use Rattle.sock_diag_lines.specs.AnswerText.{IsAnswerText}
+use Rattle.sock_diag_lines.specs.DumpLine.{dump_text}
 use Rattle.sock_diag_lines.specs.HexField.{IsHexField, hex_field_of}
 
 -- `AreHexFields text datagrams`: the parts of the text between single spaces (32) are the hex
@@ -29,32 +31,54 @@ IsDumpOf datagrams dump = DumpOfDatagrams (IsItemOf message_codec) [] datagrams 
 abbrev pub IsWritable : DumpOutcome → Type 0
 IsWritable dump = AllByRecursion message_codec.is_writable dump.0
 
--- a space and the bytes of a message as a hex field
-abbrev pub message_text : Message → List ℕ
-message_text message = 32 ∷ hex_field_of (message_codec.serialized message)
+-- `texts_in lengths bytes`: the bytes are split into parts of these lengths, in order; the text has
+-- a space (32) and a hex field for each part
+abbrev pub texts_in : List ℕ → List ℕ → List ℕ
+texts_in [] bytes = []
+texts_in (n ∷ lengths) bytes =
+    (32 ∷ hex_field_of (take n bytes)) ++ texts_in lengths (drop n bytes)
 
--- `error_or_state state error`: the end of a dump: `Err` and the decode error that ended it, or
--- `Ok` and its state if there is no such error
-abbrev pub error_or_state : DumpStatus → Option DecodeError → Result DumpStatus DecodeError
-error_or_state state None = Ok state
-error_or_state state (Some error) = Err error
+-- `state_or_error end`: the end of a dump without the error number of its state, which no answer
+-- shows
+abbrev pub state_or_error : Result DumpStatus DecodeError → Result DumpState DecodeError
+state_or_error end = map_ok (λ (status : DumpStatus). status.0) end
 
--- the end of the dump
-abbrev pub read_dump_end : ReadDump → Result DumpStatus DecodeError
-read_dump_end dump = error_or_state (status_of_dump (reader_progress dump.reader)) dump.error
+-- the end of the dump, without an error number
+abbrev pub shown_end : ReadDump → Result DumpStatus DecodeError
+shown_end dump = map_ok (λ (state : DumpState). (state, None)) dump.end
 
--- the messages and the end of the dump
-abbrev pub read_dump_outcome : ReadDump → DumpOutcome
-read_dump_outcome dump = ((reader_progress dump.reader).messages, read_dump_end dump)
+-- `HasMessages dump messages`: either each of these messages is writable, and the dump has their
+-- lengths and their bytes; or not each of them is writable, and `is_writable` is false
+abbrev pub HasMessages : ReadDump → List Message → Type 0
+HasMessages dump messages = MatchBool dump.is_writable
+    (AllByRecursion message_codec.is_writable messages
+    × (dump.lengths.items ≡ map (λ message. length (message_codec.serialized message)) messages)
+    × (dump.bytes.items ≡ flat_map message_codec.serialized messages))
+    (¬ AllByRecursion message_codec.is_writable messages)
 
--- `IsReadDump datagrams dump`: the reader has the messages and the end of the dump over these
--- datagrams, and it has no error while the dump is being read
-pub record IsReadDump (datagrams : List (List ℕ)) (dump : ReadDump) : Type 0 where
-  pub is : IsDumpOf datagrams (read_dump_outcome dump)
-  pub has_no_error : IsReading (reader_progress dump.reader) → dump.error ≡ None
+-- `HasOutcome dump outcome`: the dump has the messages of the outcome, and its end
+abbrev pub HasOutcome : ReadDump → DumpOutcome → Type 0
+HasOutcome dump outcome = HasMessages dump outcome.0 × (dump.end ≡ state_or_error outcome.1)
+
+-- `IsReadDump datagrams dump`: the dump over these datagrams has an outcome, and `dump` has its
+-- messages and its end
+abbrev pub IsReadDump : List (List ℕ) → ReadDump → Type 0
+IsReadDump datagrams dump = (outcome : DumpOutcome) × IsDumpOf datagrams outcome
+    × HasOutcome dump outcome
 
 -- FeedsOneDatagram old datagram new: if `old` has read some datagrams, then `new` has read these
 -- datagrams and then this one
 abbrev pub FeedsOneDatagram : ReadDump → List ℕ → ReadDump → Type 0
 FeedsOneDatagram old datagram new = (datagrams : List (List ℕ)) → IsReadDump datagrams old
     → IsReadDump (datagrams ++ datagram ∷ []) new
+
+-- AppendsMessage old message new: `new` has the end of `old`; and if `old` has some messages, then
+-- `new` has these messages and then this one
+abbrev pub AppendsMessage : ReadDump → Message → ReadDump → Type 0
+AppendsMessage old message new = (new.end ≡ old.end) × ((messages : List Message)
+    → HasMessages old messages → HasMessages new (messages ++ message ∷ []))
+
+-- AnswersDump dump text: the text is the answer to each outcome that the dump may have
+abbrev pub AnswersDump : ReadDump → List ℕ → Type 0
+AnswersDump dump text = (outcome : DumpOutcome) → HasOutcome dump outcome
+    → IsAnswerText (λ d. d ≡ outcome) (λ error. ⊥) IsWritable dump_text text

@@ -1,34 +1,30 @@
-use Rattle.std.proofs.Common.{◌+◌, [], ◌∷◌, ◌++◌, Ok, refl, ap, arith, append_assoc}
+use Rattle.std.proofs.Common.{◌+◌, [], ◌∷◌, ◌++◌, true, Ok, refl, arith, append_assoc}
 use Rattle.std.proofs.lemmas.List.{length-drop, take_rest}
 use Rattle.std.specs.List.{slice_split}
-use Rattle.netlink_packet_sock_diag.specs.Feed.{DumpProgress, status_of_dump}
-use Rattle.netlink_packet_sock_diag.specs.Message.{Message}
+use Rattle.netlink_packet_sock_diag.specs.declared.dump.DumpState.TheVariants.{Reading}
+use Rattle.sock_diag_lines.specs.declared.dump_line.ReadDump.{ReadDump}
 use Rattle.sock_diag_lines.specs.private.Text.{is_space}
+use Rattle.sock_diag_lines.proofs.DumpLaws.{reads_no_datagrams}
 use Rattle.sock_diag_lines.proofs.FieldLists.{each_has_bytes}
 use Rattle.sock_diag_lines.proofs.dump_line.read_dump.Goals as goal
 
 pub fields-init : goal.fields-init
-fields-init c = record {
-  datagrams = [];
-  read = record {
-    is = (
-      [],
-      tt,
-      (
-        [],
-        [],
-        refl,
-        tt,
-        ap (λ (dump : DumpProgress Message). dump.messages) c.new.ensures,
-        ap (λ (dump : DumpProgress Message). Ok (status_of_dump dump)) c.new.ensures,
-      ),
-    );
-    has_no_error = λ _. refl;
-  };
-  before = λ more each. each;
-  behind = each_has_bytes (slice_split is_space c.args.fields.now);
-  within = omega arith;
-}
+fields-init c =
+    let dump : ReadDump = record {
+      end = Ok Reading;
+      is_writable = true;
+      lengths = c.new.result;
+      bytes = c.in_ok-serialized.serialized;
+      buffer = c.new-2.result;
+    } in
+    record {
+      datagrams = [];
+      read = reads_no_datagrams dump refl refl c.new.ensures.items
+          c.in_ok-serialized.ensures.items;
+      before = λ more each. each;
+      behind = each_has_bytes (slice_split is_space c.args.fields.now);
+      within = omega arith;
+    }
 
 pub fields-preserved : goal.fields-preserved
 fields-preserved c =
