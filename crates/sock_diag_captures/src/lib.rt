@@ -89,10 +89,11 @@ Filter sockets (a socket is listed if it meets all of these):
       --state=STATE      in this state; several options add up
       --sport=PORT       with this local port
       --dport=PORT       with this remote port
-  STATE is established, syn-sent, syn-recv, fin-wait-1, fin-wait-2, time-wait,
-  closed (or unconnected), close-wait, last-ack, listening or closing; or a
-  group: all, connected (all but closed and listening), synchronized (connected
-  but not syn-sent), bucket (syn-recv and time-wait), big (all but bucket).
+  STATE is established, syn-sent, syn-recv (or syn-rcv), fin-wait-1, fin-wait-2,
+  time-wait, closed (or close, unconnected), close-wait, last-ack, listening or
+  closing; or a group: all, connected (all but closed and listening),
+  synchronized (connected but not syn-sent), bucket (syn-recv and time-wait),
+  big (all but bucket).
   PORT is a number, not a name: N is port N, N- is N or more, -N is N or less.
   Filters as in ss(8), such as state listening, would be names of files.
 
@@ -113,6 +114,8 @@ Format:
 
   -h, --help             print this text and exit
   -V, --version          print the version and exit
+
+Other options of ss(8), such as -p, -s, -r, -w and -A, are rejected.
 
 Exit status:
   0: each capture was read to its end, and standard error has nothing but notes,

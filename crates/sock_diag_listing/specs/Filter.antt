@@ -26,11 +26,12 @@ abbrev pub state_named : List ℕ → Option ℕ
 state_named name =
     if bytes_eq name (codes "established") then Some 1
     else if bytes_eq name (codes "syn-sent") then Some 2
-    else if bytes_eq name (codes "syn-recv") then Some 3
+    else if bytes_eq name (codes "syn-recv") || bytes_eq name (codes "syn-rcv") then Some 3
     else if bytes_eq name (codes "fin-wait-1") then Some 4
     else if bytes_eq name (codes "fin-wait-2") then Some 5
     else if bytes_eq name (codes "time-wait") then Some 6
-    else if bytes_eq name (codes "closed") || bytes_eq name (codes "unconnected") then Some 7
+    else if bytes_eq name (codes "closed") || bytes_eq name (codes "close")
+        || bytes_eq name (codes "unconnected") then Some 7
     else if bytes_eq name (codes "close-wait") then Some 8
     else if bytes_eq name (codes "last-ack") then Some 9
     else if bytes_eq name (codes "listening") then Some 10

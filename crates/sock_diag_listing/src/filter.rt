@@ -107,7 +107,7 @@ fn state_named(name: &[u8]) -> Option<u8>
         Some(1)
     } else if equal(name, "syn-sent") {
         Some(2)
-    } else if equal(name, "syn-recv") {
+    } else if equal(name, "syn-recv") || equal(name, "syn-rcv") {
         Some(3)
     } else if equal(name, "fin-wait-1") {
         Some(4)
@@ -115,7 +115,7 @@ fn state_named(name: &[u8]) -> Option<u8>
         Some(5)
     } else if equal(name, "time-wait") {
         Some(6)
-    } else if equal(name, "closed") || equal(name, "unconnected") {
+    } else if equal(name, "closed") || equal(name, "close") || equal(name, "unconnected") {
         Some(7)
     } else if equal(name, "close-wait") {
         Some(8)

@@ -17,6 +17,9 @@ use std::{env, str};
 /// Greatest length in bytes of an argument that Linux passes to a program (`MAX_ARG_STRLEN`).
 const LONGEST_ARGUMENT: usize = 131_072;
 
+/// What follows the error about a word of a filter of ss(8) that is not the name of a file.
+const FILTER_HINT: &str = "; a filter is written --state=STATE, --sport=PORT or --dport=PORT";
+
 fn main(rt: HostRuntime) -> ExitCode {
     let mut arguments = match env::args(&rt) {
         Ok(arguments) => arguments,
@@ -91,10 +94,16 @@ fn list_file(rt: &HostRuntime, options: Options, name: &str, heading: &[u8]) -> 
     match File::open(rt, name) {
         Ok(file) => list(rt, options, front.as_str(), heading, file),
         Err(error) => {
-            let _ = eprintln!(rt; "{front}{error}");
+            let hint = if is_filter_word(name) { FILTER_HINT } else { "" };
+            let _ = eprintln!(rt; "{front}{error}{hint}");
             ExitCode::FAILURE
         }
     }
+}
+
+/// Returns whether a name that is no file may be a part of a filter of ss(8).
+fn is_filter_word(name: &str) -> bool {
+    name.contains('=') || matches!(name, "state" | "exclude" | "sport" | "dport" | "src" | "dst")
 }
 
 /// Lists the capture on standard input. A terminal is rejected, since nobody types a capture.
@@ -169,7 +178,7 @@ fn rejection_text(alloc: Global, reason: Rejection, argument: &str) -> Result<St
             let name = name_of_option(argument);
             format!(in alloc; "{name} takes no value")
         }
-        Rejection::UnknownFamily => format!(in alloc; "unknown family {shown}"),
+        Rejection::UnknownFamily => format!(in alloc; "unknown family {shown} after -f"),
         Rejection::UnknownFamilyValue => format!(in alloc; "unknown family in {shown}"),
         Rejection::UnknownStateValue => format!(in alloc; "unknown state in {shown}"),
         Rejection::InvalidPortValue => {
