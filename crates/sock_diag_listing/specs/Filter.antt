@@ -31,7 +31,7 @@ state_named name =
     else if bytes_eq name (codes "fin-wait-2") then Some 5
     else if bytes_eq name (codes "time-wait") then Some 6
     else if bytes_eq name (codes "closed") || bytes_eq name (codes "close")
-        || bytes_eq name (codes "unconnected") then Some 7
+    || bytes_eq name (codes "unconnected") then Some 7
     else if bytes_eq name (codes "close-wait") then Some 8
     else if bytes_eq name (codes "last-ack") then Some 9
     else if bytes_eq name (codes "listening") then Some 10

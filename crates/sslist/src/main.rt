@@ -94,7 +94,11 @@ fn list_file(rt: &HostRuntime, options: Options, name: &str, heading: &[u8]) -> 
     match File::open(rt, name) {
         Ok(file) => list(rt, options, front.as_str(), heading, file),
         Err(error) => {
-            let hint = if is_filter_word(name) { FILTER_HINT } else { "" };
+            let hint = if is_filter_word(name) {
+                FILTER_HINT
+            } else {
+                ""
+            };
             let _ = eprintln!(rt; "{front}{error}{hint}");
             ExitCode::FAILURE
         }
@@ -103,7 +107,11 @@ fn list_file(rt: &HostRuntime, options: Options, name: &str, heading: &[u8]) -> 
 
 /// Returns whether a name that is no file may be a part of a filter of ss(8).
 fn is_filter_word(name: &str) -> bool {
-    name.contains('=') || matches!(name, "state" | "exclude" | "sport" | "dport" | "src" | "dst")
+    name.contains('=')
+        || matches!(
+            name,
+            "state" | "exclude" | "sport" | "dport" | "src" | "dst"
+        )
 }
 
 /// Lists the capture on standard input. A terminal is rejected, since nobody types a capture.
