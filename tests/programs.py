@@ -162,7 +162,7 @@ def test_sslist(program):
     for arguments in ([], ["-"], ["--", "-"], ["-n", "--"]):
         check(program, arguments, capture, 0, table, note)
     check(program, ["-", CAPTURE], capture, 0, caption("-") + table + captioned, note * 2)
-    failed = b"sslist: writing to standard output failed\n"
+    failed = rb"sslist: writing to standard output failed \(os error 28\)\n"
     check_failed_writes(program, [], capture, b"", failed)
     check_failed_writes(program, ["--help"], b"", b"", failed)
     check_failed_writes(program, ["--version"], b"", b"", failed)
@@ -311,7 +311,11 @@ def test_diagnostics(program):
         (b"\1\2\x0a\xff" + bytes(20), no_capture + b"its first four bytes are 0x01020aff"),
         (b"hello\n", no_capture + b"its first four bytes are 0x68656c6c"),
         (b"hi\n", no_capture + b"it has fewer than 4 bytes"),
-        (b"\x1f\x8b\x08\0" + bytes(9), b"gzip is not supported; try gzip -dc FILE | sslist"),
+        (b"BZh9\x17rE8P\x90", b"compressed by bzip2; decompress it first, with bunzip2"),
+        *[(start + bytes(20), f"compressed by {it}; decompress it first, with un{it}".encode())
+            for start, it in [(b"\xfd7zX", "xz"), (b"\x28\xb5\x2f\xfd", "zstd")]],
+        (b"\x1f\x8b\x08\0" + bytes(9), b"compressed by gzip; decompress it first, with gunzip"),
+        (b"BZx9" + bytes(20), no_capture + b"its first four bytes are 0x425a7839"),
         (file_header[:4], b"the capture is truncated"),
         (file_header[:23], b"the capture is truncated"),
         (b"", b"the input is empty"),
@@ -557,6 +561,9 @@ def check_selections(program, capture, heading, rows, errors):
         (["-tx6"], lambda kind, state, v6: kind in unix or kind in KINDS["-t"].split() and v6),
         (["-6lx"], lambda kind, state, v6: kind in unix or kind in ip and v6),
         (["--state=listening"], lambda kind, state, v6: state == "LISTEN"),
+        (["--state=LISTEN"], lambda kind, state, v6: state == "LISTEN"),
+        (["--state=Unconn"], lambda kind, state, v6: state == "UNCONN"),
+        (["--state=ESTAB"], lambda kind, state, v6: state == "ESTAB"),
         (["--state=bucket", "-l"], lambda kind, state, v6: state == "TIME-WAIT"),
         (["--state=close"], lambda kind, state, v6: state == "UNCONN"),
         (["--state=time-wait", "--state=closed", "-x4"],
@@ -595,10 +602,11 @@ def check_ports(program, capture, heading, rows, errors):
                 chosen.append(row)
         assert 0 < len(chosen) < len(rows), arguments
         check(program, ["-O", *arguments], capture, 0, heading + b"".join(chosen), errors)
-    for word in ("--sport=", "--sport=65536", "--dport=ssh", "--dport=1-2", "--state=LISTEN"):
+    for word in ("--sport=", "--sport=65536", "--dport=ssh", "--dport=1-2", "--state=UNKNOWN"):
         wrong = f"invalid port in {word}: a port is N, N- or -N"
         if word.startswith("--state"):
-            wrong = f"unknown state in {word}"
+            form = "states are named as in the column State, such as LISTEN"
+            wrong = f"unknown state in {word}: {form}"
         text = f"sslist: {wrong}; try sslist --help\n".encode()
         check(program, [word, "-h"], capture, 2, b"", text)
 

@@ -1,9 +1,5 @@
 pub mod Streams
 pub mod Lines
 pub mod LineRun
-pub mod Capture
-pub mod Cooked
-pub mod Pcapng
-pub mod Reader
 pub mod ErrorText
 pub mod private

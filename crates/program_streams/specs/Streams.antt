@@ -3,27 +3,40 @@ use Rattle.std.specs.Prelude.{◌≡◌, ◌⊎◌, ℕ, ℤ, pos, negsuc, List,
 use Rattle.std.specs.Prelude.{codes, decimal}
 use Rattle.std.specs.Io.KnownBytes.{Appends}
 use Rattle.program_streams.specs.declared.streams.ReadError.{ReadError}
-use Rattle.program_streams.specs.declared.streams.ReadError.TheVariants.{Directory, Os}
+use Rattle.program_streams.specs.declared.streams.ReadError.TheVariants.{Directory}
+use Rattle.program_streams.specs.declared.streams.ReadError.TheVariants.{Os as OsRead}
 use Rattle.program_streams.specs.declared.streams.ReadError.TheVariants.{Other as OtherRead}
 use Rattle.program_streams.specs.declared.streams.WriteError.{WriteError}
 use Rattle.program_streams.specs.declared.streams.WriteError.TheVariants.{Closed}
+use Rattle.program_streams.specs.declared.streams.WriteError.TheVariants.{Os as OsWrite}
 use Rattle.program_streams.specs.declared.streams.WriteError.TheVariants.{Other as OtherWrite}
 
 -- the text of the error of a failed read
 abbrev pub read_error_text : ReadError → List ℕ
 read_error_text Directory = codes "the input is a directory"
-read_error_text (Os code) = codes "reading failed (os error " ++ decimal code ++ codes ")"
+read_error_text (OsRead code) = codes "reading failed (os error " ++ decimal code ++ codes ")"
 read_error_text OtherRead = codes "reading failed"
 
--- the error of a failed read with the system's number, if there is one and it is not negative
-abbrev pub numbered_read_error : Option ℤ → ReadError
-numbered_read_error (Some (pos code)) = Os code
-numbered_read_error (Some (negsuc n)) = OtherRead
+-- the system's number of an error, if it has one that is not negative
+abbrev pub error_number : Option ℤ → Option ℕ
+error_number (Some (pos code)) = Some code
+error_number (Some (negsuc n)) = None
+error_number None = None
+
+-- the error of a failed read with the system's number, if there is one
+abbrev pub numbered_read_error : Option ℕ → ReadError
+numbered_read_error (Some code) = OsRead code
 numbered_read_error None = OtherRead
+
+-- the error of a failed write or flush with the system's number, if there is one
+abbrev pub numbered_write_error : Option ℕ → WriteError
+numbered_write_error (Some code) = OsWrite code
+numbered_write_error None = OtherWrite
 
 -- the text of the error of a failed write or flush
 abbrev pub write_error_text : WriteError → List ℕ
 write_error_text Closed = codes "the output pipe is closed"
+write_error_text (OsWrite code) = codes "writing failed (os error " ++ decimal code ++ codes ")"
 write_error_text OtherWrite = codes "writing failed"
 
 -- WritesAllOrFails held held' failed text: the text was written; or a prefix of it was written, and

@@ -6,7 +6,8 @@ ghost use Rattle.std.specs.Io.KnownBytes.{Appends, Keeps, ReadConsumes, WriteApp
 ghost use Rattle.std.specs.Io.{ReadsAtMost};
 ghost use Rattle.std.specs.IoError.{error_kind, raw_os_error};
 ghost use Rattle.program_streams.specs.ErrorText.{error_text_bytes};
-ghost use Rattle.program_streams.specs.Streams.{WritesAllOrFails, numbered_read_error};
+ghost use Rattle.program_streams.specs.Streams.{WritesAllOrFails, error_number};
+ghost use Rattle.program_streams.specs.Streams.{numbered_read_error, numbered_write_error};
 ghost use Rattle.program_streams.specs.Streams.{read_error_text, write_error_text};
 ghost use Rattle.program_streams.specs.declared.streams.WriteError.{WriteError};
 
@@ -57,18 +58,23 @@ impl Error for ReadError {}
 pub enum WriteError {
     /// The output is a pipe without a reader.
     Closed,
-    /// The call failed for any other reason, or a write accepted no bytes.
+    /// The call failed for another reason, with this errno(3).
+    Os(u32),
+    /// The call failed for a reason that has no number, or a write accepted no bytes.
     Other,
 }
 
 impl WriteError {
     /// Returns the text of the error.
-    pub fn text(&self) -> &'static str
-        ensures { result.now ≡ write_error_text self.now }
+    pub fn text(&self) -> ErrorText
+        ensures { error_text_bytes result ≡ write_error_text self.now }
     {
         match self {
-            WriteError::Closed => "the output pipe is closed",
-            WriteError::Other => "writing failed",
+            WriteError::Closed => ErrorText::Plain("the output pipe is closed"),
+            WriteError::Os(code) => {
+                ErrorText::Decimal("writing failed (os error ", u64::from(*code), ")")
+            }
+            WriteError::Other => ErrorText::Plain("writing failed"),
         }
     }
 }
@@ -77,7 +83,8 @@ impl fmt::Display for WriteError {
     ghost output = { λ error. Some (write_error_text error) };
 
     fn fmt<W: fmt::Write>(&self, f: &mut fmt::Formatter<W>) -> fmt::Result {
-        f.write_str(self.text())
+        let text = self.text();
+        write!(f, "{text}")
     }
 }
 
@@ -120,7 +127,8 @@ fn read_outcome(outcome: io::Result<usize>) -> Result<usize, ReadError>
     ensures { MatchResult outcome (λ n. result ≡ Ok n)
         (λ error. (e : ReadError) × (result ≡ Err e)
         × ((e ≡ ReadError.Directory) ↔ (error_kind error ≡ ErrorKind.IsADirectory))
-        × (e ≢ ReadError.Directory → e ≡ numbered_read_error (raw_os_error error))) }
+        × (e ≢ ReadError.Directory
+        → e ≡ numbered_read_error (error_number (raw_os_error error)))) }
 {
     match outcome {
         Ok(count) => Ok(count),
@@ -131,21 +139,23 @@ fn read_outcome(outcome: io::Result<usize>) -> Result<usize, ReadError>
 /// Returns the error of a failed read, by its kind and the system's number.
 fn read_failure(kind: ErrorKind, code: Option<i32>) -> ReadError
     ensures directory { (result ≡ ReadError.Directory) ↔ (kind ≡ ErrorKind.IsADirectory) }
-    ensures other { result ≢ ReadError.Directory → result ≡ numbered_read_error code }
+    ensures other { result ≢ ReadError.Directory
+        → result ≡ numbered_read_error (error_number code) }
 {
-    match kind {
-        ErrorKind::IsADirectory => ReadError::Directory,
-        _ => numbered_read_error(code),
+    match (kind, error_number(code)) {
+        (ErrorKind::IsADirectory, _) => ReadError::Directory,
+        (_, Some(number)) => ReadError::Os(number),
+        (_, None) => ReadError::Other,
     }
 }
 
-/// Returns the error of a failed read with the system's number, if there is one.
-fn numbered_read_error(code: Option<i32>) -> ReadError
-    ensures { result ≡ numbered_read_error code }
+/// Returns the system's number of an error, if it has one that is not negative.
+fn error_number(code: Option<i32>) -> Option<u32>
+    ensures { result ≡ error_number code }
 {
     match code {
-        Some(code) if code >= 0 => ReadError::Os(code.unsigned_abs()),
-        _ => ReadError::Other,
+        Some(code) if code >= 0 => Some(code.unsigned_abs()),
+        _ => None,
     }
 }
 
@@ -199,12 +209,14 @@ fn write_outcome(outcome: io::Result<usize>) -> Result<usize, WriteError>
     ensures { MatchResult outcome
         (λ n. result ≡ (if n == 0 then Err WriteError.Other else Ok n))
         (λ error. (e : WriteError) × (result ≡ Err e)
-        × ((e ≡ WriteError.Closed) ↔ (error_kind error ≡ ErrorKind.BrokenPipe))) }
+        × ((e ≡ WriteError.Closed) ↔ (error_kind error ≡ ErrorKind.BrokenPipe))
+        × (e ≢ WriteError.Closed
+        → e ≡ numbered_write_error (error_number (raw_os_error error)))) }
 {
     match outcome {
         Ok(0) => Err(WriteError::Other),
         Ok(count) => Ok(count),
-        Err(error) => Err(write_failure(error.kind())),
+        Err(error) => Err(write_failure(error.kind(), error.raw_os_error())),
     }
 }
 
@@ -212,21 +224,26 @@ fn write_outcome(outcome: io::Result<usize>) -> Result<usize, WriteError>
 fn flush_outcome(outcome: io::Result<()>) -> Result<(), WriteError>
     ensures { MatchResult outcome (λ _. result ≡ Ok tt)
         (λ error. (e : WriteError) × (result ≡ Err e)
-        × ((e ≡ WriteError.Closed) ↔ (error_kind error ≡ ErrorKind.BrokenPipe))) }
+        × ((e ≡ WriteError.Closed) ↔ (error_kind error ≡ ErrorKind.BrokenPipe))
+        × (e ≢ WriteError.Closed
+        → e ≡ numbered_write_error (error_number (raw_os_error error)))) }
 {
     match outcome {
         Ok(()) => Ok(()),
-        Err(error) => Err(write_failure(error.kind())),
+        Err(error) => Err(write_failure(error.kind(), error.raw_os_error())),
     }
 }
 
-/// Returns the error of a failed write or flush.
-fn write_failure(kind: ErrorKind) -> WriteError
-    ensures { (result ≡ WriteError.Closed) ↔ (kind ≡ ErrorKind.BrokenPipe) }
+/// Returns the error of a failed write or flush, by its kind and the system's number.
+fn write_failure(kind: ErrorKind, code: Option<i32>) -> WriteError
+    ensures closed { (result ≡ WriteError.Closed) ↔ (kind ≡ ErrorKind.BrokenPipe) }
+    ensures other { result ≢ WriteError.Closed
+        → result ≡ numbered_write_error (error_number code) }
 {
-    match kind {
-        ErrorKind::BrokenPipe => WriteError::Closed,
-        _ => WriteError::Other,
+    match (kind, error_number(code)) {
+        (ErrorKind::BrokenPipe, _) => WriteError::Closed,
+        (_, Some(number)) => WriteError::Os(number),
+        (_, None) => WriteError::Other,
     }
 }
 

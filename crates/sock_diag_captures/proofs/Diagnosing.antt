@@ -2,7 +2,7 @@
 use Rattle.std.proofs.Common.{◌≡◌, ◌≢◌, ℕ, ◌+◌, ◌≤◌, List, [], ◌∷◌, ◌++◌, length, refl, sym}
 use Rattle.std.proofs.Common.{ap, subst, ◌∙◌, append_assoc, arith, inr, ◌<◌}
 use Rattle.std.proofs.lemmas.Bool.{le-leb, le-ltb, leb-true, lt-ltb}
-use Rattle.program_streams.specs.Cooked.{IsOfSockDiag}
+use Rattle.netlink_captures.specs.Cooked.{IsOfSockDiag}
 use Rattle.std.specs.Prelude.{◌↔◌, Bool, true, false, IsTrue, nat_le, Option, None, Some}
 use Rattle.std.proofs.lemmas.List.{append-nil, length-append}
 use Rattle.netlink_core.proofs.Datagrams.{shorter-rest}

@@ -7,19 +7,19 @@ use Rattle.std.specs.Prelude.{MatchResult}
 use Rattle.std.specs.Io.KnownBytes.{Appends, Consumes, Keeps, append_known}
 use Rattle.std.proofs.KnownBytes.{Appends-kept, Appends-trans, Consumes-nil, Consumes-trans}
 use Rattle.std.proofs.KnownBytes.{Keeps-refl}
-use Rattle.program_streams.specs.Capture.{CapturedPacket}
-use Rattle.program_streams.specs.Reader.{CaptureState, IsCaptureEnd, IsCaptureStart}
-use Rattle.program_streams.specs.Reader.{IsCaptureStartStop, IsCaptureStop, ReadsPacket}
-use Rattle.program_streams.proofs.ReaderLemmas.{nothing_more, stopped_at_once, stopped_for_either}
-use Rattle.program_streams.specs.declared.captures.CaptureError.{CaptureError}
-use Rattle.program_streams.specs.declared.captures.CaptureError.TheVariants.{Read}
+use Rattle.netlink_captures.specs.Capture.{CapturedPacket}
+use Rattle.netlink_captures.specs.Reader.{CaptureState, IsCaptureEnd, IsCaptureStart}
+use Rattle.netlink_captures.specs.Reader.{IsCaptureStartStop, IsCaptureStop, ReadsPacket}
+use Rattle.netlink_captures.proofs.ReaderLemmas.{nothing_more, stopped_at_once, stopped_for_either}
+use Rattle.netlink_captures.specs.declared.captures.CaptureError.{CaptureError}
+use Rattle.netlink_captures.specs.declared.captures.CaptureError.TheVariants.{Read}
 use Rattle.sock_diag_listing.specs.declared.list_error.ListError.{ListError}
 use Rattle.sock_diag_listing.specs.declared.list_error.ListError.TheVariants.{Header, Packet}
 use Rattle.sock_diag_listing.specs.declared.list_error.ListError.TheVariants.{Memory}
 use Rattle.sock_diag_listing.specs.declared.list_error.ListError.TheVariants.{Write}
 use Rattle.program_streams.specs.declared.streams.ReadError.TheVariants.{Other}
 use Rattle.program_streams.specs.declared.streams.WriteError.{WriteError}
-use Rattle.sock_diag_listing.specs.declared.options.Options.{Options}
+use Rattle.sslist_options.specs.declared.options.Options.{Options}
 use Rattle.sock_diag_listing.specs.Reports.{closing_line}
 use Rattle.sock_diag_captures.specs.Diagnostics.{DiagnosesPacket}
 use Rattle.sock_diag_captures.specs.Listing.{requests_after_packet}

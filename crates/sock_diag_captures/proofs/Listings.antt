@@ -5,8 +5,8 @@ use Rattle.std.specs.Prelude.{IsTrue, Option, None, Some, ◌≤◌, ◌&&◌, l
 use Rattle.std.specs.List.{AllByRecursion, flat_map}
 use Rattle.std.proofs.lemmas.List.{append-nil}
 use Rattle.std.proofs.lemmas.Grind.{flat_map-append}
-use Rattle.program_streams.specs.Capture.{CapturedPacket}
-use Rattle.sock_diag_listing.specs.declared.options.Options.{Options}
+use Rattle.netlink_captures.specs.Capture.{CapturedPacket}
+use Rattle.sslist_options.specs.declared.options.Options.{Options}
 use Rattle.netlink_core.specs.Datagram.{SplitsIntoMessages, StartsWithMessage}
 use Rattle.netlink_core.specs.Header.{IsMessageError}
 use Rattle.netlink_core.specs.declared.error.DecodeError.{DecodeError}

@@ -8,9 +8,9 @@ use Rattle.std.specs.List.{AllByRecursion}
 use Rattle.std.specs.Io.KnownBytes.{Appends, Consumes}
 use Rattle.std.proofs.KnownBytes.{Appends-nil, Appends-trans, Consumes-nil, Consumes-trans}
 use Rattle.std.proofs.lemmas.Grind.{flat_map-append}
-use Rattle.program_streams.specs.Capture.{CapturedPacket}
-use Rattle.program_streams.specs.Reader.{CaptureState, ReadsPacket}
-use Rattle.sock_diag_listing.specs.declared.options.Options.{Options}
+use Rattle.netlink_captures.specs.Capture.{CapturedPacket}
+use Rattle.netlink_captures.specs.Reader.{CaptureState, ReadsPacket}
+use Rattle.sslist_options.specs.declared.options.Options.{Options}
 use Rattle.sock_diag_captures.specs.Diagnostics.{AreDiagnosed, DiagnosesPacket}
 use Rattle.sock_diag_captures.specs.Listing.{requests_after_packet}
 use Rattle.sock_diag_captures.specs.Run.{AreListed, ArePackets, IsListed, IsListedWithoutErrors}

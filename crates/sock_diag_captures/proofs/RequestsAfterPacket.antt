@@ -3,7 +3,7 @@ use Rattle.std.proofs.Common.{◌≡◌, ℕ, ◌<◌, ◌≤◌, ◌&&◌, ◌=
 use Rattle.std.proofs.Common.{drop, refl, sym, ap, ◌∙◌}
 use Rattle.std.proofs.lemmas.Bool.{eq-eqb, eqb-true, le-ltb, lt-ltb}
 use Rattle.byteorder.specs.Endian.{big_number}
-use Rattle.program_streams.specs.Cooked.{IsOfSockDiag}
+use Rattle.netlink_captures.specs.Cooked.{IsOfSockDiag}
 use Rattle.sock_diag_captures.specs.Listing.{requests_after_packet}
 use Rattle.sock_diag_captures.specs.Requests.{with_request_in_datagram}
 use Rattle.sock_diag_captures.specs.declared.requests.Query.{Query}

@@ -10,15 +10,15 @@ use Rattle.sock_diag_listing.specs.Parts.{cookie_if_shown, detail, directions, f
 use Rattle.sock_diag_listing.specs.Parts.{hex_detail, optional_part, packet_flags, pair_detail}
 use Rattle.sock_diag_listing.specs.Parts.{threshold_detail, timer_if_shown}
 use Rattle.sock_diag_listing.specs.Escapes.{shown_name}
-use Rattle.sock_diag_listing.specs.Options.{shows_detail}
+use Rattle.sslist_options.specs.Options.{shows_detail}
 use Rattle.sock_diag_listing.specs.declared.parts.TimerFields.{TimerFields}
-use Rattle.sock_diag_listing.specs.declared.options.Detail.{Detail}
-use Rattle.sock_diag_listing.specs.declared.options.Detail.TheVariants.{Extended, Memory}
-use Rattle.sock_diag_listing.specs.declared.options.Detail.TheVariants.{Connection}
-use Rattle.sock_diag_listing.specs.declared.options.Family.{Family}
-use Rattle.sock_diag_listing.specs.declared.options.Family.TheVariants.{Netlink, Packet, Vsock}
-use Rattle.sock_diag_listing.specs.declared.options.Family.TheVariants.{Xdp}
-use Rattle.sock_diag_listing.specs.declared.options.Options.{Options}
+use Rattle.sslist_options.specs.declared.options.Detail.{Detail}
+use Rattle.sslist_options.specs.declared.options.Detail.TheVariants.{Extended, Memory}
+use Rattle.sslist_options.specs.declared.options.Detail.TheVariants.{Connection}
+use Rattle.sslist_options.specs.declared.options.Family.{Family}
+use Rattle.sslist_options.specs.declared.options.Family.TheVariants.{Netlink, Packet, Vsock}
+use Rattle.sslist_options.specs.declared.options.Family.TheVariants.{Xdp}
+use Rattle.sslist_options.specs.declared.options.Options.{Options}
 use Rattle.netlink_core.specs.Attribute.{Attribute, attribute_kind}
 use Rattle.netlink_core.specs.AttributeSet.{AttributeValue, decode_attribute}
 use Rattle.netlink_core.specs.Layout.{parse_record}

@@ -4,7 +4,7 @@ use Rattle.std.specs.Prelude.{◌≡◌, ℕ, ◌+◌, ◌==◌, if◌then◌els
 use Rattle.std.specs.Prelude.{bit_and, codes, decimal, drop, length, Option, None, Some}
 use Rattle.std.specs.Prelude.{◌||◌, Bool, false, nat_le, not, true}
 use Rattle.byteorder.specs.Endian.{little_number}
-use Rattle.program_streams.specs.Capture.{CapturedPacket}
+use Rattle.netlink_captures.specs.Capture.{CapturedPacket}
 use Rattle.sock_diag_listing.specs.Reports.{truncation_line, short_line}
 use Rattle.netlink_core.specs.Datagram.{SplitsIntoMessages}
 use Rattle.netlink_core.specs.declared.error.DecodeError.{DecodeError}

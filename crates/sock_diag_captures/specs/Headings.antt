@@ -2,7 +2,7 @@
 use Rattle.std.specs.Prelude.{ℕ, ◌||◌, if◌then◌else◌, Bool, List, [], ◌∷◌, ◌++◌, codes, Option}
 use Rattle.std.specs.Prelude.{None, Some}
 use Rattle.sock_diag_listing.specs.Escapes.{shown_name}
-use Rattle.sock_diag_listing.specs.declared.options.Options.{Options}
+use Rattle.sslist_options.specs.declared.options.Options.{Options}
 
 -- `caption utf8 name`: a line with the name of a file, as names of sockets are shown, or nothing
 -- for None. `utf8`: the option `--utf8`.

@@ -52,9 +52,9 @@ use Rattle.sock_diag_families.specs.declared.xdp.TheConstants.{XDP_DIAG_INFO, XD
 use Rattle.sock_diag_families.specs.declared.xdp.TheConstants.{XDP_DIAG_UID}
 use Rattle.sock_diag_captures.specs.declared.details.Sockets.{Sockets}
 use Rattle.sock_diag_captures.specs.declared.details.Sockets.TheVariants.{Inet, Other, Unix}
-use Rattle.sock_diag_listing.specs.declared.options.Family.{Family}
-use Rattle.sock_diag_listing.specs.declared.options.Family.TheVariants.{Netlink, Packet, Vsock}
-use Rattle.sock_diag_listing.specs.declared.options.Family.TheVariants.{Xdp}
+use Rattle.sslist_options.specs.declared.options.Family.{Family}
+use Rattle.sslist_options.specs.declared.options.Family.TheVariants.{Netlink, Packet, Vsock}
+use Rattle.sslist_options.specs.declared.options.Family.TheVariants.{Xdp}
 use Rattle.sock_diag_captures.specs.JsonNewer.{inet_newer_outcome, unix_newer_outcome}
 use Rattle.sock_diag_captures.specs.JsonOutcome.{JsonOutcome}
 use Rattle.sock_diag_captures.specs.JsonTcp.{tcp_members}

@@ -6,12 +6,13 @@ use Rattle.sock_diag_records.specs.declared.unix.response.UnixResponseHeader.{Un
 use Rattle.sock_diag_listing.specs.JsonData.{JsonMember}
 use Rattle.sock_diag_captures.specs.JsonOthers.{other_json}
 use Rattle.sock_diag_captures.specs.JsonSockets.{inet_json, unix_json}
-use Rattle.sock_diag_listing.specs.Options.{lists_family, lists_inet, lists_unix}
+use Rattle.sslist_options.specs.Options.{lists_family, lists_unix}
+use Rattle.sock_diag_captures.specs.Selection.{lists_inet}
 use Rattle.sock_diag_captures.specs.Others.{other_lines}
 use Rattle.sock_diag_captures.specs.Pieces.{AttributeOrError}
 use Rattle.sock_diag_captures.specs.Table.{inet_lines, unix_lines}
-use Rattle.sock_diag_listing.specs.declared.options.Family.{Family}
-use Rattle.sock_diag_listing.specs.declared.options.Options.{Options}
+use Rattle.sslist_options.specs.declared.options.Family.{Family}
+use Rattle.sslist_options.specs.declared.options.Options.{Options}
 use Rattle.sock_diag_captures.specs.declared.others.OtherSocket.{OtherSocket}
 use Rattle.sock_diag_listing.specs.declared.parts.TimerFields.{TimerFields}
 

@@ -14,9 +14,9 @@ use Rattle.sock_diag_listing.specs.JsonData.{text_member}
 use Rattle.sock_diag_captures.specs.Others.{other_kind}
 use Rattle.sock_diag_captures.specs.Pieces.{AttributeOrError}
 use Rattle.sock_diag_captures.specs.declared.details.Sockets.TheVariants.{Other}
-use Rattle.sock_diag_listing.specs.declared.options.Family.{Family}
-use Rattle.sock_diag_listing.specs.declared.options.Family.TheVariants.{Netlink, Packet, Vsock}
-use Rattle.sock_diag_listing.specs.declared.options.Family.TheVariants.{Xdp}
+use Rattle.sslist_options.specs.declared.options.Family.{Family}
+use Rattle.sslist_options.specs.declared.options.Family.TheVariants.{Netlink, Packet, Vsock}
+use Rattle.sslist_options.specs.declared.options.Family.TheVariants.{Xdp}
 
 -- `other_header_members netid state rows cookie`: the members of a header: the columns Netid and
 -- State of the table, the fields in `rows`, and the cookie in hexadecimal digits

@@ -1,5 +1,6 @@
 pub mod Pieces
 pub mod Requests
+pub mod Selection
 pub mod Table
 pub mod Rows
 pub mod Md5Keys

@@ -6,13 +6,13 @@ use Rattle.std.specs.Prelude.{bit_and, drop, length, flat_map, Option, None, Som
 use Rattle.std.specs.Prelude.{Result, Ok, Err}
 use Rattle.std.specs.List.{AllByRecursion}
 use Rattle.byteorder.specs.Endian.{big_number, little_number}
-use Rattle.program_streams.specs.Capture.{CapturedPacket}
-use Rattle.program_streams.specs.Cooked.{IsOfSockDiag}
-use Rattle.program_streams.specs.declared.captures.PacketHeader.{PacketHeader}
-use Rattle.sock_diag_listing.specs.declared.options.Family.{Family}
-use Rattle.sock_diag_listing.specs.declared.options.Family.TheVariants.{Netlink, Packet, Vsock}
-use Rattle.sock_diag_listing.specs.declared.options.Family.TheVariants.{Xdp}
-use Rattle.sock_diag_listing.specs.declared.options.Options.{Options}
+use Rattle.netlink_captures.specs.Capture.{CapturedPacket}
+use Rattle.netlink_captures.specs.Cooked.{IsOfSockDiag}
+use Rattle.netlink_captures.specs.declared.captures.PacketHeader.{PacketHeader}
+use Rattle.sslist_options.specs.declared.options.Family.{Family}
+use Rattle.sslist_options.specs.declared.options.Family.TheVariants.{Netlink, Packet, Vsock}
+use Rattle.sslist_options.specs.declared.options.Family.TheVariants.{Xdp}
+use Rattle.sslist_options.specs.declared.options.Options.{Options}
 use Rattle.netlink_core.specs.Datagram.{SplitsIntoMessages}
 use Rattle.netlink_core.specs.Layout.{Layout, parse_record}
 use Rattle.netlink_core.specs.Header.{HasHeader}

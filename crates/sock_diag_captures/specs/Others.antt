@@ -3,12 +3,12 @@ use Rattle.std.specs.Prelude.{ℕ, ◌+◌, ◌==◌, nat_lt, if◌then◌else�
 use Rattle.std.specs.Prelude.{drop, codes, Option, None, Some, option_and_then}
 use Rattle.byteorder.specs.Endian.{little_bytes, little_number}
 use Rattle.sock_diag_listing.specs.Parts.{no_timer, details_after_separator}
-use Rattle.sock_diag_listing.specs.Options.{lists_family}
+use Rattle.sslist_options.specs.Options.{lists_family}
 use Rattle.sock_diag_listing.specs.Cells.{FirstColumns, table_line, peer_cell}
-use Rattle.sock_diag_listing.specs.declared.options.Family.{Family}
-use Rattle.sock_diag_listing.specs.declared.options.Family.TheVariants.{Netlink, Packet, Vsock}
-use Rattle.sock_diag_listing.specs.declared.options.Family.TheVariants.{Xdp}
-use Rattle.sock_diag_listing.specs.declared.options.Options.{Options}
+use Rattle.sslist_options.specs.declared.options.Family.{Family}
+use Rattle.sslist_options.specs.declared.options.Family.TheVariants.{Netlink, Packet, Vsock}
+use Rattle.sslist_options.specs.declared.options.Family.TheVariants.{Xdp}
+use Rattle.sslist_options.specs.declared.options.Options.{Options}
 use Rattle.netlink_core.specs.Attribute.{Attribute}
 use Rattle.sock_diag_families.specs.declared.netlink.response.NetlinkResponseHeader.{NetlinkResponseHeader}
 use Rattle.sock_diag_families.specs.declared.packet.response.PacketResponseHeader.{PacketResponseHeader}

@@ -5,11 +5,11 @@ use Rattle.std.specs.Prelude.{length, codes, drop, slice_index, Option, None, So
 use Rattle.byteorder.specs.Endian.{little_number}
 use Rattle.sock_diag_listing.specs.Times.{time_text}
 use Rattle.sock_diag_listing.specs.Parts.{hex_detail}
-use Rattle.program_streams.specs.declared.captures.PacketHeader.{PacketHeader}
-use Rattle.sock_diag_listing.specs.declared.options.Family.{Family}
-use Rattle.sock_diag_listing.specs.declared.options.Family.TheVariants.{Netlink, Packet, Vsock}
-use Rattle.sock_diag_listing.specs.declared.options.Family.TheVariants.{Xdp}
-use Rattle.sock_diag_listing.specs.declared.options.Options.{Options}
+use Rattle.netlink_captures.specs.declared.captures.PacketHeader.{PacketHeader}
+use Rattle.sslist_options.specs.declared.options.Family.{Family}
+use Rattle.sslist_options.specs.declared.options.Family.TheVariants.{Netlink, Packet, Vsock}
+use Rattle.sslist_options.specs.declared.options.Family.TheVariants.{Xdp}
+use Rattle.sslist_options.specs.declared.options.Options.{Options}
 use Rattle.sock_diag_records.specs.declared.constants.TheConstants.{AF_UNIX, SOCK_DIAG_BY_FAMILY}
 use Rattle.sock_diag_captures.specs.Requests.{inet_request_in_datagram}
 use Rattle.sock_diag_captures.specs.Table.{family_name, inet_kind}

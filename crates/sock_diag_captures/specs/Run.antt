@@ -7,10 +7,10 @@ use Rattle.sock_diag_listing.specs.declared.list_error.ListError.{ListError}
 use Rattle.sock_diag_listing.specs.declared.list_error.ListError.TheVariants.{Header, Packet}
 use Rattle.sock_diag_listing.specs.declared.list_error.ListError.TheVariants.{Write}
 use Rattle.sock_diag_listing.specs.declared.list_error.ListError.TheVariants.{Memory}
-use Rattle.program_streams.specs.Capture.{CapturedPacket}
-use Rattle.program_streams.specs.Reader.{CaptureState, IsCaptureEnd, IsCaptureStart}
-use Rattle.program_streams.specs.Reader.{IsCaptureStartStop, IsCaptureStop, ReadsPacket}
-use Rattle.sock_diag_listing.specs.declared.options.Options.{Options}
+use Rattle.netlink_captures.specs.Capture.{CapturedPacket}
+use Rattle.netlink_captures.specs.Reader.{CaptureState, IsCaptureEnd, IsCaptureStart}
+use Rattle.netlink_captures.specs.Reader.{IsCaptureStartStop, IsCaptureStop, ReadsPacket}
+use Rattle.sslist_options.specs.declared.options.Options.{Options}
 use Rattle.sock_diag_captures.specs.Diagnostics.{AreDiagnosed}
 use Rattle.sock_diag_captures.specs.Listing.{ListsCapturedPacket, requests_after_packet}
 use Rattle.sock_diag_captures.specs.declared.requests.Query.{Query}

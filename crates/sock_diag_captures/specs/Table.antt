@@ -5,9 +5,10 @@ use Rattle.std.specs.Prelude.{◌||◌, false, option_and_then}
 use Rattle.sock_diag_listing.specs.Cells.{endpoint, named_line, peer_cell, table_line}
 use Rattle.sock_diag_listing.specs.Parts.{no_timer, details_after_separator}
 use Rattle.sock_diag_listing.specs.Escapes.{byte_digits, unescaped_bytes, shown_name}
-use Rattle.sock_diag_listing.specs.Options.{lists_inet, lists_unix}
+use Rattle.sslist_options.specs.Options.{lists_unix}
+use Rattle.sock_diag_captures.specs.Selection.{lists_inet}
 use Rattle.sock_diag_listing.specs.declared.parts.TimerFields.{TimerFields}
-use Rattle.sock_diag_listing.specs.declared.options.Options.{Options}
+use Rattle.sslist_options.specs.declared.options.Options.{Options}
 use Rattle.sock_diag_records.specs.declared.inet.response.InetResponseHeader.{InetResponseHeader}
 use Rattle.sock_diag_records.specs.declared.unix.response.UnixResponseHeader.{UnixResponseHeader}
 use Rattle.sock_diag_records.specs.declared.constants.TheConstants.{AF_INET6, UNIX_DIAG_NAME}

@@ -44,7 +44,7 @@ use sock_diag_listing::parts::{
     push_pair, push_part, push_shown_cookie, push_shown_timer, push_some, push_threshold,
     separator,
 };
-use sock_diag_listing::{Detail, Family, Options};
+use sslist_options::{Detail, Family, Options};
 use sock_diag_records::constants::{
     INET_DIAG_BBRINFO, INET_DIAG_CONG, INET_DIAG_DCTCPINFO, INET_DIAG_INFO, INET_DIAG_MD5SIG,
     INET_DIAG_MEMINFO, INET_DIAG_SKMEMINFO, INET_DIAG_VEGASINFO, TCPI_OPT_ECN, TCPI_OPT_ECN_SEEN,

@@ -4,7 +4,7 @@ ghost use Rattle.std.specs.Prelude.{◌≡◌, ◌++◌, IfOk, OnOk, option_map}
 ghost use Rattle.sock_diag_captures.specs.Headings.{caption, text_before_table};
 
 use crate::line::HEADING;
-use sock_diag_listing::Options;
+use sslist_options::Options;
 use sock_diag_listing::names::push_shown;
 use std::alloc::{AllocError, Global};
 

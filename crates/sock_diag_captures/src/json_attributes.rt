@@ -53,7 +53,7 @@ use sock_diag_families::packet::{
     PACKET_DIAG_INFO, PACKET_DIAG_MEMINFO, PACKET_DIAG_UID, PacketInfo,
 };
 use sock_diag_families::xdp::{XDP_DIAG_INFO, XDP_DIAG_MEMINFO, XDP_DIAG_UID, XdpInfo};
-use sock_diag_listing::Family;
+use sslist_options::Family;
 use sock_diag_listing::json_writing::{
     begin_member, write_flag, write_numbers, write_optional, write_text,
 };

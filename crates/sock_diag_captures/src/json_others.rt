@@ -9,9 +9,9 @@ ghost use Rattle.sock_diag_captures.specs.JsonOthers.{other_json, other_members}
 ghost use Rattle.sock_diag_captures.specs.JsonOthers.{packet_header_members, vsock_header_members};
 ghost use Rattle.sock_diag_captures.specs.JsonOthers.{xdp_header_members};
 ghost use Rattle.sock_diag_captures.specs.Pieces.{attributes_or_error};
-ghost use Rattle.sock_diag_listing.specs.declared.options.Family.{Family as SocketFamily};
-ghost use Rattle.sock_diag_listing.specs.declared.options.Family.TheVariants.{Netlink, Packet};
-ghost use Rattle.sock_diag_listing.specs.declared.options.Family.TheVariants.{Vsock, Xdp};
+ghost use Rattle.sslist_options.specs.declared.options.Family.{Family as SocketFamily};
+ghost use Rattle.sslist_options.specs.declared.options.Family.TheVariants.{Netlink, Packet};
+ghost use Rattle.sslist_options.specs.declared.options.Family.TheVariants.{Vsock, Xdp};
 ghost use Rattle.sock_diag_listing.specs.JsonWriting.{AddsMembers, AddsTokens, KeepsText};
 
 use crate::details::Sockets;
@@ -22,7 +22,7 @@ use sock_diag_families::netlink::NetlinkResponseHeader;
 use sock_diag_families::packet::PacketResponseHeader;
 use sock_diag_families::vsock::{AF_VSOCK, VsockResponseHeader};
 use sock_diag_families::xdp::{AF_XDP, XdpResponseHeader};
-use sock_diag_listing::Family;
+use sslist_options::Family;
 use sock_diag_listing::cells::name_of_state;
 use sock_diag_listing::json_writing::{write_hex, write_numbers, write_text};
 use sock_diag_records::constants::{AF_NETLINK, AF_PACKET};

@@ -43,15 +43,17 @@ mod ulp_info;
 pub use headings::heading;
 pub use line::HEADING;
 pub use list::{Diagnostic, list_packet};
-pub use program_streams::{
-    ByteOrder, CaptureError, FileHeader, Packet, PacketHeader, ReadError, TimeUnit, WriteError,
+use program_streams::Source;
+pub use netlink_captures::{
+    ByteOrder, CaptureError, Compression, FileHeader, Packet, PacketHeader, TimeUnit,
 };
-use program_streams::{Sink, Source};
+pub use program_streams::{ReadError, Sink, WriteError, send};
 pub use requests::{Query, Requests};
 use sock_diag_listing::reports::report_failure;
-pub use sock_diag_listing::{
-    Choice, Detail, Family, ListCapture, ListError, Options, PacketOutput, PortCondition,
-    Rejection, SocketFilter, choose, escaped, list_captures, names_several,
+pub use sock_diag_listing::{ListError, PacketOutput, escaped};
+pub use sslist_options::{
+    Choice, Detail, Family, ListCapture, Options, PortCondition, Rejection, SocketFilter, choose,
+    list_captures, names_several,
 };
 use std::alloc::Global;
 use std::io::{Read, Write};
@@ -89,11 +91,11 @@ Filter sockets (a socket is listed if it meets all of these):
       --state=STATE      in this state; several options add up
       --sport=PORT       with this local port
       --dport=PORT       with this remote port
-  STATE is established, syn-sent, syn-recv (or syn-rcv), fin-wait-1, fin-wait-2,
-  time-wait, closed (or close, unconnected), close-wait, last-ack, listening or
-  closing; or a group: all, connected (all but closed and listening),
-  synchronized (connected but not syn-sent), bucket (syn-recv and time-wait),
-  big (all but bucket).
+  STATE is established (or estab), syn-sent, syn-recv (or syn-rcv), fin-wait-1,
+  fin-wait-2, time-wait, closed (or close, unconnected, unconn), close-wait,
+  last-ack, listening (or listen) or closing; or a group: all, connected (all
+  but closed and listening), synchronized (connected but not syn-sent), bucket
+  (syn-recv and time-wait), big (all but bucket). Case does not matter.
   PORT is a number, not a name: N is port N, N- is N or more, -N is N or less.
   Filters as in ss(8), such as state listening, would be names of files.
 

@@ -16,6 +16,7 @@ ghost use Rattle.sock_diag_captures.specs.Listing.{payload_lines, lines_after_he
 ghost use Rattle.sock_diag_captures.specs.Newer.{user_id};
 ghost use Rattle.sock_diag_captures.specs.Pieces.{attributes_or_error, first_content};
 ghost use Rattle.sock_diag_captures.specs.Pieces.{first_of_kind};
+ghost use Rattle.sock_diag_captures.specs.Selection.{lists_inet};
 ghost use Rattle.sock_diag_captures.specs.Table.{inet_kind, inet_line, inet_lines};
 ghost use Rattle.sock_diag_captures.specs.Table.{is_tcp};
 ghost use Rattle.sock_diag_captures.specs.Table.{unix_kind, unix_line, unix_lines};
@@ -30,7 +31,7 @@ use netlink_core::DecodeError;
 use sock_diag_attributes::unix::nlas::{NameView, NlaView};
 use sock_diag_extras::constants::UNIX_DIAG_UID;
 use sock_diag_extras::parse_uid;
-use sock_diag_listing::Options;
+use sslist_options::Options;
 use sock_diag_listing::cells::{
     Cells, push_endpoint, push_endpoint_column, push_first_columns, push_peer,
 };
@@ -285,7 +286,7 @@ fn push_inet_output(
     if !options.json {
         return push_inet_lines(text, options, protocol, timer, header, attributes);
     }
-    if !options.lists_inet(protocol, header) {
+    if !lists_inet(options, protocol, header) {
         return Ok(());
     }
     push_inet_json(text, protocol, timer, header, attributes)
@@ -305,7 +306,7 @@ fn push_inet_lines(
         ++ inet_lines options protocol timer.now header.now
         (attributes_or_error 0 attributes.now)) }
 {
-    if !options.lists_inet(protocol, header) {
+    if !lists_inet(options, protocol, header) {
         return Ok(());
     }
     push_inet_line(text, protocol, header)?;
@@ -315,6 +316,19 @@ fn push_inet_lines(
     };
     push_details(text, options, sockets, timer, cookie, attributes)?;
     Ok(text.push(b'\n')?)
+}
+
+/// Returns whether the IPv4 or IPv6 socket with this header is listed: if sockets of its protocol,
+/// of its family and in its state are, and its ports meet the conditions on them. `protocol` is
+/// that of the request, if it is known.
+fn lists_inet(options: Options, protocol: Option<u32>, header: &InetResponseHeader) -> bool
+    ensures { result ≡ lists_inet options protocol header.now }
+{
+    let id = &header.socket_id;
+    options.lists_protocol(protocol)
+        && options.lists_version(header.family == AF_INET6)
+        && options.lists_state(header.state)
+        && options.filter.meets_ports(id.source_port, id.destination_port)
 }
 
 /// Returns whether the protocol of the request is TCP.

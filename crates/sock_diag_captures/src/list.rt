@@ -2,7 +2,7 @@
 
 ghost use Rattle.std.specs.Prelude.{◌≡◌, ◌↔◌, ◌≤◌, ◌<◌, ◌+◌, ◌++◌, IfOk, OnOk, IsTrue, length};
 ghost use Rattle.std.specs.Prelude.{option_map, Some};
-ghost use Rattle.program_streams.specs.Capture.{captured_packet};
+ghost use Rattle.netlink_captures.specs.Capture.{captured_packet};
 ghost use Rattle.sock_diag_captures.specs.Diagnostics.{DiagnosesContent, DiagnosesDatagram};
 ghost use Rattle.sock_diag_captures.specs.Diagnostics.{DiagnosesMessages, DiagnosesPacket};
 ghost use Rattle.sock_diag_captures.specs.Diagnostics.{interrupted_diagnostic, diagnostic_line};
@@ -31,9 +31,10 @@ use netlink_core::{
     DecodeError, MessageStrings, NETLINK_HEADER_LEN, NLM_F_REQUEST, NLMSG_NOOP, NLMSG_OVERRUN,
     NetlinkHeader, error_number,
 };
-use program_streams::{Packet, PacketHeader};
+use netlink_captures::{Packet, PacketHeader};
 use sock_diag_listing::output::{push_short, push_truncation};
-use sock_diag_listing::{Options, PacketOutput};
+use sock_diag_listing::PacketOutput;
+use sslist_options::Options;
 use std::alloc::AllocError;
 use std::error::Error;
 use std::fmt;

@@ -8,10 +8,12 @@ ghost use Rattle.sock_diag_captures.specs.Run.{Fails, Finishes};
 
 use crate::list::list_packet;
 use crate::requests::Requests;
-use program_streams::{CaptureError, ReadError, Sink, Source, send};
+use netlink_captures::CaptureError;
+use program_streams::{ReadError, Sink, Source, send};
 use sock_diag_listing::list_error::{read_header, read_packet};
 use sock_diag_listing::reports::report;
-use sock_diag_listing::{ListError, Options, PacketOutput};
+use sock_diag_listing::{ListError, PacketOutput};
+use sslist_options::Options;
 use std::alloc::Global;
 use std::io::{Read, Write};
 

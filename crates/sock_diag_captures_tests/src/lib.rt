@@ -1,4 +1,5 @@
-//! The tests of `sock_diag_captures`, `sock_diag_listing` and the captures of `program_streams`.
+//! The tests of `sock_diag_captures`, `sock_diag_listing`, `sslist_options`, `netlink_captures` and
+//! `program_streams`.
 #![tactic(auto)]
 
 #[cfg(test)]

@@ -520,7 +520,7 @@ sslist: packet 2: truncated to 32 of 72 bytes";
     tells(&rt, alloc, &[FRONT, "4800000001000000"], want);
     let want = "unsupported pcap version 3, expected 2";
     tells(&rt, alloc, &["d4c3b2a10300", FRONT, OF_100], want);
-    let want = "gzip is not supported; try gzip -dc FILE | sslist";
+    let want = "compressed by gzip; decompress it first, with gunzip";
     tells(&rt, alloc, &["1f8b0800", FRONT, OF_100], want);
     let want = "packet 1: packet length 262145 exceeds the maximum of 262144";
     tells(
@@ -547,7 +547,7 @@ fn errors_of_a_run_have_texts(rt: HostRuntime) {
 reading failed (os error 5)";
     assert!(rt; text.as_str() == want);
     let (full, closed) = (
-        ListError::Write(WriteError::Other),
+        ListError::Write(WriteError::Os(28)),
         ListError::Write(WriteError::Closed),
     );
     let (other, old) = (
@@ -555,7 +555,7 @@ reading failed (os error 5)";
         CaptureError::OtherVersion(1),
     );
     let text = format!(in rt.alloc(); "{full}, {closed}, {other}, {old}").expect(&rt, "memory");
-    let want = "writing to standard output failed, the output pipe is closed, \
+    let want = "writing to standard output failed (os error 28), the output pipe is closed, \
 neither a pcap nor a pcapng capture: its first four bytes are 0x00000a0b, \
 unsupported pcap version 1, expected 2";
     assert!(rt; text.as_str() == want);

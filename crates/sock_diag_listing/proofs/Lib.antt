@@ -3,7 +3,4 @@ pub mod Utf8Names
 pub mod ShownNames
 pub mod VisibleNames
 pub mod Reporting
-pub mod Choosing
-pub mod Listed
-pub mod OptionsEquality
 pub mod JsonWriting

@@ -11,7 +11,7 @@ use Rattle.sock_diag_listing.specs.declared.list_error.ListError.{ListError}
 use Rattle.sock_diag_listing.specs.declared.list_error.ListError.TheVariants.{Header, Packet}
 use Rattle.sock_diag_listing.specs.declared.list_error.ListError.TheVariants.{Memory}
 use Rattle.sock_diag_listing.specs.declared.list_error.ListError.TheVariants.{Write}
-use Rattle.program_streams.specs.declared.streams.WriteError.TheVariants.{Closed, Other}
+use Rattle.program_streams.specs.declared.streams.WriteError.TheVariants.{Closed, Os, Other}
 
 -- Two texts that are reported are their concatenation.
 pub reports_then : (a b c : Option (List ℕ)) (f g h : Type 0) (o p q : Bool) (x y : List ℕ)
@@ -79,6 +79,7 @@ reports_prefix a b g false text (sent, more, split, appended, failed) =
 pub closing_other : (front : List ℕ) (e : ListError) → (e ≡ Write Closed → ⊥)
     → closing_line front e ≡ front ++ list_error_text e ++ 10 ∷ []
 closing_other front (Write Closed) other = absurd (other refl)
+closing_other front (Write (Os code)) other = refl
 closing_other front (Write Other) other = refl
 closing_other front (Header error) other = refl
 closing_other front (Packet packet error) other = refl

@@ -1,15 +1,10 @@
 pub mod Escapes
 pub mod Widths
-pub mod Options
 pub mod Cells
 pub mod CellsModel
 pub mod Parts
 pub mod Times
-pub mod Choice
-pub mod Files
 pub mod Reports
 pub mod JsonData
 pub mod private
-pub mod Filter
-pub mod laws
 pub mod JsonWriting

@@ -4,9 +4,9 @@ use Rattle.std.specs.Prelude.{ℕ, ◌==◌, if◌then◌else◌, List, [], ◌�
 use Rattle.std.specs.Prelude.{bit_and, ◌||◌, Option, None, Some}
 use Rattle.std.specs.Fmt.{digits}
 use Rattle.byteorder.specs.Endian.{little_number}
-use Rattle.sock_diag_listing.specs.Options.{shows_detail}
-use Rattle.sock_diag_listing.specs.declared.options.Detail.TheVariants.{Timer, Extended}
-use Rattle.sock_diag_listing.specs.declared.options.Options.{Options}
+use Rattle.sslist_options.specs.Options.{shows_detail}
+use Rattle.sslist_options.specs.declared.options.Detail.TheVariants.{Timer, Extended}
+use Rattle.sslist_options.specs.declared.options.Options.{Options}
 use Rattle.sock_diag_listing.specs.declared.parts.TimerFields.{TimerFields}
 
 -- a space, the name, a colon and a number in decimal

@@ -3,9 +3,10 @@
 use Rattle.std.specs.Prelude.{◌≡◌, ℕ, nat_lt, if◌then◌else◌, Bool, true, false, List, [], ◌∷◌, ◌++◌}
 use Rattle.std.specs.Prelude.{codes, decimal, Option}
 use Rattle.std.specs.Io.KnownBytes.{Appends}
-use Rattle.program_streams.specs.ErrorText.{capture_error_text}
+use Rattle.netlink_captures.specs.ErrorText.{capture_error_text}
 use Rattle.program_streams.specs.Streams.{write_error_text}
-use Rattle.program_streams.specs.declared.streams.WriteError.TheVariants.{Closed, Other}
+use Rattle.program_streams.specs.declared.streams.WriteError.{WriteError}
+use Rattle.program_streams.specs.declared.streams.WriteError.TheVariants.{Closed, Os, Other}
 use Rattle.sock_diag_listing.specs.declared.list_error.ListError.{ListError}
 use Rattle.sock_diag_listing.specs.declared.list_error.ListError.TheVariants.{Header, Packet}
 use Rattle.sock_diag_listing.specs.declared.list_error.ListError.TheVariants.{Write}
@@ -37,13 +38,19 @@ short_line front packet = packet_line front packet (codes "fewer than 16 bytes")
 
 -- ---- failures
 
+-- the text of a failed write or flush of standard output
+abbrev pub output_error_text : WriteError → List ℕ
+output_error_text Closed = write_error_text Closed
+output_error_text (Os code) =
+    codes "writing to standard output failed (os error " ++ decimal code ++ codes ")"
+output_error_text Other = codes "writing to standard output failed"
+
 -- the text of an error of a run
 abbrev pub list_error_text : ListError → List ℕ
 list_error_text (Header error) = capture_error_text error
 list_error_text (Packet packet error) =
     codes "packet " ++ decimal packet ++ codes ": " ++ capture_error_text error
-list_error_text (Write Closed) = write_error_text Closed
-list_error_text (Write Other) = codes "writing to standard output failed"
+list_error_text (Write error) = output_error_text error
 list_error_text Memory = codes "out of memory"
 
 -- the line that names a failure, or nothing if the failure is a closed output pipe

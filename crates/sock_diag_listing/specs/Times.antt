@@ -4,9 +4,9 @@ use Rattle.std.specs.Prelude.{false, List, [], ◌∷◌, ◌++◌, Some}
 use Rattle.jiff.specs.Words.{civil_nanos, days_in_month}
 use Rattle.jiff_core.specs.declared.civil.datetime.DateTime.{DateTime}
 use Rattle.jiff_fmt.specs.Text.{datetime_text, pad2, pad4, places, zulu_text}
-use Rattle.program_streams.specs.declared.captures.PacketHeader.{PacketHeader}
-use Rattle.program_streams.specs.declared.captures.TimeUnit.{TimeUnit}
-use Rattle.program_streams.specs.declared.captures.TimeUnit.TheVariants.{Microseconds, Nanoseconds}
+use Rattle.netlink_captures.specs.declared.captures.PacketHeader.{PacketHeader}
+use Rattle.netlink_captures.specs.declared.captures.TimeUnit.{TimeUnit}
+use Rattle.netlink_captures.specs.declared.captures.TimeUnit.TheVariants.{Microseconds, Nanoseconds}
 
 -- a fraction of a second in this unit, in nanoseconds
 abbrev pub fraction_in_nanoseconds : TimeUnit → ℕ → ℕ

@@ -3,9 +3,7 @@
 ghost use Rattle.std.specs.Prelude.{◌≡◌, ◌↔◌, IsTrue, IsOk, IfOk};
 
 use crate::cells::Cells;
-use crate::choice::Choice;
 use crate::list_error::ListError;
-use crate::options::{Detail, Family, Options};
 use crate::parts::TimerFields;
 use std::alloc::AllocError;
 
@@ -16,39 +14,8 @@ pub fn equal_list_errors(v: &ListError, w: &ListError) -> bool
     v == w
 }
 
-/// Compares two sets of options by `==`, which is true if and only if they are equal.
-pub fn equal_options(v: &Options, w: &Options) -> bool
-    ensures { IsTrue result ↔ (v.now ≡ w.now) }
-{
-    v == w
-}
-
 /// Copies an error of a run by `clone`, which never fails and returns an equal value.
 pub fn copied_list_error(v: &ListError) -> Result<ListError, AllocError>
-    ensures ok { IsOk result }
-    ensures same { IfOk result (λ copy. copy ≡ v.now) }
-{
-    v.clone()
-}
-
-/// Copies options by `clone`, which never fails and returns an equal value.
-pub fn copied_options(v: &Options) -> Result<Options, AllocError>
-    ensures ok { IsOk result }
-    ensures same { IfOk result (λ copy. copy ≡ v.now) }
-{
-    v.clone()
-}
-
-/// Copies a detail by `clone`, which never fails and returns an equal value.
-pub fn copied_detail(v: &Detail) -> Result<Detail, AllocError>
-    ensures ok { IsOk result }
-    ensures same { IfOk result (λ copy. copy ≡ v.now) }
-{
-    v.clone()
-}
-
-/// Copies a family by `clone`, which never fails and returns an equal value.
-pub fn copied_family(v: &Family) -> Result<Family, AllocError>
     ensures ok { IsOk result }
     ensures same { IfOk result (λ copy. copy ≡ v.now) }
 {
@@ -65,14 +32,6 @@ pub fn copied_cells(v: &Cells) -> Result<Cells, AllocError>
 
 /// Copies the fields of a timer by `clone`, which never fails and returns an equal value.
 pub fn copied_timer_fields(v: &TimerFields) -> Result<TimerFields, AllocError>
-    ensures ok { IsOk result }
-    ensures same { IfOk result (λ copy. copy ≡ v.now) }
-{
-    v.clone()
-}
-
-/// Copies a choice by `clone`, which never fails and returns an equal value.
-pub fn copied_choice<'a>(v: &Choice<'a>) -> Result<Choice<'a>, AllocError>
     ensures ok { IsOk result }
     ensures same { IfOk result (λ copy. copy ≡ v.now) }
 {

@@ -3,15 +3,16 @@
 ghost use Rattle.std.specs.Prelude.{◌≡◌, ◌↔◌, ◌++◌, List, ℕ, IfErr, IfOk, IsTrue};
 ghost use Rattle.std.specs.Prelude.{MatchOption, Some};
 ghost use Rattle.std.specs.Io.KnownBytes.{Consumes, IsAtEnd};
-ghost use Rattle.program_streams.specs.Capture.{captured_packet};
-ghost use Rattle.program_streams.specs.Reader.{IsCaptureEnd, IsCaptureStart, IsCaptureStartStop};
-ghost use Rattle.program_streams.specs.Reader.{IsCaptureStop, ReadsPacket, state_of};
+ghost use Rattle.netlink_captures.specs.Capture.{captured_packet};
+ghost use Rattle.netlink_captures.specs.Reader.{IsCaptureEnd, IsCaptureStart, IsCaptureStartStop};
+ghost use Rattle.netlink_captures.specs.Reader.{IsCaptureStop, ReadsPacket, state_of};
 ghost use Rattle.program_streams.specs.ErrorText.{error_text_bytes};
-ghost use Rattle.sock_diag_listing.specs.Reports.{list_error_text};
+ghost use Rattle.sock_diag_listing.specs.Reports.{list_error_text, output_error_text};
 ghost use Rattle.sock_diag_listing.specs.private.Report.{packet_number_prefix};
 ghost use Rattle.sock_diag_listing.specs.declared.list_error.ListError.TheVariants.{Memory, Write};
 
-use program_streams::{CaptureError, CaptureReader, ErrorText, PacketHeader, Source, WriteError};
+use netlink_captures::{CaptureError, CaptureReader, PacketHeader};
+use program_streams::{ErrorText, Source, WriteError};
 use std::alloc::{AllocError, Global};
 use std::error::Error;
 use std::fmt;
@@ -42,10 +43,7 @@ impl ListError {
     {
         match self {
             ListError::Header(error) | ListError::Packet { error, .. } => error.text(),
-            ListError::Write(WriteError::Other) => {
-                ErrorText::Plain("writing to standard output failed")
-            }
-            ListError::Write(WriteError::Closed) => ErrorText::Plain(WriteError::Closed.text()),
+            ListError::Write(error) => output_error_text(*error),
             ListError::Memory => ErrorText::Plain("out of memory"),
         }
     }
@@ -55,6 +53,23 @@ impl ListError {
         ensures { IsTrue result ↔ (self.now ≡ ListError.Write WriteError.Closed) }
     {
         *self == ListError::Write(WriteError::Closed)
+    }
+}
+
+/// Returns the text of a failed write or flush of standard output.
+fn output_error_text(error: WriteError) -> ErrorText
+    ensures { error_text_bytes result ≡ output_error_text error }
+{
+    match error {
+        WriteError::Closed => error.text(),
+        WriteError::Os(code) => {
+            ErrorText::Decimal(
+                "writing to standard output failed (os error ",
+                u64::from(code),
+                ")",
+            )
+        }
+        WriteError::Other => ErrorText::Plain("writing to standard output failed"),
     }
 }
 

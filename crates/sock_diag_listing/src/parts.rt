@@ -10,8 +10,8 @@ ghost use Rattle.sock_diag_listing.specs.Parts.{threshold_detail, timer_name};
 ghost use Rattle.sock_diag_listing.specs.Parts.{timer_text};
 
 use crate::cells::{push_hex, push_number};
-use crate::options::{Detail, Options};
 use byteorder::{ByteOrder, LittleEndian};
+use sslist_options::{Detail, Options};
 use std::alloc::AllocError;
 
 /// `RCV_SHUTDOWN`, the bit of a shutdown state for receiving.

@@ -6,7 +6,7 @@ ghost use Rattle.sock_diag_listing.specs.Times.{IsUtcText, nanoseconds, time_tex
 use arrayvec::ArrayString;
 use jiff::Timestamp;
 use jiff::fmt::temporal::DateTimePrinter;
-use program_streams::{PacketHeader, TimeUnit};
+use netlink_captures::{PacketHeader, TimeUnit};
 use std::alloc::AllocError;
 
 /// Number of nanoseconds in a second.

@@ -4,12 +4,12 @@
 ghost use Rattle.std.specs.Prelude.{⊤};
 
 use sock_diag_captures::{
-    Choice, HELP, ListCapture, Options, Rejection, VERSION, choose, escaped, heading,
-    list_captures, names_several, run_to_status,
+    Choice, HELP, ListCapture, ListError, Options, Rejection, Sink, VERSION, WriteError, choose,
+    escaped, heading, list_captures, names_several, run_to_status, send,
 };
 use std::alloc::{AllocError, Global};
 use std::fs::File;
-use std::io::{self, BufReader, ErrorKind, IsTerminal, Read};
+use std::io::{BufReader, ErrorKind, IsTerminal, Read};
 use std::process::ExitCode;
 use std::rt::Env;
 use std::{env, str};
@@ -36,8 +36,11 @@ fn main(rt: HostRuntime) -> ExitCode {
 /// Does what the arguments request.
 fn answer(rt: &HostRuntime, arguments: &[String]) -> ExitCode {
     match choose(arguments) {
-        Choice::Help => status_of(rt, rt.println(HELP)),
-        Choice::Version => status_of(rt, println!(rt; "sslist {VERSION}")),
+        Choice::Help => print(rt, HELP),
+        Choice::Version => match format!(in rt.alloc(); "sslist {VERSION}") {
+            Ok(text) => print(rt, text.as_str()),
+            Err(_) => out_of_memory(rt),
+        },
         Choice::Reject(reason, argument) => reject(rt, reason, argument),
         Choice::MissingFamily => {
             let _ = rt.eprintln("sslist: -f without a family; try sslist --help");
@@ -141,17 +144,25 @@ fn list<R: Read + Drop>(
     }
 }
 
-/// Returns status 0 if a text was printed. Otherwise reports the failure, except for a closed
-/// output pipe, and returns status 1.
-fn status_of(rt: &HostRuntime, printed: io::Result<()>) -> ExitCode {
-    match printed {
+/// Prints a text and a line feed on standard output. Returns status 0 if they were written.
+/// Otherwise reports the failure, except for a closed output pipe, and returns status 1.
+fn print(rt: &HostRuntime, text: &str) -> ExitCode {
+    let mut output = rt.stdout();
+    match print_line(&mut output, text) {
         Ok(()) => return ExitCode::SUCCESS,
-        Err(error) if error.kind() == ErrorKind::BrokenPipe => {}
-        Err(_) => {
-            let _ = rt.eprintln("sslist: writing to standard output failed");
+        Err(WriteError::Closed) => {}
+        Err(error) => {
+            let _ = eprintln!(rt; "sslist: {}", ListError::Write(error));
         }
     }
     ExitCode::FAILURE
+}
+
+/// Writes a text and a line feed, and flushes the output.
+fn print_line<W: Sink>(output: &mut W, text: &str) -> Result<(), WriteError> {
+    send(output, text.as_bytes())?;
+    send(output, b"\n")?;
+    output.flush()
 }
 
 /// Reports an argument that is rejected, with status 2.
@@ -188,7 +199,10 @@ fn rejection_text(alloc: Global, reason: Rejection, argument: &str) -> Result<St
         }
         Rejection::UnknownFamily => format!(in alloc; "unknown family {shown} after -f"),
         Rejection::UnknownFamilyValue => format!(in alloc; "unknown family in {shown}"),
-        Rejection::UnknownStateValue => format!(in alloc; "unknown state in {shown}"),
+        Rejection::UnknownStateValue => {
+            let form = "states are named as in the column State, such as LISTEN";
+            format!(in alloc; "unknown state in {shown}: {form}")
+        }
         Rejection::InvalidPortValue => {
             format!(in alloc; "invalid port in {shown}: a port is N, N- or -N")
         }

@@ -1,4 +1,4 @@
-use Rattle.program_streams.specs.Capture.{captured_packet}
+use Rattle.netlink_captures.specs.Capture.{captured_packet}
 use Rattle.sock_diag_captures.proofs.Diagnosing.{complete_if_not_truncated}
 use Rattle.sock_diag_captures.proofs.Listings.{listed_without_errors}
 use Rattle.sock_diag_captures.proofs.list.list_packet.Goals as goal

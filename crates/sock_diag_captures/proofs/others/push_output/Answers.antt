@@ -4,8 +4,8 @@ use Rattle.sock_diag_listing.specs.JsonData.{JsonMember}
 use Rattle.sock_diag_captures.specs.JsonListing.{other_output}
 use Rattle.sock_diag_captures.specs.Others.{other_lines}
 use Rattle.sock_diag_captures.specs.Pieces.{AttributeOrError}
-use Rattle.sock_diag_listing.specs.declared.options.Family.{Family}
-use Rattle.sock_diag_listing.specs.declared.options.Options.{Options}
+use Rattle.sslist_options.specs.declared.options.Family.{Family}
+use Rattle.sslist_options.specs.declared.options.Options.{Options}
 use Rattle.sock_diag_captures.specs.declared.others.OtherSocket.{OtherSocket}
 use Rattle.sock_diag_captures.proofs.others.push_output.Goals as goal
 

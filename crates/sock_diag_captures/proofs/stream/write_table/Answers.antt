@@ -4,7 +4,7 @@ use Rattle.std.proofs.KnownBytes.{Appends-kept, Appends-trans}
 use Rattle.std.proofs.KnownBytes.{Consumes-trans}
 use Rattle.std.proofs.lemmas.Result.{err_from_is_err_and}
 use Rattle.sock_diag_listing.proofs.Reporting.{reports_nothing, reports_then}
-use Rattle.program_streams.specs.Reader.{state_of}
+use Rattle.netlink_captures.specs.Reader.{state_of}
 use Rattle.sock_diag_listing.specs.Reports.{ReportsMore}
 use Rattle.sock_diag_captures.specs.Run.{lines_of_packet}
 use Rattle.sock_diag_captures.proofs.Failing.{fails_at_flush, fails_at_header, fails_at_heading}
@@ -177,3 +177,9 @@ returns-in_err-send-2-clause-cause g c =
     let p = err_from_is_err_and c.from_residual-in_err-send-2.result
     c.from_residual-in_err-send-2.ensures.1 in
     rw p.1 (write_cause _ _ _ p.2 c.in_err-send-2.ensures.stopped.0)
+
+pub returns-in_err-flush-clause-cause : goal.returns-in_err-flush-clause-cause
+returns-in_err-flush-clause-cause g c =
+    let p = err_from_is_err_and c.from_residual-in_err-flush.result
+    c.from_residual-in_err-flush.ensures.1 in
+    rw p.1 (write_cause _ _ _ p.2 c.in_err-flush.ensures.cause)

@@ -1,5 +1,5 @@
 use Rattle.std.proofs.Common.{◌≡◌}
-use Rattle.program_streams.specs.Reader.{state_of}
+use Rattle.netlink_captures.specs.Reader.{state_of}
 use Rattle.sock_diag_listing.specs.Reports.{ReportsMore}
 use Rattle.program_streams.specs.declared.streams.WriteError.{WriteError}
 use Rattle.sock_diag_captures.proofs.Progress.{Progress}

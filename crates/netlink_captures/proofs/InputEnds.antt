@@ -1,0 +1,45 @@
+-- Lemmas about the states of the input when reading stops.
+use Rattle.std.proofs.Common.{◌≡◌, ◌⊎◌, inl, inr, ℕ, ◌<◌, ◌≤◌, List, [], ◌++◌, length, sym}
+use Rattle.std.proofs.Common.{ap, subst, ◌∙◌, append-nil, arith}
+use Rattle.std.specs.Prelude.{Option}
+use Rattle.std.specs.Io.KnownBytes.{Consumes}
+use Rattle.std.proofs.KnownBytes.{Consumes-trans}
+use Rattle.netlink_captures.specs.Capture.{IsPacketStop}
+use Rattle.netlink_captures.specs.private.Capture.{IsReadStop}
+use Rattle.netlink_captures.specs.Capture.{number_at_offset}
+use Rattle.netlink_captures.specs.declared.captures.CaptureError.{CaptureError}
+use Rattle.netlink_captures.specs.declared.captures.CaptureError.TheVariants.{Memory}
+use Rattle.netlink_captures.specs.declared.captures.FileHeader.{FileHeader}
+
+stop_within_packet : (file : FileHeader) (left : Option (List ℕ)) (failed : Type 0)
+    (header part : List ℕ)
+    (e : CaptureError)
+    → length header ≡ 16 → length part < number_at_offset file.order 4 8 header
+    → IsReadStop left failed e
+    → IsPacketStop file left failed (header ++ part) e
+stop_within_packet file left failed header part e long short stop =
+    grind arith
+
+-- A stop after a packet header, while its packet is read, is a reason why no packet was read.
+pub packet_stops : (file : FileHeader) (a b c : Option (List ℕ)) (failed : Type 0) (header : List ℕ)
+    (e : CaptureError)
+    → length header ≡ 16 → number_at_offset file.order 4 8 header ≤ 262144 → Consumes a b header
+    → ((part : List ℕ) × Consumes b c part
+    × (((e ≡ Memory) × (part ≡ [])) ⊎ ((length part < number_at_offset file.order 4 8 header)
+    × IsReadStop c failed e)))
+    → (part : List ℕ) × Consumes a c part × IsPacketStop file c failed part e
+packet_stops file a b c failed header e long most first (part, read, stop) = elim stop [
+  | inl m ↦
+      let whole : Consumes a c header = subst (Consumes a c) (ap (λ (p : List ℕ). header ++ p) m.1
+      ∙ append-nil header) (Consumes-trans a b c header part first read) in (
+        header,
+        whole,
+        subst (λ (e : CaptureError). IsPacketStop file c failed header e) (sym m.0)
+            (long, most),
+      )
+  | inr s ↦ (
+    header ++ part,
+    Consumes-trans a b c header part first read,
+    stop_within_packet file c failed header part e long s.0 s.1,
+  )
+]

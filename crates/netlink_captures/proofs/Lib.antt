@@ -1,0 +1,3 @@
+pub mod InputEnds
+pub mod PcapngLemmas
+pub mod ReaderLemmas

@@ -1,0 +1,292 @@
+-- Lemmas about blocks of pcapng files.
+use Rattle.std.proofs.Common.{◌≡◌, ℕ, zero, suc, ◌+◌, ◌-◌, ◌<◌, ◌≤◌, List, [], ◌∷◌, ◌++◌, length}
+use Rattle.std.proofs.Common.{inl, inr, true, false, length-append}
+use Rattle.std.proofs.lemmas.Bool.Decides.{nat_tests}
+use Rattle.std.specs.Prelude.{◌≢◌, ◌==◌, ◌^◌}
+use Rattle.std.proofs.Common.{drop, refl, sym, ap, subst, ◌∙◌, append-nil, arith}
+use Rattle.std.proofs.lemmas.List.{drop-append-le}
+use Rattle.std.specs.Prelude.{MatchOption, Option, None, Some, Result, Ok, Err}
+use Rattle.std.specs.List.{concat}
+use Rattle.std.proofs.lemmas.List.Folds.{concat-append}
+use Rattle.std.proofs.Common.{length-drop}
+use Rattle.byteorder.specs.Endian.{little_from, big_from}
+use Rattle.byteorder.specs.Numbers.{little_from-append, big_from-append}
+use Rattle.netlink_captures.specs.Capture.{number_at_offset}
+use Rattle.netlink_captures.specs.declared.captures.ByteOrder.{ByteOrder}
+use Rattle.netlink_captures.specs.declared.captures.ByteOrder.TheVariants.{LittleEndian, BigEndian}
+use Rattle.netlink_captures.specs.declared.block_error.BlockError.TheVariants.{Options}
+use Rattle.netlink_captures.specs.declared.captures.CaptureError.{CaptureError}
+use Rattle.netlink_captures.specs.declared.captures.CaptureError.TheVariants.{Truncated}
+use Rattle.netlink_captures.specs.declared.captures.TimeUnit.TheVariants.{Microseconds}
+use Rattle.netlink_captures.specs.declared.pcapng.Content.{Content}
+use Rattle.netlink_captures.specs.declared.pcapng.Content.TheVariants.{Captured, Described}
+use Rattle.netlink_captures.specs.declared.pcapng.Content.TheVariants.{SectionHeader, Skipped}
+use Rattle.netlink_captures.specs.declared.pcapng.PacketSlot.{PacketSlot}
+use Rattle.netlink_captures.specs.private.Capture.{IsReadStop}
+use Rattle.netlink_captures.specs.private.Pcapng.{IsStopAfterHead, MovesOver}
+use Rattle.netlink_captures.specs.Pcapng.{HasFrame}
+use Rattle.netlink_captures.specs.Pcapng.{AreSkipped, IsBlock, IsBlockStop, IsFramed, IsInputStop}
+use Rattle.netlink_captures.specs.Pcapng.{IsNoPacket, Position, after_block, unit_in_option}
+use Rattle.netlink_captures.specs.Pcapng.{content_of, frame_of, is_section_header, option_size}
+use Rattle.netlink_captures.specs.Pcapng.{order_of_block}
+use Rattle.netlink_captures.specs.Pcapng.{order_or_error, unit_in, unit_or_next}
+
+-- A number in the first bytes does not depend on later bytes.
+pub number_at_offset-append : (order : ByteOrder) (n k : ℕ) (a b : List ℕ) → k + n ≤ length a
+    → number_at_offset order n k (a ++ b) ≡ number_at_offset order n k a
+number_at_offset-append LittleEndian n k a b within =
+    ap (little_from 0 n) (drop-append-le k a b (omega arith))
+    ∙ little_from-append n (drop k a) b (omega (arith, length-drop k a))
+number_at_offset-append BigEndian n k a b within =
+    ap (big_from 0 n) (drop-append-le k a b (omega arith))
+    ∙ big_from-append n (drop k a) b (omega (arith, length-drop k a))
+
+-- Whether a block is a section header is in its first four bytes.
+pub is_section_header-append : (a b : List ℕ) → 4 ≤ length a
+    → is_section_header (a ++ b) ≡ is_section_header a
+is_section_header-append a b long = rw (number_at_offset-append BigEndian 4 0 a b long) refl
+
+order_of_block-append : (order : ByteOrder) (a b : List ℕ) → 12 ≤ length a
+    → order_of_block order (a ++ b) ≡ order_of_block order a
+order_of_block-append order a b long =
+    rw (
+      number_at_offset-append BigEndian 4 0 a b (omega arith),
+      number_at_offset-append LittleEndian 4 8 a b (omega arith),
+      number_at_offset-append BigEndian 4 8 a b (omega arith),
+    ) refl
+
+order_or_error-append : (p : Position) (a b : List ℕ) (order : Option ByteOrder) → 12 ≤ length a
+    → order_or_error p (a ++ b) order ≡ order_or_error p a order
+order_or_error-append p a b None long = refl
+order_or_error-append p a b (Some order) long =
+    rw (number_at_offset-append order 4 4 a b (omega arith)) refl
+
+-- The frame of a block is in its first 12 bytes.
+pub frame_of-append : (p : Position) (a b : List ℕ) → 12 ≤ length a
+    → frame_of p (a ++ b) ≡ frame_of p a
+frame_of-append p a b long =
+    ap (order_or_error p (a ++ b)) (order_of_block-append p.order a b long)
+    ∙ order_or_error-append p a b (order_of_block p.order a) long
+
+-- Bytes after the first 12 do not change the frame.
+pub has_frame-append : (p : Position) (a b : List ℕ) → 12 ≤ length a → HasFrame p a
+    → HasFrame p (a ++ b)
+has_frame-append p a b long frame = (frame.0, frame_of-append p a b long ∙ frame.1)
+
+-- ---- the options of an interface
+
+-- The unit of timestamps is that of the first option, or that of the others.
+unit_in_step : (count : ℕ) (order : ByteOrder) (options : List ℕ) → 0 < count
+    → unit_in count order options
+    ≡ unit_or_next order options
+    (unit_in (count - 1) order (drop (option_size order options) options))
+unfolding unit_in
+unit_in_step zero order options some = absurd (omega arith)
+unit_in_step (suc n) order options some =
+    let same : n ≡ suc n - 1 = omega arith in
+    ap (λ (k : ℕ). unit_or_next order options
+    (unit_in k order (drop (option_size order options) options))) same
+
+-- No options are left.
+pub unit_at_end : (count : ℕ) (order : ByteOrder) (options : List ℕ) → 0 < count
+    → (length options == 0) ≡ true → unit_in count order options ≡ Ok Microseconds
+unit_at_end count order options some none =
+    unit_in_step count order options some ∙ (rw none refl)
+
+-- Fewer bytes are left than the header of an option has.
+pub unit_cut : (count : ℕ) (order : ByteOrder) (options : List ℕ) → 0 < count
+    → (length options == 0) ≡ false → length options < 4
+    → unit_in count order options ≡ Err Options
+unit_cut count order options some more short =
+    unit_in_step count order options some ∙ grind (arith, nat_tests)
+
+-- The option is the last one.
+pub unit_after_last : (count : ℕ) (order : ByteOrder) (options : List ℕ) → 0 < count
+    → 4 ≤ length options → number_at_offset order 2 0 options ≡ 0
+    → unit_in count order options ≡ Ok Microseconds
+unit_after_last count order options some long last =
+    unit_in_step count order options some ∙ grind (arith, nat_tests)
+
+-- The option is longer than what is left.
+pub unit_past : (count : ℕ) (order : ByteOrder) (options : List ℕ) → 0 < count
+    → 4 ≤ length options → number_at_offset order 2 0 options ≢ 0
+    → length options < option_size order options
+    → unit_in count order options ≡ Err Options
+unit_past count order options some long other past =
+    unit_in_step count order options some ∙ grind (arith, nat_tests)
+
+-- The option has the unit.
+pub unit_found : (count : ℕ) (order : ByteOrder) (options : List ℕ) → 0 < count
+    → 4 ≤ length options → number_at_offset order 2 0 options ≡ 9
+    → option_size order options ≤ length options
+    → unit_in count order options ≡ unit_in_option order options
+unit_found count order options some long found within =
+    unit_in_step count order options some ∙ grind (arith, nat_tests)
+
+-- The option is another one.
+pub unit_later : (count : ℕ) (order : ByteOrder) (options : List ℕ) → 0 < count
+    → 4 ≤ length options → number_at_offset order 2 0 options ≢ 0
+    → number_at_offset order 2 0 options ≢ 9
+    → option_size order options ≤ length options
+    → unit_in count order options
+    ≡ unit_in (count - 1) order (drop (option_size order options) options)
+unit_later count order options some long other missed within =
+    unit_in_step count order options some ∙ grind (arith, nat_tests)
+
+-- The unit is that of no options.
+pub unit_of_none : (order : ByteOrder) (options : List ℕ)
+    → unit_in 0 order options ≡ Ok Microseconds
+unfolding unit_in
+unit_of_none order options = refl
+
+-- ---- consecutive blocks
+
+-- One more block without a packet.
+pub skipped_push : (blocks : List (List ℕ)) (p q : Position) (block : List ℕ)
+    (order : ByteOrder) (content : Content)
+    → AreSkipped p blocks q → IsBlock q block order content → IsNoPacket content
+    → AreSkipped p (blocks ++ block ∷ []) (after_block q order content (length block))
+skipped_push [] p q block order content none valid other =
+    subst (λ (r : Position). AreSkipped r (block ∷ [])
+    (after_block q order content (length block))) none (order, content, valid, other, refl)
+skipped_push (first ∷ blocks) p q block order content (o, c, valid', other', later) valid other = (
+  o,
+  c,
+  valid',
+  other',
+  skipped_push blocks _ q block order content later valid other,
+)
+
+-- The bytes of one more block.
+pub concat_push : (blocks : List (List ℕ)) (block : List ℕ)
+    → concat (blocks ++ block ∷ []) ≡ concat blocks ++ block
+concat_push blocks block =
+    concat-append blocks (block ∷ [])
+    ∙ ap (λ (l : List ℕ). concat blocks ++ l) (append-nil block)
+
+-- ---- the bytes of a block
+
+-- A whole block is its first 12 bytes and as many more as its length has.
+pub framed : (p : Position) (head rest : List ℕ) (order : ByteOrder) → length head ≡ 12
+    → frame_of p head ≡ Ok order → 12 + length rest ≡ number_at_offset order 4 4 head
+    → IsFramed p (head ++ rest) order
+framed p head rest order long ok whole = record {
+  long = omega (arith, length-append head rest);
+  frame = frame_of-append p head rest (omega arith) ∙ ok;
+  whole = number_at_offset-append order 4 4 head rest (omega arith)
+      ∙ (omega (arith, length-append head rest));
+}
+
+input_stop : (left : Option (List ℕ)) (failed : Type 0) (part : List ℕ) (e : CaptureError)
+    → 0 < length part → IsReadStop left failed e → IsInputStop left failed part e
+input_stop left failed part e some stop =
+    grind arith
+
+truncated_stop : (left : Option (List ℕ)) (failed : Type 0) (part : List ℕ) (e : CaptureError)
+    → (e ≡ Truncated → 0 < length part) → IsReadStop left failed e → IsInputStop left failed part e
+truncated_stop left failed part e some stop =
+    grind arith
+
+-- A stop before the first 12 bytes of a block is a reason why the block was not read.
+pub stop_in_head : (p : Position) (left : Option (List ℕ)) (failed : Type 0) (part : List ℕ)
+    (e : CaptureError)
+    → length part < 12 → (e ≡ Truncated → 0 < length part) → IsReadStop left failed e
+    → IsBlockStop p left failed part e
+stop_in_head p left failed part e short some stop =
+    inl (inl short, truncated_stop left failed part e some stop)
+
+-- A stop after the first 12 bytes of a block is a reason why the block was not read.
+pub stop_after_head : (p : Position) (left : Option (List ℕ)) (failed : Type 0)
+    (head part : List ℕ) (e : CaptureError) → length head ≡ 12
+    → IsStopAfterHead p left failed head part e → IsBlockStop p left failed (head ++ part) e
+stop_after_head p left failed head part e long stop = elim stop [
+  | inl s ↦ inr (inr (inl (
+    omega (arith, length-append head part, s.1),
+    frame_of-append p head part (omega arith) ∙ s.0,
+  )))
+  | inr (inl s) ↦ inr (inl (
+    omega (arith, length-append head part),
+    has_frame-append p head part (omega arith) s.0,
+    s.1,
+  ))
+  | inr (inr (order, ok, short, s)) ↦ inl (
+    inr (
+      order,
+      frame_of-append p head part (omega arith) ∙ ok,
+      omega (
+        arith,
+        short,
+        length-append head part,
+        number_at_offset-append order 4 4 head part (omega arith),
+      ),
+    ),
+    input_stop left failed (head ++ part) e (omega (arith, length-append head part)) s,
+  )
+]
+
+frame_or_error_fits : (p : Position) (block : List ℕ) (order : ByteOrder) (o : Option ByteOrder)
+    → order_or_error p block o ≡ Ok order
+    → p.offset + number_at_offset order 4 4 block < 2 ^ 64
+frame_or_error_fits p block order None h = absurd (cc)
+frame_or_error_fits p block order (Some x) h =
+    grind (arith, nat_tests)
+
+-- A block with a valid frame ends at an offset that fits 64 bits.
+pub frame_fits : (p : Position) (block : List ℕ) (order : ByteOrder)
+    → frame_of p block ≡ Ok order → p.offset + number_at_offset order 4 4 block < 2 ^ 64
+frame_fits p block order h = frame_or_error_fits p block order (order_of_block p.order block) h
+
+same_content : (p q : Position) (order : ByteOrder) (a b : List ℕ)
+    (content : Result Content CaptureError) → p ≡ q → a ≡ b → content ≡ content_of p order a
+    → content ≡ content_of q order b
+same_content p q order a b content same equal is =
+    is ∙ ap (λ (x : Position). content_of x order a) same
+    ∙ ap (λ (l : List ℕ). content_of q order l) equal
+
+-- A whole block with an invalid content was not read.
+pub stop_at_content : (p q : Position) (left : Option (List ℕ)) (failed : Type 0)
+    (head rest block shown : List ℕ) (order : ByteOrder) (e : CaptureError)
+    → length head ≡ 12 → frame_of p head ≡ Ok order
+    → 12 + length rest ≡ number_at_offset order 4 4 head → block ≡ head ++ rest → shown ≡ block
+    → q ≡ p → Err e ≡ content_of q order shown
+    → IsBlockStop p left failed (head ++ rest) e
+stop_at_content p q left failed head rest block shown order e long ok whole stored same kept is =
+    inr (inr (inr (
+      order,
+      framed p head rest order long ok whole,
+      sym (same_content q p order shown (head ++ rest) (Err e) kept (same ∙ stored) is),
+    )))
+
+-- A valid block was read, from the position `p` to `p'`.
+pub moved_over : (p q p' : Position) (head rest block block' shown : List ℕ) (order : ByteOrder)
+    (content : Content) → length head ≡ 12 → frame_of p head ≡ Ok order
+    → 12 + length rest ≡ number_at_offset order 4 4 head → block ≡ head ++ rest
+    → block' ≡ block → shown ≡ block → q ≡ p → Ok content ≡ content_of q order shown
+    → p' ≡ after_block q order content (length block)
+    → MovesOver p block' content p'
+moved_over p q p' head rest block block' shown order content long ok whole stored kept_block same
+    kept is moved = (
+      order,
+      record {
+        framed = subst (λ (l : List ℕ). IsFramed p l order) (sym (kept_block ∙ stored))
+            (framed p head rest order long ok whole);
+        valid = sym (same_content q p order shown block' (Ok content) kept
+            (same ∙ sym kept_block) is);
+      },
+      moved ∙ ap (λ (x : Position). after_block x order content (length block)) kept
+          ∙ ap (λ (l : List ℕ). after_block p order content (length l)) (sym kept_block),
+    )
+
+-- A content that is not a packet.
+pub no_packet : (content : Content) → ((slot : PacketSlot) → content ≡ Captured slot → ⊥)
+    → IsNoPacket content
+no_packet (Captured slot) other = other slot refl
+no_packet SectionHeader other = tt
+no_packet (Described i) other = tt
+no_packet Skipped other = tt
+
+-- If there is no block, the clause of the end of the input holds.
+pub none_found : {A : Type 0} (found : Option A) (P : Type 0) (Q : A → Type 0)
+    → ((x : A) → found ≡ Some x → ⊥) → MatchOption found P Q → P
+none_found None P Q other h = h
+none_found (Some x) P Q other h = absurd (other x refl)

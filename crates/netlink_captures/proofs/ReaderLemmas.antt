@@ -1,0 +1,110 @@
+-- Lemmas about the state of a reader of captures.
+use Rattle.std.proofs.Common.{◌≡◌, ◌⊎◌, inl, inr, ℕ, ◌<◌, ◌≤◌, List, [], ◌++◌, length, refl, arith}
+use Rattle.std.proofs.Common.{false, length-append}
+use Rattle.std.specs.Prelude.{Option}
+use Rattle.netlink_captures.proofs.PcapngLemmas.{is_section_header-append, number_at_offset-append}
+use Rattle.netlink_captures.specs.Capture.{IsFileHeaderError, IsPacketStop}
+use Rattle.netlink_captures.specs.private.Capture.{IsReadStop}
+use Rattle.netlink_captures.specs.Pcapng.{IsBlockStop, IsInputStop, Position, is_section_header}
+use Rattle.netlink_captures.specs.Reader.{CaptureState, HasMagic, IsCaptureEnd}
+use Rattle.netlink_captures.specs.Reader.{IsCaptureStartStop, IsCaptureStop, IsEarlyReadStop}
+use Rattle.netlink_captures.specs.Reader.{in_pcap, in_pcapng}
+use Rattle.netlink_captures.specs.declared.captures.ByteOrder.TheVariants.{BigEndian, LittleEndian}
+use Rattle.netlink_captures.specs.declared.captures.CaptureError.{CaptureError}
+use Rattle.netlink_captures.specs.declared.captures.CaptureError.TheVariants.{Memory, PacketTooLong}
+use Rattle.netlink_captures.specs.declared.captures.CaptureError.TheVariants.{Read, Truncated}
+use Rattle.netlink_captures.specs.declared.captures.FileHeader.{FileHeader}
+use Rattle.program_streams.specs.declared.streams.ReadError.{ReadError}
+
+-- A capture may end at once after any state.
+pub nothing_more : (s : CaptureState) → IsCaptureEnd s []
+nothing_more (in_pcap file) = refl
+nothing_more (in_pcapng p) = (p, ([], refl, refl))
+
+-- A read may fail at once after any state.
+pub stopped_at_once : (s : CaptureState) (left : Option (List ℕ)) (failed : Type 0)
+    (error : ReadError) → failed → IsCaptureStop s left failed [] (Read error)
+stopped_at_once (in_pcap file) left failed error h = (inl (omega arith), h)
+stopped_at_once (in_pcapng p) left failed error h = record {
+  blocks = [];
+  mid = p;
+  rest = [];
+  skipped = refl;
+  parts = refl;
+  stopped = inl (inl (omega arith), h);
+}
+
+packet_stop_for_either : (file : FileHeader) (left : Option (List ℕ)) (A B : Type 0)
+    (part : List ℕ) (e : CaptureError)
+    → IsPacketStop file left A part e → IsPacketStop file left (A ⊎ B) part e
+packet_stop_for_either file left A B part Truncated h = h
+packet_stop_for_either file left A B part (Read error) h = (h.0, inl h.1)
+packet_stop_for_either file left A B part Memory h = h
+packet_stop_for_either file left A B part (PacketTooLong count) h = h
+packet_stop_for_either file left A B part _ h = h
+
+input_stop_for_either : (left : Option (List ℕ)) (A B : Type 0) (part : List ℕ) (e : CaptureError)
+    → IsInputStop left A part e → IsInputStop left (A ⊎ B) part e
+input_stop_for_either left A B part Truncated h = h
+input_stop_for_either left A B part (Read error) h = inl h
+input_stop_for_either left A B part _ h = h
+
+block_stop_for_either : (p : Position) (left : Option (List ℕ)) (A B : Type 0) (part : List ℕ)
+    (e : CaptureError) → IsBlockStop p left A part e → IsBlockStop p left (A ⊎ B) part e
+block_stop_for_either p left A B part e h = elim h [
+  | inl s ↦ inl (s.0, input_stop_for_either left A B part e s.1)
+  | inr s ↦ inr s
+]
+
+-- A reason to stop for one cause is a reason to stop for one of two causes.
+pub stopped_for_either : (s : CaptureState) (left : Option (List ℕ)) (A B : Type 0)
+    (part : List ℕ) (e : CaptureError)
+    → IsCaptureStop s left A part e → IsCaptureStop s left (A ⊎ B) part e
+stopped_for_either (in_pcap file) left A B part e h =
+    packet_stop_for_either file left A B part e h
+stopped_for_either (in_pcapng p) left A B part e h = record {
+  blocks = h.blocks;
+  mid = h.mid;
+  rest = h.rest;
+  skipped = h.skipped;
+  parts = h.parts;
+  stopped = block_stop_for_either h.mid left A B h.rest e h.stopped;
+}
+
+-- Bytes after the first four do not change the magic number.
+magic-append : (a b : List ℕ) → 4 ≤ length a → HasMagic a → HasMagic (a ++ b)
+magic-append a b long found =
+    rw (
+      number_at_offset-append BigEndian 4 0 a b long,
+      number_at_offset-append LittleEndian 4 0 a b long,
+    ) found
+
+-- A stop within the header of a capture, after its magic number, is one of its reasons to stop.
+pub early_stop : (left : Option (List ℕ)) (failed : Type 0) (head part : List ℕ) (e : CaptureError)
+    → 4 ≤ length head → HasMagic head → IsReadStop left failed e
+    → IsEarlyReadStop left failed (head ++ part) e
+early_stop left failed head part Truncated long found stop = (
+  omega (arith, length-append head part, long),
+  magic-append head part long found,
+  stop,
+)
+early_stop left failed head part (Read error) long found stop = stop
+early_stop left failed head part _ long found stop = absurd stop
+
+-- A stop within the file header of a pcap file, after its first 12 bytes, or an invalid one, is a
+-- reason why the capture could not be opened.
+pub pcap_stop : (left : Option (List ℕ)) (failed : Type 0) (head part : List ℕ) (e : CaptureError)
+    → length head ≡ 12 → HasMagic head → is_section_header head ≡ false
+    → ((length part < 12) × IsReadStop left failed e)
+    ⊎ ((length part ≡ 12) × IsFileHeaderError (head ++ part) e)
+    → IsCaptureStartStop left failed (head ++ part) e
+pcap_stop left failed head part e long found other stop =
+    let same = is_section_header-append head part (omega arith) in
+    let joined = length-append head part in
+    elim stop [
+      | inl s ↦ inl (
+        omega (arith, joined, s.0),
+        early_stop left failed head part e (omega (arith, long)) found s.1,
+      )
+      | inr s ↦ inr (inl (omega (arith, joined, s.0), λ is. absurd (cc (same, other, is)), s.1))
+    ]

@@ -1,0 +1,3 @@
+-- Definitions that only the contracts of private functions need.
+pub mod Capture
+pub mod Pcapng

@@ -1,0 +1,15 @@
+//! The command line of `sslist`: the options, by which it selects sockets and details, and the
+//! names of the captures.
+#![tactic(auto)]
+
+mod arguments;
+mod choice;
+mod files;
+mod filter;
+pub mod laws;
+mod options;
+
+pub use choice::{Choice, Rejection, choose};
+pub use files::{ListCapture, list_captures, names_several};
+pub use filter::{PortCondition, SocketFilter};
+pub use options::{Detail, Family, Options};
