@@ -1,12 +1,11 @@
 #!/bin/sh
-# library.sh [--of-gate [JOBS]]: builds the C library, crates/sockdiag_c/out/libsockdiag_c.a, unless
-# it is newer than every source.
+# library.sh [--of-gate]: builds the C library, crates/sockdiag_c/out/libsockdiag_c.a, unless it is
+# newer than every source.
 #
 # Without an argument it runs `rt lib`, which proves each library that it cannot use. `rt ci` leaves
 # only the statements of the libraries that it proved, and `rt lib` uses none of them. So the gate
 # calls this script with --of-gate: the script then proves sockdiag_c over what `rt ci` left, and
-# compiles it, with as many jobs as there are processors, at most four, or JOBS. If `rt ci` has put
-# back what was built before it, `rt lib` is quick.
+# compiles it. If `rt ci` has put back what was built before it, `rt lib` is quick.
 set -eu
 cd "$(dirname -- "$0")/../.."
 crate=crates/sockdiag_c
@@ -34,7 +33,7 @@ fi
 
 kit=$(dirname -- "$(dirname -- "$(readlink -f -- "$(command -v rt)")")")
 top=$PWD
-jobs=${2:-$(nproc)}
+jobs=$(nproc)
 if [ "$jobs" -gt 4 ]; then jobs=4; fi
 set -- --extern "std=$kit/rlibs/std.rlib"
 for name in $(sed -n 's/^sockdiag_c staticlib://p' crates.txt); do

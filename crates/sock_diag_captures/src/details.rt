@@ -2,6 +2,7 @@
 //! invalid.
 
 ghost use Rattle.std.specs.Prelude.{◌≡◌, ◌≤◌, ◌++◌, Ok, flat_map, codes, length, OnOk};
+ghost use Rattle.sock_diag_listing.specs.Escapes.{shown_name};
 ghost use Rattle.sock_diag_listing.specs.Parts.{detail, separator, details_after_separator};
 ghost use Rattle.netlink_core.specs.Walk.{buffered_attribute};
 ghost use Rattle.sock_diag_attributes.specs.InetModel.{inet_nla_view_model as inet_view_model};
@@ -9,7 +10,8 @@ ghost use Rattle.sock_diag_attributes.specs.InetModel.{inet_variant};
 ghost use Rattle.sock_diag_attributes.specs.NumbersModel.{numbers_view_model};
 ghost use Rattle.sock_diag_attributes.specs.UnixModel.{unix_nla_view_model as unix_view_model};
 ghost use Rattle.sock_diag_attributes.specs.UnixModel.{unix_variant};
-ghost use Rattle.sock_diag_captures.specs.Details.{attribute_or_error_detail, detail_group};
+ghost use Rattle.sock_diag_captures.specs.Details.{attribute_or_error_detail, attribute_text};
+ghost use Rattle.sock_diag_captures.specs.Details.{detail_group};
 ghost use Rattle.sock_diag_captures.specs.Details.{details, inet_text};
 ghost use Rattle.sock_diag_captures.specs.Details.{invalid_attribute_text, legacy_memory};
 ghost use Rattle.sock_diag_captures.specs.Details.{memory_kind, memory_text, memory_value_text};
@@ -171,9 +173,23 @@ fn push_attribute(
     ensures { OnOk result (text.new.items ≡ text.old.items
         ++ attribute_or_error_detail options sockets (Ok (buffered_attribute nla.now))) }
 {
-    if !options.shows(detail_group(sockets, nla.kind())) {
-        return Ok(());
+    if options.shows(detail_group(sockets, nla.kind())) {
+        push_attribute_text(text, options, sockets, nla)
+    } else {
+        Ok(())
     }
+}
+
+/// Appends the details of an attribute. If its value is invalid, appends the reason.
+fn push_attribute_text(
+    text: &mut Vec<u8>,
+    options: Options,
+    sockets: Sockets,
+    nla: &NlaBuffer<'_>,
+) -> Result<(), AllocError>
+    ensures { OnOk result (text.new.items ≡ text.old.items
+        ++ attribute_text options sockets (buffered_attribute nla.now)) }
+{
     match sockets {
         Sockets::Unix => match UnixView::parse(nla) {
             Ok(view) => push_unix(text, nla, &view),
@@ -262,10 +278,7 @@ fn push_inet(
     match view {
         InetView::LegacyMemInfo(memory) => push_legacy_memory(text, memory),
         InetView::TcpInfo(info) => push_tcp(text, info, nla.value()),
-        InetView::Congestion(name) => {
-            text.extend_from_slice(b" cong:")?;
-            push_shown(text, options.utf8, name.as_bytes())
-        }
+        InetView::Congestion(name) => push_congestion(text, options.utf8, name.as_bytes()),
         InetView::Tos(tos) => push_hex_detail(text, b"tos", (*tos).into()),
         InetView::Tc(class) => push_hex_detail(text, b"tclass", (*class).into()),
         InetView::MemInfo(memory) => push_memory(text, memory),
@@ -276,6 +289,15 @@ fn push_inet(
         InetView::ClassId(class) => push_hex_detail(text, b"class_id", (*class).into()),
         InetView::Other(_) => push_inet_newer(text, nla),
     }
+}
+
+/// Appends the name of the congestion control algorithm.
+fn push_congestion(text: &mut Vec<u8>, utf8: bool, name: &[u8]) -> Result<(), AllocError>
+    ensures { OnOk result (text.new.items
+        ≡ text.old.items ++ codes " cong:" ++ shown_name utf8 name.now) }
+{
+    text.extend_from_slice(b" cong:")?;
+    push_shown(text, utf8, name)
 }
 
 /// Appends the details of an attribute of a netlink, packet, vsock or XDP socket: of the memory,

@@ -181,7 +181,14 @@ fn rejection_text(alloc: Global, reason: Rejection, argument: &str) -> Result<St
     let shown = escaped(alloc, argument.as_bytes())?;
     match reason {
         Rejection::UnknownOption => format!(in alloc; "unknown option {shown}"),
-        Rejection::UnknownLetter(letter) => unknown_letter_text(alloc, letter, shown),
+        // A hyphen and one letter.
+        Rejection::UnknownLetter(_) if argument.len() == 2 => {
+            format!(in alloc; "unknown option {shown}")
+        }
+        Rejection::UnknownLetter(letter) => {
+            let letter = escaped(alloc, &[letter])?;
+            format!(in alloc; "unknown option -{letter} in {shown}")
+        }
         Rejection::MisplacedLetter(b'f') => {
             format!(in alloc; "-f has to be the last letter in {shown}, as in -f FAMILY")
         }
@@ -206,17 +213,6 @@ fn rejection_text(alloc: Global, reason: Rejection, argument: &str) -> Result<St
         Rejection::InvalidPortValue => {
             format!(in alloc; "invalid port in {shown}: a port is N, N- or -N")
         }
-    }
-}
-
-/// Returns the text about letters of which one is not an option. `shown` is the whole argument.
-fn unknown_letter_text(alloc: Global, letter: u8, shown: String) -> Result<String, AllocError> {
-    let letter = escaped(alloc, &[letter])?;
-    let option = format!(in alloc; "-{letter}")?;
-    if option.as_str() == shown.as_str() {
-        format!(in alloc; "unknown option {option}")
-    } else {
-        format!(in alloc; "unknown option {option} in {shown}")
     }
 }
 
