@@ -430,7 +430,7 @@ class Checker:
         """Checks that a picture has the names of crates, and in crates/README.md all of them: each
         depends only on crates in lower rows."""
         text = (TOP / "crates.txt").read_text(encoding="utf-8")
-        found = re.findall(r"(?m)^(\w+)[\w ]*: (.*)$", text)
+        found = re.findall(r"(?m)^(\w+)[\w ]*:(.*)$", text)
         crates = {name: used.split() for name, used in found}
         words = [re.split(r"\W+", line) for line in lines]
         rows = [[it for it in row if "_" in it or it in crates] for row in words]
