@@ -101,9 +101,10 @@ __attribute__((used)) static uint32_t (*const sockdiag_linked_abi)(void) = sockd
 
 /*
  * Returns 1 if the program was compiled with the header of a version that is compatible with the
- * library that is linked, else 0. The first two numbers of both versions have to be equal: structs
- * of another version may have another size. The linker ensures this by the pointer above, and the
- * loader of programs by the soname of the shared library. Call this function first if neither does.
+ * library that is linked, else 0. The first two numbers of both versions have to be equal: a newer
+ * header may declare calls that the library lacks, and before version 1 structs had other sizes.
+ * The linker ensures this by the pointer above, and the loader of programs by the soname of the
+ * shared library. Call this function first if neither does.
  */
 static inline int sockdiag_is_compatible(void)
 {
@@ -463,9 +464,9 @@ enum sockdiag_show {
 /* Header of a reply about a UNIX socket: struct unix_diag_msg of sock_diag(7). */
 struct sockdiag_unix_header {
     uint8_t kind;      /* Type of the socket, one of SOCK_.. (udiag_type, at 1). */
-    uint8_t state;     /* State (udiag_state, at 2): TCP_ESTABLISHED (1) if the socket is
-                          connected, TCP_LISTEN (10) if it listens, else TCP_CLOSE (7), as of
-                          most datagram sockets. */
+    uint8_t state;     /* State (udiag_state, at 2): TCP_LISTEN (10) if the socket listens,
+                          TCP_ESTABLISHED (1) if it was connected, whether or not it has a peer
+                          now, else TCP_CLOSE (7), as of most datagram sockets. */
     uint32_t inode;    /* Inode of the socket (udiag_ino, at 4). */
     uint8_t cookie[8]; /* Cookie that distinguishes sockets with the same inode (udiag_cookie, at
                           8). */
@@ -1763,11 +1764,14 @@ struct sockdiag_error_details {
     uint32_t code;               /* Code of the error, one of enum sockdiag_error. */
     uint32_t record_name;        /* Record that has too few bytes, one of SOCKDIAG_RECORD_..
                                     (SOCKDIAG_BUFFER_TOO_SMALL). */
-    uint32_t family;             /* Address family that is not supported or not known, or that
-                                    the record belongs to. */
+    uint32_t family;             /* Address family that is not supported or not known, or that a
+                                    record of SOCKDIAG_RECORD_FAMILY_REQUEST, .._RESPONSE_HEADER
+                                    or .._ATTRIBUTE belongs to. */
     uint32_t message_type;       /* Message type (SOCKDIAG_UNKNOWN_MESSAGE_TYPE). */
     struct sockdiag_number kind; /* Kind of the attribute whose value has a wrong length
-                                    (SOCKDIAG_WRONG_LENGTH), or too few bytes for its record. */
+                                    (SOCKDIAG_WRONG_LENGTH), or too few bytes for its record
+                                    (SOCKDIAG_RECORD_FAMILY_ATTRIBUTE). Not set for other
+                                    records, such as memory counters. */
     size_t got;                  /* Number of bytes that were found: of the record, value or
                                     message; or, for an attribute whose header or length field is
                                     invalid, up to the end. */
@@ -1882,9 +1886,9 @@ struct sockdiag_unix_request {
     uint32_t states;                       /* States to include, with the bit 1 << TCP_LISTEN for
                                               TCP_LISTEN (udiag_states). UINT32_MAX includes all.
                                               A UNIX socket is in state 1, 7 or 10: without the
-                                              bit 1 << TCP_CLOSE, sockets that have no peer and
-                                              do not listen are missing, as most datagram sockets
-                                              are. */
+                                              bit 1 << TCP_CLOSE, sockets that neither listen nor
+                                              were ever connected are missing, as most datagram
+                                              sockets are. */
     uint32_t inode;                        /* Inode, to request a single socket (udiag_ino). With
                                               NLM_F_DUMP the kernel ignores it. */
     uint32_t show;                         /* Attributes that the replies shall have, a set of
@@ -1988,8 +1992,8 @@ struct sockdiag_show_request {
     uint8_t family;                        /* AF_NETLINK, AF_PACKET or AF_XDP (sdiag_family, at
                                               0). */
     uint8_t protocol;                      /* Protocol of netlink sockets (sdiag_protocol, at 1),
-                                              one of NETLINK_.. or NDIAG_PROTO_ALL. 0 for other
-                                              families. */
+                                              one of NETLINK_.., such as 0 for NETLINK_ROUTE, or
+                                              NDIAG_PROTO_ALL for all. 0 for other families. */
     uint32_t inode;                        /* Inode, to request a single socket (ndiag_ino,
                                               pdiag_ino, xdiag_ino, at 4). Linux only lists these
                                               sockets, and ignores it. */

@@ -144,6 +144,7 @@ def test_sslist(program):
         (["/\x1b[1m\\"], 1, b"", rb"sslist: /\\x1b\[1m\\x5c: .*\n"),
         (["state"], 1, b"", rb"sslist: state: .*\(os error 2\); a filter is written --state=.*\n"),
         (["sport = :22"], 1, b"", rb"sslist: sport\\x20=.*: .*; a filter is written --state=.*\n"),
+        (["state up"], 1, b"", rb"sslist: state\\x20up: .*; a filter is written --state=.*\n"),
         (["-\x1bt"], 2, b"", unknown % rb"-\\x1b in -\\x1bt"), (["-tf"], 2, b"", no_family),
         (["-f", "-x"], 2, b"", wrong % (b"unknown family", b"-x after -f")),
         (["-f", "all"], 2, b"", wrong % (b"unknown family", b"all after -f")),
@@ -311,10 +312,10 @@ def test_diagnostics(program):
         (b"\1\2\x0a\xff" + bytes(20), no_capture + b"its first four bytes are 0x01020aff"),
         (b"hello\n", no_capture + b"its first four bytes are 0x68656c6c"),
         (b"hi\n", no_capture + b"it has fewer than 4 bytes"),
-        (b"BZh9\x17rE8P\x90", b"compressed by bzip2; decompress it first, with bunzip2"),
-        *[(start + bytes(20), f"compressed by {it}; decompress it first, with un{it}".encode())
+        (b"BZh9\x17rE8P\x90", b"compressed by bzip2; decompress it first, with bzip2 -dc"),
+        *[(start + bytes(20), f"compressed by {it}; decompress it first, with {it} -dc".encode())
             for start, it in [(b"\xfd7zX", "xz"), (b"\x28\xb5\x2f\xfd", "zstd")]],
-        (b"\x1f\x8b\x08\0" + bytes(9), b"compressed by gzip; decompress it first, with gunzip"),
+        (b"\x1f\x8b\x08\0" + bytes(9), b"compressed by gzip; decompress it first, with gzip -dc"),
         (b"BZx9" + bytes(20), no_capture + b"its first four bytes are 0x425a7839"),
         (file_header[:4], b"the capture is truncated"),
         (file_header[:23], b"the capture is truncated"),

@@ -16,7 +16,7 @@ compression_of first =
 
 -- the text about a file in this format
 abbrev pub compression_text : Compression → List ℕ
-compression_text Gzip = codes "compressed by gzip; decompress it first, with gunzip"
-compression_text Bzip2 = codes "compressed by bzip2; decompress it first, with bunzip2"
-compression_text Xz = codes "compressed by xz; decompress it first, with unxz"
-compression_text Zstd = codes "compressed by zstd; decompress it first, with unzstd"
+compression_text Gzip = codes "compressed by gzip; decompress it first, with gzip -dc"
+compression_text Bzip2 = codes "compressed by bzip2; decompress it first, with bzip2 -dc"
+compression_text Xz = codes "compressed by xz; decompress it first, with xz -dc"
+compression_text Zstd = codes "compressed by zstd; decompress it first, with zstd -dc"

@@ -87,8 +87,8 @@ ReadsPacket (in_pcap file) bytes packet s' =
 ReadsPacket (in_pcapng p) bytes packet s' =
     (after : Position) × IsNextPacket p bytes packet after × (s' ≡ in_pcapng after)
 
--- `IsCaptureEnd s bytes`: no packet follows the state `s`, and these are the bytes up to the end of
--- the capture: none in a pcap file, and some blocks without a packet in a pcapng file
+-- `IsCaptureEnd s bytes`: the bytes, which follow the state `s`, contain no packet: there are none
+-- in a pcap file, and in a pcapng file they are some blocks without a packet
 abbrev pub IsCaptureEnd : CaptureState → List ℕ → Type 0
 IsCaptureEnd (in_pcap file) bytes = bytes ≡ []
 IsCaptureEnd (in_pcapng p) bytes = (after : Position) × IsEndOfBlocks p bytes after

@@ -41,10 +41,10 @@ impl Compression {
         ensures { result.now ≡ compression_text self }
     {
         match self {
-            Compression::Gzip => "compressed by gzip; decompress it first, with gunzip",
-            Compression::Bzip2 => "compressed by bzip2; decompress it first, with bunzip2",
-            Compression::Xz => "compressed by xz; decompress it first, with unxz",
-            Compression::Zstd => "compressed by zstd; decompress it first, with unzstd",
+            Compression::Gzip => "compressed by gzip; decompress it first, with gzip -dc",
+            Compression::Bzip2 => "compressed by bzip2; decompress it first, with bzip2 -dc",
+            Compression::Xz => "compressed by xz; decompress it first, with xz -dc",
+            Compression::Zstd => "compressed by zstd; decompress it first, with zstd -dc",
         }
     }
 }

@@ -520,7 +520,7 @@ sslist: packet 2: truncated to 32 of 72 bytes";
     tells(&rt, alloc, &[FRONT, "4800000001000000"], want);
     let want = "unsupported pcap version 3, expected 2";
     tells(&rt, alloc, &["d4c3b2a10300", FRONT, OF_100], want);
-    let want = "compressed by gzip; decompress it first, with gunzip";
+    let want = "compressed by gzip; decompress it first, with gzip -dc";
     tells(&rt, alloc, &["1f8b0800", FRONT, OF_100], want);
     let want = "packet 1: packet length 262145 exceeds the maximum of 262144";
     tells(

@@ -44,12 +44,14 @@ pub struct ErrorDetails {
     /// Record that has too few bytes, one of `SOCKDIAG_RECORD_..`
     /// (`SOCKDIAG_BUFFER_TOO_SMALL`).
     pub record_name: u32,
-    /// Address family that is not supported or not known, or that the record belongs to.
+    /// Address family that is not supported or not known, or that a record of
+    /// `SOCKDIAG_RECORD_FAMILY_REQUEST`, `.._RESPONSE_HEADER` or `.._ATTRIBUTE` belongs to.
     pub family: u32,
     /// Message type (`SOCKDIAG_UNKNOWN_MESSAGE_TYPE`).
     pub message_type: u32,
     /// Kind of the attribute whose value has a wrong length (`SOCKDIAG_WRONG_LENGTH`), or too few
-    /// bytes for its record.
+    /// bytes for its record (`SOCKDIAG_RECORD_FAMILY_ATTRIBUTE`). Not set for other records, such
+    /// as memory counters.
     pub kind: Number,
     /// Number of bytes that were found: of the record, value or message; or, for an attribute whose
     /// header or length field is invalid, up to the end.

@@ -19,8 +19,8 @@ pub struct ShowRequest {
     pub header: RequestHeader,
     /// `AF_NETLINK`, `AF_PACKET` or `AF_XDP` (`sdiag_family`, at 0).
     pub family: u8,
-    /// Protocol of netlink sockets (`sdiag_protocol`, at 1), one of `NETLINK_..` or
-    /// `NDIAG_PROTO_ALL`. 0 for other families.
+    /// Protocol of netlink sockets (`sdiag_protocol`, at 1), one of `NETLINK_..`, such as 0 for
+    /// `NETLINK_ROUTE`, or `NDIAG_PROTO_ALL` for all. 0 for other families.
     pub protocol: u8,
     /// Inode, to request a single socket (`ndiag_ino`, `pdiag_ino`, `xdiag_ino`, at 4). Linux only
     /// lists these sockets, and ignores it.

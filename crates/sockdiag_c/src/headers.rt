@@ -16,8 +16,9 @@ use std::time::Duration;
 pub struct UnixHeader {
     /// Type of the socket, one of `SOCK_..` (`udiag_type`, at 1).
     pub kind: u8,
-    /// State (`udiag_state`, at 2): `TCP_ESTABLISHED` (1) if the socket is connected, `TCP_LISTEN`
-    /// (10) if it listens, else `TCP_CLOSE` (7), as of most datagram sockets.
+    /// State (`udiag_state`, at 2): `TCP_LISTEN` (10) if the socket listens, `TCP_ESTABLISHED` (1)
+    /// if it was connected, whether or not it has a peer now, else `TCP_CLOSE` (7), as of most
+    /// datagram sockets.
     pub state: u8,
     /// Inode of the socket (`udiag_ino`, at 4).
     pub inode: u32,

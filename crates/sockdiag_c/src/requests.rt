@@ -44,8 +44,8 @@ pub struct UnixRequest {
     pub header: RequestHeader,
     /// States to include, with the bit `1 << TCP_LISTEN` for `TCP_LISTEN` (`udiag_states`).
     /// `UINT32_MAX` includes all. A UNIX socket is in state 1, 7 or 10: without the bit `1 <<
-    /// TCP_CLOSE`, sockets that have no peer and do not listen are missing, as most datagram
-    /// sockets are.
+    /// TCP_CLOSE`, sockets that neither listen nor were ever connected are missing, as most
+    /// datagram sockets are.
     pub states: u32,
     /// Inode, to request a single socket (`udiag_ino`). With `NLM_F_DUMP` the kernel ignores it.
     pub inode: u32,

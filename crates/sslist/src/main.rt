@@ -108,11 +108,16 @@ fn list_file(rt: &HostRuntime, options: Options, name: &str, heading: &[u8]) -> 
     }
 }
 
-/// Returns whether a name that is no file may be a part of a filter of ss(8).
+/// Returns whether a name that is no file may be a part of a filter of ss(8): it contains `=`, or
+/// its first word is the name of a condition.
 fn is_filter_word(name: &str) -> bool {
+    let word = match name.split_once(' ') {
+        Some((word, _)) => word,
+        None => name,
+    };
     name.contains('=')
         || matches!(
-            name,
+            word,
             "state" | "exclude" | "sport" | "dport" | "src" | "dst"
         )
 }

@@ -26,7 +26,8 @@ use crate::unix::request_header;
 /// ```
 #[derive(Clone, Copy, Debug, Default, PartialEq, Eq)]
 pub struct ShowRequest<const FAMILY: u8> {
-    /// The protocol for netlink sockets, else 0.
+    /// The protocol for netlink sockets: 0 is `NETLINK_ROUTE`, and `NDIAG_PROTO_ALL` requests all.
+    /// 0 for other families.
     pub protocol: u8,
     /// The inode, to request a single socket. Linux can only list these sockets, and ignores it.
     pub inode: u32,

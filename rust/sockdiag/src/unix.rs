@@ -13,11 +13,11 @@ crate::flags! {
     /// A set of states, with the bit `1 << state` for each state.
     ///
     /// **`all()` does not select all sockets.** A UNIX socket has one of three states: 1
-    /// (`TCP_ESTABLISHED`), 7 (`TCP_CLOSE`) or 10 (`TCP_LISTEN`). A socket that has no peer and
-    /// does not listen is in state 7, as most datagram sockets are. `all()` has the states with a
-    /// name here, 1 and 10. Use [`StateFlags::every_state`].
+    /// (`TCP_ESTABLISHED`), 7 (`TCP_CLOSE`) or 10 (`TCP_LISTEN`). A socket that neither listens nor
+    /// was ever connected is in state 7, as most datagram sockets are. `all()` has the states with
+    /// a name here, 1 and 10. Use [`StateFlags::every_state`].
     StateFlags: u32 {
-        /// Sockets with a peer: state 1.
+        /// Sockets that were connected, whether or not they have a peer now: state 1.
         ESTABLISHED = 1 << TCP_ESTABLISHED;
         /// Listening sockets: state 10.
         LISTEN = 1 << TCP_LISTEN;
@@ -125,8 +125,9 @@ pub(crate) fn request_header(header: &NetlinkHeader) -> sys::RequestHeader {
 pub struct UnixResponseHeader {
     /// Type of the socket (`udiag_type`), one of `SOCK_..`.
     pub kind: u8,
-    /// State (`udiag_state`): 1 (`TCP_ESTABLISHED`) with a peer, 10 (`TCP_LISTEN`) if it listens,
-    /// or 7 (`TCP_CLOSE`) without a peer, as most datagram sockets are.
+    /// State (`udiag_state`): 10 (`TCP_LISTEN`) if it listens, 1 (`TCP_ESTABLISHED`) if it was
+    /// connected, whether or not it has a peer now, or else 7 (`TCP_CLOSE`), as most datagram
+    /// sockets are.
     pub state: u8,
     /// Inode of the socket.
     pub inode: u32,
