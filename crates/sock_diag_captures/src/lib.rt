@@ -95,8 +95,8 @@ Filter sockets (a socket is listed if it meets all of these):
   fin-wait-2, time-wait, closed (or close, unconnected, unconn), close-wait,
   last-ack, listening (or listen) or closing; or a group: all, connected (all
   but closed and listening), synchronized (connected but not syn-sent), bucket
-  (syn-recv and time-wait), big (all but bucket). Case does not matter. With
-  --state, -l and -a have no effect.
+  (syn-recv and time-wait), big (all but bucket). Case does not matter. Such an
+  option replaces -l and -a.
   PORT is a number, not a name: N is port N, N- is N or more, -N is N or less.
   Filters as in ss(8), such as state listening, would be names of files.
 
