@@ -29,6 +29,7 @@ a lemma is in a module of definitions, or if a promise reaches a module that nee
 """
 
 import difflib
+import os
 import re
 import sys
 from pathlib import Path
@@ -516,4 +517,9 @@ def main(arguments):
 
 
 if __name__ == "__main__":
-    sys.exit(main(sys.argv[1:]))
+    try:
+        sys.exit(main(sys.argv[1:]))
+    except BrokenPipeError:
+        # Nobody reads the rest, as with `| head`.
+        os.dup2(os.open(os.devnull, os.O_WRONLY), sys.stdout.fileno())
+        sys.exit(1)
