@@ -38,7 +38,7 @@
  *   returns 0; and if an iteration returns 0 or the code of a framing error;
  * - if sockdiag_check_message returns 0, the header of the other kind;
  * - if sockdiag_packet_get_details or sockdiag_xdp_get_details returns 0, each record whose field
- *   has_.. is 0.
+ *   has_.. is 0. The lenient calls set such a record to 0.
  *
  * All other fields are set. sockdiag_inet_get_tcp_info, sockdiag_inet_get_long_tcp_info and
  * sockdiag_inet_get_memory set all fields in any case, and so does each call with a struct
@@ -1036,7 +1036,7 @@ size_t sockdiag_inet_get_memory(const uint8_t *payload, size_t length,
  * these calls to list sockets. Real kernels send values that the library does not accept: an
  * INET_DIAG_INFO of fewer than 232 bytes (of MPTCP, and of TCP from kernels without tcpi_snd_wnd),
  * and a UNIX_DIAG_MEMINFO of fewer than 36 bytes. By the calls of the previous section, one of them
- * hides its whole socket.
+ * hides its whole socket. The next section has the lenient calls for the other families.
  */
 
 #define SOCKDIAG_REJECTION_KINDS 32 /* Number of the elements of errors of struct
@@ -1048,15 +1048,21 @@ size_t sockdiag_inet_get_memory(const uint8_t *payload, size_t length,
  * code is 0 if there is no such error. If a reply has several attributes of a kind, the kind can
  * have a value in the details and an error here: the value is that of the first valid attribute,
  * and the error that of the first rejected one. The kinds that can be rejected are UNIX_DIAG_NAME
- * to UNIX_DIAG_SHUTDOWN of UNIX sockets, and INET_DIAG_MEMINFO, _INFO, _CONG, _TOS, _TCLASS,
- * _SKMEMINFO, _SHUTDOWN, _PROTOCOL, _SKV6ONLY, _MARK and _CLASS_ID of internet sockets. Values of
- * other kinds are not checked: of INET_DIAG_CGROUP_ID, for example, only sockdiag_get_cgroup_id
- * checks the length, and returns 0 if it is wrong.
+ * to UNIX_DIAG_SHUTDOWN of UNIX sockets; INET_DIAG_MEMINFO, _INFO, _CONG, _TOS, _TCLASS,
+ * _SKMEMINFO, _SHUTDOWN, _PROTOCOL, _SKV6ONLY, _MARK and _CLASS_ID of internet sockets;
+ * NETLINK_DIAG_MEMINFO and _FLAGS of netlink sockets; PACKET_DIAG_INFO, _RX_RING, _TX_RING,
+ * _FANOUT, _UID and _MEMINFO of packet sockets; and XDP_DIAG_INFO to XDP_DIAG_STATS of XDP sockets.
+ * Values of other kinds are not checked: of INET_DIAG_CGROUP_ID, for example, only
+ * sockdiag_get_cgroup_id checks the length, and returns 0 if it is wrong.
  */
 struct sockdiag_rejections {
-    uint32_t first;     /* Code of the first error. If it is 0, the whole reply is accepted.
-                           sockdiag_unix_get_details or sockdiag_inet_get_details returns the
-                           same code. */
+    uint32_t first;     /* Code of the first error, in the order of the attributes. If it is 0,
+                           the whole reply is accepted. sockdiag_unix_get_details or
+                           sockdiag_inet_get_details returns the same code.
+                           sockdiag_netlink_get_details and its siblings for other families
+                           return 0 if it is 0. Otherwise they may return another code, or 0:
+                           they check the framing before values, and only the first attribute of
+                           each kind. */
     uint32_t framing;   /* Code of the framing error after the last attribute, 7 to 9. What
                            follows is not parsed. */
     uint8_t errors[32]; /* Codes of the errors of attributes, by kind: the element INET_DIAG_INFO
@@ -1102,18 +1108,17 @@ uint32_t sockdiag_inet_get_lenient_details(const uint8_t *payload, size_t length
  * to choose the call. Iterate over a dump by sockdiag_next_any_message: sockdiag_next_message
  * rejects these replies.
  *
- * A payload that is shorter than the header is rejected with SOCKDIAG_BUFFER_TOO_SMALL. Then the
- * framing of all attributes is checked, with errors 7 to 9. Then values are checked in the order of
- * their kinds. A value that is shorter than its record is SOCKDIAG_BUFFER_TOO_SMALL, and a number
- * that does not have 4 bytes is SOCKDIAG_WRONG_LENGTH. Bytes after the last field of a record are
- * ignored, since newer kernels send more. An attribute of another kind is not an error;
- * sockdiag_next_attribute returns it.
+ * A payload that is shorter than the header is rejected with SOCKDIAG_BUFFER_TOO_SMALL. A value
+ * that is shorter than its record is SOCKDIAG_BUFFER_TOO_SMALL, and a number that does not have 4
+ * bytes is SOCKDIAG_WRONG_LENGTH. Bytes after the last field of a record are ignored, since newer
+ * kernels send more. An attribute of another kind is not an error; sockdiag_next_attribute returns
+ * it.
  *
- * There are no lenient calls for these families: one attribute that is rejected hides its socket.
- * To list every socket, repeat a rejected call with the length of the header, such as
- * SOCKDIAG_NETLINK_ATTRIBUTES, as the length of the payload, unless the payload is shorter: the
- * details then have the header. Read the attributes by sockdiag_next_attribute, from a cursor with
- * this offset.
+ * sockdiag_netlink_get_details and its siblings are strict: one attribute that is rejected hides
+ * its socket. They check the framing of all attributes first, with errors 7 to 9, and then values
+ * in the order of their kinds. To list every socket use the lenient calls,
+ * sockdiag_netlink_get_lenient_details and so on: an attribute that is rejected hides only itself,
+ * and struct sockdiag_rejections has its error.
  */
 
 /* Offsets of the attributes, which are the lengths of the headers. */
@@ -1363,6 +1368,8 @@ struct sockdiag_xdp_details {
  * the details are unchanged. If the reply has several attributes of a kind, the first one counts.
  * The framing of all attributes is checked before their values, and values are checked in the order
  * of their kinds. Texts point into the payload, and are valid as long as it is.
+ *
+ * One rejected attribute hides the others: sockdiag_netlink_get_lenient_details returns them.
  */
 uint32_t sockdiag_netlink_get_details(const uint8_t *payload, size_t length,
                                       struct sockdiag_netlink_details *details);
@@ -1374,6 +1381,8 @@ uint32_t sockdiag_netlink_get_details(const uint8_t *payload, size_t length,
  * all attributes is checked before their values, and values are checked in the order of their
  * kinds. A record that the reply does not contain is unchanged, and its field has_.. is 0: do not
  * use it. All other fields are set. Texts point into the payload, and are valid as long as it is.
+ *
+ * One rejected attribute hides the others: sockdiag_packet_get_lenient_details returns them.
  */
 uint32_t sockdiag_packet_get_details(const uint8_t *payload, size_t length,
                                      struct sockdiag_packet_details *details);
@@ -1385,8 +1394,8 @@ uint32_t sockdiag_packet_get_details(const uint8_t *payload, size_t length,
  * The record has 32 bytes, and Linux sends no others. Bytes after it are attributes: their framing
  * is checked, and nothing else. So one to three more bytes are rejected with
  * SOCKDIAG_ATTRIBUTE_HEADER_CUT, and four zero bytes with SOCKDIAG_ATTRIBUTE_LENGTH_UNDER_4, since
- * they are an attribute whose length field is 0. Pass at most 32 (SOCKDIAG_VSOCK_ATTRIBUTES) as the
- * length to ignore what follows.
+ * they are an attribute whose length field is 0. sockdiag_vsock_get_lenient_details returns the
+ * header of such a reply.
  */
 uint32_t sockdiag_vsock_get_details(const uint8_t *payload, size_t length,
                                     struct sockdiag_vsock_header *details);
@@ -1398,9 +1407,61 @@ uint32_t sockdiag_vsock_get_details(const uint8_t *payload, size_t length,
  * attributes is checked before their values, and values are checked in the order of their kinds. A
  * record that the reply does not contain is unchanged, and its field has_.. is 0: do not use it.
  * All other fields are set.
+ *
+ * One rejected attribute hides the others: sockdiag_xdp_get_lenient_details returns them.
  */
 uint32_t sockdiag_xdp_get_details(const uint8_t *payload, size_t length,
                                   struct sockdiag_xdp_details *details);
+
+/*
+ * Returns the header of a reply about a netlink socket, the first valid attribute of each kind that
+ * has a field in the details, and the first error of each kind, in one pass over the attributes.
+ * What follows a framing error is not parsed. The bytes are the payload of the netlink message.
+ * Returns 0, and sets all fields of the details and of the rejections; or the code of the error of
+ * the header, and then both are unchanged. The previous contents of both are not read. What is not
+ * rejected is as sockdiag_netlink_get_details describes it.
+ */
+uint32_t sockdiag_netlink_get_lenient_details(const uint8_t *payload, size_t length,
+                                              struct sockdiag_netlink_details *details,
+                                              struct sockdiag_rejections *rejections);
+
+/*
+ * Returns the header of a reply about a packet socket, the first valid attribute of each kind, and
+ * the first error of each kind, in one pass over the attributes. What follows a framing error is
+ * not parsed. The bytes are the payload of the netlink message. Returns 0, and sets all fields of
+ * the details and of the rejections: a record of which the reply has no valid attribute is all 0,
+ * and its field has_.. is 0. Or returns the code of the error of the header, and then both are
+ * unchanged. The previous contents of both are not read. What is not rejected is as
+ * sockdiag_packet_get_details describes it.
+ */
+uint32_t sockdiag_packet_get_lenient_details(const uint8_t *payload, size_t length,
+                                             struct sockdiag_packet_details *details,
+                                             struct sockdiag_rejections *rejections);
+
+/*
+ * Returns the header of a reply about a vsock socket, and the framing error of the bytes after it,
+ * in one pass over them. The bytes are the payload of the netlink message. Returns 0, and sets all
+ * fields of the header and of the rejections; or the code of the error of the header, and then both
+ * are unchanged. The previous contents of both are not read. Linux sends no attributes. Values of
+ * attributes are not checked, so only first and framing of the rejections can be other than 0, and
+ * they are equal.
+ */
+uint32_t sockdiag_vsock_get_lenient_details(const uint8_t *payload, size_t length,
+                                            struct sockdiag_vsock_header *details,
+                                            struct sockdiag_rejections *rejections);
+
+/*
+ * Returns the header of a reply about an XDP socket, the first valid attribute of each kind, and
+ * the first error of each kind, in one pass over the attributes. What follows a framing error is
+ * not parsed. The bytes are the payload of the netlink message. Returns 0, and sets all fields of
+ * the details and of the rejections: a record of which the reply has no valid attribute is all 0,
+ * and its field has_.. is 0. Or returns the code of the error of the header, and then both are
+ * unchanged. The previous contents of both are not read. What is not rejected is as
+ * sockdiag_xdp_get_details describes it.
+ */
+uint32_t sockdiag_xdp_get_lenient_details(const uint8_t *payload, size_t length,
+                                          struct sockdiag_xdp_details *details,
+                                          struct sockdiag_rejections *rejections);
 
 /* ---- iteration */
 

@@ -4,7 +4,7 @@
  * netlink(7) and the kernel's headers, or were sent by Linux. Each field of each struct is compared
  * with bytes that no other field has. tests/api/c_api.sh builds and runs this program.
  */
-#include "check.h"
+#include "families.h"
 
 #include <linux/inet_diag.h>
 #include <linux/netlink.h>
@@ -613,22 +613,6 @@ static void rewrites_inet_reply(void) {
     check(outcome.error == SOCKDIAG_BUFFER_TOO_SMALL, "the error of a rejected internet reply");
 }
 
-/* Writes the header of an attribute at the end, and moves the end after its value and padding.
- * Returns the offset of the value, whose bytes are unchanged. */
-static size_t begin(uint8_t *bytes, size_t *end, uint8_t kind, uint8_t length) {
-    const size_t value = *end + 4;
-    put_header(bytes + *end, 4u + length, kind);
-    *end += (length + 7u) / 4 * 4;
-    return value;
-}
-
-/* The number is present, and is the little-endian one of this size at these bytes. */
-#define TOLD(number, bytes, size) \
-    check((number).is_set == 1 && (number).value == number_at(bytes, size), #number)
-/* The text is the one at these bytes. */
-#define TEXT(text, a_kind, at, a_length) \
-    check((text).kind == (a_kind) && (text).bytes == (at) && (text).length == (a_length), #text)
-
 static void reads_each_field_of_unix(void) {
     uint8_t bytes[128];
     struct sockdiag_unix_details it;
@@ -790,87 +774,30 @@ static void reads_each_field_of_records(void) {
     FIELD(it.drops, bytes + memory + 32);
 }
 
-static void check_memory(const struct sockdiag_memory *it, const uint8_t *bytes) {
-    TOLD(it->receive_queue, bytes, 4);
-    TOLD(it->receive_queue_max, bytes + 4, 4);
-    TOLD(it->bottom_send_queues, bytes + 8, 4);
-    TOLD(it->send_queue_max, bytes + 12, 4);
-    TOLD(it->cache, bytes + 16, 4);
-    TOLD(it->send_queue, bytes + 20, 4);
-    TOLD(it->options, bytes + 24, 4);
-    TOLD(it->backlog_queue_length, bytes + 28, 4);
-    TOLD(it->drops, bytes + 32, 4);
-}
-
 static void reads_each_field_of_netlink(void) {
     uint8_t bytes[128];
+    const uint8_t *values[5];
     struct sockdiag_netlink_details it;
-    size_t end = SOCKDIAG_NETLINK_ATTRIBUTES, memory, groups, flags;
+    size_t end = SOCKDIAG_NETLINK_ATTRIBUTES;
     memset(&it, UNTOUCHED, sizeof it);
     number_bytes(bytes, sizeof bytes);
-    memory = begin(bytes, &end, 0, 36);
-    groups = begin(bytes, &end, 1, 8);
-    flags = begin(bytes, &end, 4, 4);
+    begin_each(bytes, &end, netlink_lengths, 5, values);
     check(sockdiag_netlink_get_details(bytes, end, &it) == SOCKDIAG_OK,
           "all fields of a netlink reply");
-    FIELD(it.header.kind, bytes + 1);
-    FIELD(it.header.protocol, bytes + 2);
-    FIELD(it.header.state, bytes + 3);
-    FIELD(it.header.port, bytes + 4);
-    FIELD(it.header.destination_port, bytes + 8);
-    FIELD(it.header.destination_group, bytes + 12);
-    FIELD(it.header.inode, bytes + 16);
-    FIELD(it.header.cookie, bytes + 20);
-    check_memory(&it.memory, bytes + memory);
-    TEXT(it.groups, SOCKDIAG_BYTES, bytes + groups, 8);
-    TOLD(it.flags, bytes + flags, 4);
-}
-
-static void check_ring(const struct sockdiag_packet_ring *it, const uint8_t *bytes) {
-    FIELD(it->block_size, bytes);
-    FIELD(it->blocks, bytes + 4);
-    FIELD(it->frame_size, bytes + 8);
-    FIELD(it->frames, bytes + 12);
-    FIELD(it->retire_timeout, bytes + 16);
-    FIELD(it->private_size, bytes + 20);
-    FIELD(it->features, bytes + 24);
+    check_netlink(&it, bytes, values);
 }
 
 static void reads_each_field_of_packet(void) {
     uint8_t bytes[256];
+    const uint8_t *values[8];
     struct sockdiag_packet_details it;
-    size_t end = SOCKDIAG_PACKET_ATTRIBUTES, info, addresses, receive, send, fanout, owner, memory;
-    size_t filter;
+    size_t end = SOCKDIAG_PACKET_ATTRIBUTES;
     memset(&it, UNTOUCHED, sizeof it);
     number_bytes(bytes, sizeof bytes);
-    info = begin(bytes, &end, 0, 24);
-    addresses = begin(bytes, &end, 1, 44);
-    receive = begin(bytes, &end, 2, 28);
-    send = begin(bytes, &end, 3, 28);
-    fanout = begin(bytes, &end, 4, 4);
-    owner = begin(bytes, &end, 5, 4);
-    memory = begin(bytes, &end, 6, 36);
-    filter = begin(bytes, &end, 7, 8);
+    begin_each(bytes, &end, packet_lengths, 8, values);
     check(sockdiag_packet_get_details(bytes, end, &it) == SOCKDIAG_OK,
           "all fields of a packet reply");
-    FIELD(it.header.kind, bytes + 1);
-    FIELD(it.header.protocol, bytes + 2);
-    FIELD(it.header.inode, bytes + 4);
-    FIELD(it.header.cookie, bytes + 8);
-    check(it.has_info == 1 && it.has_receive_ring == 1 && it.has_send_ring == 1, "all records");
-    FIELD(it.info.interface, bytes + info);
-    FIELD(it.info.version, bytes + info + 4);
-    FIELD(it.info.reserve, bytes + info + 8);
-    FIELD(it.info.copy_threshold, bytes + info + 12);
-    FIELD(it.info.timestamp, bytes + info + 16);
-    FIELD(it.info.flags, bytes + info + 20);
-    TEXT(it.addresses, SOCKDIAG_BYTES, bytes + addresses, 44);
-    check_ring(&it.receive_ring, bytes + receive);
-    check_ring(&it.send_ring, bytes + send);
-    TOLD(it.fanout, bytes + fanout, 4);
-    TOLD(it.owner, bytes + owner, 4);
-    check_memory(&it.memory, bytes + memory);
-    TEXT(it.filter, SOCKDIAG_BYTES, bytes + filter, 8);
+    check_packet(&it, bytes, values);
 }
 
 static void reads_each_field_of_vsock(void) {
@@ -880,15 +807,7 @@ static void reads_each_field_of_vsock(void) {
     number_bytes(bytes, sizeof bytes);
     check(sockdiag_vsock_get_details(bytes, SOCKDIAG_VSOCK_ATTRIBUTES, &it) == SOCKDIAG_OK,
           "all fields of a vsock reply");
-    FIELD(it.kind, bytes + 1);
-    FIELD(it.state, bytes + 2);
-    FIELD(it.shutdown, bytes + 3);
-    FIELD(it.source_context, bytes + 4);
-    FIELD(it.source_port, bytes + 8);
-    FIELD(it.destination_context, bytes + 12);
-    FIELD(it.destination_port, bytes + 16);
-    FIELD(it.inode, bytes + 20);
-    FIELD(it.cookie, bytes + 24);
+    check_vsock(&it, bytes);
     memset(bytes, 0, sizeof bytes);
     before = it;
     check(sockdiag_vsock_get_details(bytes, 35, &it) == SOCKDIAG_ATTRIBUTE_HEADER_CUT,
@@ -898,55 +817,16 @@ static void reads_each_field_of_vsock(void) {
     check(memcmp(&it, &before, sizeof it) == 0, "a vsock header is written for a rejected reply");
 }
 
-static void check_xdp_records(const struct sockdiag_xdp_details *it, const uint8_t *info,
-                              const uint8_t *umem, const uint8_t *statistics) {
-    check(it->has_info == 1 && it->has_umem == 1 && it->has_statistics == 1, "all XDP records");
-    FIELD(it->info.interface, info);
-    FIELD(it->info.queue, info + 4);
-    FIELD(it->umem.size, umem);
-    FIELD(it->umem.id, umem + 8);
-    FIELD(it->umem.pages, umem + 12);
-    FIELD(it->umem.chunk_size, umem + 16);
-    FIELD(it->umem.headroom, umem + 20);
-    FIELD(it->umem.interface, umem + 24);
-    FIELD(it->umem.queue, umem + 28);
-    FIELD(it->umem.flags, umem + 32);
-    FIELD(it->umem.references, umem + 36);
-    FIELD(it->statistics.received_dropped, statistics);
-    FIELD(it->statistics.received_invalid, statistics + 8);
-    FIELD(it->statistics.received_full, statistics + 16);
-    FIELD(it->statistics.fill_ring_empty, statistics + 24);
-    FIELD(it->statistics.sent_invalid, statistics + 32);
-    FIELD(it->statistics.send_ring_empty, statistics + 40);
-}
-
 static void reads_each_field_of_xdp(void) {
     uint8_t bytes[256];
+    const uint8_t *values[10];
     struct sockdiag_xdp_details it;
-    size_t end = SOCKDIAG_XDP_ATTRIBUTES, info, owner, receive, send, umem, fill, completion;
-    size_t memory, statistics;
+    size_t end = SOCKDIAG_XDP_ATTRIBUTES;
     memset(&it, UNTOUCHED, sizeof it);
     number_bytes(bytes, sizeof bytes);
-    info = begin(bytes, &end, 1, 8);
-    owner = begin(bytes, &end, 2, 4);
-    receive = begin(bytes, &end, 3, 4);
-    send = begin(bytes, &end, 4, 4);
-    umem = begin(bytes, &end, 5, 40);
-    fill = begin(bytes, &end, 6, 4);
-    completion = begin(bytes, &end, 7, 4);
-    memory = begin(bytes, &end, 8, 36);
-    statistics = begin(bytes, &end, 9, 48);
+    begin_each(bytes, &end, xdp_lengths, 10, values);
     check(sockdiag_xdp_get_details(bytes, end, &it) == SOCKDIAG_OK, "all fields of an XDP reply");
-    FIELD(it.header.kind, bytes + 1);
-    FIELD(it.header.inode, bytes + 4);
-    FIELD(it.header.cookie, bytes + 8);
-    TOLD(it.owner, bytes + owner, 4);
-    TOLD(it.receive_ring, bytes + receive, 4);
-    TOLD(it.send_ring, bytes + send, 4);
-    TOLD(it.fill_ring, bytes + fill, 4);
-    TOLD(it.completion_ring, bytes + completion, 4);
-    check_memory(&it.memory, bytes + memory);
-    check_xdp_records(&it, bytes + info, bytes + umem, bytes + statistics);
+    check_xdp(&it, bytes, values);
 }
 
 /* Each record by itself: its field has_.. is 1, and the others are 0. */

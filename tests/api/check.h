@@ -81,4 +81,18 @@ static inline size_t put(uint8_t *bytes, size_t at, uint16_t type_word, const vo
     return at + (length + 7) / 4 * 4;
 }
 
+/* Explains an attribute of a family by itself: the bytes before it, which are in the reply, take
+ * the place of the header. `length` is that of this attribute, or of all bytes that are left if
+ * they are not an attribute. */
+#define EXPLAINS_ATTRIBUTE(family, ATTRIBUTES)                                                  \
+    static inline uint32_t explain_##family##_attribute(const uint8_t *bytes, size_t length,    \
+                                                        struct sockdiag_error_details *error) { \
+        return sockdiag_##family##_explain(bytes - (ATTRIBUTES), length + (ATTRIBUTES), error); \
+    }
+
+EXPLAINS_ATTRIBUTE(netlink, SOCKDIAG_NETLINK_ATTRIBUTES)
+EXPLAINS_ATTRIBUTE(packet, SOCKDIAG_PACKET_ATTRIBUTES)
+EXPLAINS_ATTRIBUTE(vsock, SOCKDIAG_VSOCK_ATTRIBUTES)
+EXPLAINS_ATTRIBUTE(xdp, SOCKDIAG_XDP_ATTRIBUTES)
+
 #endif

@@ -56,7 +56,11 @@ REPLY(inet_marks, 2, SOCKDIAG_INET_ATTRIBUTES, put_many, 8, SOCKDIAG_INET_DIAG_M
 REPLY(inet_rejected, 2, SOCKDIAG_INET_ATTRIBUTES, put_many, 4, SOCKDIAG_INET_DIAG_INFO)
 REPLY(inet_text, 2, SOCKDIAG_INET_ATTRIBUTES, put_one, 'a', SOCKDIAG_INET_DIAG_CONG)
 REPLY(netlink_empty, 16, SOCKDIAG_NETLINK_ATTRIBUTES, put_many, 4, 99)
+REPLY(netlink_rejected, 16, SOCKDIAG_NETLINK_ATTRIBUTES, put_many, 4, 4)
+REPLY(packet_rejected, 17, SOCKDIAG_PACKET_ATTRIBUTES, put_many, 4, 2)
+REPLY(packet_text, 17, SOCKDIAG_PACKET_ATTRIBUTES, put_one, 'a', 7)
 REPLY(vsock_empty, 40, SOCKDIAG_VSOCK_ATTRIBUTES, put_many, 4, 99)
+REPLY(xdp_rejected, 44, SOCKDIAG_XDP_ATTRIBUTES, put_many, 4, 9)
 
 static void unix_path(uint8_t *bytes, size_t length) {
     unix_text(bytes, length);
@@ -187,6 +191,13 @@ static void write_requests(const uint8_t *bytes, size_t length) {
             unix_peers, unix_path, unix_pending, unix_rejected, unix_cut)                       \
     LENIENT(sockdiag_inet_get_lenient_details, struct sockdiag_inet_details, inet_empty,        \
             inet_marks, inet_text, inet_rejected)                                               \
+    LENIENT(sockdiag_netlink_get_lenient_details, struct sockdiag_netlink_details,              \
+            netlink_empty, netlink_rejected)                                                    \
+    LENIENT(sockdiag_packet_get_lenient_details, struct sockdiag_packet_details, unix_empty,    \
+            packet_rejected, packet_text, unix_cut)                                             \
+    LENIENT(sockdiag_vsock_get_lenient_details, struct sockdiag_vsock_header, vsock_empty)      \
+    LENIENT(sockdiag_xdp_get_lenient_details, struct sockdiag_xdp_details, unix_empty,          \
+            xdp_rejected, unix_cut)                                                             \
     OTHER(last_pending, , unix_pending, unix_pending_late)                                      \
     STRUCT(sockdiag_inet_get_tcp_info, struct sockdiag_tcp_info, inet_empty, inet_rejected)     \
     STRUCT(sockdiag_inet_get_long_tcp_info, struct sockdiag_long_tcp_info, inet_empty,          \

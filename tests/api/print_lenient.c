@@ -82,7 +82,8 @@ static void add_number(struct words *words, const char *name, struct sockdiag_nu
 }
 
 static void add_text(struct words *words, const char *name, const struct sockdiag_text *text) {
-    expect(text->kind <= SOCKDIAG_ABSTRACT, "the kind of a text");
+    static const char *const kinds[] = {"", "text", "abstract", "bytes"};
+    expect(text->kind <= SOCKDIAG_BYTES, "the kind of a text");
     if (text->kind == 0) {
         add(words, "%s=- ", name);
         return;
@@ -90,7 +91,7 @@ static void add_text(struct words *words, const char *name, const struct sockdia
     expect(text->length == 0 || (text->bytes >= payload && text->length <= payload_length &&
            (size_t)(text->bytes - payload) <= payload_length - text->length),
            "a text in the payload");
-    add(words, "%s=%s:", name, text->kind == SOCKDIAG_TEXT ? "text" : "abstract");
+    add(words, "%s=%s:", name, kinds[text->kind]);
     add_bytes(words, text->bytes, text->length);
     add(words, " ");
 }
@@ -137,13 +138,107 @@ static void add_inet(struct words *words, const struct sockdiag_inet_details *it
     add_number(words, "class_id", it->class_id);
 }
 
+static void add_memory(struct words *words, const struct sockdiag_memory *it) {
+    add_number(words, "memory_receive_queue", it->receive_queue);
+    add_number(words, "memory_receive_queue_max", it->receive_queue_max);
+    add_number(words, "memory_bottom_send_queues", it->bottom_send_queues);
+    add_number(words, "memory_send_queue_max", it->send_queue_max);
+    add_number(words, "memory_cache", it->cache);
+    add_number(words, "memory_send_queue", it->send_queue);
+    add_number(words, "memory_options", it->options);
+    add_number(words, "memory_backlog_queue_length", it->backlog_queue_length);
+    add_number(words, "memory_drops", it->drops);
+}
+
+/* Adds a record of numbers, or `-` if it is not present: then it is all zeros. */
+static void add_record(struct words *words, const char *name, uint32_t has,
+                       const uint64_t *numbers, size_t count) {
+    size_t index;
+    expect(has <= 1, "whether there is a record");
+    add(words, "%s=%s", name, has ? "" : "-");
+    for (index = 0; index < count; index++) {
+        expect(has || numbers[index] == 0, "a record of zeros");
+        if (has)
+            add(words, "%s%llu", index ? "," : "", (unsigned long long)numbers[index]);
+    }
+    add(words, " ");
+}
+
+static void add_netlink(struct words *words, const struct sockdiag_netlink_details *it) {
+    const struct sockdiag_netlink_header *header = &it->header;
+    add(words, "kind=%u protocol=%u state=%u port=%lu destination_port=%lu ", header->kind,
+        header->protocol, header->state, (unsigned long)header->port,
+        (unsigned long)header->destination_port);
+    add(words, "destination_group=%lu inode=%lu cookie=%llu ",
+        (unsigned long)header->destination_group, (unsigned long)header->inode,
+        (unsigned long long)header->cookie);
+    add_memory(words, &it->memory);
+    add_text(words, "groups", &it->groups);
+    add_number(words, "flags", it->flags);
+}
+
+static void add_ring(struct words *words, const char *name, uint32_t has,
+                     const struct sockdiag_packet_ring *it) {
+    const uint64_t numbers[7] = {it->block_size, it->blocks, it->frame_size, it->frames,
+                                 it->retire_timeout, it->private_size, it->features};
+    add_record(words, name, has, numbers, 7);
+}
+
+static void add_packet(struct words *words, const struct sockdiag_packet_details *it) {
+    const struct sockdiag_packet_info *info = &it->info;
+    const uint64_t numbers[6] = {info->interface, info->version, info->reserve,
+                                 info->copy_threshold, info->timestamp, info->flags};
+    add(words, "kind=%u protocol=%u inode=%lu cookie=%llu ", it->header.kind, it->header.protocol,
+        (unsigned long)it->header.inode, (unsigned long long)it->header.cookie);
+    add_record(words, "info", it->has_info, numbers, 6);
+    add_text(words, "addresses", &it->addresses);
+    add_ring(words, "receive_ring", it->has_receive_ring, &it->receive_ring);
+    add_ring(words, "send_ring", it->has_send_ring, &it->send_ring);
+    add_number(words, "fanout", it->fanout);
+    add_number(words, "owner", it->owner);
+    add_memory(words, &it->memory);
+    add_text(words, "filter", &it->filter);
+}
+
+static void add_vsock(struct words *words, const struct sockdiag_vsock_header *it) {
+    add(words, "kind=%u state=%u shutdown=%u source_context=%lu source_port=%lu ", it->kind,
+        it->state, it->shutdown, (unsigned long)it->source_context,
+        (unsigned long)it->source_port);
+    add(words, "destination_context=%lu destination_port=%lu inode=%lu cookie=%llu ",
+        (unsigned long)it->destination_context, (unsigned long)it->destination_port,
+        (unsigned long)it->inode, (unsigned long long)it->cookie);
+}
+
+static void add_xdp(struct words *words, const struct sockdiag_xdp_details *it) {
+    const struct sockdiag_xdp_umem *umem = &it->umem;
+    const struct sockdiag_xdp_statistics *counters = &it->statistics;
+    const uint64_t info[2] = {it->info.interface, it->info.queue};
+    const uint64_t memory[9] = {umem->size, umem->id, umem->pages, umem->chunk_size,
+                                umem->headroom, umem->interface, umem->queue, umem->flags,
+                                umem->references};
+    const uint64_t statistics[6] = {counters->received_dropped, counters->received_invalid,
+                                    counters->received_full, counters->fill_ring_empty,
+                                    counters->sent_invalid, counters->send_ring_empty};
+    add(words, "kind=%u inode=%lu cookie=%llu ", it->header.kind, (unsigned long)it->header.inode,
+        (unsigned long long)it->header.cookie);
+    add_record(words, "info", it->has_info, info, 2);
+    add_number(words, "owner", it->owner);
+    add_number(words, "receive_ring", it->receive_ring);
+    add_number(words, "send_ring", it->send_ring);
+    add_record(words, "umem", it->has_umem, memory, 9);
+    add_number(words, "fill_ring", it->fill_ring);
+    add_number(words, "completion_ring", it->completion_ring);
+    add_memory(words, &it->memory);
+    add_record(words, "statistics", it->has_statistics, statistics, 6);
+}
+
 typedef uint32_t explain(const uint8_t *, size_t, struct sockdiag_error_details *);
 
-/* Explains the bytes from this offset of the reply on. Returns the code of their error, or 0. */
-static uint32_t explain_from(explain *call, size_t offset) {
+/* Explains the bytes of the reply from `start` to `end`. Returns the code of their error, or 0. */
+static uint32_t explain_part(explain *call, size_t start, size_t end) {
     uint32_t code;
     memset(error, UNTOUCHED, sizeof *error);
-    code = call(payload + offset, payload_length - offset, error);
+    code = call(payload + start, end - start, error);
     if (code == SOCKDIAG_OK)
         expect(is_untouched(error, sizeof *error), "an unchanged error");
     else
@@ -182,7 +277,28 @@ static void add_rejections(struct words *words, uint32_t first) {
     add(words, "%s rejected=", *separator ? "" : "-");
 }
 
-/* Adds the error of each attribute that is rejected. Each is explained from its offset on. */
+/* Returns the end of the attribute that an iteration returned; or the end of the reply, if it
+ * returned a framing error. */
+static size_t end_of_item(uint32_t answer, size_t offset) {
+    return answer == SOCKDIAG_ITEM && offset < payload_length ? offset : payload_length;
+}
+
+/* Explains the first attribute that is rejected. Returns its code, or 0. */
+static uint32_t explain_first(explain *call, size_t offset) {
+    struct sockdiag_cursor cursor;
+    struct sockdiag_attribute attribute;
+    uint32_t answer, code = SOCKDIAG_OK;
+    cursor.offset = offset;
+    for (; code == SOCKDIAG_OK; offset = cursor.offset) {
+        answer = sockdiag_next_attribute(payload, payload_length, &cursor, &attribute);
+        if (answer == SOCKDIAG_END)
+            return SOCKDIAG_OK;
+        code = explain_part(call, offset, end_of_item(answer, cursor.offset));
+    }
+    return code;
+}
+
+/* Adds the error of each attribute that is rejected. Each is explained by itself. */
 static void add_each_error(struct words *words, explain *call, size_t offset) {
     struct sockdiag_cursor cursor;
     struct sockdiag_attribute attribute;
@@ -193,7 +309,7 @@ static void add_each_error(struct words *words, explain *call, size_t offset) {
         answer = sockdiag_next_attribute(payload, payload_length, &cursor, &attribute);
         if (answer == SOCKDIAG_END)
             break;
-        code = explain_from(call, offset);
+        code = explain_part(call, offset, end_of_item(answer, cursor.offset));
         expect(answer == SOCKDIAG_ITEM || answer == code, "a framing error");
         if (code == SOCKDIAG_OK)
             continue;
@@ -229,7 +345,8 @@ static void print_header_error(struct words *words) {
         memset(rejections, UNTOUCHED, sizeof *rejections);                                       \
         code = sockdiag_##family##_get_lenient_details(payload, payload_length, found,           \
                                                        rejections);                              \
-        expect(explain_from(sockdiag_##family##_explain, 0) == first, "the first error");        \
+        expect(explain_part(sockdiag_##family##_explain, 0, payload_length) == first,            \
+               "the first error");                                                               \
         if (code != SOCKDIAG_OK) {                                                               \
             expect(code == first, "the error of the header");                                    \
             expect(is_untouched(found, sizeof *found), "unchanged details");                     \
@@ -248,6 +365,54 @@ static void print_header_error(struct words *words) {
 
 TRY(unix, SOCKDIAG_UNIX_ATTRIBUTES)
 TRY(inet, SOCKDIAG_INET_ATTRIBUTES)
+
+/* The same for a family whose strict call checks the framing before values, and only the first
+ * attribute of each kind. So only its code of a header, and that of a reply without rejections, is
+ * the one that the lenient call returns. */
+#define TRY_FAMILY(family, type, start)                                                          \
+    static void try_##family(void) {                                                             \
+        static struct words words, strict_words;                                                 \
+        type strict, *found = (type *)(void *)(end_of_details - sizeof strict);                  \
+        uint32_t code, strict_code;                                                              \
+        words.length = strict_words.length = 0;                                                  \
+        memset(&strict, 0, sizeof strict);                                                       \
+        memset(found, UNTOUCHED, sizeof *found);                                                 \
+        memset(rejections, UNTOUCHED, sizeof *rejections);                                       \
+        strict_code = sockdiag_##family##_get_details(payload, payload_length, &strict);         \
+        code = sockdiag_##family##_get_lenient_details(payload, payload_length, found,           \
+                                                       rejections);                              \
+        if (code != SOCKDIAG_OK) {                                                               \
+            expect(code == strict_code, "the error of the header");                              \
+            expect(explain_part(sockdiag_##family##_explain, 0, payload_length) == code,         \
+                   "the explained error of the header");                                         \
+            expect(is_untouched(found, sizeof *found), "unchanged details");                     \
+            print_header_error(&words);                                                          \
+            return;                                                                              \
+        }                                                                                        \
+        add_##family(&words, found);                                                             \
+        if (rejections->first == SOCKDIAG_OK) {                                                  \
+            expect(strict_code == SOCKDIAG_OK, "a reply without rejections");                    \
+            add_##family(&strict_words, &strict);                                                \
+            expect(strcmp(words.text, strict_words.text) == 0, "equal details");                 \
+        }                                                                                        \
+        add_rejections(&words, explain_first(explain_##family##_attribute, start));              \
+        add_each_error(&words, explain_##family##_attribute, start);                             \
+        puts(words.text);                                                                        \
+    }
+
+TRY_FAMILY(netlink, struct sockdiag_netlink_details, SOCKDIAG_NETLINK_ATTRIBUTES)
+TRY_FAMILY(packet, struct sockdiag_packet_details, SOCKDIAG_PACKET_ATTRIBUTES)
+TRY_FAMILY(vsock, struct sockdiag_vsock_header, SOCKDIAG_VSOCK_ATTRIBUTES)
+TRY_FAMILY(xdp, struct sockdiag_xdp_details, SOCKDIAG_XDP_ATTRIBUTES)
+
+/* The kinds of replies, by the word at the start of a line. */
+static const struct {
+    const char *name;
+    void (*run)(void);
+} replies[] = {
+    {"unix ", try_unix},     {"inet ", try_inet},   {"netlink ", try_netlink},
+    {"packet ", try_packet}, {"vsock ", try_vsock}, {"xdp ", try_xdp},
+};
 
 static unsigned digit_value(char digit) {
     static const char digits[] = "0123456789abcdef";
@@ -279,20 +444,19 @@ int main(void) {
     rejections = (struct sockdiag_rejections *)(void *)(end_of_new_area() - sizeof *rejections);
     error = (struct sockdiag_error_details *)(void *)(end_of_new_area() - sizeof *error);
     while (fgets(line, sizeof line, stdin) != NULL) {
-        const int is_unix = strncmp(line, "unix ", 5) == 0;
+        size_t kind = 0;
         uint8_t *copy;
         line_number++;
-        if (!is_unix && strncmp(line, "inet ", 5) != 0)
+        while (kind < 6 && strncmp(line, replies[kind].name, strlen(replies[kind].name)) != 0)
+            kind++;
+        if (kind == 6)
             return fprintf(stderr, "print_lenient: line %lu: not a reply\n", line_number), 2;
-        payload_length = read_digits(line + 5, bytes);
+        payload_length = read_digits(line + strlen(replies[kind].name), bytes);
         /* At the start of the area or at its end. */
         copy = line_number % 2 ? end_of_input - payload_length : end_of_input - AREA;
         memcpy(copy, bytes, payload_length);
         payload = copy;
-        if (is_unix)
-            try_unix();
-        else
-            try_inet();
+        replies[kind].run();
     }
     return ferror(stdin) || fflush(stdout) != 0 || ferror(stdout) ? 1 : 0;
 }

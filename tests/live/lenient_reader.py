@@ -7,15 +7,17 @@
                                         copies of both
     lenient_reader.py cuts              prints each stored reply, and each of its prefixes
 
-The line of a reply is `unix HEX` or `inet HEX`, with the payload of the netlink message. Its answer
-is `error ERROR` if the header is rejected. Otherwise it has each field of the header, each detail,
-and the rejections: the first error, the code of the framing error, the code of the first error for
-each kind below 32, and for each rejected attribute in order its kind, or `framing`, and its error.
-A detail that the reply does not contain is `-`. ERROR is a code, and the other fields of `struct
-sockdiag_error_details` in the order of the header, separated by slashes.
+The line of a reply is `NAME HEX`, with the payload of the netlink message. NAME is `unix`, `inet`,
+`netlink`, `packet`, `vsock` or `xdp`. Its answer is `error ERROR` if the header is rejected.
+Otherwise it has each field of the header, each detail, and the rejections: the first error, the
+code of the framing error, the code of the first error for each kind below 32, and for each rejected
+attribute in order its kind, or `framing`, and its error. A detail that the reply does not contain
+is `-`, and the numbers of a record are separated by commas. ERROR is a code, and the other fields
+of `struct sockdiag_error_details` in the order of the header, separated by slashes.
 
-The tables are written from sock_diag(7), linux/unix_diag.h, linux/inet_diag.h, linux/sock_diag.h
-and the pages in docs. The reader shares no code with the crates. compare_lenient.sh compares its
+The tables are written from sock_diag(7), linux/unix_diag.h, linux/inet_diag.h, linux/sock_diag.h,
+linux/netlink_diag.h, linux/packet_diag.h, linux/vm_sockets_diag.h, linux/xdp_diag.h and the pages
+in docs. The reader shares no code with the crates. compare_lenient.sh compares its
 answers with those of tests/api/print_lenient.c and of rust/sockdiag.
 """
 
@@ -37,6 +39,8 @@ WRONG_LENGTH, NO_MULTIPLE_OF_4, NOT_UTF8 = 10, 11, 12
 NAME_EMPTY, NAME_INNER_ZERO, NAME_WITHOUT_END = 13, 14, 15
 # Numbers of the records that have a minimal length.
 INET_HEADER, UNIX_HEADER, LEGACY_MEMORY, MEMORY, TCP_INFO, VFS, UNIX_MEMORY = 3, 5, 6, 7, 8, 9, 10
+FAMILY_HEADER, FAMILY_ATTRIBUTE = 12, 13
+AF_NETLINK, AF_PACKET, AF_VSOCK, AF_XDP = 16, 17, 40, 44
 
 
 class Error(NamedTuple):
@@ -138,6 +142,99 @@ INET_ATTRIBUTES = {
 }
 
 
+def family_record(family, length):
+    """Returns a function that returns the error of a record in an attribute of this family."""
+    return lambda kind, value: None if len(value) >= length else Error(
+        TOO_SHORT, record=FAMILY_ATTRIBUTE, family=family, kind=kind, got=len(value), need=length)
+
+
+def any_value(*_):
+    """Returns the error of a value that is not checked: none."""
+    return None
+
+
+def optional_number(start):
+    """Returns a function that takes the u32 at this offset of a value, if the value has it."""
+    return lambda value: number(start, start + 4)(value) if len(value) >= start + 4 else "-"
+
+
+def numbers(form):
+    """Returns a function that takes the little-endian numbers at the start of a value."""
+    return lambda value: ",".join(map(str, struct.unpack_from(f"<{form}", value)))
+
+
+def raw(value):
+    """Returns the word for bytes that are not checked."""
+    return f"bytes:{value.hex()}"
+
+
+U32 = exactly(4), number(0, 4)
+# u32, indexed by SK_MEMINFO_RMEM_ALLOC 0 to SK_MEMINFO_DROPS 8. Old kernels send the first seven.
+SOCKET_MEMORY = (at_least(MEMORY, 28), {
+    name: optional_number(4 * index) for index, name in enumerate((
+        "memory_receive_queue", "memory_receive_queue_max", "memory_bottom_send_queues",
+        "memory_send_queue_max", "memory_cache", "memory_send_queue", "memory_options",
+        "memory_backlog_queue_length", "memory_drops",
+    ))
+})
+# NETLINK_DIAG_MEMINFO, NETLINK_DIAG_GROUPS and NETLINK_DIAG_FLAGS.
+NETLINK_ATTRIBUTES = {
+    0: SOCKET_MEMORY,
+    1: (any_value, {"groups": raw}),
+    4: (U32[0], {"flags": U32[1]}),
+}
+# PACKET_DIAG_INFO, _MCLIST, _RX_RING, _TX_RING, _FANOUT, _UID, _MEMINFO and _FILTER. struct
+# packet_diag_info has 6 u32, and struct packet_diag_ring 7.
+PACKET_ATTRIBUTES = {
+    0: (family_record(AF_PACKET, 24), {"info": numbers("6I")}),
+    1: (any_value, {"addresses": raw}),
+    2: (family_record(AF_PACKET, 28), {"receive_ring": numbers("7I")}),
+    3: (family_record(AF_PACKET, 28), {"send_ring": numbers("7I")}),
+    4: (U32[0], {"fanout": U32[1]}),
+    5: (U32[0], {"owner": U32[1]}),
+    6: SOCKET_MEMORY,
+    7: (any_value, {"filter": raw}),
+}
+# XDP_DIAG_INFO (2 u32), _UID, _RX_RING, _TX_RING, _UMEM (u64 and 8 u32), _UMEM_FILL_RING,
+# _UMEM_COMPLETION_RING, _MEMINFO and _STATS (6 u64).
+XDP_ATTRIBUTES = {
+    1: (family_record(AF_XDP, 8), {"info": numbers("2I")}),
+    2: (U32[0], {"owner": U32[1]}),
+    3: (U32[0], {"receive_ring": U32[1]}),
+    4: (U32[0], {"send_ring": U32[1]}),
+    5: (family_record(AF_XDP, 40), {"umem": numbers("Q8I")}),
+    6: (U32[0], {"fill_ring": U32[1]}),
+    7: (U32[0], {"completion_ring": U32[1]}),
+    8: SOCKET_MEMORY,
+    9: (family_record(AF_XDP, 48), {"statistics": numbers("6Q")}),
+}
+
+
+def family_header(family, form, names):
+    """Returns a function that returns the error of a header and its fields. `form` is the form of
+    the whole struct for struct.unpack_from, which skips the family and the padding."""
+    length = struct.calcsize(form)
+
+    def parse(payload):
+        if len(payload) < length:
+            return Error(TOO_SHORT, record=FAMILY_HEADER, family=family, got=len(payload),
+                         need=length), {}
+        return None, dict(zip(names, struct.unpack_from(form, payload)))
+
+    return parse
+
+
+netlink_header = family_header(AF_NETLINK, "<x3B4IQ", (
+    "kind", "protocol", "state", "port", "destination_port", "destination_group", "inode", "cookie",
+))
+packet_header = family_header(AF_PACKET, "<xBHIQ", ("kind", "protocol", "inode", "cookie"))
+vsock_header = family_header(AF_VSOCK, "<x3B5IQ", (
+    "kind", "state", "shutdown", "source_context", "source_port", "destination_context",
+    "destination_port", "inode", "cookie",
+))
+xdp_header = family_header(AF_XDP, "<xBxxIQ", ("kind", "inode", "cookie"))
+
+
 def unix_header(payload):
     """Returns the error of a struct unix_diag_msg, and its fields if there is no error."""
     if len(payload) < 16:
@@ -178,7 +275,18 @@ def inet_header(payload):
 
 
 # For each kind of reply: the size of its header, how it is parsed, and the attributes.
-REPLIES = {"unix": (16, unix_header, UNIX_ATTRIBUTES), "inet": (72, inet_header, INET_ATTRIBUTES)}
+REPLIES = {
+    "unix": (16, unix_header, UNIX_ATTRIBUTES),
+    "inet": (72, inet_header, INET_ATTRIBUTES),
+    "netlink": (28, netlink_header, NETLINK_ATTRIBUTES),
+    "packet": (16, packet_header, PACKET_ATTRIBUTES),
+    "vsock": (32, vsock_header, {}),
+    "xdp": (16, xdp_header, XDP_ATTRIBUTES),
+}
+FAMILIES = {
+    1: "unix", 2: "inet", 10: "inet", AF_NETLINK: "netlink", AF_PACKET: "packet",
+    AF_VSOCK: "vsock", AF_XDP: "xdp",
+}
 
 
 def split(data, offset):
@@ -224,15 +332,16 @@ def answer(name, payload):
         return f"error {error}"
     # A field of the header and a detail may have the same name, so the details are separate.
     details, rejected = {detail: "-" for _, parts in attributes.values() for detail in parts}, []
+    accepted = set()
     for kind, value in split(payload, size):
-        error_of, parts = attributes.get(kind, (lambda *_: None, {}))
+        error_of, parts = attributes.get(kind, (any_value, {}))
         error = value if kind is None else error_of(kind, value)
         if error:
             rejected.append((kind, error))
             continue
-        for detail, part in parts.items():
-            if details[detail] == "-":
-                details[detail] = part(value)
+        if kind not in accepted:
+            details.update((detail, part(value)) for detail, part in parts.items())
+        accepted.add(kind)
     words = [f"{key}={value}" for part in (fields, details) for key, value in part.items()]
     return " ".join([*words, *rejections(rejected)])
 
@@ -260,14 +369,32 @@ def captured_datagrams():
 
 def named(payload):
     """Returns the reply as (name, payload), or None if its family is of another kind of socket."""
-    name = {1: "unix", 2: "inet", 10: "inet"}.get(payload[0] if payload else 0)
+    name = FAMILIES.get(payload[0] if payload else 0)
     return (name, payload) if name else None
 
 
+# Replies about a netlink and a packet socket that Linux 6.18 sent, and about a vsock and an XDP
+# socket that were made by hand from the kernel's headers.
+FAMILY_REPLIES = (
+    "100300076a1800000000000000000000ff53010001100000000000000c000100110000000000000028000000"
+    "0000000000400300000000000040030000000000000000000000000000000000000000000800040020000000",
+    "110300080054010003100000000000001c000000010000000000000000000000000000000000000001000000"
+    "08000500000000003000010001000000010000000000060001005e0000fb0000000000000000000000000000"
+    "0000000000000000000000002000020000100000020000000008000004000000000000000000000000000000"
+    "0800040007000000280006000000000000400300000000000040030000000000000000008800000000000000"
+    "000000000c00070006000000ffff0000",
+    "28010a000200000016000000ffffffffffffffff0a5000000500000000000000",
+    "2c0300000b00000006000000000000000c000100030000000100000008000200e80300000800030000080000"
+    "2c00050000004000000000000200000000040000001000000000000003000000010000000100000001000000"
+    "0800060000100000340009000100000000000000020000000000000003000000000000000400000000000000"
+    "05000000000000000600000000000000",
+)
+
+
 def stored_replies():
-    """Returns the replies that kernels sent, in the stored capture, and those of the stored lines
-    and of tests/api/kernels."""
-    found = [
+    """Returns the replies that kernels sent, in the stored capture, those of the stored lines and of
+    tests/api/kernels, and FAMILY_REPLIES."""
+    found = [named(bytes.fromhex(digits)) for digits in FAMILY_REPLIES] + [
         named(payload) for datagram in captured_datagrams()
         for kind, flags, payload in messages(datagram)
         if kind == SOCK_DIAG_BY_FAMILY and not flags & NLM_F_REQUEST
@@ -296,6 +423,19 @@ LENGTHS = {
     ("inet", 1): (12, 15, 16, 17),
     ("inet", 2): (48, 96, 104, 192, 224, 231, 232, 233, 240, 248, 280, 368),
     ("inet", 7): (24, 27, 28, 32, 36, 40),
+    ("netlink", 0): (24, 27, 28, 31, 32, 35, 36, 40),
+    ("netlink", 1): (0, 4, 8, 13),
+    ("netlink", 4): (0, 3, 4, 4, 5),
+    ("packet", 0): (0, 20, 23, 24, 25, 32),
+    ("packet", 1): (0, 44, 88),
+    ("packet", 2): (24, 27, 28, 29, 40),
+    ("packet", 3): (0, 27, 28, 32),
+    ("packet", 6): (24, 27, 28, 31, 32, 35, 36, 40),
+    ("packet", 7): (0, 8, 80),
+    ("xdp", 1): (4, 7, 8, 9),
+    ("xdp", 5): (36, 39, 40, 41, 48),
+    ("xdp", 8): (24, 27, 28, 31, 32, 35, 36, 40),
+    ("xdp", 9): (24, 47, 48, 49, 56),
 }
 NAMES = (
     b"", b"\0", b"\0\0", b"\0abstract", b"\0a\0b", b"\0\xff\xfe", b"/run/a\0", b"/run/a", b"x\0",
@@ -331,12 +471,12 @@ def built_attribute(rng, name):
 
 def built_reply(rng):
     """Returns a reply with a random header and up to eight attributes."""
-    name = rng.choice(("unix", "inet", "inet"))
+    name = rng.choice(("unix", "inet", "inet", "netlink", "packet", "vsock", "xdp", "xdp"))
     header = bytearray(rng.randbytes(REPLIES[name][0]))
     if name == "inet" and rng.random() < 0.97:
         header[0], header[2] = rng.choice((2, 10)), rng.randrange(7)
-    elif name == "unix":
-        header[0] = 1
+    elif name != "inet":
+        header[0] = next(family for family, it in FAMILIES.items() if it == name)
     return name, bytes(header) + b"".join(
         built_attribute(rng, name) for _ in range(rng.randrange(9))
     )

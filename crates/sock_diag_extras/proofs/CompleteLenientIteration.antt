@@ -13,42 +13,49 @@ use Rattle.attribute_lists.proofs.Finding.{value_first, rest_has_no_error}
 use Rattle.attribute_lists.proofs.FirstAttribute.{no_attribute_is_found}
 use Rattle.attribute_lists.proofs.Finding.{no_framing_error_in_attributes, first_attribute_decodes}
 use Rattle.sock_diag_extras.specs.Lenient.{YieldsLenientItem, HasLenientItems, RejectionModel}
-use Rattle.sock_diag_extras.specs.Lenient.{lenient_item_model, lenient_item_of}
+use Rattle.sock_diag_extras.specs.Lenient.{HasLenientItemsBy, lenient_item_by, lenient_item_of}
+use Rattle.sock_diag_extras.specs.Lenient.{lenient_item_model}
 use Rattle.sock_diag_extras.specs.declared.lenient.LenientNlas.{LenientNlas}
 use Rattle.sock_diag_extras.specs.declared.lenient.LenientError.{LenientError}
 
-module _ (F : AttributeSet) where
+module _ {V : Type 0} (decode : Attribute → Result V DecodeError) where
   -- A list of items.
   abbrev Items : Type 0
-  Items = List (Result (AttributeValue F) RejectionModel)
+  Items = List (Result V RejectionModel)
 
   -- The items of bytes are the item of their first attribute, and then the items of the bytes after
   -- it.
   pub items_from_first : (bytes rest : List ℕ) (a : Attribute) (items : Items)
       → StartsWithAttribute bytes a rest
-      → HasLenientItems F rest items → HasLenientItems F bytes (lenient_item_of F a ∷ items)
+      → HasLenientItemsBy decode rest items
+      → HasLenientItemsBy decode bytes (lenient_item_by decode a ∷ items)
   items_from_first bytes rest a items s (later, how) = (
     a ∷ later,
     elim how [
-      | inl whole ↦ inl ((rest, s, whole.0), ap (λ (r : Items). lenient_item_of F a ∷ r) whole.1)
+      | inl whole ↦ inl (
+        (rest, s, whole.0),
+        ap (λ (r : Items). lenient_item_by decode a ∷ r)
+            whole.1,
+      )
       | inr stop ↦ inr (
         stop.0,
         error_after_attribute IsFramingError bytes rest a later stop.0 s stop.1,
-        ap (λ (r : Items). lenient_item_of F a ∷ r) stop.2,
+        ap (λ (r : Items). lenient_item_by decode a ∷ r) stop.2,
       )
     ],
   )
 
   -- Bytes that start with a framing error have one item, this error.
   pub framing_error_is_last : (bytes : List ℕ) (e : DecodeError)
-      (item : Result (AttributeValue F) RejectionModel)
+      (item : Result V RejectionModel)
       (later : Items)
       → bytes ≢ [] → IsFramingError bytes e
       → item ≡ Err (record { attribute = None; error = e }) → later ≡ []
-      → HasLenientItems F bytes (item ∷ later)
+      → HasLenientItemsBy decode bytes (item ∷ later)
   framing_error_is_last bytes e item later some error same none =
       ([], inr (e, (bytes, refl, some, error), λ z. same z ∷ none z))
 
+module _ (F : AttributeSet) where
   -- The item of an attribute that decodes without an error is its value.
   item_of_decoded_attribute : (a : Attribute) (item : Result (AttributeValue F) RejectionModel)
       → item ≡ lenient_item_of F a
@@ -89,8 +96,9 @@ module _ {V : Type 0} (F : AttributeSet) (view_model : V → AttributeValue F) w
         | inl front ↦ subst (λ (item : Result (AttributeValue F) RejectionModel).
             HasLenientItems F (unread_bytes walk.walk)
             (item ∷ map (lenient_item_model F view_model) given)) (sym front.2)
-            (items_from_first F _ _ front.0 _ front.1 (drained_items_are_all rest given behind))
-        | inr stop ↦ framing_error_is_last F _ stop.0 _ _ stop.1 stop.2 stop.4
+            (items_from_first (decode_attribute F) _ _ front.0 _ front.1
+            (drained_items_are_all rest given behind))
+        | inr stop ↦ framing_error_is_last (decode_attribute F) _ stop.0 _ _ stop.1 stop.2 stop.4
             (ap (map (lenient_item_model F view_model))
             (no_items_of_empty_bytes rest given behind stop.3))
       ]

@@ -26,13 +26,19 @@ rejection_model (refused.Attribute nla e) = record {
 }
 rejection_model (refused.Framing e) = record { attribute = None; error = e }
 
--- `lenient_item_of F a`: the item for the attribute `a`, by the set `F` of known attribute types:
--- `Ok` and the value that it decodes to, or `Err` and the attribute with its error.
--- `result_map_both f g r`: `Ok (f v)` if `r` is `Ok v`, and `Err (g e)` if `r` is `Err e`.
+-- `lenient_item_by decode a`: the item for the attribute `a`, by the function `decode`, which
+-- decodes an attribute or rejects it: `Ok` and the value that it decodes to, or `Err` and the
+-- attribute with its error. `result_map_both f g r`: `Ok (f v)` if `r` is `Ok v`, and `Err (g e)`
+-- if `r` is `Err e`.
+abbrev pub lenient_item_by : {V : Type 0} → (Attribute → Result V DecodeError) → Attribute
+    → Result V RejectionModel
+lenient_item_by decode a = result_map_both (λ value. value) (λ e.
+    record { attribute = Some a; error = e }) (decode a)
+
+-- `lenient_item_of F a`: the item for the attribute `a`, by the set `F` of known attribute types
 abbrev pub lenient_item_of : (F : AttributeSet) → Attribute
     → Result (AttributeValue F) RejectionModel
-lenient_item_of F a = result_map_both (λ value. value) (λ e.
-    record { attribute = Some a; error = e }) (decode_attribute F a)
+lenient_item_of F = lenient_item_by (decode_attribute F)
 
 -- `lenient_item_model F view_model item`: the model of an item that the iterator yields.
 -- `view_model` maps a view to the value that it decodes to.
@@ -65,15 +71,23 @@ YieldsLenientItem F view_model old given new =
     (λ item. StartsWithLenientItem F (unread_lenient_bytes old)
     (lenient_item_model F view_model item) (unread_lenient_bytes new))
 
--- `HasLenientItems F bytes items`: `items` are all items of the bytes, in order. Either the bytes
--- consist of attributes (`SplitsIntoAttributes`): `items` has one item for each. Or there are
--- attributes, or none, and then bytes with the framing error `e` (`SplitsUntilError`): `items` has
--- one item for each attribute, and last `e` without an attribute.
+-- `HasLenientItemsBy decode bytes items`: `items` are all items of the bytes, in order, by the
+-- function `decode`, which decodes an attribute or rejects it. Either the bytes consist of
+-- attributes (`SplitsIntoAttributes`): `items` has one item for each. Or there are attributes, or
+-- none, and then bytes with the framing error `e` (`SplitsUntilError`): `items` has one item for
+-- each attribute, and last `e` without an attribute.
+abbrev pub HasLenientItemsBy : {V : Type 0} → (Attribute → Result V DecodeError) → List ℕ
+    → List (Result V RejectionModel)
+    → Type 0
+HasLenientItemsBy decode bytes items = (attributes : List Attribute) × (
+    (SplitsIntoAttributes bytes attributes [] × (items ≡ map (lenient_item_by decode) attributes))
+    ⊎ ((e : DecodeError) × SplitsUntilError IsFramingError bytes attributes e
+    × (items ≡ map (lenient_item_by decode) attributes
+    ++ Err (record { attribute = None; error = e }) ∷ [])))
+
+-- `HasLenientItems F bytes items`: `items` are all items of the bytes, in order, by the set `F` of
+-- known attribute types
 abbrev pub HasLenientItems : (F : AttributeSet) → List ℕ
     → List (Result (AttributeValue F) RejectionModel)
     → Type 0
-HasLenientItems F bytes items = (attributes : List Attribute) × (
-    (SplitsIntoAttributes bytes attributes [] × (items ≡ map (lenient_item_of F) attributes))
-    ⊎ ((e : DecodeError) × SplitsUntilError IsFramingError bytes attributes e
-    × (items ≡ map (lenient_item_of F) attributes ++ Err (record { attribute = None; error = e })
-    ∷ [])))
+HasLenientItems F = HasLenientItemsBy (decode_attribute F)

@@ -7,13 +7,12 @@ use Rattle.std.specs.Prelude.{if◌then◌else◌, option_and_then, unwrap_or, �
 use Rattle.std.specs.Result.{result_ok, result_err}
 use Rattle.netlink_core.specs.declared.error.DecodeError.{DecodeError}
 use Rattle.netlink_core.specs.Attribute.{Attribute, IsFramingError, StartsWithAttribute}
-use Rattle.netlink_core.specs.AttributeSet.{AttributeSet, AttributeValue}
 use Rattle.netlink_core.specs.Errors.{error_code}
-use Rattle.sock_diag_extras.specs.Lenient.{HasLenientItems, RejectionModel, lenient_item_of}
+use Rattle.sock_diag_extras.specs.Lenient.{HasLenientItemsBy, RejectionModel, lenient_item_by}
 use Rattle.sock_diag_extras.proofs.CompleteLenientIteration.{framing_error_is_last}
 use Rattle.sock_diag_extras.proofs.CompleteLenientIteration.{items_from_first}
 use Rattle.sock_diag_replies.specs.UnixGetters.{first_content_of}
-use Rattle.sockdiag_c.specs.LenientDetails.{HasRejections, LenientItem, accepted_values}
+use Rattle.sockdiag_c.specs.LenientDetails.{HasRejections, accepted_values}
 use Rattle.sockdiag_c.specs.LenientDetails.{code_of_any, code_of_framing, code_of_kind, first_code}
 use Rattle.sockdiag_c.specs.declared.lenient.Rejections.{Rejections}
 use Rattle.sockdiag_c.specs.declared.lenient.TheConstants.{REJECTION_KINDS}
@@ -24,52 +23,56 @@ use Rattle.sockdiag_c.specs.private.Rejections.{kept_code}
 -- ---- the items so far
 
 -- the bytes have the items so far, and then the items of the bytes left
-pub record ItemsSoFar (F : AttributeSet) (bytes left : List ℕ) (so_far : List (LenientItem F))
+pub record ItemsSoFar {V : Type 0} (decode : Attribute → Result V DecodeError)
+    (bytes left : List ℕ) (so_far : List (Result V RejectionModel))
     : Type 0 where
-  pub extend : (later : List (LenientItem F)) → HasLenientItems F left later
-      → HasLenientItems F bytes (so_far ++ later)
+  pub extend : (later : List (Result V RejectionModel)) → HasLenientItemsBy decode left later
+      → HasLenientItemsBy decode bytes (so_far ++ later)
 
-module _ (F : AttributeSet) where
-  pub no_items_yet : (bytes left : List ℕ) → left ≡ bytes → ItemsSoFar F bytes left []
+module _ {V : Type 0} (decode : Attribute → Result V DecodeError) where
+  pub no_items_yet : (bytes left : List ℕ) → left ≡ bytes → ItemsSoFar decode bytes left []
   no_items_yet bytes left same = record {
-    extend = λ later h. subst (λ (b : List ℕ). HasLenientItems F b later) same h;
+    extend = λ later h. subst (λ (b : List ℕ). HasLenientItemsBy decode b later) same h;
   }
 
-  pub one_more_item : (bytes left rest : List ℕ) (a : Attribute) (so_far : List (LenientItem F))
-      (item : LenientItem F)
-      → StartsWithAttribute left a rest → item ≡ lenient_item_of F a
-      → ItemsSoFar F bytes left so_far
-      → ItemsSoFar F bytes rest (so_far ++ item ∷ [])
+  pub one_more_item : (bytes left rest : List ℕ) (a : Attribute)
+      (so_far : List (Result V RejectionModel)) (item : Result V RejectionModel)
+      → StartsWithAttribute left a rest → item ≡ lenient_item_by decode a
+      → ItemsSoFar decode bytes left so_far
+      → ItemsSoFar decode bytes rest (so_far ++ item ∷ [])
   one_more_item bytes left rest a so_far item start is collected = record {
-    extend = λ later h. subst (λ (items : List (LenientItem F)). HasLenientItems F bytes items)
+    extend = λ later h.
+        subst (λ (items : List (Result V RejectionModel)). HasLenientItemsBy decode bytes items)
         (sym (append_assoc so_far (item ∷ []) later))
         (collected.extend (item ∷ later)
-        (subst (λ (x : LenientItem F). HasLenientItems F left (x ∷ later)) (sym is)
-        (items_from_first F left rest a later start h)));
+        (subst (λ (x : Result V RejectionModel). HasLenientItemsBy decode left (x ∷ later)) (sym is)
+        (items_from_first decode left rest a later start h)));
   }
 
-  pub all_items : (bytes left : List ℕ) (so_far : List (LenientItem F)) → left ≡ []
-      → ItemsSoFar F bytes left so_far → HasLenientItems F bytes so_far
+  pub all_items : (bytes left : List ℕ) (so_far : List (Result V RejectionModel)) → left ≡ []
+      → ItemsSoFar decode bytes left so_far → HasLenientItemsBy decode bytes so_far
   all_items bytes left so_far none collected =
-      subst (λ (items : List (LenientItem F)). HasLenientItems F bytes items) (append-nil so_far)
+      subst (λ (items : List (Result V RejectionModel)). HasLenientItemsBy decode bytes items)
+      (append-nil so_far)
       (collected.extend [] ([], inl (none, refl)))
 
-  pub items_and_framing_error : (bytes left : List ℕ) (so_far : List (LenientItem F))
+  pub items_and_framing_error : (bytes left : List ℕ) (so_far : List (Result V RejectionModel))
       (e : DecodeError)
-      → left ≢ [] → IsFramingError left e → ItemsSoFar F bytes left so_far
-      → HasLenientItems F bytes (so_far ++ Err (record { attribute = None; error = e }) ∷ [])
+      → left ≢ [] → IsFramingError left e → ItemsSoFar decode bytes left so_far
+      → HasLenientItemsBy decode bytes (so_far ++ Err (record { attribute = None; error = e }) ∷ [])
   items_and_framing_error bytes left so_far e some error collected =
       collected.extend (Err (record { attribute = None; error = e }) ∷ [])
-      (framing_error_is_last F left e (Err (record { attribute = None; error = e })) [] some error
-      refl refl)
+      (framing_error_is_last decode left e (Err (record { attribute = None; error = e })) [] some
+      error refl refl)
 
-  -- ---- the accepted values
+-- ---- the accepted values
 
-  pub one_more_value : (so_far : List (LenientItem F)) (v : AttributeValue F)
+module _ {V : Type 0} where
+  pub one_more_value : (so_far : List (Result V RejectionModel)) (v : V)
       → accepted_values so_far ++ v ∷ [] ≡ accepted_values (so_far ++ Ok v ∷ [])
   one_more_value so_far v = sym (filter_map-append result_ok so_far (Ok v ∷ []))
 
-  pub no_more_value : (so_far : List (LenientItem F)) (r : RejectionModel)
+  pub no_more_value : (so_far : List (Result V RejectionModel)) (r : RejectionModel)
       → accepted_values so_far ≡ accepted_values (so_far ++ Err r ∷ [])
   no_more_value so_far r =
       sym (filter_map-append result_ok so_far (Err r ∷ []) ∙ append-nil (accepted_values so_far))

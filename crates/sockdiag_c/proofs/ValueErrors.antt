@@ -1,6 +1,7 @@
 -- The values of a reply in order, and their first error.
 use Rattle.std.proofs.Common.{arith}
-use Rattle.std.proofs.Common.{◌≡◌, List, [], ◌∷◌, Option, Some, None, Result, Ok}
+use Rattle.std.proofs.Common.{◌≡◌, List, [], ◌∷◌, Option, Some, None, Result, Ok, Err, refl}
+use Rattle.std.proofs.Common.{subst}
 use Rattle.std.specs.Prelude.{IsOkAnd}
 use Rattle.std.specs.Result.{result_err}
 use Rattle.netlink_core.specs.declared.error.DecodeError.{DecodeError}
@@ -17,6 +18,10 @@ of_read {A} P r s x is ok holds =
 pub record FirstErrorOf (errors : List (Option DecodeError)) (found : Option DecodeError)
     : Type 0 where
   pub is : first_content_of (λ (o : Option DecodeError). o) errors ≡ found
+
+-- no value has no error
+pub no_value_error : FirstErrorOf [] None
+no_value_error = record { is = refl }
 
 -- the stored error is the first
 pub stored_error_is_first : (o : Option DecodeError) (e : DecodeError) → o ≡ Some e
@@ -38,3 +43,18 @@ pub none_before : {A : Type 0} (s : Result A DecodeError) (old new : Option Deco
     → new ≡ first_present old (result_err s) → new ≡ None → old ≡ None
 none_before s old new kept none =
     grind arith
+
+-- a value that parses has no error
+pub error_after_value : {A : Type 0} (r : Result A DecodeError) (x : A)
+    (later : List (Option DecodeError)) (found : Option DecodeError) → Ok x ≡ r
+    → FirstErrorOf later found → FirstErrorOf (result_err r ∷ later) found
+error_after_value {A} r x later found is first =
+    subst (λ (s : Result A DecodeError). FirstErrorOf (result_err s ∷ later) found) is
+    (record { is = first.is })
+
+-- the error of a value that does not parse is the first
+pub error_of_value : {A : Type 0} (r : Result A DecodeError) (e : DecodeError)
+    (later : List (Option DecodeError)) → Err e ≡ r → FirstErrorOf (result_err r ∷ later) (Some e)
+error_of_value {A} r e later is =
+    subst (λ (s : Result A DecodeError). FirstErrorOf (result_err s ∷ later) (Some e)) is
+    (record { is = refl })

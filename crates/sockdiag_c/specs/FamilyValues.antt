@@ -1,7 +1,7 @@
 -- Attributes of netlink, packet and XDP sockets, as C structs. Of each kind the first attribute
 -- counts.
-use Rattle.std.specs.Prelude.{◌≡◌, ℕ, ◌⊎◌, List, Option, Some, option_map, option_and_then}
-use Rattle.std.specs.Prelude.{Result}
+use Rattle.std.specs.Prelude.{◌≡◌, ℕ, ◌⊎◌, List, [], ◌∷◌, Option, Some, None, option_map}
+use Rattle.std.specs.Prelude.{option_and_then, Result, Ok, Err}
 use Rattle.netlink_core.specs.Attribute.{Attribute}
 use Rattle.netlink_core.specs.Layout.{parse_record}
 use Rattle.netlink_core.specs.Parse.{number_of_width}
@@ -66,3 +66,21 @@ RejectsReplyOrValue R errors payload e =
     (response_codec R).rejects payload tt e
     ⊎ ((v : ReplyValue R) × (response_codec R).parses payload tt v
     × (first_content_of (λ o. o) (errors v) ≡ Some e))
+
+-- accept_unless error a: `Ok a` if there is no error (None), else the error
+abbrev pub accept_unless : Option DecodeError → Attribute → Result Attribute DecodeError
+accept_unless None a = Ok a
+accept_unless (Some e) a = Err e
+
+-- check_attribute errors a: accepts or rejects the attribute `a` by itself: `Ok a`, or `Err` of the
+-- error of its value. `errors attributes` has the error of each kind of value in a list of
+-- attributes, or None; here the list has only `a`. So an attribute is accepted if and only if the
+-- strict call accepts a reply that has no other attribute.
+abbrev pub check_attribute : (List Attribute → List (Option DecodeError)) → Attribute
+    → Result Attribute DecodeError
+check_attribute errors a = accept_unless (first_content_of (λ o. o) (errors (a ∷ []))) a
+
+-- `no_errors_in attributes`: no errors, since no kind of value is parsed: the errors of a reply
+-- about a vsock socket, to which Linux adds no attributes
+abbrev pub no_errors_in : List Attribute → List (Option DecodeError)
+no_errors_in attributes = []

@@ -5,11 +5,11 @@ use Rattle.std.specs.Prelude.{option_and_then, unwrap_or, is_none, slice_index, 
 use Rattle.std.specs.List.{filter_map}
 use Rattle.std.specs.Result.{result_ok, result_err}
 use Rattle.netlink_core.specs.declared.error.DecodeError.{DecodeError}
-use Rattle.netlink_core.specs.Attribute.{DecodeTo, HasAttributeError, attribute_kind}
+use Rattle.netlink_core.specs.Attribute.{Attribute, DecodeTo, HasAttributeError, attribute_kind}
 use Rattle.netlink_core.specs.AttributeSet.{AttributeSet, AttributeValue, decode_attribute}
 use Rattle.netlink_core.specs.Errors.{error_code}
 use Rattle.netlink_core.specs.Response.{ResponseSpec}
-use Rattle.sock_diag_extras.specs.Lenient.{HasLenientItems, RejectionModel}
+use Rattle.sock_diag_extras.specs.Lenient.{HasLenientItemsBy, RejectionModel}
 use Rattle.sock_diag_replies.specs.UnixGetters.{first_content_of}
 use Rattle.sockdiag_c.specs.declared.lenient.Rejections.{Rejections}
 use Rattle.sockdiag_c.specs.declared.lenient.TheConstants.{REJECTION_KINDS}
@@ -57,31 +57,47 @@ HasRejections it items =
     × ((k : ℕ) → k < REJECTION_KINDS
     → slice_index it.errors k ≡ first_code (code_of_kind k) items)
 
--- AgreesWithStrictParse F bytes items: the lenient items of the bytes agree with the strict parse.
--- Either there is no rejection, and the bytes decode to the accepted values. Or the code of the
--- first rejection is the code of the error with which the strict parse rejects the bytes.
-abbrev pub AgreesWithStrictParse : (F : AttributeSet) → List ℕ → List (LenientItem F) → Type 0
-AgreesWithStrictParse F bytes items =
-    ((first_code code_of_any items ≡ 0)
-    × DecodeTo (decode_attribute F) bytes (accepted_values items))
-    ⊎ ((e : DecodeError) × HasAttributeError (decode_attribute F) bytes e
+-- AgreesWithStrictParseBy decode bytes items: the lenient items of the bytes agree with the strict
+-- parse, both by the function `decode`. Either there is no rejection, and the bytes decode to the
+-- accepted values. Or the code of the first rejection is the code of the error with which the
+-- strict parse rejects the bytes.
+abbrev pub AgreesWithStrictParseBy : {V : Type 0} → (Attribute → Result V DecodeError) → List ℕ
+    → List (Result V RejectionModel)
+    → Type 0
+AgreesWithStrictParseBy decode bytes items =
+    ((first_code code_of_any items ≡ 0) × DecodeTo decode bytes (accepted_values items))
+    ⊎ ((e : DecodeError) × HasAttributeError decode bytes e
     × (first_code code_of_any items ≡ error_code e))
 
--- IsLenientResult R describes payload old new was now answer: `answer` is the return value. Of the
--- struct of details, `old` is its contents before the call and `new` those after it; of the struct
--- of rejections, `was` is its contents before the call and `now` those after it. One of:
+-- AgreesWithStrictParse F bytes items: as AgreesWithStrictParseBy, by the set `F` of known
+-- attribute types
+abbrev pub AgreesWithStrictParse : (F : AttributeSet) → List ℕ → List (LenientItem F) → Type 0
+AgreesWithStrictParse F = AgreesWithStrictParseBy (decode_attribute F)
+
+-- IsLenientResultBy R decode describes payload old new was now answer: `answer` is the return
+-- value. Of the struct of details, `old` is its contents before the call and `new` those after it;
+-- of the struct of rejections, `was` is its contents before the call and `now` those after it.
+-- `decode` decodes an attribute or rejects it. One of:
 -- - The header of the reply in `payload` parses (`R.header.parses`), and `answer` is 0. `items` are
 --   the items of the bytes after the header, whose number is `R.size`. The details describe the
 --   header and the values of the accepted attributes, and the rejections have the errors of the
 --   others.
 -- - The header has the error `e`. `answer` is its code, and both structs are unchanged.
-abbrev pub IsLenientResult : {T : Type 0} (R : ResponseSpec)
+abbrev pub IsLenientResultBy : {T : Type 0} (R : ResponseSpec)
+    → (Attribute → Result (AttributeValue R.attribute_set) DecodeError)
     → (R.header.Value → T → List (AttributeValue R.attribute_set) → Type 0) → List ℕ → T → T
     → Rejections → Rejections → ℕ → Type 0
-IsLenientResult R describes payload old new was now answer =
+IsLenientResultBy R decode describes payload old new was now answer =
     ((answer ≡ 0) × ((h : R.header.Value) × (R.header.parses tt payload ≡ Ok h)
     × ((items : List (LenientItem R.attribute_set))
-    × HasLenientItems R.attribute_set (drop R.size payload) items
+    × HasLenientItemsBy decode (drop R.size payload) items
     × describes h new (accepted_values items) × HasRejections now items)))
     ⊎ ((e : DecodeError) × (R.header.parses tt payload ≡ Err e) × (answer ≡ error_code e)
     × (new ≡ old) × (now ≡ was))
+
+-- IsLenientResult R describes payload old new was now answer: as IsLenientResultBy, by the set of
+-- the known attribute types of the reply
+abbrev pub IsLenientResult : {T : Type 0} (R : ResponseSpec)
+    → (R.header.Value → T → List (AttributeValue R.attribute_set) → Type 0) → List ℕ → T → T
+    → Rejections → Rejections → ℕ → Type 0
+IsLenientResult R = IsLenientResultBy R (decode_attribute R.attribute_set)

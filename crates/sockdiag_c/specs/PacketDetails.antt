@@ -1,6 +1,7 @@
 -- The contents of a reply about a packet socket: `struct sockdiag_packet_details`.
 use Rattle.std.specs.Prelude.{◌≡◌, List, [], ◌∷◌, Option, IsOkAnd}
 use Rattle.std.specs.Result.{result_err}
+use Rattle.netlink_core.specs.Attribute.{Attribute}
 use Rattle.netlink_core.specs.Response.{ReplyValue}
 use Rattle.netlink_core.specs.declared.error.DecodeError.{DecodeError}
 use Rattle.sock_diag_families.specs.PacketAttributes.{packet_info, packet_ring}
@@ -13,6 +14,9 @@ use Rattle.sock_diag_families.specs.declared.packet.TheConstants.{PACKET_DIAG_ME
 use Rattle.sock_diag_families.specs.declared.packet.TheConstants.{PACKET_DIAG_RX_RING}
 use Rattle.sock_diag_families.specs.declared.packet.TheConstants.{PACKET_DIAG_TX_RING}
 use Rattle.sock_diag_families.specs.declared.packet.TheConstants.{PACKET_DIAG_UID}
+use Rattle.sock_diag_families.specs.declared.packet.attributes.PacketInfo.{PacketInfo}
+use Rattle.sock_diag_families.specs.declared.packet.attributes.PacketRing.{PacketRing}
+use Rattle.sock_diag_families.specs.declared.packet.response.PacketResponseHeader.{PacketResponseHeader}
 use Rattle.sock_diag_any.specs.RawReply.{raw_reply_spec}
 use Rattle.sockdiag_c.specs.Answers.{IsGetterResult}
 use Rattle.sockdiag_c.specs.Details.{optional_number, text_parts}
@@ -47,15 +51,59 @@ IsPacketDetailsOf old v d =
     (λ o. d.memory ≡ memory_struct o)
     × (text_parts d.filter ≡ first_value_as_text PACKET_DIAG_FILTER v.nlas)
 
--- `packet_value_errors v`: for each value that is parsed, in the order of the attribute types, its
--- error, or None if it parses or is not present. If the reply is accepted, the call returns the
--- code of the first error in this list, or 0 if there is none.
+-- the settings of a socket, all 0
+abbrev pub zero_packet_info : PacketInfo
+zero_packet_info = record {
+  interface = 0;
+  version = 0;
+  reserve = 0;
+  copy_threshold = 0;
+  timestamp = 0;
+  flags = 0;
+}
+
+-- a ring, all 0
+abbrev pub zero_packet_ring : PacketRing
+zero_packet_ring = record {
+  block_size = 0;
+  blocks = 0;
+  frame_size = 0;
+  frames = 0;
+  retire_timeout = 0;
+  private_size = 0;
+  features = 0;
+}
+
+-- `with_zero_packet_records d`: the struct `d` with zeros in its three records
+abbrev pub with_zero_packet_records : PacketDetails → PacketDetails
+with_zero_packet_records d = record d {
+  info = zero_packet_info;
+  receive_ring = zero_packet_ring;
+  send_ring = zero_packet_ring;
+}
+
+-- HasPacketDetails header d attributes: the struct `d` has this header, and the first value of each
+-- attribute type in `attributes`, each of which parses. This is what it has of a reply of this
+-- header and these attributes, if its records were 0 before: so if there is no attribute with a
+-- record, `has_..` is 0 and the record is 0.
+abbrev pub HasPacketDetails : PacketResponseHeader → PacketDetails → List Attribute → Type 0
+HasPacketDetails header d attributes =
+    IsPacketDetailsOf (with_zero_packet_records d) (record { header = header; nlas = attributes }) d
+
+-- `packet_errors_in attributes`: for each kind of value that is parsed, in the order of the
+-- attribute types, the error of the first attribute of this kind, or None if it parses or is not
+-- present
+abbrev pub packet_errors_in : List Attribute → List (Option DecodeError)
+packet_errors_in attributes =
+    result_err (parse_first packet_info PACKET_DIAG_INFO attributes)
+    ∷ result_err (parse_first (packet_ring PACKET_DIAG_RX_RING) PACKET_DIAG_RX_RING attributes)
+    ∷ result_err (parse_first (packet_ring PACKET_DIAG_TX_RING) PACKET_DIAG_TX_RING attributes)
+    ∷ result_err (parse_first_u32 PACKET_DIAG_FANOUT attributes)
+    ∷ result_err (parse_first_u32 PACKET_DIAG_UID attributes)
+    ∷ result_err (parse_first parse_socket_memory PACKET_DIAG_MEMINFO attributes) ∷ []
+
+-- `packet_value_errors v`: the errors of the values of the reply `v`. If the reply is accepted, the
+-- call returns the code of the first error in this list, or 0 if there is none.
 abbrev pub packet_value_errors : ReplyValue (raw_reply_spec packet_header)
     → List (Option DecodeError)
-packet_value_errors v =
-    result_err (parse_first packet_info PACKET_DIAG_INFO v.nlas)
-    ∷ result_err (parse_first (packet_ring PACKET_DIAG_RX_RING) PACKET_DIAG_RX_RING v.nlas)
-    ∷ result_err (parse_first (packet_ring PACKET_DIAG_TX_RING) PACKET_DIAG_TX_RING v.nlas)
-    ∷ result_err (parse_first_u32 PACKET_DIAG_FANOUT v.nlas)
-    ∷ result_err (parse_first_u32 PACKET_DIAG_UID v.nlas)
-    ∷ result_err (parse_first parse_socket_memory PACKET_DIAG_MEMINFO v.nlas) ∷ []
+packet_value_errors v = packet_errors_in v.nlas

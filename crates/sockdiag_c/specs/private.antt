@@ -3,3 +3,4 @@ pub mod FirstNumber
 pub mod UnixDetails
 pub mod InetDetails
 pub mod Rejections
+pub mod ReplyBy

@@ -1,18 +1,20 @@
 //! The contents of a reply, returned to C while the reply is checked, in one pass.
 
-ghost use Rattle.std.specs.Prelude.{◌≡◌, ◌≢◌, List, [], ◌∷◌, ◌++◌, drop, Ok, Err, IfOk};
-ghost use Rattle.std.specs.Prelude.{IfErr, None, OnOk, Some};
-ghost use Rattle.netlink_core.specs.Attribute.{HasAttributeError, DecodeTo};
-ghost use Rattle.netlink_core.specs.AttributeSet.{AttributeValue, decode_attribute};
+ghost use Rattle.std.specs.Prelude.{◌≡◌, ◌≢◌, ℕ, List, [], ◌∷◌, ◌++◌, drop, Ok, Err, IfOk};
+ghost use Rattle.std.specs.Prelude.{IfErr, None, OnOk, Option, Result, Some, option_map};
+ghost use Rattle.netlink_core.specs.Attribute.{Attribute, HasAttributeError, DecodeTo};
+ghost use Rattle.netlink_core.specs.AttributeSet.{AttributeValue};
+ghost use Rattle.netlink_core.specs.declared.error.DecodeError.{DecodeError};
 ghost use Rattle.netlink_core.specs.Response.{ResponseSpec, ReplyValue, response_codec};
 ghost use Rattle.netlink_core.specs.Walk.{buffered_attribute};
 ghost use Rattle.sock_diag_replies.specs.InetResponseSpec.{inet_response_spec};
 ghost use Rattle.sock_diag_replies.specs.UnixResponseSpec.{unix_response_spec};
 ghost use Rattle.sockdiag_c.specs.Answers.{IsCheckResultBy};
-ghost use Rattle.sockdiag_c.specs.Details.{text_parts};
+ghost use Rattle.sockdiag_c.specs.Details.{optional_number, text_parts};
 ghost use Rattle.sockdiag_c.specs.InetDetails.{IsInetDetailsOf};
 ghost use Rattle.sockdiag_c.specs.UnixDetails.{IsUnixDetailsOf};
 ghost use Rattle.sockdiag_c.specs.private.FirstNumber.{set_number_once, first_present};
+ghost use Rattle.sockdiag_c.specs.private.ReplyBy.{ParsesBy, RejectsBy};
 
 use crate::check::OK;
 use crate::inet_details::InetDetails;
@@ -75,6 +77,16 @@ impl Number {
             *self = Number { is_set: 1, value };
         }
     }
+
+    /// Sets the number, if there is one, unless it is set already.
+    pub(crate) fn set_first(&mut self, value: Option<u32>)
+        ensures { (before : Option ℕ) → self.old ≡ optional_number before
+            → self.new ≡ optional_number (first_present before value) }
+    {
+        if let Some(value) = value {
+            self.set(value);
+        }
+    }
 }
 
 impl<'a> Text<'a> {
@@ -98,12 +110,25 @@ impl<'a> Text<'a> {
             *self = Text { kind, bytes };
         }
     }
+
+    /// Sets the text to the bytes, if there are any, unless it is set already.
+    pub(crate) fn set_first(&mut self, bytes: Option<&'a [u8]>)
+        ensures { text_parts self.new ≡ first_present (text_parts self.old)
+            (option_map (λ bytes. (3, bytes)) (option_map (λ bytes. bytes.now) bytes.entry)) }
+    {
+        if let Some(bytes) = bytes {
+            self.set(BYTES, bytes);
+        }
+    }
 }
 
 /// The contents of replies about the sockets of one family, as a C struct.
 pub(crate) trait ReplyDetails<'a>: Copy {
     // The layout of the reply.
     ghost reply: { ResponseSpec };
+
+    // Decodes an attribute of the reply, or rejects it.
+    ghost decode: { Attribute → Result (AttributeValue reply.attribute_set) DecodeError };
 
     // The struct has the contents of this header and of these attributes, and nothing else.
     ghost describes: { reply.header.Value → Self → List (AttributeValue reply.attribute_set)
@@ -121,11 +146,10 @@ pub(crate) trait ReplyDetails<'a>: Copy {
     /// them.
     fn set_detail(&mut self, nla: &NlaBuffer<'a>) -> Result<(), DecodeError>
         ensures value { OnOk result ((v : AttributeValue reply.attribute_set)
-            × (decode_attribute reply.attribute_set (buffered_attribute nla.now) ≡ Ok v)
+            × (decode (buffered_attribute nla.now) ≡ Ok v)
             × ((h : reply.header.Value) (before : List (AttributeValue reply.attribute_set))
             → describes h self.old before → describes h self.new (before ++ v ∷ []))) }
-        ensures error { IfErr result (λ e.
-            decode_attribute reply.attribute_set (buffered_attribute nla.now) ≡ Err e) }
+        ensures error { IfErr result (λ e. decode (buffered_attribute nla.now) ≡ Err e) }
         ensures unchanged { IfErr result (λ _. self.new ≡ self.old) };
 }
 
@@ -183,8 +207,8 @@ pub extern "C" fn sockdiag_inet_get_details<'a>(
 // Stores the contents of the reply in the details. Returns 0, or the code of the first error; then
 // the details are unchanged.
 fn store_details<'a, T: ReplyDetails<'a>>(payload: &'a [u8], details: &mut T) -> u32
-    ensures { IsCheckResultBy ((response_codec T.reply).parses payload.entry.now tt)
-        ((response_codec T.reply).rejects payload.entry.now tt)
+    ensures { IsCheckResultBy (ParsesBy T.reply T.decode payload.entry.now)
+        (RejectsBy T.reply T.decode payload.entry.now)
         (λ v details. T.describes v.header details v.nlas) details.old details.new result }
 {
     match read_details::<T>(payload) {
@@ -199,9 +223,9 @@ fn store_details<'a, T: ReplyDetails<'a>>(payload: &'a [u8], details: &mut T) ->
 // Parses the reply, and returns its contents or the first error.
 fn read_details<'a, T: ReplyDetails<'a>>(payload: &'a [u8]) -> Result<T, DecodeError>
     ensures value { IfOk result (λ details. (v : ReplyValue T.reply)
-        × (response_codec T.reply).parses payload.entry.now tt v
+        × ParsesBy T.reply T.decode payload.entry.now v
         × T.describes v.header details v.nlas) }
-    ensures error { IfErr result ((response_codec T.reply).rejects payload.entry.now tt) }
+    ensures error { IfErr result (RejectsBy T.reply T.decode payload.entry.now) }
 {
     let (mut details, rest) = T::parse_header(payload)?;
     set_details(rest, &mut details)?;
@@ -211,11 +235,10 @@ fn read_details<'a, T: ReplyDetails<'a>>(payload: &'a [u8]) -> Result<T, DecodeE
 // Parses each attribute and sets its fields, or returns the first error.
 fn set_details<'a, T: ReplyDetails<'a>>(bytes: &'a [u8], details: &mut T) -> Result<(), DecodeError>
     ensures value { OnOk result ((vs : List (AttributeValue T.reply.attribute_set))
-        × DecodeTo (decode_attribute T.reply.attribute_set) bytes.entry.now vs
+        × DecodeTo T.decode bytes.entry.now vs
         × ((h : T.reply.header.Value) → T.describes h details.old []
         → T.describes h details.new vs)) }
-    ensures error { IfErr result (HasAttributeError (decode_attribute T.reply.attribute_set)
-        bytes.entry.now) }
+    ensures error { IfErr result (HasAttributeError T.decode bytes.entry.now) }
 {
     for item in NlasIterator::new(bytes) {
         let nla = item?;

@@ -1,7 +1,12 @@
 //! Attributes of netlink, packet and XDP sockets, as C structs.
 
-ghost use Rattle.std.specs.Prelude.{◌≡◌, None, Ok, option_map};
+ghost use Rattle.std.specs.Prelude.{◌≡◌, [], ◌∷◌, drop, IfErr, IfOk, None, Ok, Err, Option};
+ghost use Rattle.std.specs.Prelude.{option_map};
 ghost use Rattle.std.specs.Result.{result_err};
+ghost use Rattle.netlink_core.specs.Layout.{parse_record};
+ghost use Rattle.netlink_core.specs.Walk.{buffered_attribute};
+ghost use Rattle.sock_diag_families.specs.AttributeGetters.{first_value_of_kind};
+ghost use Rattle.sock_diag_values.specs.declared.inet.mem_info.MemInfo.{MemInfo as MemInfoModel};
 ghost use Rattle.sockdiag_c.specs.Answers.{IsGetterResult};
 ghost use Rattle.sockdiag_c.specs.Details.{optional_number, text_parts};
 ghost use Rattle.sockdiag_c.specs.FamilyValues.{memory_struct};
@@ -9,7 +14,8 @@ ghost use Rattle.sockdiag_c.specs.private.FirstNumber.{first_present};
 
 use crate::details::{BYTES, NO_NUMBER, Number, Text};
 use crate::walks::{END, ITEM};
-use netlink_core::DecodeError;
+use netlink_core::{DecodeError, NlaBuffer, Record, read_record};
+use sock_diag_any::RawAttributes;
 use sock_diag_values::inet::MemInfo;
 
 /// Memory of a netlink, packet or XDP socket: the fields `SK_MEMINFO_..` of `linux/sock_diag.h`. A
@@ -96,6 +102,18 @@ impl From<Option<MemInfo>> for Memory {
     }
 }
 
+impl Memory {
+    /// Sets the memory, if there is any, unless it is set already.
+    pub(crate) fn set_first(&mut self, memory: Option<MemInfo>)
+        ensures { (before : Option MemInfoModel) → self.old ≡ memory_struct before
+            → self.new ≡ memory_struct (first_present before memory) }
+    {
+        if self.receive_queue.is_set == 0 {
+            *self = Memory::from(memory);
+        }
+    }
+}
+
 /// Stores the record, if there is one. Returns 1, or 0 if there is none; then the target is
 /// unchanged.
 pub(crate) fn store<T: Copy>(found: Option<T>, target: &mut T) -> u32
@@ -107,6 +125,61 @@ pub(crate) fn store<T: Copy>(found: Option<T>, target: &mut T) -> u32
             ITEM
         }
         None => END,
+    }
+}
+
+/// Stores the record, if there is one, unless one is stored already. `is_set` is 1 if so, else 0.
+/// Returns its new value.
+pub(crate) fn store_first<T: Copy>(found: Option<T>, is_set: u32, target: &mut T) -> u32
+    ensures { (absent : T) (before : Option T)
+        → IsGetterResult before absent target.old is_set
+        → IsGetterResult (first_present before found) absent target.new result }
+{
+    if is_set == 0 {
+        store(found, target)
+    } else {
+        is_set
+    }
+}
+
+/// Parses the header at the start of the payload. Returns it, and the bytes after it.
+#[tactic(auto, using(netlink_core::proofs::LayoutLaws::parsed_by_fields))]
+#[inline(always)]
+pub(crate) fn split_header<H: Record<Param = ()>>(payload: &[u8]) -> Result<(H, &[u8]), DecodeError>
+    ensures header { IfOk result (λ parts. parse_record H.layout tt payload.entry.now
+        ≡ Ok parts.0) }
+    ensures rest { IfOk result (λ parts. parts.1.now ≡ drop H.layout.least payload.entry.now) }
+    ensures error { IfErr result (λ error. parse_record H.layout tt payload.entry.now
+        ≡ Err error) }
+{
+    let header = read_record::<H>(payload, ())?;
+    let (_, least) = H::name_and_least();
+    Ok((header, &payload[least..]))
+}
+
+/// One attribute of a reply. The getters of [`RawAttributes`] parse its value if it has their kind.
+#[derive(Clone, Copy)]
+pub(crate) struct OneAttribute<'a>(pub(crate) NlaBuffer<'a>);
+
+impl<'a> OneAttribute<'a> {
+    /// Returns the value if the attribute has the kind.
+    pub(crate) fn bytes_of(&self, kind: u16) -> Option<&'a [u8]>
+        ensures { option_map (λ value. value.now) result
+            ≡ first_value_of_kind kind (buffered_attribute self.now.0 ∷ []) }
+    {
+        if self.0.kind() == kind {
+            Some(self.0.value())
+        } else {
+            None
+        }
+    }
+}
+
+impl RawAttributes for OneAttribute<'_> {
+    ghost attributes = { λ one. buffered_attribute one.0 ∷ [] };
+
+    fn value_of(&self, kind: u16) -> Option<&[u8]> {
+        self.bytes_of(kind)
     }
 }
 

@@ -2,6 +2,8 @@
 //! `tcp_info`.
 
 ghost use Rattle.std.specs.Prelude.{◌≡◌};
+ghost use Rattle.netlink_core.specs.AttributeSet.{decode_attribute};
+ghost use Rattle.sock_diag_attributes.specs.InetAttributes.{inet_attribute_set};
 ghost use Rattle.sock_diag_attributes.specs.InetModel.{inet_nla_view_model};
 ghost use Rattle.sock_diag_replies.specs.InetResponseSpec.{inet_response_spec};
 ghost use Rattle.sockdiag_c.specs.Details.{text_parts};
@@ -70,6 +72,8 @@ impl<'a> InetDetails<'a> {
 
 impl<'a> ReplyDetails<'a> for InetDetails<'a> {
     ghost reply = { inet_response_spec };
+
+    ghost decode = { decode_attribute inet_attribute_set };
 
     ghost describes = { λ h found vs. HasInetDetails (inet_header_of h) found vs };
 

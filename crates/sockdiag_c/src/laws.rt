@@ -7,11 +7,30 @@ ghost use Rattle.netlink_core.specs.Bytes.{IsBytes};
 ghost use Rattle.netlink_core.specs.Datagram.{SplitsIntoMessages};
 ghost use Rattle.netlink_core.specs.declared.error.DecodeError.{DecodeError};
 ghost use Rattle.netlink_core.specs.Errors.{error_code};
+ghost use Rattle.netlink_core.specs.Response.{ReplyValue, response_codec};
+ghost use Rattle.sock_diag_any.specs.RawReply.{raw_reply_spec};
 ghost use Rattle.sock_diag_attributes.specs.InetAttributes.{inet_attribute_set};
 ghost use Rattle.sock_diag_attributes.specs.UnixAttributes.{unix_attribute_set};
 ghost use Rattle.sock_diag_extras.specs.Lenient.{HasLenientItems};
-ghost use Rattle.sockdiag_c.specs.LenientDetails.{AgreesWithStrictParse, LenientItem};
+ghost use Rattle.sock_diag_replies.specs.UnixGetters.{first_content_of};
+ghost use Rattle.sock_diag_families.specs.NetlinkResponseHeader.{netlink_header};
+ghost use Rattle.sock_diag_families.specs.PacketResponseHeader.{packet_header};
+ghost use Rattle.sock_diag_families.specs.VsockResponseHeader.{vsock_header};
+ghost use Rattle.sock_diag_families.specs.XdpResponseHeader.{xdp_header};
+ghost use Rattle.sock_diag_families.specs.declared.vsock.response.VsockResponseHeader.{VsockResponseHeader};
+ghost use Rattle.sockdiag_c.specs.FamilyValues.{check_attribute, no_errors_in};
+ghost use Rattle.sockdiag_c.specs.LenientDetails.{AgreesWithStrictParse, IsLenientResultBy};
+ghost use Rattle.sockdiag_c.specs.LenientDetails.{LenientItem};
+ghost use Rattle.sockdiag_c.specs.NetlinkDetails.{HasNetlinkDetails, IsNetlinkDetailsOf};
+ghost use Rattle.sockdiag_c.specs.NetlinkDetails.{netlink_errors_in, netlink_value_errors};
+ghost use Rattle.sockdiag_c.specs.PacketDetails.{HasPacketDetails, packet_errors_in};
+ghost use Rattle.sockdiag_c.specs.PacketDetails.{packet_value_errors};
+ghost use Rattle.sockdiag_c.specs.XdpDetails.{HasXdpDetails, xdp_errors_in, xdp_value_errors};
+ghost use Rattle.sockdiag_c.specs.declared.lenient.Rejections.{Rejections};
 ghost use Rattle.sockdiag_c.specs.declared.lenient.TheConstants.{REJECTION_KINDS};
+ghost use Rattle.sockdiag_c.specs.declared.netlink_details.NetlinkDetails.{NetlinkDetails};
+ghost use Rattle.sockdiag_c.specs.declared.packet_details.PacketDetails.{PacketDetails};
+ghost use Rattle.sockdiag_c.specs.declared.xdp_details.XdpDetails.{XdpDetails};
 ghost use Rattle.sockdiag_c.specs.declared.walks.AttributeRange.{AttributeRange};
 ghost use Rattle.sockdiag_c.specs.declared.walks.Cursor.{Cursor};
 ghost use Rattle.sockdiag_c.specs.declared.walks.MessageRange.{MessageRange};
@@ -65,12 +84,16 @@ pub fn a_step_passes_the_first_message()
         → (answer ≡ error_code e) × (bytes_after_cursor bytes new ≡ []) }
 {}
 
-/// States that a lenient call agrees with the strict call: its rejections have the code 0 in
-/// `first` if and only if the attributes are accepted, and then it has the same values. Otherwise
-/// `first` is the code of the error that the strict call returns.
+/// States that a lenient call agrees with the strict call.
 ///
-/// `bytes`: the bytes after the header of a reply. `items`: their lenient items, as in the
-/// contracts of both calls.
+/// - UNIX and internet sockets: the rejections have the code 0 in `first` if and only if the
+///   attributes are accepted, and then both calls have the same values. Otherwise `first` is the
+///   code of the error that the strict call returns. `bytes`: the bytes after the header of a
+///   reply. `items`: their lenient items, as in the contracts of both calls.
+/// - The other families: if a lenient call returns 0 and `first` is 0, the strict call accepts the
+///   reply: it parses (`v`), and no value has an error (`.._value_errors`). The details are those
+///   of the reply. `old` and `new` are the details before and after the lenient call, `was` and
+///   `now` the rejections.
 pub fn lenient_calls_agree_with_strict_calls()
     ensures unix { (bytes : List ℕ) (items : List (LenientItem unix_attribute_set))
         → HasLenientItems unix_attribute_set bytes items
@@ -78,6 +101,33 @@ pub fn lenient_calls_agree_with_strict_calls()
     ensures inet { (bytes : List ℕ) (items : List (LenientItem inet_attribute_set))
         → HasLenientItems inet_attribute_set bytes items
         → AgreesWithStrictParse inet_attribute_set bytes items }
+    ensures netlink { (payload : List ℕ) (old new : NetlinkDetails) (was now : Rejections)
+        → IsLenientResultBy (raw_reply_spec netlink_header) (check_attribute netlink_errors_in)
+        HasNetlinkDetails payload old new was now 0 → now.first ≡ 0
+        → (v : ReplyValue (raw_reply_spec netlink_header))
+        × (response_codec (raw_reply_spec netlink_header)).parses payload tt v
+        × (first_content_of (λ o. o) (netlink_value_errors v) ≡ None)
+        × IsNetlinkDetailsOf v new }
+    ensures packet { (payload : List ℕ) (old new : PacketDetails) (was now : Rejections)
+        → IsLenientResultBy (raw_reply_spec packet_header) (check_attribute packet_errors_in)
+        HasPacketDetails payload old new was now 0 → now.first ≡ 0
+        → (v : ReplyValue (raw_reply_spec packet_header))
+        × (response_codec (raw_reply_spec packet_header)).parses payload tt v
+        × (first_content_of (λ o. o) (packet_value_errors v) ≡ None)
+        × HasPacketDetails v.header new v.nlas }
+    ensures vsock { (payload : List ℕ) (old new : VsockResponseHeader) (was now : Rejections)
+        → IsLenientResultBy (raw_reply_spec vsock_header) (check_attribute no_errors_in)
+        (λ header found _. found ≡ header) payload old new was now 0 → now.first ≡ 0
+        → (v : ReplyValue (raw_reply_spec vsock_header))
+        × (response_codec (raw_reply_spec vsock_header)).parses payload tt v
+        × (new ≡ v.header) }
+    ensures xdp { (payload : List ℕ) (old new : XdpDetails) (was now : Rejections)
+        → IsLenientResultBy (raw_reply_spec xdp_header) (check_attribute xdp_errors_in)
+        HasXdpDetails payload old new was now 0 → now.first ≡ 0
+        → (v : ReplyValue (raw_reply_spec xdp_header))
+        × (response_codec (raw_reply_spec xdp_header)).parses payload tt v
+        × (first_content_of (λ o. o) (xdp_value_errors v) ≡ None)
+        × HasXdpDetails v.header new v.nlas }
 {}
 
 /// States that each kind of attribute that can be rejected has an element in `errors` of
@@ -87,4 +137,10 @@ pub fn every_rejected_kind_has_a_code()
         → decode_attribute unix_attribute_set a ≡ Err e → attribute_kind a < REJECTION_KINDS }
     ensures inet { (a : Attribute) (e : DecodeError)
         → decode_attribute inet_attribute_set a ≡ Err e → attribute_kind a < REJECTION_KINDS }
+    ensures netlink { (a : Attribute) (e : DecodeError)
+        → check_attribute netlink_errors_in a ≡ Err e → attribute_kind a < REJECTION_KINDS }
+    ensures packet { (a : Attribute) (e : DecodeError)
+        → check_attribute packet_errors_in a ≡ Err e → attribute_kind a < REJECTION_KINDS }
+    ensures xdp { (a : Attribute) (e : DecodeError)
+        → check_attribute xdp_errors_in a ≡ Err e → attribute_kind a < REJECTION_KINDS }
 {}

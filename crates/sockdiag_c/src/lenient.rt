@@ -4,21 +4,34 @@
 ghost use Rattle.std.specs.Prelude.{◌≡◌, ◌<◌, ◌==◌, if◌then◌else◌, ℕ, List, [], slice_index};
 ghost use Rattle.netlink_core.specs.Errors.{error_code};
 ghost use Rattle.netlink_core.specs.AttributeSet.{AttributeValue};
-ghost use Rattle.sock_diag_extras.specs.Lenient.{HasLenientItems};
+ghost use Rattle.sock_diag_any.specs.RawReply.{raw_reply_spec};
+ghost use Rattle.sock_diag_extras.specs.Lenient.{HasLenientItemsBy};
+ghost use Rattle.sock_diag_families.specs.NetlinkResponseHeader.{netlink_header};
+ghost use Rattle.sock_diag_families.specs.PacketResponseHeader.{packet_header};
+ghost use Rattle.sock_diag_families.specs.VsockResponseHeader.{vsock_header};
+ghost use Rattle.sock_diag_families.specs.XdpResponseHeader.{xdp_header};
 ghost use Rattle.sock_diag_replies.specs.InetResponseSpec.{inet_response_spec};
 ghost use Rattle.sock_diag_replies.specs.UnixResponseSpec.{unix_response_spec};
 ghost use Rattle.sockdiag_c.specs.Headers.{inet_header_of, unix_header_of};
 ghost use Rattle.sockdiag_c.specs.InetDetails.{HasInetDetails};
 ghost use Rattle.sockdiag_c.specs.UnixDetails.{HasUnixDetails};
+ghost use Rattle.sockdiag_c.specs.FamilyValues.{check_attribute, no_errors_in};
 ghost use Rattle.sockdiag_c.specs.LenientDetails.{HasRejections, IsLenientResult, LenientItem};
-ghost use Rattle.sockdiag_c.specs.LenientDetails.{accepted_values};
+ghost use Rattle.sockdiag_c.specs.LenientDetails.{IsLenientResultBy, accepted_values};
+ghost use Rattle.sockdiag_c.specs.NetlinkDetails.{HasNetlinkDetails, netlink_errors_in};
+ghost use Rattle.sockdiag_c.specs.PacketDetails.{HasPacketDetails, packet_errors_in};
+ghost use Rattle.sockdiag_c.specs.XdpDetails.{HasXdpDetails, xdp_errors_in};
 ghost use Rattle.sockdiag_c.specs.private.Rejections.{kept_code};
 
 use crate::check::OK;
 use crate::details::ReplyDetails;
 use crate::inet_details::InetDetails;
+use crate::netlink_details::NetlinkDetails;
+use crate::packet_details::PacketDetails;
 use crate::unix_details::UnixDetails;
+use crate::xdp_details::XdpDetails;
 use netlink_core::{DecodeError, NlasIterator};
+use sock_diag_families::vsock::VsockResponseHeader;
 
 /// Number of the elements of `errors` of `struct sockdiag_rejections`. All kinds that can be
 /// rejected are less.
@@ -28,16 +41,21 @@ pub const REJECTION_KINDS: usize = 32;
 /// code is 0 if there is no such error. If a reply has several attributes of a kind, the kind can
 /// have a value in the details and an error here: the value is that of the first valid attribute,
 /// and the error that of the first rejected one. The kinds that can be rejected are
-/// `UNIX_DIAG_NAME` to `UNIX_DIAG_SHUTDOWN` of UNIX sockets, and `INET_DIAG_MEMINFO`, `_INFO`,
-/// `_CONG`, `_TOS`, `_TCLASS`, `_SKMEMINFO`, `_SHUTDOWN`, `_PROTOCOL`, `_SKV6ONLY`, `_MARK` and
-/// `_CLASS_ID` of internet sockets. Values of other kinds are not checked: of
+/// `UNIX_DIAG_NAME` to `UNIX_DIAG_SHUTDOWN` of UNIX sockets; `INET_DIAG_MEMINFO`, `_INFO`, `_CONG`,
+/// `_TOS`, `_TCLASS`, `_SKMEMINFO`, `_SHUTDOWN`, `_PROTOCOL`, `_SKV6ONLY`, `_MARK` and `_CLASS_ID`
+/// of internet sockets; `NETLINK_DIAG_MEMINFO` and `_FLAGS` of netlink sockets; `PACKET_DIAG_INFO`,
+/// `_RX_RING`, `_TX_RING`, `_FANOUT`, `_UID` and `_MEMINFO` of packet sockets; and `XDP_DIAG_INFO`
+/// to `XDP_DIAG_STATS` of XDP sockets. Values of other kinds are not checked: of
 /// `INET_DIAG_CGROUP_ID`, for example, only `sockdiag_get_cgroup_id` checks the length, and returns
 /// 0 if it is wrong.
 #[repr(C)]
 #[derive(Clone, Copy)]
 pub struct Rejections {
-    /// Code of the first error. If it is 0, the whole reply is accepted.
-    /// `sockdiag_unix_get_details` or `sockdiag_inet_get_details` returns the same code.
+    /// Code of the first error, in the order of the attributes. If it is 0, the whole reply is
+    /// accepted. `sockdiag_unix_get_details` or `sockdiag_inet_get_details` returns the same code.
+    /// `sockdiag_netlink_get_details` and its siblings for other families return 0 if it is 0.
+    /// Otherwise they may return another code, or 0: they check the framing before values, and only
+    /// the first attribute of each kind.
     pub first: u32,
     /// Code of the framing error after the last attribute, 7 to 9. What follows is not parsed.
     pub framing: u32,
@@ -139,6 +157,91 @@ pub extern "C" fn sockdiag_inet_get_lenient_details<'a>(
     store_lenient_details(payload, details, rejections)
 }
 
+/// Returns the header of a reply about a netlink socket, the first valid attribute of each kind
+/// that has a field in the details, and the first error of each kind, in one pass over the
+/// attributes. What follows a framing error is not parsed. The bytes are the payload of the netlink
+/// message. Returns 0, and sets all fields of the details and of the rejections; or the code of the
+/// error of the header, and then both are unchanged. The previous contents of both are not read.
+/// What is not rejected is as `sockdiag_netlink_get_details` describes it.
+#[unsafe(no_mangle)]
+pub extern "C" fn sockdiag_netlink_get_lenient_details<'a>(
+    payload: &'a [u8],
+    details: &mut NetlinkDetails<'a>,
+    rejections: &mut Rejections,
+) -> u32
+    // In order: the layout of the reply, which attributes are accepted, what the struct has for a
+    // header and the accepted attributes, the payload, and both structs before and after the call.
+    ensures { IsLenientResultBy (raw_reply_spec netlink_header) (check_attribute netlink_errors_in)
+        HasNetlinkDetails payload.entry.now details.old details.new rejections.old rejections.new
+        result }
+{
+    store_lenient_details(payload, details, rejections)
+}
+
+/// Returns the header of a reply about a packet socket, the first valid attribute of each kind, and
+/// the first error of each kind, in one pass over the attributes. What follows a framing error is
+/// not parsed. The bytes are the payload of the netlink message. Returns 0, and sets all fields of
+/// the details and of the rejections: a record of which the reply has no valid attribute is all 0,
+/// and its field `has_..` is 0. Or returns the code of the error of the header, and then both are
+/// unchanged. The previous contents of both are not read. What is not rejected is as
+/// `sockdiag_packet_get_details` describes it.
+#[unsafe(no_mangle)]
+pub extern "C" fn sockdiag_packet_get_lenient_details<'a>(
+    payload: &'a [u8],
+    details: &mut PacketDetails<'a>,
+    rejections: &mut Rejections,
+) -> u32
+    // In order: the layout of the reply, which attributes are accepted, what the struct has for a
+    // header and the accepted attributes, the payload, and both structs before and after the call.
+    ensures { IsLenientResultBy (raw_reply_spec packet_header) (check_attribute packet_errors_in)
+        HasPacketDetails payload.entry.now details.old details.new rejections.old rejections.new
+        result }
+{
+    store_lenient_details(payload, details, rejections)
+}
+
+/// Returns the header of a reply about a vsock socket, and the framing error of the bytes after it,
+/// in one pass over them. The bytes are the payload of the netlink message. Returns 0, and sets all
+/// fields of the header and of the rejections; or the code of the error of the header, and then
+/// both are unchanged. The previous contents of both are not read. Linux sends no attributes.
+/// Values of attributes are not checked, so only `first` and `framing` of the rejections can be
+/// other than 0, and they are equal.
+#[unsafe(no_mangle)]
+pub extern "C" fn sockdiag_vsock_get_lenient_details(
+    payload: &[u8],
+    details: &mut VsockResponseHeader,
+    rejections: &mut Rejections,
+) -> u32
+    // In order: the layout of the reply, which attributes are accepted (all), the header that is
+    // stored, the payload, and both structs before and after the call.
+    ensures { IsLenientResultBy (raw_reply_spec vsock_header) (check_attribute no_errors_in)
+        (λ header found _. found ≡ header) payload.now details.old details.new rejections.old
+        rejections.new result }
+{
+    store_lenient_details(payload, details, rejections)
+}
+
+/// Returns the header of a reply about an XDP socket, the first valid attribute of each kind, and
+/// the first error of each kind, in one pass over the attributes. What follows a framing error is
+/// not parsed. The bytes are the payload of the netlink message. Returns 0, and sets all fields of
+/// the details and of the rejections: a record of which the reply has no valid attribute is all 0,
+/// and its field `has_..` is 0. Or returns the code of the error of the header, and then both are
+/// unchanged. The previous contents of both are not read. What is not rejected is as
+/// `sockdiag_xdp_get_details` describes it.
+#[unsafe(no_mangle)]
+pub extern "C" fn sockdiag_xdp_get_lenient_details(
+    payload: &[u8],
+    details: &mut XdpDetails,
+    rejections: &mut Rejections,
+) -> u32
+    // In order: the layout of the reply, which attributes are accepted, what the struct has for a
+    // header and the accepted attributes, the payload, and both structs before and after the call.
+    ensures { IsLenientResultBy (raw_reply_spec xdp_header) (check_attribute xdp_errors_in)
+        HasXdpDetails payload.now details.old details.new rejections.old rejections.new result }
+{
+    store_lenient_details(payload, details, rejections)
+}
+
 // Stores the header and the first valid attribute of each kind in the details, and the first error
 // of each kind in the rejections. Returns 0, or the code of the error of the header; then both are
 // unchanged.
@@ -147,8 +250,8 @@ fn store_lenient_details<'a, T: ReplyDetails<'a>>(
     details: &mut T,
     rejections: &mut Rejections,
 ) -> u32
-    ensures { IsLenientResult T.reply T.describes payload.entry.now details.old details.new
-        rejections.old rejections.new result }
+    ensures { IsLenientResultBy T.reply T.decode T.describes payload.entry.now details.old
+        details.new rejections.old rejections.new result }
 {
     match T::parse_header(payload) {
         Ok((mut found, rest)) => {
@@ -164,7 +267,7 @@ fn store_lenient_details<'a, T: ReplyDetails<'a>>(
 // returns the errors of the others.
 fn set_valid_details<'a, T: ReplyDetails<'a>>(bytes: &'a [u8], details: &mut T) -> Rejections
     ensures items { (items : List (LenientItem T.reply.attribute_set))
-        × HasLenientItems T.reply.attribute_set bytes.entry.now items
+        × HasLenientItemsBy T.decode bytes.entry.now items
         × ((h : T.reply.header.Value) → T.describes h details.old []
         → T.describes h details.new (accepted_values items))
         × HasRejections result items }

@@ -5,15 +5,19 @@ ghost use Rattle.netlink_core.specs.Response.{ReplyValue, response_codec};
 ghost use Rattle.sock_diag_families.specs.NetlinkResponseHeader.{netlink_header};
 ghost use Rattle.sock_diag_any.specs.RawReply.{raw_reply_spec};
 ghost use Rattle.sockdiag_c.specs.Answers.{IsCheckResultBy};
-ghost use Rattle.sockdiag_c.specs.FamilyValues.{RejectsReplyOrValue};
-ghost use Rattle.sockdiag_c.specs.NetlinkDetails.{IsNetlinkDetailsOf, netlink_value_errors};
+ghost use Rattle.sockdiag_c.specs.FamilyValues.{RejectsReplyOrValue, check_attribute};
+ghost use Rattle.sockdiag_c.specs.NetlinkDetails.{HasNetlinkDetails, IsNetlinkDetailsOf};
+ghost use Rattle.sockdiag_c.specs.NetlinkDetails.{netlink_errors_in, netlink_value_errors};
 
 use crate::check::OK;
-use crate::details::{Number, Text};
-use crate::family_values::{FirstError, Memory};
-use netlink_core::DecodeError;
+use crate::details::{NO_NUMBER, Number, ReplyDetails, Text};
+use crate::family_values::{FirstError, Memory, NO_MEMORY, OneAttribute, split_header};
+use netlink_core::{DecodeError, NlaBuffer};
+use sock_diag_any::RawAttributes;
 use sock_diag_any::netlink::{self, NetlinkResponseView};
-use sock_diag_families::netlink::NetlinkResponseHeader;
+use sock_diag_families::netlink::{
+    NETLINK_DIAG_FLAGS, NETLINK_DIAG_GROUPS, NETLINK_DIAG_MEMINFO, NetlinkResponseHeader,
+};
 
 /// What a reply contains about a netlink socket, by the attributes of `linux/netlink_diag.h`,
 /// except the rings `NETLINK_DIAG_RX_RING` and `NETLINK_DIAG_TX_RING`, which Linux 4.6 removed.
@@ -37,6 +41,8 @@ pub struct NetlinkDetails<'a> {
 /// the details are unchanged. If the reply has several attributes of a kind, the first one counts.
 /// The framing of all attributes is checked before their values, and values are checked in the
 /// order of their kinds. Texts point into the payload, and are valid as long as it is.
+///
+/// One rejected attribute hides the others: `sockdiag_netlink_get_lenient_details` returns them.
 #[unsafe(no_mangle)]
 pub extern "C" fn sockdiag_netlink_get_details<'a>(
     payload: &'a [u8],
@@ -81,5 +87,35 @@ pub(crate) fn read<'a>(payload: &'a [u8]) -> Result<NetlinkDetails<'a>, DecodeEr
     match errors.first {
         Some(error) => Err(error),
         None => Ok(found),
+    }
+}
+
+impl<'a> ReplyDetails<'a> for NetlinkDetails<'a> {
+    ghost reply = { raw_reply_spec netlink_header };
+
+    ghost decode = { check_attribute netlink_errors_in };
+
+    ghost describes = { HasNetlinkDetails };
+
+    #[inline(always)]
+    fn parse_header(payload: &'a [u8]) -> Result<(Self, &'a [u8]), DecodeError> {
+        let (header, rest) = split_header::<NetlinkResponseHeader>(payload)?;
+        let found = NetlinkDetails {
+            header,
+            memory: NO_MEMORY,
+            groups: Text::none(),
+            flags: NO_NUMBER,
+        };
+        Ok((found, rest))
+    }
+
+    fn set_detail(&mut self, nla: &NlaBuffer<'a>) -> Result<(), DecodeError> {
+        let nla = OneAttribute(*nla);
+        let memory = nla.record_of(NETLINK_DIAG_MEMINFO)?;
+        let flags = nla.number_of(NETLINK_DIAG_FLAGS)?;
+        self.memory.set_first(memory);
+        self.groups.set_first(nla.bytes_of(NETLINK_DIAG_GROUPS));
+        self.flags.set_first(flags);
+        Ok(())
     }
 }

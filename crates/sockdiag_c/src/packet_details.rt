@@ -1,19 +1,29 @@
 //! The contents of a reply about a packet socket, as a C struct.
 
-ghost use Rattle.std.specs.Prelude.{◌≡◌, IfOk, IfErr};
+ghost use Rattle.std.specs.Prelude.{◌≡◌, [], ◌∷◌, IfOk, IfErr};
 ghost use Rattle.netlink_core.specs.Response.{ReplyValue, response_codec};
+ghost use Rattle.netlink_core.specs.Walk.{buffered_attribute};
+ghost use Rattle.sock_diag_families.specs.PacketAttributes.{packet_info, packet_ring};
 ghost use Rattle.sock_diag_families.specs.PacketResponseHeader.{packet_header};
 ghost use Rattle.sock_diag_any.specs.RawReply.{raw_reply_spec};
 ghost use Rattle.sockdiag_c.specs.Answers.{IsCheckResultBy};
-ghost use Rattle.sockdiag_c.specs.FamilyValues.{RejectsReplyOrValue};
-ghost use Rattle.sockdiag_c.specs.PacketDetails.{IsPacketDetailsOf, packet_value_errors};
+ghost use Rattle.sockdiag_c.specs.FamilyValues.{RejectsReplyOrValue, check_attribute, parse_first};
+ghost use Rattle.sockdiag_c.specs.PacketDetails.{HasPacketDetails, IsPacketDetailsOf};
+ghost use Rattle.sockdiag_c.specs.PacketDetails.{packet_errors_in, packet_value_errors};
 
 use crate::check::OK;
-use crate::details::{NO_NUMBER, NO_TEXT, Number, Text};
-use crate::family_values::{FirstError, Memory, NO_MEMORY, store};
-use netlink_core::DecodeError;
+use crate::details::{NO_NUMBER, NO_TEXT, Number, ReplyDetails, Text};
+use crate::family_values::{
+    FirstError, Memory, NO_MEMORY, OneAttribute, split_header, store, store_first,
+};
+use netlink_core::{DecodeError, NlaBuffer};
+use sock_diag_any::RawAttributes;
 use sock_diag_any::packet::{self, PacketResponseView};
-use sock_diag_families::packet::{PacketInfo, PacketResponseHeader, PacketRing};
+use sock_diag_families::packet::{
+    PACKET_DIAG_FANOUT, PACKET_DIAG_FILTER, PACKET_DIAG_INFO, PACKET_DIAG_MCLIST,
+    PACKET_DIAG_MEMINFO, PACKET_DIAG_RX_RING, PACKET_DIAG_TX_RING, PACKET_DIAG_UID, PacketInfo,
+    PacketResponseHeader, PacketRing,
+};
 
 /// Everything that a reply contains about a packet socket, by the attributes of
 /// `linux/packet_diag.h`.
@@ -100,6 +110,8 @@ pub(crate) const NO_DETAILS: PacketDetails<'static> = PacketDetails {
 /// kinds. A record that the reply does not contain is unchanged, and its field `has_..` is 0: do
 /// not use it. All other fields are set. Texts point into the payload, and are valid as long as it
 /// is.
+///
+/// One rejected attribute hides the others: `sockdiag_packet_get_lenient_details` returns them.
 #[unsafe(no_mangle)]
 pub extern "C" fn sockdiag_packet_get_details<'a>(
     payload: &'a [u8],
@@ -153,5 +165,65 @@ pub(crate) fn read<'a>(
     match errors.first {
         Some(error) => Err(error),
         None => Ok(found),
+    }
+}
+
+// Parses the attribute as `struct packet_diag_info`, if it has its kind.
+fn info(nla: OneAttribute<'_>) -> Result<Option<PacketInfo>, DecodeError>
+    ensures { result
+        ≡ parse_first packet_info PACKET_DIAG_INFO (buffered_attribute nla.entry.0 ∷ []) }
+{
+    match nla.bytes_of(PACKET_DIAG_INFO) {
+        Some(value) => Ok(Some(PacketInfo::parse(value)?)),
+        None => Ok(None),
+    }
+}
+
+// Parses the attribute as `struct packet_diag_ring`, if it has the kind.
+fn ring(nla: OneAttribute<'_>, kind: u16) -> Result<Option<PacketRing>, DecodeError>
+    ensures { result ≡ parse_first (packet_ring kind) kind (buffered_attribute nla.entry.0 ∷ []) }
+{
+    match nla.bytes_of(kind) {
+        Some(value) => Ok(Some(PacketRing::parse(value, kind)?)),
+        None => Ok(None),
+    }
+}
+
+impl<'a> ReplyDetails<'a> for PacketDetails<'a> {
+    ghost reply = { raw_reply_spec packet_header };
+
+    ghost decode = { check_attribute packet_errors_in };
+
+    ghost describes = { HasPacketDetails };
+
+    #[inline(always)]
+    fn parse_header(payload: &'a [u8]) -> Result<(Self, &'a [u8]), DecodeError> {
+        let (header, rest) = split_header::<PacketResponseHeader>(payload)?;
+        let mut found: PacketDetails<'a> = NO_DETAILS;
+        found.header = header;
+        Ok((found, rest))
+    }
+
+    fn set_detail(&mut self, nla: &NlaBuffer<'a>) -> Result<(), DecodeError> {
+        let nla = OneAttribute(*nla);
+        let info = info(nla)?;
+        let receive_ring = ring(nla, PACKET_DIAG_RX_RING)?;
+        let send_ring = ring(nla, PACKET_DIAG_TX_RING)?;
+        let fanout = nla.number_of(PACKET_DIAG_FANOUT)?;
+        let owner = nla.number_of(PACKET_DIAG_UID)?;
+        let memory = nla.record_of(PACKET_DIAG_MEMINFO)?;
+        self.has_info = store_first(info, self.has_info, &mut self.info);
+        self.addresses.set_first(nla.bytes_of(PACKET_DIAG_MCLIST));
+        self.has_receive_ring = store_first(
+            receive_ring,
+            self.has_receive_ring,
+            &mut self.receive_ring,
+        );
+        self.has_send_ring = store_first(send_ring, self.has_send_ring, &mut self.send_ring);
+        self.fanout.set_first(fanout);
+        self.owner.set_first(owner);
+        self.memory.set_first(memory);
+        self.filter.set_first(nla.bytes_of(PACKET_DIAG_FILTER));
+        Ok(())
     }
 }

@@ -1,6 +1,8 @@
 //! The contents of a reply about a UNIX socket, as a C struct.
 
 ghost use Rattle.std.specs.Prelude.{◌≡◌};
+ghost use Rattle.netlink_core.specs.AttributeSet.{decode_attribute};
+ghost use Rattle.sock_diag_attributes.specs.UnixAttributes.{unix_attribute_set};
 ghost use Rattle.sock_diag_attributes.specs.UnixModel.{unix_nla_view_model};
 ghost use Rattle.sock_diag_replies.specs.UnixResponseSpec.{unix_response_spec};
 ghost use Rattle.sockdiag_c.specs.Details.{text_parts};
@@ -86,6 +88,8 @@ impl<'a> UnixDetails<'a> {
 
 impl<'a> ReplyDetails<'a> for UnixDetails<'a> {
     ghost reply = { unix_response_spec };
+
+    ghost decode = { decode_attribute unix_attribute_set };
 
     ghost describes = { λ h found vs. HasUnixDetails (unix_header_of h) found vs };
 

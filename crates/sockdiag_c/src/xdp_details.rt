@@ -1,22 +1,28 @@
 //! The contents of a reply about an XDP socket, as a C struct.
 
-ghost use Rattle.std.specs.Prelude.{◌≡◌, IfOk, IfErr};
+ghost use Rattle.std.specs.Prelude.{◌≡◌, [], ◌∷◌, IfOk, IfErr};
 ghost use Rattle.netlink_core.specs.Response.{ReplyValue, response_codec};
+ghost use Rattle.netlink_core.specs.Walk.{buffered_attribute};
 ghost use Rattle.sock_diag_any.specs.RawReply.{raw_reply_spec};
+ghost use Rattle.sock_diag_families.specs.XdpAttributes.{xdp_info, xdp_statistics, xdp_umem};
 ghost use Rattle.sock_diag_families.specs.XdpResponseHeader.{xdp_header};
 ghost use Rattle.sockdiag_c.specs.Answers.{IsCheckResultBy};
-ghost use Rattle.sockdiag_c.specs.FamilyValues.{RejectsReplyOrValue};
-ghost use Rattle.sockdiag_c.specs.XdpDetails.{IsXdpDetailsOf, xdp_value_errors};
+ghost use Rattle.sockdiag_c.specs.FamilyValues.{RejectsReplyOrValue, check_attribute, parse_first};
+ghost use Rattle.sockdiag_c.specs.XdpDetails.{HasXdpDetails, IsXdpDetailsOf};
+ghost use Rattle.sockdiag_c.specs.XdpDetails.{xdp_errors_in, xdp_value_errors};
 
 use crate::check::OK;
-use crate::details::{NO_NUMBER, Number};
-use crate::family_values::{FirstError, Memory, NO_MEMORY, store};
-use netlink_core::DecodeError;
+use crate::details::{NO_NUMBER, Number, ReplyDetails};
+use crate::family_values::{
+    FirstError, Memory, NO_MEMORY, OneAttribute, split_header, store, store_first,
+};
+use netlink_core::{DecodeError, NlaBuffer};
 use sock_diag_any::RawAttributes;
 use sock_diag_any::xdp::{self, XdpResponseView};
 use sock_diag_families::xdp::{
-    XDP_DIAG_UMEM_COMPLETION_RING, XDP_DIAG_UMEM_FILL_RING, XdpInfo, XdpResponseHeader,
-    XdpStatistics, XdpUmem,
+    XDP_DIAG_INFO, XDP_DIAG_MEMINFO, XDP_DIAG_RX_RING, XDP_DIAG_STATS, XDP_DIAG_TX_RING,
+    XDP_DIAG_UID, XDP_DIAG_UMEM, XDP_DIAG_UMEM_COMPLETION_RING, XDP_DIAG_UMEM_FILL_RING, XdpInfo,
+    XdpResponseHeader, XdpStatistics, XdpUmem,
 };
 
 /// Everything that a reply contains about an XDP socket, by the attributes of `linux/xdp_diag.h`.
@@ -100,6 +106,8 @@ pub(crate) const NO_DETAILS: XdpDetails = XdpDetails {
 /// attributes is checked before their values, and values are checked in the order of their kinds. A
 /// record that the reply does not contain is unchanged, and its field `has_..` is 0: do not use it.
 /// All other fields are set.
+///
+/// One rejected attribute hides the others: `sockdiag_xdp_get_lenient_details` returns them.
 #[unsafe(no_mangle)]
 pub extern "C" fn sockdiag_xdp_get_details(payload: &[u8], details: &mut XdpDetails) -> u32
     // In order: how the payload parses, the first error of the reply or else of its values, what
@@ -146,5 +154,75 @@ pub(crate) fn read(payload: &[u8], old: &XdpDetails) -> Result<XdpDetails, Decod
     match errors.first {
         Some(error) => Err(error),
         None => Ok(found),
+    }
+}
+
+// Parses the attribute as `struct xdp_diag_info`, if it has its kind.
+fn info(nla: OneAttribute<'_>) -> Result<Option<XdpInfo>, DecodeError>
+    ensures { result ≡ parse_first xdp_info XDP_DIAG_INFO (buffered_attribute nla.entry.0 ∷ []) }
+{
+    match nla.bytes_of(XDP_DIAG_INFO) {
+        Some(value) => Ok(Some(XdpInfo::parse(value)?)),
+        None => Ok(None),
+    }
+}
+
+// Parses the attribute as `struct xdp_diag_umem`, if it has its kind.
+fn shared_memory(nla: OneAttribute<'_>) -> Result<Option<XdpUmem>, DecodeError>
+    ensures { result ≡ parse_first xdp_umem XDP_DIAG_UMEM (buffered_attribute nla.entry.0 ∷ []) }
+{
+    match nla.bytes_of(XDP_DIAG_UMEM) {
+        Some(value) => Ok(Some(XdpUmem::parse(value)?)),
+        None => Ok(None),
+    }
+}
+
+// Parses the attribute as `struct xdp_diag_stats`, if it has its kind.
+fn statistics(nla: OneAttribute<'_>) -> Result<Option<XdpStatistics>, DecodeError>
+    ensures { result
+        ≡ parse_first xdp_statistics XDP_DIAG_STATS (buffered_attribute nla.entry.0 ∷ []) }
+{
+    match nla.bytes_of(XDP_DIAG_STATS) {
+        Some(value) => Ok(Some(XdpStatistics::parse(value)?)),
+        None => Ok(None),
+    }
+}
+
+impl<'a> ReplyDetails<'a> for XdpDetails {
+    ghost reply = { raw_reply_spec xdp_header };
+
+    ghost decode = { check_attribute xdp_errors_in };
+
+    ghost describes = { HasXdpDetails };
+
+    #[inline(always)]
+    fn parse_header(payload: &'a [u8]) -> Result<(Self, &'a [u8]), DecodeError> {
+        let (header, rest) = split_header::<XdpResponseHeader>(payload)?;
+        let mut found = NO_DETAILS;
+        found.header = header;
+        Ok((found, rest))
+    }
+
+    fn set_detail(&mut self, nla: &NlaBuffer<'a>) -> Result<(), DecodeError> {
+        let nla = OneAttribute(*nla);
+        let info = info(nla)?;
+        let owner = nla.number_of(XDP_DIAG_UID)?;
+        let receive_ring = nla.number_of(XDP_DIAG_RX_RING)?;
+        let send_ring = nla.number_of(XDP_DIAG_TX_RING)?;
+        let umem = shared_memory(nla)?;
+        let fill_ring = nla.number_of(XDP_DIAG_UMEM_FILL_RING)?;
+        let completion_ring = nla.number_of(XDP_DIAG_UMEM_COMPLETION_RING)?;
+        let memory = nla.record_of(XDP_DIAG_MEMINFO)?;
+        let statistics = statistics(nla)?;
+        self.has_info = store_first(info, self.has_info, &mut self.info);
+        self.owner.set_first(owner);
+        self.receive_ring.set_first(receive_ring);
+        self.send_ring.set_first(send_ring);
+        self.has_umem = store_first(umem, self.has_umem, &mut self.umem);
+        self.fill_ring.set_first(fill_ring);
+        self.completion_ring.set_first(completion_ring);
+        self.memory.set_first(memory);
+        self.has_statistics = store_first(statistics, self.has_statistics, &mut self.statistics);
+        Ok(())
     }
 }

@@ -211,7 +211,8 @@ impl Answer<'_> {
                 let read = round_trip_time(self.protocol, &reply).map(|_| INET_DIAG_INFO);
                 inet_line(self.protocol, &reply) + &rejected_text(reply.rejected(), read)
             }
-            None => {
+            // A request is answered with sockets of its family.
+            _ => {
                 eprintln!("list_sockets: {}: invalid reply: {rejected}", self.protocol);
                 self.has_rejected = true;
                 return;

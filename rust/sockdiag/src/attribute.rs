@@ -106,18 +106,26 @@ impl From<RejectedAttribute<'_>> for DecodeError {
 pub struct RejectedAttributes<'a> {
     attributes: Attributes<'a>,
     rejections: Rejections,
-    /// Returns the error of the attribute at the start of bytes.
-    error_of: fn(&[u8]) -> Option<DecodeError>,
+    error_of: AttributeError,
+}
+
+/// How the error of a rejected attribute is found.
+#[derive(Clone, Copy, Debug)]
+pub(crate) struct AttributeError {
+    /// Number of bytes before the attribute that the call takes too, in the place of a header.
+    pub(crate) before: usize,
+    /// Returns the error of an attribute after these bytes.
+    pub(crate) call: fn(&[u8]) -> Option<DecodeError>,
 }
 
 impl<'a> RejectedAttributes<'a> {
-    /// Returns an iterator over those of the attributes after a header of this length that the
-    /// function rejects. `rejections` has their kinds.
+    /// Returns an iterator over those of the attributes after a header of this length that the call
+    /// rejects. `rejections` has their kinds.
     pub(crate) fn after_header(
         bytes: &'a [u8],
         header_length: usize,
         rejections: Rejections,
-        error_of: fn(&[u8]) -> Option<DecodeError>,
+        error_of: AttributeError,
     ) -> Self {
         RejectedAttributes {
             attributes: Attributes::after_header(bytes, header_length),
@@ -141,11 +149,15 @@ impl<'a> Iterator for RejectedAttributes<'a> {
         if self.rejections.first == 0 {
             return None;
         }
+        let bytes = self.attributes.bytes;
         loop {
-            let remaining = self.attributes.bytes.get(self.attributes.cursor.offset..)?;
+            let start = self.attributes.cursor.offset;
+            let remaining = bytes.get(start..)?;
             let (error, kind, value) = match self.attributes.next()? {
                 Ok(attribute) if self.has_rejected(attribute.kind()) => {
-                    let error = (self.error_of)(remaining);
+                    let end = self.attributes.cursor.offset.min(bytes.len());
+                    let start = start.checked_sub(self.error_of.before)?;
+                    let error = (self.error_of.call)(bytes.get(start..end)?);
                     (error, Some(attribute.kind()), attribute.value)
                 }
                 Ok(_) => (None, None, remaining),

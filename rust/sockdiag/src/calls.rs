@@ -236,12 +236,66 @@ pub(crate) fn inet_lenient_details(
     }
 }
 
+/// Returns the valid contents of a reply about a netlink socket.
+pub(crate) fn netlink_lenient_details(
+    payload: &[u8],
+) -> Result<(NetlinkDetails<'_>, Rejections), DecodeError> {
+    // SAFETY: `sockdiag_netlink_get_lenient_details` is a lenient details call.
+    unsafe {
+        lenient_details(
+            payload,
+            sockdiag_netlink_get_lenient_details,
+            sockdiag_netlink_explain,
+        )
+    }
+}
+
+/// Returns the valid contents of a reply about a packet socket.
+pub(crate) fn packet_lenient_details(
+    payload: &[u8],
+) -> Result<(PacketDetails<'_>, Rejections), DecodeError> {
+    // SAFETY: `sockdiag_packet_get_lenient_details` is a lenient details call.
+    unsafe {
+        lenient_details(
+            payload,
+            sockdiag_packet_get_lenient_details,
+            sockdiag_packet_explain,
+        )
+    }
+}
+
+/// Returns the valid contents of a reply about a vsock socket.
+pub(crate) fn vsock_lenient_details(
+    payload: &[u8],
+) -> Result<(VsockResponseHeader, Rejections), DecodeError> {
+    // SAFETY: `sockdiag_vsock_get_lenient_details` is a lenient details call.
+    unsafe {
+        lenient_details(
+            payload,
+            sockdiag_vsock_get_lenient_details,
+            sockdiag_vsock_explain,
+        )
+    }
+}
+
+/// Returns the valid contents of a reply about an XDP socket.
+pub(crate) fn xdp_lenient_details(payload: &[u8]) -> Result<(XdpDetails, Rejections), DecodeError> {
+    // SAFETY: `sockdiag_xdp_get_lenient_details` is a lenient details call.
+    unsafe {
+        lenient_details(
+            payload,
+            sockdiag_xdp_get_lenient_details,
+            sockdiag_xdp_explain,
+        )
+    }
+}
+
 /// Returns the error of the attribute at the start of the bytes by an `.._explain_attribute` call,
-/// or `None` if it is accepted.
+/// or that of a reply by an `.._explain` call. Returns `None` if it is accepted.
 ///
 /// # Safety
 ///
-/// `explain` is one of the calls `.._explain_attribute` of `sockdiag.h`.
+/// `explain` is one of the calls `.._explain_attribute` and `.._explain` of `sockdiag.h`.
 unsafe fn attribute_error(bytes: &[u8], explain: Explain) -> Option<DecodeError> {
     let mut error = ErrorDetails::default();
     // SAFETY: the pointer and the length are from one slice, and the struct is an initialized
@@ -268,6 +322,34 @@ pub(crate) fn unix_attribute_error(bytes: &[u8]) -> Option<DecodeError> {
 pub(crate) fn inet_attribute_error(bytes: &[u8]) -> Option<DecodeError> {
     // SAFETY: `sockdiag_inet_explain_attribute` is such a call.
     unsafe { attribute_error(bytes, sockdiag_inet_explain_attribute) }
+}
+
+/// Returns the error of the attribute of a netlink socket after the bytes of a header. The calls
+/// for this family do not check the header, so any bytes can take its place.
+pub(crate) fn netlink_attribute_error(bytes: &[u8]) -> Option<DecodeError> {
+    // SAFETY: `sockdiag_netlink_explain` is such a call.
+    unsafe { attribute_error(bytes, sockdiag_netlink_explain) }
+}
+
+/// Returns the error of the attribute of a packet socket after the bytes of a header. The calls for
+/// this family do not check the header, so any bytes can take its place.
+pub(crate) fn packet_attribute_error(bytes: &[u8]) -> Option<DecodeError> {
+    // SAFETY: `sockdiag_packet_explain` is such a call.
+    unsafe { attribute_error(bytes, sockdiag_packet_explain) }
+}
+
+/// Returns the error of the attribute of a vsock socket after the bytes of a header. The calls for
+/// this family do not check the header, so any bytes can take its place.
+pub(crate) fn vsock_attribute_error(bytes: &[u8]) -> Option<DecodeError> {
+    // SAFETY: `sockdiag_vsock_explain` is such a call.
+    unsafe { attribute_error(bytes, sockdiag_vsock_explain) }
+}
+
+/// Returns the error of the attribute of an XDP socket after the bytes of a header. The calls for
+/// this family do not check the header, so any bytes can take its place.
+pub(crate) fn xdp_attribute_error(bytes: &[u8]) -> Option<DecodeError> {
+    // SAFETY: `sockdiag_xdp_explain` is such a call.
+    unsafe { attribute_error(bytes, sockdiag_xdp_explain) }
 }
 
 /// Returns the value of an attribute by a getter, or `None` if the getter rejects it.

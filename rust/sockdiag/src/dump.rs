@@ -258,11 +258,9 @@ pub struct RejectedMessage<'a> {
 }
 
 impl<'a> RejectedMessage<'a> {
-    /// Returns the reply with those of its attributes that are valid, if it is about a UNIX, IPv4
-    /// or IPv6 socket. Returns `None` for any other message, for a header that is rejected, and for
-    /// a framing error. So it returns `None` for a reply about a netlink, packet, vsock or XDP
-    /// socket, which [`AnyDump`] rejects if one attribute is rejected. The [documentation of the
-    /// crate](crate#sockets-of-four-more-families) shows how to list its socket.
+    /// Returns the reply with those of its attributes that are valid. Returns `None` for any other
+    /// message, for a header that is rejected, and for a framing error. [`Dump`] rejects each reply
+    /// about a netlink, packet, vsock or XDP socket; this method returns it too.
     pub fn lenient(&self) -> Option<LenientMessage<'a>> {
         let message_type = self.header?.message_type;
         LenientMessage::parse(self.payload, message_type).ok()

@@ -1,11 +1,17 @@
 //! Replies of which attributes may be rejected.
 
+use crate::attribute::AttributeError;
 use crate::calls;
-use crate::constants::AF_UNIX;
+use crate::constants::{AF_NETLINK, AF_PACKET, AF_UNIX, AF_VSOCK, AF_XDP, SOCK_DIAG_BY_FAMILY};
 use crate::dump::family_of;
 use crate::inet::{InetReply, LenientInetReply};
-use crate::sys::{Rejections, INET_ATTRIBUTES, UNIX_ATTRIBUTES};
+use crate::netlink::{LenientNetlinkReply, NetlinkReply};
+use crate::packet::{LenientPacketReply, PacketReply};
+use crate::sys::{Rejections, INET_ATTRIBUTES, NETLINK_ATTRIBUTES, PACKET_ATTRIBUTES};
+use crate::sys::{UNIX_ATTRIBUTES, VSOCK_ATTRIBUTES, XDP_ATTRIBUTES};
 use crate::unix::{LenientUnixReply, UnixReply};
+use crate::vsock::{LenientVsockReply, VsockReply};
+use crate::xdp::{LenientXdpReply, XdpReply};
 use crate::{DecodeError, RejectedAttributes};
 use core::ops::Deref;
 
@@ -14,9 +20,41 @@ use core::ops::Deref;
 enum Family {
     Unix,
     Inet,
+    Netlink,
+    Packet,
+    Vsock,
+    Xdp,
 }
 
-/// A reply of which attributes may be rejected: a [`LenientUnixReply`] or a [`LenientInetReply`].
+impl Family {
+    /// Returns the length of the header, and how the error of an attribute is found.
+    fn attributes(self) -> (usize, AttributeError) {
+        let (header_length, before, call): (_, _, fn(&[u8]) -> _) = match self {
+            Family::Unix => (UNIX_ATTRIBUTES, 0, calls::unix_attribute_error),
+            Family::Inet => (INET_ATTRIBUTES, 0, calls::inet_attribute_error),
+            Family::Netlink => (
+                NETLINK_ATTRIBUTES,
+                NETLINK_ATTRIBUTES,
+                calls::netlink_attribute_error,
+            ),
+            Family::Packet => (
+                PACKET_ATTRIBUTES,
+                PACKET_ATTRIBUTES,
+                calls::packet_attribute_error,
+            ),
+            Family::Vsock => (
+                VSOCK_ATTRIBUTES,
+                VSOCK_ATTRIBUTES,
+                calls::vsock_attribute_error,
+            ),
+            Family::Xdp => (XDP_ATTRIBUTES, XDP_ATTRIBUTES, calls::xdp_attribute_error),
+        };
+        (header_length, AttributeError { before, call })
+    }
+}
+
+/// A reply of which attributes may be rejected: a [`LenientUnixReply`], [`LenientInetReply`],
+/// [`LenientNetlinkReply`], [`LenientPacketReply`], [`LenientVsockReply`] or [`LenientXdpReply`].
 /// Its header was accepted.
 ///
 /// Use it to list sockets: a value that this crate does not accept, such as the `INET_DIAG_INFO` of
@@ -25,13 +63,14 @@ enum Family {
 /// It has the fields and methods of the reply `R`, with its valid attributes; of several of a kind
 /// the first valid one counts:
 ///
-/// - a getter returns the first valid attribute, or `None` if there is none. If the reply has
-///   several attributes of a kind, another one may be rejected;
+/// - a getter returns the first valid attribute, or `None` if there is none, and so does a field of
+///   a reply about a netlink, packet or XDP socket. If the reply has several attributes of a kind,
+///   another one may be rejected;
 /// - the values of kinds that `nlas` of a strict reply yields as `Other` are not checked, so they
 ///   are never rejected: `cgroup_id`, for example, returns `None` for a value of another length;
-/// - `nlas` yields a rejected attribute as `Other`;
 /// - `attributes` yields all attributes, and a framing error last;
-/// - `canonical` returns `None` if an attribute is rejected.
+/// - `nlas` of a UNIX or internet socket yields a rejected attribute as `Other`, and `canonical`
+///   returns `None` if an attribute is rejected.
 ///
 /// ```
 /// use sockdiag::inet::{LenientInetReply, TcpField};
@@ -92,6 +131,62 @@ impl<'a> LenientInetReply<'a> {
     }
 }
 
+impl<'a> LenientNetlinkReply<'a> {
+    /// Parses the reply, which is the payload of its message, in one pass over the attributes. Does
+    /// not allocate. Returns an error only if there are fewer than the 28 bytes of the header.
+    pub fn parse(payload: &'a [u8]) -> Result<Self, DecodeError> {
+        let (details, rejections) = calls::netlink_lenient_details(payload)?;
+        Ok(LenientReply {
+            reply: NetlinkReply::of_details(details, payload),
+            rejections,
+            family: Family::Netlink,
+            payload,
+        })
+    }
+}
+
+impl<'a> LenientPacketReply<'a> {
+    /// Parses the reply, which is the payload of its message, in one pass over the attributes. Does
+    /// not allocate. Returns an error only if there are fewer than the 16 bytes of the header.
+    pub fn parse(payload: &'a [u8]) -> Result<Self, DecodeError> {
+        let (details, rejections) = calls::packet_lenient_details(payload)?;
+        Ok(LenientReply {
+            reply: PacketReply::of_details(details, payload),
+            rejections,
+            family: Family::Packet,
+            payload,
+        })
+    }
+}
+
+impl<'a> LenientVsockReply<'a> {
+    /// Parses the reply, which is the payload of its message, in one pass over the attributes. Does
+    /// not allocate. Returns an error only if there are fewer than the 32 bytes of the header.
+    pub fn parse(payload: &'a [u8]) -> Result<Self, DecodeError> {
+        let (details, rejections) = calls::vsock_lenient_details(payload)?;
+        Ok(LenientReply {
+            reply: VsockReply::of_details(details, payload),
+            rejections,
+            family: Family::Vsock,
+            payload,
+        })
+    }
+}
+
+impl<'a> LenientXdpReply<'a> {
+    /// Parses the reply, which is the payload of its message, in one pass over the attributes. Does
+    /// not allocate. Returns an error only if there are fewer than the 16 bytes of the header.
+    pub fn parse(payload: &'a [u8]) -> Result<Self, DecodeError> {
+        let (details, rejections) = calls::xdp_lenient_details(payload)?;
+        Ok(LenientReply {
+            reply: XdpReply::of_details(details, payload),
+            rejections,
+            family: Family::Xdp,
+            payload,
+        })
+    }
+}
+
 impl<'a, R> LenientReply<'a, R> {
     /// Returns whether no attribute is rejected. Then `parse` of the reply `R` accepts it too.
     pub fn is_accepted(&self) -> bool {
@@ -101,10 +196,7 @@ impl<'a, R> LenientReply<'a, R> {
     /// Returns an iterator over the rejected attributes, in order, with their values and errors. A
     /// framing error is the last item. The time for all is proportional to the length of the reply.
     pub fn rejected(&self) -> RejectedAttributes<'a> {
-        let (header_length, error_of): (_, fn(&[u8]) -> _) = match self.family {
-            Family::Unix => (UNIX_ATTRIBUTES, calls::unix_attribute_error),
-            Family::Inet => (INET_ATTRIBUTES, calls::inet_attribute_error),
-        };
+        let (header_length, error_of) = self.family.attributes();
         RejectedAttributes::after_header(self.payload, header_length, self.rejections, error_of)
     }
 }
@@ -117,7 +209,7 @@ impl<R> Deref for LenientReply<'_, R> {
     }
 }
 
-/// A reply about a UNIX, IPv4 or IPv6 socket, of which attributes may be rejected. For a rejected
+/// A reply of which attributes may be rejected, about a socket of any family. For a rejected
 /// message of a dump, [`RejectedMessage::lenient`](crate::RejectedMessage::lenient) returns it.
 ///
 /// ```
@@ -140,15 +232,39 @@ pub enum LenientMessage<'a> {
     Unix(LenientUnixReply<'a>),
     /// A reply describing one IPv4 or IPv6 socket.
     Inet(LenientInetReply<'a>),
+    /// A reply describing one netlink socket.
+    Netlink(LenientNetlinkReply<'a>),
+    /// A reply describing one packet socket.
+    Packet(LenientPacketReply<'a>),
+    /// A reply describing one vsock socket.
+    Vsock(LenientVsockReply<'a>),
+    /// A reply describing one XDP socket.
+    Xdp(LenientXdpReply<'a>),
 }
 
 impl<'a> LenientMessage<'a> {
-    /// Parses the payload of a message of the given type. Returns an error only if the header of
-    /// the reply is rejected, or if it is not a reply about a UNIX, IPv4 or IPv6 socket.
+    /// Parses the payload of a message of the given type. The first byte selects the family, as for
+    /// [`AnySockDiagMessage::parse`](crate::AnySockDiagMessage::parse). Returns an error only if
+    /// the header of the reply is rejected, or if it is not a reply about a socket of these
+    /// families.
     pub fn parse(payload: &'a [u8], message_type: u16) -> Result<Self, DecodeError> {
-        match family_of(payload, message_type)? {
-            AF_UNIX => LenientReply::<UnixReply>::parse(payload).map(LenientMessage::Unix),
-            _ => LenientReply::<InetReply>::parse(payload).map(LenientMessage::Inet),
+        match (message_type, payload) {
+            (SOCK_DIAG_BY_FAMILY, [AF_NETLINK, _, ..]) => {
+                LenientNetlinkReply::parse(payload).map(LenientMessage::Netlink)
+            }
+            (SOCK_DIAG_BY_FAMILY, [AF_PACKET, _, ..]) => {
+                LenientPacketReply::parse(payload).map(LenientMessage::Packet)
+            }
+            (SOCK_DIAG_BY_FAMILY, [AF_VSOCK, _, ..]) => {
+                LenientVsockReply::parse(payload).map(LenientMessage::Vsock)
+            }
+            (SOCK_DIAG_BY_FAMILY, [AF_XDP, _, ..]) => {
+                LenientXdpReply::parse(payload).map(LenientMessage::Xdp)
+            }
+            _ => match family_of(payload, message_type)? {
+                AF_UNIX => LenientUnixReply::parse(payload).map(LenientMessage::Unix),
+                _ => LenientInetReply::parse(payload).map(LenientMessage::Inet),
+            },
         }
     }
 }

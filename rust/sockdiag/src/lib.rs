@@ -74,7 +74,7 @@
 //!                 assert_eq!((reply.header.inode, reply.rejected().count()), (78, 1));
 //!                 listening += usize::from(reply.header.state == TCP_LISTEN);
 //!             }
-//!             Some(LenientMessage::Inet(_)) => {}
+//!             Some(_) => {}
 //!             None => eprintln!("invalid reply: {rejected}"),
 //!         },
 //!     }
@@ -156,9 +156,10 @@
 //!
 //! # Replies of old kernels, and newer attributes
 //!
-//! [`unix::LenientUnixReply`] and [`inet::LenientInetReply`] accept a reply of which attributes are
-//! rejected: they have the getters of the strict replies, and
-//! [`rejected`](LenientReply::rejected), which yields the other attributes with their errors.
+//! [`unix::LenientUnixReply`], [`inet::LenientInetReply`] and their siblings for four more families
+//! accept a reply of which attributes are rejected: they have the fields and the getters of the
+//! strict replies, and [`rejected`](LenientReply::rejected), which yields the other attributes with
+//! their errors.
 //! [`inet::TcpInfoBytes`] has the 68 fields of `struct tcp_info` of Linux 6.18, as far as a kernel
 //! sends them. Getters of replies have the values that `nlas` yields as `Other`: the cgroup, the
 //! options of the socket, the measurements of Vegas, DCTCP and BBR, MD5 signature keys, SCTP
@@ -173,13 +174,11 @@
 //! these replies, and `[u8; 8]` in those about UNIX and internet sockets: `u64::from_le_bytes`
 //! converts the bytes.
 //!
-//! These replies have no lenient form: one rejected attribute makes a reply invalid, and
-//! [`RejectedMessage::lenient`] returns `None`. To list every socket, parse the header alone, which
-//! has the length of the constant in the table, and then iterate over the attributes:
+//! One rejected attribute makes a reply invalid. To list every socket, parse it leniently, or call
+//! [`RejectedMessage::lenient`] for an item of a dump:
 //!
 //! ```
-//! use sockdiag::netlink::{NetlinkReply, NETLINK_RESPONSE_HEADER_LEN};
-//! use sockdiag::Attributes;
+//! use sockdiag::netlink::{LenientNetlinkReply, NetlinkReply};
 //!
 //! // A reply with flags of 2 bytes instead of 4.
 //! let mut payload = [0; 36];
@@ -187,23 +186,20 @@
 //! payload[28..].copy_from_slice(&[6, 0, 4, 0, 1, 0, 0, 0]);
 //! assert!(NetlinkReply::parse(&payload).is_err());
 //!
-//! let Some((header, attributes)) = payload.split_at_checked(NETLINK_RESPONSE_HEADER_LEN) else {
-//!     panic!("invalid header");
-//! };
-//! assert_eq!(NetlinkReply::parse(header)?.header.inode, 78);
-//! for attribute in Attributes::new(attributes) {
-//!     let attribute = attribute?;
-//!     assert_eq!((attribute.kind(), attribute.value), (4, &[1, 0][..]));
+//! let reply = LenientNetlinkReply::parse(&payload)?;
+//! assert_eq!((reply.header.inode, reply.flags), (78, None));
+//! for rejected in reply.rejected() {
+//!     assert_eq!((rejected.kind, rejected.value), (Some(4), &[1, 0][..]));
 //! }
 //! # Ok::<(), sockdiag::DecodeError>(())
 //! ```
 //!
-//! | family | request | reply | its header | length of the header |
-//! |---|---|---|---|---|
-//! | `AF_NETLINK` | [`netlink::NetlinkRequest`] | [`netlink::NetlinkReply`] | `struct netlink_diag_msg` | [`netlink::NETLINK_RESPONSE_HEADER_LEN`] |
-//! | `AF_PACKET` | [`packet::PacketRequest`] | [`packet::PacketReply`] | `struct packet_diag_msg` | [`packet::PACKET_RESPONSE_HEADER_LEN`] |
-//! | `AF_VSOCK` | [`vsock::VsockRequest`] | [`vsock::VsockReply`] | `struct vsock_diag_msg` | [`vsock::VSOCK_RESPONSE_HEADER_LEN`] |
-//! | `AF_XDP` | [`xdp::XdpRequest`] | [`xdp::XdpReply`] | `struct xdp_diag_msg` | [`xdp::XDP_RESPONSE_HEADER_LEN`] |
+//! | family | request | reply | lenient reply | its header | length of the header |
+//! |---|---|---|---|---|---|
+//! | `AF_NETLINK` | [`netlink::NetlinkRequest`] | [`netlink::NetlinkReply`] | [`netlink::LenientNetlinkReply`] | `struct netlink_diag_msg` | [`netlink::NETLINK_RESPONSE_HEADER_LEN`] |
+//! | `AF_PACKET` | [`packet::PacketRequest`] | [`packet::PacketReply`] | [`packet::LenientPacketReply`] | `struct packet_diag_msg` | [`packet::PACKET_RESPONSE_HEADER_LEN`] |
+//! | `AF_VSOCK` | [`vsock::VsockRequest`] | [`vsock::VsockReply`] | [`vsock::LenientVsockReply`] | `struct vsock_diag_msg` | [`vsock::VSOCK_RESPONSE_HEADER_LEN`] |
+//! | `AF_XDP` | [`xdp::XdpRequest`] | [`xdp::XdpReply`] | [`xdp::LenientXdpReply`] | `struct xdp_diag_msg` | [`xdp::XDP_RESPONSE_HEADER_LEN`] |
 #![no_std]
 
 #[cfg(not(any(

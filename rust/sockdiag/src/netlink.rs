@@ -3,6 +3,7 @@
 use crate::calls;
 use crate::constants::AF_NETLINK;
 use crate::inet::nlas::MemInfo;
+use crate::lenient::LenientReply;
 use crate::show::ShowRequest;
 use crate::sys;
 use crate::{Attributes, DecodeError};
@@ -36,18 +37,27 @@ pub struct NetlinkReply<'a> {
 /// Alias of [`NetlinkReply`] in the naming style of `netlink-packet-sock-diag`.
 pub type NetlinkResponse<'a> = NetlinkReply<'a>;
 
+/// The reply about one netlink socket, of which attributes may be rejected.
+pub type LenientNetlinkReply<'a> = LenientReply<'a, NetlinkReply<'a>>;
+
 impl<'a> NetlinkReply<'a> {
     /// Checks the whole reply, which is the payload of its message, and parses it. Does not
-    /// allocate.
+    /// allocate. One rejected attribute makes the whole reply invalid;
+    /// [`LenientNetlinkReply::parse`] accepts it.
     pub fn parse(payload: &'a [u8]) -> Result<Self, DecodeError> {
         let details = calls::netlink_details(payload)?;
-        Ok(NetlinkReply {
+        Ok(NetlinkReply::of_details(details, payload))
+    }
+
+    /// Returns the reply with these contents.
+    pub(crate) fn of_details(details: sys::NetlinkDetails<'a>, payload: &'a [u8]) -> Self {
+        NetlinkReply {
             header: details.header,
             memory: details.memory.get(),
             groups: details.groups.get(),
             flags: details.flags.get(),
             payload,
-        })
+        }
     }
 
     /// Returns an iterator over all attributes, in order.

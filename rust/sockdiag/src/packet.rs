@@ -3,6 +3,7 @@
 use crate::calls;
 use crate::constants::AF_PACKET;
 use crate::inet::nlas::MemInfo;
+use crate::lenient::LenientReply;
 use crate::show::ShowRequest;
 use crate::sys;
 use crate::{Attributes, DecodeError};
@@ -51,12 +52,21 @@ pub struct PacketReply<'a> {
 /// Alias of [`PacketReply`] in the naming style of `netlink-packet-sock-diag`.
 pub type PacketResponse<'a> = PacketReply<'a>;
 
+/// The reply about one packet socket, of which attributes may be rejected.
+pub type LenientPacketReply<'a> = LenientReply<'a, PacketReply<'a>>;
+
 impl<'a> PacketReply<'a> {
     /// Checks the whole reply, which is the payload of its message, and parses it. Does not
-    /// allocate.
+    /// allocate. One rejected attribute makes the whole reply invalid;
+    /// [`LenientPacketReply::parse`] accepts it.
     pub fn parse(payload: &'a [u8]) -> Result<Self, DecodeError> {
         let details = calls::packet_details(payload)?;
-        Ok(PacketReply {
+        Ok(PacketReply::of_details(details, payload))
+    }
+
+    /// Returns the reply with these contents.
+    pub(crate) fn of_details(details: sys::PacketDetails<'a>, payload: &'a [u8]) -> Self {
+        PacketReply {
             header: details.header,
             info: (details.has_info != 0).then_some(details.info),
             addresses: details.addresses.get(),
@@ -67,7 +77,7 @@ impl<'a> PacketReply<'a> {
             memory: details.memory.get(),
             filter: details.filter.get(),
             payload,
-        })
+        }
     }
 
     /// Returns an iterator over all attributes, in order.

@@ -1018,6 +1018,30 @@ extern "C" {
         details: *mut InetDetails<'a>,
         rejections: *mut Rejections,
     ) -> u32;
+    pub(crate) fn sockdiag_netlink_get_lenient_details<'a>(
+        payload: *const u8,
+        length: usize,
+        details: *mut NetlinkDetails<'a>,
+        rejections: *mut Rejections,
+    ) -> u32;
+    pub(crate) fn sockdiag_packet_get_lenient_details<'a>(
+        payload: *const u8,
+        length: usize,
+        details: *mut PacketDetails<'a>,
+        rejections: *mut Rejections,
+    ) -> u32;
+    pub(crate) fn sockdiag_vsock_get_lenient_details(
+        payload: *const u8,
+        length: usize,
+        details: *mut VsockResponseHeader,
+        rejections: *mut Rejections,
+    ) -> u32;
+    pub(crate) fn sockdiag_xdp_get_lenient_details(
+        payload: *const u8,
+        length: usize,
+        details: *mut XdpDetails,
+        rejections: *mut Rejections,
+    ) -> u32;
     pub(crate) fn sockdiag_netlink_get_details<'a>(
         payload: *const u8,
         length: usize,

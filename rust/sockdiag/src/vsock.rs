@@ -2,6 +2,7 @@
 
 use crate::calls;
 use crate::dump::NetlinkHeader;
+use crate::lenient::LenientReply;
 use crate::sys;
 use crate::unix::request_header;
 use crate::{Attributes, DecodeError};
@@ -50,12 +51,21 @@ pub struct VsockReply<'a> {
 /// Alias of [`VsockReply`] in the naming style of `netlink-packet-sock-diag`.
 pub type VsockResponse<'a> = VsockReply<'a>;
 
+/// The reply about one vsock socket, after whose header there may be bytes that are not attributes.
+pub type LenientVsockReply<'a> = LenientReply<'a, VsockReply<'a>>;
+
 impl<'a> VsockReply<'a> {
     /// Checks the whole reply, which is the payload of its message, and parses it. Does not
-    /// allocate.
+    /// allocate. Bytes after the header that are not attributes make the whole reply invalid;
+    /// [`LenientVsockReply::parse`] accepts it.
     pub fn parse(payload: &'a [u8]) -> Result<Self, DecodeError> {
         let header = calls::vsock_details(payload)?;
-        Ok(VsockReply { header, payload })
+        Ok(VsockReply::of_details(header, payload))
+    }
+
+    /// Returns the reply with this header.
+    pub(crate) fn of_details(header: VsockResponseHeader, payload: &'a [u8]) -> Self {
+        VsockReply { header, payload }
     }
 
     /// Returns an iterator over all attributes, in order. Linux sends none.

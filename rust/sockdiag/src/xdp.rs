@@ -3,6 +3,7 @@
 use crate::calls;
 use crate::constants::AF_XDP;
 use crate::inet::nlas::MemInfo;
+use crate::lenient::LenientReply;
 use crate::show::ShowRequest;
 use crate::sys;
 use crate::{Attributes, DecodeError};
@@ -50,12 +51,21 @@ pub struct XdpReply<'a> {
 /// Alias of [`XdpReply`] in the naming style of `netlink-packet-sock-diag`.
 pub type XdpResponse<'a> = XdpReply<'a>;
 
+/// The reply about one XDP socket, of which attributes may be rejected.
+pub type LenientXdpReply<'a> = LenientReply<'a, XdpReply<'a>>;
+
 impl<'a> XdpReply<'a> {
     /// Checks the whole reply, which is the payload of its message, and parses it. Does not
-    /// allocate.
+    /// allocate. One rejected attribute makes the whole reply invalid; [`LenientXdpReply::parse`]
+    /// accepts it.
     pub fn parse(payload: &'a [u8]) -> Result<Self, DecodeError> {
         let details = calls::xdp_details(payload)?;
-        Ok(XdpReply {
+        Ok(XdpReply::of_details(details, payload))
+    }
+
+    /// Returns the reply with these contents.
+    pub(crate) fn of_details(details: sys::XdpDetails, payload: &'a [u8]) -> Self {
+        XdpReply {
             header: details.header,
             info: (details.has_info != 0).then_some(details.info),
             owner: details.owner.get(),
@@ -67,7 +77,7 @@ impl<'a> XdpReply<'a> {
             memory: details.memory.get(),
             statistics: (details.has_statistics != 0).then_some(details.statistics),
             payload,
-        })
+        }
     }
 
     /// Returns an iterator over all attributes, in order.

@@ -6,8 +6,13 @@
 mod common;
 
 use common::bytes_of;
+use sockdiag::inet::nlas::MemInfo;
 use sockdiag::inet::{InetResponseHeader, LenientInetReply, Timer};
+use sockdiag::netlink::LenientNetlinkReply;
+use sockdiag::packet::{LenientPacketReply, PacketRing};
 use sockdiag::unix::{LenientUnixReply, UnixDiagName};
+use sockdiag::vsock::LenientVsockReply;
+use sockdiag::xdp::LenientXdpReply;
 use sockdiag::{DecodeError, RecordName, RejectedAttribute};
 use std::collections::BTreeMap;
 use std::net::IpAddr;
@@ -34,7 +39,18 @@ fn record_number(record: RecordName) -> u32 {
         RecordName::TcpInfo => 8,
         RecordName::Vfs => 9,
         RecordName::UnixMemInfo => 10,
+        RecordName::FamilyResponseHeader { .. } => 12,
+        RecordName::FamilyAttribute { .. } => 13,
         other => panic!("{other}"),
+    }
+}
+
+/// Returns the family of a record, or 0, and its kind of attribute.
+fn record_family(record: RecordName) -> (u8, Option<u16>) {
+    match record {
+        RecordName::FamilyResponseHeader { family } => (family, None),
+        RecordName::FamilyAttribute { family, kind } => (family, Some(kind)),
+        _ => (0, None),
     }
 }
 
@@ -47,7 +63,10 @@ fn error_word(error: DecodeError) -> String {
             which,
             got: found,
             need: least,
-        } => (record, got, need) = (record_number(which), found, least),
+        } => {
+            (record, got, need) = (record_number(which), found, least);
+            (family, kind) = record_family(which);
+        }
         DecodeError::UnsupportedFamily { family: other } => family = other,
         DecodeError::AttributeHeaderCut { left } => got = left,
         DecodeError::AttributeLengthUnder4 { length: field } => length = field,
@@ -212,13 +231,179 @@ fn inet_answer(payload: &[u8]) -> Result<String, DecodeError> {
     .join(" "))
 }
 
-/// Returns the answer to a line of the reader: `unix` or `inet`, and the payload.
+/// Returns the word for a record: its numbers, or `-` if there is none.
+fn record<const N: usize>(numbers: Option<[u64; N]>) -> String {
+    numbers.map_or("-".into(), |it| {
+        it.map(|number| number.to_string()).join(",")
+    })
+}
+
+fn bytes_word(bytes: Option<&[u8]>) -> String {
+    bytes.map_or("-".into(), |bytes| text("bytes", bytes))
+}
+
+fn memory_words(memory: Option<MemInfo>) -> String {
+    let field = |of: fn(MemInfo) -> Option<u32>| number(memory.and_then(of));
+    [
+        ("receive_queue", field(|it| Some(it.receive_queue))),
+        ("receive_queue_max", field(|it| Some(it.receive_queue_max))),
+        (
+            "bottom_send_queues",
+            field(|it| Some(it.bottom_send_queues)),
+        ),
+        ("send_queue_max", field(|it| Some(it.send_queue_max))),
+        ("cache", field(|it| Some(it.cache))),
+        ("send_queue", field(|it| Some(it.send_queue))),
+        ("options", field(|it| Some(it.options))),
+        ("backlog_queue_length", field(|it| it.backlog_queue_length)),
+        ("drops", field(|it| it.drops)),
+    ]
+    .map(|(name, word)| format!("memory_{name}={word}"))
+    .join(" ")
+}
+
+fn netlink_answer(payload: &[u8]) -> Result<String, DecodeError> {
+    let it = LenientNetlinkReply::parse(payload)?;
+    let header = it.header;
+    Ok([
+        format!(
+            "kind={} protocol={} state={} port={} destination_port={}",
+            header.kind, header.protocol, header.state, header.port, header.destination_port
+        ),
+        format!(
+            "destination_group={} inode={} cookie={}",
+            header.destination_group, header.inode, header.cookie
+        ),
+        memory_words(it.memory),
+        format!(
+            "groups={} flags={}",
+            bytes_word(it.groups),
+            number(it.flags)
+        ),
+        rejections(it.rejected()),
+    ]
+    .join(" "))
+}
+
+fn ring_word(ring: Option<PacketRing>) -> String {
+    record(ring.map(|it| {
+        [
+            it.block_size,
+            it.blocks,
+            it.frame_size,
+            it.frames,
+            it.retire_timeout,
+            it.private_size,
+            it.features,
+        ]
+        .map(u64::from)
+    }))
+}
+
+fn packet_answer(payload: &[u8]) -> Result<String, DecodeError> {
+    let it = LenientPacketReply::parse(payload)?;
+    let info = it.info.map(|info| {
+        [
+            info.interface,
+            info.version,
+            info.reserve,
+            info.copy_threshold,
+            info.timestamp,
+            info.flags,
+        ]
+        .map(u64::from)
+    });
+    Ok([
+        format!("kind={} protocol={}", it.header.kind, it.header.protocol),
+        format!("inode={} cookie={}", it.header.inode, it.header.cookie),
+        format!(
+            "info={} addresses={}",
+            record(info),
+            bytes_word(it.addresses)
+        ),
+        format!("receive_ring={}", ring_word(it.receive_ring)),
+        format!("send_ring={}", ring_word(it.send_ring)),
+        format!("fanout={} owner={}", number(it.fanout), number(it.owner)),
+        memory_words(it.memory),
+        format!("filter={}", bytes_word(it.filter)),
+        rejections(it.rejected()),
+    ]
+    .join(" "))
+}
+
+fn vsock_answer(payload: &[u8]) -> Result<String, DecodeError> {
+    let it = LenientVsockReply::parse(payload)?;
+    let header = it.header;
+    Ok([
+        format!(
+            "kind={} state={} shutdown={} source_context={} source_port={}",
+            header.kind, header.state, header.shutdown, header.source_context, header.source_port
+        ),
+        format!(
+            "destination_context={} destination_port={} inode={} cookie={}",
+            header.destination_context, header.destination_port, header.inode, header.cookie
+        ),
+        rejections(it.rejected()),
+    ]
+    .join(" "))
+}
+
+fn xdp_answer(payload: &[u8]) -> Result<String, DecodeError> {
+    let it = LenientXdpReply::parse(payload)?;
+    let info = it
+        .info
+        .map(|info| [info.interface, info.queue].map(u64::from));
+    let umem = it.umem.map(|it| {
+        let numbers = [
+            it.id,
+            it.pages,
+            it.chunk_size,
+            it.headroom,
+            it.interface,
+            it.queue,
+            it.flags,
+            it.references,
+        ];
+        let [a, b, c, d, e, f, g, h] = numbers.map(u64::from);
+        [it.size, a, b, c, d, e, f, g, h]
+    });
+    let statistics = it.statistics.map(|it| {
+        [
+            it.received_dropped,
+            it.received_invalid,
+            it.received_full,
+            it.fill_ring_empty,
+            it.sent_invalid,
+            it.send_ring_empty,
+        ]
+    });
+    Ok([
+        format!("kind={} inode={}", it.header.kind, it.header.inode),
+        format!("cookie={}", it.header.cookie),
+        format!("info={} owner={}", record(info), number(it.owner)),
+        format!("receive_ring={}", number(it.receive_ring)),
+        format!("send_ring={} umem={}", number(it.send_ring), record(umem)),
+        format!("fill_ring={}", number(it.fill_ring)),
+        format!("completion_ring={}", number(it.completion_ring)),
+        memory_words(it.memory),
+        format!("statistics={}", record(statistics)),
+        rejections(it.rejected()),
+    ]
+    .join(" "))
+}
+
+/// Returns the answer to a line of the reader: the kind of reply, and the payload.
 fn answer(line: &str) -> String {
     let (name, payload) = line.split_once(' ').unwrap();
     let payload = bytes_of(payload);
     let answer = match name {
         "unix" => unix_answer(&payload),
-        _ => inet_answer(&payload),
+        "inet" => inet_answer(&payload),
+        "netlink" => netlink_answer(&payload),
+        "packet" => packet_answer(&payload),
+        "vsock" => vsock_answer(&payload),
+        "xdp" => xdp_answer(&payload),
+        other => panic!("{other}"),
     };
     answer.unwrap_or_else(|error| format!("error {}", error_word(error)))
 }

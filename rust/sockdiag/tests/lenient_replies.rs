@@ -239,7 +239,7 @@ fn returns_the_socket_of_a_rejected_message() {
         message(20, &unix),
         message(20, &inet),
         message(20, &unix[..15]),
-        message(20, &[17; 16]),
+        message(20, &[29; 16]),
         message(21, &unix),
         vec![1, 2, 3],
     ]
@@ -248,7 +248,7 @@ fn returns_the_socket_of_a_rejected_message() {
         .map(|message| match message.unwrap_err().lenient() {
             Some(LenientMessage::Unix(reply)) => (reply.header.inode, reply.rejected().count()),
             Some(LenientMessage::Inet(reply)) => (reply.header.inode, reply.rejected().count()),
-            None => (0, 0),
+            _ => (0, 0),
         })
         .collect();
     let inode = common::u32_at(&inet, 68);

@@ -1,5 +1,5 @@
 use Rattle.std.proofs.Common.{List, []}
-use Rattle.netlink_core.specs.AttributeSet.{AttributeValue, decode_attribute}
+use Rattle.netlink_core.specs.AttributeSet.{AttributeValue}
 use Rattle.netlink_core.specs.Walk.{unread_bytes}
 use Rattle.netlink_core.proofs.Iterating.{DecodedSoFar}
 use Rattle.sockdiag_c.proofs.details.set_details.Given as goal
@@ -8,7 +8,7 @@ use Rattle.sockdiag_c.proofs.details.set_details.Given as goal
 abbrev pub invariant-loop-item : goal.invariant-loop-item
 invariant-loop-item g l = record {
   so_far : List (AttributeValue g.T.ReplyDetails.reply.attribute_set);
-  walk : DecodedSoFar (decode_attribute g.T.ReplyDetails.reply.attribute_set) l.bytes so_far
+  walk : DecodedSoFar g.T.ReplyDetails.decode l.bytes so_far
       (unread_bytes l.item-iterator);
   details : (h : g.T.ReplyDetails.reply.header.Value) → g.T.ReplyDetails.describes h l.fn.details []
       → g.T.ReplyDetails.describes h l.details so_far;

@@ -15,7 +15,7 @@ use Rattle.sockdiag_c.proofs.lenient.set_valid_details.Goals as goal
 pub loop-item-init : goal.loop-item-init
 loop-item-init g c = record {
   so_far = [];
-  walk = no_items_yet g.T.ReplyDetails.reply.attribute_set _ _
+  walk = no_items_yet g.T.ReplyDetails.decode _ _
       (rw (c.into_iter-item-iterator.ensures.into_iter_gives, c.new-item-items.ensures) refl);
   details = λ h details. details;
   rejections = (refl, refl, λ k below. get_or-replicate 32 k 0 0 below);
@@ -23,22 +23,22 @@ loop-item-init g c = record {
 
 pub loop-item-preserved-in-Ok-set_detail : goal.loop-item-preserved-in-Ok-set_detail
 loop-item-preserved-in-Ok-set_detail g c =
-    let F = g.T.ReplyDetails.reply.attribute_set in
+    let decode = g.T.ReplyDetails.decode in
     let inv = c.loop-item.invariant in
     let a = buffered_attribute c.in-Ok.nla in
     let start = rw c.in-Ok.is at c.in-Some.ensures.steps in
     let said = c.in-Ok-set_detail.ensures.value in
     record {
       so_far = inv.so_far ++ Ok said.0 ∷ [];
-      walk = one_more_item F _ _ _ a inv.so_far (Ok said.0) start (rw said.1 refl) inv.walk;
-      details = λ h details. rw (← one_more_value F inv.so_far said.0)
+      walk = one_more_item decode _ _ _ a inv.so_far (Ok said.0) start (rw said.1 refl) inv.walk;
+      details = λ h details. rw (← one_more_value inv.so_far said.0)
           (said.2 h _ (inv.details h details));
       rejections = rejections_after_value _ inv.so_far said.0 inv.rejections;
     }
 
 pub loop-item-preserved : goal.loop-item-preserved
 loop-item-preserved g c =
-    let F = g.T.ReplyDetails.reply.attribute_set in
+    let decode = g.T.ReplyDetails.decode in
     let inv = c.loop-item.invariant in
     let a = buffered_attribute c.in-Ok.nla in
     let e = c.in-Err-set_detail.error in
@@ -46,12 +46,12 @@ loop-item-preserved g c =
     let rejection : RejectionModel = record { attribute = Some a; error = e } in
     record {
       so_far = inv.so_far ++ Err rejection ∷ [];
-      walk = one_more_item F _ _ _ a inv.so_far (Err rejection) start
+      walk = one_more_item decode _ _ _ a inv.so_far (Err rejection) start
           (rw c.in-Err-set_detail.ensures.error refl)
           inv.walk;
       details = λ h details. rw (
         c.in-Err-set_detail.ensures.unchanged,
-        ← no_more_value F inv.so_far rejection,
+        ← no_more_value inv.so_far rejection,
       ) (inv.details h details);
       rejections = rejections_after_error _ _ inv.so_far rejection inv.rejections
           c.add_attribute.ensures.first
@@ -62,7 +62,7 @@ loop-item-preserved g c =
 
 pub returns-in-Err : goal.returns-in-Err
 returns-in-Err g c =
-    let F = g.T.ReplyDetails.reply.attribute_set in
+    let decode = g.T.ReplyDetails.decode in
     let inv = c.loop-item.invariant in
     let e = c.in-Err.error in
     let stop = rw c.in-Err.is at c.in-Some.ensures.steps in
@@ -70,8 +70,8 @@ returns-in-Err g c =
     record {
       items = (
         inv.so_far ++ Err rejection ∷ [],
-        items_and_framing_error F _ _ inv.so_far e stop.0 stop.1 inv.walk,
-        λ h details. rw (← no_more_value F inv.so_far rejection) (inv.details h details),
+        items_and_framing_error decode _ _ inv.so_far e stop.0 stop.1 inv.walk,
+        λ h details. rw (← no_more_value inv.so_far rejection) (inv.details h details),
         rejections_after_error _ _ inv.so_far rejection inv.rejections
             c.add_framing.ensures.first
             c.add_framing.ensures.framing
@@ -82,12 +82,12 @@ returns-in-Err g c =
 
 pub returns : goal.returns
 returns g c =
-    let F = g.T.ReplyDetails.reply.attribute_set in
+    let decode = g.T.ReplyDetails.decode in
     let inv = c.loop-item.invariant in
     record {
       items = (
         inv.so_far,
-        all_items F _ _ inv.so_far c.in-None.ensures.steps.0 inv.walk,
+        all_items decode _ _ inv.so_far c.in-None.ensures.steps.0 inv.walk,
         inv.details,
         inv.rejections,
       );

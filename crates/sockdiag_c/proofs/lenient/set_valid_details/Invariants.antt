@@ -8,7 +8,7 @@ use Rattle.sockdiag_c.proofs.lenient.set_valid_details.Given as goal
 abbrev pub invariant-loop-item : goal.invariant-loop-item
 invariant-loop-item g l = record {
   so_far : List (LenientItem g.T.ReplyDetails.reply.attribute_set);
-  walk : ItemsSoFar g.T.ReplyDetails.reply.attribute_set l.bytes (unread_bytes l.item-iterator)
+  walk : ItemsSoFar g.T.ReplyDetails.decode l.bytes (unread_bytes l.item-iterator)
       so_far;
   details : (h : g.T.ReplyDetails.reply.header.Value) → g.T.ReplyDetails.describes h l.fn.details []
       → g.T.ReplyDetails.describes h l.details (accepted_values so_far);
