@@ -1057,12 +1057,11 @@ size_t sockdiag_inet_get_memory(const uint8_t *payload, size_t length,
  */
 struct sockdiag_rejections {
     uint32_t first;     /* Code of the first error, in the order of the attributes. If it is 0,
-                           the whole reply is accepted. sockdiag_unix_get_details or
-                           sockdiag_inet_get_details returns the same code.
-                           sockdiag_netlink_get_details and its siblings for other families
-                           return 0 if it is 0. Otherwise they may return another code, or 0:
-                           they check the framing before values, and only the first attribute of
-                           each kind. */
+                           the strict call for this reply, a sockdiag_.._get_details, accepts it.
+                           Otherwise sockdiag_unix_get_details and sockdiag_inet_get_details
+                           return the same code. The strict calls for other families may then
+                           return another code, or 0, since they check the framing before values,
+                           and only the first attribute of each kind. */
     uint32_t framing;   /* Code of the framing error after the last attribute, 7 to 9. What
                            follows is not parsed. */
     uint8_t errors[32]; /* Codes of the errors of attributes, by kind: the element INET_DIAG_INFO
@@ -1418,8 +1417,9 @@ uint32_t sockdiag_xdp_get_details(const uint8_t *payload, size_t length,
  * has a field in the details, and the first error of each kind, in one pass over the attributes.
  * What follows a framing error is not parsed. The bytes are the payload of the netlink message.
  * Returns 0, and sets all fields of the details and of the rejections; or the code of the error of
- * the header, and then both are unchanged. The previous contents of both are not read. What is not
- * rejected is as sockdiag_netlink_get_details describes it.
+ * the header, and then both are unchanged. The previous contents of both are not read. The family,
+ * attributes of other kinds, and the bytes of groups are not checked. Texts point into the payload,
+ * and are valid as long as it is.
  */
 uint32_t sockdiag_netlink_get_lenient_details(const uint8_t *payload, size_t length,
                                               struct sockdiag_netlink_details *details,
@@ -1431,8 +1431,9 @@ uint32_t sockdiag_netlink_get_lenient_details(const uint8_t *payload, size_t len
  * not parsed. The bytes are the payload of the netlink message. Returns 0, and sets all fields of
  * the details and of the rejections: a record of which the reply has no valid attribute is all 0,
  * and its field has_.. is 0. Or returns the code of the error of the header, and then both are
- * unchanged. The previous contents of both are not read. What is not rejected is as
- * sockdiag_packet_get_details describes it.
+ * unchanged. The previous contents of both are not read. The family, attributes of other kinds, and
+ * the bytes of addresses and filter are not checked. Texts point into the payload, and are valid as
+ * long as it is.
  */
 uint32_t sockdiag_packet_get_lenient_details(const uint8_t *payload, size_t length,
                                              struct sockdiag_packet_details *details,
@@ -1456,8 +1457,8 @@ uint32_t sockdiag_vsock_get_lenient_details(const uint8_t *payload, size_t lengt
  * not parsed. The bytes are the payload of the netlink message. Returns 0, and sets all fields of
  * the details and of the rejections: a record of which the reply has no valid attribute is all 0,
  * and its field has_.. is 0. Or returns the code of the error of the header, and then both are
- * unchanged. The previous contents of both are not read. What is not rejected is as
- * sockdiag_xdp_get_details describes it.
+ * unchanged. The previous contents of both are not read. The family and attributes of other kinds
+ * are not checked.
  */
 uint32_t sockdiag_xdp_get_lenient_details(const uint8_t *payload, size_t length,
                                           struct sockdiag_xdp_details *details,

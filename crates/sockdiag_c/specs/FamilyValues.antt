@@ -75,7 +75,7 @@ accept_unless (Some e) a = Err e
 -- check_attribute errors a: accepts or rejects the attribute `a` by itself: `Ok a`, or `Err` of the
 -- error of its value. `errors attributes` has the error of each kind of value in a list of
 -- attributes, or None; here the list has only `a`. So an attribute is accepted if and only if the
--- strict call accepts a reply that has no other attribute.
+-- strict call accepts a reply that has a header and no other attribute.
 abbrev pub check_attribute : (List Attribute → List (Option DecodeError)) → Attribute
     → Result Attribute DecodeError
 check_attribute errors a = accept_unless (first_content_of (λ o. o) (errors (a ∷ []))) a

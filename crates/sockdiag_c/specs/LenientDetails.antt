@@ -79,9 +79,9 @@ AgreesWithStrictParse F = AgreesWithStrictParseBy (decode_attribute F)
 -- of the struct of rejections, `was` is its contents before the call and `now` those after it.
 -- `decode` decodes an attribute or rejects it. One of:
 -- - The header of the reply in `payload` parses (`R.header.parses`), and `answer` is 0. `items` are
---   the items of the bytes after the header, whose number is `R.size`. The details describe the
---   header and the values of the accepted attributes, and the rejections have the errors of the
---   others.
+--   the items of the bytes after the first `R.size` bytes, which are the header. The details
+--   describe the header and the values of the accepted attributes, and the rejections have the
+--   errors of the others.
 -- - The header has the error `e`. `answer` is its code, and both structs are unchanged.
 abbrev pub IsLenientResultBy : {T : Type 0} (R : ResponseSpec)
     → (Attribute → Result (AttributeValue R.attribute_set) DecodeError)

@@ -83,9 +83,9 @@ with_zero_packet_records d = record d {
 }
 
 -- HasPacketDetails header d attributes: the struct `d` has this header, and the first value of each
--- attribute type in `attributes`, each of which parses. This is what it has of a reply of this
--- header and these attributes, if its records were 0 before: so if there is no attribute with a
--- record, `has_..` is 0 and the record is 0.
+-- attribute type in `attributes`. Each of these values parses, if its type is one that is parsed.
+-- This is what it has of a reply of this header and these attributes, if its records were 0 before:
+-- so if there is no attribute with a record, `has_..` is 0 and the record is 0.
 abbrev pub HasPacketDetails : PacketResponseHeader → PacketDetails → List Attribute → Type 0
 HasPacketDetails header d attributes =
     IsPacketDetailsOf (with_zero_packet_records d) (record { header = header; nlas = attributes }) d

@@ -51,11 +51,11 @@ pub const REJECTION_KINDS: usize = 32;
 #[repr(C)]
 #[derive(Clone, Copy)]
 pub struct Rejections {
-    /// Code of the first error, in the order of the attributes. If it is 0, the whole reply is
-    /// accepted. `sockdiag_unix_get_details` or `sockdiag_inet_get_details` returns the same code.
-    /// `sockdiag_netlink_get_details` and its siblings for other families return 0 if it is 0.
-    /// Otherwise they may return another code, or 0: they check the framing before values, and only
-    /// the first attribute of each kind.
+    /// Code of the first error, in the order of the attributes. If it is 0, the strict call for
+    /// this reply, a `sockdiag_.._get_details`, accepts it. Otherwise `sockdiag_unix_get_details`
+    /// and `sockdiag_inet_get_details` return the same code. The strict calls for other families
+    /// may then return another code, or 0, since they check the framing before values, and only the
+    /// first attribute of each kind.
     pub first: u32,
     /// Code of the framing error after the last attribute, 7 to 9. What follows is not parsed.
     pub framing: u32,
@@ -161,8 +161,9 @@ pub extern "C" fn sockdiag_inet_get_lenient_details<'a>(
 /// that has a field in the details, and the first error of each kind, in one pass over the
 /// attributes. What follows a framing error is not parsed. The bytes are the payload of the netlink
 /// message. Returns 0, and sets all fields of the details and of the rejections; or the code of the
-/// error of the header, and then both are unchanged. The previous contents of both are not read.
-/// What is not rejected is as `sockdiag_netlink_get_details` describes it.
+/// error of the header, and then both are unchanged. The previous contents of both are not read. The
+/// family, attributes of other kinds, and the bytes of `groups` are not checked. Texts point into
+/// the payload, and are valid as long as it is.
 #[unsafe(no_mangle)]
 pub extern "C" fn sockdiag_netlink_get_lenient_details<'a>(
     payload: &'a [u8],
@@ -183,8 +184,9 @@ pub extern "C" fn sockdiag_netlink_get_lenient_details<'a>(
 /// not parsed. The bytes are the payload of the netlink message. Returns 0, and sets all fields of
 /// the details and of the rejections: a record of which the reply has no valid attribute is all 0,
 /// and its field `has_..` is 0. Or returns the code of the error of the header, and then both are
-/// unchanged. The previous contents of both are not read. What is not rejected is as
-/// `sockdiag_packet_get_details` describes it.
+/// unchanged. The previous contents of both are not read. The family, attributes of other kinds, and
+/// the bytes of `addresses` and `filter` are not checked. Texts point into the payload, and are
+/// valid as long as it is.
 #[unsafe(no_mangle)]
 pub extern "C" fn sockdiag_packet_get_lenient_details<'a>(
     payload: &'a [u8],
@@ -226,8 +228,8 @@ pub extern "C" fn sockdiag_vsock_get_lenient_details(
 /// not parsed. The bytes are the payload of the netlink message. Returns 0, and sets all fields of
 /// the details and of the rejections: a record of which the reply has no valid attribute is all 0,
 /// and its field `has_..` is 0. Or returns the code of the error of the header, and then both are
-/// unchanged. The previous contents of both are not read. What is not rejected is as
-/// `sockdiag_xdp_get_details` describes it.
+/// unchanged. The previous contents of both are not read. The family and attributes of other kinds
+/// are not checked.
 #[unsafe(no_mangle)]
 pub extern "C" fn sockdiag_xdp_get_lenient_details(
     payload: &[u8],
