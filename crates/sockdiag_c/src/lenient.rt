@@ -161,9 +161,9 @@ pub extern "C" fn sockdiag_inet_get_lenient_details<'a>(
 /// that has a field in the details, and the first error of each kind, in one pass over the
 /// attributes. What follows a framing error is not parsed. The bytes are the payload of the netlink
 /// message. Returns 0, and sets all fields of the details and of the rejections; or the code of the
-/// error of the header, and then both are unchanged. The previous contents of both are not read. The
-/// family, attributes of other kinds, and the bytes of `groups` are not checked. Texts point into
-/// the payload, and are valid as long as it is.
+/// error of the header, and then both are unchanged. The previous contents of both are not read.
+/// The family, attributes of other kinds, and the bytes of `groups` are not checked. Texts point
+/// into the payload, and are valid as long as it is.
 #[unsafe(no_mangle)]
 pub extern "C" fn sockdiag_netlink_get_lenient_details<'a>(
     payload: &'a [u8],
@@ -184,8 +184,8 @@ pub extern "C" fn sockdiag_netlink_get_lenient_details<'a>(
 /// not parsed. The bytes are the payload of the netlink message. Returns 0, and sets all fields of
 /// the details and of the rejections: a record of which the reply has no valid attribute is all 0,
 /// and its field `has_..` is 0. Or returns the code of the error of the header, and then both are
-/// unchanged. The previous contents of both are not read. The family, attributes of other kinds, and
-/// the bytes of `addresses` and `filter` are not checked. Texts point into the payload, and are
+/// unchanged. The previous contents of both are not read. The family, attributes of other kinds,
+/// and the bytes of `addresses` and `filter` are not checked. Texts point into the payload, and are
 /// valid as long as it is.
 #[unsafe(no_mangle)]
 pub extern "C" fn sockdiag_packet_get_lenient_details<'a>(
