@@ -15,9 +15,8 @@ ghost use Rattle.netlink_captures.specs.declared.captures.CaptureError.TheVarian
 
 use crate::block_error::BlockError;
 use crate::compression::Compression;
-use program_streams::ErrorText;
-use program_streams::{ReadError, Source};
 use byteorder::{BigEndian, ByteOrder as _, LittleEndian};
+use program_streams::{ErrorText, ReadError, Source};
 use std::alloc::AllocError;
 use std::error::Error;
 use std::fmt;

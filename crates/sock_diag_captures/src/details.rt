@@ -46,13 +46,13 @@ use sock_diag_listing::parts::{
     push_pair, push_part, push_shown_cookie, push_shown_timer, push_some, push_threshold,
     separator,
 };
-use sslist_options::{Detail, Family, Options};
 use sock_diag_records::constants::{
     INET_DIAG_BBRINFO, INET_DIAG_CONG, INET_DIAG_DCTCPINFO, INET_DIAG_INFO, INET_DIAG_MD5SIG,
     INET_DIAG_MEMINFO, INET_DIAG_SKMEMINFO, INET_DIAG_VEGASINFO, TCPI_OPT_ECN, TCPI_OPT_ECN_SEEN,
     TCPI_OPT_SACK, TCPI_OPT_SYN_DATA, TCPI_OPT_TIMESTAMPS, TCPI_OPT_WSCALE, UNIX_DIAG_MEMINFO,
 };
 use sock_diag_values::inet::{LegacyMemInfo, MemInfo, TcpInfo};
+use sslist_options::{Detail, Family, Options};
 use std::alloc::AllocError;
 
 /// The kind of sockets that a reply is about. It selects the meaning of attributes.

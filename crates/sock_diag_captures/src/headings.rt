@@ -4,8 +4,8 @@ ghost use Rattle.std.specs.Prelude.{◌≡◌, ◌++◌, IfOk, OnOk, option_map}
 ghost use Rattle.sock_diag_captures.specs.Headings.{caption, text_before_table};
 
 use crate::line::HEADING;
-use sslist_options::Options;
 use sock_diag_listing::names::push_shown;
+use sslist_options::Options;
 use std::alloc::{AllocError, Global};
 
 /// Returns the text before a table: a caption with the name of its file if `name` is given, and

@@ -53,7 +53,6 @@ use sock_diag_families::packet::{
     PACKET_DIAG_INFO, PACKET_DIAG_MEMINFO, PACKET_DIAG_UID, PacketInfo,
 };
 use sock_diag_families::xdp::{XDP_DIAG_INFO, XDP_DIAG_MEMINFO, XDP_DIAG_UID, XdpInfo};
-use sslist_options::Family;
 use sock_diag_listing::json_writing::{
     begin_member, write_flag, write_numbers, write_optional, write_text,
 };
@@ -65,6 +64,7 @@ use sock_diag_records::constants::{
     UNIX_DIAG_SHUTDOWN, UNIX_DIAG_VFS,
 };
 use sock_diag_values::inet::{LegacyMemInfo, MemInfo};
+use sslist_options::Family;
 use std::alloc::{AllocError, Global};
 
 /// Types of the attributes of a UNIX socket that yield members.

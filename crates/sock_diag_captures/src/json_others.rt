@@ -22,10 +22,10 @@ use sock_diag_families::netlink::NetlinkResponseHeader;
 use sock_diag_families::packet::PacketResponseHeader;
 use sock_diag_families::vsock::{AF_VSOCK, VsockResponseHeader};
 use sock_diag_families::xdp::{AF_XDP, XdpResponseHeader};
-use sslist_options::Family;
 use sock_diag_listing::cells::name_of_state;
 use sock_diag_listing::json_writing::{write_hex, write_numbers, write_text};
 use sock_diag_records::constants::{AF_NETLINK, AF_PACKET};
+use sslist_options::Family;
 use std::alloc::{AllocError, Global};
 use std::mem;
 

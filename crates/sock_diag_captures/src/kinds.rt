@@ -7,8 +7,8 @@ ghost use Rattle.sock_diag_captures.specs.Others.{other_kind, vsock_kind};
 ghost use Rattle.sock_diag_captures.specs.Table.{family_name, inet_kind, unix_kind};
 
 use netlink_core::DecodeError;
-use sslist_options::Family;
 use sock_diag_records::constants::{AF_INET6, SOCK_DGRAM, SOCK_RAW, SOCK_SEQPACKET, SOCK_STREAM};
+use sslist_options::Family;
 
 /// Returns the kind of a UNIX socket, by its type `SOCK_..`, as ss(8) prints it.
 pub(crate) fn name_of_unix_kind(kind: u8) -> &'static str

@@ -43,10 +43,10 @@ mod ulp_info;
 pub use headings::heading;
 pub use line::HEADING;
 pub use list::{Diagnostic, list_packet};
-use program_streams::Source;
 pub use netlink_captures::{
     ByteOrder, CaptureError, Compression, FileHeader, Packet, PacketHeader, TimeUnit,
 };
+use program_streams::Source;
 pub use program_streams::{ReadError, Sink, WriteError, send};
 pub use requests::{Query, Requests};
 use sock_diag_listing::reports::report_failure;

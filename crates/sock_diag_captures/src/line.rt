@@ -31,7 +31,6 @@ use netlink_core::DecodeError;
 use sock_diag_attributes::unix::nlas::{NameView, NlaView};
 use sock_diag_extras::constants::UNIX_DIAG_UID;
 use sock_diag_extras::parse_uid;
-use sslist_options::Options;
 use sock_diag_listing::cells::{
     Cells, push_endpoint, push_endpoint_column, push_first_columns, push_peer,
 };
@@ -42,6 +41,7 @@ use sock_diag_records::constants::{
 };
 use sock_diag_records::inet::{INET_RESPONSE_HEADER_LEN, InetResponseHeader};
 use sock_diag_records::unix::{UNIX_RESPONSE_HEADER_LEN, UnixResponseHeader};
+use sslist_options::Options;
 use std::alloc::AllocError;
 
 /// Heading of the table.
@@ -328,7 +328,9 @@ fn lists_inet(options: Options, protocol: Option<u32>, header: &InetResponseHead
     options.lists_protocol(protocol)
         && options.lists_version(header.family == AF_INET6)
         && options.lists_state(header.state)
-        && options.filter.meets_ports(id.source_port, id.destination_port)
+        && options
+            .filter
+            .meets_ports(id.source_port, id.destination_port)
 }
 
 /// Returns whether the protocol of the request is TCP.

@@ -27,13 +27,13 @@ use crate::line::push_reply;
 use crate::request_line::push_shown_request;
 use crate::requests::Requests;
 use byteorder::{ByteOrder, LittleEndian};
+use netlink_captures::{Packet, PacketHeader};
 use netlink_core::{
     DecodeError, MessageStrings, NETLINK_HEADER_LEN, NLM_F_REQUEST, NLMSG_NOOP, NLMSG_OVERRUN,
     NetlinkHeader, error_number,
 };
-use netlink_captures::{Packet, PacketHeader};
-use sock_diag_listing::output::{push_short, push_truncation};
 use sock_diag_listing::PacketOutput;
+use sock_diag_listing::output::{push_short, push_truncation};
 use sslist_options::Options;
 use std::alloc::AllocError;
 use std::error::Error;

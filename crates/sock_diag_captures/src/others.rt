@@ -30,8 +30,8 @@ use sock_diag_families::vsock::{AF_VSOCK, VsockResponseHeader};
 use sock_diag_families::xdp::{AF_XDP, XDP_DIAG_INFO, XDP_DIAG_UID, XdpResponseHeader};
 use sock_diag_listing::cells::{Cells, end_column, push_first_columns, push_peer};
 use sock_diag_listing::parts::NO_TIMER;
-use sslist_options::{Family, Options};
 use sock_diag_records::constants::{AF_NETLINK, AF_PACKET};
+use sslist_options::{Family, Options};
 use std::alloc::AllocError;
 
 /// State that ss(8) prints as `UNCONN`.

@@ -12,13 +12,13 @@ use crate::kinds::{name_of_inet_family, name_of_inet_kind};
 use crate::others::family_numbered;
 use crate::requests::{Query, find_request};
 use byteorder::{ByteOrder, LittleEndian};
-use netlink_core::NETLINK_HEADER_LEN;
 use netlink_captures::PacketHeader;
+use netlink_core::NETLINK_HEADER_LEN;
 use sock_diag_listing::parts::push_hex_detail;
 use sock_diag_listing::times::push_time;
-use sslist_options::{Family, Options};
 use sock_diag_records::constants::{AF_UNIX, SOCK_DIAG_BY_FAMILY};
 use sock_diag_records::unix::UNIX_REQUEST_LEN;
+use sslist_options::{Family, Options};
 use std::alloc::AllocError;
 
 /// Length in bytes of a netlink header and a request for UNIX sockets (`unix_diag_req`).
