@@ -332,7 +332,7 @@ int main(int argc, char **argv) {
     if (read_arguments(argc, argv, is_named) != 0)
         return 2;
     if (isatty(STDOUT_FILENO))
-        return fputs("sockdump: standard output is a terminal; try sockdump | sslist\n", stderr), 2;
+        return fputs("sockdump: standard output is a terminal; try sockdump | sslist\n", stderr), 1;
     kernel = open_kernel();
     if (kernel < 0)
         return 1;

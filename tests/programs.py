@@ -127,6 +127,7 @@ def test_sslist(program):
     note, missing = b"sslist: .*packet 12, message 1: .*\n", b"sslist: /nowhere: .*\n"
     wrong = b"sslist: %s %s; try sslist --help\n"
     unknown = b"sslist: unknown option %s; try sslist --help\n"
+    no_processes = b"; a capture has no processes"
     no_family = b"sslist: -f without a family; try sslist --help\n"
     no_text = rb"sslist: argument %s is not valid UTF-8; rename the file, or write sslist <FILE\n"
     captioned = caption(CAPTURE) + table
@@ -137,8 +138,9 @@ def test_sslist(program):
         (["-f", ""], 2, b"", wrong % (b"unknown family", b"'' after -f")),
         ([CAPTURE], 0, table, note), ([CAPTURE, CAPTURE], 0, captioned * 2, note * 2),
         (["--", CAPTURE], 0, table, note), (["--", "-t"], 1, b"", b"sslist: -t: .*\n"),
-        (["/"], 1, b"", b"sslist: /: the input is a directory\n"),
-        (["/proc/self/mem"], 1, b"", rb"sslist: /proc/self/mem: reading failed \(os error 5\)\n"),
+        (["/"], 1, b"", b"sslist: /: the input is a directory; name the captures in it\n"),
+        (["/proc/self/mem"], 1, b"",
+            rb"sslist: /proc/self/mem: reading failed \(os error 5: input/output error\)\n"),
         ([CAPTURE, "/nowhere"], 1, captioned, note + missing),
         (["/nowhere", CAPTURE], 1, captioned, missing + note),
         (["/\x1b[1m\\"], 1, b"", rb"sslist: /\\x1b\[1m\\x5c: .*\n"),
@@ -150,7 +152,8 @@ def test_sslist(program):
         (["-f", "all"], 2, b"", wrong % (b"unknown family", b"all after -f")),
         (["--family=ip", "-h"], 2, b"", wrong % (b"unknown family in", b"--family=ip")),
         (["-q", CAPTURE], 2, b"", unknown % b"-q"),
-        (["-tlnp", "-q"], 2, b"", unknown % b"-p in -tlnp"),
+        (["-tlnp", "-q"], 2, b"", unknown % (b"-p in -tlnp" + no_processes)),
+        (["-p"], 2, b"", unknown % (b"-p" + no_processes)),
         (["-tqf", "x"], 2, b"", unknown % b"-q in -tqf"),
         (["-\u00e9"], 2, b"", unknown % rb"-\\xc3 in -\\xc3\\xa9"),
         (["-t", "--no", "--help"], 2, b"", unknown % b"--no"),
@@ -163,7 +166,8 @@ def test_sslist(program):
     for arguments in ([], ["-"], ["--", "-"], ["-n", "--"]):
         check(program, arguments, capture, 0, table, note)
     check(program, ["-", CAPTURE], capture, 0, caption("-") + table + captioned, note * 2)
-    failed = rb"sslist: writing to standard output failed \(os error 28\)\n"
+    failed = b"writing to standard output failed (os error 28: no space left on device)"
+    failed = re.escape(b"sslist: " + failed + b"\n")
     check_failed_writes(program, [], capture, b"", failed)
     check_failed_writes(program, ["--help"], b"", b"", failed)
     check_failed_writes(program, ["--version"], b"", b"", failed)
@@ -193,6 +197,7 @@ def test_rejections(program):
         *[([f"--{it}=1", "-h"], f"--{it} takes no value")
             for it in "help version utf8 requests json vsock xdp".split()],
         *[([f"{it}=1", "-h"], f"{it} takes no value") for it in LONG_NAMES.values()],
+        (["-n=1"], "-n takes no value"), (["-tn=1=2"], "-tn takes no value"),
         (["--tcp=1=2"], "--tcp takes no value"), (["--tcp="], "--tcp takes no value"),
         *[([it], f"unknown option {it}") for it in ("--tc", "--tcpx", "--=", "--tc=1", "--t")],
         (["--utf8=\x1b="], "--utf8 takes no value"), (["--json="], "--json takes no value"),
@@ -207,7 +212,8 @@ def test_early_check(program):
     script = CRATES.parent / "tools/arguments"
     for arguments in (
         ["-q"], ["--nope"], ["-tq", "--help"], ["--utf8=1"], ["/nowhere", "-q"], ["/nowhere"],
-        ["/", "/nowhere"], [""], [f"{CAPTURE}/x"], ["-tun", "/nowhere"], ["-tlnp"], ["-\u00e9"],
+        ["/", "/nowhere"], [""], [f"{CAPTURE}/x"], ["-tun", "/nowhere"], ["-tlnp"], ["-p"],
+        ["-n=1"], ["-\u00e9"],
         ["-ft"], ["-finet", "x"], ["-tff"], ["-fq"], ["-hq"], ["-tV"], ["-t\n"], ["--=1"],
         ["--sport", "22"], ["--state"], ["--family", "-q"], ["--help=1"], ["--json="],
         ["--tcp=1"], ["--no-header=", "-t"], ["--tcpx"], ["--all", "--numeric", "-q"],
@@ -307,7 +313,8 @@ def test_diagnostics(program):
     errors = b"(sslist: packet [1-4], message 1: note: .*\n){4}"
     check(program, [], file_header + b"".join(notes), 0, heading, errors)
     check_truncations(program, file_header, heading)
-    no_capture = b"neither a pcap nor a pcapng capture: "
+    no_capture = b"neither pcap nor pcapng, as sockdump and tcpdump write: "
+    truncated = b"the capture is truncated; if it is still being written, record it by tcpdump -U"
     for given, text in [
         (b"\1\2\x0a\xff" + bytes(20), no_capture + b"its first four bytes are 0x01020aff"),
         (b"hello\n", no_capture + b"its first four bytes are 0x68656c6c"),
@@ -317,9 +324,8 @@ def test_diagnostics(program):
             for start, it in [(b"\xfd7zX", "xz"), (b"\x28\xb5\x2f\xfd", "zstd")]],
         (b"\x1f\x8b\x08\0" + bytes(9), b"compressed by gzip; decompress it first, with gzip -dc"),
         (b"BZx9" + bytes(20), no_capture + b"its first four bytes are 0x425a7839"),
-        (file_header[:4], b"the capture is truncated"),
-        (file_header[:23], b"the capture is truncated"),
-        (b"", b"the input is empty"),
+        (file_header[:4], truncated), (file_header[:23], truncated),
+        (b"", b"the input is empty; the program that wrote it may have failed"),
         (b"\x0a\x0d\x0d\x0a" + bytes(20), b"unknown byte order of the section at offset 0"),
     ]:
         check(program, [], given, 1, b"", re.escape(b"sslist: " + text + b"\n"))
@@ -604,9 +610,9 @@ def check_ports(program, capture, heading, rows, errors):
         assert 0 < len(chosen) < len(rows), arguments
         check(program, ["-O", *arguments], capture, 0, heading + b"".join(chosen), errors)
     for word in ("--sport=", "--sport=65536", "--dport=ssh", "--dport=1-2", "--state=UNKNOWN"):
-        wrong = f"invalid port in {word}: a port is N, N- or -N"
+        wrong = f"invalid port in {word}: a port is N, N- or -N, not a range or a name"
         if word.startswith("--state"):
-            form = "states are named as in the column State, such as LISTEN"
+            form = "states are named as in the column State, such as LISTEN, one in each option"
             wrong = f"unknown state in {word}: {form}"
         text = f"sslist: {wrong}; try sslist --help\n".encode()
         check(program, [word, "-h"], capture, 2, b"", text)

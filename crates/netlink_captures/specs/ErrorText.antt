@@ -39,18 +39,20 @@ block_error_text Time = codes "unsupported time (2106 or later) of the packet at
 abbrev pub capture_error_text : CaptureError → List ℕ
 capture_error_text (Read error) = read_error_text error
 capture_error_text Memory = codes "out of memory"
-capture_error_text Truncated = codes "the capture is truncated"
-capture_error_text Empty = codes "the input is empty"
+capture_error_text Truncated =
+    codes "the capture is truncated; if it is still being written, record it by tcpdump -U"
+capture_error_text Empty = codes "the input is empty; the program that wrote it may have failed"
 capture_error_text TooShort =
-    codes "neither a pcap nor a pcapng capture: it has fewer than 4 bytes"
+    codes "neither pcap nor pcapng, as sockdump and tcpdump write: it has fewer than 4 bytes"
 capture_error_text (Compressed compression) = compression_text compression
 capture_error_text (NoCapture magic) =
-    codes "neither a pcap nor a pcapng capture: its first four bytes are 0x"
+    codes "neither pcap nor pcapng, as sockdump and tcpdump write: its first four bytes are 0x"
     ++ encode_lower (big_bytes 4 magic)
 capture_error_text (OtherVersion version) =
     codes "unsupported pcap version " ++ decimal version ++ codes ", expected 2"
 capture_error_text (OtherLinkType link_type) =
-    codes "unsupported link type " ++ decimal link_type ++ codes ", expected 253 (netlink)"
+    codes "unsupported link type " ++ decimal link_type
+    ++ codes ", expected 253 (netlink), as of nlmon0"
 capture_error_text (PacketTooLong count) =
     codes "packet length " ++ decimal count ++ codes " exceeds the maximum of 262144"
 capture_error_text (Block offset error) = block_error_text error ++ decimal offset

@@ -97,14 +97,18 @@ impl CaptureError {
         match self {
             CaptureError::Read(error) => error.text(),
             CaptureError::Memory => ErrorText::Plain("out of memory"),
-            CaptureError::Truncated => ErrorText::Plain("the capture is truncated"),
-            CaptureError::Empty => ErrorText::Plain("the input is empty"),
+            CaptureError::Truncated => ErrorText::Plain(
+                "the capture is truncated; if it is still being written, record it by tcpdump -U",
+            ),
+            CaptureError::Empty => {
+                ErrorText::Plain("the input is empty; the program that wrote it may have failed")
+            }
             CaptureError::TooShort => ErrorText::Plain(
-                "neither a pcap nor a pcapng capture: it has fewer than 4 bytes",
+                "neither pcap nor pcapng, as sockdump and tcpdump write: it has fewer than 4 bytes",
             ),
             CaptureError::Compressed(compression) => ErrorText::Plain(compression.text()),
             CaptureError::NoCapture(magic) => ErrorText::Hex(
-                "neither a pcap nor a pcapng capture: its first four bytes are 0x",
+                "neither pcap nor pcapng, as sockdump and tcpdump write: its first four bytes are 0x",
                 *magic,
             ),
             CaptureError::OtherVersion(version) => {
@@ -118,7 +122,7 @@ impl CaptureError {
                 ErrorText::Decimal(
                     "unsupported link type ",
                     u64::from(*link_type),
-                    ", expected 253 (netlink)",
+                    ", expected 253 (netlink), as of nlmon0",
                 )
             }
             CaptureError::PacketTooLong(count) => ErrorText::Decimal(

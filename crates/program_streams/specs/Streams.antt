@@ -1,6 +1,6 @@
 -- Texts of failed reads and writes, and what a step that writes a text has written.
 use Rattle.std.specs.Prelude.{◌≡◌, ◌⊎◌, ℕ, ℤ, pos, negsuc, List, [], ◌++◌, Option, Some, None}
-use Rattle.std.specs.Prelude.{codes, decimal}
+use Rattle.std.specs.Prelude.{codes, decimal, ◌==◌, if◌then◌else◌}
 use Rattle.std.specs.Io.KnownBytes.{Appends}
 use Rattle.program_streams.specs.declared.streams.ReadError.{ReadError}
 use Rattle.program_streams.specs.declared.streams.ReadError.TheVariants.{Directory}
@@ -11,10 +11,22 @@ use Rattle.program_streams.specs.declared.streams.WriteError.TheVariants.{Closed
 use Rattle.program_streams.specs.declared.streams.WriteError.TheVariants.{Os as OsWrite}
 use Rattle.program_streams.specs.declared.streams.WriteError.TheVariants.{Other as OtherWrite}
 
+-- the end of a text about a failed read or write, after the number of errno(3): what the number
+-- means, for those that reads and writes have most often, and a parenthesis
+abbrev pub os_error_end : ℕ → List ℕ
+os_error_end code =
+    if code == 5 then codes ": input/output error)"
+    else if code == 9 then codes ": bad file descriptor)"
+    else if code == 27 then codes ": file too large)"
+    else if code == 28 then codes ": no space left on device)"
+    else if code == 122 then codes ": disk quota exceeded)"
+    else codes ")"
+
 -- the text of the error of a failed read
 abbrev pub read_error_text : ReadError → List ℕ
-read_error_text Directory = codes "the input is a directory"
-read_error_text (OsRead code) = codes "reading failed (os error " ++ decimal code ++ codes ")"
+read_error_text Directory = codes "the input is a directory; name the captures in it"
+read_error_text (OsRead code) =
+    codes "reading failed (os error " ++ decimal code ++ os_error_end code
 read_error_text OtherRead = codes "reading failed"
 
 -- the system's number of an error, if it has one that is not negative
@@ -36,7 +48,8 @@ numbered_write_error None = OtherWrite
 -- the text of the error of a failed write or flush
 abbrev pub write_error_text : WriteError → List ℕ
 write_error_text Closed = codes "the output pipe is closed"
-write_error_text (OsWrite code) = codes "writing failed (os error " ++ decimal code ++ codes ")"
+write_error_text (OsWrite code) =
+    codes "writing failed (os error " ++ decimal code ++ os_error_end code
 write_error_text OtherWrite = codes "writing failed"
 
 -- WritesAllOrFails held held' failed text: the text was written; or a prefix of it was written, and

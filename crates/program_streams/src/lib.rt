@@ -9,4 +9,4 @@ mod streams;
 
 pub use error_text::{ErrorText, hex_digits};
 pub use lines::{LineAnswers, PromptRead, RunError, Start, serve};
-pub use streams::{ReadError, Sink, Source, WriteError, send, try_send};
+pub use streams::{ReadError, Sink, Source, WriteError, os_error_end, send, try_send};

@@ -8,7 +8,7 @@ ghost use Rattle.std.specs.IoError.{error_kind, raw_os_error};
 ghost use Rattle.program_streams.specs.ErrorText.{error_text_bytes};
 ghost use Rattle.program_streams.specs.Streams.{WritesAllOrFails, error_number};
 ghost use Rattle.program_streams.specs.Streams.{numbered_read_error, numbered_write_error};
-ghost use Rattle.program_streams.specs.Streams.{read_error_text, write_error_text};
+ghost use Rattle.program_streams.specs.Streams.{os_error_end, read_error_text, write_error_text};
 ghost use Rattle.program_streams.specs.declared.streams.WriteError.{WriteError};
 
 use crate::error_text::ErrorText;
@@ -33,10 +33,14 @@ impl ReadError {
         ensures { error_text_bytes result ≡ read_error_text self.now }
     {
         match self {
-            ReadError::Directory => ErrorText::Plain("the input is a directory"),
-            ReadError::Os(code) => {
-                ErrorText::Decimal("reading failed (os error ", u64::from(*code), ")")
+            ReadError::Directory => {
+                ErrorText::Plain("the input is a directory; name the captures in it")
             }
+            ReadError::Os(code) => ErrorText::Decimal(
+                "reading failed (os error ",
+                u64::from(*code),
+                os_error_end(*code),
+            ),
             ReadError::Other => ErrorText::Plain("reading failed"),
         }
     }
@@ -71,9 +75,11 @@ impl WriteError {
     {
         match self {
             WriteError::Closed => ErrorText::Plain("the output pipe is closed"),
-            WriteError::Os(code) => {
-                ErrorText::Decimal("writing failed (os error ", u64::from(*code), ")")
-            }
+            WriteError::Os(code) => ErrorText::Decimal(
+                "writing failed (os error ",
+                u64::from(*code),
+                os_error_end(*code),
+            ),
             WriteError::Other => ErrorText::Plain("writing failed"),
         }
     }
@@ -89,6 +95,26 @@ impl fmt::Display for WriteError {
 }
 
 impl Error for WriteError {}
+
+/// Returns the end of a text about a failed read or write, after the errno(3): what the number
+/// means, for those that reads and writes have most often, and a parenthesis.
+pub fn os_error_end(code: u32) -> &'static str
+    ensures { result.now ≡ os_error_end code }
+{
+    if code == 5 {
+        ": input/output error)"
+    } else if code == 9 {
+        ": bad file descriptor)"
+    } else if code == 27 {
+        ": file too large)"
+    } else if code == 28 {
+        ": no space left on device)"
+    } else if code == 122 {
+        ": disk quota exceeded)"
+    } else {
+        ")"
+    }
+}
 
 /// An input. Generic code that has no other bound on it cannot report a failed read unless one
 /// failed.

@@ -70,7 +70,8 @@ Usage: sslist [OPTION ..] [FILE ..]
 
 Lists the sockets in captures of netlink traffic: in each FILE, or in standard
 input if there is none, or if FILE is -. A capture is in pcap or pcapng format,
-as written by tcpdump -i nlmon0 -w -. Arguments after -- are files.
+as written by tcpdump -i nlmon0 -w -, or by the example sockdump, which records
+the sockets of this machine: sockdump | sslist. Arguments after -- are files.
 
 Select sockets (several options add up):
   -t, --tcp              TCP sockets

@@ -507,16 +507,18 @@ sslist: packet 3, message 1: dump interrupted (NLM_F_DUMP_INTR)\n\
 sslist: packet 3, message 1: the kernel lost data\n\
 sslist: packet 4, message 1: note: the kernel returned ENOENT\n\
 sslist: packet 5: truncated to 16 of 101 bytes\n\
-sslist: packet 6: the capture is truncated";
+sslist: packet 6: the capture is truncated; if it is still being written, record it by tcpdump -U";
     tells(&rt, alloc, &parts, want);
     let parts = [FRONT, OF_100, NO_ENTRY, MPTCP_REQUEST, CUT_MESSAGE];
     let want = "packet 1, message 1: note: the kernel returned ENOENT \
 (request: mptcp family:inet states:0x480)\n\
 sslist: packet 2: truncated to 32 of 72 bytes";
     tells(&rt, alloc, &parts, want);
-    tells(&rt, alloc, &[], "the input is empty");
-    tells(&rt, alloc, &[FRONT, "48"], "the capture is truncated");
-    let want = "unsupported link type 1, expected 253 (netlink)";
+    let want = "the input is empty; the program that wrote it may have failed";
+    tells(&rt, alloc, &[], want);
+    let want = "the capture is truncated; if it is still being written, record it by tcpdump -U";
+    tells(&rt, alloc, &[FRONT, "48"], want);
+    let want = "unsupported link type 1, expected 253 (netlink), as of nlmon0";
     tells(&rt, alloc, &[FRONT, "4800000001000000"], want);
     let want = "unsupported pcap version 3, expected 2";
     tells(&rt, alloc, &["d4c3b2a10300", FRONT, OF_100], want);
@@ -543,8 +545,8 @@ fn errors_of_a_run_have_texts(rt: HostRuntime) {
     );
     let text = format!(in rt.alloc(); "{cut}, {memory}, {lack}, {folder}, {bad}");
     let text = text.expect(&rt, "memory");
-    let want = "packet 2: reading failed, out of memory, out of memory, the input is a directory, \
-reading failed (os error 5)";
+    let want = "packet 2: reading failed, out of memory, out of memory, \
+the input is a directory; name the captures in it, reading failed (os error 5: input/output error)";
     assert!(rt; text.as_str() == want);
     let (full, closed) = (
         ListError::Write(WriteError::Os(28)),
@@ -555,8 +557,9 @@ reading failed (os error 5)";
         CaptureError::OtherVersion(1),
     );
     let text = format!(in rt.alloc(); "{full}, {closed}, {other}, {old}").expect(&rt, "memory");
-    let want = "writing to standard output failed (os error 28), the output pipe is closed, \
-neither a pcap nor a pcapng capture: its first four bytes are 0x00000a0b, \
+    let want = "writing to standard output failed (os error 28: no space left on device), \
+the output pipe is closed, \
+neither pcap nor pcapng, as sockdump and tcpdump write: its first four bytes are 0x00000a0b, \
 unsupported pcap version 1, expected 2";
     assert!(rt; text.as_str() == want);
 }

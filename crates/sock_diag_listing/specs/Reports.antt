@@ -4,7 +4,7 @@ use Rattle.std.specs.Prelude.{◌≡◌, ℕ, nat_lt, if◌then◌else◌, Bool,
 use Rattle.std.specs.Prelude.{codes, decimal, Option}
 use Rattle.std.specs.Io.KnownBytes.{Appends}
 use Rattle.netlink_captures.specs.ErrorText.{capture_error_text}
-use Rattle.program_streams.specs.Streams.{write_error_text}
+use Rattle.program_streams.specs.Streams.{os_error_end, write_error_text}
 use Rattle.program_streams.specs.declared.streams.WriteError.{WriteError}
 use Rattle.program_streams.specs.declared.streams.WriteError.TheVariants.{Closed, Os, Other}
 use Rattle.sock_diag_listing.specs.declared.list_error.ListError.{ListError}
@@ -42,7 +42,7 @@ short_line front packet = packet_line front packet (codes "fewer than 16 bytes")
 abbrev pub output_error_text : WriteError → List ℕ
 output_error_text Closed = write_error_text Closed
 output_error_text (Os code) =
-    codes "writing to standard output failed (os error " ++ decimal code ++ codes ")"
+    codes "writing to standard output failed (os error " ++ decimal code ++ os_error_end code
 output_error_text Other = codes "writing to standard output failed"
 
 -- the text of an error of a run

@@ -12,7 +12,7 @@ ghost use Rattle.sock_diag_listing.specs.private.Report.{packet_number_prefix};
 ghost use Rattle.sock_diag_listing.specs.declared.list_error.ListError.TheVariants.{Memory, Write};
 
 use netlink_captures::{CaptureError, CaptureReader, PacketHeader};
-use program_streams::{ErrorText, Source, WriteError};
+use program_streams::{ErrorText, Source, WriteError, os_error_end};
 use std::alloc::{AllocError, Global};
 use std::error::Error;
 use std::fmt;
@@ -62,13 +62,11 @@ fn output_error_text(error: WriteError) -> ErrorText
 {
     match error {
         WriteError::Closed => error.text(),
-        WriteError::Os(code) => {
-            ErrorText::Decimal(
-                "writing to standard output failed (os error ",
-                u64::from(code),
-                ")",
-            )
-        }
+        WriteError::Os(code) => ErrorText::Decimal(
+            "writing to standard output failed (os error ",
+            u64::from(code),
+            os_error_end(code),
+        ),
         WriteError::Other => ErrorText::Plain("writing to standard output failed"),
     }
 }

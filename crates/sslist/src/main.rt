@@ -186,14 +186,7 @@ fn rejection_text(alloc: Global, reason: Rejection, argument: &str) -> Result<St
     let shown = escaped(alloc, argument.as_bytes())?;
     match reason {
         Rejection::UnknownOption => format!(in alloc; "unknown option {shown}"),
-        // A hyphen and one letter.
-        Rejection::UnknownLetter(_) if argument.len() == 2 => {
-            format!(in alloc; "unknown option {shown}")
-        }
-        Rejection::UnknownLetter(letter) => {
-            let letter = escaped(alloc, &[letter])?;
-            format!(in alloc; "unknown option -{letter} in {shown}")
-        }
+        Rejection::UnknownLetter(letter) => unknown_letter_text(alloc, letter, argument),
         Rejection::MisplacedLetter(b'f') => {
             format!(in alloc; "-f has to be the last letter in {shown}, as in -f FAMILY")
         }
@@ -212,13 +205,35 @@ fn rejection_text(alloc: Global, reason: Rejection, argument: &str) -> Result<St
         Rejection::UnknownFamily => format!(in alloc; "unknown family {shown} after -f"),
         Rejection::UnknownFamilyValue => format!(in alloc; "unknown family in {shown}"),
         Rejection::UnknownStateValue => {
-            let form = "states are named as in the column State, such as LISTEN";
+            let form =
+                "states are named as in the column State, such as LISTEN, one in each option";
             format!(in alloc; "unknown state in {shown}: {form}")
         }
         Rejection::InvalidPortValue => {
-            format!(in alloc; "invalid port in {shown}: a port is N, N- or -N")
+            let form = "a port is N, N- or -N, not a range or a name";
+            format!(in alloc; "invalid port in {shown}: {form}")
         }
     }
+}
+
+/// Returns the text about an argument of joined letters, of which this one is not an option.
+fn unknown_letter_text(alloc: Global, letter: u8, argument: &str) -> Result<String, AllocError> {
+    let shown = escaped(alloc, argument.as_bytes())?;
+    let reason = if letter == b'p' {
+        "; a capture has no processes"
+    } else {
+        ""
+    };
+    if letter == b'=' {
+        let name = escaped(alloc, name_of_option(argument).as_bytes())?;
+        return format!(in alloc; "{name} takes no value");
+    }
+    // A hyphen and one letter.
+    if argument.len() == 2 {
+        return format!(in alloc; "unknown option {shown}{reason}");
+    }
+    let letter = escaped(alloc, &[letter])?;
+    format!(in alloc; "unknown option -{letter} in {shown}{reason}")
 }
 
 /// Returns what the usage calls the value of an option.

@@ -165,7 +165,10 @@ fn reports_where_a_file_is_truncated(rt: HostRuntime) {
 
 /// Invalid blocks after a section header and an interface, each with its error.
 const INVALID: [[&str; 2]; 16] = [
-    ["0600000008000000", "packet 1: the capture is truncated"],
+    [
+        "0600000008000000",
+        "packet 1: the capture is truncated; if it is still being written, record it by tcpdump -U",
+    ],
     [
         "060000000800000000000000",
         "packet 1: invalid length of the block at offset 48",
@@ -225,7 +228,7 @@ const INVALID: [[&str; 2]; 16] = [
     [
         "0100000014000000010000000000000014000000\
 0600000020000000010000000000000000000000000000000000000020000000",
-        "packet 1: unsupported link type 1, expected 253 (netlink)",
+        "packet 1: unsupported link type 1, expected 253 (netlink), as of nlmon0",
     ],
 ];
 
