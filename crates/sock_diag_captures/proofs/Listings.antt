@@ -16,7 +16,7 @@ use Rattle.sock_diag_captures.specs.declared.requests.Query.{Query}
 not_both : (b : Bool) → b ≡ false → b ≡ true → ⊥
 not_both b is_false is_true = cc
 
--- A packet was listed without errors if its bytes were, and it was not truncated.
+-- A packet was listed completely if its bytes were, and it was not truncated.
 pub listed_without_errors : (o : Options) (asked : List Query) (packet : CapturedPacket)
     (before after : List ℕ)
     (listed whole : Bool) → (IsTrue whole ↔ (packet.header.whole_length ≤ length packet.bytes))

@@ -13,7 +13,7 @@ use Rattle.netlink_captures.specs.Reader.{CaptureState, ReadsPacket}
 use Rattle.sslist_options.specs.declared.options.Options.{Options}
 use Rattle.sock_diag_captures.specs.Diagnostics.{AreDiagnosed, DiagnosesPacket}
 use Rattle.sock_diag_captures.specs.Listing.{requests_after_packet}
-use Rattle.sock_diag_captures.specs.Run.{AreListed, ArePackets, IsListed, IsListedWithoutErrors}
+use Rattle.sock_diag_captures.specs.Run.{AreListed, ArePackets, IsListed, IsListedCompletely}
 use Rattle.sock_diag_captures.specs.Run.{ListedPacket, lines_of_packet}
 use Rattle.sock_diag_captures.specs.declared.requests.Query.{Query}
 
@@ -21,20 +21,20 @@ pub not_both : (b : Bool) → b ≡ false → b ≡ true → ⊥
 not_both b is_false is_true = cc
 
 pub whole_push : (xs : List ListedPacket) (x : ListedPacket)
-    → AllByRecursion IsListedWithoutErrors xs → IsListedWithoutErrors x
-    → AllByRecursion IsListedWithoutErrors (xs ++ x ∷ [])
+    → AllByRecursion IsListedCompletely xs → IsListedCompletely x
+    → AllByRecursion IsListedCompletely (xs ++ x ∷ [])
 whole_push [] x h is = (is, tt)
 whole_push (y ∷ xs) x h is = (h.0, whole_push xs x h.1 is)
 
 pub whole_front : (xs : List ListedPacket) (x : ListedPacket)
-    → AllByRecursion IsListedWithoutErrors (xs ++ x ∷ [])
-    → AllByRecursion IsListedWithoutErrors xs
+    → AllByRecursion IsListedCompletely (xs ++ x ∷ [])
+    → AllByRecursion IsListedCompletely xs
 whole_front [] x h = tt
 whole_front (y ∷ xs) x h = (h.0, whole_front xs x h.1)
 
 pub whole_last : (xs : List ListedPacket) (x : ListedPacket)
-    → AllByRecursion IsListedWithoutErrors (xs ++ x ∷ [])
-    → IsListedWithoutErrors x
+    → AllByRecursion IsListedCompletely (xs ++ x ∷ [])
+    → IsListedCompletely x
 whole_last [] x h = h.0
 whole_last (y ∷ xs) x h = whole_last xs x h.1
 
@@ -121,7 +121,7 @@ packets_push s bytes (q ∷ ps) s' more p s'' (first, rest, mid, reads, split, l
 module _ (o : Options) (front : List ℕ) (start : CaptureState) where
   -- These packets were read, listed and diagnosed. They led to the state `state` of the reader.
   -- `asked` are the requests so far, `number` is the number of the next packet, and `is_whole` is
-  -- true if and only if all were listed without errors.
+  -- true if and only if all were listed completely.
   pub record Progress (remaining remaining' contents contents' : Option (List ℕ))
       (state : CaptureState) (asked : List Query) (is_whole : Bool) (number : ℕ) : Type 0 where
     pub records : List ℕ
@@ -134,8 +134,8 @@ module _ (o : Options) (front : List ℕ) (start : CaptureState) where
     pub diagnosed : AreDiagnosed front 1 packets diagnostics
     pub seen : asked ≡ requests_after_packets [] packets
     pub appended : Appends contents contents' (flat_map lines_of_packet listings)
-    pub flagged : IsTrue is_whole → AllByRecursion IsListedWithoutErrors listings
-    pub whole_only : AllByRecursion IsListedWithoutErrors listings → IsTrue is_whole
+    pub flagged : IsTrue is_whole → AllByRecursion IsListedCompletely listings
+    pub whole_only : AllByRecursion IsListedCompletely listings → IsTrue is_whole
     pub next : number ≡ length packets + 1
 
   abbrev pub progress_begins : (remaining contents : Option (List ℕ))
@@ -199,7 +199,7 @@ module _ (o : Options) (front : List ℕ) (start : CaptureState) where
         next = omega (arith, so_far.next, length-append so_far.packets (p ∷ []));
       }
 
-  -- One more packet was listed, and all packets before it were listed without errors.
+  -- One more packet was listed, and all packets before it were listed completely.
   abbrev pub progress_continues_complete : (a b c x y z : Option (List ℕ)) (s s' : CaptureState)
       (more lines added : List ℕ)
       (p : CapturedPacket)

@@ -15,23 +15,23 @@ use Rattle.sock_diag_captures.specs.Diagnostics.{AreDiagnosed}
 use Rattle.sock_diag_captures.specs.Listing.{ListsCapturedPacket, requests_after_packet}
 use Rattle.sock_diag_captures.specs.declared.requests.Query.{Query}
 
--- the lines of a packet, and whether it was listed without errors
+-- the lines of a packet, and whether it was listed completely
 pub record ListedPacket : Type 0 where
   -- the lines of the packet in the table
   pub lines : List ℕ
-  -- the packet was listed without errors
+  -- the packet was listed completely
   pub whole : Bool
 
 -- the lines of a listed packet
 abbrev pub lines_of_packet : ListedPacket → List ℕ
 lines_of_packet listing = listing.lines
 
--- the packet was listed without errors
-abbrev pub IsListedWithoutErrors : ListedPacket → Type 0
-IsListedWithoutErrors listing = IsTrue listing.whole
+-- the packet was listed completely
+abbrev pub IsListedCompletely : ListedPacket → Type 0
+IsListedCompletely listing = IsTrue listing.whole
 
 -- `IsListed o asked packet listing`: `listing` has the lines of the packet, and whether it was
--- listed without errors. `asked` are the requests up to and including this packet.
+-- listed completely. `asked` are the requests up to and including this packet.
 abbrev pub IsListed : Options → List Query → CapturedPacket → ListedPacket → Type 0
 IsListed o asked packet listing = ListsCapturedPacket o asked packet [] listing.lines listing.whole
 
@@ -56,7 +56,7 @@ ArePackets s bytes (packet ∷ later) s' =
 -- `IsTableOfCapture o front bytes lines diagnostics is_whole`: the bytes of a capture, and the
 -- lines and diagnostics of its packets, in order. The first bytes open the capture (`header`), and
 -- packets follow (`records`). Each diagnostic begins with `front`. Packets are numbered from 1
--- on. `is_whole` is true if and only if each packet was listed without errors.
+-- on. `is_whole` is true if and only if each packet was listed completely.
 pub record IsTableOfCapture (o : Options) (front bytes lines diagnostics : List ℕ) (is_whole : Bool)
     : Type 0 where
   -- the bytes that open the capture
@@ -69,7 +69,7 @@ pub record IsTableOfCapture (o : Options) (front bytes lines diagnostics : List 
   pub state : CaptureState
   -- the packets in `records`
   pub packets : List CapturedPacket
-  -- the lines of each packet, and whether it was listed without errors
+  -- the lines of each packet, and whether it was listed completely
   pub listings : List ListedPacket
   pub parts : bytes ≡ header ++ records
   pub is_header : IsCaptureStart header start
@@ -79,7 +79,7 @@ pub record IsTableOfCapture (o : Options) (front bytes lines diagnostics : List 
   pub written : lines ≡ flat_map lines_of_packet listings
   -- the first packet has the number 1
   pub diagnosed : AreDiagnosed front 1 packets diagnostics
-  pub whole : IsTrue is_whole ↔ AllByRecursion IsListedWithoutErrors listings
+  pub whole : IsTrue is_whole ↔ AllByRecursion IsListedCompletely listings
 
 -- The parameters are the state of a run: the bytes that remain to be read (`left` before the run,
 -- `left'` after it) and the bytes written (`held` and `held'`), each if known; the heading of the
@@ -141,7 +141,7 @@ module _ (o : Options) (left left' held held' : Option (List ℕ)) (heading fron
 
   -- The state of a run that succeeded: a whole capture was read up to the end of the input, all of
   -- its table was written, and its diagnostics were reported. `is_whole` is true if and only if
-  -- each packet was listed without errors.
+  -- each packet was listed completely.
   pub record Finishes (is_whole : Bool) : Type 0 where
     -- the bytes of the capture up to its last packet
     pub bytes : List ℕ

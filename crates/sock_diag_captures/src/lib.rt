@@ -130,7 +130,7 @@ Exit status:
 
 /// Lists a capture by [`run`], whose table begins with `heading`, and writes a line on `errors` if
 /// the run fails. The line begins with `front` and names the failure. A closed output pipe has no
-/// line. Returns the exit status: 0 if the whole capture was listed without errors, and 1 if the
+/// line. Returns the exit status: 0 if the whole capture was listed completely, and 1 if the
 /// run failed or a packet had an error.
 pub fn run_to_status<R: Read, W: Write, E: Write>(
     alloc: Global,
@@ -143,12 +143,12 @@ pub fn run_to_status<R: Read, W: Write, E: Write>(
 ) -> ExitCode
     // R.remaining: the bytes that remain to be read, if known. Status 0: the input is at its end.
     ensures ended { exit_status result ≡ 0 → IsAtEnd (R.remaining input.new) }
-    // Status 0: the whole capture was read, each packet was listed without errors, and the table
+    // Status 0: the whole capture was read, each packet was listed completely, and the table
     // was written. W.contents, E.contents: the bytes written, if known.
     ensures whole { exit_status result ≡ 0 → Finishes options (R.remaining input.old)
         (R.remaining input.new) (W.contents output.old) (W.contents output.new) heading.now
         front.now (WritesPrefix (E.contents errors.old) (E.contents errors.new)) true }
-    // The status is 0 if and only if the whole capture was listed without errors. Otherwise it is
+    // The status is 0 if and only if the whole capture was listed completely. Otherwise it is
     // 1. On `errors` are the diagnostics and the line that names the failure, or a prefix of this
     // text. ⊤: a standard reader does not report whether a read failed, so `Read` is always
     // possible.
@@ -226,7 +226,7 @@ fn report_outcome<E: Sink>(
     }
 }
 
-/// Returns the exit status of a run: 0 if the whole capture was listed without errors, otherwise 1.
+/// Returns the exit status of a run: 0 if the whole capture was listed completely, otherwise 1.
 fn exit_code(outcome: &Result<bool, ListError>) -> ExitCode
     ensures success { (exit_status result ≡ 0) ↔ (outcome.now ≡ Ok true) }
     ensures failure { (exit_status result ≡ 1) ↔ ¬ (outcome.now ≡ Ok true) }

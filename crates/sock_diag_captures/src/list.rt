@@ -100,7 +100,7 @@ struct Position {
 /// Appends the lines of a packet to `written.lines`, and its diagnostics to `written.diagnostics`.
 /// `number` is the number of the packet in the capture.
 ///
-/// Returns whether the packet was listed without errors. It was not if it was truncated (it has
+/// Returns whether the packet was listed completely. It was not if it was truncated (it has
 /// fewer bytes than `header.whole_length`), or if it has fewer than the 16 bytes of the cooked
 /// header. Nor was it if its datagram is one of sock_diag(7), but not a request, and one of its
 /// messages is invalid, has an error of the kernel other than `ENOENT` and `EINVAL`, or reports
@@ -224,7 +224,7 @@ fn is_request(datagram: &[u8]) -> bool
 }
 
 /// Appends the lines and the diagnostics of the messages of a datagram. Stops at bytes that are not
-/// a message. Returns whether the datagram was listed without errors. `is_whole` is false if its
+/// a message. Returns whether the datagram was listed completely. `is_whole` is false if its
 /// packet was truncated.
 fn list_datagram(
     written: &mut PacketOutput<'_>,

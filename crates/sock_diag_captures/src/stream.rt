@@ -19,7 +19,7 @@ use std::io::{Read, Write};
 
 /// Writes the table of a capture: `heading`, and the lines of each packet before the next one is
 /// read. Writes diagnostics on `errors`. Each begins with `front`. If a write on `errors` fails,
-/// nothing more is written there. Returns whether all packets were listed without errors.
+/// nothing more is written there. Returns whether all packets were listed completely.
 ///
 /// If it fails, nothing was written if the capture could not be opened (`Header`). If a packet
 /// could not be read (`Packet`) or an allocation failed (`Memory`), the packets before it were
