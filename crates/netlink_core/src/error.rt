@@ -41,7 +41,7 @@ pub enum RecordName {
 
 impl fmt::Display for RecordName {
     fn fmt<W: fmt::Write>(&self, f: &mut fmt::Formatter<W>) -> fmt::Result {
-        fmt::Debug::fmt(self, f)
+        write!(f, "{self:?}")
     }
 }
 
