@@ -159,6 +159,7 @@ def text_files():
         name for name in sorted(listed)
         if Path(name).suffix in suffixes or name.startswith(scripts) or name in others
     ]
+    names = [name for name in names if not name.endswith(".pcap")]
     return {name: (TOP / name).read_text("utf-8") for name in names if (TOP / name).is_file()}
 
 
