@@ -49,8 +49,9 @@
 //! # let datagram = &[memory, datagram].concat()[..];
 //! // This datagram has a reply with a short UNIX_DIAG_MEMINFO, a reply whose header is too short,
 //! // another reply, and the end of the dump.
-//! // The second number is the port id of the socket, or 0 if it is not to be compared.
-//! let mut answer = AnswerCheck::new(header.sequence_number, 0);
+//! // The port id of the socket, which getsockname(2) returns in nl_pid.
+//! let port_number = 9;
+//! let mut answer = AnswerCheck::new(header.sequence_number, port_number);
 //! let mut listening = 0;
 //! for message in Dump::new(datagram) {
 //!     if let Err(reason) = answer.check_message(&message) {
