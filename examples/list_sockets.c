@@ -1,8 +1,8 @@
 /*
- * list_sockets [-l] [PORT]: lists the sockets of this machine, one line for each UNIX socket, and
- * for each TCP, UDP and MPTCP socket over IPv4 and IPv6. With -l, lists only listening sockets, and
- * UDP sockets without a peer. With a port, lists only TCP, UDP and MPTCP sockets with this local
- * port.
+ * list_sockets [-l] [PORT]: lists the sockets of this machine, one line for each UNIX socket, for
+ * each TCP, UDP and MPTCP socket over IPv4 and IPv6, and for each netlink and packet socket. With
+ * -l, lists only UNIX, TCP and MPTCP sockets that listen, and UDP sockets without a peer. With a
+ * port, lists only TCP, UDP and MPTCP sockets with this local port.
  *
  * Each kind is requested from NETLINK_SOCK_DIAG by a dump request, as sock_diag(7) shows. Replies
  * are parsed in the buffer that recv(2) filled. An attribute that is rejected does not hide its
@@ -160,8 +160,48 @@ static uint32_t print_inet(FILE *lines, const char *protocol, const uint8_t *pay
     return SOCKDIAG_OK;
 }
 
+/* Prints the multicast groups of a netlink socket. Each has a bit: group 1 is the lowest bit of the
+ * first byte. */
+static void print_groups(FILE *lines, const struct sockdiag_text *groups) {
+    size_t index;
+    if (groups->kind == 0)
+        return;
+    for (index = 0; index < 8 * groups->length; index++)
+        if ((groups->bytes[index / 8] >> index % 8 & 1) != 0)
+            fprintf(lines, " group %lu", (unsigned long)index + 1);
+}
+
+/* A netlink socket that is in a group is listed twice by the kernel, with the same cookie. */
+static uint32_t print_netlink(FILE *lines, const uint8_t *payload, size_t length) {
+    struct sockdiag_netlink_details it;
+    struct sockdiag_rejections rejections;
+    const uint32_t error = sockdiag_netlink_get_lenient_details(payload, length, &it, &rejections);
+    if (error != SOCKDIAG_OK)
+        return error;
+    fprintf(lines, "netlink protocol %u port %u inode %u", it.header.protocol, it.header.port,
+            it.header.inode);
+    print_groups(lines, &it.groups);
+    end_line(lines, &rejections);
+    return SOCKDIAG_OK;
+}
+
+/* The interface is in an attribute, and not in the header: a reply may lack it. */
+static uint32_t print_packet(FILE *lines, const uint8_t *payload, size_t length) {
+    struct sockdiag_packet_details it;
+    struct sockdiag_rejections rejections;
+    const uint32_t error = sockdiag_packet_get_lenient_details(payload, length, &it, &rejections);
+    if (error != SOCKDIAG_OK)
+        return error;
+    fprintf(lines, "packet type %u protocol %u", it.header.kind, it.header.protocol);
+    if (it.has_info)
+        fprintf(lines, " interface %u", it.info.interface);
+    fprintf(lines, " inode %u", it.header.inode);
+    end_line(lines, &rejections);
+    return SOCKDIAG_OK;
+}
+
 /* Returns the state that an NLMSG_ERROR or an NLMSG_DONE leads to, and prints its error. A kernel
- * that lacks the protocol sends ENOENT or EINVAL. */
+ * that lacks the protocol or the family sends ENOENT or EINVAL. */
 static enum progress end(const char *protocol, const uint8_t *payload, size_t length) {
     int32_t number = 0;
     if (sockdiag_get_error_number(payload, length, &number) != SOCKDIAG_ITEM)
@@ -172,11 +212,24 @@ static enum progress end(const char *protocol, const uint8_t *payload, size_t le
     return number == -ENOENT || number == -EINVAL ? COMPLETE : FAILED;
 }
 
+/* Prints the socket of a reply by the call for its family, which is the first byte. Returns
+ * SOCKDIAG_OK, or the code of the error of the header. */
+static uint32_t print_socket(struct dump *dump, const uint8_t *payload, size_t length) {
+    switch (length > 0 ? payload[0] : AF_UNSPEC) {
+    case AF_UNIX:
+        return print_unix(dump->lines, payload, length);
+    case AF_NETLINK:
+        return print_netlink(dump->lines, payload, length);
+    case AF_PACKET:
+        return print_packet(dump->lines, payload, length);
+    default:
+        return print_inet(dump->lines, dump->protocol, payload, length);
+    }
+}
+
 /* Prints the reply in a message. Reports one whose header is rejected. */
 static void print_reply(struct dump *dump, const uint8_t *payload, size_t length) {
-    const uint32_t error = length > 0 && payload[0] == AF_UNIX
-                               ? print_unix(dump->lines, payload, length)
-                               : print_inet(dump->lines, dump->protocol, payload, length);
+    const uint32_t error = print_socket(dump, payload, length);
     if (error == SOCKDIAG_OK)
         return;
     dump->has_rejected_reply = 1;
@@ -363,8 +416,32 @@ static int list_inet(struct kernel *kernel, const char *name, uint32_t protocol,
     return failed;
 }
 
+/* Lists the sockets of a family whose requests do not select states, which is AF_NETLINK or
+ * AF_PACKET. Requests the attributes whose bits are in show. */
+static int list_family(struct kernel *kernel, const char *name, uint8_t family, uint8_t protocol,
+                       uint32_t show) {
+    uint8_t bytes[SOCKDIAG_SHOW_REQUEST_LENGTH];
+    struct sockdiag_show_request request;
+    memset(&request, 0, sizeof request);
+    request.header.flags = SOCKDIAG_NLM_F_REQUEST | SOCKDIAG_NLM_F_DUMP;
+    request.family = family;
+    request.protocol = protocol;
+    request.show = show;
+    return list(kernel, name, bytes, sockdiag_write_show_request(&request, bytes, sizeof bytes));
+}
+
+/* Lists netlink sockets of all protocols, and packet sockets. The protocol 0 of a request for
+ * netlink sockets selects those of NETLINK_ROUTE only. */
+static int list_netlink_and_packet(struct kernel *kernel) {
+    int failed = list_family(kernel, "netlink", AF_NETLINK, SOCKDIAG_NDIAG_PROTO_ALL,
+                             SOCKDIAG_NDIAG_SHOW_GROUPS);
+    failed |= list_family(kernel, "packet", AF_PACKET, 0, SOCKDIAG_PACKET_SHOW_INFO);
+    return failed;
+}
+
 /* Lists the selected sockets. A listening TCP or MPTCP socket is in state TCP_LISTEN, and a UDP
- * socket without a peer in state TCP_CLOSE. */
+ * socket without a peer in state TCP_CLOSE. Netlink and packet sockets have no port of TCP or UDP,
+ * and do not listen. */
 static int list_selected(struct kernel *kernel, const struct selection *selection) {
     const uint8_t with_info = 1u << (SOCKDIAG_INET_DIAG_INFO - 1);
     const uint8_t with_congestion = 1u << (SOCKDIAG_INET_DIAG_CONG - 1);
@@ -380,6 +457,8 @@ static int list_selected(struct kernel *kernel, const struct selection *selectio
                         selection->port);
     failed |= list_inet(kernel, "udp", IPPROTO_UDP, 0, udp, selection->port);
     failed |= list_inet(kernel, "mptcp", PROTOCOL_MPTCP, 0, tcp, selection->port);
+    if (selection->port == 0 && !selection->only_listening)
+        failed |= list_netlink_and_packet(kernel);
     return failed;
 }
 

@@ -46,20 +46,27 @@ CFLAGS="$*" SOCKDIAG_LIB_DIR="$top/crates/sockdiag_c/out" "$top/tests/live/compa
 
 # The example with answers that a kernel seldom sends: an interrupted dump is requested again, and
 # one that lost data on another socket, a rejected reply does not end a dump, and a rejected
-# attribute does not hide its socket.
+# attribute does not hide its socket. Netlink and packet sockets are requested only without
+# arguments.
 build fake_list "$top/examples/list_sockets.c" "$top/tests/api/fake_kernel.c"
 "$work/fake_list" >"$work/found" 2>"$work/errors" && exit 1
 "$work/fake_list" -l >>"$work/found" 2>>"$work/errors" && exit 1
+"$work/fake_list" 443 >>"$work/found" 2>>"$work/errors" && exit 1
 sort "$work/errors" | uniq -c | sed 's/^ *//' >>"$work/found"
 diff "$work/found" /dev/fd/3 3<<'END'
 unix type 1 state 7 inode 2
 unix type 1 state 7 inode 2 rejected 5 (buffer of too few bytes)
 unix type 1 state 10 inode 2
 unix type 1 state 10 inode 2 rejected 5 (buffer of too few bytes)
-4 list_sockets: mptcp: No such file or directory
-4 list_sockets: tcp: No such file or directory
-4 list_sockets: udp: No such file or directory
-2 list_sockets: udp: invalid datagram: message length is past the bytes given
+unix type 1 state 7 inode 2
+unix type 1 state 7 inode 2 rejected 5 (buffer of too few bytes)
+6 list_sockets: mptcp: No such file or directory
+1 list_sockets: netlink: No such file or directory
+1 list_sockets: packet: No such file or directory
+5 list_sockets: tcp: No such file or directory
+1 list_sockets: tcp: invalid reply: buffer of too few bytes
+6 list_sockets: udp: No such file or directory
+3 list_sockets: udp: invalid datagram: message length is past the bytes given
 2 list_sockets: unix: invalid reply: buffer of too few bytes
 END
 

@@ -3,11 +3,13 @@
  * with a lister, or preloaded, they take the place of those of the C library.
  *
  * If the environment variable FAKE_KERNEL_REPLIES is the name of a file, requests are answered with
- * its replies, by a datagram each. A line is a protocol, which is unix, tcp, udp or mptcp, a space,
- * and the payload in hexadecimal digits. Other lines are comments. A dump has the replies with the
- * protocol, the family and the states of the request. If no line has the protocol, the answer is
- * EINVAL. If the file has no mptcp, the attribute with the protocol is ignored, as kernels without
- * MPTCP do. tests/api/kernels.py runs listers in this way.
+ * its replies, by a datagram each. A line is a protocol, which is unix, tcp, udp, mptcp, netlink or
+ * packet, a space, and the payload in hexadecimal digits. Other lines are comments. A dump has the
+ * replies with the protocol, the family and the states of the request. If no line has the protocol,
+ * the answer is EINVAL. If the file has no mptcp, the attribute with the protocol is ignored, as
+ * kernels without MPTCP do. Each datagram begins with the end of a dump that another socket
+ * requested, which a lister recognizes by its port id. tests/api/kernels.py runs listers in this
+ * way.
  *
  * Otherwise the first request is answered by a dump that is interrupted. The second one, which has
  * to be the same with another sequence number, is answered by the end of another dump, a reply that
@@ -108,12 +110,10 @@ static int is_repeated(void) {
            memcmp(request + 12, first_request + 12, sizeof request - 12) == 0;
 }
 
-/* Returns the name of the protocol of the request. A protocol above 255 is an attribute after the
- * record, which starts at 72. */
-static const char *requested_protocol(void) {
+/* Returns the name of the protocol of a request for IPv4 or IPv6 sockets. A protocol above 255 is
+ * an attribute after the record, which starts at 72. */
+static const char *requested_inet_protocol(void) {
     uint32_t protocol = request[17];
-    if (request[16] == AF_UNIX)
-        return "unix";
     if (has_mptcp && request[0] >= 80 && request[74] == SOCKDIAG_INET_DIAG_REQ_PROTOCOL)
         memcpy(&protocol, request + 76, sizeof protocol);
     switch (protocol) {
@@ -128,12 +128,31 @@ static const char *requested_protocol(void) {
     }
 }
 
-/* Returns whether the reply has the family of the request and one of its states. */
+/* Returns the protocol of the request, as the lines of the file name it. */
+static const char *requested_protocol(void) {
+    switch (request[16]) {
+    case AF_UNIX:
+        return "unix";
+    case AF_NETLINK:
+        return "netlink";
+    case AF_PACKET:
+        return "packet";
+    default:
+        return requested_inet_protocol();
+    }
+}
+
+/* Returns whether the request selects the reply: by the family, and by the states or, of netlink
+ * sockets, the protocol. */
 static int is_requested(const uint8_t *reply) {
     const uint8_t state = reply[0] == AF_UNIX ? reply[2] : reply[1];
     uint32_t states;
+    if (reply[0] != request[16])
+        return 0;
+    if (reply[0] == AF_NETLINK)
+        return request[17] == SOCKDIAG_NDIAG_PROTO_ALL || request[17] == reply[2];
     memcpy(&states, request + 20, sizeof states);
-    return reply[0] == request[16] && (states >> state & 1) != 0;
+    return reply[0] == AF_PACKET || (states >> state & 1) != 0;
 }
 
 /* Stores the bytes of hexadecimal digits. Returns their number. */
@@ -163,16 +182,28 @@ static size_t next_reply(uint8_t *reply) {
     return 0;
 }
 
+/* Writes the end of a dump that another socket requested by the same sequence number. */
+static size_t put_other_end(uint8_t *bytes, uint32_t number) {
+    static const uint32_t other_port = OWN_PORT + 1;
+    static const int32_t success = 0;
+    const size_t length = put(bytes, NLMSG_DONE, NLM_F_MULTI, number, &success, 4);
+    memcpy(bytes + 12, &other_port, sizeof other_port);
+    return length;
+}
+
 /* Writes the next datagram of an answer by the replies of the file. Returns its length. */
 static size_t put_from_file(uint8_t *bytes, uint32_t number) {
     static const int32_t success = 0, failure = -EINVAL;
     static uint8_t reply[MOST_REPLY];
+    const size_t start = put_other_end(bytes, number);
     const size_t length = next_reply(reply);
+    bytes += start;
     if (length > 0)
-        return put(bytes, SOCKDIAG_SOCK_DIAG_BY_FAMILY, NLM_F_MULTI, number, reply, length);
+        return start
+             + put(bytes, SOCKDIAG_SOCK_DIAG_BY_FAMILY, NLM_F_MULTI, number, reply, length);
     if (!has_protocol)
-        return put(bytes, NLMSG_ERROR, 0, number, &failure, 4);
-    return put(bytes, NLMSG_DONE, NLM_F_MULTI, number, &success, 4);
+        return start + put(bytes, NLMSG_ERROR, 0, number, &failure, 4);
+    return start + put(bytes, NLMSG_DONE, NLM_F_MULTI, number, &success, 4);
 }
 
 /* Answers a request for UDP sockets. The first answer of each family loses data. A request on the

@@ -392,8 +392,8 @@ FAMILY_REPLIES = (
 
 
 def stored_replies():
-    """Returns the replies that kernels sent, in the stored capture, those of the stored lines and of
-    tests/api/kernels, and FAMILY_REPLIES."""
+    """Returns the replies that kernels sent, in the stored capture, those of the stored lines,
+    those about UNIX and internet sockets of tests/api/kernels, and FAMILY_REPLIES."""
     found = [named(bytes.fromhex(digits)) for digits in FAMILY_REPLIES] + [
         named(payload) for datagram in captured_datagrams()
         for kind, flags, payload in messages(datagram)

@@ -33,21 +33,28 @@ use crate::xdp_details::XdpDetails;
 use netlink_core::{DecodeError, NlasIterator};
 use sock_diag_families::vsock::VsockResponseHeader;
 
-/// Number of the elements of `errors` of `struct sockdiag_rejections`. All kinds that can be
-/// rejected are less.
+/// Number of elements of `errors` of `struct sockdiag_rejections`, and so the end of a loop over
+/// them. Each kind of attribute that can be rejected is less.
 pub const REJECTION_KINDS: usize = 32;
 
 /// Why attributes of a reply are rejected: codes of errors, as `sockdiag_error_text` takes them. A
 /// code is 0 if there is no such error. If a reply has several attributes of a kind, the kind can
 /// have a value in the details and an error here: the value is that of the first valid attribute,
-/// and the error that of the first rejected one. The kinds that can be rejected are
-/// `UNIX_DIAG_NAME` to `UNIX_DIAG_SHUTDOWN` of UNIX sockets; `INET_DIAG_MEMINFO`, `_INFO`, `_CONG`,
-/// `_TOS`, `_TCLASS`, `_SKMEMINFO`, `_SHUTDOWN`, `_PROTOCOL`, `_SKV6ONLY`, `_MARK` and `_CLASS_ID`
-/// of internet sockets; `NETLINK_DIAG_MEMINFO` and `_FLAGS` of netlink sockets; `PACKET_DIAG_INFO`,
-/// `_RX_RING`, `_TX_RING`, `_FANOUT`, `_UID` and `_MEMINFO` of packet sockets; and `XDP_DIAG_INFO`
-/// to `XDP_DIAG_STATS` of XDP sockets. Values of other kinds are not checked: of
-/// `INET_DIAG_CGROUP_ID`, for example, only `sockdiag_get_cgroup_id` checks the length, and returns
-/// 0 if it is wrong.
+/// and the error that of the first rejected one. Values of kinds that are not in the list below are
+/// not checked: of `INET_DIAG_CGROUP_ID`, for example, only `sockdiag_get_cgroup_id` checks the
+/// length, and returns 0 if it is wrong. The index of an element of `errors` is a kind of
+/// attribute, whose meaning depends on the family of the reply. The kinds that can be rejected are:
+/// - UNIX sockets: 0 to 6, from `UNIX_DIAG_NAME` to `UNIX_DIAG_SHUTDOWN`;
+/// - IPv4 and IPv6 sockets: `INET_DIAG_MEMINFO` (1), `INET_DIAG_INFO` (2), `INET_DIAG_CONG` (4),
+///   `INET_DIAG_TOS` (5), `INET_DIAG_TCLASS` (6), `INET_DIAG_SKMEMINFO` (7), `INET_DIAG_SHUTDOWN`
+///   (8), `INET_DIAG_PROTOCOL` (10), `INET_DIAG_SKV6ONLY` (11), `INET_DIAG_MARK` (15) and
+///   `INET_DIAG_CLASS_ID` (17);
+/// - netlink sockets: `NETLINK_DIAG_MEMINFO` (0) and `NETLINK_DIAG_FLAGS` (4) of
+///   `linux/netlink_diag.h`;
+/// - packet sockets: `PACKET_DIAG_INFO` (0), `PACKET_DIAG_RX_RING` (2), `PACKET_DIAG_TX_RING` (3),
+///   `PACKET_DIAG_FANOUT` (4), `PACKET_DIAG_UID` (5) and `PACKET_DIAG_MEMINFO` (6) of
+///   `linux/packet_diag.h`;
+/// - XDP sockets: 1 to 9, from `XDP_DIAG_INFO` to `XDP_DIAG_STATS` of `linux/xdp_diag.h`.
 #[repr(C)]
 #[derive(Clone, Copy)]
 pub struct Rejections {
@@ -59,9 +66,10 @@ pub struct Rejections {
     pub first: u32,
     /// Code of the framing error after the last attribute, 7 to 9. What follows is not parsed.
     pub framing: u32,
-    /// Codes of the errors of attributes, by kind: the element `INET_DIAG_INFO` is the error of the
-    /// first `INET_DIAG_INFO` that is rejected. Its bytes are returned by
-    /// `sockdiag_next_attribute`.
+    /// Codes of the errors of attributes. The index is the kind, below `SOCKDIAG_REJECTION_KINDS`:
+    /// for an IPv4 or IPv6 socket `errors[SOCKDIAG_INET_DIAG_INFO]` is the error of the first
+    /// `INET_DIAG_INFO` that is rejected. `sockdiag_next_attribute` returns the bytes of the
+    /// attribute.
     pub errors: [u8; REJECTION_KINDS],
 }
 

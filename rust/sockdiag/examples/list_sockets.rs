@@ -1,5 +1,5 @@
-//! Lists the sockets of this machine: one line for each UNIX socket, and for each TCP, UDP and
-//! MPTCP socket over IPv4 and IPv6.
+//! Lists the sockets of this machine: one line for each UNIX socket, for each TCP, UDP and MPTCP
+//! socket over IPv4 and IPv6, and for each netlink and packet socket.
 //!
 //! An attribute that is rejected does not hide its socket: the line ends with its kind and its
 //! error. Only a short `INET_DIAG_INFO` of TCP is not reported if it contains the round-trip time.
@@ -12,9 +12,12 @@
 use sockdiag::constants::{AF_INET, AF_INET6, IPPROTO_MPTCP, IPPROTO_TCP, IPPROTO_UDP};
 use sockdiag::constants::{INET_DIAG_INFO, NLM_F_DUMP, NLM_F_REQUEST};
 use sockdiag::inet::{ExtensionFlags, InetReply, InetRequest, SocketId, TcpField};
+use sockdiag::netlink::{NetlinkReply, NetlinkRequest, NDIAG_PROTO_ALL, NDIAG_SHOW_GROUPS};
+use sockdiag::packet::{PacketReply, PacketRequest, PACKET_SHOW_INFO};
 use sockdiag::unix::{ShowFlags, UnixDiagName, UnixReply, UnixRequest};
-use sockdiag::{inet, unix, AnswerCheck, Dump, LenientMessage, NetlinkHeader, NetlinkPayload};
-use sockdiag::{RejectedAttributes, RejectedMessage, SockDiagMessage};
+use sockdiag::{inet, unix, AnswerCheck, AnyDump, AnySockDiagMessage, LenientMessage};
+use sockdiag::{NetlinkHeader, NetlinkPayload, SockDiagMessage};
+use sockdiag::{RejectedAttributes, RejectedMessage};
 use std::fs::File;
 use std::io::{self, Read, Write};
 use std::os::fd::{AsRawFd, FromRawFd};
@@ -44,10 +47,12 @@ struct Address {
 extern "C" {
     fn socket(family: i32, kind: i32, protocol: i32) -> i32;
     fn connect(fd: i32, address: *const Address, length: u32) -> i32;
+    fn getsockname(fd: i32, address: *mut Address, length: *mut u32) -> i32;
 }
 
-/// Opens a socket to which only the kernel can send: port id 0 is the kernel's.
-fn open() -> io::Result<File> {
+/// Opens a socket to which only the kernel can send: port id 0 is the kernel's. Returns it with its
+/// own port id, which the kernel's answers have.
+fn open() -> io::Result<(File, u32)> {
     let (family, kind) = (AF_NETLINK.into(), SOCK_RAW | SOCK_CLOEXEC);
     // SAFETY: socket(2) takes three numbers and accesses no memory.
     let fd = unsafe { socket(family, kind, NETLINK_SOCK_DIAG) };
@@ -58,17 +63,23 @@ fn open() -> io::Result<File> {
     // read(2) and write(2). On a netlink socket they receive and send datagrams from and to the
     // kernel.
     let file = unsafe { File::from_raw_fd(fd) };
-    let address = Address {
+    let mut address = Address {
         family: AF_NETLINK,
         pad: 0,
         port_number: 0,
         groups: 0,
     };
+    let mut length = size_of::<Address>() as u32;
     // SAFETY: connect(2) reads the address, a local, which has this length.
-    if unsafe { connect(file.as_raw_fd(), &address, size_of::<Address>() as u32) } != 0 {
+    if unsafe { connect(file.as_raw_fd(), &address, length) } != 0 {
         return Err(io::Error::last_os_error());
     }
-    Ok(file)
+    // SAFETY: getsockname(2) writes at most this length to the address, and sets the length. Both
+    // are locals.
+    if unsafe { getsockname(file.as_raw_fd(), &mut address, &mut length) } != 0 {
+        return Err(io::Error::last_os_error());
+    }
+    Ok((file, address.port_number))
 }
 
 /// Returns the line about a UNIX socket.
@@ -124,6 +135,69 @@ fn round_trip_time(protocol: &str, reply: &InetReply<'_>) -> Option<u64> {
     info.get(TcpField::Rtt)
 }
 
+/// Returns the line about a netlink socket. The kernel lists a socket that is in a multicast group
+/// twice, with the same cookie.
+fn netlink_line(reply: &NetlinkReply<'_>) -> String {
+    let header = &reply.header;
+    let mut line = format!(
+        "netlink protocol {} port {} inode {}",
+        header.protocol, header.port, header.inode
+    );
+    // Each group has a bit: group 1 is the lowest bit of the first byte.
+    let groups = reply.groups.unwrap_or_default();
+    let is_member = |group: &usize| groups[(group - 1) / 8] >> ((group - 1) % 8) & 1 != 0;
+    for group in (1..=8 * groups.len()).filter(is_member) {
+        line += &format!(" group {group}");
+    }
+    line
+}
+
+/// Returns the line about a packet socket. The interface is in an attribute, and not in the header:
+/// a reply may lack it.
+fn packet_line(reply: &PacketReply<'_>) -> String {
+    let header = &reply.header;
+    let mut line = format!("packet type {} protocol {}", header.kind, header.protocol);
+    if let Some(info) = &reply.info {
+        line += &format!(" interface {}", info.interface);
+    }
+    line + &format!(" inode {}", header.inode)
+}
+
+/// Returns the line about the socket of a reply. Returns `None` for other messages: the kernel
+/// sends no requests, and answers a request with sockets of its family.
+fn socket_line(protocol: &str, message: &AnySockDiagMessage<'_>) -> Option<String> {
+    match message {
+        AnySockDiagMessage::Port(SockDiagMessage::UnixResponse(reply)) => Some(unix_line(reply)),
+        AnySockDiagMessage::Port(SockDiagMessage::InetResponse(reply)) => {
+            Some(inet_line(protocol, reply))
+        }
+        AnySockDiagMessage::Netlink(reply) => Some(netlink_line(reply)),
+        AnySockDiagMessage::Packet(reply) => Some(packet_line(reply)),
+        _ => None,
+    }
+}
+
+/// Returns the line about the socket of a reply of which attributes are rejected. Returns `None`
+/// for sockets of other families, which are not requested.
+fn lenient_line(protocol: &str, message: &LenientMessage<'_>) -> Option<String> {
+    match message {
+        LenientMessage::Unix(reply) => {
+            Some(unix_line(reply) + &rejected_text(reply.rejected(), None))
+        }
+        LenientMessage::Inet(reply) => {
+            let read = round_trip_time(protocol, reply).map(|_| INET_DIAG_INFO);
+            Some(inet_line(protocol, reply) + &rejected_text(reply.rejected(), read))
+        }
+        LenientMessage::Netlink(reply) => {
+            Some(netlink_line(reply) + &rejected_text(reply.rejected(), None))
+        }
+        LenientMessage::Packet(reply) => {
+            Some(packet_line(reply) + &rejected_text(reply.rejected(), None))
+        }
+        _ => None,
+    }
+}
+
 /// Returns the end of a line: the kinds of the attributes that are rejected, with their errors,
 /// except the kind `read`, whose value was read.
 fn rejected_text(rejected: RejectedAttributes<'_>, read: Option<u16>) -> String {
@@ -150,7 +224,7 @@ struct Answer<'p> {
 impl Answer<'_> {
     /// Reads the messages of a datagram. Returns whether the answer has ended, or data was lost.
     fn read(&mut self, datagram: &[u8]) -> io::Result<bool> {
-        for message in Dump::new(datagram) {
+        for message in AnyDump::new(datagram) {
             if let Err(reason) = self.check.check_message(&message) {
                 eprintln!("list_sockets: {}: {reason}", self.protocol);
                 continue;
@@ -167,6 +241,12 @@ impl Answer<'_> {
             }
         }
         Ok(false)
+    }
+
+    /// Adds the line about a socket.
+    fn add(&mut self, line: &str) {
+        self.lines += line;
+        self.lines.push('\n');
     }
 
     /// Records that data was lost. Returns true: no more of the answer is to be read.
@@ -203,60 +283,49 @@ impl Answer<'_> {
     /// Adds the line about the socket of a rejected reply, whose other attributes are valid.
     /// Reports a message that has no such socket.
     fn take_rejected(&mut self, rejected: &RejectedMessage<'_>) {
-        let line = match rejected.lenient() {
-            Some(LenientMessage::Unix(reply)) => {
-                unix_line(&reply) + &rejected_text(reply.rejected(), None)
-            }
-            Some(LenientMessage::Inet(reply)) => {
-                let read = round_trip_time(self.protocol, &reply).map(|_| INET_DIAG_INFO);
-                inet_line(self.protocol, &reply) + &rejected_text(reply.rejected(), read)
-            }
-            // A request is answered with sockets of its family.
-            _ => {
+        let lenient = rejected.lenient();
+        match lenient.and_then(|message| lenient_line(self.protocol, &message)) {
+            Some(line) => self.add(&line),
+            None => {
                 eprintln!("list_sockets: {}: invalid reply: {rejected}", self.protocol);
                 self.has_rejected = true;
-                return;
             }
-        };
-        self.lines += &line;
-        self.lines.push('\n');
+        }
     }
 
     /// Adds the line about a socket. Returns whether the payload ends the answer. A kernel that
-    /// lacks the protocol sends `ENOENT` or `EINVAL`.
-    fn take(&mut self, payload: NetlinkPayload<SockDiagMessage<'_>>) -> io::Result<bool> {
-        let line = match payload {
-            NetlinkPayload::InnerMessage(SockDiagMessage::UnixResponse(reply)) => unix_line(&reply),
-            NetlinkPayload::InnerMessage(SockDiagMessage::InetResponse(reply)) => {
-                inet_line(self.protocol, &reply)
+    /// lacks the protocol or the family sends `ENOENT` or `EINVAL`.
+    fn take(&mut self, payload: NetlinkPayload<AnySockDiagMessage<'_>>) -> io::Result<bool> {
+        match payload {
+            NetlinkPayload::InnerMessage(message) => {
+                if let Some(line) = socket_line(self.protocol, &message) {
+                    self.add(&line);
+                }
+                Ok(false)
             }
-            // The kernel sends no requests.
-            NetlinkPayload::InnerMessage(_) | NetlinkPayload::Noop => return Ok(false),
-            NetlinkPayload::Done(Some(0)) => return Ok(true),
+            NetlinkPayload::Noop => Ok(false),
+            NetlinkPayload::Done(Some(0)) => Ok(true),
             NetlinkPayload::Done(Some(number)) | NetlinkPayload::Error(Some(number)) => {
                 let error = io::Error::from_raw_os_error(number.wrapping_neg());
                 if number == -ENOENT || number == -EINVAL {
                     eprintln!("list_sockets: {}: {error}", self.protocol);
                     return Ok(true);
                 }
-                return Err(error);
+                Err(error)
             }
             NetlinkPayload::Done(None) | NetlinkPayload::Error(None) => {
-                return Err(io::ErrorKind::UnexpectedEof.into())
+                Err(io::ErrorKind::UnexpectedEof.into())
             }
-            NetlinkPayload::Overrun => return Ok(self.lose_data()),
-        };
-        self.lines += &line;
-        self.lines.push('\n');
-        Ok(false)
+            NetlinkPayload::Overrun => Ok(self.lose_data()),
+        }
     }
 }
 
 /// Lists sockets.
 pub struct Lister<O, W> {
-    /// Opens a netlink socket. Each request has its own, so that the rest of an answer that was not
-    /// read to its end is not received. The kernel runs one dump at a time for each socket, and
-    /// answers with `EBUSY` if another one is requested.
+    /// Opens a netlink socket, and returns it with its port id. Each request has its own, so that
+    /// the rest of an answer that was not read to its end is not received. The kernel runs one dump
+    /// at a time for each socket, and answers with `EBUSY` if another one is requested.
     pub open: O,
     /// Where the lines about sockets are written.
     pub output: W,
@@ -266,7 +335,7 @@ pub struct Lister<O, W> {
     pub is_incomplete: bool,
 }
 
-impl<K: Read + Write, O: FnMut() -> io::Result<K>, W: Write> Lister<O, W> {
+impl<K: Read + Write, O: FnMut() -> io::Result<(K, u32)>, W: Write> Lister<O, W> {
     /// Writes a line for each socket of this machine.
     pub fn list_all(&mut self) -> io::Result<()> {
         let unix = UnixRequest {
@@ -275,6 +344,23 @@ impl<K: Read + Write, O: FnMut() -> io::Result<K>, W: Write> Lister<O, W> {
             ..UnixRequest::default()
         };
         self.list("unix", |header| unix.to_message(header).to_vec())?;
+        self.list_inet()?;
+        // The protocol 0 selects the sockets of `NETLINK_ROUTE` only.
+        let netlink = NetlinkRequest {
+            protocol: NDIAG_PROTO_ALL,
+            show: NDIAG_SHOW_GROUPS,
+            ..NetlinkRequest::default()
+        };
+        self.list("netlink", |header| netlink.to_message(header).to_vec())?;
+        let packet = PacketRequest {
+            show: PACKET_SHOW_INFO,
+            ..PacketRequest::default()
+        };
+        self.list("packet", |header| packet.to_message(header).to_vec())
+    }
+
+    /// Writes a line for each TCP, UDP and MPTCP socket.
+    fn list_inet(&mut self) -> io::Result<()> {
         // The `INET_DIAG_INFO` of MPTCP is another struct.
         let of_tcp = ExtensionFlags::INFO | ExtensionFlags::CONG;
         let none = ExtensionFlags::empty();
@@ -325,6 +411,7 @@ impl<K: Read + Write, O: FnMut() -> io::Result<K>, W: Write> Lister<O, W> {
         protocol: &'p str,
         request: impl Fn(&NetlinkHeader) -> Vec<u8>,
     ) -> io::Result<Answer<'p>> {
+        let (mut kernel, port_number) = (self.open)()?;
         self.sequence_number += 1;
         let header = NetlinkHeader {
             flags: NLM_F_REQUEST | NLM_F_DUMP,
@@ -333,12 +420,11 @@ impl<K: Read + Write, O: FnMut() -> io::Result<K>, W: Write> Lister<O, W> {
         };
         let mut answer = Answer {
             protocol,
-            check: AnswerCheck::new(self.sequence_number, 0),
+            check: AnswerCheck::new(self.sequence_number, port_number),
             lines: String::new(),
             has_lost_data: false,
             has_rejected: false,
         };
-        let mut kernel = (self.open)()?;
         kernel.write_all(&request(&header))?;
         answer.receive(&mut kernel)?;
         Ok(answer)

@@ -15,7 +15,8 @@ use core::fmt;
 /// **A message does not show who sent it.** Other processes can send to a netlink socket, with any
 /// numbers in the header. Connect the socket to port id 0 by connect(2), as
 /// `examples/list_sockets.rs` does: then only the kernel can send to it. After that,
-/// getsockname(2) returns the port id of the socket in `nl_pid`, for [`AnswerCheck::new`].
+/// getsockname(2) returns the port id of the socket in `nl_pid`. Pass it to [`AnswerCheck::new`],
+/// as the example does.
 ///
 /// **A dump without this flag may be incomplete too.** Linux 6.18 did not set it in any message of
 /// dumps during which sockets opened and closed, and sockets were missing or listed twice. To miss
@@ -30,13 +31,14 @@ use core::fmt;
 ///     message_type: NLMSG_DONE,
 ///     flags: NLM_F_MULTI | NLM_F_DUMP_INTR,
 ///     sequence_number: 8,
+///     port_number: 9,
 ///     ..NetlinkHeader::default()
 /// };
-/// let mut check = AnswerCheck::new(7, 0);
+/// let mut check = AnswerCheck::new(7, 9);
 /// assert_eq!(check.check(&header), Err(UnrelatedMessage::SequenceNumber(8)));
 /// assert!(!check.is_interrupted());
 ///
-/// let mut check = AnswerCheck::new(8, 0);
+/// let mut check = AnswerCheck::new(8, 9);
 /// assert_eq!(check.check(&header), Ok(()));
 /// assert!(check.is_interrupted());
 /// ```

@@ -49,8 +49,9 @@
 //! # let datagram = &[memory, datagram].concat()[..];
 //! // This datagram has a reply with a short UNIX_DIAG_MEMINFO, a reply whose header is too short,
 //! // another reply, and the end of the dump.
-//! // The second number is the port id of the socket, or 0 if it is not to be compared.
-//! let mut answer = AnswerCheck::new(header.sequence_number, 0);
+//! // The port id of the socket, which getsockname(2) returns in nl_pid.
+//! let port_number = 9;
+//! let mut answer = AnswerCheck::new(header.sequence_number, port_number);
 //! let mut listening = 0;
 //! for message in Dump::new(datagram) {
 //!     if let Err(reason) = answer.check_message(&message) {
@@ -169,10 +170,10 @@
 //!
 //! In addition to the items of that crate, [`netlink`], [`packet`], [`vsock`] and [`xdp`] have
 //! requests and replies about these sockets. [`AnyDump`] and [`AnySockDiagMessage`] have replies of
-//! any family. The contents of a reply are in its fields. If it has several attributes of a kind,
-//! the field has the first one; `attributes` returns all of them. `header.cookie` is a `u64` in
-//! these replies, and `[u8; 8]` in those about UNIX and internet sockets: `u64::from_le_bytes`
-//! converts the bytes.
+//! any family: `examples/list_sockets.rs` lists netlink and packet sockets by them. The contents of
+//! a reply are in its fields. If it has several attributes of a kind, the field has the first one;
+//! `attributes` returns all of them. `header.cookie` is a `u64` in these replies, and `[u8; 8]` in
+//! those about UNIX and internet sockets: `u64::from_le_bytes` converts the bytes.
 //!
 //! One rejected attribute makes a reply invalid. To list every socket, parse it leniently, or call
 //! [`RejectedMessage::lenient`] for an item of a dump:
