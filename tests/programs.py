@@ -124,6 +124,8 @@ def caption(name):
 
 def test_sslist(program):
     capture, table = CAPTURE.read_bytes(), (CRATES / "sslist/stdout").read_bytes()
+    # The kit accepts no symbolic link in place of the copy.
+    assert (CRATES.parent / "examples/capture.pcap").read_bytes() == capture
     note, missing = b"sslist: .*packet 12, message 1: .*\n", b"sslist: /nowhere: .*\n"
     wrong = b"sslist: %s %s; try sslist --help\n"
     unknown = b"sslist: unknown option %s; try sslist --help\n"

@@ -54,8 +54,8 @@ ar rcD other/libsockdiag.a other/fake.o
 for copy in one 'elsewhere/a tree'; do
     mkdir -p "$copy"
     (cd "$top" && tar -c --exclude=target --exclude=Cargo.lock --exclude=__pycache__ docs examples \
-        crates/sslist/stdin include man rust tools CHANGELOG.md INSTALL.md LICENSE-MIT \
-        LICENSE-UNICODE README.md SECURITY.md VERSION) |
+        include man rust tools CHANGELOG.md INSTALL.md LICENSE-MIT LICENSE-UNICODE README.md \
+        SECURITY.md VERSION) |
         tar -x -C "$copy"
     mkdir -p "$copy/rust/sockdiag/target/debug"
     for file in rust/sockdiag/target/debug/it rust/sockdiag/Cargo.lock docs/NOTES.md; do
