@@ -18,7 +18,7 @@ mem_info_u32_count bytes = if nat_lt bytes 32 then 7 else if nat_lt bytes 36 the
 
 -- An array of `u32`, indexed by `SK_MEMINFO_*` (linux/sock_diag.h), of at least 28 bytes. The rows
 -- are `SK_MEMINFO_RMEM_ALLOC`, `_RCVBUF`, `_WMEM_ALLOC`, `_SNDBUF`, `_FWD_ALLOC`, `_WMEM_QUEUED`,
--- `_OPTMEM`, `_BACKLOG` and `_DROPS`. The tag is the number of elements, 7, 8 or 9 (`words`). Bytes
+-- `_OPTMEM`, `_BACKLOG` and `_DROPS`. The tag is the number of elements, 7, 8 or 9 (`count`). Bytes
 -- are parsed with as many elements as they contain, at most nine (`tag_at`); a missing backlog or
 -- number of drops is `None`. A value is serialized (`tag_of`) with nine elements if it has drops,
 -- else with eight if it has a backlog, else with seven. Drops without a backlog are serialized
@@ -40,7 +40,7 @@ mem_info = record {
       u32 24 MemInfo.options ∷
       when (nat_lt 7 count) (u32 28 (λ m. unwrap_or m.backlog_queue_length 0)) ∷
       when (nat_lt 8 count) (u32 32 (λ m. unwrap_or m.drops 0)) ∷ [];
-  value = λ words values. mem_info_of values;
+  value = λ count values. mem_info_of values;
   is_shaped = λ value. ⊤;
   is_own = λ param value. IfSome value.drops (λ drops. IsSome value.backlog_queue_length);
 }

@@ -9,8 +9,10 @@ use Rattle.netlink_core.specs.declared.error.RecordName.TheVariants as name
 -- `struct tcp_info` (linux/tcp.h) up to `tcpi_snd_wnd`: each member has the name in C without the
 -- prefix `tcpi_`. A row is the width of the member, its offset, and the member of the Rust struct.
 -- All are little-endian. Two rows are bytes of bit fields, which are not split: `wscale` is
--- `tcpi_snd_wscale` and `tcpi_rcv_wscale`; `delivery_rate_app_limited` includes
--- `tcpi_fastopen_client_fail`. Newer kernels append members, which are ignored.
+-- `tcpi_snd_wscale` in its low four bits and then `tcpi_rcv_wscale`; `delivery_rate_app_limited` is
+-- the member of this name in its lowest bit and then `tcpi_fastopen_client_fail`. Newer kernels
+-- append members, which are ignored. Older kernels send fewer bytes, which are rejected, since the
+-- layout has a length of 232.
 abbrev pub tcp_info_rows : List (Row TcpInfo)
 tcp_info_rows =
     u8 0 TcpInfo.state ∷

@@ -1,0 +1,582 @@
+#!/usr/bin/env python3
+"""captures.py SSLIST: runs the program over captures that are made here from hexadecimal digits,
+and compares what it writes on standard output and standard error, and its exit status. The gate
+runs it with the program that it has built. The last line has the number of runs."""
+
+import struct
+import subprocess
+import sys
+from pathlib import Path
+
+HEADING = (Path(__file__).parent.parent / "crates/sslist/stdout").read_text().splitlines(True)[0]
+
+# A reply about an IPv6 socket in TIME-WAIT. Local: [fe80::1], interface 3, port 22. Peer:
+# [2001:db8::ff], port 40000.
+INET6 = (
+    "580000001400020007000000000000000a06030000169c40fe80000000000000000000000000000120010db800"
+    "00000000000000000000ff030000000000000000000000000000000000000000000000e803000000000000"
+)
+
+# Its line, and the line of its details.
+INET6_LINE = (
+    "inet6 TIME-WAIT  0      0      0          1000  [fe80::1]%3:22                 [2001:db8::"
+    "ff]:40000\n"
+    "\t timer:(timewait,0ms,0) sk:0\n"
+)
+
+# A reply about a listening UNIX stream socket with the abstract name `a b\`.
+UNIX = (
+    "3800000014000200070000000000000001010a000e4f0000a00200000000000009000000006120625c0000000c"
+    "0004000200000080000000"
+)
+
+# Its lines.
+UNIX_LINE = (
+    "u_str LISTEN     2      128    20238      -     @a\\x20b\\x5c                    *\n"
+    "\t sk:2a0\n"
+)
+
+# An NLMSG_DONE.
+DONE = "1400000003000200070000000000000000000000"
+
+# A reply about a UNIX socket with only 12 of the 16 bytes of its header.
+SHORT = "1c00000014000200070000000000000001010a000e4f0000a0020000"
+
+# A reply about a socket of AF_SMC (43), a family that sslist does not know.
+OTHER_FAMILY = "200000001400020007000000000000002b0101000e4f0000a002000000000000"
+
+# Requests for UNIX, TCP, MPTCP and netlink sockets.
+REQUEST = "2800000014000103010000000000000001000000ffffffff000000003f000000ffffffffffffffff"
+TCP_REQUEST = (
+    "4800000014000103070000000000000002060000ffffffff000000000000000000000000000000000000000000"
+    "000000000000000000000000000000000000000000000000000000"
+)
+MPTCP_REQUEST = (
+    "5000000014000103070000000000000002ff000080040000000000000000000000000000000000000000000000"
+    "0000000000000000000000000000000000000000000000000000000800030006010000"
+)
+OTHER_REQUEST = "180000001400010307000000000000001000000000000000"
+
+# The cooked header of a packet of sock_diag(7), and of one of another protocol.
+SOCK_DIAG = "00040338000000000000000000000004"
+OTHER = "00040338000000000000000000000000"
+
+# File headers in both byte orders, with both magic numbers. One that begins with `a` is
+# big-endian.
+HEADERS = [
+    "d4c3b2a102000400000000000000000000100000fd000000",
+    "4d3cb2a102000400000000000000000000100000fd000000",
+    "a1b23c4d00020004000000000000000000001000000000fd",
+    "a1b2c3d400020004000000000000000000001000000000fd",
+]
+
+# Replies about sockets of other families, each with its lines and with its object in JSON: the
+# replies of a kernel about a netlink and a packet socket, and replies about a listening vsock
+# socket, an XDP socket and a netlink socket with groups, which were written by hand from the
+# kernel's headers.
+FAMILIES = [
+    (
+        "5c00000014000200070000009340000010020007000000000000000000000000040000000300000000"
+        "0000002800000000000000004003000000000000400300000000000000000000000000000000000000"
+        "00000800040000000000",
+        "nl    UNCONN     0      0      4          -     0:0                            *\n"
+        "\t sk:3 skmem:(r0,rb212992,t0,tb212992,f0,w0,o0,bl0,d0) unknown:(4,4)\n",
+        "{\"netid\":\"nl\",\"state_name\":\"UNCONN\",\"family\":16,\"type\":2,\"protocol\":"
+        "0,\"state\":7,\"portid\":0,\"dst_portid\":0,\"dst_group\":0,\"ino\":4,\"cookie\":"
+        "\"3\",\"meminfo\":{\"rmem_alloc\":0,\"rcvbuf\":212992,\"wmem_alloc\":0,\"sndbuf\":"
+        "212992,\"fwd_alloc\":0,\"wmem_queued\":0,\"optmem\":0,\"backlog\":0,\"drops\":0},"
+        "\"other_attributes\":[{\"kind\":4,\"length\":4}]}",
+    ),
+    (
+        "70000000140002000700000093400000110303001bb0030002300000000000001c0000000100000000"
+        "0000000000000000000000000000000100000008000500000000000400010028000600000000000040"
+        "030000000000004003000000000000000000000000000000000000000000",
+        "p_raw UNCONN     0      0      241691     0     3:1                            *\n"
+        "\t sk:3002 ver:0 cpy_thresh:0 running uid:0 unknown:(1,0) skmem:(r0,rb212992,t0,tb"
+        "212992,f0,w0,o0,bl0,d0)\n",
+        "{\"netid\":\"p_raw\",\"state_name\":\"UNCONN\",\"family\":17,\"type\":3,\"num\":3,"
+        "\"ino\":241691,\"cookie\":\"3002\",\"info\":{\"index\":1,\"version\":0,\"reserve\""
+        ":0,\"copy_thresh\":0,\"tstamp\":0,\"flags\":1},\"uid\":0,\"meminfo\":{\"rmem_alloc"
+        "\":0,\"rcvbuf\":212992,\"wmem_alloc\":0,\"sndbuf\":212992,\"fwd_alloc\":0,\"wmem_q"
+        "ueued\":0,\"optmem\":0,\"backlog\":0,\"drops\":0},\"other_attributes\":[{\"kind\":"
+        "1,\"length\":0}]}",
+    ),
+    (
+        "3000000014000200070000000000000028010a00ffffffffd2040000ffffffffffffffff0500000009"
+        "00000000000000",
+        "v_str LISTEN     -      -      5          -     *:1234                         *:*"
+        "\n"
+        "\t sk:9\n",
+        "{\"netid\":\"v_str\",\"state_name\":\"LISTEN\",\"family\":40,\"type\":1,\"state\":"
+        "10,\"shutdown\":0,\"src_cid\":4294967295,\"src_port\":1234,\"dst_cid\":4294967295,"
+        "\"dst_port\":4294967295,\"ino\":5,\"cookie\":\"9\",\"other_attributes\":[]}",
+    ),
+    (
+        "2c0000001400020007000000000000002c0300000700000008000000000000000c0001000200000001"
+        "000000",
+        "xdp   UNCONN     -      -      7          -     2:1                            *\n"
+        "\t sk:8\n",
+        "{\"netid\":\"xdp\",\"state_name\":\"UNCONN\",\"family\":44,\"type\":3,\"ino\":7,\""
+        "cookie\":\"8\",\"info\":{\"ifindex\":2,\"queue_id\":1},\"other_attributes\":[]}",
+    ),
+    (
+        "3800000014000200070000000000000010020000921000000000000000000000090000000100000000"
+        "0000000c0001001100000002000000",
+        "nl    UNCONN     -      -      9          -     0:4242                         *\n"
+        "\t sk:1 groups:0x11\n",
+        "{\"netid\":\"nl\",\"state_name\":\"UNCONN\",\"family\":16,\"type\":2,\"protocol\":"
+        "0,\"state\":0,\"portid\":4242,\"dst_portid\":0,\"dst_group\":0,\"ino\":9,\"cookie"
+        "\":\"1\",\"groups\":17,\"other_attributes\":[]}",
+    ),
+]
+
+# A reply about an IPv6 socket with the attributes of newer kernels, the last one of which is too
+# short, and a reply about a UNIX socket with a user id. Their lines follow.
+NEWER = [
+    "b40000001400020007000000000000000a06030000169c40fe80000000000000000000000000000120010d"
+    "b80000000000000000000000ff030000000000000000000000000000000000000000000000e80300000000"
+    "00000c001500341200000000000006001600120100001800100040420f000000000032000000e302000000"
+    "02000014000900010000000002000064000000c8000000140003000100000005000000640000005a000000"
+    "0500160001000000",
+    "4000000014000200070000000000000001010a000e4f0000a00200000000000009000000006120625c0000"
+    "000c000400020000008000000008000700e8030000",
+]
+NEWER_LINES = [
+    "inet6 TIME-WAIT  0      0      0          1000  [fe80::1]%3:22                 [2001:d"
+    "b8::ff]:40000\n"
+    "\t timer:(timewait,0ms,0) sk:0 cgroup:4660 is_icsk mc_loop bind_address_no_port bbr:(b"
+    "w:1000000,mrtt:50,pacing_gain:739,cwnd_gain:512) dctcp:(enabled:1,ce_state:0,alpha:512"
+    ",ab_ecn:100,ab_tot:200) vegas:(enabled:1,rttcnt:5,rtt:100,minrtt:90) unknown:(22,1)\n",
+    "u_str LISTEN     2      128    20238      1000  @a\\x20b\\x5c                    *\n"
+    "\t sk:2a0\n",
+]
+
+# A reply with 104 bytes of struct tcp_info, and its lines up to their details.
+SHORT_INFO = (
+    "c40000001400020007000000000000000a06030000169c40fe80000000000000000000000000000120010db800"
+    "00000000000000000000ff030000000000000000000000000000000000000000000000e8030000000000006c00"
+    "02000000000000079700e01c030000000000000000000000000000000000000000000000000000000000000000"
+    "000000000000000000000000000000000000000000000000006400000032000000ffffff7f0a00000000000000"
+    "00000000000000000000000003000000"
+)
+SHORT_INFO_COLUMNS = (
+    "TIME-WAIT  0      0      0          1000  [fe80::1]%3:22                 [2001:db8::ff]:40"
+    "000\n"
+    "\t timer:(timewait,0ms,0) sk:0 "
+)
+
+# A reply about a listening socket whose abstract name is `e` with an accent, a Chinese letter, a
+# space, U+202E and a backslash. Its lines with --utf8 and without. The path in the reply NO_UTF8
+# is not valid UTF-8.
+LETTERS = (
+    "3000000014000200070000000000000001010a000e4f0000a0020000000000000f00000000c3a9e6bca220e280"
+    "ae5c00"
+)
+LETTERS_LINE = (
+    "u_str LISTEN     -      -      20238      -     @é漢\\x20\\xe2\\x80\\xae\\x5c       *\n"
+    "\t sk:2a0\n"
+)
+LETTERS_ESCAPED = (
+    "u_str LISTEN     -      -      20238      -     @\\xc3\\xa9\\xe6\\xbc\\xa2\\x20\\xe2\\x80"
+    "\\xae\\x5c *\n"
+    "\t sk:2a0\n"
+)
+NO_UTF8 = "2c00000014000200070000000000000001010a000e4f0000a002000000000000090000002fc3a9ff00000000"
+NO_UTF8_LINE = (
+    "u_str LISTEN     -      -      20238      -     /\\xc3\\xa9\\xff                  *\n"
+    "\t sk:2a0\n"
+)
+
+# Replies with their objects in JSON: a UNIX socket for each form of a name (an abstract name, a
+# path, and both if they are not valid UTF-8), an IPv4 and an IPv6 socket, and one with an invalid
+# value.
+OBJECTS = [
+    (
+        UNIX,
+        "{\"netid\":\"u_str\",\"state_name\":\"LISTEN\",\"family\":1,\"type\":1,\"state\":1"
+        "0,\"ino\":20238,\"cookie\":\"2a0\",\"name\":{\"abstract\":\"a b\\\\\"},\"rqlen\":{"
+        "\"rqueue\":2,\"wqueue\":128},\"other_attributes\":[]}",
+    ),
+    (
+        "2800000014000200070000000000000001010a000e4f0000a002000000000000080000002fc3a900",
+        "{\"netid\":\"u_str\",\"state_name\":\"LISTEN\",\"family\":1,\"type\":1,\"state\":1"
+        "0,\"ino\":20238,\"cookie\":\"2a0\",\"name\":{\"path\":\"/é\"},\"other_attributes\""
+        ":[]}",
+    ),
+    (
+        NO_UTF8,
+        "{\"netid\":\"u_str\",\"state_name\":\"LISTEN\",\"family\":1,\"type\":1,\"state\":1"
+        "0,\"ino\":20238,\"cookie\":\"2a0\",\"name\":{\"path_hex\":\"2fc3a9ff\"},\"other_at"
+        "tributes\":[]}",
+    ),
+    (
+        "2800000014000200070000000000000001010a000e4f0000a0020000000000000600000000ff0000",
+        "{\"netid\":\"u_str\",\"state_name\":\"LISTEN\",\"family\":1,\"type\":1,\"state\":1"
+        "0,\"ino\":20238,\"cookie\":\"2a0\",\"name\":{\"abstract_hex\":\"ff\"},\"other_attr"
+        "ibutes\":[]}",
+    ),
+    (
+        "580000001400020007000000000000000201000000169c40c0000201000000000000000000000000c0"
+        "000202000000000000000000000000000000000000000000000000000000000000000000000000e803"
+        "000005000000",
+        "{\"netid\":\"inet\",\"state_name\":\"ESTAB\",\"family\":2,\"state\":1,\"timer\":0,"
+        "\"retrans\":0,\"sport\":22,\"dport\":40000,\"src\":\"192.0.2.1\",\"dst\":\"192.0.2"
+        ".2\",\"if\":0,\"cookie\":\"0\",\"expires\":0,\"rqueue\":0,\"wqueue\":0,\"uid\":100"
+        "0,\"inode\":5,\"other_attributes\":[]}",
+    ),
+    (
+        INET6,
+        "{\"netid\":\"inet6\",\"state_name\":\"TIME-WAIT\",\"family\":10,\"state\":6,\"time"
+        "r\":3,\"retrans\":0,\"sport\":22,\"dport\":40000,\"src\":\"fe80::1\",\"dst\":\"200"
+        "1:db8::ff\",\"if\":3,\"cookie\":\"0\",\"expires\":0,\"rqueue\":0,\"wqueue\":0,\"ui"
+        "d\":1000,\"inode\":0,\"other_attributes\":[]}",
+    ),
+    (
+        SHORT_INFO,
+        "{\"netid\":\"inet6\",\"state_name\":\"TIME-WAIT\",\"family\":10,\"state\":6,\"time"
+        "r\":3,\"retrans\":0,\"sport\":22,\"dport\":40000,\"src\":\"fe80::1\",\"dst\":\"200"
+        "1:db8::ff\",\"if\":3,\"cookie\":\"0\",\"expires\":0,\"rqueue\":0,\"wqueue\":0,\"ui"
+        "d\":1000,\"inode\":0,\"other_attributes\":[{\"kind\":2,\"length\":104,\"error\":\""
+        "too-short\"}]}",
+    ),
+]
+
+# Errors that are expected at several places.
+EMPTY = "the input is empty; the program that wrote it may have failed"
+TOO_SHORT = "neither pcap nor pcapng, as sockdump and tcpdump write: it has fewer than 4 bytes"
+TRUNCATED = "the capture is truncated; if it is still being written, record it by tcpdump -U"
+
+# The first 16 bytes of a file header, and its last 8 with the snapshot length 100.
+FRONT = "d4c3b2a1020004000000000000000000"
+OF_100 = "64000000fd000000"
+
+# The packet header and the cooked header of a packet of 100 bytes.
+OF_SOCK_DIAG = "0700000009000000640000006400000000040338000000000000000000000004"
+
+# A packet of another protocol, and one of 15 bytes.
+OTHER_AND_SHORT = (
+    "070000000900000010000000100000000000000000000000000000000000000007000000090000000f0000000f"
+    "000000000403380000000000000000000000"
+)
+
+# A packet with an NLMSG_OVERRUN that has the flag NLM_F_DUMP_INTR.
+LOST = (
+    "070000000900000020000000200000000004033800000000000000000000000410000000040010000700000000"
+    "000000"
+)
+
+# A packet with an NLMSG_DONE that has the error 2.
+FAILED = (
+    "070000000900000024000000240000000004033800000000000000000000000414000000030002000700000000"
+    "000000feffffff"
+)
+
+# A packet of another protocol that is truncated to 16 of 101 bytes.
+CUT = "0700000009000000100000006500000000000000000000000000000000000000"
+
+# A packet with an NLMSG_ERROR that has the error 2 and answers MPTCP_REQUEST, which follows.
+NO_ENTRY = (
+    "070000000900000074000000740000000004033800000000000000000000000464000000020000000700000000"
+    "000000feffffff"
+)
+
+# A packet that is truncated to 32 of 72 bytes, in the middle of its message.
+CUT_MESSAGE = (
+    "070000000900000020000000480000000004033800000000000000000000000438000000140002000700000000"
+    "000000"
+)
+
+# A section header and the description of a netlink interface of a pcapng file, little-endian and
+# big-endian.
+STARTS = [
+    "0a0d0d0a1c0000004d3c2b1a01000000ffffffffffffffff1c0000000100000014000000fd000000000000"
+    "0014000000",
+    "0a0d0d0a0000001c1a2b3c4d00010000ffffffffffffffff0000001c000000010000001400fd0000000000"
+    "0000000014",
+]
+
+# A section header, little-endian.
+SECTION = "0a0d0d0a1c0000004d3c2b1a01000000ffffffffffffffff1c000000"
+
+# An interface whose timestamps have nanoseconds, after a comment of five bytes.
+NANOSECONDS = (
+    "010000002c000000fd000000000000000100050061620a00ff0000000900010009000000000000002c000000"
+)
+
+# The simple form of a packet of another protocol.
+SIMPLE = "0300000020000000100000000004033800000000000000000000000020000000"
+
+# A block of a type that nobody has assigned, without a body.
+UNKNOWN = "341200800c0000000c000000"
+
+# Invalid blocks after a section header and an interface, each with its error.
+INVALID = [
+    (
+        "0600000008000000",
+        TRUNCATED,
+    ),
+    ("060000000800000000000000", "invalid length of the block at offset 48"),
+    ("060000000d00000000000000", "invalid length of the block at offset 48"),
+    ("0600000004000001000000000400000100", "invalid length of the block at offset 48"),
+    ("34120080fcffffff0000000000", "invalid length of the block at offset 48"),
+    ("060000000c0000000c000000", "invalid length of the block at offset 48"),
+    ("0300000010000000000000000c000000", "two different lengths of the block at offset 48"),
+    ("0a0d0d0a1c00000000000000", "unknown byte order of the section at offset 48"),
+    (
+        "0a0d0d0a1c0000004d3c2b1a02000000ffffffffffffffff1c000000",
+        "unsupported pcapng version, expected 1, of the section at offset 48",
+    ),
+    (
+        "0100000018000000fd000000000000000100010018000000",
+        "invalid options of the interface at offset 48",
+    ),
+    (
+        "010000001c000000fd00000000000000090001000c0000001c000000",
+        "unsupported time resolution of the interface at offset 48",
+    ),
+    (
+        "0600000020000000010000000000000000000000000000000000000020000000",
+        "unknown interface of the packet at offset 48",
+    ),
+    (
+        "0600000020000000000000000000000000000000010000000000000020000000",
+        "invalid captured length of the packet at offset 48",
+    ),
+    (
+        "0600000020000000000000000000000000000000010004000000000020000000",
+        "packet length 262145 exceeds the maximum of 262144",
+    ),
+    (
+        "060000002000000000000000ffffffff00000000000000000000000020000000",
+        "unsupported time (2106 or later) of the packet at offset 48",
+    ),
+    (
+        "0100000014000000010000000000000014000000060000002000000001000000000000000000000000"
+        "0000000000000020000000",
+        "unsupported link type 1, expected 253 (netlink), as of nlmon0",
+    ),
+]
+
+
+class Lister:
+    """The program, and the number of its runs."""
+
+    def __init__(self, program):
+        self.program, self.runs = program, 0
+
+    def run(self, capture, options=(), lines=None, errors=(), status=None):
+        """Lists a capture. `lines` are those after the heading. `errors` are the lines on standard
+        error, without the name of the program. The status is 0 unless there is an error, or as
+        given. Without `lines` the table is not compared."""
+        self.runs += 1
+        ended = subprocess.run([self.program, *options], input=capture, capture_output=True)
+        heading = "" if "--json" in options else HEADING
+        table = None if lines is None else (heading + "".join(lines)).encode()
+        wanted = (bool(errors) if status is None else status, table,
+                  "".join(f"sslist: {error}\n" for error in errors).encode())
+        got = (ended.returncode, None if lines is None else ended.stdout, ended.stderr)
+        assert got == wanted, f"{options} {capture.hex()[:400]}: {got}, expected {wanted}"
+
+    def fails(self, *digits, errors, status=1):
+        """Lists the capture with these digits, and compares what is on standard error."""
+        self.run(bytes.fromhex("".join(digits)), errors=errors, status=status)
+
+
+def pcap(header, *packets):
+    """Returns a capture with this file header. The time of each packet is 7 seconds and 9 units."""
+    order = ">" if header.startswith("a") else "<"
+    capture = bytes.fromhex(header)
+    for packet in packets:
+        packet = bytes.fromhex("".join(packet))
+        capture += struct.pack(f"{order}4I", 7, 9, len(packet), 0) + packet
+    return capture
+
+
+def enhanced(order, *digits):
+    """Returns an enhanced packet block of the first interface, captured 7.000009 seconds after 1970
+    if its timestamps have microseconds."""
+    packet = bytes.fromhex("".join(digits))
+    padded = packet + bytes(-len(packet) % 4)
+    total = 32 + len(padded)
+    numbers = (6, total, 0, 0, 7_000_009, len(packet), len(packet))
+    return struct.pack(f"{order}7I", *numbers) + padded + struct.pack(f"{order}I", total)
+
+
+def section(number, *packets):
+    """Returns a section with an interface and these packets. Section 0 is little-endian, and
+    section 1 big-endian."""
+    blocks = [enhanced("<>"[number], *packet) for packet in packets]
+    return bytes.fromhex(STARTS[number]) + b"".join(blocks)
+
+
+# Packets of another protocol, with a request, with replies, and with the end of a dump; and the
+# lines of their sockets.
+MIXED = [
+    (OTHER, UNIX), (SOCK_DIAG, REQUEST), (SOCK_DIAG, UNIX), (SOCK_DIAG, OTHER_FAMILY),
+    (SOCK_DIAG, INET6), (SOCK_DIAG, DONE),
+]
+MIXED_LINES = [UNIX_LINE, INET6_LINE]
+
+
+def lists_captures_of_both_orders(sslist):
+    """Captures in both byte orders and with both magic numbers."""
+    for header in HEADERS:
+        sslist.run(pcap(header, *MIXED), lines=MIXED_LINES)
+
+
+def lists_other_families(sslist):
+    """Netlink, packet, vsock and XDP sockets have lines."""
+    for reply, line, _ in FAMILIES:
+        sslist.run(pcap(HEADERS[0], (SOCK_DIAG, reply)), lines=[line])
+
+
+def lists_attributes_of_newer_kernels(sslist):
+    """Attributes that the port leaves undecoded have details, and the user id of a UNIX socket has
+    a column."""
+    packets = [(SOCK_DIAG, reply) for reply in NEWER]
+    sslist.run(pcap(HEADERS[0], *packets), lines=NEWER_LINES)
+
+
+def lists_short_tcp_info(sslist):
+    """The fields of a short struct tcp_info have details if the request was for TCP sockets."""
+    details = "rtt:100 rttvar:50 rto:204000 cwnd:10 retrans:3 ts sack wscale:(7,9)\n"
+    request, reply = (SOCK_DIAG, TCP_REQUEST), (SOCK_DIAG, SHORT_INFO)
+    sslist.run(pcap(HEADERS[0], request, reply), lines=["tcp   ", SHORT_INFO_COLUMNS, details])
+    details = "unread:(2,104,too-short)\n"
+    sslist.run(pcap(HEADERS[0], reply), lines=["inet6 ", SHORT_INFO_COLUMNS, details])
+
+
+def shows_names_in_utf8(sslist):
+    """A name that is valid UTF-8 shows letters only with --utf8. It never shows a space or a
+    character that changes the direction of writing. A Chinese letter takes two columns."""
+    capture = pcap(HEADERS[0], (SOCK_DIAG, LETTERS), (SOCK_DIAG, NO_UTF8))
+    for options, name in ((["--utf8"], LETTERS_LINE), ([], LETTERS_ESCAPED)):
+        sslist.run(capture, options, [name, NO_UTF8_LINE])
+
+
+def lists_objects(sslist):
+    """Each family has an object in JSON, with its unknown and its invalid attributes."""
+    for reply, shown in OBJECTS + [(reply, shown) for reply, _, shown in FAMILIES]:
+        sslist.run(pcap(HEADERS[0], (SOCK_DIAG, reply)), ["--json"], [shown, "\n"])
+
+
+def lists_requests(sslist):
+    """Lines of requests, with times in microseconds and nanoseconds."""
+    packets = [(SOCK_DIAG, it) for it in (REQUEST, UNIX, MPTCP_REQUEST, OTHER_REQUEST)]
+    for header, fraction in ((HEADERS[0], "000009000"), (HEADERS[2], "000000009")):
+        time = f"-- 1970-01-01T00:00:07.{fraction}Z "
+        lines = [time, "unix states:0xffffffff\n", UNIX_LINE,
+                 time, "mptcp family:inet states:0x480\n", time, "netlink\n"]
+        sslist.run(pcap(header, *packets), ["--requests"], lines)
+
+
+def lists_a_long_datagram(sslist):
+    """A packet with a thousand messages."""
+    header = "d4c3b2a102000400000000000000000000000400fd000000"
+    sslist.run(pcap(header, (SOCK_DIAG, UNIX * 1000)), lines=[UNIX_LINE] * 1000)
+
+
+def reports_where_a_capture_is_truncated(sslist):
+    """A capture that is truncated at any byte has the lines of its complete packets, and an error
+    with the position."""
+    capture = pcap(HEADERS[3], (SOCK_DIAG, UNIX), (SOCK_DIAG, INET6))
+    whole = len(pcap(HEADERS[3], (SOCK_DIAG, UNIX)))
+    for length in range(len(capture)):
+        errors, lines = truncation_errors(length, 24, {24, whole}, whole), [UNIX_LINE]
+        sslist.run(capture[:length], lines=lines if length >= whole else None, errors=errors)
+
+
+def truncation_errors(length, header, ends, whole):
+    """Returns the errors of a capture that is truncated to this length. `header` is the length of
+    its header, `ends` are the ends of its header, blocks and packets, and `whole` is the end of its
+    first packet."""
+    if length < 4:
+        return [TOO_SHORT if length else EMPTY]
+    if length in ends:
+        return []
+    packet = "" if length < header else f"packet {1 if length < whole else 2}: "
+    return [packet + TRUNCATED]
+
+
+def reports_why(sslist):
+    """The diagnostics and failures on standard error, with their numbers."""
+    short = "UnixResponseHeader: buffer of 12 bytes, at least 16 needed"
+    sslist.fails(FRONT, OF_100, OF_SOCK_DIAG, SHORT, SHORT, SHORT,
+                 errors=[f"packet 1, message {number}: {short}" for number in (1, 2, 3)])
+    sslist.fails(FRONT, OF_100, OTHER_AND_SHORT, LOST, FAILED, CUT, "00", errors=[
+        "packet 2: fewer than 16 bytes",
+        "packet 3, message 1: dump interrupted (NLM_F_DUMP_INTR)",
+        "packet 3, message 1: the kernel lost data",
+        "packet 4, message 1: note: the kernel returned ENOENT",
+        "packet 5: truncated to 16 of 101 bytes",
+        f"packet 6: {TRUNCATED}",
+    ])
+    sslist.fails(FRONT, OF_100, NO_ENTRY, MPTCP_REQUEST, CUT_MESSAGE, errors=[
+        "packet 1, message 1: note: the kernel returned ENOENT"
+        " (request: mptcp family:inet states:0x480)",
+        "packet 2: truncated to 32 of 72 bytes",
+    ])
+    sslist.fails("", errors=[EMPTY])
+    sslist.fails(FRONT, "48", errors=[TRUNCATED])
+    sslist.fails(FRONT, "4800000001000000",
+                 errors=["unsupported link type 1, expected 253 (netlink), as of nlmon0"])
+    sslist.fails("d4c3b2a10300", FRONT, OF_100, errors=["unsupported pcap version 3, expected 2"])
+    sslist.fails("1f8b0800", FRONT, OF_100,
+                 errors=["compressed by gzip; decompress it first, with gzip -dc"])
+    sslist.fails(FRONT, OF_100, "07000000090000000100040001000400",
+                 errors=["packet 1: packet length 262145 exceeds the maximum of 262144"])
+
+
+def lists_sections_of_both_orders(sslist):
+    """Captures in pcapng format in both byte orders, by themselves and as sections of one file."""
+    for number in (0, 1):
+        sslist.run(section(number, *MIXED), lines=MIXED_LINES)
+    sslist.run(section(0, *MIXED) + section(1, *MIXED), lines=MIXED_LINES * 2)
+
+
+def lists_times_of_requests(sslist):
+    """Times in microseconds and nanoseconds, and none in a simple packet. A block of an unknown
+    type is skipped."""
+    capture = section(1, (SOCK_DIAG, REQUEST))
+    capture += bytes.fromhex(SECTION + NANOSECONDS + UNKNOWN + SIMPLE)
+    capture += enhanced("<", SOCK_DIAG, REQUEST)
+    times = ["1970-01-01T00:00:07.000009000Z", "1970-01-01T00:00:00.007000009Z"]
+    lines = [f"-- {time} unix states:0xffffffff\n" for time in times]
+    sslist.run(capture, ["--requests"], lines)
+
+
+def reports_where_a_file_is_truncated(sslist):
+    """A pcapng file that is truncated at any byte has the lines of its complete packets, and an
+    error with the position."""
+    first = section(1, (SOCK_DIAG, UNIX))
+    capture, whole = first + section(0, (SOCK_DIAG, INET6)), len(first)
+    ends = {28, 48, whole, whole + 28, whole + 48}
+    for length in range(len(capture)):
+        errors, lines = truncation_errors(length, 28, ends, whole), [UNIX_LINE]
+        sslist.run(capture[:length], lines=lines if length >= whole else None, errors=errors)
+
+
+def reports_invalid_blocks(sslist):
+    """The texts of errors about blocks, with their offsets."""
+    for block, error in INVALID:
+        sslist.fails(STARTS[0], block, errors=[f"packet 1: {error}"])
+    sslist.fails("0a0d0d0a1c000000000000000000",
+                 errors=["unknown byte order of the section at offset 0"])
+    sslist.fails(SECTION, SIMPLE, errors=["packet 1: unknown interface of the packet at offset 28"])
+
+
+def main():
+    sslist = Lister(sys.argv[1])
+    for check in (
+        lists_captures_of_both_orders, lists_other_families, lists_attributes_of_newer_kernels,
+        lists_short_tcp_info, shows_names_in_utf8, lists_objects, lists_requests,
+        lists_a_long_datagram, reports_where_a_capture_is_truncated, reports_why,
+        lists_sections_of_both_orders, lists_times_of_requests, reports_where_a_file_is_truncated,
+        reports_invalid_blocks,
+    ):
+        check(sslist)
+    print(f"captures: {sslist.runs} runs as expected")
+
+
+if __name__ == "__main__":
+    main()
