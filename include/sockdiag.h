@@ -17,7 +17,7 @@
  *
  * The library does not allocate, opens no files or sockets, and has no state between calls. So any
  * thread may call it at any time, with memory that meets the requirements below. It needs at most
- * memcpy, memmove and memset of the C library.
+ * memcpy, memmove and memset of the system (libc).
  *
  * The caller has to ensure the following, and nothing checks it:
  * - A pointer to bytes is valid for the length in bytes that the parameter next to it gives. The
