@@ -30,7 +30,7 @@
  *   a call only reads is not written during the call.
  *
  * A struct or number that a call returns need not be initialized, or set to zeros: no return value
- * depends on its contents. What the call does not set is unchanged. That is:
+ * depends on its contents. These are left unchanged:
  * - all of it, if a check, a sockdiag_.._get_details or a sockdiag_.._get_lenient_details returns
  *   the code of an error; if a getter of a single value, which is sockdiag_unix_get_pending,
  *   sockdiag_get_error_number, sockdiag_find_error_attributes and each call of the section "values
@@ -519,7 +519,7 @@ struct sockdiag_reply {
 /*
  * Checks a whole reply about a UNIX socket, with its attributes, and returns its header. The bytes
  * are the payload of the netlink message. Returns 0, or the code of the first error; then the
- * header is unchanged.
+ * header is unchanged. The family, the first byte, is not checked: use it to choose the call.
  *
  * An attribute with an invalid value makes the whole reply invalid. UNIX_DIAG_MEMINFO with fewer
  * than 36 bytes, which old kernels send, has SOCKDIAG_BUFFER_TOO_SMALL.
@@ -647,6 +647,7 @@ struct sockdiag_inet_details {
  * Returns 0, and sets all fields; or the code of the first error, and then the details are
  * unchanged. The previous contents of the details are not read. If the reply has several attributes
  * of a kind, the first one counts. Texts point into the payload, and are valid as long as it is.
+ * The family, the first byte, is not checked: use it to choose the call.
  *
  * Attributes without a field, such as UNIX_DIAG_UID, are not an error: sockdiag_next_attribute
  * returns them. Old kernels send values that are rejected: sockdiag_unix_get_lenient_details
@@ -1065,6 +1066,7 @@ size_t sockdiag_inet_get_memory(const uint8_t *payload, size_t length,
  * - netlink sockets: NETLINK_DIAG_MEMINFO (0) and NETLINK_DIAG_FLAGS (4) of linux/netlink_diag.h;
  * - packet sockets: PACKET_DIAG_INFO (0), PACKET_DIAG_RX_RING (2), PACKET_DIAG_TX_RING (3),
  *   PACKET_DIAG_FANOUT (4), PACKET_DIAG_UID (5) and PACKET_DIAG_MEMINFO (6) of linux/packet_diag.h;
+ * - vsock sockets: none;
  * - XDP sockets: 1 to 9, from XDP_DIAG_INFO to XDP_DIAG_STATS of linux/xdp_diag.h.
  */
 struct sockdiag_rejections {
@@ -1089,7 +1091,8 @@ struct sockdiag_rejections {
  * What follows a framing error is not parsed. The bytes are the payload of the netlink message.
  * Returns 0, and sets all fields of the details and of the rejections; or the code of the error of
  * the header, and then both are unchanged. The previous contents of both are not read. What is not
- * rejected is as sockdiag_unix_get_details describes it.
+ * rejected is as sockdiag_unix_get_details describes it. The family, the first byte, is not
+ * checked: use it to choose the call.
  *
  * Use this call to list sockets: a value that this library does not accept, such as the
  * UNIX_DIAG_MEMINFO of an old kernel, hides only itself, and not its socket.

@@ -87,7 +87,7 @@ fn warn_of_absence(folders: &[PathBuf]) {
     println!(
         "cargo::warning=libsockdiag.a not found in {}{}; only cargo doc and cargo check work \
          without it: install it by tools/install, and set SOCKDIAG_LIB_DIR to the absolute path of \
-         its folder",
+         its folder, or copy the folder lib of the release two folders above the crate",
         searched.collect::<Vec<_>>().join(" or "),
         if is_set() { "" } else { " or by pkg-config" }
     );

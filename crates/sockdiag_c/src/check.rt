@@ -17,7 +17,7 @@ pub(crate) const OK: u32 = 0;
 
 /// Checks a whole reply about a UNIX socket, with its attributes, and returns its header. The bytes
 /// are the payload of the netlink message. Returns 0, or the code of the first error; then the
-/// header is unchanged.
+/// header is unchanged. The family, the first byte, is not checked: use it to choose the call.
 ///
 /// An attribute with an invalid value makes the whole reply invalid. `UNIX_DIAG_MEMINFO` with fewer
 /// than 36 bytes, which old kernels send, has `SOCKDIAG_BUFFER_TOO_SMALL`.

@@ -158,7 +158,7 @@ pub(crate) trait ReplyDetails<'a>: Copy {
 /// Returns 0, and sets all fields; or the code of the first error, and then the details are
 /// unchanged. The previous contents of the details are not read. If the reply has several
 /// attributes of a kind, the first one counts. Texts point into the payload, and are valid as long
-/// as it is.
+/// as it is. The family, the first byte, is not checked: use it to choose the call.
 ///
 /// Attributes without a field, such as `UNIX_DIAG_UID`, are not an error: `sockdiag_next_attribute`
 /// returns them. Old kernels send values that are rejected: `sockdiag_unix_get_lenient_details`

@@ -54,6 +54,7 @@ pub const REJECTION_KINDS: usize = 32;
 /// - packet sockets: `PACKET_DIAG_INFO` (0), `PACKET_DIAG_RX_RING` (2), `PACKET_DIAG_TX_RING` (3),
 ///   `PACKET_DIAG_FANOUT` (4), `PACKET_DIAG_UID` (5) and `PACKET_DIAG_MEMINFO` (6) of
 ///   `linux/packet_diag.h`;
+/// - vsock sockets: none;
 /// - XDP sockets: 1 to 9, from `XDP_DIAG_INFO` to `XDP_DIAG_STATS` of `linux/xdp_diag.h`.
 #[repr(C)]
 #[derive(Clone, Copy)]
@@ -122,7 +123,8 @@ impl Rejections {
 /// What follows a framing error is not parsed. The bytes are the payload of the netlink message.
 /// Returns 0, and sets all fields of the details and of the rejections; or the code of the error of
 /// the header, and then both are unchanged. The previous contents of both are not read. What is not
-/// rejected is as `sockdiag_unix_get_details` describes it.
+/// rejected is as `sockdiag_unix_get_details` describes it. The family, the first byte, is not
+/// checked: use it to choose the call.
 ///
 /// Use this call to list sockets: a value that this library does not accept, such as the
 /// `UNIX_DIAG_MEMINFO` of an old kernel, hides only itself, and not its socket.

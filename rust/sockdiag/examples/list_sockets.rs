@@ -44,7 +44,7 @@ struct Address {
     groups: u32,
 }
 
-extern "C" {
+unsafe extern "C" {
     fn socket(family: i32, kind: i32, protocol: i32) -> i32;
     fn connect(fd: i32, address: *const Address, length: u32) -> i32;
     fn getsockname(fd: i32, address: *mut Address, length: *mut u32) -> i32;

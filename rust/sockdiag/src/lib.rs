@@ -3,8 +3,8 @@
 //! This crate has safe bindings of `libsockdiag`, a library of functions that are proved to return
 //! what their contracts say. [No Rust code of this crate is proved](#what-is-proved). This crate
 //! does not allocate and opens no socket. It has no dependencies and no features. Replies are
-//! borrowed from the bytes that were parsed. All types are `Send` and `Sync`; those with a type
-//! parameter are so if it is. The only target is Linux on x86-64.
+//! borrowed from the bytes that were parsed. All types are `Send` and `Sync`; a generic type is, if its
+//! parameter is. The only target is Linux on x86-64.
 //!
 //! # A dump
 //!
@@ -12,8 +12,8 @@
 //! to it. It sends a request, and reads datagrams until a message ends the answer. A loop over the
 //! messages continues after a reply that is rejected. One rejected attribute makes a reply invalid:
 //! [`RejectedMessage::lenient`] returns its socket with the other attributes, so that no socket is
-//! lost on old kernels. After the end, repeat the request if the dump was interrupted;
-//! [`AnswerCheck`] has what is not reported. A `RejectedMessage` without a header is a framing
+//! lost on old kernels. After the end, repeat the request if the dump was interrupted; the
+//! documentation of [`AnswerCheck`] says what the kernel does not report. A `RejectedMessage` without a header is a framing
 //! error: the rest of the datagram is lost, and possibly the end, so repeat the request on another
 //! socket. `examples/list_sockets.rs` is a complete program.
 //!
@@ -47,8 +47,9 @@
 //! #     4, 5, 6, 7, 8, 8, 0, 5, 0, 0, 0, 0, 0,
 //! # ];
 //! # let datagram = &[memory, datagram].concat()[..];
-//! // This datagram has a reply with a short UNIX_DIAG_MEMINFO, a reply whose header is too short,
-//! // another reply, and the end of the dump.
+//! // `datagram` has the bytes that recv(2) returned: here a reply with a short
+//! // UNIX_DIAG_MEMINFO, a reply whose header is too short, another reply, and the end of the dump.
+//!
 //! // The port id of the socket, which getsockname(2) returns in nl_pid.
 //! let port_number = 9;
 //! let mut answer = AnswerCheck::new(header.sequence_number, port_number);
@@ -95,7 +96,9 @@
 //! | the messages of a datagram and the attributes of a reply, as offsets, lengths and types; framing errors | the slices of these; [`Numbers`]; [`AnswerCheck`] |
 //! | which payload of a family is accepted; [`DecodeError`] with its numbers | the choice of the function by the message type and the family; texts |
 //! | the numbers and the bytes of addresses in each header | [`inet::Timer`], IP addresses |
-//! | the getters of a reply, except those named on the right | the values of `nlas`, which are decoded a second time, with all [`nlas::MemInfo`](inet::nlas::MemInfo) of UNIX and internet sockets; `pending_connections`; which queue getters of a UNIX socket return `None`; `tcp_info` of a lenient reply whose first `INET_DIAG_INFO` is short; [`inet::TcpInfoBytes`] |
+//! | the getters of a reply, except those of the next two rows | the values of `nlas`, which are decoded a second time, also names (`UnixDiagName`) and [`nlas::MemInfo`](inet::nlas::MemInfo) |
+//! | the bytes of `UNIX_DIAG_ICONS` and of `INET_DIAG_INFO` | `pending_connections`; [`inet::TcpInfoBytes`]; `tcp_info` of a lenient reply whose first `INET_DIAG_INFO` is short |
+//! | the two numbers of `UNIX_DIAG_RQLEN` | which queue getters of a UNIX socket return `None` |
 //! | the fields of [`netlink`], [`packet`], [`vsock`] and [`xdp`] replies | `None` for what a reply does not contain |
 //! | the values of single attributes, such as `parse_uid` and [`inet::BbrInfo`] | which attribute of a reply a getter of these takes |
 //! | which kinds of a lenient reply are rejected, and the error of each attribute | the iterator [`RejectedAttributes`] |
@@ -106,8 +109,10 @@
 //!
 //! # From `netlink-packet-sock-diag`
 //!
-//! A lister that sends requests and parses replies only has to change its imports and its `match`
-//! arms: `tests/ported.rs` is an example. Items that both crates have, have the same names. These
+//! A lister that sends requests and parses replies compiles after a change of its imports and its
+//! `match` arms: `tests/ported.rs` is an example. Then replace its loop over `deserialize` by one
+//! over [`Dump`], which continues after a rejected reply. Items that both crates have, have the same
+//! names. These
 //! are the constants (also exported at the root), the flags, the requests, `SocketId`, the headers,
 //! `nlas`, [`NetlinkMessage`] with `new`, `finalize`, `buffer_len`, `serialize` and `deserialize`,
 //! and `InetResponse` and `UnixResponse` with their getters. The last two are aliases of
@@ -148,6 +153,7 @@
 //! | `SocketId::new_v4()` has a cookie of zeros | its cookie is `[0xff; 8]`, which matches any, as is that of `UnixRequest::default()`. The kernel compares it if a single socket is requested |
 //! | flags have the methods of `bitflags` | flags have `empty`, `all`, `from_bits`, `from_bits_retain`, `from_bits_truncate`, `bits`, `is_empty`, `contains`, `insert`, `remove`, `\|` and `\|=` |
 //! | `DecodeError` contains texts | [`DecodeError`] is an enum of the errors with their lengths, kinds and numbers; both implement `Display` |
+//! | `send_queue_size()` returns the first number of `ReceiveQueueLength` if the socket is listening, and else `None` | it returns the second number if the socket is not listening, and else `None` |
 //! | panics on some input | does not panic |
 //!
 //! In addition, [`Dump`] iterates over a whole datagram, [`AnswerCheck`] checks that its messages
@@ -159,8 +165,8 @@
 //!
 //! [`unix::LenientUnixReply`], [`inet::LenientInetReply`] and their siblings for four more families
 //! accept a reply of which attributes are rejected: they have the fields and the getters of the
-//! strict replies, and [`rejected`](LenientReply::rejected), which yields the other attributes with
-//! their errors.
+//! strict replies, and [`rejected`](LenientReply::rejected), which yields the rejected attributes,
+//! each with its error.
 //! [`inet::TcpInfoBytes`] has the 68 fields of `struct tcp_info` of Linux 6.18, as far as a kernel
 //! sends them. Getters of replies have the values that `nlas` yields as `Other`: the cgroup, the
 //! options of the socket, the measurements of Vegas, DCTCP and BBR, MD5 signature keys, SCTP

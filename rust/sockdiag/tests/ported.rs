@@ -1,5 +1,6 @@
 //! A lister as one writes it for `netlink-packet-sock-diag`, over a stand-in for the kernel.
-//! Only its imports and the lines marked `here` are specific to this crate.
+//! Only its imports and the lines marked `here` are specific to this crate. It shows what compiles,
+//! not what to copy: it stops at the first rejected reply, and requests not all states.
 
 mod common;
 
@@ -28,7 +29,7 @@ impl Kernel {
     }
 }
 
-// There the header has fields that no literal may name.
+// There the header is `#[non_exhaustive]`: no literal may name its fields.
 #[allow(clippy::field_reassign_with_default)]
 fn request(payload: SockDiagMessage) -> Vec<u8> {
     let mut header = NetlinkHeader::default();
