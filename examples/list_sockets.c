@@ -9,8 +9,8 @@
  * socket: the line ends with its kind and its error. Only a short INET_DIAG_INFO of TCP is not
  * reported if it contains the round-trip time. A reply whose header is rejected is reported, and
  * the dump continues. A dump that was interrupted, or of which data was lost, is requested again,
- * up to ten times in all; only the lines of the last dump are printed. The exit status is 0 if every
- * reply was listed and the last dump of each request was complete, 1 if not, and 2 for wrong
+ * up to ten times in all; only the lines of the last dump are printed. The exit status is 0 if
+ * every reply was listed and the last dump of each request was complete, 1 if not, and 2 for wrong
  * arguments. A protocol that the kernel lacks is reported, and is not a failure. Sockets that open
  * or close during a dump may be missing or listed twice with status 0 too: the kernel does not
  * report it. The program is valid C99 and C++.

@@ -57,7 +57,7 @@ NOT_RUN = {
     r"(SOCKDIAG_\w+=\S+ )?cargo ": "it needs the built library; tests/api/rust_api.sh runs cargo",
     r"cc .*tests/api/fuzz_c\.c|out/fuzz_c": "it needs the library; tests/api/c_api.sh runs both",
     r"tests/(api/\w+_api|live/compare_lenient)\.sh": "it needs the library; the gate runs it later",
-    r"tests/(programs|pages)\.py": "the gate runs both",
+    r"tests/(captures|pages|programs)\.py": "the gate runs them",
     r"python3 tests/believed\.py$": "the gate runs it",
     r"tests/edits\.sh": "it proves each crate again",
     r"bench/": "it needs valgrind, and takes minutes",

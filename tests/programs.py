@@ -156,6 +156,11 @@ def test_sslist(program):
         (["-q", CAPTURE], 2, b"", unknown % b"-q"),
         (["-tlnp", "-q"], 2, b"", unknown % (b"-p in -tlnp" + no_processes)),
         (["-p"], 2, b"", unknown % (b"-p" + no_processes)),
+        (["--processes"], 2, b"", unknown % (b"--processes" + no_processes)),
+        (["-ts"], 2, b"", unknown % b"-s in -ts; to count sockets, count the lines of -HO"),
+        (["-r"], 2, b"", unknown % b"-r; names are never resolved"),
+        (["-A"], 2, b"", unknown % b"-A; select sockets by -t, -u, -M, -x, -0 or -f FAMILY"),
+        (["dst"], 1, b"", rb"sslist: dst: .*; addresses cannot be filtered: .*\n"),
         (["-tqf", "x"], 2, b"", unknown % b"-q in -tqf"),
         (["-\u00e9"], 2, b"", unknown % rb"-\\xc3 in -\\xc3\\xa9"),
         (["-t", "--no", "--help"], 2, b"", unknown % b"--no"),
@@ -215,7 +220,7 @@ def test_early_check(program):
     for arguments in (
         ["-q"], ["--nope"], ["-tq", "--help"], ["--utf8=1"], ["/nowhere", "-q"], ["/nowhere"],
         ["/", "/nowhere"], [""], [f"{CAPTURE}/x"], ["-tun", "/nowhere"], ["-tlnp"], ["-p"],
-        ["-n=1"], ["-\u00e9"],
+        ["-n=1"], ["-s"], ["-tr"], ["-A"], ["--processes"], ["-\u00e9"],
         ["-ft"], ["-finet", "x"], ["-tff"], ["-fq"], ["-hq"], ["-tV"], ["-t\n"], ["--=1"],
         ["--sport", "22"], ["--state"], ["--family", "-q"], ["--help=1"], ["--json="],
         ["--tcp=1"], ["--no-header=", "-t"], ["--tcpx"], ["--all", "--numeric", "-q"],
@@ -612,7 +617,8 @@ def check_ports(program, capture, heading, rows, errors):
         assert 0 < len(chosen) < len(rows), arguments
         check(program, ["-O", *arguments], capture, 0, heading + b"".join(chosen), errors)
     for word in ("--sport=", "--sport=65536", "--dport=ssh", "--dport=1-2", "--state=UNKNOWN"):
-        wrong = f"invalid port in {word}: a port is N, N- or -N, not a range or a name"
+        form = "a port is N, N- or -N, where N is 0 to 65535, not a range or a name"
+        wrong = f"invalid port in {word}: {form}"
         if word.startswith("--state"):
             form = "states are named as in the column State, such as LISTEN, one in each option"
             wrong = f"unknown state in {word}: {form}"

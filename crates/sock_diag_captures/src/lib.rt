@@ -70,8 +70,9 @@ Usage: sslist [OPTION ..] [FILE ..]
 
 Lists the sockets in captures of netlink traffic: in each FILE, or in standard
 input if there is none, or if FILE is -. A capture is in pcap or pcapng format,
-as written by tcpdump -i nlmon0 -w -, or by the example sockdump, which records
-the sockets of this machine: sockdump | sslist. Arguments after -- are files.
+as written by tcpdump -i nlmon0 -w -, or by sockdump, which records the sockets
+of this machine: sockdump | sslist. It is not installed: build it from the file
+examples/sockdump.c of the release. Arguments after -- are files.
 
 Select sockets (several options add up):
   -t, --tcp              TCP sockets
@@ -90,8 +91,8 @@ Select sockets (several options add up):
 
 Filter sockets (a socket is listed if it meets all of these):
       --state=STATE      in this state; several options add up
-      --sport=PORT       with this local port
-      --dport=PORT       with this remote port
+      --sport=PORT       IPv4 and IPv6 sockets with this local port
+      --dport=PORT       IPv4 and IPv6 sockets with this remote port
   STATE is established (or estab), syn-sent, syn-recv (or syn-rcv), fin-wait-1,
   fin-wait-2, time-wait, closed (or close, unconnected, unconn), close-wait,
   last-ack, listening (or listen) or closing; or a group: all, connected (all
@@ -99,7 +100,8 @@ Filter sockets (a socket is listed if it meets all of these):
   (syn-recv and time-wait), big (all but bucket). Case does not matter. Such an
   option replaces -l and -a.
   PORT is a number, not a name: N is port N, N- is N or more, -N is N or less.
-  Filters as in ss(8), such as state listening, would be names of files.
+  Of several for the same port the last one counts. Filters written as in ss(8),
+  such as state listening, are taken as names of files.
 
 Select details (all by default; several options add up):
   -o, --options          the timer

@@ -20,6 +20,9 @@ const LONGEST_ARGUMENT: usize = 131_072;
 /// What follows the error about a word of a filter of ss(8) that is not the name of a file.
 const FILTER_HINT: &str = "; a filter is written --state=STATE, --sport=PORT or --dport=PORT";
 
+/// What follows the error about a word of a filter of ss(8) that is about addresses.
+const ADDRESS_HINT: &str = "; addresses cannot be filtered: select lines of --json";
+
 fn main(rt: HostRuntime) -> ExitCode {
     let mut arguments = match env::args(&rt) {
         Ok(arguments) => arguments,
@@ -97,7 +100,9 @@ fn list_file(rt: &HostRuntime, options: Options, name: &str, heading: &[u8]) -> 
     match File::open(rt, name) {
         Ok(file) => list(rt, options, front.as_str(), heading, file),
         Err(error) => {
-            let hint = if is_filter_word(name) {
+            let hint = if matches!(name, "src" | "dst") {
+                ADDRESS_HINT
+            } else if is_filter_word(name) {
                 FILTER_HINT
             } else {
                 ""
@@ -115,11 +120,7 @@ fn is_filter_word(name: &str) -> bool {
         Some((word, _)) => word,
         None => name,
     };
-    name.contains('=')
-        || matches!(
-            word,
-            "state" | "exclude" | "sport" | "dport" | "src" | "dst"
-        )
+    name.contains('=') || matches!(word, "state" | "exclude" | "sport" | "dport")
 }
 
 /// Lists the capture on standard input. A terminal is rejected, since nobody types a capture.
@@ -185,6 +186,10 @@ fn reject(rt: &HostRuntime, reason: Rejection, argument: &str) -> ExitCode {
 fn rejection_text(alloc: Global, reason: Rejection, argument: &str) -> Result<String, AllocError> {
     let shown = escaped(alloc, argument.as_bytes())?;
     match reason {
+        Rejection::UnknownOption if argument == "--processes" => {
+            let reason = reason_of(b'p');
+            format!(in alloc; "unknown option {shown}{reason}")
+        }
         Rejection::UnknownOption => format!(in alloc; "unknown option {shown}"),
         Rejection::UnknownLetter(letter) => unknown_letter_text(alloc, letter, argument),
         Rejection::MisplacedLetter(b'f') => {
@@ -210,7 +215,7 @@ fn rejection_text(alloc: Global, reason: Rejection, argument: &str) -> Result<St
             format!(in alloc; "unknown state in {shown}: {form}")
         }
         Rejection::InvalidPortValue => {
-            let form = "a port is N, N- or -N, not a range or a name";
+            let form = "a port is N, N- or -N, where N is 0 to 65535, not a range or a name";
             format!(in alloc; "invalid port in {shown}: {form}")
         }
     }
@@ -219,11 +224,7 @@ fn rejection_text(alloc: Global, reason: Rejection, argument: &str) -> Result<St
 /// Returns the text about an argument of joined letters, of which this one is not an option.
 fn unknown_letter_text(alloc: Global, letter: u8, argument: &str) -> Result<String, AllocError> {
     let shown = escaped(alloc, argument.as_bytes())?;
-    let reason = if letter == b'p' {
-        "; a capture has no processes"
-    } else {
-        ""
-    };
+    let reason = reason_of(letter);
     if letter == b'=' {
         let name = escaped(alloc, name_of_option(argument).as_bytes())?;
         return format!(in alloc; "{name} takes no value");
@@ -234,6 +235,17 @@ fn unknown_letter_text(alloc: Global, letter: u8, argument: &str) -> Result<Stri
     }
     let letter = escaped(alloc, &[letter])?;
     format!(in alloc; "unknown option -{letter} in {shown}{reason}")
+}
+
+/// Returns what follows the error about a letter that is an option of ss(8), and not of sslist.
+fn reason_of(letter: u8) -> &'static str {
+    match letter {
+        b'p' => "; a capture has no processes",
+        b's' => "; to count sockets, count the lines of -HO",
+        b'A' => "; select sockets by -t, -u, -M, -x, -0 or -f FAMILY",
+        b'r' => "; names are never resolved",
+        _ => "",
+    }
 }
 
 /// Returns what the usage calls the value of an option.

@@ -3,8 +3,8 @@
 //! This crate has safe bindings of `libsockdiag`, a library of functions that are proved to return
 //! what their contracts say. [No Rust code of this crate is proved](#what-is-proved). This crate
 //! does not allocate and opens no socket. It has no dependencies and no features. Replies are
-//! borrowed from the bytes that were parsed. All types are `Send` and `Sync`; a generic type is, if its
-//! parameter is. The only target is Linux on x86-64.
+//! borrowed from the bytes that were parsed. All types are `Send` and `Sync`; a generic type is, if
+//! its parameter is. The only target is Linux on x86-64.
 //!
 //! # A dump
 //!
@@ -13,9 +13,9 @@
 //! messages continues after a reply that is rejected. One rejected attribute makes a reply invalid:
 //! [`RejectedMessage::lenient`] returns its socket with the other attributes, so that no socket is
 //! lost on old kernels. After the end, repeat the request if the dump was interrupted; the
-//! documentation of [`AnswerCheck`] says what the kernel does not report. A `RejectedMessage` without a header is a framing
-//! error: the rest of the datagram is lost, and possibly the end, so repeat the request on another
-//! socket. `examples/list_sockets.rs` is a complete program.
+//! documentation of [`AnswerCheck`] says what the kernel does not report. A `RejectedMessage`
+//! without a header is a framing error: the rest of the datagram is lost, and possibly the end, so
+//! repeat the request on another socket. `examples/list_sockets.rs` is a complete program.
 //!
 //! The datagrams of a dump have at most 32 KiB. recv(2) cuts a longer datagram than the buffer
 //! silently: use 64 KiB, and treat a datagram that fills the buffer as cut.
@@ -111,9 +111,9 @@
 //!
 //! A lister that sends requests and parses replies compiles after a change of its imports and its
 //! `match` arms: `tests/ported.rs` is an example. Then replace its loop over `deserialize` by one
-//! over [`Dump`], which continues after a rejected reply. Items that both crates have, have the same
-//! names. These
-//! are the constants (also exported at the root), the flags, the requests, `SocketId`, the headers,
+//! over [`Dump`], which continues after a rejected reply. Items that both crates have, have the
+//! same names. These are the constants (also exported at the root), the flags, the requests,
+//! `SocketId`, the headers,
 //! `nlas`, [`NetlinkMessage`] with `new`, `finalize`, `buffer_len`, `serialize` and `deserialize`,
 //! and `InetResponse` and `UnixResponse` with their getters. The last two are aliases of
 //! [`inet::InetReply`] and [`unix::UnixReply`].
