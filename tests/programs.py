@@ -415,7 +415,7 @@ def test_pcapng(program):
     for length in range(1, 600):
         ended, printed, why = run(program, [], written[:length])
         assert ended in (0, 1) and table.startswith(printed), length
-        text = b" fewer than 4 bytes\n" if length < 4 else b" truncated\n"
+        text = b" fewer than 4 bytes\n" if length < 4 else b" truncated; "
         assert bool(ended) == bool(why) and (not ended or text in why), (length, why)
     long = pcapng.block("<", pcapng.UNKNOWN, bytes((1 << 24) - 12))
     start = len(pcapng.section("<"))
