@@ -1,4 +1,3 @@
-pub mod Lenient
 pub mod Models
 pub mod TcpFields
 pub mod RecordTable

@@ -1,24 +1,9 @@
 -- The models of borrowed values and of iterators. Contracts refer to values by their models.
 use Rattle.std.specs.Prelude.{ℕ, ℤ, List}
-use Rattle.netlink_core.specs.Walk.{unread_bytes}
 use Rattle.sock_diag_extras.specs.declared.acknowledgement.AckView.{AckView}
-use Rattle.sock_diag_extras.specs.declared.lenient.LenientNlas.{LenientNlas}
-use Rattle.sock_diag_extras.specs.declared.lenient.LenientReply.{LenientReply}
 use Rattle.sock_diag_extras.specs.declared.nested.NestedNlas.{NestedNlas}
 use Rattle.sock_diag_extras.specs.declared.records.AttributeRecords.{AttributeRecords}
 use Rattle.sock_diag_extras.specs.declared.tcp_info.TcpInfoBytes.{TcpInfoBytes}
-
--- The bytes that a lenient iterator over attributes has not parsed yet.
-abbrev pub unread_lenient_bytes : {V : Type 0} → LenientNlas V → List ℕ
-unread_lenient_bytes nlas = unread_bytes nlas.walk
-
--- The header of a lenient reply.
-abbrev pub lenient_header : {H : Type 0} → LenientReply H → H
-lenient_header reply = reply.header
-
--- The bytes after the header of a lenient reply.
-abbrev pub lenient_bytes : {H : Type 0} → LenientReply H → List ℕ
-lenient_bytes reply = reply.bytes.now
 
 -- The bytes of nested attributes.
 abbrev pub nested_bytes : NestedNlas → List ℕ

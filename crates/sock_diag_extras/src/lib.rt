@@ -1,6 +1,5 @@
-//! The parts of sock_diag(7) that the port of the Rust crate leaves out: replies with a rejected
-//! attribute, all of `struct tcp_info`, attributes that the port has no kind for, extended
-//! acknowledgements, and constants.
+//! The parts of sock_diag(7) that the port of the Rust crate leaves out: all of `struct tcp_info`,
+//! attributes that the port has no kind for, extended acknowledgements, and constants.
 //!
 //! This is an extension crate. It changes nothing of the port.
 #![tactic(auto)]
@@ -11,7 +10,6 @@ mod congestion;
 pub mod constants;
 mod exact;
 pub mod laws;
-mod lenient;
 mod md5_signature;
 mod nested;
 mod numbers;
@@ -25,9 +23,6 @@ mod ulp_info;
 
 pub use acknowledgement::{AckAttributes, AckView};
 pub use congestion::{BbrInfo, DctcpInfo, VegasInfo};
-pub use lenient::{
-    LenientError, LenientHeader, LenientInetReply, LenientNlas, LenientReply, LenientUnixReply,
-};
 pub use md5_signature::Md5Signature;
 pub use nested::NestedNlas;
 pub use numbers::{parse_cgroup_id, parse_uid};

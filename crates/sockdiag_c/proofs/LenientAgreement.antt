@@ -8,7 +8,7 @@ use Rattle.netlink_core.specs.Attribute.{IsFirstAttributeError, SplitsIntoAttrib
 use Rattle.netlink_core.specs.Attribute.{SplitsUntilError, StartsWithAttribute}
 use Rattle.netlink_core.proofs.Iterating.{StartsWithAttribute-nonempty, attribute_prefix_of_start}
 use Rattle.netlink_core.proofs.Iterating.{error_after_attribute}
-use Rattle.sock_diag_extras.specs.Lenient.{HasLenientItemsBy, RejectionModel, lenient_item_by}
+use Rattle.sock_diag_lenient.specs.Lenient.{HasLenientItemsBy, RejectionModel, lenient_item_by}
 use Rattle.sockdiag_c.specs.LenientDetails.{AgreesWithStrictParseBy}
 
 module _ {V : Type 0} (decode : Attribute → Result V DecodeError) where

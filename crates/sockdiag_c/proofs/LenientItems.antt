@@ -8,9 +8,9 @@ use Rattle.std.specs.Result.{result_ok, result_err}
 use Rattle.netlink_core.specs.declared.error.DecodeError.{DecodeError}
 use Rattle.netlink_core.specs.Attribute.{Attribute, IsFramingError, StartsWithAttribute}
 use Rattle.netlink_core.specs.Errors.{error_code}
-use Rattle.sock_diag_extras.specs.Lenient.{HasLenientItemsBy, RejectionModel, lenient_item_by}
-use Rattle.sock_diag_extras.proofs.CompleteLenientIteration.{framing_error_is_last}
-use Rattle.sock_diag_extras.proofs.CompleteLenientIteration.{items_from_first}
+use Rattle.sock_diag_lenient.specs.Lenient.{HasLenientItemsBy, RejectionModel, lenient_item_by}
+use Rattle.sock_diag_lenient.proofs.CompleteLenientIteration.{framing_error_is_last}
+use Rattle.sock_diag_lenient.proofs.CompleteLenientIteration.{items_from_first}
 use Rattle.sock_diag_replies.specs.UnixGetters.{first_content_of}
 use Rattle.sockdiag_c.specs.LenientDetails.{HasRejections, accepted_values}
 use Rattle.sockdiag_c.specs.LenientDetails.{code_of_any, code_of_framing, code_of_kind, first_code}

@@ -9,7 +9,7 @@ use Rattle.netlink_core.specs.Attribute.{Attribute, DecodeTo, HasAttributeError,
 use Rattle.netlink_core.specs.AttributeSet.{AttributeSet, AttributeValue, decode_attribute}
 use Rattle.netlink_core.specs.Errors.{error_code}
 use Rattle.netlink_core.specs.Response.{ResponseSpec}
-use Rattle.sock_diag_extras.specs.Lenient.{HasLenientItemsBy, RejectionModel}
+use Rattle.sock_diag_lenient.specs.Lenient.{HasLenientItemsBy, RejectionModel}
 use Rattle.sock_diag_replies.specs.UnixGetters.{first_content_of}
 use Rattle.sockdiag_c.specs.declared.lenient.Rejections.{Rejections}
 use Rattle.sockdiag_c.specs.declared.lenient.TheConstants.{REJECTION_KINDS}

@@ -11,7 +11,7 @@ ghost use Rattle.netlink_core.specs.Response.{ReplyValue, response_codec};
 ghost use Rattle.sock_diag_any.specs.RawReply.{raw_reply_spec};
 ghost use Rattle.sock_diag_attributes.specs.InetAttributes.{inet_attribute_set};
 ghost use Rattle.sock_diag_attributes.specs.UnixAttributes.{unix_attribute_set};
-ghost use Rattle.sock_diag_extras.specs.Lenient.{HasLenientItems};
+ghost use Rattle.sock_diag_lenient.specs.Lenient.{HasLenientItems};
 ghost use Rattle.sock_diag_replies.specs.UnixGetters.{first_content_of};
 ghost use Rattle.sock_diag_families.specs.NetlinkResponseHeader.{netlink_header};
 ghost use Rattle.sock_diag_families.specs.PacketResponseHeader.{packet_header};

@@ -5,7 +5,7 @@ ghost use Rattle.std.specs.Prelude.{◌≡◌, ◌<◌, ◌==◌, if◌then◌el
 ghost use Rattle.netlink_core.specs.Errors.{error_code};
 ghost use Rattle.netlink_core.specs.AttributeSet.{AttributeValue};
 ghost use Rattle.sock_diag_any.specs.RawReply.{raw_reply_spec};
-ghost use Rattle.sock_diag_extras.specs.Lenient.{HasLenientItemsBy};
+ghost use Rattle.sock_diag_lenient.specs.Lenient.{HasLenientItemsBy};
 ghost use Rattle.sock_diag_families.specs.NetlinkResponseHeader.{netlink_header};
 ghost use Rattle.sock_diag_families.specs.PacketResponseHeader.{packet_header};
 ghost use Rattle.sock_diag_families.specs.VsockResponseHeader.{vsock_header};

@@ -6,10 +6,11 @@ use super::{debug_text, gives, is_text, shows};
 use netlink_core::{DecodeError, FamilyView, NlaBuffer, NlasIterator};
 use sock_diag_extras::{
     AckAttributes, AckView, AttributeRecord, AttributeRecords, BbrInfo, BpfStorage, DctcpInfo,
-    LenientInetReply, LenientNlas, LenientUnixReply, Md5Signature, NestedNlas, SocketOption,
-    SocketOptions, StoredAddress, SubflowField, SubflowInfo, TcpField, TcpInfoBytes, TlsField,
-    TlsInfo, UlpInfo, VegasInfo, read_attribute_record, write_attribute_record,
+    Md5Signature, NestedNlas, SocketOption, SocketOptions, StoredAddress, SubflowField,
+    SubflowInfo, TcpField, TcpInfoBytes, TlsField, TlsInfo, UlpInfo, VegasInfo,
+    read_attribute_record, write_attribute_record,
 };
+use sock_diag_lenient::{LenientInetReply, LenientNlas, LenientUnixReply};
 use std::alloc::Global;
 use std::fmt::Debug;
 use std::process::Abort;

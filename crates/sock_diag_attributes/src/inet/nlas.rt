@@ -16,7 +16,7 @@ use netlink_core::{
     nla_len, parse_str,
 };
 use sock_diag_records::constants::*;
-pub use sock_diag_records::inet::nlas::{
+pub use sock_diag_values::inet::{
     LEGACY_MEM_INFO_LEN, LegacyMemInfo, LegacyMemInfoBuffer, MEM_INFO_EIGHT_LEN, MEM_INFO_LEN,
     MEM_INFO_SEVEN_LEN, MemInfo, MemInfoBuffer, MemInfoBytes, TCP_INFO_LEN, TcpInfo, TcpInfoBuffer,
 };

@@ -18,9 +18,7 @@ use netlink_core::{
     nla_len,
 };
 use sock_diag_records::constants::*;
-pub use sock_diag_records::unix::nlas::{
-    MEM_INFO_LEN, MemInfo, MemInfoBuffer, VFS_LEN, Vfs, VfsBuffer,
-};
+pub use sock_diag_values::unix::{MEM_INFO_LEN, MemInfo, MemInfoBuffer, VFS_LEN, Vfs, VfsBuffer};
 use std::alloc::{AllocError, Global};
 use std::default::MadeWith;
 

@@ -4,7 +4,7 @@ use Rattle.std.specs.Prelude.{◌==◌, slice_index}
 use Rattle.netlink_core.specs.Attribute.{attribute_kind}
 use Rattle.netlink_core.specs.Errors.{error_code}
 use Rattle.netlink_core.specs.Walk.{buffered_attribute}
-use Rattle.sock_diag_extras.specs.Lenient.{RejectionModel}
+use Rattle.sock_diag_lenient.specs.Lenient.{RejectionModel}
 use Rattle.sockdiag_c.proofs.LenientItems.{all_items, items_and_framing_error, kept_zero}
 use Rattle.sockdiag_c.proofs.LenientItems.{kind_added}
 use Rattle.sockdiag_c.proofs.LenientItems.{no_items_yet, no_more_value, one_more_item}

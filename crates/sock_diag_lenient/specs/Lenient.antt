@@ -7,10 +7,10 @@ use Rattle.netlink_core.specs.Attribute.{Attribute, SplitsIntoAttributes, Splits
 use Rattle.netlink_core.specs.Attribute.{IsFramingError, StartsWithAttribute}
 use Rattle.netlink_core.specs.AttributeSet.{AttributeSet, AttributeValue, decode_attribute}
 use Rattle.netlink_core.specs.Walk.{buffered_attribute}
-use Rattle.sock_diag_extras.specs.Models.{unread_lenient_bytes}
-use Rattle.sock_diag_extras.specs.declared.lenient.LenientNlas.{LenientNlas}
-use Rattle.sock_diag_extras.specs.declared.lenient.LenientError.{LenientError}
-use Rattle.sock_diag_extras.specs.declared.lenient.LenientError.TheVariants as refused
+use Rattle.sock_diag_lenient.specs.Models.{unread_lenient_bytes}
+use Rattle.sock_diag_lenient.specs.declared.lenient.LenientNlas.{LenientNlas}
+use Rattle.sock_diag_lenient.specs.declared.lenient.LenientError.{LenientError}
+use Rattle.sock_diag_lenient.specs.declared.lenient.LenientError.TheVariants as refused
 
 -- The model of a `LenientError`: the rejected attribute, or None for a framing error (bytes that do
 -- not start with an attribute); and the error.

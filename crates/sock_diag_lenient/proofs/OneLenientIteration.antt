@@ -9,7 +9,7 @@ use Rattle.netlink_core.specs.AttributeSet.{AttributeSet, AttributeValue}
 use Rattle.netlink_core.specs.laws.Prefix.{one_attribute_framing_error, prefix_or_error_apart}
 use Rattle.netlink_core.proofs.Iterating.{StartsWithAttribute-nonempty, attribute_prefix_of_start}
 use Rattle.netlink_core.proofs.Splitting.{one_first_attribute}
-use Rattle.sock_diag_extras.specs.Lenient.{HasLenientItems, RejectionModel, lenient_item_of}
+use Rattle.sock_diag_lenient.specs.Lenient.{HasLenientItems, RejectionModel, lenient_item_of}
 
 -- The bytes are these attributes, and then nothing (None) or bytes with a framing error.
 abbrev EndsWith : List ℕ → List Attribute → Option DecodeError → Type 0

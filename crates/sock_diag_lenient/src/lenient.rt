@@ -8,8 +8,8 @@ ghost use Rattle.std.specs.Iterator.SizeHint.{IsWithinCount};
 ghost use Rattle.netlink_core.specs.Attribute.{attribute_kind};
 ghost use Rattle.netlink_core.specs.Layout.{parse_record};
 ghost use Rattle.netlink_core.specs.Walk.{buffered_attribute};
-ghost use Rattle.sock_diag_extras.specs.Models.{lenient_bytes, lenient_header};
-ghost use Rattle.sock_diag_extras.specs.Models.{unread_lenient_bytes};
+ghost use Rattle.sock_diag_lenient.specs.Models.{lenient_bytes, lenient_header};
+ghost use Rattle.sock_diag_lenient.specs.Models.{unread_lenient_bytes};
 
 use netlink_core::{DecodeError, FamilyView, NlaBuffer, NlasIterator, Record, read_record};
 use sock_diag_attributes::inet::nlas::NlaView as InetNlaView;
@@ -28,7 +28,7 @@ pub enum LenientError<'a> {
 }
 
 impl<'a> LenientError<'a> {
-    ghost use Rattle.sock_diag_extras.specs.Lenient.{rejection_model};
+    ghost use Rattle.sock_diag_lenient.specs.Lenient.{rejection_model};
 
     /// Returns the error.
     pub fn error(&self) -> DecodeError
@@ -85,7 +85,7 @@ impl<'a, V> LenientNlas<'a, V> {
 }
 
 impl<'a, V: FamilyView<'a>> Iterator for LenientNlas<'a, V> {
-    ghost use Rattle.sock_diag_extras.specs.Lenient.{YieldsLenientItem};
+    ghost use Rattle.sock_diag_lenient.specs.Lenient.{YieldsLenientItem};
 
     type Item = Result<V, LenientError<'a>>;
 

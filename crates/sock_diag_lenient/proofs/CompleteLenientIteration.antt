@@ -12,11 +12,11 @@ use Rattle.attribute_lists.specs.AttributesIn.{HasNoAttributeError, decoded_in}
 use Rattle.attribute_lists.proofs.Finding.{value_first, rest_has_no_error}
 use Rattle.attribute_lists.proofs.FirstAttribute.{no_attribute_is_found}
 use Rattle.attribute_lists.proofs.Finding.{no_framing_error_in_attributes, first_attribute_decodes}
-use Rattle.sock_diag_extras.specs.Lenient.{YieldsLenientItem, HasLenientItems, RejectionModel}
-use Rattle.sock_diag_extras.specs.Lenient.{HasLenientItemsBy, lenient_item_by, lenient_item_of}
-use Rattle.sock_diag_extras.specs.Lenient.{lenient_item_model}
-use Rattle.sock_diag_extras.specs.declared.lenient.LenientNlas.{LenientNlas}
-use Rattle.sock_diag_extras.specs.declared.lenient.LenientError.{LenientError}
+use Rattle.sock_diag_lenient.specs.Lenient.{YieldsLenientItem, HasLenientItems, RejectionModel}
+use Rattle.sock_diag_lenient.specs.Lenient.{HasLenientItemsBy, lenient_item_by, lenient_item_of}
+use Rattle.sock_diag_lenient.specs.Lenient.{lenient_item_model}
+use Rattle.sock_diag_lenient.specs.declared.lenient.LenientNlas.{LenientNlas}
+use Rattle.sock_diag_lenient.specs.declared.lenient.LenientError.{LenientError}
 
 module _ {V : Type 0} (decode : Attribute → Result V DecodeError) where
   -- A list of items.
