@@ -243,7 +243,7 @@ OBJECTS = [
 
 # Errors that are expected at several places.
 EMPTY = "the input is empty; the program that wrote it may have failed"
-TOO_SHORT = "neither pcap nor pcapng, as sockdump and tcpdump write: it has fewer than 4 bytes"
+TOO_SHORT = "not a capture (pcap or pcapng, as tcpdump -w writes): it has fewer than 4 bytes"
 TRUNCATED = "the capture is truncated; if it is still being written, record it by tcpdump -U"
 
 # The first 16 bytes of a file header, and its last 8 with the snapshot length 100.
@@ -507,7 +507,7 @@ def reports_why(sslist):
         "packet 2: fewer than 16 bytes",
         "packet 3, message 1: dump interrupted (NLM_F_DUMP_INTR)",
         "packet 3, message 1: the kernel lost data",
-        "packet 4, message 1: note: the kernel returned ENOENT",
+        "packet 4, message 1: note: the kernel returned ENOENT (request: in an earlier packet)",
         "packet 5: truncated to 16 of 101 bytes",
         f"packet 6: {TRUNCATED}",
     ])

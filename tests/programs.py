@@ -303,11 +303,12 @@ def test_diagnostics(program):
     errno = {n: (-n).to_bytes(4, "little", signed=True) for n in (2, 13, 22)}
     packets = packet(errno[13], 0, 2, message(errno[22], 0, 2))
     packets += packet(bytes(4), 16, 3) + packet(errno[2], 0, 3)
+    earlier = " (request: in an earlier packet)"
     lines = [
-        "packet 1, message 1: the kernel returned error 13",
-        "packet 1, message 2: note: the kernel returned EINVAL",
+        f"packet 1, message 1: the kernel returned error 13{earlier}",
+        f"packet 1, message 2: note: the kernel returned EINVAL{earlier}",
         "packet 2, message 1: dump interrupted (NLM_F_DUMP_INTR)",
-        "packet 3, message 1: note: the kernel returned ENOENT",
+        f"packet 3, message 1: note: the kernel returned ENOENT{earlier}",
         "packet 4, message 1: UnixResponseHeader: buffer of 4 bytes, at least 16 needed",
         "packet 4, message 2: message length 3 is under 16",
     ]
@@ -320,17 +321,17 @@ def test_diagnostics(program):
     errors = b"(sslist: packet [1-4], message 1: note: .*\n){4}"
     check(program, [], file_header + b"".join(notes), 0, heading, errors)
     check_truncations(program, file_header, heading)
-    no_capture = b"neither pcap nor pcapng, as sockdump and tcpdump write: "
+    no_capture = b"not a capture (pcap or pcapng, as tcpdump -w writes): "
     truncated = b"the capture is truncated; if it is still being written, record it by tcpdump -U"
     for given, text in [
-        (b"\1\2\x0a\xff" + bytes(20), no_capture + b"its first four bytes are 0x01020aff"),
-        (b"hello\n", no_capture + b"its first four bytes are 0x68656c6c"),
+        (b"\1\2\x0a\xff" + bytes(20), no_capture + b"it begins with 0x01020aff"),
+        (b"hello\n", no_capture + b"it begins with 0x68656c6c"),
         (b"hi\n", no_capture + b"it has fewer than 4 bytes"),
         (b"BZh9\x17rE8P\x90", b"compressed by bzip2; decompress it first, with bzip2 -dc"),
         *[(start + bytes(20), f"compressed by {it}; decompress it first, with {it} -dc".encode())
             for start, it in [(b"\xfd7zX", "xz"), (b"\x28\xb5\x2f\xfd", "zstd")]],
         (b"\x1f\x8b\x08\0" + bytes(9), b"compressed by gzip; decompress it first, with gzip -dc"),
-        (b"BZx9" + bytes(20), no_capture + b"its first four bytes are 0x425a7839"),
+        (b"BZx9" + bytes(20), no_capture + b"it begins with 0x425a7839"),
         (file_header[:4], truncated), (file_header[:23], truncated),
         (b"", b"the input is empty; the program that wrote it may have failed"),
         (b"\x0a\x0d\x0d\x0a" + bytes(20), b"unknown byte order of the section at offset 0"),
@@ -371,23 +372,26 @@ def check_explanations(program, file_header, heading, errno):
     request, shown = message(bytes(6)), ": No such attribute\\x1b"
     padding = bytes(-len(request) % 4)
     answered = "note: the kernel returned EINVAL"
+    other = " (request: in an earlier packet)"
     raw = message([10, 255, 0, 0, 0xFE, *bytes(51)], 0x301)
     raw_shown = " (request: raw family:inet6 states:0xfe)"
     for body, flags, kind, expected in [
         (errno[22] + raw, 0, 2, answered + raw_shown),
-        (errno[22] + raw[:16], 256, 2, answered), (errno[22] + raw, 0, 3, answered),
+        (errno[22] + raw[:16], 256, 2, answered + other),
+        (errno[22] + raw, 0, 3, answered + other),
         (errno[22] + raw + text, 512, 2, answered + raw_shown + shown),
         (errno[13] + message([1, *bytes(23)]), 0, 2,
             "the kernel returned error 13 (request: unix states:0x0)"),
         (errno[2] + message([40, *bytes(23)]), 0, 2,
             "note: the kernel returned ENOENT (request: vsock)"),
-        (errno[22] + request + padding + text + offset, 512, 2, f"{answered}{shown} (offset 36)"),
-        (errno[22] + request[:16] + offset, 768, 2, f"{answered} (offset 36)"),
-        (errno[22] + request[:16] + text, 768, 2, answered + shown),
-        (errno[22] + request + padding + text + offset, 0, 2, answered),
-        (errno[22] + request[:16] + text + offset, 512, 2, answered),
-        (errno[22] + text + offset, 512, 3, f"{answered}{shown} (offset 36)"),
-        (errno[13] + text, 512, 3, f"the kernel returned error 13{shown}"),
+        (errno[22] + request + padding + text + offset, 512, 2,
+            f"{answered}{other}{shown} (offset 36)"),
+        (errno[22] + request[:16] + offset, 768, 2, f"{answered}{other} (offset 36)"),
+        (errno[22] + request[:16] + text, 768, 2, answered + other + shown),
+        (errno[22] + request + padding + text + offset, 0, 2, answered + other),
+        (errno[22] + request[:16] + text + offset, 512, 2, answered + other),
+        (errno[22] + text + offset, 512, 3, f"{answered}{other}{shown} (offset 36)"),
+        (errno[13] + text, 512, 3, f"the kernel returned error 13{other}{shown}"),
     ]:
         status = 1 if "error 13" in expected else 0
         line = f"sslist: packet 1, message 1: {expected}\n".encode()
@@ -517,6 +521,7 @@ def test_options(program):
     request = packet([2, 17, 0, 0, 0xFE, *bytes(51)], 0x301)
     capture = CAPTURE.read_bytes() + request + b"".join(map(packet, bodies))
     status, table, errors = run(program, [], capture)
+    errors = re.escape(errors)
     heading, *rows = table.replace(b"\n\t", b"").splitlines(True)
     with tempfile.NamedTemporaryFile() as file:
         file.write(capture)

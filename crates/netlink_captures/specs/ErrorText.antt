@@ -43,10 +43,10 @@ capture_error_text Truncated =
     codes "the capture is truncated; if it is still being written, record it by tcpdump -U"
 capture_error_text Empty = codes "the input is empty; the program that wrote it may have failed"
 capture_error_text TooShort =
-    codes "neither pcap nor pcapng, as sockdump and tcpdump write: it has fewer than 4 bytes"
+    codes "not a capture (pcap or pcapng, as tcpdump -w writes): it has fewer than 4 bytes"
 capture_error_text (Compressed compression) = compression_text compression
 capture_error_text (NoCapture magic) =
-    codes "neither pcap nor pcapng, as sockdump and tcpdump write: its first four bytes are 0x"
+    codes "not a capture (pcap or pcapng, as tcpdump -w writes): it begins with 0x"
     ++ encode_lower (big_bytes 4 magic)
 capture_error_text (OtherVersion version) =
     codes "unsupported pcap version " ++ decimal version ++ codes ", expected 2"

@@ -104,11 +104,11 @@ impl CaptureError {
                 ErrorText::Plain("the input is empty; the program that wrote it may have failed")
             }
             CaptureError::TooShort => ErrorText::Plain(
-                "neither pcap nor pcapng, as sockdump and tcpdump write: it has fewer than 4 bytes",
+                "not a capture (pcap or pcapng, as tcpdump -w writes): it has fewer than 4 bytes",
             ),
             CaptureError::Compressed(compression) => ErrorText::Plain(compression.text()),
             CaptureError::NoCapture(magic) => ErrorText::Hex(
-                "neither pcap nor pcapng, as sockdump and tcpdump write: its first four bytes are 0x",
+                "not a capture (pcap or pcapng, as tcpdump -w writes): it begins with 0x",
                 *magic,
             ),
             CaptureError::OtherVersion(version) => {

@@ -1,8 +1,8 @@
 -- What the kernel explains about an error: the request in an NLMSG_ERROR, and the attributes of an
 -- extended acknowledgement (netlink(7)) that follow an NLMSG_ERROR or NLMSG_DONE. Texts are lists
 -- of ASCII codes: 32 is a space, 41 a closing parenthesis.
-use Rattle.std.specs.Prelude.{ℕ, ◌+◌, ◌==◌, ◌&&◌, nat_le, if◌then◌else◌, List, [], ◌∷◌, ◌++◌, codes}
-use Rattle.std.specs.Prelude.{Bool, decimal, drop, flat_map, length, Option, None, Some}
+use Rattle.std.specs.Prelude.{ℕ, ◌+◌, ◌==◌, ◌&&◌, ◌||◌, nat_le, if◌then◌else◌, List, [], ◌∷◌, ◌++◌}
+use Rattle.std.specs.Prelude.{Bool, codes, decimal, drop, flat_map, length, Option, None, Some}
 use Rattle.byteorder.specs.Endian.{little_number}
 use Rattle.netlink_core.specs.Parse.{without_terminating_nul}
 use Rattle.netlink_core.specs.declared.message.TheConstants.{NLMSG_DONE, NLMSG_ERROR}
@@ -73,11 +73,18 @@ explanation_in bytes =
     explanation_text (nested_value NLMSGERR_ATTR_MSG bytes)
     ++ offset_text (nested_number (NLMSGERR_ATTR_OFFS, 4) bytes)
 
+-- `unknown_request t`: the text about the request that a message with the type `t` answers, if the
+-- message does not contain it, or contains one for sockets of an unknown family. Nothing if it is
+-- neither an NLMSG_ERROR nor an NLMSG_DONE.
+abbrev pub unknown_request : ℕ → List ℕ
+unknown_request t =
+    if (t == NLMSG_ERROR) || (t == NLMSG_DONE) then codes " (request: in an earlier packet)" else []
+
 -- `explanation m`: what the message `m` explains, by its type at 4, its flags at 6, and its payload
 -- at 16: which request it answers, and what its attributes explain
 abbrev pub explanation : List ℕ → List ℕ
 explanation m =
-    request_note (answered_request (little_number 2 (drop 4 m)) (little_number 2 (drop 6 m))
-    (drop 16 m))
+    request_note (unknown_request (little_number 2 (drop 4 m)))
+    (answered_request (little_number 2 (drop 4 m)) (little_number 2 (drop 6 m)) (drop 16 m))
     ++ explanation_in (attributes_by_type (little_number 2 (drop 4 m)) (little_number 2 (drop 6 m))
     (drop 16 m))

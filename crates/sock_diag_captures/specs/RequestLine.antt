@@ -57,17 +57,18 @@ request_text (Some a) states family = inet_request_text a
 request_text None (Some states) family = codes "unix" ++ hex_detail (codes "states") states
 request_text None None family = requested_family_text family
 
--- ` (request: `, the text about the requested sockets, and `)`; nothing if none of the three
--- arguments, which are those of `request_text`, is known
-abbrev pub known_request_text : Option Query → Option ℕ → Option Family → List ℕ
-known_request_text None None None = []
-known_request_text asked states family =
+-- ` (request: `, the text about the requested sockets, and `)`; or the text `unknown` if none of
+-- the last three arguments, which are those of `request_text`, is known
+abbrev pub known_request_text : List ℕ → Option Query → Option ℕ → Option Family → List ℕ
+known_request_text unknown None None None = unknown
+known_request_text unknown asked states family =
     codes " (request: " ++ request_text asked states family ++ codes ")"
 
--- the same about the request in a datagram; nothing if there is none for sockets of a known family
-abbrev pub request_note : List ℕ → List ℕ
-request_note datagram =
-    known_request_text (inet_request_in_datagram datagram) (requested_unix_states datagram)
+-- `request_note unknown datagram`: the same about the request in a datagram; the text `unknown` if
+-- there is none for sockets of a known family
+abbrev pub request_note : List ℕ → List ℕ → List ℕ
+request_note unknown datagram =
+    known_request_text unknown (inet_request_in_datagram datagram) (requested_unix_states datagram)
     (requested_family datagram)
 
 -- `request_line h datagram`: the line of a request. It has `-- `, the time of its capture, which is

@@ -9,6 +9,7 @@ ghost use Rattle.sock_diag_captures.specs.Explanation.{done_attributes, error_at
 ghost use Rattle.sock_diag_captures.specs.Explanation.{error_request, explained_byte};
 ghost use Rattle.sock_diag_captures.specs.Explanation.{explanation, explanation_in};
 ghost use Rattle.sock_diag_captures.specs.Explanation.{explanation_text, offset_text};
+ghost use Rattle.sock_diag_captures.specs.Explanation.{unknown_request};
 
 use crate::request_line::push_request_note;
 use crate::ulp_info::{find_number, find_value};
@@ -20,7 +21,7 @@ use sock_diag_listing::cells::{push_escaped_byte, push_number};
 use std::alloc::AllocError;
 
 /// Appends what a message explains: the request that it answers, the kernel's text, and the offset
-/// of the invalid attribute. Appends nothing if it has none of them.
+/// of the invalid attribute. Appends nothing if it is not an answer.
 pub(crate) fn push_explanation(text: &mut Vec<u8>, message: &[u8]) -> Result<(), AllocError>
     requires { 16 ≤ length message.now }
     ensures { OnOk result (text.new.items ≡ text.old.items ++ explanation message.now) }
@@ -28,8 +29,23 @@ pub(crate) fn push_explanation(text: &mut Vec<u8>, message: &[u8]) -> Result<(),
     let message_type = LittleEndian::read_u16(&message[4..]);
     let flags = LittleEndian::read_u16(&message[6..]);
     let payload = &message[NETLINK_HEADER_LEN..];
-    push_request_note(text, request_of(message_type, flags, payload))?;
+    push_request_note(
+        text,
+        unknown_request(message_type),
+        request_of(message_type, flags, payload),
+    )?;
     push_explanation_in(text, attributes_of(message_type, flags, payload))
+}
+
+/// Returns the text about the request that a message of this type answers, for messages that do not
+/// contain it, or one for sockets of an unknown family.
+fn unknown_request(message_type: u16) -> &'static [u8]
+    ensures { result.now ≡ unknown_request message_type }
+{
+    match message_type {
+        NLMSG_ERROR | NLMSG_DONE => b" (request: in an earlier packet)",
+        _ => &[],
+    }
 }
 
 /// Returns the bytes of the request in the payload of a message, by the type and the flags of its

@@ -64,32 +64,39 @@ fn push_request(
     Ok(text.push(b'\n')?)
 }
 
-/// Appends, in parentheses, the text about the request in a datagram. Appends nothing if there is
+/// Appends, in parentheses, the text about the request in a datagram. Appends `unknown` if there is
 /// none for sockets of a known family.
-pub(crate) fn push_request_note(text: &mut Vec<u8>, datagram: &[u8]) -> Result<(), AllocError>
-    ensures { OnOk result (text.new.items ≡ text.old.items ++ request_note datagram.now) }
+pub(crate) fn push_request_note(
+    text: &mut Vec<u8>,
+    unknown: &[u8],
+    datagram: &[u8],
+) -> Result<(), AllocError>
+    ensures { OnOk result (text.new.items ≡ text.old.items
+        ++ request_note unknown.now datagram.now) }
 {
     push_known_request(
         text,
+        unknown,
         find_request(datagram),
         find_unix_states(datagram),
         find_family(datagram),
     )
 }
 
-/// Appends, in parentheses, the text about the requested sockets. Appends nothing if they are not
+/// Appends, in parentheses, the text about the requested sockets. Appends `unknown` if they are not
 /// known.
 fn push_known_request(
     text: &mut Vec<u8>,
+    unknown: &[u8],
     inet: Option<Query>,
     unix_states: Option<u32>,
     family: Option<Family>,
 ) -> Result<(), AllocError>
     ensures { OnOk result (text.new.items ≡ text.old.items
-        ++ known_request_text inet unix_states family) }
+        ++ known_request_text unknown.now inet unix_states family) }
 {
     if inet.is_none() && unix_states.is_none() && family.is_none() {
-        return Ok(());
+        return text.extend_from_slice(unknown);
     }
     text.extend_from_slice(b" (request: ")?;
     push_asked(text, inet, unix_states, family)?;

@@ -72,7 +72,7 @@ the input is a directory; name the captures in it, reading failed (os error 5: i
     let text = format!(in rt.alloc(); "{full}, {closed}, {other}, {old}").expect(&rt, "memory");
     let want = "writing to standard output failed (os error 28: no space left on device), \
 the output pipe is closed, \
-neither pcap nor pcapng, as sockdump and tcpdump write: its first four bytes are 0x00000a0b, \
+not a capture (pcap or pcapng, as tcpdump -w writes): it begins with 0x00000a0b, \
 unsupported pcap version 1, expected 2";
     assert!(rt; text.as_str() == want);
 }
