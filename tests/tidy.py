@@ -124,25 +124,33 @@ def wrong_versions(files):
         yield "rust/sockdiag/LICENSE-MIT: not the text of LICENSE-MIT"
 
 
+def edited_files(crate, edit, files):
+    """Returns the texts of the files of a crate that an edit changes, by name, and why the edit
+    cannot be applied, or "": each `old:` text has to occur once in its file."""
+    path, old, changed = "", "", {"": ""}
+    for word, rest in re.findall(r"(?m)^(file|old|new): ?(.*)$", edit):
+        if word == "file":
+            path = f"crates/{crate}/{rest}"
+            changed.setdefault(path, files.get(path, ""))
+        elif word == "old":
+            old = rest
+        elif old and changed[path].count(old) == 1:
+            changed[path] = changed[path].replace(old, rest)
+        else:
+            return {}, f"occurs {changed[path].count(old)} times in {path}: {old}"
+    del changed[""]
+    if all(files.get(path, "") == text for path, text in changed.items()):
+        return {}, "changes nothing"
+    return changed, ""
+
+
 def unusable_edits(files):
-    """Yields the edits that cannot be applied: each `old:` text has to occur once in its file."""
+    """Yields the edits that cannot be applied."""
     for name, text in files.items():
         crate = re.match(r"(?:tests/edits/(\w+)|crates/(\w+)/must-fail)/[^/]+\.edit$", name)
-        if not crate:
-            continue
-        path, old, changed = "", "", {"": ""}
-        for word, rest in re.findall(r"(?m)^(file|old|new): ?(.*)$", text):
-            if word == "file":
-                path = f"crates/{crate[1] or crate[2]}/{rest}"
-                changed.setdefault(path, files.get(path, ""))
-            elif word == "old":
-                old = rest
-            elif old and changed[path].count(old) == 1:
-                changed[path] = changed[path].replace(old, rest)
-            else:
-                yield f"{name}: occurs {changed[path].count(old)} times in {path}: {old}"
-        if all(files.get(path, "") == text for path, text in changed.items()):
-            yield f"{name}: changes nothing"
+        wrong = crate and edited_files(crate[1] or crate[2], text, files)[1]
+        if wrong:
+            yield f"{name}: {wrong}"
 
 
 def text_files():

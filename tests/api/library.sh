@@ -2,10 +2,10 @@
 # library.sh [--of-gate]: builds the C library, crates/sockdiag_c/out/libsockdiag_c.a, unless it is
 # newer than every source.
 #
-# Without an argument it runs `rt lib`, which proves each library that it cannot use. `rt ci` leaves
-# only the statements of the libraries that it proved, and `rt lib` uses none of them. So the gate
-# calls this script with --of-gate: the script then proves sockdiag_c over what `rt ci` left, and
-# compiles it. If `rt ci` has put back what was built before it, `rt lib` is quick.
+# Without an argument it runs `rt lib`, which proves each library that it cannot use. The gate calls
+# it with --of-gate: the script then proves sockdiag_c over the libraries that `rt ci` left
+# (tests/over_gate.sh), and compiles it. If `rt ci` has put back what was built before it, `rt lib`
+# is quick.
 set -eu
 cd "$(dirname -- "$0")/../.."
 crate=crates/sockdiag_c
@@ -31,22 +31,11 @@ if [ "${1-}" != --of-gate ] || ! are_of_gate; then
     exec rt lib
 fi
 
-kit=$(dirname -- "$(dirname -- "$(readlink -f -- "$(command -v rt)")")")
-top=$PWD
+toolchain=$(dirname -- "$(dirname -- "$(readlink -f -- "$(command -v rt)")")")/toolchain
 jobs=$(nproc)
 if [ "$jobs" -gt 4 ]; then jobs=4; fi
-set -- --extern "std=$kit/rlibs/std.rlib"
-for name in $(sed -n 's/^sockdiag_c staticlib://p' crates.txt); do
-    folder=$kit/rlibs
-    if [ -d "crates/$name" ]; then folder=$top/crates/$name/out/rlib; fi
-    set -- "$@" --extern "$name=$folder/$name.rlib"
-done
-set -- "$@" -L "dependency=$kit/rlibs"
-for name in $(tools/libraries sockdiag_c); do
-    set -- "$@" -L "dependency=$top/crates/$name/out/rlib"
-done
+over_gate=$PWD/tests/over_gate.sh
 cd "$crate"
 mkdir -p out
-"$kit/bin/rattle" build --crate-name sockdiag_c src/lib.rt "$@" --crate-type staticlib \
-    --antt-project "$kit/rattle/logic/antt-project.json" --logic-built "$kit/logic_built" \
-    --toolchain "$kit/toolchain" --backend llvm --jobs "$jobs" -o out/libsockdiag_c.a
+exec "$over_gate" sockdiag_c build --crate-type staticlib --toolchain "$toolchain" \
+    --backend llvm --jobs "$jobs" -o out/libsockdiag_c.a
