@@ -247,13 +247,13 @@ static enum progress print_datagram(struct dump *dump, const struct kernel *kern
     while ((answer = sockdiag_next_any_message(datagram, length, &cursor, &message))
            == SOCKDIAG_ITEM) {
         const uint8_t *payload = datagram + message.offset;
+        if (message.message_type == SOCKDIAG_NLMSG_OVERRUN)
+            return LOST;
         if (!sockdiag_is_answer(&message, kernel->sequence_number, kernel->port_number))
             continue;
         dump->is_interrupted |= sockdiag_is_interrupted(&message);
         if (sockdiag_ends_answer(&message))
             return end(dump->protocol, payload, message.length);
-        if (message.message_type == SOCKDIAG_NLMSG_OVERRUN)
-            return LOST;
         if (message.message_type == SOCKDIAG_SOCK_DIAG_BY_FAMILY)
             print_reply(dump, payload, message.length);
     }

@@ -50,6 +50,11 @@
  * message. The cookie of a netlink, packet, vsock or XDP socket is a number, which is little-endian
  * in the message. Offsets in comments are those in the kernel's structs.
  *
+ * The payload of a message is its bytes after the netlink header. The kind of an attribute is its
+ * type without the two flag bits, as SOCKDIAG_UNIX_DIAG_NAME; the field kind of the header of a
+ * reply is the type of the socket, SOCK_STREAM and so on. A port id is the address of a netlink
+ * socket, and not a port number.
+ *
  * In the sources, tools/bindings writes this file from the source of the library.
  */
 #ifndef SOCKDIAG_H
@@ -1044,6 +1049,8 @@ size_t sockdiag_inet_get_memory(const uint8_t *payload, size_t length,
  *     for (kind = 0; kind < SOCKDIAG_REJECTION_KINDS; kind++)
  *         if (rejections.errors[kind] != 0)
  *             printf("%d: %s\n", kind, sockdiag_error_text(rejections.errors[kind]));
+ *
+ * Each code, also one that an element of errors has as a byte, is one of enum sockdiag_error.
  */
 
 #define SOCKDIAG_REJECTION_KINDS 32 /* Number of elements of errors of struct

@@ -167,8 +167,10 @@ fn packet_line(reply: &PacketReply<'_>) -> String {
 /// sends no requests, and answers a request with sockets of its family.
 fn socket_line(protocol: &str, message: &AnySockDiagMessage<'_>) -> Option<String> {
     match message {
-        AnySockDiagMessage::Port(SockDiagMessage::UnixResponse(reply)) => Some(unix_line(reply)),
-        AnySockDiagMessage::Port(SockDiagMessage::InetResponse(reply)) => {
+        AnySockDiagMessage::SockDiag(SockDiagMessage::UnixResponse(reply)) => {
+            Some(unix_line(reply))
+        }
+        AnySockDiagMessage::SockDiag(SockDiagMessage::InetResponse(reply)) => {
             Some(inet_line(protocol, reply))
         }
         AnySockDiagMessage::Netlink(reply) => Some(netlink_line(reply)),

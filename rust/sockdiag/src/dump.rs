@@ -205,9 +205,8 @@ pub(crate) fn family_of(payload: &[u8], message_type: u16) -> Result<u8, DecodeE
 // The variants are not boxed, since this crate does not allocate.
 #[allow(clippy::large_enum_variant)]
 pub enum AnySockDiagMessage<'a> {
-    /// A reply describing an IPv4, IPv6 or UNIX socket: the families of the crate that
-    /// [`SockDiagMessage`] is a port of. It is not a port number.
-    Port(SockDiagMessage<'a>),
+    /// A reply describing an IPv4, IPv6 or UNIX socket.
+    SockDiag(SockDiagMessage<'a>),
     /// A reply describing a netlink socket.
     Netlink(NetlinkReply<'a>),
     /// A reply describing a packet socket.
@@ -237,7 +236,7 @@ impl<'a> AnySockDiagMessage<'a> {
             (SOCK_DIAG_BY_FAMILY, [AF_XDP, _, ..]) => {
                 XdpReply::parse(payload).map(AnySockDiagMessage::Xdp)
             }
-            _ => SockDiagMessage::parse(payload, message_type).map(AnySockDiagMessage::Port),
+            _ => SockDiagMessage::parse(payload, message_type).map(AnySockDiagMessage::SockDiag),
         }
     }
 }

@@ -157,13 +157,13 @@ fn family_and_inode(reply: AnySockDiagMessage<'_>) -> (&'static str, u32) {
         AnySockDiagMessage::Packet(reply) => ("packet", reply.header.inode),
         AnySockDiagMessage::Vsock(reply) => ("vsock", reply.header.inode),
         AnySockDiagMessage::Xdp(reply) => ("xdp", reply.header.inode),
-        AnySockDiagMessage::Port(SockDiagMessage::UnixResponse(reply)) => {
+        AnySockDiagMessage::SockDiag(SockDiagMessage::UnixResponse(reply)) => {
             ("unix", reply.header.inode)
         }
-        AnySockDiagMessage::Port(SockDiagMessage::InetResponse(reply)) => {
+        AnySockDiagMessage::SockDiag(SockDiagMessage::InetResponse(reply)) => {
             ("inet", reply.header.inode)
         }
-        AnySockDiagMessage::Port(_) => ("request", 0),
+        AnySockDiagMessage::SockDiag(_) => ("request", 0),
     }
 }
 
