@@ -1,17 +1,25 @@
-use Rattle.std.proofs.Common.{◌≡◌, ◌++◌, ◌∙◌, arith, refl, sym}
+use Rattle.std.proofs.Common.{◌≡◌, ◌⊎◌, inl, inr, ℕ, ◌+◌, List, [], ◌++◌, ◌∙◌, Bool, true, false}
+use Rattle.std.proofs.Common.{ap, arith, refl, subst, sym}
+use Rattle.std.specs.Io.KnownBytes.{Appends, Consumes}
 use Rattle.std.specs.Prelude.{flat_map, MatchOption, Option, None, Some}
 use Rattle.std.proofs.KnownBytes.{Appends-kept, Appends-trans}
 use Rattle.std.proofs.KnownBytes.{Consumes-trans}
 use Rattle.std.proofs.lemmas.Result.{err_from_is_err_and}
 use Rattle.sock_diag_listing.proofs.Reporting.{reports_nothing, reports_then}
-use Rattle.netlink_captures.specs.Reader.{state_of}
+use Rattle.netlink_captures.specs.Capture.{CapturedPacket, captured_packet}
+use Rattle.netlink_captures.specs.Reader.{CaptureState, ReadsPacket, state_of}
+use Rattle.netlink_captures.specs.declared.captures.PacketHeader.{PacketHeader}
+use Rattle.sslist_options.specs.declared.options.Options.{Options}
 use Rattle.sock_diag_listing.specs.Reports.{ReportsMore}
-use Rattle.sock_diag_captures.specs.Run.{lines_of_packet}
+use Rattle.sock_diag_captures.specs.Diagnostics.{DiagnosesPacket}
+use Rattle.sock_diag_captures.specs.Listing.{ListsCapturedPacket, requests_after_packet}
+use Rattle.sock_diag_captures.specs.Run.{IsListed, lines_of_packet}
+use Rattle.sock_diag_captures.specs.declared.requests.Query.{Query}
 use Rattle.sock_diag_captures.proofs.Failing.{fails_at_flush, fails_at_header, fails_at_heading}
 use Rattle.sock_diag_captures.proofs.Failing.{fails_at_lines, fails_at_memory, fails_at_packet}
 use Rattle.sock_diag_captures.proofs.Failing.{fails_past_numbers, no_memory, no_write, table_of}
 use Rattle.sock_diag_captures.proofs.Failing.{write_cause}
-use Rattle.sock_diag_captures.proofs.Progress.{progress_continues_incomplete}
+use Rattle.sock_diag_captures.proofs.Progress.{Progress, progress_continues_incomplete}
 use Rattle.sock_diag_captures.proofs.Progress.{progress_continues_complete, progress_begins}
 use Rattle.sock_diag_captures.proofs.stream.write_table.Goals.{then-is_whole, else-is_whole}
 use Rattle.sock_diag_captures.proofs.stream.write_table.Goals as goal
@@ -21,6 +29,66 @@ none_read : {A : Type 0} (listings : Option A) (P : Type 0) (Q : A → Type 0)
     → ((x : A) → listings ≡ Some x → ⊥) → MatchOption listings P Q → P
 none_read None P Q other h = h
 none_read (Some n) P Q other h = absurd (other n refl)
+
+-- What follows if an option is known to have a value.
+of_some : {A : Type 0} (found : Option A) (x : A) (P : Type 0) (Q : A → Type 0)
+    → found ≡ Some x → MatchOption found P Q → Q x
+of_some found x P Q is h = rw is at h
+
+-- What `list_packet` states of a packet, for its bytes and empty texts.
+told_of_packet : (o : Options) (front front' : List ℕ) (asked asked' : List Query) (number : ℕ)
+    (bytes bytes' : List ℕ) (header : PacketHeader) (before before' lines said : List ℕ)
+    (one : Bool)
+    → bytes ≡ bytes' → before ≡ [] → before' ≡ [] → front' ≡ front
+    → ListsCapturedPacket o asked' (captured_packet bytes header) before lines one
+    → asked' ≡ requests_after_packet asked bytes
+    → DiagnosesPacket front' number (captured_packet bytes header) before' said
+    → IsListed o asked' (captured_packet bytes' header) (record { lines = lines; whole = one })
+    × (asked' ≡ requests_after_packet asked bytes')
+    × DiagnosesPacket front number (captured_packet bytes' header) [] said
+told_of_packet o front front' asked asked' number bytes bytes' header before before' lines said one
+    same empty empty' fronts listed next diagnosed = (
+      subst (λ (b : List ℕ). ListsCapturedPacket o asked' (captured_packet b header) [] lines one)
+          same
+          (subst (λ (t : List ℕ). ListsCapturedPacket o asked' (captured_packet bytes header) t
+          lines one) empty listed),
+      next ∙ ap (requests_after_packet asked) same,
+      subst (λ (b : List ℕ). DiagnosesPacket front number (captured_packet b header) [] said) same
+          (subst (λ (t : List ℕ). DiagnosesPacket front number (captured_packet bytes header) t
+          said) empty'
+          (subst (λ (f : List ℕ). DiagnosesPacket f number (captured_packet bytes header) before'
+          said) fronts diagnosed)),
+    )
+
+-- One more packet was listed, and its diagnostics were reported. In the proof below both would be
+-- computed with the facts of the code, which takes longer.
+one_more_packet : (o : Options) (front : List ℕ) (start : CaptureState)
+    (a b c x y z : Option (List ℕ)) (s s' : CaptureState) (more lines added : List ℕ)
+    (p : CapturedPacket) (asked asked' : List Query) (one whole whole' : Bool) (number : ℕ)
+    (f g h : Type 0) (on on' on'' : Bool) (held held' held'' : Option (List ℕ))
+    → (so_far : Progress o front start a b x y s asked whole number)
+    → ReportsMore held f on held' g on' so_far.diagnostics
+    → ReportsMore held' g on' held'' h on'' added
+    → ReadsPacket s more p s' → asked' ≡ requests_after_packet asked p.bytes
+    → IsListed o asked' p (record { lines = lines; whole = one })
+    → DiagnosesPacket front number p [] added → Consumes b c more → Appends y z lines
+    → ((whole ≡ true) × (whole' ≡ one)) ⊎ ((whole ≡ false) × (whole' ≡ whole))
+    → (after : Progress o front start a c x z s' asked' whole' (number + 1))
+    × ReportsMore held f on held'' h on'' after.diagnostics
+one_more_packet o front start a b c x y z s s' more lines added p asked asked' one whole whole'
+    number f g h on on' on'' held held' held'' so_far reported now is next listed diagnosed
+    read appended (inl (is_whole, same)) = rw same (
+      progress_continues_complete o front start a b c x y z s s' more lines added p asked asked'
+          one whole number is_whole so_far is next listed diagnosed read appended,
+      reports_then held held' held'' f g h on on' on'' so_far.diagnostics added reported now,
+    )
+one_more_packet o front start a b c x y z s s' more lines added p asked asked' one whole whole'
+    number f g h on on' on'' held held' held'' so_far reported now is next listed diagnosed
+    read appended (inr (is_part, same)) = rw same (
+      progress_continues_incomplete o front start a b c x y z s s' more lines added p asked asked'
+          one whole number is_part so_far is next listed diagnosed read appended,
+      reports_then held held' held'' f g h on on' on'' so_far.diagnostics added reported now,
+    )
 
 pub packets-init : goal.packets-init
 packets-init g c = record {
@@ -32,34 +100,37 @@ packets-init g c = record {
 pub packets-preserved : goal.packets-preserved
 packets-preserved g c =
     let inv = c.packets.invariant in
-    let got = rw c.in-Some.is at c.in_ok-header.ensures.read in
-    let listed = rw (c.as_slice-bytes.ensures.value, c.clear.ensures.items) at
-    c.in_ok-is_listed.ensures.lists in
-    let next = rw c.as_slice-bytes.ensures.value at c.in_ok-is_listed.ensures.asked in
-    let diagnosed = rw (
-      c.as_slice-bytes.ensures.value,
-      c.clear-in-packets.ensures.items,
-      inv.front,
-    ) at c.in_ok-is_listed.ensures.diagnosed in
-    let appended = rw c.as_slice-in-packets.ensures.value at c.in_ok-send-2.ensures.written in
-    let reported = reports_then _ _ _ _ _ _ _ _ _ _ _ inv.reported
-    (rw c.as_slice.ensures.value at c.report.ensures) in
-    elim c.if-is_whole.branch [
-      | then-is_whole w ↦ rw w.is_whole-is record {
-        listed = progress_continues_complete _ _ (state_of c.in_ok-reader.reader) _ _ _ _ _ _ _ _
-            got.0 _ _ _ _ _ _ _ _
-            w.if-is_whole.true inv.listed got.2 next listed diagnosed got.1 appended;
-        reported = reported;
-        front = rw c.in_ok-is_listed.ensures.front inv.front;
-      }
-      | else-is_whole w ↦ rw w.is_whole-is record {
-        listed = progress_continues_incomplete _ _ (state_of c.in_ok-reader.reader) _ _ _ _ _ _ _ _
-            got.0 _ _ _ _ _ _ _ _
-            w.if-is_whole.false inv.listed got.2 next listed diagnosed got.1 appended;
-        reported = reported;
-        front = rw c.in_ok-is_listed.ensures.front inv.front;
-      }
-    ]
+    let read = c.in_ok-header.ensures.read in
+    let packet = c.read_packet.new.packet.items in
+    let header = c.in-Some.header in
+    let asked = c.packets.requests.asked.items in
+    let now_asked = c.list_packet.new.requests.asked.items in
+    let lines = c.list_packet.new.written.lines.items in
+    let said = c.list_packet.new.written.diagnostics.items in
+    let told = told_of_packet c.args.options c.args.front.now c.packets.written.front.now asked
+    now_asked c.packets.number c.as_slice-bytes.result.now packet header _ _ lines said
+    c.in_ok-is_listed.is_listed c.as_slice-bytes.ensures.value c.clear.ensures.items
+    c.clear-in-packets.ensures.items inv.front c.in_ok-is_listed.ensures.lists
+    c.in_ok-is_listed.ensures.asked c.in_ok-is_listed.ensures.diagnosed in
+    let both = one_more_packet c.args.options c.args.front.now (state_of c.in_ok-reader.reader)
+    (g.R.Source.left c.read_header.new.input) (g.R.Source.left c.packets.input)
+    (g.R.Source.left c.read_packet.new.input) (g.W.Sink.held c.send.new.output)
+    (g.W.Sink.held c.packets.output) (g.W.Sink.held c.send-in-packets.new.output)
+    (state_of c.packets.reader) (state_of c.read_packet.new.reader) read.0 lines said
+    (captured_packet packet header) asked now_asked c.in_ok-is_listed.is_listed
+    c.packets.is_whole c.if-is_whole.is_whole c.packets.number _ _ _ _ _ _ _ _ _
+    inv.listed inv.reported (rw c.as_slice.ensures.value at c.report.ensures)
+    (of_some _ _ _ _ c.in-Some.is read.2) told.1 told.0 told.2 read.1
+    (rw c.as_slice-in-packets.ensures.value at c.in_ok-send-2.ensures.written)
+    (elim c.if-is_whole.branch [
+      | then-is_whole w ↦ inl (w.if-is_whole.true, w.is_whole-is)
+      | else-is_whole w ↦ inr (w.if-is_whole.false, w.is_whole-is)
+    ]) in
+    record {
+      listed = both.0;
+      reported = both.1;
+      front = rw c.in_ok-is_listed.ensures.front inv.front;
+    }
 
 pub returns-in_default-clause-table : goal.returns-in_default-clause-table
 returns-in_default-clause-table g c =
@@ -141,21 +212,21 @@ returns-in_err-send-2-clause-failed g c =
     c.from_residual-in_err-send-2.ensures.1 in
     let (header, is, read) = c.in_ok-reader.ensures.read in
     let inv = c.packets.invariant in
-    let got = rw c.in-Some.is at c.in_ok-header.ensures.read in
-    let listed = rw (c.as_slice-bytes.ensures.value, c.clear.ensures.items) at
-    c.in_ok-is_listed.ensures.lists in
-    let next = rw c.as_slice-bytes.ensures.value at c.in_ok-is_listed.ensures.asked in
-    let diagnosed = rw (
-      c.as_slice-bytes.ensures.value,
-      c.clear-in-packets.ensures.items,
-      inv.front,
-    ) at c.in_ok-is_listed.ensures.diagnosed in
+    let got = c.in_ok-header.ensures.read in
+    let (listed, next, diagnosed) = told_of_packet c.args.options c.args.front.now
+    c.packets.written.front.now c.packets.requests.asked.items
+    c.list_packet.new.requests.asked.items c.packets.number c.as_slice-bytes.result.now
+    c.read_packet.new.packet.items c.in-Some.header _ _ c.list_packet.new.written.lines.items
+    c.list_packet.new.written.diagnostics.items c.in_ok-is_listed.is_listed
+    c.as_slice-bytes.ensures.value c.clear.ensures.items c.clear-in-packets.ensures.items inv.front
+    c.in_ok-is_listed.ensures.lists c.in_ok-is_listed.ensures.asked
+    c.in_ok-is_listed.ensures.diagnosed in
     let reported = reports_then _ _ _ _ _ _ _ _ _ _ _ inv.reported
     (rw c.as_slice.ensures.value at c.report.ensures) in
     let (failed, sent, rest, split, appended) = c.in_err-send-2.ensures.stopped in
     rw (p.1, p.2) (fails_at_lines _ _ _ header is _ _ _ _ _ _ _ _ _ _ _ inv.listed read
     c.in_ok-send.ensures.written (ReportsMore _ _ _ _ _ _) _ _ got.0 _ _ _ _ _ _ reported
-    got.2 next listed diagnosed got.1 sent rest
+    (of_some _ _ _ _ c.in-Some.is got.2) next listed diagnosed got.1 sent rest
     (sym c.as_slice-in-packets.ensures.value ∙ split)
     appended)
 

@@ -1,6 +1,19 @@
-use Rattle.std.proofs.Common.{arith}
 use Rattle.sock_diag_replies.proofs.response.ReplyNlaEmitable.emit.Goals as goal
+
+pub emit_reply-requires-clause-header : goal.emit_reply-requires-clause-header
+emit_reply-requires-clause-header g c = g.met.H.ReplyOwned.always_writable _
+
+pub emit_reply-requires-clause-fits : goal.emit_reply-requires-clause-fits
+emit_reply-requires-clause-fits g c =
+    rw (c.as_slice.ensures, g.met.H.ReplyOwned.bytes_by_codec c.args.self.now.header)
+    c.requires.writable
+
+pub emit_reply-requires-clause-room : goal.emit_reply-requires-clause-room
+emit_reply-requires-clause-room g c =
+    rw (c.as_slice.ensures, g.met.H.ReplyOwned.bytes_by_codec c.args.self.now.header)
+    c.requires.room
 
 pub returns : goal.returns
 returns g c =
-    grind (arith, c.as_slice.ensures, c.emit_reply.ensures)
+    rw (c.as_slice.ensures, g.met.H.ReplyOwned.bytes_by_codec c.args.self.now.header)
+    at c.emit_reply.ensures

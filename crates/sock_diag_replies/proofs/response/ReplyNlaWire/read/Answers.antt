@@ -1,4 +1,5 @@
 use Rattle.std.proofs.Common.{ap, map, arith}
+use Rattle.std.proofs.lemmas.Result.{err_from_is_err_and}
 use Rattle.sock_diag_replies.proofs.Owning.{empty_value, owned_error, owned_value}
 use Rattle.sock_diag_replies.proofs.Owning.{owned_wanted}
 use Rattle.sock_diag_replies.proofs.response.ReplyNlaWire.read.Goals as goal
@@ -32,3 +33,20 @@ returns-clause-value g c =
           w.if-is_err.false w.is_err.ensures.value _ _ c.header.ensures
           w.own_into.ensures.equal)
     ]
+
+pub returns-in_err-view-clause-in_range : goal.returns-in_err-view-clause-in_range
+returns-in_err-view-clause-in_range g c = λ i. omega (arith, c.type_inv.bytes i)
+
+pub returns-in_err-view-clause-memory_needed : goal.returns-in_err-view-clause-memory_needed
+returns-in_err-view-clause-memory_needed g c =
+    let p = err_from_is_err_and c.from_residual.result c.from_residual.ensures.1 in
+    rw (p.1, p.2) (λ memory. absurd (c.in_err-view.ensures.named memory))
+
+pub returns-then-is_err-clause-in_range : goal.returns-then-is_err-clause-in_range
+returns-then-is_err-clause-in_range g c = λ i. omega (arith, c.type_inv.bytes i)
+
+pub returns-then-is_err-clause-error : goal.returns-then-is_err-clause-error
+returns-then-is_err-clause-error g c = λ named. absurd (named c.without_memory.ensures)
+
+pub returns-clause-in_range : goal.returns-clause-in_range
+returns-clause-in_range g c = λ i. omega (arith, c.type_inv.bytes i)
