@@ -16,11 +16,13 @@ ghost use Rattle.netlink_core.specs.Layout.{parse_record, IsContainedIn};
 ghost use Rattle.netlink_core.specs.Bytes.{IsBytes};
 ghost use Rattle.netlink_core.specs.Walk.{buffered_attribute, unread_bytes, YieldsAttribute};
 ghost use Rattle.netlink_core.specs.Datagram.{SplitsIntoMessages};
-ghost use Rattle.netlink_core.specs.DatagramWalk.{unread_datagram, YieldsMessage};
+ghost use Rattle.netlink_core.specs.DatagramWalk.{unread_messages, unread_datagram};
+ghost use Rattle.netlink_core.specs.DatagramWalk.{YieldsMessage};
 ghost use Rattle.netlink_core.specs.Items.{IsItemOf, AreItemsOf};
 ghost use Rattle.netlink_core.specs.NetlinkMessageModel.{netlink_message_model, payload_model};
 ghost use Rattle.netlink_core.specs.declared.attribute.NlaBuffer.{NlaBuffer};
 ghost use Rattle.netlink_core.specs.declared.attribute.NlasIterator.{NlasIterator};
+ghost use Rattle.netlink_core.specs.declared.datagram.FramedMessages.{FramedMessages};
 ghost use Rattle.netlink_core.specs.declared.datagram.MessageStrings.{MessageStrings};
 ghost use Rattle.netlink_core.specs.declared.error.DecodeError.{DecodeError};
 ghost use Rattle.netlink_core.specs.declared.error.DecodeError.TheVariants.{Memory};
@@ -31,7 +33,7 @@ ghost use Rattle.netlink_core.specs.NetlinkMessage.{netlink_codec};
 use crate::attribute::{NlaBuffer, NlasIterator};
 use crate::canonical_form::CanonError;
 use crate::codec::Readable;
-use crate::datagram::MessageStrings;
+use crate::datagram::{FramedMessages, MessageStrings};
 use crate::error::DecodeError as Fault;
 use crate::exact::Exact;
 use crate::family::FamilyNla;
@@ -238,6 +240,17 @@ pub fn copied_buffer<'a>(buffer: &NlaBuffer<'a>) -> Result<NlaBuffer<'a>, AllocE
 pub fn copied_walk<'a>(walk: &NlasIterator<'a>) -> Result<NlasIterator<'a>, AllocError>
     ensures ok { IsOk result }
     ensures same { IfOk result (λ copy. unread_bytes copy ≡ unread_bytes walk.now) }
+{
+    walk.clone()
+}
+
+/// Returns a clone. Cloning an iterator over messages with their headers succeeds, and the clone has
+/// the same bytes left to read (`unread_messages`).
+pub fn copied_framed_messages<'a>(
+    walk: &FramedMessages<'a>,
+) -> Result<FramedMessages<'a>, AllocError>
+    ensures ok { IsOk result }
+    ensures same { IfOk result (λ copy. unread_messages copy ≡ unread_messages walk.now) }
 {
     walk.clone()
 }
