@@ -2,14 +2,17 @@
 //! sock_diag(7) in hex, and is answered by one line. See docs/LINES.md.
 #![tactic(auto)]
 
-ghost use Rattle.std.specs.Prelude.{◌≡◌, ◌≢◌, ◌&&◌, ◌++◌, ◌∷◌, [], if◌then◌else◌, not};
-ghost use Rattle.std.specs.Prelude.{ℕ, Bool, List, Result, codes, IfSome, IfErr, MatchResult};
+ghost use Rattle.std.specs.Prelude.{◌≡◌, ◌≢◌, ◌⊎◌, ◌-◌, ◌^◌, ◌&&◌, if◌then◌else◌, not, ℕ, Bool};
+ghost use Rattle.std.specs.Prelude.{List, Result, IfSome, IfErr, MatchResult};
 ghost use Rattle.std.specs.Process.{exit_status};
 ghost use Rattle.std.specs.Io.KnownBytes.{Appends, IsAtEnd, Keeps};
 ghost use Rattle.sock_diag_lines.specs.Answer.{IsAnswerOf, is_good};
+ghost use Rattle.sock_diag_lines.specs.FailureLine.{failure_line};
 ghost use Rattle.program_streams.specs.Lines.{SplitsIntoLines, all_lines};
 ghost use Rattle.program_streams.specs.LineRun.{AnswersInput, answer_lines};
+ghost use Rattle.program_streams.specs.Streams.{WritesAllOrFails};
 ghost use Rattle.program_streams.specs.declared.lines.RunError.{RunError};
+ghost use Rattle.program_streams.specs.declared.streams.WriteError.{WriteError};
 
 mod answer_parts;
 mod answers;
@@ -22,11 +25,11 @@ mod view_line;
 pub use answers::answer;
 pub use arguments::{Choice, HELP, choose};
 pub use program_streams::RunError;
+use program_streams::{PromptRead, Sink};
 use std::alloc::Global;
-use std::io::{Read, Write};
 use std::process::ExitCode;
-use stream::answer_and_report;
 pub use stream::run;
+use stream::{answer_all, report};
 
 /// The version, as in the file `VERSION` of the repository.
 pub const VERSION: &str = "1.0.0";
@@ -37,46 +40,51 @@ pub const VERSION: &str = "1.0.0";
 /// was written on `errors`. The status then is 0; but if `is_strict`, it is 3 if an answer does not
 /// start with `ok`, or if a dump failed.
 ///
-/// What has been written to `output` after a failure is what [`run`] states.
-pub fn run_to_status<R: Read, W: Write, E: Write>(
+/// What has been written to `output` after a failure is what [`run`] states. The streams are those
+/// of std, or others that record their failed calls: see `program_streams`. Streams of std record
+/// none, so the clauses about failed calls say nothing of them.
+pub fn run_to_status<R: PromptRead, W: Sink, E: Sink>(
     alloc: Global,
     is_strict: bool,
     input: &mut R,
     output: &mut W,
     errors: &mut E,
 ) -> ExitCode
+    // No read was made yet. This always holds for a reader of std, which does not count reads.
+    requires start { R.reads input.old 0 }
     // If the status is not 1, no bytes of the reader are left, if these are known.
-    ensures ended { exit_status result ≢ 1 → IsAtEnd (R.remaining input.new) }
+    ensures ended { exit_status result ≢ 1 → IsAtEnd (R.left input.new) }
     // If the status is not 1, and the bytes of the reader were known at the start, the answers to
     // all its lines have been written, each followed by a line feed. This holds for any function
     // `answer` from lines to their answers; there is exactly one.
-    ensures complete { exit_status result ≢ 1 → IfSome (R.remaining input.old) (λ text.
+    ensures complete { exit_status result ≢ 1 → IfSome (R.left input.old) (λ text.
         (answer : List ℕ → List ℕ) (whole : List (List ℕ)) (rest : List ℕ)
         → ((line : List ℕ) → IsAnswerOf line (answer line)) → SplitsIntoLines text whole rest
-        → Appends (W.contents output.old) (W.contents output.new)
+        → Appends (W.held output.old) (W.held output.new)
         (answer_lines answer (all_lines whole rest))) }
+    ensures flushed { exit_status result ≢ 1 → W.flushed output.new }
     // If the status is not 1, nothing was written on `errors`, if what had been written there is
     // known.
-    ensures silent { exit_status result ≢ 1
-        → Keeps (E.contents errors.old) (E.contents errors.new) }
+    ensures silent { exit_status result ≢ 1 → Keeps (E.held errors.old) (E.held errors.new) }
     // The outcome of the run: whether each answer is good (`is_good`), or the failure.
     // `AnswersInput` states what was read and written for each outcome. After a failure `errors`
-    // has the line that names it, or a prefix of that line (`reported`).
+    // has the line that names it, or a prefix of that line if a write on `errors` failed. `Read`
+    // and `Write` have a cause: a call that failed, or 2^64 - 1 reads.
     ensures answered { (answer : List ℕ → List ℕ)
         → ((line : List ℕ) → IsAnswerOf line (answer line))
         → (outcome : Result Bool RunError)
         × MatchResult outcome
         (λ good. exit_status result ≡ (if is_strict && not good then 3 else 0))
         (λ _. exit_status result ≡ 1)
-        × AnswersInput answer (R.remaining input.old) (R.remaining input.new)
-        (W.contents output.old) (W.contents output.new) is_good outcome
-        × IfErr outcome (λ e. (reported more : List ℕ)
-        × Appends (E.contents errors.old) (E.contents errors.new) reported
-        × (e ≡ RunError.Read → reported ++ more ≡ codes "sockdiag: reading failed" ++ 10 ∷ [])
-        × (e ≡ RunError.Write → reported ++ more ≡ codes "sockdiag: writing failed" ++ 10 ∷ [])
-        × (e ≡ RunError.Memory → reported ++ more ≡ codes "sockdiag: out of memory" ++ 10 ∷ [])) }
+        × AnswersInput answer (R.left input.old) (R.left input.new)
+        (W.held output.old) (W.held output.new) is_good outcome
+        × IfErr outcome (λ e. WritesAllOrFails (E.held errors.old) (E.held errors.new)
+        ((error : WriteError) × E.failed errors.new error) (failure_line e)
+        × (e ≡ RunError.Read → R.failed input.new ⊎ R.reads input.new (2 ^ 64 - 1))
+        × (e ≡ RunError.Write → (error : WriteError) × W.failed output.new error)) }
 {
-    let outcome = answer_and_report(alloc, input, output, errors);
+    let outcome = answer_all(alloc, input, output);
+    report(errors, &outcome);
     exit_code(&outcome, is_strict)
 }
 

@@ -1,6 +1,6 @@
 //! Reads lines, and writes their answers.
-ghost use Rattle.std.specs.Prelude.{◌≡◌, ℕ, Bool, List, Result, Ok, Err, OnOk, IfErr, IfSome};
-ghost use Rattle.std.specs.Prelude.{MatchResult};
+ghost use Rattle.std.specs.Prelude.{◌≡◌, ◌⊎◌, ◌-◌, ◌^◌, ℕ, Bool, List, Result, Ok, Err, OnOk};
+ghost use Rattle.std.specs.Prelude.{IfErr, IfSome, MatchResult};
 ghost use Rattle.std.specs.Io.KnownBytes.{Appends, IsAtEnd, Keeps};
 ghost use Rattle.program_streams.specs.Lines.{SplitsIntoLines, all_lines};
 ghost use Rattle.program_streams.specs.LineRun.{AnswersInput, answer_lines};
@@ -13,7 +13,7 @@ ghost use Rattle.sock_diag_lines.specs.FailureLine.{failure_line};
 
 use crate::answer_parts::OK;
 use crate::answers::{LineRequest, push_answer_text, read_request};
-use program_streams::{LineAnswers, RunError, Sink, serve, try_send};
+use program_streams::{LineAnswers, PromptRead, RunError, Sink, serve, try_send};
 use std::alloc::{AllocError, Global};
 use std::io::{Read, Write};
 use std::marker::Brand;
@@ -97,58 +97,38 @@ pub fn run<R: Read, W: Write>(alloc: Global, input: &mut R, output: &mut W) -> R
 /// Answers each line of `input` with one line on `output`, flushes, and returns whether each answer
 /// is good. Before each read, the answers to all complete lines that were read have been written to
 /// `output`. A call that failed is not repeated.
-fn answer_all<R: Read, W: Write>(
+pub(crate) fn answer_all<R: PromptRead, W: Sink>(
     alloc: Global,
     input: &mut R,
     output: &mut W,
 ) -> Result<bool, RunError>
+    requires start { R.reads input.old 0 }
     // If the run succeeds, all input was read. The answers to all its lines are written, if the
     // bytes of the reader were known at the start.
-    ensures ended { OnOk result (IsAtEnd (R.remaining input.new)) }
-    ensures complete { OnOk result (IfSome (R.remaining input.old) (λ text.
+    ensures ended { OnOk result (IsAtEnd (R.left input.new)) }
+    ensures complete { OnOk result (IfSome (R.left input.old) (λ text.
         (answer : List ℕ → List ℕ) (whole : List (List ℕ)) (rest : List ℕ)
         → ((line : List ℕ) → IsAnswerOf line (answer line)) → SplitsIntoLines text whole rest
-        → Appends (W.contents output.old) (W.contents output.new)
+        → Appends (W.held output.old) (W.held output.new)
         (answer_lines answer (all_lines whole rest)))) }
+    ensures flushed { OnOk result (W.flushed output.new) }
 
     // The bytes that were read and written, for each outcome.
     ensures answered { (answer : List ℕ → List ℕ)
         → ((line : List ℕ) → IsAnswerOf line (answer line))
-        → AnswersInput answer (R.remaining input.old) (R.remaining input.new)
-        (W.contents output.old) (W.contents output.new) is_good result }
+        → AnswersInput answer (R.left input.old) (R.left input.new)
+        (W.held output.old) (W.held output.new) is_good result }
+    ensures read_cause { IfErr result (λ e. e ≡ RunError.Read
+        → R.failed input.new ⊎ R.reads input.new (2 ^ 64 - 1)) }
+    ensures write_cause { IfErr result (λ e. e ≡ RunError.Write
+        → (error : WriteError) × W.failed output.new error) }
 {
     serve::<Brand, Protocol, R, W>(alloc, input, output)
 }
 
-/// Does what `answer_all` does, and writes the line that names the failure, if there is one.
-pub(crate) fn answer_and_report<R: Read, W: Write, E: Sink>(
-    alloc: Global,
-    input: &mut R,
-    output: &mut W,
-    errors: &mut E,
-) -> Result<bool, RunError>
-    ensures ended { OnOk result (IsAtEnd (R.remaining input.new)) }
-    ensures complete { OnOk result (IfSome (R.remaining input.old) (λ text.
-        (answer : List ℕ → List ℕ) (whole : List (List ℕ)) (rest : List ℕ)
-        → ((line : List ℕ) → IsAnswerOf line (answer line)) → SplitsIntoLines text whole rest
-        → Appends (W.contents output.old) (W.contents output.new)
-        (answer_lines answer (all_lines whole rest)))) }
-    ensures answered { (answer : List ℕ → List ℕ)
-        → ((line : List ℕ) → IsAnswerOf line (answer line))
-        → AnswersInput answer (R.remaining input.old) (R.remaining input.new)
-        (W.contents output.old) (W.contents output.new) is_good result }
-    ensures silent { OnOk result (Keeps (E.held errors.old) (E.held errors.new)) }
-    ensures reported { IfErr result (λ e. WritesAllOrFails (E.held errors.old) (E.held errors.new)
-        ((error : WriteError) × E.failed errors.new error) (failure_line e)) }
-{
-    let outcome = answer_all(alloc, input, output);
-    report(errors, &outcome);
-    outcome
-}
-
 /// Writes the line that names the failure, if the run failed. If a write fails, a prefix of it has
 /// been written.
-fn report<E: Sink>(errors: &mut E, outcome: &Result<bool, RunError>)
+pub(crate) fn report<E: Sink>(errors: &mut E, outcome: &Result<bool, RunError>)
     ensures silent { OnOk outcome.now (Keeps (E.held errors.old) (E.held errors.new)) }
     ensures reported { IfErr outcome.now
         (λ e. WritesAllOrFails (E.held errors.old) (E.held errors.new)

@@ -5,7 +5,7 @@ use Rattle.program_streams.proofs.LineRunLemmas.{run_complete}
 use Rattle.sock_diag_lines.proofs.stream.answer_all.Goals as goal
 
 pub serve-requires : goal.serve-requires
-serve-requires g c = record { start = (refl, refl, tt); right = answer_of-is }
+serve-requires g c = record { start = (refl, refl, c.requires.start); right = answer_of-is }
 
 pub returns-clause-complete : goal.returns-clause-complete
 returns-clause-complete g c = run_complete IsAnswerOf is_good answer_of

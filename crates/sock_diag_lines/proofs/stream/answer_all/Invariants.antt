@@ -3,7 +3,7 @@ use Rattle.sock_diag_lines.proofs.stream.answer_all.Given as goal
 
 abbrev pub ghosts-serve : goal.ghosts-serve
 ghosts-serve g a = record {
-  remaining = g.R.Read.remaining a.input.now;
-  contents = g.W.Write.contents a.output.now;
+  remaining = g.R.PromptRead.left a.input.now;
+  contents = g.W.Sink.held a.output.now;
   answer = answer_of;
 }
