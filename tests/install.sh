@@ -64,7 +64,7 @@ fails 2 "an absolute LIBDIR" env LIBDIR=/lib "$install" "$work/none"
 fails 1 "a compiler that fails" env CC=false "$install" "$work/none"
 for signal in INT TERM HUP; do
     # shellcheck disable=SC2016
-    printf '#!/bin/sh\nkill -%s $PPID\nsleep 1\n' "$signal" >"$work/killer"
+    printf '#!/bin/sh\nkill -%s $PPID\n' "$signal" >"$work/killer"
     chmod +x "$work/killer"
     # A script that is started in the background ignores SIGINT.
     fails 130 "$signal" env --default-signal="$signal" CC="$work/killer" "$install" "$work/none"

@@ -108,7 +108,7 @@ def check_prompt_answers(program, lines, answers):
         for line, answer in zip(lines, answers):
             started.stdin.write(line)
             read = b""
-            while not read.endswith(b"\n") and select.select([started.stdout], [], [], 10)[0]:
+            while not read.endswith(b"\n") and select.select([started.stdout], [], [], 60)[0]:
                 read += started.stdout.read(1 << 16) or b"\n"
             if read != answer:
                 failures.append(f"{program}: {read[:60]} before the next line, "

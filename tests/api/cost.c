@@ -1,22 +1,19 @@
 /*
- * cost: measures that each call of include/sockdiag.h takes time that is at most linear in the
- * length of its input. Inputs of several forms have 8 KiB and 64 KiB: many small attributes, many
- * rejected ones, one long text, list or array, and many messages. The longer input may take
- * MOST_FACTOR times as much as the shorter one, where linear time is 8 times and quadratic time 64
- * times. Time is that of the thread, the least of several runs. tests/api/c_api.sh runs this
- * program; the status is 1 if a call takes more.
+ * cost: counts the instructions of each call of include/sockdiag.h, and checks that they are at most
+ * linear in the length of its input. Inputs of several forms have 8 KiB and 64 KiB: many small
+ * attributes, many rejected ones, one long text, list or array, and many messages. The longer input
+ * may take MOST_FACTOR times as many instructions as the shorter one, where linear work is 8 times
+ * and quadratic work 64 times. tests/api/c_api.sh runs this program under callgrind, which counts;
+ * its argument is the start of the names of the files that callgrind writes. The status is 1 if a
+ * call takes more.
  */
-#define _POSIX_C_SOURCE 200112L /* For clock_gettime. */
 #include "check.h"
 
-#include <time.h>
+#include <valgrind/callgrind.h>
 
 #define SHORT ((size_t)8 << 10)
 #define LONG ((size_t)64 << 10)
-#define MOST_FACTOR 24
-#define RUNS 15
-/* In nanoseconds. A shorter time is that of the call itself, and does not depend on the input. */
-#define LEAST_TIME 2000
+#define MOST_FACTOR 9
 
 static uint8_t input[LONG], output[LONG + 128];
 static volatile uint64_t sink;
@@ -271,44 +268,52 @@ static const struct {
     fill *forms[6];
 } rows[] = {ROWS(ROW, ROW, ROW, ROW, OTHER_ROW)};
 
-static uint64_t now(void) {
-    struct timespec time;
-    clock_gettime(CLOCK_THREAD_CPUTIME_ID, &time);
-    return (uint64_t)time.tv_sec * 1000000000u + (uint64_t)time.tv_nsec;
+/* Returns the number of instructions that callgrind has written to its file with this number. */
+static uint64_t count_in(const char *start, int number) {
+    char name[4096], line[4096];
+    unsigned long long count = 0;
+    FILE *file;
+    snprintf(name, sizeof name, "%s.%d", start, number);
+    file = fopen(name, "r");
+    while (file != NULL && fgets(line, sizeof line, file) != NULL)
+        sscanf(line, "totals: %llu", &count);
+    if (file != NULL)
+        fclose(file);
+    return count;
 }
 
-/* Returns the least time of a call with an input of this length, in nanoseconds. */
-static uint64_t measure(run *call, fill *form, size_t length) {
-    uint64_t least = UINT64_MAX;
-    int runs;
+/* Returns the number of instructions of a call with an input of this length, or 0 if they are not
+ * counted. */
+static uint64_t measure(run *call, fill *form, size_t length, const char *start) {
+    static int number;
     form(input, length);
-    for (runs = 0; runs < RUNS; runs++) {
-        const uint64_t start = now();
-        call(input, length);
-        if (now() - start < least)
-            least = now() - start;
-    }
-    return least > LEAST_TIME ? least : LEAST_TIME;
+    CALLGRIND_ZERO_STATS;
+    call(input, length);
+    CALLGRIND_DUMP_STATS;
+    return count_in(start, ++number);
 }
 
-int main(void) {
+int main(int count, char **arguments) {
     double worst = 0;
     size_t row, form;
     int failed = 0;
+    if (count != 2)
+        return 2;
     for (row = 0; row < sizeof rows / sizeof *rows; row++) {
         for (form = 0; form < 6 && rows[row].forms[form] != NULL; form++) {
-            const uint64_t few = measure(rows[row].call, rows[row].forms[form], SHORT);
-            const uint64_t many = measure(rows[row].call, rows[row].forms[form], LONG - 4);
-            const double factor = (double)many / (double)few;
+            fill *fill = rows[row].forms[form];
+            const uint64_t few = measure(rows[row].call, fill, SHORT, arguments[1]);
+            const uint64_t many = measure(rows[row].call, fill, LONG - 4, arguments[1]);
+            const double factor = few == 0 ? MOST_FACTOR + 1.0 : (double)many / (double)few;
             if (factor > worst)
                 worst = factor;
             if (factor <= MOST_FACTOR)
                 continue;
-            fprintf(stderr, "cost: %s takes %.1f times as long for 8 times the bytes\n",
-                    rows[row].name, factor);
+            fprintf(stderr, "cost: %s takes %llu and, for 8 times the bytes, %llu instructions\n",
+                    rows[row].name, (unsigned long long)few, (unsigned long long)many);
             failed = 1;
         }
     }
-    printf("cost: at most %.1f times as long for 8 times the bytes\n", worst);
+    printf("cost: at most %.1f times as many instructions for 8 times the bytes\n", worst);
     return failed;
 }

@@ -1,13 +1,14 @@
 #!/bin/sh
 # Checks that a name borrowed from a view cannot outlive the bytes: a function that uses such a name
-# must not compile. The compiler rejects it before the prover runs, so it cannot be a must-fail
-# edit. The script adds it to a copy of the crates.
+# must not compile. The compiler rejects it before the prover runs, so it is no edit of tests/edits.
+# The script adds the function to a copy of the crate, over the libraries that `rt ci` or `rt lib`
+# left. The gate runs it.
 set -eu
 top=$(CDPATH='' cd -- "$(dirname -- "$0")/../.." && pwd)
 work=$(mktemp -d)
 trap 'rm -rf "$work"' EXIT
-cp -a "$top/crates" "$top/crates.txt" "$top/HANDLES" "$work"
-cd "$work/crates/sock_diag_replies"
+for part in src specs proofs; do cp -R "$top/crates/sock_diag_replies/$part" "$work"; done
+cd "$work"
 
 cat >>src/unix/reply.rt <<'END'
 
@@ -24,9 +25,9 @@ pub fn outlived(alloc: std::alloc::Global, header: &[u8]) -> Result<usize, Decod
 }
 END
 
-rt check >"$work/log" 2>&1 || true
-if ! grep -q 'src/unix/reply.rt:.*`ended` does not live long enough' "$work/log"; then
-    tail -n 20 "$work/log" >&2
+"$top/tests/over_gate.sh" sock_diag_replies check --only unix::reply::outlived >log 2>&1 || true
+if ! grep -q 'src/unix/reply.rt:.*`ended` does not live long enough' log; then
+    tail -n 20 log >&2
     echo "must_not_compile: a name that outlives its bytes was not rejected" >&2
     exit 1
 fi

@@ -1,6 +1,7 @@
 #!/bin/sh
-# Makes allocations fail: in the first run the first allocation, in the second run the second, and
-# so on, until a run ends before its failing allocation. Then it repeats all runs, each with all
+# out_of_memory.sh TESTS SOCKDIAG: runs the built tests of netlink_packet_sock_diag and the program,
+# and makes allocations fail: in the first run the first allocation, in the second run the second,
+# and so on, until a run ends before its failing allocation. Then it repeats all runs, each with all
 # later allocations failing too.
 #
 # The tests `out_of_memory` of netlink_packet_sock_diag_tests check each run of the readers, of
@@ -8,10 +9,14 @@
 # its stored lines, its output has to be a prefix of the stored answers that consists of whole
 # lines, its exit status 1, and its error message "out of memory".
 #
-# `rt try --fail-alloc` makes one allocation fail too, but builds the tests again for each. This
-# script preloads a library that replaces malloc, so it needs a C compiler and a loader that
-# supports LD_PRELOAD.
+# The gate runs it, with what `rt ci` built. It preloads a library that replaces malloc, so it needs a
+# C compiler and a loader that supports LD_PRELOAD.
 set -eu
+if [ $# != 2 ]; then
+    echo "usage: tests/api/out_of_memory.sh TESTS SOCKDIAG" >&2
+    exit 2
+fi
+tests=$(realpath "$1") sockdiag=$(realpath "$2")
 top=$(CDPATH='' cd -- "$(dirname -- "$0")/../.." && pwd)
 work=$(mktemp -d)
 trap 'rm -rf "$work"' EXIT
@@ -46,9 +51,6 @@ sweep() {
     echo "$what: each of $((first - 1)) allocations failed, by itself and with all later ones"
 }
 
-crate=$top/crates/netlink_packet_sock_diag_tests
-(cd "$crate" && rt test >"$work/build" 2>&1) || { cat "$work/build" >&2; exit 1; }
-tests=$crate/out/netlink_packet_sock_diag_tests_tests
 : >"$work/in"
 look() { [ "$status" -eq 0 ] || fail "the test failed"; }
 for what in $("$tests" --list | sed -n 's/^\(.*::out_of_memory::.*\): test$/\1/p'); do
@@ -56,7 +58,6 @@ for what in $("$tests" --list | sed -n 's/^\(.*::out_of_memory::.*\): test$/\1/p
 done
 
 crate=$top/crates/sockdiag
-(cd "$crate" && rt run <stdin >"$work/build" 2>&1) || { cat "$work/build" >&2; exit 1; }
 cp "$crate/stdin" "$work/in"
 look() {
     if ! grep -q '^refused$' "$work/errors"; then
@@ -73,7 +74,7 @@ look() {
         fail "the last line is incomplete"
 }
 what=sockdiag
-sweep "$crate/out/sockdiag"
+sweep "$sockdiag"
 
 # Counts the allocations for 10,000 further lines, after the buffers have grown. At most two for
 # each line are allowed.
@@ -86,7 +87,7 @@ lines() {
 
 requests() {
     lines "$1" |
-        LD_PRELOAD=$work/fail_malloc.so REQUEST_COUNT=$work/count "$crate/out/sockdiag" >/dev/null
+        LD_PRELOAD=$work/fail_malloc.so REQUEST_COUNT=$work/count "$sockdiag" >/dev/null
     cat "$work/count"
 }
 
