@@ -35,7 +35,6 @@ def compile_c(compiler):
         ("c++", "c++11", "tests/api/c_api.c"),
         ("c", "c99", "tests/api/c_lenient.c"),
         ("c++", "c++11", "tests/api/c_lenient.c"),
-        ("c", "c99", "tests/api/cost.c"),
         ("c", "c99", "tests/api/fuzz_c.c"),
         ("c", "c99", "tests/api/print_lenient.c"),
         ("c", "c99", "tests/api/fake_kernel.c"),

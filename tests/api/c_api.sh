@@ -1,10 +1,10 @@
 #!/bin/sh
 # Builds the static library of include/sockdiag.h, and calls it from C: tests/api/c_api.c and
-# tests/api/c_lenient.c compare what the calls return, tests/api/cost.c measures that the time of
-# each call is linear, tests/api/fuzz_c.c calls them with changed replies, and
-# tests/live/compare_lenient.sh compares the lenient calls with an independent reader. Then installs
-# the library, and lists the sockets of this machine by examples/list_sockets.c, if the kernel
-# permits it. Needs the kit's rt, a C compiler and Python. The gate and tools/release run this
+# tests/api/c_lenient.c compare what the calls return, tests/api/cost.c counts that the instructions
+# of each call are linear, if valgrind is installed, tests/api/fuzz_c.c calls them with changed
+# replies, and tests/live/compare_lenient.sh compares the lenient calls with an independent reader.
+# Then installs the library, and lists the sockets of this machine by examples/list_sockets.c, if the
+# kernel permits it. Needs the kit's rt, a C compiler and Python. The gate and tools/release run this
 # script.
 set -eu
 top=$(CDPATH='' cd -- "$(dirname -- "$0")/../.." && pwd)
@@ -29,10 +29,16 @@ build() {
         -o "$work/$name" "$source" "$top/crates/sockdiag_c/out/libsockdiag_c.a"
 }
 
-for name in c_api c_lenient cost; do
+for name in c_api c_lenient; do
     build "$name" "$top/tests/api/$name.c"
     "$work/$name"
 done
+if echo '#include <valgrind/callgrind.h>' | ${CC:-cc} -E - >/dev/null 2>&1; then
+    build cost "$top/tests/api/cost.c"
+    valgrind -q --tool=callgrind --callgrind-out-file="$work/count" "$work/cost" "$work/count"
+else
+    echo "c_api: skipped: cost.c: no valgrind"
+fi
 
 # The sanitizers check the test itself, and what the library passes to functions like memcpy.
 set -- -fsanitize=address,undefined

@@ -8,8 +8,9 @@ use sockdiag::inet::{parse_cgroup_id, AttributeRecords, BbrInfo, DctcpInfo, Inet
 use sockdiag::inet::{SocketOption, SocketOptions, TcpField, TcpInfoBytes, VegasInfo};
 use sockdiag::unix::{parse_uid, UnixReply};
 use std::collections::BTreeSet;
+use std::env;
 use std::net::{IpAddr, Ipv4Addr, Ipv6Addr};
-use std::time::{Duration, Instant};
+use std::process::Command;
 
 /// Offset and width of each field of `struct tcp_info` of `linux/tcp.h`, in the order of
 /// `TcpField::ALL`: the widths are in the order of the struct, and there is no padding.
@@ -275,23 +276,41 @@ fn reply_with_pending(attributes: usize, inodes: usize) -> Vec<u8> {
     bytes
 }
 
-/// Returns the least time of some runs.
-fn least_time(mut run: impl FnMut()) -> Duration {
-    let mut time = || {
-        let start = Instant::now();
-        run();
-        start.elapsed()
-    };
-    (0..9).map(|_| time()).min().unwrap()
+/// The name of the test below, which calls itself under callgrind.
+const COUNTED: &str = "pending_connections_take_linear_work";
+
+/// Returns the number of instructions of a process that iterates over this many pending connections
+/// after this many other attributes, or `None` if valgrind is not installed.
+fn instructions(attributes: usize, inodes: usize) -> Option<u64> {
+    let run = Command::new("valgrind")
+        .args(["--tool=callgrind", "--callgrind-out-file=/dev/null"])
+        .arg(env::current_exe().unwrap())
+        .args([COUNTED, "--exact", "--test-threads=1"])
+        .env(COUNTED, format!("{attributes} {inodes}"))
+        .output()
+        .ok()?;
+    let text = String::from_utf8_lossy(&run.stderr);
+    assert!(run.status.success(), "{text}");
+    let (_, count) = text.split_once("Collected : ").unwrap();
+    Some(count.split_whitespace().next()?.parse().unwrap())
 }
 
 #[test]
-fn pending_connections_take_linear_time() {
-    let [few, many] = [(500, 512), (4000, 4096)].map(|(attributes, inodes)| {
-        let bytes = reply_with_pending(attributes, inodes);
+fn pending_connections_take_linear_work() {
+    if let Ok(sizes) = env::var(COUNTED) {
+        let (attributes, inodes) = sizes.split_once(' ').unwrap();
+        let inodes = inodes.parse().unwrap();
+        let bytes = reply_with_pending(attributes.parse().unwrap(), inodes);
         let reply = UnixReply::parse(&bytes).unwrap();
-        least_time(|| assert_eq!(reply.pending_connections().count(), inodes))
-    });
-    // Eight times the bytes. Quadratic time would be 64 times as much.
-    assert!(many < 24 * few, "{many:?} for many, {few:?} for few");
+        assert_eq!(reply.pending_connections().count(), inodes);
+        return;
+    }
+    let sizes = [(0, 0), (2000, 2000), (16_000, 16_000)];
+    let [Some(none), Some(few), Some(many)] = sizes.map(|(a, b)| instructions(a, b)) else {
+        eprintln!("{COUNTED}: skipped: no valgrind");
+        return;
+    };
+    // Eight times the bytes. Quadratic work would be 64 times as much.
+    let (few, many) = (few.saturating_sub(none), many.saturating_sub(none));
+    assert!(many < 24 * few, "{many} for many, {few} for few");
 }
