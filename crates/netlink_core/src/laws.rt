@@ -244,7 +244,7 @@ pub fn copied_walk<'a>(walk: &NlasIterator<'a>) -> Result<NlasIterator<'a>, Allo
     walk.clone()
 }
 
-/// Returns a clone. Cloning an iterator over messages with their headers succeeds, and the clone has
+/// Returns a clone. Cloning an iterator over messages and their headers succeeds, and the clone has
 /// the same bytes left to read (`unread_messages`).
 pub fn copied_framed_messages<'a>(
     walk: &FramedMessages<'a>,

@@ -38,11 +38,25 @@ const UNIX_WRITTEN: &str = "ok 01010a000e4f0000a002000000000000ffff0700";
 
 const UNWRITABLE: Repeated = ("unwritable", "", 0, "");
 
+/// The answer to a reply about a TCP connection, up to these letters.
+const INET_WRITTEN: &str =
+    "ok 02010200eb1401bbc0a8b23c000000000000000000000000acd917830000000000000000\
+00000000000000005203000000000000806000000000000000000000e8030000a8da2900ffff0400";
+
 /// The name of a congestion control algorithm of 65,531 letters is accepted, and has no space for
-/// its terminating NUL. A message or a dump with such a reply is not writable either. The longest
-/// attribute of an unknown type is serialized with its padding.
-const LONG: [(Repeated, Repeated); 5] = [
+/// its terminating NUL. With one letter less it is serialized with its NUL and its padding, alone
+/// and before another attribute. A message or a dump with a reply that is not writable is not
+/// writable either. The longest attribute of an unknown type is serialized with its padding.
+const LONG: [(Repeated, Repeated); 7] = [
     ((INET, "61", 65_531, ""), UNWRITABLE),
+    (
+        (INET, "61", 65_530, "00"),
+        (INET_WRITTEN, "61", 65_530, "0000"),
+    ),
+    (
+        (INET, "61", 65_530, "00000500080000000000"),
+        (INET_WRITTEN, "61", 65_530, "00000500080000000000"),
+    ),
     ((NETLINK, "61", 65_531, ""), UNWRITABLE),
     ((DUMP, "61", 65_531, "00"), UNWRITABLE),
     ((DUMP, "61", 65_531, END), UNWRITABLE),
@@ -52,8 +66,8 @@ const LONG: [(Repeated, Repeated); 5] = [
 #[test]
 fn answers_long_lines(rt: HostRuntime) {
     let alloc = rt.alloc();
-    for (line, want) in LONG {
-        let (line, want) = (repeated(&rt, alloc, line), repeated(&rt, alloc, want));
+    for (line, want) in &LONG {
+        let (line, want) = (repeated(&rt, alloc, *line), repeated(&rt, alloc, *want));
         answers(&rt, alloc, line.as_bytes(), want.as_bytes());
     }
 }

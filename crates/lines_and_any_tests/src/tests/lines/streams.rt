@@ -238,6 +238,10 @@ fn each_write_fails(rt: HostRuntime) {
 #[test]
 fn ends_of_a_run(rt: HostRuntime) {
     let unended = INPUT.strip_suffix('\n').unwrap_or("");
+    let (first, first_answer) = (
+        INPUT.get(..56).unwrap_or(""),
+        OUTPUT.get(..52).unwrap_or(""),
+    );
     let failed = Err(RunError::Write);
     for (text, most, fails_at, outcome, written) in [
         (INPUT, NEVER, FLUSH, failed, OUTPUT),
@@ -247,6 +251,7 @@ fn ends_of_a_run(rt: HostRuntime) {
         ("", NEVER, NEVER, Ok(()), ""),
         (unended, NEVER, NEVER, Ok(()), OUTPUT),
         (unended, 1, NEVER, Ok(()), OUTPUT),
+        (first, NEVER, NEVER, Ok(()), first_answer),
     ] {
         let paces = (steady(NEVER), failing(most, fails_at, 1));
         let (text, written) = (text.as_bytes(), written.as_bytes());
