@@ -1,10 +1,10 @@
 #!/bin/sh
 # Builds the static library of include/sockdiag.h, and calls it from C: tests/api/c_api.c and
-# tests/api/c_lenient.c compare what the calls return, tests/api/cost.c counts that the instructions
-# of each call are linear, if valgrind is installed, tests/api/fuzz_c.c calls them with changed
-# replies, and tests/live/compare_lenient.sh compares the lenient calls with an independent reader.
-# Then installs the library, and lists the sockets of this machine by examples/list_sockets.c, if the
-# kernel permits it. Needs the kit's rt, a C compiler and Python. The gate and tools/release run this
+# tests/api/c_lenient.c compare what the calls return, tests/api/cost.c counts their instructions,
+# if valgrind is installed, tests/api/fuzz_c.c calls them with changed replies, and
+# tests/live/compare_lenient.sh compares the lenient calls with an independent reader. Then installs
+# the library, and lists the sockets of this machine by examples/list_sockets.c, if the kernel
+# permits it. Needs the kit's rt, a C compiler and Python. The gate and tools/release run this
 # script.
 set -eu
 top=$(CDPATH='' cd -- "$(dirname -- "$0")/../.." && pwd)

@@ -9,8 +9,8 @@
 # its stored lines, its output has to be a prefix of the stored answers that consists of whole
 # lines, its exit status 1, and its error message "out of memory".
 #
-# The gate runs it, with what `rt ci` built. It preloads a library that replaces malloc, so it needs a
-# C compiler and a loader that supports LD_PRELOAD.
+# The gate runs it, with what `rt ci` built. It preloads a library that replaces malloc, so it needs
+# a C compiler and a loader that supports LD_PRELOAD.
 set -eu
 if [ $# != 2 ]; then
     echo "usage: tests/api/out_of_memory.sh TESTS SOCKDIAG" >&2
