@@ -1,5 +1,6 @@
 ghost use Rattle.std.specs.Iterator.{IsFinite};
 
+use netlink_core::Emitable;
 use std::alloc::Global;
 use std::fmt::Debug;
 use std::process::Abort;
@@ -19,6 +20,26 @@ fn is_text(rt: &impl Abort, shown: &str, text: &str) {
 /// Asserts that the bytes are equal.
 fn same(rt: &impl Abort, bytes: &[u8], wanted: &[u8]) {
     assert!(rt; bytes == wanted, "{bytes:?}");
+}
+
+/// Returns the bytes of the value, which `emit` writes to the start of a buffer that is two bytes
+/// longer, or `None` if the value is not writable. Asserts that the two bytes are unchanged.
+fn emitted<T: Emitable>(rt: &impl Abort, alloc: Global, value: &T) -> Option<Vec<u8>> {
+    let length = value.writable_len()?;
+    let mut bytes = vec![in alloc; 0xff; length.saturating_add(2)].expect(rt, "memory");
+    value.emit(&mut bytes);
+    same(rt, bytes.get(length..).expect(rt, "short"), &[0xff; 2]);
+    bytes.truncate(length);
+    Some(bytes)
+}
+
+/// Asserts that the value serializes to these bytes.
+fn writes<T: Emitable>(rt: &impl Abort, alloc: Global, value: &T, bytes: &[u8]) {
+    same(
+        rt,
+        &emitted(rt, alloc, value).expect(rt, "unwritable"),
+        bytes,
+    );
 }
 
 /// Returns what `Debug` prints for the value.

@@ -1,11 +1,11 @@
 //! Tests of names and attributes. The bytes are worked out by hand from the layouts of
 //! sock_diag(7).
 
-use super::{debug_text, is_text, same, shows, sizes};
+use super::{debug_text, emitted, is_text, same, shows, sizes, writes};
 use netlink_core::{
-    CanonError, DecodeError, DefaultNla, Emitable, NlaBuffer, Parseable, Wire, canonical, write_new,
+    CanonError, DecodeError, DefaultNla, Emitable, NlaBuffer, Parseable, Wire, canonical,
 };
-use sock_diag_attributes::inet::nlas::{self as inet, TcpInfo};
+use sock_diag_attributes::inet::nlas::{self as inet, MemInfo, TcpInfo};
 use sock_diag_attributes::unix::nlas::{NameView, Nla, NlaView, UnixDiagName};
 use std::alloc::Global;
 use std::fmt::Debug;
@@ -29,8 +29,8 @@ pub(super) struct Report {
     /// What `Debug` prints for the view, and for a clone of its owned copy.
     pub(super) view: String,
     pub(super) copy: String,
-    /// Whether the value is serialized.
-    pub(super) is_written: bool,
+    /// Bytes that the owned value serializes to, or `None` if it is not writable.
+    pub(super) written: Option<Vec<u8>>,
     /// Canonical form of the bytes.
     pub(super) form: Result<Vec<u8>, CanonError>,
 }
@@ -45,22 +45,20 @@ fn short_text<T: Debug>(rt: &impl Abort, alloc: Global, value: &T, bytes: &[u8])
 
 /// A type that has a borrowed form, a view. The trait does not extend `Wire`, whose laws make each
 /// call of a generic helper slow to prove.
-trait Viewed: Sized + Debug + Drop {
-    /// Parses an owned value.
-    fn parsed(alloc: Global, bytes: &[u8]) -> Result<Self, DecodeError>;
+trait Viewed: Sized + Debug + Drop + Emitable {
+    /// Parses an owned value. If there is more than one parser, asserts that all of them return
+    /// the same.
+    fn parsed(rt: &impl Abort, alloc: Global, bytes: &[u8]) -> Result<Self, DecodeError>;
 
     /// Parses a view. Returns the text that `Debug` prints for it, and a clone of its owned copy.
     fn viewed(rt: &impl Abort, alloc: Global, bytes: &[u8]) -> (String, Self);
-
-    /// Returns whether the value is serialized.
-    fn is_written(&self, alloc: Global) -> bool;
 
     /// Returns the canonical form.
     fn form(alloc: Global, bytes: &[u8]) -> Result<Vec<u8>, CanonError>;
 }
 
 impl Viewed for UnixDiagName {
-    fn parsed(alloc: Global, bytes: &[u8]) -> Result<Self, DecodeError> {
+    fn parsed(_rt: &impl Abort, alloc: Global, bytes: &[u8]) -> Result<Self, DecodeError> {
         UnixDiagName::read(alloc, bytes, ())
     }
 
@@ -71,18 +69,17 @@ impl Viewed for UnixDiagName {
         (debug_text(rt, alloc, &view), copy)
     }
 
-    fn is_written(&self, alloc: Global) -> bool {
-        write_new(alloc, self).is_ok()
-    }
-
     fn form(alloc: Global, bytes: &[u8]) -> Result<Vec<u8>, CanonError> {
         canonical::<UnixDiagName>(alloc, bytes, ())
     }
 }
 
 impl Viewed for Nla {
-    fn parsed(alloc: Global, bytes: &[u8]) -> Result<Self, DecodeError> {
-        Nla::read(alloc, bytes, ())
+    fn parsed(rt: &impl Abort, alloc: Global, bytes: &[u8]) -> Result<Self, DecodeError> {
+        let value = Nla::read(alloc, bytes, ());
+        let nla = NlaBuffer::new_checked(bytes);
+        assert!(rt; nla.and_then(|nla| Nla::parse(alloc, nla)) == value);
+        value
     }
 
     fn viewed(rt: &impl Abort, alloc: Global, bytes: &[u8]) -> (String, Self) {
@@ -93,18 +90,17 @@ impl Viewed for Nla {
         (debug_text(rt, alloc, &view), copy)
     }
 
-    fn is_written(&self, alloc: Global) -> bool {
-        write_new(alloc, self).is_ok()
-    }
-
     fn form(alloc: Global, bytes: &[u8]) -> Result<Vec<u8>, CanonError> {
         canonical::<Nla>(alloc, bytes, ())
     }
 }
 
 impl Viewed for inet::Nla {
-    fn parsed(alloc: Global, bytes: &[u8]) -> Result<Self, DecodeError> {
-        inet::Nla::read(alloc, bytes, ())
+    fn parsed(rt: &impl Abort, alloc: Global, bytes: &[u8]) -> Result<Self, DecodeError> {
+        let value = inet::Nla::read(alloc, bytes, ());
+        let nla = NlaBuffer::new_checked(bytes);
+        assert!(rt; nla.and_then(|nla| inet::Nla::parse(alloc, nla)) == value);
+        value
     }
 
     fn viewed(rt: &impl Abort, alloc: Global, bytes: &[u8]) -> (String, Self) {
@@ -113,10 +109,6 @@ impl Viewed for inet::Nla {
         let copy = view.to_owned(alloc).expect(rt, "memory");
         let copy = copy.clone(alloc).expect(rt, "memory");
         (debug_text(rt, alloc, &view), copy)
-    }
-
-    fn is_written(&self, alloc: Global) -> bool {
-        write_new(alloc, self).is_ok()
     }
 
     fn form(alloc: Global, bytes: &[u8]) -> Result<Vec<u8>, CanonError> {
@@ -129,13 +121,13 @@ fn examine_as<T: Viewed>(
     alloc: Global,
     bytes: &[u8],
 ) -> Result<Report, DecodeError> {
-    let value = T::parsed(alloc, bytes)?;
+    let value = T::parsed(rt, alloc, bytes)?;
     let (view, copy) = T::viewed(rt, alloc, bytes);
     Ok(Report {
         owned: short_text(rt, alloc, &value, bytes),
         view,
         copy: short_text(rt, alloc, &copy, bytes),
-        is_written: value.is_written(alloc),
+        written: emitted(rt, alloc, &value),
         form: T::form(alloc, bytes),
     })
 }
@@ -164,8 +156,8 @@ fn reads(rt: &impl Abort, alloc: Global, subject: Subject, bytes: &[u8], text: &
 }
 
 // Asserts that the bytes parse as an owned value and as a view, which `Debug` prints as these
-// texts, that the view's owned copy prints as the owned value does, and that the canonical form is
-// `written`.
+// texts, that the view's owned copy prints as the owned value does, and that the owned value
+// serializes to `written`, which is also the canonical form.
 fn told(
     rt: &impl Abort,
     alloc: Global,
@@ -178,9 +170,12 @@ fn told(
     is_text(rt, report.owned.as_str(), owned);
     is_text(rt, report.copy.as_str(), owned);
     is_text(rt, report.view.as_str(), viewed);
-    match &report.form {
-        Ok(form) => same(rt, form, written),
-        Err(_) => panic!(rt; "refused"),
+    match (&report.written, &report.form) {
+        (Some(bytes), Ok(form)) => {
+            same(rt, bytes, written);
+            same(rt, form, written);
+        }
+        _ => panic!(rt; "refused"),
     }
 }
 
@@ -210,9 +205,14 @@ const NAMES: &str = "\
 const UNIX: &str = "\
 060000006100 0600000061000000 Name(Pathname([97]))
 090000000007000707 090000000007000707000000 Name(Abstract([7, 0, 7, 7]))
-0d0001000102000003040000ee 0c0001000102000003040000 Vfs(Vfs { inode: 513, device: 1027 })
+3000000000316331343430633566356532613532652f6275732f73797374656d642f002f6275732d6170692d75736572 \
+3000000000316331343430633566356532613532652f6275732f73797374656d642f002f6275732d6170692d75736572 \
+Name(Abstract([49, 99, 49, 52, 52, 48, 99, 53, 102, 53, 101, 50, 97, 53, 50, 101, 47, 98, 117, \
+115, 47, 115, 121, 115, 116, 101, 109, 100, 47, 0, 47, 98, 117, 115, 45, 97, 112, 105, 45, 117, \
+115, 101, 114]))
+0d0001000100000002000000ff 0c0001000100000002000000 Vfs(Vfs { inode: 1, device: 2 })
 0800024056790000 0800020056790000 Peer(31062)
-0c0004000000000080000000 0c0004000000000080000000 ReceiveQueueLength(0, 128)
+0c0004000300000007000000 0c0004000300000007000000 ReceiveQueueLength(3, 7)
 28000500010000000200000003000000040000000500000006000000070000000800000009000000 \
 28000500000000000200000000000000040000000000000006000000000000000000000000000000 MemInfo(MemInfo \
 { so_rcvbuf: 2, max_datagram_size: 4, alloc: 6 })
@@ -267,14 +267,22 @@ fn information_on_a_connection(rt: HostRuntime) {
 #[test]
 fn numbers_are_shown_and_kept(rt: HostRuntime) {
     let alloc = rt.alloc();
-    let nla = NlaBuffer::new_checked(&[8, 0, 3, 0, 5, 0, 0, 0]).expect(&rt, "refused");
+    let bytes = &[12, 0, 3, 0, 5, 0, 0, 0, 6, 0, 0, 0];
+    let nla = NlaBuffer::new_checked(bytes).expect(&rt, "refused");
     let NlaView::PendingConnections(numbers) = NlaView::parse(&nla).expect(&rt, "refused") else {
         panic!(&rt; "no numbers");
     };
-    let text = "NumbersIterator { rest: NumbersView { bytes: [5, 0, 0, 0] } }";
+    let text = "NumbersIterator { rest: NumbersView { bytes: [5, 0, 0, 0, 6, 0, 0, 0] } }";
     shows(&rt, alloc, &numbers.iter(), text);
+    let items = [numbers.get(0), numbers.get(1), numbers.get(2)];
+    shows(
+        &rt,
+        alloc,
+        &(numbers.len(), items),
+        "(2, [Some(5), Some(6), None])",
+    );
     let owned = numbers.to_owned(alloc).expect(&rt, "memory");
-    shows(&rt, alloc, &owned, "[5]");
+    shows(&rt, alloc, &owned, "[5, 6]");
 }
 
 // Checks each row: bytes in hexadecimal, and the error that rejects them.
@@ -294,7 +302,13 @@ const NO_UNIX: &str = "0b00010000000000000000 Err(BufferTooSmall { which: Vfs, g
 07000280000000 Err(WrongLength { kind: Some(2), got: 3, need: 4 })
 060003000102 Err(NotMultipleOfFour { got: 2 })
 0800040000000000 Err(WrongLength { kind: Some(4), got: 4, need: 8 })
+04000600 Err(WrongLength { kind: Some(6), got: 0, need: 1 })
 060006000000 Err(WrongLength { kind: Some(6), got: 2, need: 1 })
+2000050001000000020000000300000004000000050000000600000007000000 \
+Err(BufferTooSmall { which: UnixMemInfo, got: 28, need: 36 })
+050006 Err(AttributeHeaderCut { left: 3 })
+03000600 Err(AttributeLengthUnder4 { length: 3 })
+ffff0600 Err(AttributeLengthPast { length: 65535, left: 4 })
 04000000 Err(NameEmpty)";
 
 const NO_INET: &str = "060005000102 Err(WrongLength { kind: Some(5), got: 2, need: 1 })
@@ -308,12 +322,6 @@ fn refusals(rt: HostRuntime) {
     refused(&rt, rt.alloc(), Subject::Name, NO_NAMES);
     refused(&rt, rt.alloc(), Subject::UnixAttribute, NO_UNIX);
     refused(&rt, rt.alloc(), Subject::InetAttribute, NO_INET);
-}
-
-// Asserts that a value serializes to these bytes.
-fn writes<T: Emitable>(rt: &impl Abort, alloc: Global, value: &T, bytes: &[u8]) {
-    let written = write_new(alloc, value).expect(rt, "unwritable");
-    same(rt, &written, bytes);
 }
 
 // Asserts that the pathname serializes to these bytes, and that they are parsed as the text.
@@ -359,4 +367,27 @@ fn attributes_that_no_parser_returns(rt: HostRuntime) {
     let short = b"\x05\0\x02\x80\x01\0\0\0";
     let text = "Err(WrongLength { kind: Some(2), got: 1, need: 4 })";
     other_writes(&rt, alloc, (0x8002, b"\x01"), short, text);
+}
+
+// The memory of a socket with drops and without a backlog, which is serialized as 0.
+#[test]
+fn a_memory_without_a_backlog(rt: HostRuntime) {
+    let memory = MemInfo {
+        receive_queue: 1,
+        receive_queue_max: 2,
+        bottom_send_queues: 3,
+        send_queue_max: 4,
+        cache: 5,
+        send_queue: 6,
+        options: 7,
+        backlog_queue_length: None,
+        drops: Some(9),
+    };
+    let bytes = b"\x28\0\x07\0\x01\0\0\0\x02\0\0\0\x03\0\0\0\x04\0\0\0\x05\0\0\0\
+        \x06\0\0\0\x07\0\0\0\0\0\0\0\x09\0\0\0";
+    let text = "Ok(MemInfo(MemInfo { receive_queue: 1, receive_queue_max: 2, \
+        bottom_send_queues: 3, send_queue_max: 4, cache: 5, send_queue: 6, options: 7, \
+        backlog_queue_length: Some(0), drops: Some(9) }))";
+    writes(&rt, rt.alloc(), &inet::Nla::MemInfo(memory), bytes);
+    reads(&rt, rt.alloc(), Subject::InetAttribute, bytes, text);
 }

@@ -23,7 +23,7 @@ pub(super) fn attribute(
 /// Asserts that a value is parsed, copied from its view, printed, and serialized.
 fn has_room(rt: &impl Abort, alloc: Global, subject: Subject, bytes: &[u8]) {
     let report = examine(rt, alloc, subject, bytes).expect(rt, "refused");
-    assert!(rt; report.is_written && report.form.is_ok());
+    assert!(rt; report.written.is_some() && report.form.is_ok());
 }
 
 /// Sizes from 512 to 1,000,000. Tests of sizes also have each size up to 300.
