@@ -1,47 +1,58 @@
 use super::sizes::LARGE;
-use super::{gives, is_text, shows};
+use super::{gives, is_text, same, shows, writes};
 use netlink_core::{
-    CanonError, DecodeError, DefaultNla, MessageStrings, NlaBuffer, NlasIterator, Parseable,
-    RecordBuffer, RecordName, canonical, copy_list, parse_string, write_new,
+    CanonError, DecodeError, DefaultNla, Emitable, MessageStrings, Nla, NlaBuffer, NlasIterator,
+    Parseable, RecordBuffer, RecordName, canonical, copy_list, emit_nla, emit_nlas, emit_u32,
+    nla_len, nlas_len, nlas_writable, parse_string, parse_u8, parse_u32, write_new,
 };
+use sock_diag_attributes::inet::nlas as inet;
+use sock_diag_attributes::unix::nlas as unix;
 use std::alloc::Global;
 use std::process::Abort;
 
 #[test]
 fn an_attribute_is_borrowed(rt: HostRuntime) {
     let alloc = rt.alloc();
-    let bytes: &[u8] = &[6, 0, 6, 0x80, 2, 3, 0xaa];
+    let bytes: &[u8] = &[5, 0, 6, 0x80, 2, 0xaa];
     let nla = NlaBuffer::new_checked(bytes).expect(&rt, "refused");
     let words = [nla.length(), nla.type_word(), nla.kind()];
-    shows(&rt, alloc, &words, "[6, 32774, 6]");
+    shows(&rt, alloc, &words, "[5, 32774, 6]");
     let flags = [nla.nested_flag(), nla.network_byte_order_flag()];
     shows(&rt, alloc, &flags, "[true, false]");
     let kept = DefaultNla::parse(alloc, nla)
         .expect(&rt, "refused")
         .clone(alloc)
         .expect(&rt, "refused");
-    let text = "DefaultNla { kind: 32774, value: [2, 3] }";
+    let text = "DefaultNla { kind: 32774, value: [2] }";
     shows(&rt, alloc, &kept, text);
     let record = RecordBuffer::<u8, 2>::read_prefix(bytes);
-    let text = "Some(RecordBuffer { bytes: [6, 0], of: PhantomData<_> })";
+    let text = "Some(RecordBuffer { bytes: [5, 0], of: PhantomData<_> })";
     shows(&rt, alloc, &record, text);
 }
 
 #[test]
 fn attributes_and_their_errors(rt: HostRuntime) {
-    let two: &[u8] = &[5, 0, 7, 0x80, 1, 0xee, 0xee, 0xee, 4, 0, 8, 0, 1];
-    let text = "[Ok(NlaBuffer { type_word: 32775, value: [1] }), \
+    let alloc = rt.alloc();
+    let two: &[u8] = &[5, 0, 7, 0, 1, 0xee, 0xee, 0xee, 4, 0, 8, 0, 1];
+    let text = "[Ok(NlaBuffer { type_word: 7, value: [1] }), \
         Ok(NlaBuffer { type_word: 8, value: [] }), Err(AttributeHeaderCut { left: 1 })]";
-    gives(&rt, rt.alloc(), NlasIterator::new(two), text);
-    let text = "[Ok(NlaBuffer { type_word: 32775, value: [1] })]";
-    gives(&rt, rt.alloc(), NlasIterator::new(&two[..5]), text);
-    is_formed(&rt, rt.alloc(), two, "Ok([5, 0, 7, 128, 1, 0, 0, 0])");
+    gives(&rt, alloc, NlasIterator::new(two), text);
+    let mut walk = NlasIterator::new(&two[8..]);
+    let items = [walk.next(), walk.next(), walk.next(), walk.next()];
+    let text = "[Some(Ok(NlaBuffer { type_word: 8, value: [] })), \
+        Some(Err(AttributeHeaderCut { left: 1 })), None, None]";
+    shows(&rt, alloc, &items, text);
+    let text = "[Ok(NlaBuffer { type_word: 7, value: [1] })]";
+    gives(&rt, alloc, NlasIterator::new(&two[..5]), text);
+    is_formed(&rt, alloc, two, "Ok([5, 0, 7, 0, 1, 0, 0, 0])");
     let text = "Err(Refused(AttributeLengthPast { length: 5, left: 4 }))";
-    is_formed(&rt, rt.alloc(), &two[..4], text);
+    is_formed(&rt, alloc, &two[..4], text);
+    let text = "Err(Refused(AttributeHeaderCut { left: 3 }))";
+    is_formed(&rt, alloc, &two[..3], text);
     let text = "Err(Refused(AttributeHeaderCut { left: 0 }))";
-    is_formed(&rt, rt.alloc(), &[], text);
+    is_formed(&rt, alloc, &[], text);
     let text = "Err(Refused(AttributeLengthUnder4 { length: 3 }))";
-    is_formed(&rt, rt.alloc(), &[3, 0, 6, 0, 0], text);
+    is_formed(&rt, alloc, &[3, 0, 6, 0], text);
 }
 
 // Asserts that the canonical form of the bytes, as an attribute, is printed as this text.
@@ -169,11 +180,11 @@ fn has_room(rt: &impl Abort, alloc: Global, size: usize) {
     let bytes = vec![in alloc; b'a'; size].expect(rt, "memory");
     parse_string(alloc, &bytes).expect(rt, "refused");
     copy_list(alloc, &bytes).expect(rt, "memory");
-    let written = write_new(
-        alloc,
-        &DefaultNla::new(7, bytes).clone(alloc).expect(rt, "memory"),
-    );
-    assert!(rt; written.is_ok() == (size <= 65_531));
+    let nla = DefaultNla::new(7, bytes).clone(alloc);
+    let nla = nla.expect(rt, "memory");
+    let written = write_new(alloc, &nla);
+    let fits = [nla.value_fits(), nla.is_writable(), written.is_ok()];
+    assert!(rt; fits == [size <= 65_531; 3]);
     if let Ok(bytes) = written {
         assert!(rt; canonical::<DefaultNla>(alloc, &bytes, ()).is_ok());
     }
@@ -187,4 +198,73 @@ fn sizes(rt: HostRuntime) {
     for &size in &LARGE {
         has_room(&rt, rt.alloc(), size);
     }
+}
+
+#[test]
+fn numbers_and_texts(rt: HostRuntime) {
+    let alloc = rt.alloc();
+    let texts = [
+        parse_string(alloc, b""),
+        parse_string(alloc, b"a\0\0"),
+        parse_string(alloc, b"\xff"),
+    ];
+    shows(&rt, alloc, &texts, r#"[Ok(""), Ok("a\0"), Err(NotUtf8)]"#);
+    let bytes = [parse_u8(&[7]), parse_u8(&[]), parse_u8(&[7, 8])];
+    let text = "[Ok(7), Err(WrongLength { kind: None, got: 0, need: 1 }), \
+        Err(WrongLength { kind: None, got: 2, need: 1 })]";
+    shows(&rt, alloc, &bytes, text);
+    let short = parse_u32(&[1, 2, 3]);
+    let words = [
+        parse_u32(&[1, 2, 3, 4]),
+        short,
+        short.map_err(|error| error.with_kind(2)),
+    ];
+    let text = "[Ok(67305985), Err(WrongLength { kind: None, got: 3, need: 4 }), \
+        Err(WrongLength { kind: Some(2), got: 3, need: 4 })]";
+    shows(&rt, alloc, &words, text);
+}
+
+// Asserts what `emit_value` and `emit_nla` leave in buffers of 0xff that are longer than the value
+// and the attribute.
+fn leaves<T: Nla>(rt: &impl Abort, alloc: Global, nla: &T, value: &[u8], bytes: &[u8]) {
+    let fits = nla.value_fits() && nla.value_len() <= value.len() && nla_len(nla) <= bytes.len();
+    assert!(rt; fits);
+    let mut buffer = vec![in alloc; 0xff; value.len()].expect(rt, "memory");
+    nla.emit_value(&mut buffer);
+    same(rt, &buffer, value);
+    let mut buffer = vec![in alloc; 0xff; bytes.len()].expect(rt, "memory");
+    emit_nla(nla, &mut buffer);
+    same(rt, &buffer, bytes);
+}
+
+#[test]
+fn serializers_leave_the_rest_of_a_buffer(rt: HostRuntime) {
+    let alloc = rt.alloc();
+    let value = Vec::from_slice(alloc, &[2]).expect(&rt, "memory");
+    let nla = DefaultNla::new(0x8007, value);
+    writes(&rt, alloc, &nla, b"\x05\0\x07\x80\x02\0\0\0");
+    let bytes = b"\x05\0\x07\x80\x02\0\0\0\xff\xff";
+    leaves(&rt, alloc, &nla, b"\x02\xff\xff", bytes);
+    let bytes = b"\x05\0\x06\0\x03\0\0\0\xff\xff";
+    leaves(&rt, alloc, &unix::Nla::Shutdown(3), b"\x03\xff\xff", bytes);
+    let bytes = b"\x05\0\x0b\0\x01\0\0\0\xff\xff";
+    leaves(
+        &rt,
+        alloc,
+        &inet::Nla::SkV6Only(true),
+        b"\x01\xff\xff",
+        bytes,
+    );
+    let nlas = [nla, DefaultNla::new(8, Vec::new(alloc))];
+    let mut buffer = [0xff; 14];
+    assert!(rt; nlas_writable(&nlas) && nlas_len(&nlas) <= 14);
+    emit_nlas(&nlas, &mut buffer);
+    same(
+        &rt,
+        &buffer,
+        b"\x05\0\x07\x80\x02\0\0\0\x04\0\x08\0\xff\xff",
+    );
+    let mut buffer = [0xff; 6];
+    emit_u32(&mut buffer, 0x0102_0304);
+    same(&rt, &buffer, b"\x04\x03\x02\x01\xff\xff");
 }

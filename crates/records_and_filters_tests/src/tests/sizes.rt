@@ -27,9 +27,9 @@ fn has_room(rt: &impl Abort, alloc: Global, subject: Subject, bytes: &[u8]) {
 }
 
 /// Sizes from 512 to 1,000,000. Tests of sizes also have each size up to 300.
-pub(super) const LARGE: [usize; 16] = [
-    512, 1_000, 1_024, 2_048, 4_096, 8_192, 10_000, 16_384, 32_768, 65_531, 65_536, 100_000,
-    131_072, 262_144, 524_288, 1_000_000,
+pub(super) const LARGE: [usize; 17] = [
+    512, 1_000, 1_024, 2_048, 4_096, 8_192, 10_000, 16_384, 32_768, 65_531, 65_532, 65_536,
+    100_000, 131_072, 262_144, 524_288, 1_000_000,
 ];
 
 /// Checks a pathname and an abstract name of this size.
