@@ -52,6 +52,12 @@ fn shows<T: Debug>(rt: &impl Abort, alloc: Global, value: &T, text: &str) {
     is_text(rt, debug_text(rt, alloc, value).as_str(), text);
 }
 
+/// Asserts that `{:#?}` prints the value as these lines.
+fn shows_lines<T: Debug>(rt: &impl Abort, alloc: Global, value: &T, lines: &str) {
+    let shown = format!(in alloc; "{value:#?}").expect(rt, "memory");
+    is_text(rt, shown.as_str(), lines);
+}
+
 /// Asserts that `Debug` prints the list of all items of the iterator as this text.
 fn gives<I: Iterator + Drop>(rt: &impl Abort, alloc: Global, walk: I, text: &str)
 where

@@ -1,10 +1,11 @@
-use super::{same, shows};
+use super::{same, shows, shows_lines, writes};
 use bitflags::Flags;
 use netlink_core::{
     Fills, Parseable, ParseableParametrized, Record, RecordBuffer, Wire, canonical,
 };
+use sock_diag_attributes::unix::nlas::{NameView, Nla, NlaView};
 use sock_diag_records::inet::{InetRequest, InetResponseHeader, SocketId, Timer};
-use sock_diag_records::unix::{StateFlags, UnixRequest, UnixResponseHeader};
+use sock_diag_records::unix::{StateFlags, UnixRequest, UnixRequestBuffer, UnixResponseHeader};
 use sock_diag_values::inet::{LegacyMemInfo, MemInfo, MemInfoBuffer, TcpInfo};
 use sock_diag_values::unix::{self as unix_nlas, Vfs};
 use std::alloc::Global;
@@ -13,11 +14,11 @@ use std::net::{IpAddr, Ipv6Addr};
 use std::process::Abort;
 use std::time::Duration;
 
-// A reply header of a socket with a keepalive timer.
+// A reply header of a socket with a keepalive timer. All of its fields differ.
 const HEADER: [u8; 72] = [
     2, 1, 2, 0, 0xeb, 0x14, 1, 0xbb, 0xc0, 0xa8, 0xb2, 0x3c, 0, 0, 0, 0, 0, 0, 0, 0, 0, 0, 0, 0,
-    0xac, 0xd9, 0x17, 0x83, 0, 0, 0, 0, 0, 0, 0, 0, 0, 0, 0, 0, 0, 0, 0, 0, 0x52, 3, 0, 0, 0, 0, 0,
-    0, 0x80, 0x60, 0, 0, 0, 0, 0, 0, 0, 0, 0, 0, 0xe8, 3, 0, 0, 0xa8, 0xda, 0x29, 0,
+    0xac, 0xd9, 0x17, 0x83, 0, 0, 0, 0, 0, 0, 0, 0, 0, 0, 0, 0, 4, 3, 0, 0, 11, 12, 13, 14, 15, 16,
+    17, 18, 0x80, 0x60, 0, 0, 5, 1, 0, 0, 6, 2, 0, 0, 0xe8, 3, 0, 0, 0xa8, 0xda, 0x29, 0,
 ];
 
 // A request for IPv4 sockets with nonzero bytes in `pad`, in the undefined flag bits, and after the
@@ -37,6 +38,11 @@ const LOOSE_UNIX: [u8; 27] = [
 
 const UNIX: [u8; 24] = [
     1, 0, 0, 0, 2, 4, 0, 0, 0x34, 0x12, 0, 0, 0x3f, 0, 0, 0, 255, 255, 255, 255, 255, 255, 255, 255,
+];
+
+// A request for the peers of the UNIX sockets in each state.
+const PEER: [u8; 24] = [
+    1, 0, 0, 0, 2, 4, 0, 0, 0x34, 0x12, 0, 0, 4, 0, 0, 0, 255, 255, 255, 255, 255, 255, 255, 255,
 ];
 
 // Returns bytes of which each is its own offset.
@@ -66,9 +72,15 @@ fn reads<T: Fills<N> + Debug + Drop, const N: usize>(
     shows(rt, alloc, &T::read(alloc, cut, told), short);
 }
 
-// Asserts that the value serializes to these bytes.
-fn is_written<T: Fills<N>, const N: usize>(rt: &impl Abort, value: &T, bytes: [u8; N]) {
+// Asserts that the value serializes to these bytes, and that its buffer contains them.
+fn is_written<T: Fills<N>, const N: usize>(
+    rt: &impl Abort,
+    alloc: Global,
+    value: &T,
+    bytes: [u8; N],
+) {
     same(rt, &RecordBuffer::from(value).to_bytes(), &bytes);
+    writes(rt, alloc, value, &bytes);
 }
 
 // The canonical form of `places` as the memory of a UNIX socket: the ignored fields are 0.
@@ -153,11 +165,67 @@ fn headers_of_replies(rt: HostRuntime) {
     reads::<UnixResponseHeader, 16>(&rt, alloc, &loose, (), (text, short), &written);
     let text = "InetResponseHeader { family: 2, state: 1, timer: Some(KeepAlive(24.704s)), \
         socket_id: SocketId { source_port: 60180, destination_port: 443, \
-        source_address: 192.168.178.60, destination_address: 172.217.23.131, interface_id: 0, \
-        cookie: [82, 3, 0, 0, 0, 0, 0, 0] }, recv_queue: 0, send_queue: 0, uid: 1000, \
+        source_address: 192.168.178.60, destination_address: 172.217.23.131, interface_id: 772, \
+        cookie: [11, 12, 13, 14, 15, 16, 17, 18] }, recv_queue: 261, send_queue: 518, uid: 1000, \
         inode: 2742952 }";
     let short = "Err(BufferTooSmall { which: InetResponseHeader, got: 71, need: 72 })";
     reads::<InetResponseHeader, 72>(&rt, alloc, &HEADER, (), (text, short), &HEADER);
+}
+
+// What `{:#?}` prints for a reply header, an attribute and a view.
+const LINES: &str = "\
+(
+    InetResponseHeader {
+        family: 2,
+        state: 1,
+        timer: Some(
+            KeepAlive(
+                24.704s,
+            ),
+        ),
+        socket_id: SocketId {
+            source_port: 60180,
+            destination_port: 443,
+            source_address: 192.168.178.60,
+            destination_address: 172.217.23.131,
+            interface_id: 772,
+            cookie: [
+                11,
+                12,
+                13,
+                14,
+                15,
+                16,
+                17,
+                18,
+            ],
+        },
+        recv_queue: 261,
+        send_queue: 518,
+        uid: 1000,
+        inode: 2742952,
+    },
+    ReceiveQueueLength(
+        3,
+        7,
+    ),
+    Name(
+        Abstract(
+            [
+                7,
+                0,
+            ],
+        ),
+    ),
+)";
+
+#[test]
+fn records_attributes_and_views_on_lines(rt: HostRuntime) {
+    let header = InetResponseHeader::parse(rt.alloc(), HEADER.as_slice());
+    let header = header.expect(&rt, "refused");
+    let name = NameView::parse(&[0, 7, 0]).expect(&rt, "refused");
+    let values = (header, Nla::ReceiveQueueLength(3, 7), NlaView::Name(name));
+    shows_lines(&rt, rt.alloc(), &values, LINES);
 }
 
 // Returns the reply header with another timer, number of retransmits and time.
@@ -187,7 +255,7 @@ fn timers(rt: HostRuntime) {
         let header = InetResponseHeader::parse(rt.alloc(), given.as_slice());
         let header = header.expect(&rt, "refused");
         shows(&rt, rt.alloc(), &header.timer, text);
-        is_written(&rt, &header, with_timer(*timer, *expires));
+        is_written(&rt, rt.alloc(), &header, with_timer(*timer, *expires));
     }
 }
 
@@ -209,10 +277,12 @@ fn identities(rt: HostRuntime) {
     reads::<SocketId, 48>(&rt, alloc, loose, 2, (FOUR, short), &written[8..]);
     reads::<SocketId, 48>(&rt, alloc, loose, 10, (SIX, short), loose);
     let others = (
+        SocketId::parse_with_param(alloc, &loose[..47], 1),
         SocketId::parse_with_param(alloc, loose, 1),
         InetRequest::parse(alloc, [1; 56].as_slice()),
     );
-    let text = "(Err(UnsupportedFamily { family: 1 }), Err(UnsupportedFamily { family: 1 }))";
+    let text = "(Err(BufferTooSmall { which: SocketId, got: 47, need: 48 }), \
+        Err(UnsupportedFamily { family: 1 }), Err(UnsupportedFamily { family: 1 }))";
     shows(&rt, alloc, &others, text);
 }
 
@@ -223,6 +293,11 @@ fn requests(rt: HostRuntime) {
         show_flags: ShowFlags(63), cookie: [255, 255, 255, 255, 255, 255, 255, 255] }";
     let short = "Err(BufferTooSmall { which: UnixRequest, got: 23, need: 24 })";
     reads::<UnixRequest, 24>(&rt, alloc, &LOOSE_UNIX, (), (text, short), &UNIX);
+    let kept = UnixRequestBuffer::read_prefix(&LOOSE_UNIX).expect(&rt, "short");
+    same(&rt, &kept.to_bytes(), &LOOSE_UNIX[..24]);
+    let text = "UnixRequest { state_flags: StateFlags(1026), inode: 4660, \
+        show_flags: ShowFlags(4), cookie: [255, 255, 255, 255, 255, 255, 255, 255] }";
+    reads::<UnixRequest, 24>(&rt, alloc, &PEER, (), (text, short), &PEER);
     let mut written = LOOSE_INET;
     written[3..8].copy_from_slice(&[0, 0xfe, 0x0f, 0, 0]);
     written[16..28].fill(0);
@@ -234,21 +309,27 @@ fn requests(rt: HostRuntime) {
     reads::<InetRequest, 56>(&rt, alloc, &LOOSE_INET, (), (text, short), &written);
 }
 
-// Asserts that a keepalive timer of this duration serializes to these bytes.
-fn expires_in(rt: &impl Abort, alloc: Global, duration: Duration, expires: [u8; 4]) {
+// Asserts that a keepalive timer of this duration serializes to these bytes, and that they are
+// parsed as the text.
+fn expires_in(rt: &impl Abort, alloc: Global, duration: Duration, expires: [u8; 4], text: &str) {
     let header = InetResponseHeader::parse(alloc, HEADER.as_slice());
     let mut header = header.expect(rt, "refused");
     header.timer = Some(Timer::KeepAlive(duration));
-    is_written(rt, &header, with_timer([2, 0], expires));
+    let bytes = with_timer([2, 0], expires);
+    is_written(rt, alloc, &header, bytes);
+    let again = InetResponseHeader::parse(alloc, bytes.as_slice()).expect(rt, "refused");
+    shows(rt, alloc, &again.timer, text);
 }
 
 #[test]
 fn durations_that_do_not_fit_milliseconds(rt: HostRuntime) {
     let alloc = rt.alloc();
-    expires_in(&rt, alloc, Duration::from_nanos(1_500_000), [1, 0, 0, 0]);
+    let short = Duration::from_nanos(1_500_000);
+    expires_in(&rt, alloc, short, [1, 0, 0, 0], "Some(KeepAlive(1ms))");
     let long = Duration::from_millis(4_294_967_301);
-    expires_in(&rt, alloc, long, [5, 0, 0, 0]);
-    expires_in(&rt, alloc, Duration::MAX, [255; 4]);
+    expires_in(&rt, alloc, long, [5, 0, 0, 0], "Some(KeepAlive(5ms))");
+    let text = "Some(KeepAlive(4294967.295s))";
+    expires_in(&rt, alloc, Duration::MAX, [255; 4], text);
 }
 
 #[test]
@@ -258,16 +339,22 @@ fn an_identity_that_no_parser_returns(rt: HostRuntime) {
     identity.source_address = IpAddr::V6(Ipv6Addr::from(octets));
     let mut wanted = [0; 48];
     wanted[4..20].copy_from_slice(&octets);
-    is_written(&rt, &identity, wanted);
+    is_written(&rt, rt.alloc(), &identity, wanted);
+    let text = "Ok(SocketId { source_port: 0, destination_port: 0, source_address: 1.2.3.4, \
+        destination_address: 0.0.0.0, interface_id: 0, cookie: [0, 0, 0, 0, 0, 0, 0, 0] })";
+    let again = SocketId::parse_with_param(rt.alloc(), wanted.as_slice(), 2);
+    shows(&rt, rt.alloc(), &again, text);
 }
 
 #[test]
 fn a_request_that_no_parser_returns(rt: HostRuntime) {
-    let mut request = UnixRequest::parse(rt.alloc(), UNIX.as_slice()).expect(&rt, "refused");
+    let mut request = UnixRequest::parse(rt.alloc(), PEER.as_slice()).expect(&rt, "refused");
     request.state_flags = StateFlags::from_bits_retain(0xffff_ffff);
-    let mut wanted = UNIX;
+    let mut wanted = PEER;
     wanted[4..8].fill(255);
-    is_written(&rt, &request, wanted);
+    is_written(&rt, rt.alloc(), &request, wanted);
+    let again = UnixRequest::parse(rt.alloc(), wanted.as_slice()).expect(&rt, "refused");
+    shows(&rt, rt.alloc(), &again.state_flags, "StateFlags(1026)");
 }
 
 #[test]
