@@ -90,12 +90,24 @@ fn acknowledged(ack: &AckView<'_>) -> (i32, usize, Option<u32>) {
     (ack.number(), ack.request().len(), sequence)
 }
 
-/// Returns the message, the offset and the length of the policy as text.
+/// Returns the message, the offset, the length of the policy and what [`missing`] returns as text.
 fn attributes_text(rt: &impl Abort, alloc: Global, parsed: &AckAttributes<'_>) -> String {
     let policy = parsed.policy().map(|policy| policy.len());
     let message = parsed.message().expect(rt, "refused");
     let offset = parsed.offset().expect(rt, "refused");
-    format!(in alloc; "{message:?} {offset:?} {policy:?}").expect(rt, "memory")
+    let missing = missing(rt, parsed);
+    format!(in alloc; "{message:?} {offset:?} {policy:?} {missing:?}").expect(rt, "memory")
+}
+
+/// Returns the kind of a missing attribute, the offset of its nest, and the cookie, if there are
+/// any.
+fn missing<'a>(
+    rt: &impl Abort,
+    parsed: &AckAttributes<'a>,
+) -> (Option<u32>, Option<u32>, Option<&'a [u8]>) {
+    let kind = parsed.missing_kind().expect(rt, "refused");
+    let nest = parsed.missing_nest().expect(rt, "refused");
+    (kind, nest, parsed.cookie())
 }
 
 /// Returns the upper layer protocol of a connection as text: its name, and fields of TLS and MPTCP.
@@ -214,7 +226,8 @@ fn error_message(rt: &impl Abort, alloc: Global, flags: &str, bytes: &[u8]) -> S
 }
 
 // A row has a word, bytes in hexadecimal, and after `|` the expected text. Linux 6.18 sent the
-// bytes of the rows 512, 768, 256 and `done`, of the first row 0, and of the `ulp` row about MPTCP.
+// bytes of the rows 512, 256 and `done`, of the first rows 768 and 0, and of the `ulp` row about
+// MPTCP.
 const ROWS: &str = "\
 reply |
 reply 08000200010203040500080001000000|\
@@ -240,19 +253,27 @@ options 0504|SocketOptions { bits: 1029 } true
 deffffff2800000013000500070000000000000000000000010000000000000000000000060004006162000027000100\
 417474726962757465206661696c656420706f6c6963792076616c69646174696f6e0000080002002000000024000480\
 0c00040000000000000000000c000500ffffffff000000000800010004000000|\
-(-34, 40, Some(7)) Some(\"Attribute failed policy validation\") Some(32) Some(32)
+(-34, 40, Some(7)) Some(\"Attribute failed policy validation\") Some(32) Some(32) \
+(None, None, None)
 768 \
 deffffff2800000013000500070000000000000027000100417474726962757465206661696c656420706f6c69637920\
 76616c69646174696f6e00000800020020000000240004800c00040000000000000000000c000500ffffffff00000000\
 0800010004000000|\
-(-34, 16, Some(7)) Some(\"Attribute failed policy validation\") Some(32) Some(32)
-0 eaffffff1100000014000500070000000000000002000000|(-22, 17, Some(7)) None None None
-256 0000000020000000120005000700000000000000|(0, 16, Some(7)) None None None
+(-34, 16, Some(7)) Some(\"Attribute failed policy validation\") Some(32) Some(32) \
+(None, None, None)
+0 eaffffff1100000014000500070000000000000002000000|\
+(-22, 17, Some(7)) None None None (None, None, None)
+256 0000000020000000120005000700000000000000|\
+(0, 16, Some(7)) None None None (None, None, None)
+768 \
+eaffffff100000001400050007000000000000000700030008090a00080005000b0000000800060024000000|\
+(-22, 16, Some(7)) None None None (Some(11), Some(36), Some([8, 9, 10]))
 done \
 eaffffff32000100496e76616c69642076616c75657320696e2068656164657220666f72204649422064756d70207265\
 7175657374000000|\
-(-22, 0, None) Some(\"Invalid values in header for FIB dump request\") None None
-0 0000000020000000120005000700000000000000|(0, 16, Some(7)) None None None
+(-22, 0, None) Some(\"Invalid values in header for FIB dump request\") None None (None, None, None)
+0 0000000020000000120005000700000000000000|\
+(0, 16, Some(7)) None None None (None, None, None)
 0 eaffffff0f00000014000500070000000000000002000000|nothing
 0 eaffffff1500000014000500070000000000000002000000|nothing
 ulp 08000100746c73002000028006000100030300000600020033000000060004000200000004000500|\
