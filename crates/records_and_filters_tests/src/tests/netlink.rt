@@ -217,7 +217,7 @@ fn numbers_and_texts(rt: HostRuntime) {
     let words = [
         parse_u32(&[1, 2, 3, 4]),
         short,
-        short.map_err(|error| error.with_kind(2)),
+        short.map_err(|error| error.with_kind(2).with_kind(3)),
     ];
     let text = "[Ok(67305985), Err(WrongLength { kind: None, got: 3, need: 4 }), \
         Err(WrongLength { kind: Some(2), got: 3, need: 4 })]";
