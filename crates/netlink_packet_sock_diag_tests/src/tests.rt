@@ -10,7 +10,7 @@ use std::process::Abort;
 
 mod hostile;
 mod out_of_memory;
-mod parse_twice;
+mod parsers;
 mod replies;
 mod requests;
 mod sizes;

@@ -1,17 +1,24 @@
-//! Two requests and four replies with each byte changed. Their truncated forms are lines of the
-//! stored input of the program `sockdiag`.
+//! Two requests and four replies with each byte changed, and truncated at each byte.
 
-use super::parse_twice::{Report, Subject, parse_twice};
+use super::parsers::{Report, Subject, parse_all};
 use super::{ABSTRACT, INET, PATH, PEER, SHUTDOWN, ZEROS, bytes, shows};
 use std::alloc::Global;
 use std::process::Abort;
 
+/// A request for UNIX sockets.
+const UNIX_REQUEST: &[&str] = &["01000000020400003412000004000000ffffffffffffffff"];
+
+/// A request for UDP sockets over IPv4.
+const INET_REQUEST: &[&str] = &["0211000002000000", ZEROS, ZEROS, ZEROS];
+
 /// Counts one more input: at 0 if it is parsed as the original value, at 1 if it is parsed as
-/// another value, and at the code of its error if it is rejected.
-fn count(tally: &mut [u32; 11], report: &Report) {
-    let place = match report.first {
-        0 => u8::from(!report.is_original),
-        number => number,
+/// another value, and at the code of its error if it is rejected. Asserts that it has the original
+/// canonical form if and only if it is parsed as the original value.
+fn count(rt: &impl Abort, tally: &mut [u32; 11], whole: &Report, report: &Report) {
+    assert!(rt; report.is_original == (report.form == whole.form));
+    let place = match report.error {
+        None => u8::from(!report.is_original),
+        Some(error) => error.number(),
     };
     if let Some(count) = tally.get_mut(usize::from(place)) {
         *count = count.saturating_add(1);
@@ -19,7 +26,13 @@ fn count(tally: &mut [u32; 11], report: &Report) {
 }
 
 /// Returns the bytes with `change` applied to the byte at `place`, by exclusive or.
-fn changed(rt: &impl Abort, alloc: Global, whole: &[u8], place: usize, change: u8) -> Vec<u8> {
+pub(super) fn changed(
+    rt: &impl Abort,
+    alloc: Global,
+    whole: &[u8],
+    place: usize,
+    change: u8,
+) -> Vec<u8> {
     let mut bytes = Vec::from_slice(alloc, whole).expect(rt, "memory");
     if let Some(byte) = bytes.get_mut(place) {
         *byte ^= change;
@@ -27,20 +40,18 @@ fn changed(rt: &impl Abort, alloc: Global, whole: &[u8], place: usize, change: u
     bytes
 }
 
-/// Parses the bytes in both ways, with each byte in turn changed to each other value. Asserts that
-/// `counts` occurs in what `Debug` prints for the counts.
+/// Calls all parsers and serializers with the bytes, with each byte in turn changed to each other
+/// value. Asserts that `counts` occurs in what `Debug` prints for the counts.
 fn changes(rt: &impl Abort, alloc: Global, subject: Subject, parts: &[&str], counts: &str) {
     let whole = bytes(rt, alloc, parts);
-    assert!(rt;
-        parse_twice(rt, alloc, subject, &whole, None, false).first == 0,
-        "refused"
-    );
+    let original = parse_all(rt, alloc, subject, &whole, None, false);
+    assert!(rt; original.form.is_ok(), "refused");
     let mut tally = [0; 11];
     for place in 0..whole.len() {
         for change in 1..=u8::MAX {
             let changed = changed(rt, alloc, &whole, place, change);
-            let report = parse_twice(rt, alloc, subject, &changed, Some(&whole), false);
-            count(&mut tally, &report);
+            let report = parse_all(rt, alloc, subject, &changed, Some(&whole), false);
+            count(rt, &mut tally, &original, &report);
         }
     }
     shows(rt, alloc, &tally, counts);
@@ -48,21 +59,77 @@ fn changes(rt: &impl Abort, alloc: Global, subject: Subject, parts: &[&str], cou
 
 #[test]
 fn requests(rt: HostRuntime) {
-    let unix = ["01000000020400003412000004000000ffffffffffffffff"];
+    let alloc = rt.alloc();
     let counts = "[2552, 3568, 0, 0, 0, 0, 0, 0, 0, 0, 0]";
-    changes(&rt, rt.alloc(), Subject::UnixRequest, &unix, counts);
-    let internet = ["0211000002000000", ZEROS, ZEROS, ZEROS];
+    changes(&rt, alloc, Subject::UnixRequest, UNIX_REQUEST, counts);
     let counts = "[6901, 7125, 0, 254, 0, 0, 0, 0, 0, 0, 0]";
-    changes(&rt, rt.alloc(), Subject::InetRequest, &internet, counts);
+    changes(&rt, alloc, Subject::InetRequest, INET_REQUEST, counts);
 }
 
 // For a UNIX reply, only the number of changes that do not change the value is checked.
 #[test]
-fn replies(rt: HostRuntime) {
+fn unix_replies(rt: HostRuntime) {
     let alloc = rt.alloc();
     changes(&rt, alloc, Subject::UnixReply, &[PATH], "[1284, ");
     changes(&rt, alloc, Subject::UnixReply, &[PEER], "[1542, ");
     changes(&rt, alloc, Subject::UnixReply, &[ABSTRACT], "[1284, ");
+}
+
+#[test]
+fn an_inet_reply(rt: HostRuntime) {
+    let alloc = rt.alloc();
     let counts = "[7143, 12488, 3, 254, 0, 0, 0, 0, 4, 502, 6]";
     changes(&rt, alloc, Subject::InetReply, &[INET, SHUTDOWN], counts);
+}
+
+/// Calls all parsers and serializers with each proper prefix of the bytes. Asserts that `counts`
+/// occurs in what `Debug` prints for the counts.
+fn prefixes(rt: &impl Abort, alloc: Global, subject: Subject, parts: &[&str], counts: &str) {
+    let whole = bytes(rt, alloc, parts);
+    let original = parse_all(rt, alloc, subject, &whole, None, false);
+    let mut tally = [0; 11];
+    for len in 0..whole.len() {
+        let prefix = whole.get(..len).expect(rt, "a prefix");
+        let report = parse_all(rt, alloc, subject, prefix, Some(&whole), false);
+        count(rt, &mut tally, &original, &report);
+    }
+    shows(rt, alloc, &tally, counts);
+}
+
+#[test]
+fn truncated_requests(rt: HostRuntime) {
+    let alloc = rt.alloc();
+    let counts = "[0, 0, 24, 0, 0, 0, 0, 0, 0, 0, 0]";
+    prefixes(&rt, alloc, Subject::UnixRequest, UNIX_REQUEST, counts);
+    let counts = "[0, 0, 56, 0, 0, 0, 0, 0, 0, 0, 0]";
+    prefixes(&rt, alloc, Subject::InetRequest, INET_REQUEST, counts);
+}
+
+// The value is the original one if only padding at the end is missing. It is another one if the
+// last attributes are missing.
+#[test]
+fn truncated_replies(rt: HostRuntime) {
+    let alloc = rt.alloc();
+    let counts = "[3, 3, 16, 0, 0, 0, 0, 9, 0, 29, 0]";
+    prefixes(&rt, alloc, Subject::UnixReply, &[PATH], counts);
+    let counts = "[3, 5, 16, 0, 0, 0, 0, 12, 0, 32, 0]";
+    prefixes(&rt, alloc, Subject::UnixReply, &[PEER], counts);
+    let counts = "[3, 3, 16, 0, 0, 0, 0, 9, 0, 53, 0]";
+    prefixes(&rt, alloc, Subject::UnixReply, &[ABSTRACT], counts);
+    let counts = "[3, 1, 72, 0, 0, 0, 0, 3, 0, 1, 0]";
+    prefixes(&rt, alloc, Subject::InetReply, &[INET, SHUTDOWN], counts);
+}
+
+// A message has its own error if it has fewer than 2 bytes.
+#[test]
+fn truncated_messages(rt: HostRuntime) {
+    let alloc = rt.alloc();
+    let counts = "[3, 3, 14, 0, 2, 0, 0, 9, 0, 29, 0]";
+    prefixes(&rt, alloc, Subject::Message, &[PATH], counts);
+    let counts = "[3, 5, 14, 0, 2, 0, 0, 12, 0, 32, 0]";
+    prefixes(&rt, alloc, Subject::Message, &[PEER], counts);
+    let counts = "[3, 3, 14, 0, 2, 0, 0, 9, 0, 53, 0]";
+    prefixes(&rt, alloc, Subject::Message, &[ABSTRACT], counts);
+    let counts = "[3, 1, 70, 0, 2, 0, 0, 3, 0, 1, 0]";
+    prefixes(&rt, alloc, Subject::Message, &[INET, SHUTDOWN], counts);
 }

@@ -1,11 +1,18 @@
 //! What holds in each run, whichever allocations fail.
 
-use super::parse_twice::{Subject, examine};
-use super::{INET, LISTENING, PATH, message_code};
+use super::parsers::{Report, Subject, examine};
+use super::{ABSTRACT, CONNECTED, INET, LISTENING, PATH, SHUTDOWN, code, has_part};
 use hex::FromHexError;
-use netlink_core::CanonError;
-use netlink_packet_sock_diag::{DumpReader, DumpState, LossyDump, SockDiagMessage};
-use std::alloc::Global;
+use netlink_core::{
+    CanonError, DecodeError, NetlinkMessage, NetlinkPayload, Parseable, ParseableParametrized,
+    RecordName,
+};
+use netlink_packet_sock_diag::inet::{self, InetResponse};
+use netlink_packet_sock_diag::unix::{self, UnixResponse};
+use netlink_packet_sock_diag::{
+    DumpError, DumpReader, DumpState, LossyDump, SockDiagDestroy, SockDiagMessage,
+};
+use std::alloc::{AllocError, Global};
 use std::process::Abort;
 
 /// Nine attributes, one more than a reply stores inline.
@@ -19,6 +26,16 @@ const OTHER: &str = "08000000006275730c00030005000000060000000500070002000000";
 /// The directions that are shut down, a text and an attribute of an unknown kind.
 const INET_OTHER: &str = "05000800000000000a000400637562696300000005000300aa000000";
 
+/// A text in its canonical form, with its terminating NUL and padding.
+const CUBIC: &str = "0a0004006375626963000000";
+
+/// A request for UNIX sockets.
+const UNIX_REQUEST: &str = "01000000020400003412000004000000ffffffffffffffff";
+
+/// The digits of 48 zero bytes.
+const ZEROS_48: &str = "000000000000000000000000000000000000000000000000000000000000000000000000\
+000000000000000000000000";
+
 /// Returns the bytes of a header and attributes, or `None` if an allocation fails.
 fn reply(rt: &impl Abort, alloc: Global, header: &str, attributes: &str) -> Option<Vec<u8>> {
     let digits = [header, attributes].concat(alloc).ok()?;
@@ -31,45 +48,153 @@ fn reply(rt: &impl Abort, alloc: Global, header: &str, attributes: &str) -> Opti
     }
 }
 
-/// The code of `DecodeError::Memory`.
-const MEMORY: u8 = 1;
+/// Returns other bytes of the same value, or `None` if an allocation fails. Byte 3 is padding in a
+/// UNIX reply and in a request. In an internet reply it is the number of retransmissions, which is
+/// ignored in the header `INET`.
+fn equivalent(rt: &impl Abort, alloc: Global, header: &str, attributes: &str) -> Option<Vec<u8>> {
+    let mut bytes = reply(rt, alloc, header, attributes)?;
+    if let Some(byte) = bytes.get_mut(3) {
+        *byte = 7;
+    }
+    Some(bytes)
+}
 
-/// Asserts that both parsers return equal results, and that `canonical` returns the same bytes,
-/// unless an allocation fails.
-fn copes(rt: &impl Abort, alloc: Global, subject: Subject, bytes: &[u8]) {
-    let report = examine(alloc, subject, bytes, None, false);
-    assert!(rt; report.first == MEMORY || report.second == MEMORY || report.are_equal);
-    match &report.form {
+/// Asserts that a serializer returns these bytes, unless an allocation fails.
+fn is_form(rt: &impl Abort, form: &Result<Vec<u8>, CanonError>, bytes: &[u8]) {
+    match form {
         Ok(form) => assert!(rt; form.as_slice() == bytes),
         Err(error) => assert!(rt; *error == CanonError::Memory),
     }
 }
 
-/// Asserts the same for a reply, and for the reply as a message.
-fn copes_with_reply(
+/// Asserts that all serializers return these bytes, unless an allocation fails.
+fn are_forms(rt: &impl Abort, report: &Report, bytes: &[u8]) {
+    is_form(rt, &report.form, bytes);
+    is_form(rt, &report.owned_form, bytes);
+    is_form(rt, &report.view_form, bytes);
+}
+
+/// Asserts that each parser returns the value of the original bytes, and each serializer the
+/// canonical form, unless an allocation fails.
+fn copes(
     rt: &impl Abort,
     alloc: Global,
     subject: Subject,
-    header: &str,
-    attributes: &str,
+    bytes: &[u8],
+    original: &[u8],
+    form: &[u8],
 ) {
-    if let Some(bytes) = reply(rt, alloc, header, attributes) {
-        copes(rt, alloc, subject, &bytes);
-        copes(rt, alloc, Subject::Message, &bytes);
-    }
+    let report = examine(alloc, subject, bytes, Some(original), false);
+    assert!(rt; report.are_original_or_memory);
+    are_forms(rt, &report, form);
+}
+
+/// A header, attributes, and the attributes in their canonical form.
+type Row = (&'static str, &'static str, &'static str);
+
+/// Replies about UNIX sockets.
+const UNIX: [Row; 6] = [
+    (PATH, "", ""),
+    (ABSTRACT, "", ""),
+    (LISTENING, NINE, NINE),
+    (LISTENING, OTHER, OTHER),
+    (
+        LISTENING,
+        "0c0003000500000006000000",
+        "0c0003000500000006000000",
+    ),
+    (LISTENING, "04000300", "04000300"),
+];
+
+/// Replies about IPv4 sockets.
+const INTERNET: [Row; 5] = [
+    (INET, SHUTDOWN, SHUTDOWN),
+    (INET, INET_OTHER, INET_OTHER),
+    (INET, "090004006375626963", CUBIC),
+    (INET, CUBIC, CUBIC),
+    (INET, "0b0004006375626963000000", "0b0004006375626963000000"),
+];
+
+/// Checks a reply, and the reply as a message.
+fn copes_with_row(rt: &impl Abort, alloc: Global, subject: Subject, row: &Row) -> Option<()> {
+    let (header, attributes, canonical) = *row;
+    let bytes = reply(rt, alloc, header, attributes)?;
+    let form = reply(rt, alloc, header, canonical)?;
+    let original = equivalent(rt, alloc, header, canonical)?;
+    copes(rt, alloc, subject, &bytes, &original, &form);
+    copes(rt, alloc, Subject::Message, &bytes, &original, &form);
+    Some(())
 }
 
 #[test]
 fn replies(rt: HostRuntime) {
+    for row in &UNIX {
+        let _ = copes_with_row(&rt, rt.alloc(), Subject::UnixReply, row);
+    }
+    for row in &INTERNET {
+        let _ = copes_with_row(&rt, rt.alloc(), Subject::InetReply, row);
+    }
+}
+
+/// Asserts that the copy is equal to the value, unless an allocation fails.
+fn is_copy<T: PartialEq + Drop>(rt: &impl Abort, value: &T, copy: Result<T, AllocError>) {
+    if let Ok(copy) = copy {
+        assert!(rt; copy == *value);
+    }
+}
+
+/// Checks the clones of a reply about a UNIX socket, and of its attributes.
+fn copies_unix(rt: &impl Abort, alloc: Global, bytes: &[u8]) {
+    let Ok(reply) = UnixResponse::parse(alloc, bytes) else {
+        return;
+    };
+    is_copy(rt, &reply, reply.clone(alloc));
+    for nla in reply.nlas.as_slice() {
+        is_copy(rt, nla, nla.clone(alloc));
+        match nla {
+            unix::nlas::Nla::Name(name) => is_copy(rt, name, name.clone(alloc)),
+            unix::nlas::Nla::Other(other) => is_copy(rt, other, other.clone(alloc)),
+            _ => {}
+        }
+    }
+}
+
+/// Checks the clones of a reply about an IPv4 socket, and of its attributes.
+fn copies_inet(rt: &impl Abort, alloc: Global, bytes: &[u8]) {
+    let Ok(reply) = InetResponse::parse(alloc, bytes) else {
+        return;
+    };
+    is_copy(rt, &reply, reply.clone(alloc));
+    for nla in reply.nlas.as_slice() {
+        is_copy::<inet::nlas::Nla>(rt, nla, nla.clone(alloc));
+    }
+}
+
+/// Checks the clones of a message, and of the request to close its socket.
+fn copies_message(rt: &impl Abort, alloc: Global, bytes: &[u8]) {
+    if let Ok(message) = SockDiagMessage::parse_with_param(alloc, bytes, 20) {
+        is_copy(rt, &message, message.clone(alloc));
+        let destroy = SockDiagDestroy::new(message);
+        is_copy(rt, &destroy, destroy.clone(alloc));
+    }
+}
+
+/// Checks that each clone is equal, unless an allocation fails.
+#[test]
+fn clones(rt: HostRuntime) {
     let alloc = rt.alloc();
-    copes_with_reply(&rt, alloc, Subject::UnixReply, PATH, "");
-    copes_with_reply(&rt, alloc, Subject::UnixReply, LISTENING, NINE);
-    copes_with_reply(&rt, alloc, Subject::UnixReply, LISTENING, OTHER);
-    copes_with_reply(&rt, alloc, Subject::InetReply, INET, INET_OTHER);
+    if let Some(bytes) = reply(&rt, alloc, LISTENING, OTHER) {
+        copies_unix(&rt, alloc, &bytes);
+        copies_message(&rt, alloc, &bytes);
+    }
+    if let Some(bytes) = reply(&rt, alloc, INET, INET_OTHER) {
+        copies_inet(&rt, alloc, &bytes);
+        copies_message(&rt, alloc, &bytes);
+    }
 }
 
 /// A message of type `NLMSG_NOOP`.
-const NOOP: &[u8] = b"\x10\0\0\0\x01\0\x02\0\x07\0\0\0\0\0\0\0";
+const NOOP: &[u8] = b"\x10\0\0\0\x01\0\0\0\0\0\0\0\0\0\0\0";
 
 /// Two replies, about a listening socket and a connected one.
 const BOTH: &[u8] = b"\x20\0\0\0\x14\0\x02\0\x07\0\0\0\0\0\0\0\
@@ -79,80 +204,278 @@ const BOTH: &[u8] = b"\x20\0\0\0\x14\0\x02\0\x07\0\0\0\0\0\0\0\
 /// A message of type `NLMSG_DONE`.
 const DONE: &[u8] = b"\x14\0\0\0\x03\0\x02\0\x07\0\0\0\0\0\0\0\0\0\0\0";
 
+/// The first reply without the one after it, and with other padding.
+const FIRST: &[u8] = b"\x20\0\0\0\x14\0\x02\0\x07\0\0\0\0\0\0\0\
+\x01\x01\x0a\x07\x0e\x4f\0\0\xa0\x02\0\0\0\0\0\0";
+
+/// Asserts that the message is equal to the one of other bytes, and that `part` occurs in what
+/// `Debug` prints for it, unless an allocation fails. Returns the code of its error.
+fn opens(rt: &impl Abort, alloc: Global, bytes: &[u8], other: &[u8], part: &str) -> u8 {
+    let want = NetlinkMessage::<SockDiagMessage>::deserialize(alloc, other);
+    let read = NetlinkMessage::<SockDiagMessage>::deserialize(alloc, bytes);
+    if code(&read) != MEMORY {
+        assert!(rt; code(&want) == MEMORY || read == want);
+        if let Ok(text) = format!(in alloc; "{read:?}") {
+            has_part(rt, text.as_str(), part);
+        }
+    }
+    code(&read)
+}
+
+/// The code of `DecodeError::Memory`.
+const MEMORY: u8 = 1;
+
 #[test]
 fn netlink_messages(rt: HostRuntime) {
     let alloc = rt.alloc();
-    assert!(rt; message_code::<SockDiagMessage>(alloc, BOTH) <= MEMORY);
-    assert!(rt; message_code::<SockDiagMessage>(alloc, DONE) <= MEMORY);
-    assert!(rt; message_code::<SockDiagMessage>(alloc, NOOP) == 0);
+    let text = "Ok(NetlinkMessage { header: NetlinkHeader { length: 32, message_type: 20, flags: \
+        2, sequence_number: 7, port_number: 0 }, payload: InnerMessage(UnixResponse(UnixResponse \
+        { header: UnixResponseHeader { kind: 1, state: 10, inode: 20238, cookie: [160, 2, 0, 0, \
+        0, 0, 0, 0] }, nlas: [] })) })";
+    assert!(rt; opens(&rt, alloc, BOTH, FIRST, text) <= MEMORY);
+    let text = "Ok(NetlinkMessage { header: NetlinkHeader { length: 20, message_type: 3, flags: \
+        2, sequence_number: 7, port_number: 0 }, payload: Done([0, 0, 0, 0]) })";
+    assert!(rt; opens(&rt, alloc, DONE, DONE, text) <= MEMORY);
+    let text = "Ok(NetlinkMessage { header: NetlinkHeader { length: 16, message_type: 1, flags: \
+        0, sequence_number: 0, port_number: 0 }, payload: Noop })";
+    assert!(rt; opens(&rt, alloc, NOOP, NOOP, text) == 0);
 }
 
-/// Asserts that in every run both parsers accept the first `count` bytes, if `want` is 0, or return
-/// the error with the code `want`.
-fn answers(
-    rt: &impl Abort,
-    alloc: Global,
-    subject: Subject,
-    (header, attributes): (&str, &str),
-    count: usize,
-    want: u8,
-) {
-    if let Some(bytes) = reply(rt, alloc, header, attributes) {
-        let bytes = bytes.get(..count).expect(rt, "so many bytes");
-        let report = examine(alloc, subject, bytes, None, false);
-        assert!(rt; report.first == want && report.second == want);
+/// Parses all of the bytes.
+const WHOLE: usize = usize::MAX;
+
+/// A header and attributes, how many of their bytes are parsed, and the error, or `None` for a
+/// value.
+type Answer = (
+    Subject,
+    &'static str,
+    &'static str,
+    usize,
+    Option<DecodeError>,
+);
+
+/// Values that need no allocation: requests, and replies of at most eight attributes that have
+/// neither a name nor a text nor numbers nor a raw value.
+const VALUES: [Answer; 9] = [
+    (Subject::UnixReply, LISTENING, "", WHOLE, None),
+    (Subject::UnixReply, LISTENING, NINE, 80, None),
+    (Subject::UnixReply, LISTENING, "04000300", WHOLE, None),
+    (
+        Subject::UnixReply,
+        CONNECTED,
+        "0c0004000300000007000000",
+        WHOLE,
+        None,
+    ),
+    (
+        Subject::UnixReply,
+        LISTENING,
+        "28000500000000000200000000000000040000000000000006000000000000000000000000000000",
+        WHOLE,
+        None,
+    ),
+    (Subject::InetReply, INET, SHUTDOWN, WHOLE, None),
+    (Subject::InetReply, INET, INET_OTHER, 80, None),
+    (Subject::UnixRequest, UNIX_REQUEST, "", WHOLE, None),
+    (
+        Subject::InetRequest,
+        "0211000002000000",
+        ZEROS_48,
+        WHOLE,
+        None,
+    ),
+];
+
+/// Invalid bytes.
+const ERRORS: [Answer; 8] = [
+    (
+        Subject::UnixRequest,
+        UNIX_REQUEST,
+        "",
+        23,
+        Some(DecodeError::BufferTooSmall {
+            which: RecordName::UnixRequest,
+            got: 23,
+            need: 24,
+        }),
+    ),
+    (
+        Subject::UnixReply,
+        PATH,
+        "",
+        15,
+        Some(DecodeError::BufferTooSmall {
+            which: RecordName::UnixResponseHeader,
+            got: 15,
+            need: 16,
+        }),
+    ),
+    (
+        Subject::UnixReply,
+        PATH,
+        "",
+        53,
+        Some(DecodeError::AttributeHeaderCut { left: 1 }),
+    ),
+    (
+        Subject::UnixReply,
+        PATH,
+        "",
+        54,
+        Some(DecodeError::AttributeHeaderCut { left: 2 }),
+    ),
+    (
+        Subject::UnixReply,
+        PATH,
+        "",
+        55,
+        Some(DecodeError::AttributeHeaderCut { left: 3 }),
+    ),
+    (
+        Subject::UnixReply,
+        PATH,
+        "",
+        56,
+        Some(DecodeError::AttributeLengthPast { length: 5, left: 4 }),
+    ),
+    (
+        Subject::UnixReply,
+        PATH,
+        "0000",
+        WHOLE,
+        Some(DecodeError::AttributeHeaderCut { left: 2 }),
+    ),
+    (
+        Subject::UnixReply,
+        LISTENING,
+        "080000006162630003000600",
+        WHOLE,
+        Some(DecodeError::AttributeLengthUnder4 { length: 3 }),
+    ),
+];
+
+/// Asserts that no allocation changes the answer in the row, and that each serializer returns the
+/// same error, or the same bytes unless an allocation fails.
+fn is_answered(rt: &impl Abort, alloc: Global, row: &Answer) -> Option<()> {
+    let (subject, header, attributes, count, error) = *row;
+    let bytes = reply(rt, alloc, header, attributes)?;
+    let bytes = bytes.get(..count).unwrap_or(&bytes);
+    let original = equivalent(rt, alloc, header, attributes)?;
+    let original = original.get(..count).unwrap_or(&original);
+    let report = examine(alloc, subject, bytes, Some(original), false);
+    assert!(rt; report.error == error && report.are_equal && report.is_original);
+    match error {
+        Some(error) => are_rejected(rt, &report, error),
+        None => are_forms(rt, &report, bytes),
+    }
+    Some(())
+}
+
+/// Asserts that all serializers return this error of the parser.
+fn are_rejected(rt: &impl Abort, report: &Report, error: DecodeError) {
+    let refused = Err(CanonError::Refused(error));
+    assert!(rt; report.form == refused);
+    assert!(rt; report.owned_form == refused && report.view_form == refused);
+}
+
+#[test]
+fn values_and_errors_that_need_no_allocation(rt: HostRuntime) {
+    for row in &VALUES {
+        let _ = is_answered(&rt, rt.alloc(), row);
+    }
+    for row in &ERRORS {
+        let _ = is_answered(&rt, rt.alloc(), row);
     }
 }
 
-/// Checks inputs for which no parser allocates: invalid bytes, and replies of at most eight
-/// attributes that are neither a name nor a text nor a list.
-#[test]
-fn inputs_that_need_no_allocation(rt: HostRuntime) {
-    let (alloc, path) = (rt.alloc(), (PATH, ""));
-    answers(&rt, alloc, Subject::UnixReply, path, 15, 2);
-    answers(&rt, alloc, Subject::UnixReply, path, 53, 7);
-    answers(&rt, alloc, Subject::UnixReply, path, 56, 9);
-    let nine = (LISTENING, NINE);
-    answers(&rt, alloc, Subject::UnixReply, nine, 16, 0);
-    answers(&rt, alloc, Subject::UnixReply, nine, 80, 0);
-    let inet = (INET, INET_OTHER);
-    answers(&rt, alloc, Subject::InetReply, inet, 80, 0);
+/// The payloads of `BOTH`, with other padding.
+const PAYLOADS: [&[u8]; 2] = [
+    b"\x01\x01\x0a\x07\x0e\x4f\0\0\xa0\x02\0\0\0\0\0\0",
+    b"\x01\x01\x01\x07\xb7\x7c\0\0\x22\0\0\0\0\0\0\0",
+];
+
+/// Returns the messages of `BOTH`, or `None` if an allocation fails.
+fn both(alloc: Global) -> Option<(SockDiagMessage, SockDiagMessage)> {
+    let [first, second] = PAYLOADS;
+    let first = SockDiagMessage::parse_with_param(alloc, first, 20).ok()?;
+    let second = SockDiagMessage::parse_with_param(alloc, second, 20).ok()?;
+    Some((first, second))
 }
 
-/// Feeds the datagrams to a dump. Asserts that each feed succeeds, unless the dump has failed.
-/// Returns the state of the dump and the number of its messages.
-fn fed(rt: &impl Abort, alloc: Global, datagrams: &[&[u8]]) -> (DumpState, usize) {
+/// Asserts that the message at this index of a dump of `BOTH`, repeated, is the one of `BOTH`.
+fn is_in_order(
+    rt: &impl Abort,
+    index: usize,
+    message: &SockDiagMessage,
+    (first, second): &(SockDiagMessage, SockDiagMessage),
+) {
+    let want = match index % 2 {
+        0 => first,
+        _ => second,
+    };
+    assert!(rt; *message == *want);
+}
+
+/// Asserts that a feed succeeds, or that it fails because an allocation failed.
+fn is_fed(rt: &impl Abort, was: DumpState, fed: Result<(), DumpError>, state: DumpState) {
+    match was {
+        DumpState::Failed => assert!(rt; fed == Err(DumpError::Ended) && state == was),
+        _ if state == DumpState::Failed => {
+            assert!(rt; fed == Err(DumpError::Fault(DecodeError::Memory)));
+        }
+        _ => assert!(rt; fed == Ok(())),
+    }
+}
+
+/// Feeds the datagrams to a dump. Asserts that each feed succeeds, unless an allocation fails: then
+/// the dump has failed. Returns the dump.
+fn fed(rt: &impl Abort, alloc: Global, datagrams: &[&[u8]]) -> DumpReader {
     let mut reader = DumpReader::new(alloc);
     for datagram in datagrams {
+        let was = reader.state();
         let fed = reader.feed(datagram);
-        assert!(rt; fed.is_ok() == (reader.state() != DumpState::Failed));
+        is_fed(rt, was, fed, reader.state());
     }
-    (reader.state(), reader.messages().len())
+    reader
 }
 
-/// Checks that a dump is done and has all replies, or has failed because an allocation failed, and
-/// remains failed.
+/// Checks that the messages of a dump are the first of its replies, in order, and that it has all
+/// of them unless an allocation fails.
 #[test]
 fn dumps(rt: HostRuntime) {
-    let (state, count) = fed(&rt, rt.alloc(), &[BOTH, BOTH, DONE]);
+    let Some(want) = both(rt.alloc()) else {
+        return;
+    };
+    let reader = fed(&rt, rt.alloc(), &[BOTH, BOTH, DONE]);
+    for (index, message) in reader.messages().iter().enumerate() {
+        is_in_order(&rt, index, message, &want);
+    }
+    let (state, count) = (reader.state(), reader.messages().len());
     assert!(rt; state == DumpState::Failed || (state == DumpState::Done && count == 4));
 }
 
-/// Checks that a failed allocation is not an entry.
+/// Checks the same of a dump that continues after invalid replies. A failed allocation is not an
+/// entry.
 #[test]
 fn lossy_dumps(rt: HostRuntime) {
+    let Some(want) = both(rt.alloc()) else {
+        return;
+    };
     let mut dump = LossyDump::new(rt.alloc());
     let fed = dump.feed(BOTH);
-    assert!(rt; fed.is_ok() == (dump.state() != DumpState::Failed) && !dump.is_interrupted());
+    is_fed(&rt, DumpState::Reading, fed, dump.state());
     assert!(rt; dump.entries().len() == 2 || dump.state() == DumpState::Failed);
-    for entry in dump.entries() {
-        assert!(rt; entry.is_ok());
+    for (index, entry) in dump.entries().iter().enumerate() {
+        match entry {
+            Ok(message) => is_in_order(&rt, index, message, &want),
+            Err(_) => panic!(rt; "an error"),
+        }
     }
 }
 
 /// Checks that a dump that keeps no message never fails, whichever allocations fail.
 #[test]
 fn dumps_that_need_no_allocation(rt: HostRuntime) {
-    let (state, _) = fed(&rt, rt.alloc(), &[NOOP, DONE]);
-    assert!(rt; state == DumpState::Done);
+    let reader = fed(&rt, rt.alloc(), &[NOOP, DONE]);
+    assert!(rt; reader.state() == DumpState::Done);
 }

@@ -1,7 +1,7 @@
 //! What `Debug` prints for replies and messages, or a part of it. A row has more digits for the
 //! bytes, a space, and that part.
 
-use super::parse_twice::{Subject, parse_twice};
+use super::parsers::{Subject, parse_all};
 use super::{CONNECTED, INET, PATH, PEER, SHUTDOWN, bytes, cells, has_part, shows};
 use netlink_core::{NetlinkDeserializable, NetlinkMessage};
 use netlink_packet_sock_diag::{MessageView, SockDiagDestroy, SockDiagMessage};
@@ -9,9 +9,9 @@ use std::alloc::Global;
 use std::fmt::Debug;
 use std::process::Abort;
 
-/// Asserts that the part occurs in what `Debug` prints for the result of both parsers.
+/// Asserts that the part occurs in what `Debug` prints for the result of all parsers.
 fn is_shown(rt: &impl Abort, alloc: Global, subject: Subject, reply: &[u8], part: &str) {
-    let report = parse_twice(rt, alloc, subject, reply, None, true);
+    let report = parse_all(rt, alloc, subject, reply, None, true);
     let text = report.text.as_deref().expect(rt, "memory");
     has_part(rt, text, part);
 }

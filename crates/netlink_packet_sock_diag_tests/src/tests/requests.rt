@@ -1,6 +1,7 @@
 //! How requests are built, printed and serialized.
 
 use super::{ZEROS, bytes, same, shows};
+use bitflags::Flags;
 use netlink_core::{
     NLM_F_DUMP, NLM_F_REQUEST, NetlinkHeader, NetlinkMessage, NetlinkPayload, NetlinkSerializable,
     Parseable,
@@ -14,7 +15,7 @@ use std::net::{IpAddr, Ipv6Addr};
 use std::process::Abort;
 
 /// Asserts that a message with this payload, with the flags of a dump request, serializes to these
-/// bytes after `finalize`.
+/// bytes after `finalize`, and that the bytes after it in the buffer are unchanged.
 fn is_sent<I: NetlinkSerializable + Drop>(
     rt: &impl Abort,
     alloc: Global,
@@ -22,10 +23,12 @@ fn is_sent<I: NetlinkSerializable + Drop>(
     parts: &[&str],
 ) {
     let sent = sent_bytes(rt, alloc, payload);
-    same(rt, &sent, &bytes(rt, alloc, parts));
+    let mut wanted = bytes(rt, alloc, parts);
+    wanted.extend_from_slice(&[0xee, 0xee]).expect(rt, "memory");
+    same(rt, &sent, &wanted);
 }
 
-/// Returns the bytes of this message, written over other bytes.
+/// Returns the bytes of this message, written over other bytes, and two more of these.
 fn sent_bytes<I: NetlinkSerializable + Drop>(
     rt: &impl Abort,
     alloc: Global,
@@ -37,6 +40,7 @@ fn sent_bytes<I: NetlinkSerializable + Drop>(
     message.finalize();
     assert!(rt; message.is_writable());
     let mut buffer = vec![in alloc; 0xee; message.buffer_len()].expect(rt, "memory");
+    buffer.extend_from_slice(&[0xee, 0xee]).expect(rt, "memory");
     message.serialize(&mut buffer);
     buffer
 }
@@ -69,19 +73,19 @@ fn an_inet_request_and_one_to_close(rt: HostRuntime) {
     let request = SockDiagMessage::InetRequest(InetRequest {
         family: AF_INET,
         protocol: IPPROTO_TCP,
-        extensions: ExtensionFlags::SHUTDOWN,
-        states: StateFlags::CLOSING,
+        extensions: ExtensionFlags::empty(),
+        states: StateFlags::all(),
         socket_id: SocketId::new_v4(),
     });
     let destroy = SockDiagDestroy::new(request.clone(alloc).expect(&rt, "memory"));
     let text = "SockDiagDestroy(InetRequest(InetRequest { family: 2, protocol: 6, extensions: \
-        ExtensionFlags(128), states: StateFlags(2048), socket_id: SocketId { source_port: 0, \
+        ExtensionFlags(0), states: StateFlags(4094), socket_id: SocketId { source_port: 0, \
         destination_port: 0, source_address: 0.0.0.0, destination_address: 0.0.0.0, \
         interface_id: 0, cookie: [0, 0, 0, 0, 0, 0, 0, 0] } }))";
     shows(&rt, alloc, &destroy.clone(alloc), text);
-    let front = "480000001400010300000000000000000206800000080000";
+    let front = "4800000014000103000000000000000002060000fe0f0000";
     sends(&rt, alloc, request, &[front, ZEROS, ZEROS, ZEROS]);
-    let front = "480000001500010300000000000000000206800000080000";
+    let front = "4800000015000103000000000000000002060000fe0f0000";
     is_sent(&rt, alloc, destroy.into(), &[front, ZEROS, ZEROS, ZEROS]);
 }
 

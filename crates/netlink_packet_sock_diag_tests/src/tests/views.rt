@@ -87,6 +87,7 @@ fn digits(name: &str) -> &str {
         "done" => "1400000003000200070000000000000000000000",
         "error" => "14000000020002000700000000000000ee000000",
         "lost" => "14000000040002000700000000000000ee000000",
+        "interrupted" => "2000000014001200070000000000000001010100b77c00002200000000000000",
         "odd" => "2500000014000000000000000000000001010a000e4f0000a0020000000000000500060000",
         digits => digits,
     }
@@ -108,9 +109,9 @@ reply done: (Ok(()), Done, Some(0), 1)
 reply+done: (Ok(()), Done, Some(0), 1)
 noop reply done: (Ok(()), Done, Some(0), 1)
 reply+done+reply: (Ok(()), Done, Some(0), 1)
-done reply: (Err(Ended), Done, Some(0), 0)
+reply done reply: (Err(Ended), Done, Some(0), 1)
 error: (Ok(()), Error, Some(238), 0)
-error reply: (Err(Ended), Error, Some(238), 0)
+reply+error reply: (Err(Ended), Error, Some(238), 1)
 reply lost: (Ok(()), Overrun, None, 1)
 reply lost reply: (Err(Ended), Overrun, None, 1)
 reply+20000000: (Err(Fault(EnvelopeCut { got: 4 })), Failed, None, 1)
@@ -125,6 +126,23 @@ odd+reply: (Err(Fault(EnvelopeLengthPast { length: 33559552, got: 29 })), Failed
 /// `DumpReader`.
 type Told = (Result<(), DumpError>, DumpState, Option<i32>, usize);
 
+/// Feeds one more reply to a dump that has ended. Asserts that this returns an error, and changes
+/// nothing that the dump reports.
+fn stays(rt: &impl Abort, alloc: Global, reader: &mut DumpReader) {
+    let before = reported(rt, alloc, reader);
+    let fed = reader.feed(&datagram(rt, alloc, "interrupted"));
+    assert!(rt; fed == Err(DumpError::Ended));
+    assert!(rt; reported(rt, alloc, reader) == before);
+}
+
+/// Returns what `Debug` prints for all that a dump reports.
+fn reported(rt: &impl Abort, alloc: Global, reader: &DumpReader) -> String {
+    let (state, number) = (reader.state(), reader.error_number());
+    let reported = (state, number, reader.is_interrupted(), reader.messages());
+    format!(in alloc; "{reported:?}").expect(rt, "memory")
+}
+
+/// Feeds the datagrams to a `DumpReader`. If the dump has ended, one more reply changes nothing.
 fn fed(rt: &impl Abort, alloc: Global, datagrams: &str) -> Told {
     let mut reader = DumpReader::new(alloc);
     let mut answer = Ok(());
@@ -132,6 +150,9 @@ fn fed(rt: &impl Abort, alloc: Global, datagrams: &str) -> Told {
         answer = reader.feed(&datagram(rt, alloc, names));
     }
     let (state, number) = (reader.state(), reader.error_number());
+    if state != DumpState::Reading {
+        stays(rt, alloc, &mut reader);
+    }
     (answer, state, number, reader.into_messages().len())
 }
 
@@ -163,6 +184,22 @@ fn faults(rt: &impl Abort, alloc: Global, dump: LossyDump) -> Vec<Option<DecodeE
     faults
 }
 
+/// Feeds one more reply to a dump that has ended. Asserts that this returns an error, and changes
+/// nothing that the dump reports.
+fn lossy_stays(rt: &impl Abort, alloc: Global, dump: &mut LossyDump) {
+    let before = lossy_reported(rt, alloc, dump);
+    let fed = dump.feed(&datagram(rt, alloc, "interrupted"));
+    assert!(rt; fed == Err(DumpError::Ended));
+    assert!(rt; lossy_reported(rt, alloc, dump) == before);
+}
+
+/// Returns what `Debug` prints for all that a dump reports.
+fn lossy_reported(rt: &impl Abort, alloc: Global, dump: &LossyDump) -> String {
+    let (state, number) = (dump.state(), dump.error_number());
+    let reported = (state, number, dump.is_interrupted(), dump.entries());
+    format!(in alloc; "{reported:?}").expect(rt, "memory")
+}
+
 /// Feeds the datagrams to a `LossyDump`, and asserts that its report contains the text.
 fn lossy(rt: &impl Abort, alloc: Global, datagrams: &str, part: &str) {
     let mut dump = LossyDump::new(alloc);
@@ -171,6 +208,9 @@ fn lossy(rt: &impl Abort, alloc: Global, datagrams: &str, part: &str) {
         answer = dump.feed(&datagram(rt, alloc, names));
     }
     let (state, number) = (dump.state(), dump.error_number());
+    if state != DumpState::Reading {
+        lossy_stays(rt, alloc, &mut dump);
+    }
     shows(
         rt,
         alloc,
