@@ -4,8 +4,7 @@ use super::parsers::{Report, Subject, examine};
 use super::{ABSTRACT, CONNECTED, INET, LISTENING, PATH, SHUTDOWN, code, has_part};
 use hex::FromHexError;
 use netlink_core::{
-    CanonError, DecodeError, NetlinkMessage, NetlinkPayload, Parseable, ParseableParametrized,
-    RecordName,
+    CanonError, DecodeError, NetlinkMessage, Parseable, ParseableParametrized, RecordName,
 };
 use netlink_packet_sock_diag::inet::{self, InetResponse};
 use netlink_packet_sock_diag::unix::{self, UnixResponse};
@@ -193,6 +192,9 @@ fn clones(rt: HostRuntime) {
     }
 }
 
+/// The code of `DecodeError::Memory`.
+const MEMORY: u8 = 1;
+
 /// A message of type `NLMSG_NOOP`.
 const NOOP: &[u8] = b"\x10\0\0\0\x01\0\0\0\0\0\0\0\0\0\0\0";
 
@@ -209,7 +211,7 @@ const FIRST: &[u8] = b"\x20\0\0\0\x14\0\x02\0\x07\0\0\0\0\0\0\0\
 \x01\x01\x0a\x07\x0e\x4f\0\0\xa0\x02\0\0\0\0\0\0";
 
 /// Asserts that the message is equal to the one of other bytes, and that `part` occurs in what
-/// `Debug` prints for it, unless an allocation fails. Returns the code of its error.
+/// `Debug` prints for it, unless an allocation fails. Returns the code of the parser's error, or 0.
 fn opens(rt: &impl Abort, alloc: Global, bytes: &[u8], other: &[u8], part: &str) -> u8 {
     let want = NetlinkMessage::<SockDiagMessage>::deserialize(alloc, other);
     let read = NetlinkMessage::<SockDiagMessage>::deserialize(alloc, bytes);
@@ -222,9 +224,7 @@ fn opens(rt: &impl Abort, alloc: Global, bytes: &[u8], other: &[u8], part: &str)
     code(&read)
 }
 
-/// The code of `DecodeError::Memory`.
-const MEMORY: u8 = 1;
-
+/// Checks a message with a reply, the end of a dump, and a message that needs no allocation.
 #[test]
 fn netlink_messages(rt: HostRuntime) {
     let alloc = rt.alloc();
@@ -241,11 +241,11 @@ fn netlink_messages(rt: HostRuntime) {
     assert!(rt; opens(&rt, alloc, NOOP, NOOP, text) == 0);
 }
 
-/// Parses all of the bytes.
+/// A number of bytes in an `Answer`: all of them.
 const WHOLE: usize = usize::MAX;
 
-/// A header and attributes, how many of their bytes are parsed, and the error, or `None` for a
-/// value.
+/// A header and attributes, how many of their bytes are parsed, and the error, or `None` if they
+/// have a value.
 type Answer = (
     Subject,
     &'static str,
@@ -254,8 +254,8 @@ type Answer = (
     Option<DecodeError>,
 );
 
-/// Values that need no allocation: requests, and replies of at most eight attributes that have
-/// neither a name nor a text nor numbers nor a raw value.
+/// Bytes whose parsers do not allocate: requests, and replies of at most eight attributes that have
+/// no name, no text, no number of a pending connection and no raw value.
 const VALUES: [Answer; 9] = [
     (Subject::UnixReply, LISTENING, "", WHOLE, None),
     (Subject::UnixReply, LISTENING, NINE, 80, None),
@@ -286,7 +286,7 @@ const VALUES: [Answer; 9] = [
     ),
 ];
 
-/// Invalid bytes.
+/// Invalid bytes. The last ones have a name, whose parser allocates, before the error.
 const ERRORS: [Answer; 8] = [
     (
         Subject::UnixRequest,
@@ -354,8 +354,8 @@ const ERRORS: [Answer; 8] = [
     ),
 ];
 
-/// Asserts that no allocation changes the answer in the row, and that each serializer returns the
-/// same error, or the same bytes unless an allocation fails.
+/// Asserts that each parser returns the value or the error of the row, whichever allocations fail.
+/// Asserts that each serializer returns the error, or the bytes unless an allocation fails.
 fn is_answered(rt: &impl Abort, alloc: Global, row: &Answer) -> Option<()> {
     let (subject, header, attributes, count, error) = *row;
     let bytes = reply(rt, alloc, header, attributes)?;
@@ -371,7 +371,7 @@ fn is_answered(rt: &impl Abort, alloc: Global, row: &Answer) -> Option<()> {
     Some(())
 }
 
-/// Asserts that all serializers return this error of the parser.
+/// Asserts that all serializers return the error of the parser.
 fn are_rejected(rt: &impl Abort, report: &Report, error: DecodeError) {
     let refused = Err(CanonError::Refused(error));
     assert!(rt; report.form == refused);
@@ -416,7 +416,8 @@ fn is_in_order(
     assert!(rt; *message == *want);
 }
 
-/// Asserts that a feed succeeds, or that it fails because an allocation failed.
+/// Asserts that a feed succeeds, or that it returns the error of a failed allocation and the dump
+/// has failed. A dump that had failed returns that it has ended.
 fn is_fed(rt: &impl Abort, was: DumpState, fed: Result<(), DumpError>, state: DumpState) {
     match was {
         DumpState::Failed => assert!(rt; fed == Err(DumpError::Ended) && state == was),
@@ -427,8 +428,7 @@ fn is_fed(rt: &impl Abort, was: DumpState, fed: Result<(), DumpError>, state: Du
     }
 }
 
-/// Feeds the datagrams to a dump. Asserts that each feed succeeds, unless an allocation fails: then
-/// the dump has failed. Returns the dump.
+/// Feeds the datagrams to a dump, and asserts this of each feed. Returns the dump.
 fn fed(rt: &impl Abort, alloc: Global, datagrams: &[&[u8]]) -> DumpReader {
     let mut reader = DumpReader::new(alloc);
     for datagram in datagrams {

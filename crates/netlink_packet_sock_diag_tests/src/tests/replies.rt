@@ -2,8 +2,11 @@
 //! bytes, a space, and that part.
 
 use super::parsers::{Subject, parse_all};
-use super::{CONNECTED, INET, PATH, PEER, SHUTDOWN, bytes, cells, has_part, shows};
-use netlink_core::{NetlinkDeserializable, NetlinkMessage};
+use super::{
+    ABSTRACT, CONNECTED, INET, LISTENING, PATH, PEER, SHUTDOWN, bytes, cells, has_part, shows,
+};
+use netlink_core::{NetlinkDeserializable, NetlinkMessage, Parseable, ParseableParametrized};
+use netlink_packet_sock_diag::unix::{UnixResponse, UnixResponseView};
 use netlink_packet_sock_diag::{MessageView, SockDiagDestroy, SockDiagMessage};
 use std::alloc::Global;
 use std::fmt::Debug;
@@ -62,6 +65,213 @@ fn replies_and_a_message(rt: HostRuntime) {
     shows_attribute(&rt, alloc, Subject::Message, "", MESSAGE);
 }
 
+/// For the reply `ABSTRACT`.
+const WITH_ABSTRACT: &str = " Ok(UnixResponse { header: UnixResponseHeader { kind: 1, state: 10, \
+inode: 20238, cookie: [160, 2, 0, 0, 0, 0, 0, 0] }, nlas: [Name(Abstract([49, 99, 49, 52, 52, 48, \
+99, 53, 102, 53, 101, 50, 97, 53, 50, 101, 47, 98, 117, 115, 47, 115, 121, 115, 116, 101, 109, \
+100, 47, 0, 47, 98, 117, 115, 45, 97, 112, 105, 45, 117, 115, 101, 114])), \
+ReceiveQueueLength(0, 128), Shutdown(0)] })";
+
+/// Attributes after the header `LISTENING`.
+const LISTENING_ROWS: &str = "\
+0500068002000000 Ok(UnixResponse { header: UnixResponseHeader { kind: 1, state: 10, inode: 20238, \
+cookie: [160, 2, 0, 0, 0, 0, 0, 0] }, nlas: [Shutdown(2)] })
+0500078002000000 nlas: [Other(DefaultNla { kind: 32775, value: [2] })] })
+28000500010000000200000003000000040000000500000006000000070000000800000009000000 nlas: \
+[MemInfo(MemInfo { so_rcvbuf: 2, max_datagram_size: 4, alloc: 6 })] })
+0c0003000500000006000000 nlas: [PendingConnections([5, 6])] })
+04000300 nlas: [PendingConnections([])] })
+04000700 nlas: [Other(DefaultNla { kind: 7, value: [] })] })
+0600030001020000 Err(NotMultipleOfFour { got: 2 })
+0800040000000000 Err(WrongLength { kind: Some(4), got: 4, need: 8 })
+03000600 Err(AttributeLengthUnder4 { length: 3 })
+00000600 Err(AttributeLengthUnder4 { length: 0 })
+04000600 Err(WrongLength { kind: Some(6), got: 0, need: 1 })
+ffff0600 Err(AttributeLengthPast { length: 65535, left: 4 })
+0800000061006200 Err(NameInnerZero { index: 1 })
+0500028001000000 Err(WrongLength { kind: Some(2), got: 1, need: 4 })
+2000050001000000020000000300000004000000050000000600000007000000 \
+Err(BufferTooSmall { which: UnixMemInfo, got: 28, need: 36 })";
+
+/// Attributes after the header `CONNECTED`.
+const CONNECTED_ROWS: &str = "\
+0c0004000300000007000000 Ok(UnixResponse { header: UnixResponseHeader { kind: 1, state: 1, inode: \
+31927, cookie: [34, 0, 0, 0, 0, 0, 0, 0] }, nlas: [ReceiveQueueLength(3, 7)] })
+0800020001000000 nlas: [Peer(1)] })";
+
+/// Attributes after the header `INET`.
+const INET_ROWS: &str = "\
+090004006375626963 nlas: [Congestion(\"cubic\")] })
+0a0004006375626963000000 nlas: [Congestion(\"cubic\")] })
+0b0004006375626963000000 nlas: [Congestion(\"cubic\\0\")] })
+05000b0002000000 nlas: [SkV6Only(true)] })
+05000400ff000000 Err(NotUtf8)
+0600050001020000 Err(WrongLength { kind: Some(5), got: 2, need: 1 })
+1f00070000000000000000000000000000000000000000000000000000000000 Err(BufferTooSmall { which: \
+MemInfo, got: 27, need: 28 })";
+
+/// Whole replies, with other timers than the one of the header `INET`, and of another family.
+const INET_TIMERS: &str = "\
+02010300eb1401bbc0a8b23c000000000000000000000000acd91783000000000000000000000000000000005203000000\
+000000806000000000000000000000e8030000a8da29000500080000000000 timer: Some(TimeWait), \
+socket_id
+02010000eb1401bbc0a8b23c000000000000000000000000acd91783000000000000000000000000000000005203000000\
+000000806000000000000000000000e8030000a8da29000500080000000000 timer: None, socket_id
+02010900eb1401bbc0a8b23c000000000000000000000000acd91783000000000000000000000000000000005203000000\
+000000806000000000000000000000e8030000a8da29000500080000000000 timer: None, socket_id
+01010200eb1401bbc0a8b23c000000000000000000000000acd91783000000000000000000000000000000005203000000\
+000000806000000000000000000000e8030000a8da29000500080000000000 Err(UnsupportedFamily { \
+family: 1 })";
+
+/// Payloads of messages. The first two are requests, which are parsed as replies: in the address of
+/// the first is the header of an attribute.
+const MESSAGE_ROWS: &str = "\
+01010a00000000000000000000000000280007000000000000000000000000000000000000000000000000000000000000\
+00000000000000 Ok(UnixResponse(UnixResponse { header: UnixResponseHeader { kind: 1, state: 10, \
+inode: 0, cookie: [0, 0, 0, 0, 0, 0, 0, 0] }, nlas: [Other(DefaultNla { kind: 7, value: [0, 0, 0, \
+0, 0, 0, 0, 0, 0, 0, 0, 0, 0, 0, 0, 0, 0, 0, 0, 0, 0, 0, 0, 0, 0, 0, 0, 0, 0, 0, 0, 0, 0, 0, 0, \
+0] })] }))
+02110000020000000000000000000000000000000000000000000000000000000000000000000000000000000000000000\
+00000000000000 Err(BufferTooSmall { which: InetResponseHeader, got: 56, need: 72 })
+01 Err(MessageTooShort { got: 1 })
+0300 Err(UnknownFamily { family: 3 })";
+
+/// Asserts the same of the parts in all rows.
+fn show_rows(rt: &impl Abort, alloc: Global, subject: Subject, front: &str, rows: &str) {
+    for row in rows.lines() {
+        shows_attribute(rt, alloc, subject, front, row);
+    }
+}
+
+#[test]
+fn values_and_errors(rt: HostRuntime) {
+    let alloc = rt.alloc();
+    shows_attribute(&rt, alloc, Subject::UnixReply, ABSTRACT, WITH_ABSTRACT);
+    show_rows(&rt, alloc, Subject::UnixReply, LISTENING, LISTENING_ROWS);
+    show_rows(&rt, alloc, Subject::UnixReply, CONNECTED, CONNECTED_ROWS);
+    show_rows(&rt, alloc, Subject::InetReply, INET, INET_ROWS);
+    show_rows(&rt, alloc, Subject::InetReply, "", INET_TIMERS);
+    show_rows(&rt, alloc, Subject::Message, "", MESSAGE_ROWS);
+}
+
+/// A reply about a listening socket, with two attributes of each kind that a getter looks for.
+const TWO_OF_EACH: &str = "01010a000e4f0000a002000000000000\
+07000000004100000600000062000000\
+08000200010000000800020002000000\
+08000300050000000c0003000600000007000000\
+0c00040008000000090000000c0004000a0000000b000000\
+28000500000000000200000000000000040000000000000006000000000000000000000000000000\
+28000500000000000300000000000000050000000000000007000000000000000000000000000000\
+05000600010000000500060002000000";
+
+/// Asserts what the getters of a reply return.
+fn gets(rt: &impl Abort, alloc: Global, reply: &str, (details, numbers): (&str, &str)) {
+    let reply = bytes(rt, alloc, &[reply]);
+    let reply = UnixResponse::parse(alloc, reply.as_slice()).expect(rt, "refused");
+    let (peer, name) = (reply.peer(), reply.name());
+    let (pending, shutdown) = (reply.pending_connections(), reply.shutdown_state());
+    shows(rt, alloc, &(peer, name, pending, shutdown), details);
+    let listening = [
+        reply.number_of_pending_connection(),
+        reply.max_number_of_pending_connection(),
+    ];
+    let queues = [reply.receive_queue_size(), reply.send_queue_size()];
+    let memory = [
+        reply.max_datagram_size(),
+        reply.memory_used_for_outgoing_data(),
+    ];
+    shows(rt, alloc, &[listening, queues, memory], numbers);
+}
+
+// A getter returns the value of the first attribute of its kind. The queue lengths are those of a
+// listening socket or those of any other one.
+#[test]
+fn getters(rt: HostRuntime) {
+    let alloc = rt.alloc();
+    let details = "(Some(1), Some(Abstract([65, 0])), Some([5]), Some(1))";
+    let numbers = "[[Some(8), Some(9)], [None, None], [Some(4), Some(6)]]";
+    gets(&rt, alloc, TWO_OF_EACH, (details, numbers));
+    let none = "(None, None, None, None)";
+    let numbers = "[[None, None], [Some(3), Some(7)], [None, None]]";
+    let connected = "01010100b77c000022000000000000000c0004000300000007000000";
+    gets(&rt, alloc, connected, (none, numbers));
+    let numbers = "[[Some(0), Some(128)], [None, None], [None, None]]";
+    let details = "(None, Some(Pathname([47, 116, 109, 112, 47, 46, 73, 67, 69, 45, 117, 110, \
+        105, 120, 47, 49, 49, 53, 49])), None, Some(0))";
+    gets(&rt, alloc, PATH, (details, numbers));
+}
+
+/// Asserts that `Debug` prints the text for the value in the alternate form, with a line for each
+/// field.
+fn shows_lines<T: Debug>(rt: &impl Abort, alloc: Global, value: &T, text: &str) {
+    let shown = format!(in alloc; "{value:#?}").expect(rt, "memory");
+    assert!(rt; shown.as_str() == text, "{shown}");
+}
+
+/// What `Debug` prints for a reply in the alternate form.
+const REPLY_LINES: &str = "UnixResponse {
+    header: UnixResponseHeader {
+        kind: 1,
+        state: 10,
+        inode: 20238,
+        cookie: [
+            160,
+            2,
+            0,
+            0,
+            0,
+            0,
+            0,
+            0,
+        ],
+    },
+    nlas: [
+        Shutdown(
+            2,
+        ),
+    ],
+}";
+
+/// What `Debug` prints for the borrowed reply.
+const VIEW_LINES: &str = "UnixResponseView {
+    bytes: [
+        1,
+        1,
+        10,
+        0,
+        14,
+        79,
+        0,
+        0,
+        160,
+        2,
+        0,
+        0,
+        0,
+        0,
+        0,
+        0,
+        5,
+        0,
+        6,
+        0,
+        2,
+        0,
+        0,
+        0,
+    ],
+    count: 1,
+}";
+
+#[test]
+fn lines_of_a_reply(rt: HostRuntime) {
+    let reply = bytes(&rt, rt.alloc(), &[LISTENING, "0500060002000000"]);
+    let view = UnixResponseView::parse(&reply).expect(&rt, "refused");
+    shows_lines(&rt, rt.alloc(), &view, VIEW_LINES);
+    let reply = view.to_owned(rt.alloc()).expect(&rt, "memory");
+    shows_lines(&rt, rt.alloc(), &reply, REPLY_LINES);
+}
+
 /// Asserts that `Debug` prints `count + 1` equal attributes of a reply.
 fn check_many(
     rt: &impl Abort,
@@ -108,7 +318,8 @@ fn check_messages<I: NetlinkDeserializable + Debug + Drop>(
     }
 }
 
-/// A message with a reply, and control messages.
+/// A message with a reply, control messages, and rejected ones: a truncated header, two wrong
+/// lengths, and a request.
 const ENVELOPES: &str = "2000000014000200070000000000000001010a000e4f0000a002000000000000ffff \
 Ok(NetlinkMessage { header: NetlinkHeader { length: 32, message_type: 20, flags: 2, \
 sequence_number: 7, port_number: 0 }, payload: InnerMessage(UnixResponse(UnixResponse { header: \
@@ -119,7 +330,46 @@ nlas: [] })) })
 10000000020002000700000000000000 payload: Error([]) })
 120000000400010307000080443322110900 Ok(NetlinkMessage { header: NetlinkHeader { length: 18, \
 message_type: 4, flags: 769, sequence_number: 2147483655, port_number: 287454020 }, payload: \
-Overrun([9, 0]) })";
+Overrun([9, 0]) })
+200000001400020007000000000000 Err(EnvelopeCut { got: 15 })
+0f00000014000200070000000000000001010a000e4f0000a002000000000000ffff Err(EnvelopeLengthUnder16 { \
+length: 15 })
+2300000014000200070000000000000001010a000e4f0000a002000000000000ffff Err(EnvelopeLengthPast { \
+length: 35, got: 34 })
+4800000014000103000000000000000002060000fe0f000000000000000000000000000000000000000000000000000000\
+0000000000000000000000000000000000000000000000 Err(BufferTooSmall { which: InetResponseHeader, \
+got: 56, need: 72 })";
+
+/// Asserts that a message that was parsed has the header after `finalize`.
+fn is_finalized(rt: &impl Abort, alloc: Global, parts: &[&str], header: &str) {
+    let bytes = bytes(rt, alloc, parts);
+    let mut message = NetlinkMessage::<SockDiagMessage>::deserialize(alloc, &bytes).expect(
+        rt, "refused",
+    );
+    assert!(rt; message.is_writable());
+    message.finalize();
+    shows(rt, alloc, &message.header, header);
+}
+
+// The length of the second message is the number of its bytes, without the last byte of padding.
+// With the padding that is written it is one more.
+#[test]
+fn parsed_messages_are_finalized(rt: HostRuntime) {
+    let alloc = rt.alloc();
+    let parts = ["20000000140002000700000000000000", LISTENING, "ffff"];
+    let text = "NetlinkHeader { length: 32, message_type: 20, flags: 2, sequence_number: 7, \
+        port_number: 0 }";
+    is_finalized(&rt, alloc, &parts, text);
+    let parts = [
+        "4b000000140002000700000000000000",
+        LISTENING,
+        "180000002f746d702f2e4943452d756e69782f31313531000c0004000000000080000000",
+        "05000600000000",
+    ];
+    let text = "NetlinkHeader { length: 76, message_type: 20, flags: 2, sequence_number: 7, \
+        port_number: 0 }";
+    is_finalized(&rt, alloc, &parts, text);
+}
 
 #[test]
 fn a_borrowed_message(rt: HostRuntime) {
@@ -134,11 +384,26 @@ fn a_borrowed_message(rt: HostRuntime) {
 }
 
 /// The request to close a socket, under the type under which it is parsed, and under its own type.
-const CLOSING: &str = "2000000014000000000000000000000001010100b77c00002200000000000000 payload: \
+/// A request to close the sockets that a request selects.
+const CLOSING: &str = "4c00000014000000000000000000000001010a000e4f0000a0020000000000001800\
+00002f746d702f2e4943452d756e69782f31313531000c00040000000000800000000500060000000000 payload: \
 InnerMessage(SockDiagDestroy(UnixResponse(UnixResponse { header: UnixResponseHeader { kind: 1, \
-state: 1, inode: 31927, cookie: [34, 0, 0, 0, 0, 0, 0, 0] }, nlas: [] }))) })
-2000000015000000000000000000000001010100b77c00002200000000000000 Err(UnknownMessageType { \
-message_type: 21 })";
+state: 10, inode: 20238, cookie: [160, 2, 0, 0, 0, 0, 0, 0] }, nlas: [Name(Pathname([47, 116, \
+109, 112, 47, 46, 73, 67, 69, 45, 117, 110, 105, 120, 47, 49, 49, 53, 49])), \
+ReceiveQueueLength(0, 128), Shutdown(0)] }))) })
+4c00000015000000000000000000000001010a000e4f0000a002000000000000180000002f746d702f2e4943452d75\
+6e69782f31313531000c00040000000000800000000500060000000000 Err(UnknownMessageType { \
+message_type: 21 })
+4800000015000103000000000000000002060000fe0f000000000000000000000000000000000000000000000000000000\
+0000000000000000000000000000000000000000000000 Err(UnknownMessageType { message_type: 21 })";
+
+// The message type is checked before the family.
+#[test]
+fn a_message_under_another_type(rt: HostRuntime) {
+    let read = SockDiagMessage::parse_with_param(rt.alloc(), b"\x03\0", 21);
+    let text = "Err(UnknownMessageType { message_type: 21 })";
+    shows(&rt, rt.alloc(), &read, text);
+}
 
 #[test]
 fn envelopes(rt: HostRuntime) {
