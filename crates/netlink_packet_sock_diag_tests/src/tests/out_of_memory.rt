@@ -286,8 +286,8 @@ const VALUES: [Answer; 9] = [
     ),
 ];
 
-/// Invalid bytes. The last ones have a name, whose parser allocates, before the error.
-const ERRORS: [Answer; 8] = [
+/// Invalid bytes. Most have a name or a text, whose parser allocates, before the error.
+const ERRORS: [Answer; 9] = [
     (
         Subject::UnixRequest,
         UNIX_REQUEST,
@@ -351,6 +351,13 @@ const ERRORS: [Answer; 8] = [
         "080000006162630003000600",
         WHOLE,
         Some(DecodeError::AttributeLengthUnder4 { length: 3 }),
+    ),
+    (
+        Subject::InetReply,
+        INET,
+        "0a000400637562696300000005000400ff000000",
+        WHOLE,
+        Some(DecodeError::NotUtf8),
     ),
 ];
 

@@ -165,11 +165,14 @@ fn dumps_of_one_datagram(rt: HostRuntime) {
     }
 }
 
-/// Asserts that the request to close the socket of a message is cloned.
+/// Asserts that the request to close the socket of a message has an equal clone.
 fn is_copied(rt: &impl Abort, alloc: Global, message: &[u8]) {
     let closing = NetlinkMessage::<SockDiagDestroy>::deserialize(alloc, message);
     match &closing.expect(rt, "refused").payload {
-        NetlinkPayload::InnerMessage(destroy) => assert!(rt; destroy.clone(alloc).is_ok()),
+        NetlinkPayload::InnerMessage(destroy) => {
+            let copy = destroy.clone(alloc).expect(rt, "memory");
+            assert!(rt; copy == *destroy);
+        }
         _ => panic!(rt; "no reply"),
     }
 }
