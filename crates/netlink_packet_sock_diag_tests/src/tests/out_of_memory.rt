@@ -213,10 +213,10 @@ const FIRST: &[u8] = b"\x20\0\0\0\x14\0\x02\0\x07\0\0\0\0\0\0\0\
 /// Asserts that the message is equal to the one of other bytes, and that `part` occurs in what
 /// `Debug` prints for it, unless an allocation fails. Returns the code of the parser's error, or 0.
 fn opens(rt: &impl Abort, alloc: Global, bytes: &[u8], other: &[u8], part: &str) -> u8 {
-    let want = NetlinkMessage::<SockDiagMessage>::deserialize(alloc, other);
+    let expected = NetlinkMessage::<SockDiagMessage>::deserialize(alloc, other);
     let read = NetlinkMessage::<SockDiagMessage>::deserialize(alloc, bytes);
     if code(&read) != MEMORY {
-        assert!(rt; code(&want) == MEMORY || read == want);
+        assert!(rt; code(&expected) == MEMORY || read == expected);
         if let Ok(text) = format!(in alloc; "{read:?}") {
             has_part(rt, text.as_str(), part);
         }
@@ -416,11 +416,11 @@ fn is_in_order(
     message: &SockDiagMessage,
     (first, second): &(SockDiagMessage, SockDiagMessage),
 ) {
-    let want = match index % 2 {
+    let expected = match index % 2 {
         0 => first,
         _ => second,
     };
-    assert!(rt; *message == *want);
+    assert!(rt; *message == *expected);
 }
 
 /// Asserts that a feed succeeds, or that it returns the error of a failed allocation and the dump
@@ -450,12 +450,12 @@ fn fed(rt: &impl Abort, alloc: Global, datagrams: &[&[u8]]) -> DumpReader {
 /// of them unless an allocation fails.
 #[test]
 fn dumps(rt: HostRuntime) {
-    let Some(want) = both(rt.alloc()) else {
+    let Some(expected) = both(rt.alloc()) else {
         return;
     };
     let reader = fed(&rt, rt.alloc(), &[BOTH, BOTH, DONE]);
     for (index, message) in reader.messages().iter().enumerate() {
-        is_in_order(&rt, index, message, &want);
+        is_in_order(&rt, index, message, &expected);
     }
     let (state, count) = (reader.state(), reader.messages().len());
     assert!(rt; state == DumpState::Failed || (state == DumpState::Done && count == 4));
@@ -465,7 +465,7 @@ fn dumps(rt: HostRuntime) {
 /// entry.
 #[test]
 fn lossy_dumps(rt: HostRuntime) {
-    let Some(want) = both(rt.alloc()) else {
+    let Some(expected) = both(rt.alloc()) else {
         return;
     };
     let mut dump = LossyDump::new(rt.alloc());
@@ -474,7 +474,7 @@ fn lossy_dumps(rt: HostRuntime) {
     assert!(rt; dump.entries().len() == 2 || dump.state() == DumpState::Failed);
     for (index, entry) in dump.entries().iter().enumerate() {
         match entry {
-            Ok(message) => is_in_order(&rt, index, message, &want),
+            Ok(message) => is_in_order(&rt, index, message, &expected),
             Err(_) => panic!(rt; "an error"),
         }
     }

@@ -23,9 +23,11 @@ fn is_sent<I: NetlinkSerializable + Drop>(
     parts: &[&str],
 ) {
     let sent = sent_bytes(rt, alloc, payload);
-    let mut wanted = bytes(rt, alloc, parts);
-    wanted.extend_from_slice(&[0xee, 0xee]).expect(rt, "memory");
-    same(rt, &sent, &wanted);
+    let mut expected = bytes(rt, alloc, parts);
+    expected
+        .extend_from_slice(&[0xee, 0xee])
+        .expect(rt, "memory");
+    same(rt, &sent, &expected);
 }
 
 /// Returns the bytes of this message, written over other bytes, and two more of these.
