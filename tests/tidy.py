@@ -15,7 +15,7 @@ CODE = {".rt", ".antt", ".py", ".sh", ".c", ".h"}
 # Allowed number of consecutive equal lines of two files.
 MOST_EQUAL = 20
 # The pages of a release in which a path in code marks may be one of the sources.
-ABOUT_SOURCES = {"CHANGELOG.md", "docs/GLOSSARY.md", "docs/PROMISES.md"}
+ABOUT_SOURCES = {"CHANGELOG.md", "docs/GLOSSARY.md", "docs/MIGRATING.md", "docs/PROMISES.md"}
 COLUMNS = 100
 LINK = re.compile(r"\[[^\]]*\]\(([^)\s]+)\)")
 # A path from the top of the repository, or from the page's folder, in code marks. NAME, CRATE and

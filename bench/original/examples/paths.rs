@@ -1,5 +1,5 @@
 //! Prints the paths of the UNIX sockets in the datagram on standard input, one per line. The page
-//! docs/DIFFERENCES.md compares it with the same program over the port.
+//! docs/MIGRATING.md compares it with the same program over the port.
 
 use netlink_packet_core::{DecodeError, NetlinkMessage, NetlinkPayload};
 use netlink_packet_sock_diag::SockDiagMessage;

@@ -1,5 +1,5 @@
 //! A loop over a dump with owned messages, as in programs that use the Rust crate.
-//! docs/DIFFERENCES.md shows both.
+//! docs/MIGRATING.md shows both.
 
 use netlink_core::{DecodeError, MessageStrings, NetlinkMessage, NetlinkPayload};
 use netlink_packet_sock_diag::SockDiagMessage;
