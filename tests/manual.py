@@ -1,7 +1,7 @@
 #!/usr/bin/env python3
 """Compares the manual pages with the texts of --help and with the C header: options, functions,
 decode errors with their codes and texts. Prints what differs, with exit status 1. groff must print
-no warning about a page (skipped without groff)."""
+no warning about a page (skipped without groff). tests/tables.py compares the diagnostics."""
 
 import re
 import shutil
@@ -23,6 +23,13 @@ def options(program):
     tags = re.findall(r"(?m)^\.It Fl (.*)$", page)
     named = [f"-{it}" for line in tags for it in re.findall(r"-?[\w=]+(?:-[\w]+)*", line)]
     return named, [it for line in listed for it in re.findall(r"-+[\w=]+(?:-[\w]+)*", line)]
+
+
+def diagnostics(program):
+    """Returns the texts in the lists of the section DIAGNOSTICS of the manual page."""
+    page = (TOP / f"man/{program}.1").read_text(encoding="utf-8")
+    shown = re.split(r"(?m)^\.Sh ", page.partition("\n.Sh DIAGNOSTICS\n")[2])[0]
+    return re.findall(r"(?m)^\.It (.*)$", shown)
 
 
 def functions():

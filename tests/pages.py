@@ -43,7 +43,7 @@ MANUAL = "man"
 PROMPT = "$ "
 # The commands that are run, and words that begin a command of the shell.
 RUN = set("""./sockdiag ./sslist bin/sockdiag bin/sslist sockdiag sslist sockdump examples/sockdump
-    tests/believed.py tools/install awk cc cd cp done echo editcap export for head jq make mkdir
+    tests/believed.py tools/install awk cc cd cp done echo export for head jq make mkdir
     pkg-config printf python3 sed sha256sum sort tar uniq""".split())
 # Those of them that need a compiler, and those that are never missing.
 COMPILING = {"cc", "make", "pkg-config", "sockdump", "examples/sockdump"}

@@ -3,7 +3,8 @@ tests/pages.py calls `errors`.
 
 - docs/JSON.md: the members of each table are those that the program prints for replies with each
   attribute; those of `info` are in the same order.
-- docs/CAPTURE.md: the options are those of the usage, and each diagnostic is in the sources.
+- man/sslist.1 and man/sockdiag.1: each diagnostic is in the sources. tests/manual.py compares the
+  options.
 - docs/LINES.md: the names, the options and the decode errors.
 - docs/C.md and INSTALL.md: the installed files, and the files of a release.
 """
@@ -110,20 +111,22 @@ def json_errors(sslist):
         yield from differences(page, found, [it for it in printed if it not in shared])
 
 
-def diagnostic_errors():
-    """Looks for each diagnostic in the string literals of `sslist` and its libraries: as the whole
-    text, or each part of it between numbers and options with a value."""
-    page = "docs/CAPTURE.md"
-    words = [TOP / "tools/libraries", "sslist"]
+def diagnostic_errors(program):
+    """Looks for each diagnostic in the manual page of a program in the string literals of the
+    program and its libraries: as the whole text, or each part of it between numbers and options
+    with a value."""
+    page = f"man/{program}.1"
+    words = [TOP / "tools/libraries", program]
     used = subprocess.run(words, stdout=subprocess.PIPE, text=True, check=True).stdout.split()
-    crates = ["sslist", *used]
+    crates = [program, *used]
     files = [path for crate in crates for path in TOP.glob(f"crates/{crate}/src/**/*.rt")]
     literals = re.findall(r'"([^"\n]*)"', "\n".join(it.read_text("utf-8") for it in files))
     texts = [it.removeprefix("sslist: ") for it in literals if re.search(r"\w\w .*\{", it)]
     forms = [re.sub(r"\\{\w*\\}", ".+", re.escape(it)) for it in texts]
-    shown = section(page, "Diagnostics")
-    items = re.findall(r"(?m)^ *- (?:for a pcapng file )?`([^`]+)`", shown)
-    for item in items + [spans(row[0])[0] for row in rows(shown)[2:]]:
+    items = manual.diagnostics(program)
+    if not items:
+        yield page, "no diagnostics"
+    for item in items:
         parts = [it.strip(" :;,") for it in re.split(r"--\w+=|\b(?:[A-Z]|\d+)\b|\.\.", item)]
         is_whole = any(re.fullmatch(form, item) for form in forms)
         if not is_whole and not all(any(it in text for text in literals) for it in parts):
@@ -150,14 +153,9 @@ def line_errors():
 
 
 def option_errors():
-    """Compares the tables of options with the usages."""
-    for page, heading, name in (
-        ("docs/CAPTURE.md", "Options", "sslist"), ("docs/LINES.md", "Arguments", "sockdiag"),
-    ):
-        table = section(page, heading).partition("\n\nWithout an option")[0]
-        cells = [row[0] for row in rows(table)]
-        found = [it.split()[0] for cell in cells for it in spans(cell)]
-        yield from differences(page, found, manual.options(name)[1])
+    """Compares the table of options of `sockdiag` with the usage."""
+    page = "docs/LINES.md"
+    yield from differences(page, first_column(page, "Arguments"), manual.options("sockdiag")[1])
 
 
 def file_errors():
@@ -175,5 +173,5 @@ def file_errors():
 
 def errors(sslist):
     """Returns the page and the text of each error."""
-    return [*json_errors(sslist), *diagnostic_errors(), *line_errors(), *option_errors(),
-            *file_errors()]
+    return [*json_errors(sslist), *diagnostic_errors("sslist"), *diagnostic_errors("sockdiag"),
+            *line_errors(), *option_errors(), *file_errors()]
