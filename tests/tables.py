@@ -5,7 +5,7 @@ tests/pages.py calls `errors`.
   attribute; those of `info` are in the same order.
 - man/sslist.1 and man/sockdiag.1: each diagnostic is in the sources. tests/manual.py compares the
   options.
-- docs/LINES.md: the names, the options and the decode errors.
+- docs/LINES.md: the names and the decode errors.
 - docs/C.md and INSTALL.md: the installed files, and the files of a release.
 """
 
@@ -152,12 +152,6 @@ def line_errors():
     yield from differences(page, found, expected)
 
 
-def option_errors():
-    """Compares the table of options of `sockdiag` with the usage."""
-    page = "docs/LINES.md"
-    yield from differences(page, first_column(page, "Arguments"), manual.options("sockdiag")[1])
-
-
 def file_errors():
     """Compares the files of a release, and those that are installed, with tests/release.txt."""
     listed = (TOP / "tests/release.txt").read_text(encoding="utf-8")
@@ -174,4 +168,4 @@ def file_errors():
 def errors(sslist):
     """Returns the page and the text of each error."""
     return [*json_errors(sslist), *diagnostic_errors("sslist"), *diagnostic_errors("sockdiag"),
-            *line_errors(), *option_errors(), *file_errors()]
+            *line_errors(), *file_errors()]
