@@ -6,7 +6,7 @@ tests/pages.py calls `errors`.
 - man/sslist.1 and man/sockdiag.1: each diagnostic is in the sources. tests/manual.py compares the
   options.
 - docs/LINES.md: the names and the decode errors.
-- docs/C.md and INSTALL.md: the installed files, and the files of a release.
+- INSTALL.md: the files of a release, and the installed files.
 """
 
 import json
@@ -160,9 +160,12 @@ def file_errors():
     table = rows((TOP / page).read_text(encoding="utf-8"), "file ")[2:]
     yield from differences(page, [spans(row[0])[0] for row in table], archives)
     installed = listed.partition("== tools/install, prefix\n")[2]
-    for path in first_column("docs/C.md", "Install"):
+    paths = first_column(page, "Install the C library and the programs")
+    for path in paths:
         if f" ./{path}" not in installed:
-            yield "docs/C.md", f"tools/install does not install {path}"
+            yield page, f"tools/install does not install {path}"
+    if not paths:
+        yield page, "no table of installed files"
 
 
 def errors(sslist):
