@@ -2,10 +2,10 @@
 """Checks that the code blocks of the pages are copies of code in the repository.
 
 - A `rust` block has to occur, as consecutive whole lines, in a file under crates/*/src, and an
-  `antt` block in one under crates/*/proofs or crates/*/specs. Indentation and blank lines are
-  ignored.
-- In a README.md a block may omit the contracts. There a `rust` block may also occur in an example,
-  and a `c` block has to. tests/bindings.py and tests/api/rust_api.sh compile the examples.
+  `antt` block in one under crates/*/proofs or crates/*/specs. A `c` block has to occur in an
+  example. Indentation and blank lines are ignored.
+- In a README.md a block may omit the contracts, and a `rust` block may also occur in an example.
+  tests/bindings.py and tests/api/rust_api.sh compile the examples.
 - A `rust,ignore` block has to occur in an example over the Rust crate, under bench/original.
 - A `text` block in a CALLING.md quotes contracts below a line that names the file. Each quoted line
   has to occur in that file, in the notation of these pages.
@@ -24,14 +24,14 @@ from pathlib import Path
 TOP = Path(__file__).resolve().parent.parent
 DOCUMENTS = ["*.md", "crates/*.md", "crates/*/*.md", "docs/*.md", "rust/*/*.md"]
 # The files that a block of each language may be a copy of, and the examples that a block in a
-# README.md may be a copy of.
+# README.md may be a copy of too.
 SOURCES = {
     "rust": ["crates/*/src/**/*.rt"],
     "rust,ignore": ["bench/original/examples/*.rs"],
     "antt": ["crates/*/proofs/**/*.antt", "crates/*/specs/**/*.antt"],
-    "c": [],
+    "c": ["examples/*.c"],
 }
-EXAMPLES = {"rust": ["rust/sockdiag/examples/*.rs"], "c": ["examples/*.c"]}
+EXAMPLES = {"rust": ["rust/sockdiag/examples/*.rs"]}
 FENCE = "```"
 # The language of a block that is indented and has no fence.
 INDENTED = "indented"
