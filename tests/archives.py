@@ -248,7 +248,7 @@ def check_release(folder):
     make_repository(other)
     for name in ("INSTALL.md", "LICENSE-UNICODE", "SECURITY.md", "docs/C.md", "docs/CAPTURE.md",
                  "docs/GLOSSARY.md", "docs/JSON.md", "docs/KERNELS.md", "docs/LINES.md",
-                 "docs/MIGRATING.md", "docs/PROMISES.md", "docs/RUST.md", "docs/STABILITY.md",
+                 "docs/MIGRATING.md", "docs/PROMISES.md", "docs/STABILITY.md",
                  "examples/Makefile", "examples/capture.pcap", "examples/list_sockets.c",
                  "examples/sockdump.c", "include/sockdiag.h", "man/sockdiag.1", "man/sockdiag.3",
                  "man/sslist.1", "rust/sockdiag/code", "tests/tidy.py",
