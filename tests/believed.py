@@ -57,7 +57,7 @@ LAWS = set("""laws fills exact eq_is_model bytes_by_codec writable_by_codec
     equivalent_symmetric equivalent_transitive one_value equal_by_bytes equivalent_to_serialized
     round_trips_iff_normal same_bytes_iff_equivalent eq tests test enough keeps same
     always_writable asks""".split())
-# Private items that count as promises: functions whose clauses docs/PROMISES.md cites, a struct
+# Private items that count as promises: functions whose clauses the READMEs of crates cite, a struct
 # whose invariant docs/DECISIONS.md cites, and the trait whose impls define what the invariant
 # names.
 CITED = {"serve", "read_prompt", "utc_text", "push_path", "push_abstract", "GenericDump",
