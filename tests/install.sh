@@ -104,11 +104,11 @@ grep -qxF 'libdir=${prefix}/lib64' "$work/staged/usr/lib64/pkgconfig/sockdiag.pc
 DESTDIR="$work/staged" LIBDIR=lib64 "$install" --uninstall /usr >/dev/null
 [ -z "$(find "$work/staged" ! -type d)" ] || fail "--uninstall with DESTDIR"
 
-# The lines for C in README.md, but for the last one, which lists the sockets: a wrong argument
+# The lines of INSTALL.md for one user, but for the one that lists the sockets: a wrong argument
 # shows that the program starts.
-awk '/^\*\*C\*\*/ { on = 1 } /^\*\*Rust\*\*/ { exit } on && sub(/^    /, "")' README.md |
-    sed 's,^examples/list_sockets$,& wrong 2>usage || :,' >"$tree/lines"
+grep -E '^    (tools/install "|export |make -C examples$|examples/list_sockets$)' INSTALL.md |
+    sed 's,^    ,,; s,^examples/list_sockets$,& wrong 2>usage || :,' >"$tree/lines"
 HOME="$work/a home"
-(cd "$tree" && sh -eu lines >"$work/out") || fail "the lines of README.md"
-grep -q '^usage: ' "$tree/usage" || fail "the program of README.md"
+(cd "$tree" && sh -eu lines >"$work/out") || fail "the lines of INSTALL.md"
+grep -q '^usage: ' "$tree/usage" || fail "the program of INSTALL.md"
 echo "install: all tests pass"

@@ -392,6 +392,16 @@ class Checker:
         stored = set(zip(*(text.splitlines() for text in files)))
         yield from self.check_answers(page, number, lines, stored)
 
+    def check_reply(self, page, number, lines):
+        """Checks that the bytes in a table of a UNIX reply are at their offsets, and are stored."""
+        digits = ""
+        for offset, part, *_ in map(str.split, lines[1:]):
+            if int(offset) != len(digits) // 2:
+                yield f"the bytes {part} are at the offset {len(digits) // 2}"
+            digits += part
+        if f"unix {digits}" not in (TOP / "crates/sockdiag/stdin").read_text("utf-8").splitlines():
+            yield f"not in crates/sockdiag/stdin: unix {digits}"
+
     def check_shown(self, page, number, lines):
         """Notes lines, which are compared with what all commands print and write when they have
         run."""
@@ -465,7 +475,7 @@ FORMS = {
     },
     "json": {r"\{": Checker.check_shown},
     "toml": {r"\[dependencies\]$": Checker.check_dependency},
-    "text": {r"programs  ": Checker.check_crates},
+    "text": {r"programs  ": Checker.check_crates, r"offset ": Checker.check_reply},
 }
 
 

@@ -99,7 +99,7 @@ pub struct SocketId {
     pub interface_id: u32,
     /// Cookie that distinguishes sockets with the same addresses and ports (`idiag_cookie`);
     /// `[0xff; 8]` matches any. The kernel compares it if a single socket is requested, and answers
-    /// with `ESTALE` (116) if it differs. It compares a cookie of zeros too.
+    /// with an error if it differs, for TCP with `ENOENT` (2). It compares a cookie of zeros too.
     pub cookie: [u8; 8],
 }
 

@@ -118,43 +118,7 @@
 //! and `InetResponse` and `UnixResponse` with their getters. The last two are aliases of
 //! [`inet::InetReply`] and [`unix::UnixReply`].
 //!
-//! Differences in imports:
-//!
-//! | `netlink-packet-sock-diag` | this crate |
-//! |---|---|
-//! | `netlink_packet_core::{NetlinkHeader, NetlinkMessage, NetlinkPayload, NLM_F_..}` | the same names, from this crate |
-//! | `Emitable`, `Parseable`, `ParseableParametrized`, `NetlinkSerializable`, the `..Buffer` types, `DefaultNla` | none. `parse` of a reply or a message, and the methods above, need no import |
-//!
-//! Differences in `match` arms and patterns:
-//!
-//! | `netlink-packet-sock-diag` | this crate |
-//! |---|---|
-//! | `NetlinkPayload::Error(ErrorMessage)`, `Done(DoneMessage)` | `Option<i32>`: 0 or `-errno`; `None` if the payload has fewer than four bytes |
-//! | `NetlinkPayload::Overrun(bytes)` | `Overrun` |
-//! | `UnixDiagName::Pathname(OsString)`, `Abstract(Vec<u8>)` | `&[u8]` in both |
-//! | `Nla::Congestion(String)` | `&str` |
-//! | `Nla::TcpInfo(Vec<u8>)` without the feature `rich_nlas` | `TcpInfo`, always |
-//! | `Nla::PendingConnections(Vec<u32>)` | [`Numbers`], an iterator |
-//! | `Nla::Other(DefaultNla)` | [`Attribute`], with its kind and bytes |
-//! | `MemInfo::backlog_queue_length`, `drops`: `u32` | `Option<u32>`: older kernels do not send them |
-//!
-//! Other differences:
-//!
-//! | `netlink-packet-sock-diag` | this crate |
-//! |---|---|
-//! | replies own their contents, in a `Box` | replies are `Copy` and borrow the bytes that they were parsed from |
-//! | `nlas`, a `SmallVec` | [`Nlas`]: `iter`, `len`, `is_empty`, and `for` over it or over a reference, which yield values; no indexing |
-//! | `name()`, `Option<&UnixDiagName>` | `Option<UnixDiagName>` |
-//! | `pending_connections()`, `Option<&[u32]>` | an iterator over the inodes, which is also empty if the reply does not contain the attribute |
-//! | `serialize` of every message, which panics if the buffer is too short | `serialize` of requests; returns `None` if the buffer is too short, and for other messages |
-//! | `emit`, and `parse` of a single attribute or of a value | none |
-//! | `InetRequest::protocol` has 8 bits | it has 32 bits, as have the constants `IPPROTO_..` |
-//! | an `InetRequest` with a family other than `AF_INET` and `AF_INET6` is serialized | such a request has a message of zero bytes |
-//! | `SocketId::new_v4()` has a cookie of zeros | its cookie is `[0xff; 8]`, which matches any, as is that of `UnixRequest::default()`. The kernel compares it if a single socket is requested |
-//! | flags have the methods of `bitflags` | flags have `empty`, `all`, `from_bits`, `from_bits_retain`, `from_bits_truncate`, `bits`, `is_empty`, `contains`, `insert`, `remove`, `\|` and `\|=` |
-//! | `DecodeError` contains texts | [`DecodeError`] is an enum of the errors with their lengths, kinds and numbers; both implement `Display` |
-//! | `send_queue_size()` returns the first number of `ReceiveQueueLength` if the socket is listening, and else `None` | it returns the second number if the socket is not listening, and else `None` |
-//! | panics on some input | does not panic |
+//! `docs/MIGRATING.md`, which a release and the sources have, lists the differences.
 //!
 //! In addition, [`Dump`] iterates over a whole datagram, [`AnswerCheck`] checks that its messages
 //! belong to the answer, and [`Attributes`] iterates over attributes as kinds and bytes.
