@@ -1,7 +1,7 @@
 #!/bin/sh
 # Tests tools/install in a copy of a release, with programs and a library that are made here: which
 # files it installs, with which modes, and that it leaves nothing if it fails. Then builds the
-# example with the installed library, as README.md describes. Takes seconds, and needs no kit.
+# example with the installed library, as INSTALL.md describes. Takes seconds, and needs no kit.
 # Without a C compiler, make and pkg-config it is skipped.
 set -eu
 cd "$(dirname -- "$0")/.."
@@ -39,7 +39,7 @@ installed() {
 }
 
 # A release: its functions return 0.
-cp VERSION README.md "$tree"
+cp VERSION "$tree"
 cp -R examples include man "$tree"
 cp tools/install "$tree/tools"
 for program in sockdiag sslist; do
