@@ -1,7 +1,8 @@
 #!/usr/bin/env python3
-"""Compares the manual pages with the texts of --help and with the C header: options, functions,
-decode errors with their codes and texts. Prints what differs, with exit status 1. groff must print
-no warning about a page (skipped without groff). tests/tables.py compares the diagnostics."""
+"""Compares sockdiag(3) with the C header: functions, decode errors with their codes and texts.
+Prints what differs, with exit status 1. groff must print no warning about a manual page (skipped
+without groff). tools/usage writes --help from the other pages, and tests/tables.py compares their
+diagnostics."""
 
 import re
 import shutil
@@ -15,14 +16,10 @@ PAGE = (TOP / "man/sockdiag.3").read_text(encoding="utf-8")
 
 
 def options(program):
-    """Returns the options in the manual page, where .Fl writes the first hyphen, and in the list of
-    the usage."""
-    usage = (TOP / f"tests/help/{program}").read_text(encoding="utf-8")
-    listed = re.findall(r"(?m)^ +(-.*?)(?:  |$)", usage)
+    """Returns the options in the manual page, where .Fl writes the first hyphen."""
     page = (TOP / f"man/{program}.1").read_text(encoding="utf-8")
-    tags = re.findall(r"(?m)^\.It Fl (.*)$", page)
-    named = [f"-{it}" for line in tags for it in re.findall(r"-?[\w=]+(?:-[\w]+)*", line)]
-    return named, [it for line in listed for it in re.findall(r"-+[\w=]+(?:-[\w]+)*", line)]
+    items = re.findall(r"(?m)^\.It Fl (.*)$", page)
+    return [f"-{it}" for names in items for it in names.split(" , ")]
 
 
 def diagnostics(program):
@@ -51,12 +48,9 @@ def errors():
 
 def main():
     wrong = []
-    for name, (found, expected) in (
-        ("sockdiag.1", options("sockdiag")), ("sslist.1", options("sslist")),
-        ("sockdiag.3", functions()), ("sockdiag.3", errors()),
-    ):
-        wrong += [f"man/{name}: {it} is missing" for it in expected if it not in found]
-        wrong += [f"man/{name}: unexpected {it}" for it in found if it not in expected]
+    for found, expected in (functions(), errors()):
+        wrong += [f"man/sockdiag.3: {it} is missing" for it in expected if it not in found]
+        wrong += [f"man/sockdiag.3: unexpected {it}" for it in found if it not in expected]
     for path in sorted((TOP / "man").iterdir()) if shutil.which("groff") else []:
         words = ["groff", "-ww", "-mandoc", "-Tutf8", "-z", path]
         ended = subprocess.run(words, stderr=subprocess.PIPE, text=True, check=False)

@@ -139,8 +139,8 @@ def source_of(program):
 
 @cache
 def program_options(program):
-    """Returns the options in the usage of a program, and the one of the script that starts it."""
-    return {it.partition("=")[0] for it in manual.options(program)[1]} | {"--unproved"}
+    """Returns the options of a program, and the one of the script that starts it."""
+    return {it.partition("=")[0] for it in manual.options(program)} | {"--unproved"}
 
 
 def is_option(program, option):
