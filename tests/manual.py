@@ -1,8 +1,8 @@
 #!/usr/bin/env python3
 """Compares sockdiag(3) with the C header: functions, decode errors with their codes and texts.
 Prints what differs, with exit status 1. groff must print no warning about a manual page (skipped
-without groff). tools/usage writes --help from the other pages, and tests/tables.py compares their
-diagnostics."""
+without groff). tools/usage writes --help from the pages of the programs, and tests/tables.py
+compares their diagnostics and the members of JSON."""
 
 import re
 import shutil
@@ -27,6 +27,23 @@ def diagnostics(program):
     page = (TOP / f"man/{program}.1").read_text(encoding="utf-8")
     shown = re.split(r"(?m)^\.Sh ", page.partition("\n.Sh DIAGNOSTICS\n")[2])[0]
     return re.findall(r"(?m)^\.It (.*)$", shown)
+
+
+def section(page, heading):
+    """Returns the text below a heading of a manual page, up to the next heading."""
+    text = (TOP / page).read_text(encoding="utf-8")
+    return re.split(r"(?m)^\.S[hs] ", re.split(rf"(?m)^\.S[hs] {heading}$", text)[1])[0]
+
+
+def members(text):
+    """Returns the members of JSON in the tags of the lists in a text of a manual page, and those in
+    the tags of lists within these lists."""
+    depth, found = 0, {1: [], 2: []}
+    for line in text.splitlines():
+        depth += line.startswith(".Bl ") - line.startswith(".El")
+        if line.startswith(".It Cm "):
+            found[depth] += line.removeprefix(".It Cm ").split(" , ")
+    return found[1], found[2]
 
 
 def functions():

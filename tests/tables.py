@@ -1,8 +1,8 @@
 """Compares tables and lists of the pages with the programs, their sources and their usages.
 tests/pages.py calls `errors`.
 
-- docs/JSON.md: the members of each table are those that the program prints for replies with each
-  attribute; those of `info` are in the same order.
+- man/sslist-json.5: the members of each list are those that the program prints for replies with
+  each attribute; those of `info` are in the same order.
 - man/sslist.1 and man/sockdiag.1: each diagnostic is in the sources. tests/manual.py compares the
   options.
 - docs/LINES.md: the names and the decode errors.
@@ -23,8 +23,9 @@ HEADERS = {1: 16, 2: 72, 10: 72, 16: 28, 17: 16, 40: 32, 44: 16}
 # The lengths of values of attributes: each kind is decoded with one of them.
 LENGTHS = (1, 2, 4, 5, 8, 12, 16, 20, 24, 28, 32, 36, 40, 400)
 KINDS = range(40)
-# The column of each family in a table of docs/JSON.md.
-COLUMNS = {16: 1, 17: 2, 40: 3, 44: 4}
+# The headings of the lists of members in man/sslist-json.5 for the other families than UNIX, IPv4
+# and IPv6. They have all members of the objects too.
+OTHERS = {16: "Netlink sockets", 17: "Packet sockets", 40: "Vsock sockets", 44: "XDP sockets"}
 
 
 def section(page, heading):
@@ -88,27 +89,27 @@ def printed_members(sslist):
 
 
 def json_errors(sslist):
-    page = "docs/JSON.md"
+    page = "man/sslist-json.5"
     members, inner, info = printed_members(sslist)
     for heading, names in (
         ("UNIX sockets", members[1]), ("IPv4 and IPv6 sockets", members[2] | members[10]),
     ):
-        yield from differences(page, [*first_column(page, heading), "other_attributes"], names)
-    yield from differences(page, first_column(page, "Members of info"), info)
-    if first_column(page, "Members of info") != info:
+        found, _ = manual.members(manual.section(page, heading))
+        yield from differences(page, found, names)
+    found, _ = manual.members(manual.section(page, "Members of info"))
+    yield from differences(page, found, info)
+    if found != info:
         yield page, "the members of info are in another order"
-    if f"These {len(info)} numbers" not in section(page, "Members of info"):
+    if f"These {len(info)} numbers" not in manual.section(page, "Members of info"):
         yield page, f"info has {len(info)} numbers"
     text = (TOP / page).read_text(encoding="utf-8")
-    for family, names in inner.items():
-        yield from ((page, f"{it} is missing") for it in names if it not in spans(text))
-    others = section(page, "Netlink, packet, vsock and XDP sockets")
-    for family, column in COLUMNS.items():
-        table = {row[0]: spans(row[column]) for row in rows(others)}
-        found = table["other numbers"] + table["attributes"]
-        printed = [*members[family], *inner.get(family, {})]
-        shared = [*first_column(page, "Netlink, packet, vsock and XDP sockets"), "other_attributes"]
-        yield from differences(page, found, [it for it in printed if it not in shared])
+    named = [it for found in manual.members(text) for it in found]
+    for names in inner.values():
+        yield from ((page, f"{it} is missing") for it in names if it not in named)
+    for family, heading in OTHERS.items():
+        found, within = manual.members(manual.section(page, heading))
+        yield from differences(page, found, members[family])
+        yield from differences(page, within, inner.get(family, {}))
 
 
 def diagnostic_errors(program):
