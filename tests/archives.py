@@ -251,7 +251,7 @@ def check_release(folder):
                  "docs/MIGRATING.md", "docs/PROMISES.md", "docs/STABILITY.md",
                  "examples/Makefile", "examples/capture.pcap", "examples/list_sockets.c",
                  "examples/sockdump.c", "include/sockdiag.h", "man/sockdiag.1", "man/sockdiag.3",
-                 "man/sslist.1", "rust/sockdiag/code", "tests/tidy.py",
+                 "man/sslist.1", "man/sslist-json.5", "rust/sockdiag/code", "tests/tidy.py",
                  "crates/sockdiag_c/out/libsockdiag_c.a"):
         write(top / name, "")
     write(top / "CHANGELOG.md", f"## [{VERSION}] - 2026-01-02\n")
