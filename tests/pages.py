@@ -58,7 +58,6 @@ NOT_RUN = {
     r"cc .*tests/api/fuzz_c\.c|out/fuzz_c": "it needs the library; tests/api/c_api.sh runs both",
     r"tests/(api/\w+_api|live/compare_lenient)\.sh": "it needs the library; the gate runs it later",
     r"tests/(captures|pages|programs)\.py": "the gate runs them",
-    r"python3 tests/believed\.py$": "the gate runs it",
     r"tests/edits\.sh": "it proves each crate again",
     r"bench/": "it needs valgrind, and takes minutes",
     r"ldconfig": "it needs root",
