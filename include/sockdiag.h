@@ -1550,7 +1550,7 @@ struct sockdiag_message {
  *
  * The end of a dump, NLMSG_DONE, does not end the iteration. The answer to a request without
  * NLM_F_DUMP is one message, and has no such end. Kernels put whole messages into a datagram: a
- * message that is split between two datagrams has a framing error in both.
+ * message that is split between two datagrams has a framing error in the first.
  */
 uint32_t sockdiag_next_message(const uint8_t *datagram, size_t length,
                                struct sockdiag_cursor *cursor, struct sockdiag_message *message);

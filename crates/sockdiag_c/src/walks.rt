@@ -114,7 +114,7 @@ pub extern "C" fn sockdiag_next_attribute(
 ///
 /// The end of a dump, `NLMSG_DONE`, does not end the iteration. The answer to a request without
 /// `NLM_F_DUMP` is one message, and has no such end. Kernels put whole messages into a datagram: a
-/// message that is split between two datagrams has a framing error in both.
+/// message that is split between two datagrams has a framing error in the first.
 #[unsafe(no_mangle)]
 pub extern "C" fn sockdiag_next_message(
     datagram: &[u8],
