@@ -11,9 +11,10 @@ ghost use Rattle.sock_diag_attributes.specs.UnixAttributes.{unix_attribute_set};
 ghost use Rattle.sock_diag_attributes.specs.UnixModel.{unix_nla_value as unix_model, unix_variant};
 ghost use Rattle.sock_diag_attributes.specs.UnixModel.{unix_nla_view_model as unix_view_model};
 
-use crate::inet::nlas::{Nla as InetNla, NlaView as InetNlaView};
+use crate::inet::nlas::{Nla as OwnedInetNla, NlaView as InetNlaView};
 use crate::unix::nlas::{
-    NameView, Nla as UnixNla, NlaView as UnixNlaView, NumbersIterator, NumbersView, UnixDiagName,
+    NameView, Nla as OwnedUnixNla, NlaView as UnixNlaView, NumbersIterator, NumbersView,
+    UnixDiagName,
 };
 use netlink_core::Readable;
 use std::alloc::AllocError;
@@ -25,8 +26,8 @@ pub fn parsers_take_memory() -> (bool, bool, bool)
     ensures { result ≡ (true, true, true) }
 {
     (
-        UnixNla::TAKES_MEMORY,
-        InetNla::TAKES_MEMORY,
+        OwnedUnixNla::TAKES_MEMORY,
+        OwnedInetNla::TAKES_MEMORY,
         UnixDiagName::TAKES_MEMORY,
     )
 }

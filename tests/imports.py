@@ -1,0 +1,86 @@
+#!/usr/bin/env python3
+"""Refuses two changes that no proof and no list of public items shows:
+
+- an import that gives an item the name of another one. `use a::{X as Y, Y as X}` exchanges two
+  constants in a body and in its clauses at once, so it is proved;
+- in crates.txt a dependency that is neither a crate above it nor in the lines `# kit:` there. No
+  clause excludes a side effect, such as a call of `libc::write`.
+"""
+
+import re
+import sys
+from collections import defaultdict
+from pathlib import Path
+
+TOP = Path(__file__).resolve().parent.parent
+COMMENT = re.compile(r"//.*|^\s*--.*", re.M)
+# An import of Rattle, and one of a specification, which ends with a brace or the line.
+IMPORTS = {
+    ".rt": re.compile(r"^\s*(?:pub(?:\(.*?\))? )?(?:ghost )?use ([^;]*);", re.M),
+    ".antt": re.compile(r"^use ([^{\n]*(?:\{[^}]*\})?.*)", re.M),
+}
+# The name of an item or a definition, and the name of a variant, which is indented.
+DECLARED = re.compile(
+    r"^(?:(?:pub(?:\(.*?\))?|abbrev|record|data|unsafe|extern \"C\"|const|static|fn|struct|enum"
+    r"|union|trait|type) )+(\w+)", re.M
+)
+VARIANT = re.compile(r"^    ([A-Z]\w*)(?=,| \{|\()", re.M)
+
+
+def source_files(crate):
+    """Yields the texts of a crate's code and specifications, without comments, by path."""
+    for path in sorted((TOP / "crates" / crate).rglob("*")):
+        parts = path.relative_to(TOP / "crates" / crate).parts
+        if path.suffix in IMPORTS and parts[0] in ("src", "specs"):
+            yield path, COMMENT.sub("", path.read_text(encoding="utf-8"))
+
+
+def imports_of(path, text, crate, used):
+    """Yields for each imported item the crate that has it, its name, and the name that it is given
+    or ''. A module is not an item."""
+    for statement in IMPORTS[path.suffix].findall(text):
+        first = re.split(r"::|\.", statement.removeprefix("Rattle."))[0]
+        is_module = "{" not in statement and "." in statement
+        for part in [] if is_module else re.split(r"[,{}]", statement):
+            name, _, given = part.strip().partition(" as ")
+            yield first if first in used else crate, re.split(r"::|\.", name)[-1], given
+
+
+def renamed(crates):
+    """Yields the imports that give an item the name of an item of any crate, or of a variant or an
+    imported item of its crate."""
+    names, found = defaultdict(set), []
+    items, modules = set(), {"self", "ghosts", "TheVariants"}
+    for crate, used in crates.items():
+        for path, text in source_files(crate):
+            modules.add(path.stem)
+            items.update(DECLARED.findall(text))
+            names[crate].update(VARIANT.findall(text))
+            for other, name, given in imports_of(path, text, crate, {*used, "std"}):
+                names[other].add(name)
+                found.append((path.relative_to(TOP), other, name, given))
+    for path, crate, name, given in found:
+        if given in (items | names[crate]) - {"", "_", name} and name not in modules:
+            yield f"{path}: gives {name} of {crate} the name of another item, {given}"
+
+
+def unlisted(crates, kit):
+    """Yields the dependencies that are neither crates in lines above nor listed."""
+    above = set(kit)
+    for crate, used in crates.items():
+        yield from (f"crates.txt: {crate} uses {it}" for it in used if it not in above)
+        above.add(crate)
+
+
+def main():
+    text = (TOP / "crates.txt").read_text(encoding="utf-8")
+    found = re.findall(r"^(\w+)[\w ]*:(.*)$", text, re.M)
+    crates = {name: used.split() for name, used in found}
+    kit = [name for line in re.findall(r"^# kit:(.*)$", text, re.M) for name in line.split()]
+    wrong = [*renamed(crates), *unlisted(crates, kit)]
+    print(*(f"imports.py: {it}" for it in wrong), sep="\n", end="\n" * bool(wrong))
+    return 1 if wrong else 0
+
+
+if __name__ == "__main__":
+    sys.exit(main())
