@@ -1,26 +1,34 @@
 #!/usr/bin/env python3
-"""Compares public items with two lists: tests/surface.txt has those of the libraries, and
-tests/surface_rust.txt those of the Cargo crate rust/sockdiag.
+"""Compares the public items with three lists in tests/, one for each kind of user:
+
+    surface.txt         the libraries of crates.txt, for users of Rattle
+    surface_c.txt       include/sockdiag.h
+    surface_rust.txt    the Cargo crate rust/sockdiag
 
     tests/surface.py             prints the differences, and exits with status 1 if there are any
     tests/surface.py --write     writes new lists
 
-The libraries are the crates of crates.txt, except programs and crates of tests. A line of a list
-has the path of a declaration and an item. An item of a private module is listed too, since a
-`pub use` may export it. The lists have
+A line has the shortest path by which a user reaches an item, and its declaration. Further paths of
+the same crate follow `also`; each path to an item of another crate has a line `pub use`. Items that
+no path reaches are not listed. A type that only aliases reach is at the path of the first alias.
+The lists have
 
-- functions, methods and the items of traits, by their signatures without the clauses;
+- functions and methods, and members of traits, by their signatures;
 - types with their public fields, or their variants in order, and their attributes;
-- impls with their associated types and constants, except impls of private traits or for private
-  types;
-- constants with their values, public modules, and each name of a `pub use`;
-- functions that are exported under a C name, public or not;
-- macros, and macro calls outside of functions, with their full text;
+- impls with their associated types and constants, except impls for a type, or of a trait, that the
+  crate declares and no path reaches;
+- constants with their values, and modules;
+- macro calls that declare items, and these macros, with their full text;
 - each `cfg` with the item that it applies to;
-- how often each file names a failed allocation: a body that reports one without need differs.
+- of the header also the position of each field in its struct.
+
+A line ends with the names of the clauses, ghost members and invariants, and with a sum of their
+text without comments, so a contract that changes is a difference. The sum does not cover the
+definitions that the text names.
 """
 
 import difflib
+import hashlib
 import re
 import sys
 from itertools import accumulate, islice
@@ -36,26 +44,24 @@ ITEM = re.compile(
     r"(pub(?:\([^)]*\))? )?(?:(?:async|unsafe|const(?= (?:unsafe )?fn\b)|extern \"\w+\") )*"
     r"(mod|use|fn|struct|enum|union|trait|type|const|static|impl|ghost|extern|[\w:]+!)\s*(\w*)"
 )
-# The trait and the type of an impl, and the last name of such a path.
+# The trait and the type of an impl, and the path in one of these.
 GENERICS = r"<(?:[^<>]|<(?:[^<>]|<[^<>]*>)*>)*>"
 IMPL = re.compile(rf"(?:unsafe )?impl(?:{GENERICS})? (?:(\S.*) for )?(.*)")
-NAME = re.compile(r"(?:&|'\w+ |mut )*(?:\w+::)*([^<]+)")
-# The text before a brace that opens no body: a clause, or an item that ends with a semicolon.
-CLAUSE = r" (?:ghost|requires|ensures)\*?(?: \w+)?"
+PATH = re.compile(r"(?:&|'\w+ |mut )*((?:\w+::)*\w+)?")
+# A clause, with its kind and its name, and an item that ends with a semicolon, not with a body.
+CLAUSE = r" (ghost|requires|ensures)\*?(?: (\w+))? \{"
 PUB = r"(?:pub(?:\(.*?\))? )?"
-GOES_ON = re.compile(rf"{CLAUSE}$|^{PUB}(?:use|type|static|ghost|const(?! (?:unsafe )?fn\b))\b")
-DECLARED = re.compile(r"^\s*(pub )?(?:pub\(.*?\) )?(?:trait|struct|enum|union) (\w+)", re.M)
+GOES_ON = re.compile(
+    rf" (?:ghost|requires|ensures)\*?(?: \w+)?$"
+    rf"|^{PUB}(?:use|type|static|ghost|const(?! (?:unsafe )?fn\b))\b"
+)
 # A macro cfg, or an attribute cfg and the item that it applies to.
 OVER = rf"(?: ?#\[.*?\])* (?:{PUB}use [^;]*|[^{{;,=]*)"
 CFG = re.compile(rf"\bcfg!\([^{{;]*|#!?\[cfg(?:_attr)?\b.*?\]{OVER}")
 # Attributes that do not concern a caller, or are listed in another way.
 QUIET = re.compile(r"#!?\[(?:tactic|inline|cold|doc|allow|expect|cfg|derive)\b.*")
-# The names of a failed allocation, and a line of a `use`. No clause can say that an allocation did
-# fail.
-FAILED = re.compile(r"\b(?:AllocError|Memory)\b")
-USED = re.compile(r"\s*(?:pub )?(?:ghost )?use ")
-# Attributes that export a function under a C name.
-EXPORTED = re.compile(r"#\[.*\b(?:no_mangle|export_name)\b")
+# An attribute that exports a function under its name.
+EXPORTED = "#[unsafe(no_mangle)]"
 
 
 def libraries():
@@ -100,19 +106,6 @@ def without_attributes(tokens):
     return attributes, tokens[at:]
 
 
-def items(tokens):
-    """Yields for each item its attributes, its tokens before its body, and its body or None."""
-    start = at = 0
-    while at < len(tokens):
-        end = closing(tokens, at) if tokens[at] in set("([{") else at
-        if tokens[at] in set(";{"):
-            attributes, head = without_attributes(tokens[start:at])
-            if end == at or not GOES_ON.search(text_of(head)):
-                yield attributes, head, tokens[at + 1 : end] if end > at else None
-                start = end + 1
-        at = end + 1
-
-
 def parts(tokens):
     """Yields the attributes and the tokens between commas that are outside of brackets."""
     start = at = depth = 0
@@ -133,104 +126,280 @@ def names_of_use(tokens, before=""):
     head = before + text_of(tokens).partition("{")[0].strip()
     if "{" not in tokens:
         path, _, name = head.removesuffix("::self").partition(" as ")
-        yield name or path.rpartition("::")[2], path
+        yield name or path.rpartition("::")[2], path.removesuffix("::self")
     else:
         for _, part in parts(tokens[tokens.index("{") + 1 : closing(tokens, tokens.index("{"))]):
             yield from names_of_use(part, head)
+
+
+class Item:
+    """A declaration, with its tokens before its body, and the tokens of its body or None."""
+
+    def __init__(self, attributes, head, body, module=None):
+        self.attributes, self.head, self.text = attributes, head, text_of(head)
+        self.body, self.module = body, module
+        found = ITEM.match(self.text) or sys.exit(f"surface.py: unknown item {self.text[:80]}")
+        self.public, self.kind, self.name = found[1] == "pub ", found[2], found[3]
+        if body and self.kind.endswith("!") and not self.name:
+            # The first word of a macro call is taken as the item that it declares.
+            self.public, self.name = True, re.search(r"\w+", text_of(body))[0]
+
+    def declaration(self):
+        """Returns the text before the clauses."""
+        return re.split(CLAUSE, self.text, maxsplit=1)[0]
+
+    def contract(self):
+        """Yields the kind, the name and the text of each clause, or of a ghost member."""
+        if self.kind == "ghost":
+            if self.name != "use":
+                yield "ghost", self.name, self.text
+        else:
+            found = [*re.finditer(CLAUSE, self.text)]
+            ends = [it.start() for it in found[1:]] + [len(self.text)]
+            yield from ((it[1], it[2] or "_", self.text[it.start():end])
+                for it, end in zip(found, ends))
+
+
+def items(tokens, module=None):
+    """Yields each item."""
+    start = at = 0
+    while at < len(tokens):
+        end = closing(tokens, at) if tokens[at] in set("([{") else at
+        if tokens[at] in set(";{"):
+            attributes, head = without_attributes(tokens[start:at])
+            if end == at or not GOES_ON.search(text_of(head)):
+                body = tokens[at + 1 : end] if end > at else None
+                yield Item(attributes, head, body, module)
+                start = end + 1
+        at = end + 1
+
+
+def sum_of(contract):
+    """Returns the names in a contract and the sum of its text, to be appended to a line."""
+    contract, names = [*contract], {}
+    for kind, name, _ in contract:
+        names.setdefault(kind, []).append(name)
+    text = "".join(f"; {kind} {', '.join(them)}" for kind, them in names.items())
+    whole = " ".join(text for _, _, text in contract)
+    return text + f"; {hashlib.sha256(whole.encode()).hexdigest()[:8]}" if contract else ""
+
+
+class Module:
+    """A module: its items and imports by name, the modules in it, and its impls."""
+
+    def __init__(self, path, folder, tokens, suffix, parent=None):
+        self.path, self.parent = path, parent
+        self.root = parent.root if parent else self
+        self.items, self.uses, self.globs, self.modules = {}, {}, [], {}
+        self.impls, self.macros = [], []
+        self.cfgs = CFG.findall(text_of(tokens))
+        for item in items(tokens, self):
+            if item.kind == "mod":
+                inner, file = folder / item.name, folder / f"{item.name}{suffix}"
+                file = file if file.exists() else inner / f"mod{suffix}"
+                body = [*tokens_of(file)] if item.body is None else item.body
+                child = Module(f"{path}::{item.name}", inner, body, suffix, self)
+                self.modules[item.name] = item.public, child
+            elif item.kind == "use":
+                for name, whole in names_of_use(item.head[item.head.index("use") + 1 :]):
+                    if name == "*":
+                        self.globs.append((item.public, whole.removesuffix("::*")))
+                    elif name != whole:
+                        self.uses[name] = item.public, whole
+            elif item.kind == "impl":
+                self.impls.append(item)
+            elif item.kind == "macro_rules!":
+                self.macros.append(item)
+            elif item.kind not in ("extern", "ghost", "compile_error!"):
+                self.items[item.name] = item
+
+    def all(self):
+        """Yields this module and the modules in it."""
+        yield self
+        for _, child in self.modules.values():
+            yield from child.all()
+
+    def find(self, path):
+        """Returns the item or the module at a path, or the path if it is one of another crate."""
+        first, _, rest = path.partition("::")
+        own = {"crate": self.root, "self": self, "super": self.parent}.get(first)
+        found = own or self.member(first, bool(rest))
+        if isinstance(found, Module) and rest:
+            return found.find(rest)
+        if isinstance(found, str) and rest:
+            return f"{found}::{rest}"
+        return found or path
+
+    def member(self, name, is_prefix):
+        """Returns what a name of this module means, or None. Before `::` it is a module."""
+        if name in self.modules and (is_prefix or name not in {**self.items, **self.uses}):
+            return self.modules[name][1]
+        if name in self.items:
+            return self.items[name]
+        whole = self.uses.get(name, (False, f"{name}::"))[1]
+        if name in self.modules or not whole.startswith(f"{name}::"):
+            return self.find(whole)
+        found = [self.find(it) for _, it in self.globs if not it.startswith(f"{name}::")]
+        return next((it.items[name] for it in found if isinstance(it, Module) and name in it.items),
+            None)
+
+    def reached(self, path):
+        """Yields each path by which a user of this module reaches something, and what it is."""
+        for name, item in self.items.items():
+            if item.public:
+                yield f"{path}::{name}", item
+        modules = [(name, public, child) for name, (public, child) in self.modules.items()]
+        modules += [(name, public, self.find(it)) for name, (public, it) in self.uses.items()]
+        for name, public, found in modules:
+            if public:
+                yield f"{path}::{name}", found
+                if isinstance(found, Module):
+                    yield from found.reached(f"{path}::{name}")
+        for public, whole in self.globs:
+            if public:
+                yield from self.find(whole).reached(path)
 
 
 class Surface:
     """The lines of one crate, in Rattle or in Rust (`.rs`)."""
 
     def __init__(self, folder, suffix=".rt"):
-        crate, folder, self.lines, self.suffix = folder.name, folder / "src", [], suffix
-        texts = [path.read_text(encoding="utf-8") for path in folder.rglob(f"*{suffix}")]
-        for path in folder.rglob("*.rt"):
-            text = path.read_text(encoding="utf-8")
-            lines = [line.partition("//")[0] for line in text.splitlines()]
-            named = sum(len(FAILED.findall(line)) for line in lines if not USED.match(line))
-            where = path.relative_to(folder).as_posix()
-            if named:
-                self.lines.append(f"{crate}/{where}: names a failed allocation {named} times")
-        declared = {found for text in texts for found in DECLARED.findall(text)}
-        self.private = {name for public, name in declared if ("pub ", name) not in declared}
-        self.read(list(tokens_of(folder / f"lib{suffix}")), folder, crate)
+        source, self.name, self.lines, self.paths = folder / "src", folder.name, [], {}
+        self.root = Module(self.name, source, [*tokens_of(source / f"lib{suffix}")], suffix)
+        for path, found in sorted(self.root.reached(self.name), key=lambda it: order(it[0])):
+            self.paths.setdefault(found, []).append(path)
+        self.paths = {**self.behind_aliases(), **self.paths}
+        for found, paths in self.paths.items():
+            self.list_reached(found, paths)
+        modules = [*self.root.all()]
+        called = {it.kind.rpartition(":")[2] for module in modules for it in module.items.values()}
+        for module in modules:
+            self.lines += [f"{self.name}: {cfg}" for cfg in module.cfgs]
+            macros = [it for it in module.macros if f"{it.name}!" in called]
+            self.lines += [f"{self.name}: {it.text} {text_of(it.body)}" for it in macros]
+            for impl in module.impls:
+                self.list_impl(impl)
 
-    def read(self, tokens, folder, module):
-        self.lines += [f"{module}: {cfg}" for cfg in CFG.findall(text_of(tokens))]
-        for attributes, head, body in items(tokens):
-            text = text_of(head)
-            found = ITEM.match(text) or sys.exit(f"surface.py: {module}: unknown item {text[:80]}")
-            public, kind, path = found[1] == "pub ", found[2], f"{module}::{found[3]}"
-            if kind == "mod":
-                self.lines += [f"{path}: pub mod"] * public
-                inner, file = folder / found[3], folder / f"{found[3]}{self.suffix}"
-                file = file if file.exists() else inner / f"mod{self.suffix}"
-                self.read(list(tokens_of(file)) if body is None else body, inner, path)
-            elif kind == "impl":
-                self.read_impl(module, text, body)
-            elif kind == "use" and public:
-                names = names_of_use(head[head.index("use") + 1 :])
-                self.lines += [f"{module}::{name}: pub use {whole}" for name, whole in names]
-            elif kind == "extern" and self.suffix == ".rs":
-                continue  # The functions of the C library: tools/bindings writes and compares them.
-            elif kind == "extern" or kind.endswith("!"):
-                whole = " ".join([*attributes, text, text_of(body or [])])
-                self.lines.append(f"{module}: {whole}".rstrip())
-            elif public or any(EXPORTED.match(it) for it in attributes):
-                self.read_public(path, kind, attributes, text, body or [])
+    def behind_aliases(self):
+        """Returns the items that aliases name, with the paths of the aliases."""
+        named = {}
+        for item, paths in self.paths.items():
+            if isinstance(item, Item) and item.kind == "type":
+                found = item.module.find(path_in(item.text.partition("= ")[2]))
+                named.setdefault(found, []).extend(paths if isinstance(found, Item) else [])
+        return {found: paths for found, paths in named.items() if paths}
 
-    def read_public(self, path, kind, attributes, text, body=()):
-        """Lists an item that is public itself, or an item of a public trait."""
-        facts = {re.split(rf"{CLAUSE} {{", text)[0]}
-        for it in attributes:
-            derived = re.findall(r"[\w:]+", it.partition("derive(")[2])
-            facts |= {f"derives {name}" for name in derived} | {it} - set(QUIET.findall(it))
-        inner = [" ".join([text_of(it), *of]) for of, it in parts(body) if kind != "trait"]
-        if kind == "enum":
-            self.lines += [f"{path}::{it}, variant {place}" for place, it in enumerate(inner)]
-        elif kind in ("struct", "union"):
-            self.lines += [f"{path}.{it[4:]}" for it in inner if it.startswith("pub ")]
-            hidden = [it for it in inner if not it.startswith(("pub ", "ghost "))]
-            facts |= {"has private fields" for _ in hidden}
-        elif kind == "trait":
-            for of, head, given in items(body):
-                text = text_of(head)
-                asked, name = ITEM.match(text).group(2, 3)
-                if asked == "ghost":
-                    given, text = re.search(r"\} = \{|^ghost \w+ = ", text), "ghost"
-                if name != "use":
-                    text = f"provided {text}" if given is not None else text
-                    self.read_public(f"{path}::{name}", asked, of, text)
-        self.lines += [f"{path}: {it}" for it in facts]
+    def list_reached(self, found, paths):
+        """Lists what a user reaches by paths."""
+        also = "".join(f"; also {path}" for path in paths[1:])
+        if isinstance(found, Module):
+            self.lines.append(f"{paths[0]}: pub mod{also}")
+        elif isinstance(found, Item):
+            self.list_item(paths[0], found, also)
+        elif "::" in found:
+            self.lines += [f"{path}: pub use {found}" for path in paths]
+        else:
+            sys.exit(f"surface.py: {paths[0]}: there is no {found}")
 
-    def read_impl(self, module, head, body):
-        """Lists a trait's impl with its types and constants, or the public members of a type."""
-        of, over = IMPL.match(head).groups()
-        name, trait = NAME.match(over)[1], NAME.match(of or "-")[1]
-        if {name, trait} & self.private:
+    def list_item(self, path, item, also="", before=""):
+        """Lists an item, with its fields, variants or members."""
+        facts, contract = facts_of(item), [*item.contract()]
+        if item.kind in ("struct", "union", "enum"):
+            fields = [" ".join([text_of(it), *of]) for of, it in parts(item.body or [])]
+            ghosts = [it for it in fields if it.startswith("ghost ")]
+            contract += [("ghost", it.split()[1].rstrip(":"), it) for it in ghosts]
+            self.lines += members_of(path, item.kind, fields)
+            if item.kind != "enum" and any(not it.startswith(("pub ", "ghost ")) for it in fields):
+                facts += "; private fields"
+        elif item.kind == "trait":
+            for member in items(item.body):
+                self.list_member(f"{path}::{member.name}", member)
+        text = item.declaration()
+        if item.kind.endswith("!"):
+            text += f" {text_of(item.body)}"
+        self.lines.append(f"{path}: {before}{text}{facts}{also}{sum_of(contract)}")
+
+    def list_member(self, path, item):
+        """Lists a member of a trait."""
+        given = item.body is not None or re.search(r"\} = \{|^ghost \w+ = ", item.text)
+        before = "provided " if given else ""
+        if item.kind == "ghost":
+            self.lines.append(f"{path}: {before}ghost; {sum_of(item.contract())[-8:]}")
+        elif item.kind != "use":
+            self.list_item(path, item, before=before)
+
+    def list_impl(self, impl):
+        """Lists the impl of a trait, or the public members of a type."""
+        of, over = IMPL.match(impl.text).groups()
+        kind, trait = impl.module.find(path_in(over)), impl.module.find(path_in(of or ""))
+        if any(isinstance(it, Item) and it not in self.paths for it in (kind, trait)):
             return
-        path = f"{module}::{name}"
-        self.lines += [f"{path}: {head}"] * bool(of)
-        for attributes, inner, _ in items(body):
-            text = text_of(inner)
-            public, kind, member = ITEM.match(text).groups()
-            if of and kind in ("type", "const"):
-                self.lines.append(f"{path}: {head}: {text}")
-            elif public == "pub " and not of:
-                text = re.split(rf"{CLAUSE} {{", text)[0] + f" in {head}" * (": " in head)
-                self.read_public(f"{path}::{member}", kind, attributes, text)
+        path = self.paths[kind][0] if isinstance(kind, Item) else self.name
+        members = [*items(impl.body)]
+        if of:
+            types = [f"; {it.declaration()}" for it in members if it.kind in ("type", "const")]
+            contract = [clause for it in members for clause in it.contract()]
+            self.lines.append(f"{path}: {impl.text}{''.join(types)}{sum_of(contract)}")
+        else:
+            also = f" in {impl.text}" if ": " in impl.text else ""
+            for it in members:
+                if it.public:
+                    self.list_item(f"{path}::{it.name}", it, also)
 
 
-def is_current(name, crates, writes):
-    """Returns whether a list has the lines of these crates, after it is written if `writes`. If
-    not, prints the differences."""
-    path, lines = TOP / "tests" / name, sorted(line for crate in crates for line in crate.lines)
+def members_of(path, kind, fields):
+    """Yields the lines of the variants of an enum, or of the public fields of another type."""
+    for place, it in enumerate(fields):
+        if kind == "enum":
+            yield f"{path}::{it}, variant {place}"
+        elif it.startswith("pub "):
+            yield f"{path}.{it[4:]}"
+
+
+def path_in(text):
+    """Returns the path at the start of a type or a trait, or a path that names nothing."""
+    return PATH.match(text)[1] or "-"
+
+
+def order(path):
+    """Sorts paths: the shortest first."""
+    return path.count("::"), path
+
+
+def facts_of(item):
+    """Returns the attributes of an item that concern a caller, to be appended to a line."""
+    derived = [re.findall(r"[\w:]+", it.partition("derive(")[2]) for it in item.attributes]
+    names = sorted(name for them in derived for name in them)
+    text = f"; derives {', '.join(names)}" if names else ""
+    return text + "".join(f"; {it}" for it in item.attributes if not QUIET.match(it))
+
+
+def header_lines(text, contracts):
+    """Yields the lines of the C header. The functions have the contracts of the crate."""
+    text = re.sub(r"/\*.*?\*/", "", text, flags=re.S)
+    for name, value in re.findall(r"^#define (\w+(?:\(.*?\))?) +(.*?) *$", text, re.M):
+        yield f"{name}: {value}, #define"
+    for kind, name, body in re.findall(r"^(enum|struct) (\w+) \{(.*?)\}", text, re.M | re.S):
+        for place, it in enumerate(re.findall(r"[^;,]+[^;,\s]", body)):
+            member, of = re.search(r"(\w+)(?: = (\w+)|\[\w+\])?$", it).groups()
+            if kind == "enum":
+                yield f"{member}: {of}, enum {name}"
+            else:
+                yield f"{name}.{member}: {' '.join(it.split())}, field {place}"
+    for kind, name, parameters in re.findall(r"^(\w[\w *]*?)(\w+)\(([^)]*)\)", text, re.M):
+        parameters = " ".join(parameters.split())
+        yield f"{name}: {kind}{name}({parameters}){contracts.get(name, '')}"
+
+
+def is_current(name, lines, writes):
+    """Returns whether a list has these lines, after it is written if `writes`. If not, prints the
+    differences."""
+    path, lines = TOP / "tests" / name, sorted(lines)
     if writes:
         path.write_text("\n".join(lines) + "\n", encoding="utf-8")
     listed = path.read_text(encoding="utf-8").splitlines()
     if lines != listed:
-        print(*difflib.unified_diff(listed, lines, "list", "crates", n=0, lineterm=""), sep="\n")
+        print(*difflib.unified_diff(listed, lines, "list", "sources", n=0, lineterm=""), sep="\n")
         print(f"surface.py: tests/{name} is out of date; if the change is intended, run "
             "tests/surface.py --write")
     return lines == listed
@@ -242,9 +411,16 @@ def main():
         return 2
     writes = len(sys.argv) > 1
     crates = [Surface(TOP / "crates" / crate) for crate in libraries()]
-    are_current = is_current("surface.txt", crates, writes)
-    rust = Surface(TOP / "rust" / "sockdiag", ".rs")
-    return 0 if is_current("surface_rust.txt", [rust], writes) and are_current else 1
+    exports = [item for crate in crates for module in crate.root.all()
+        for item in module.items.values() if EXPORTED in item.attributes]
+    contracts = {item.name: sum_of(item.contract()) for item in exports}
+    header = (TOP / "include/sockdiag.h").read_text(encoding="utf-8")
+    lists = {
+        "surface.txt": [line for crate in crates for line in crate.lines],
+        "surface_c.txt": header_lines(header, contracts),
+        "surface_rust.txt": Surface(TOP / "rust/sockdiag", ".rs").lines,
+    }
+    return 0 if all([is_current(name, lines, writes) for name, lines in lists.items()]) else 1
 
 
 if __name__ == "__main__":
