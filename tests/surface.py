@@ -23,8 +23,8 @@ The lists have
 - of the header also the position of each field in its struct.
 
 A line ends with the names of the clauses, ghost members and invariants, and with a sum of their
-text without comments, so a contract that changes is a difference. The sum does not cover the
-definitions that the text names.
+text without comments and of the imports that give a name in them, by `as`. So a contract that
+changes is a difference. The sum does not cover the definitions that the text names.
 """
 
 import difflib
@@ -55,6 +55,7 @@ GOES_ON = re.compile(
     rf" (?:ghost|requires|ensures)\*?(?: \w+)?$"
     rf"|^{PUB}(?:use|type|static|ghost|const(?! (?:unsafe )?fn\b))\b"
 )
+USE = re.compile(r"\buse ([^;]*);")
 # A macro cfg, or an attribute cfg and the item that it applies to.
 OVER = rf"(?: ?#\[.*?\])* (?:{PUB}use [^;]*|[^{{;,=]*)"
 CFG = re.compile(rf"\bcfg!\([^{{;]*|#!?\[cfg(?:_attr)?\b.*?\]{OVER}")
@@ -135,7 +136,7 @@ def names_of_use(tokens, before=""):
 class Item:
     """A declaration, with its tokens before its body, and the tokens of its body or None."""
 
-    def __init__(self, attributes, head, body, module=None):
+    def __init__(self, attributes, head, body, module):
         self.attributes, self.head, self.text = attributes, head, text_of(head)
         self.body, self.module = body, module
         found = ITEM.match(self.text) or sys.exit(f"surface.py: unknown item {self.text[:80]}")
@@ -160,7 +161,7 @@ class Item:
                 for it, end in zip(found, ends))
 
 
-def items(tokens, module=None):
+def items(tokens, module):
     """Yields each item."""
     start = at = 0
     while at < len(tokens):
@@ -174,13 +175,14 @@ def items(tokens, module=None):
         at = end + 1
 
 
-def sum_of(contract):
+def sum_of(contract, module):
     """Returns the names in a contract and the sum of its text, to be appended to a line."""
-    contract, names = [*contract], {}
+    names, whole = {}, " ".join(text for _, _, text in contract)
     for kind, name, _ in contract:
         names.setdefault(kind, []).append(name)
     text = "".join(f"; {kind} {', '.join(them)}" for kind, them in names.items())
-    whole = " ".join(text for _, _, text in contract)
+    words = {*re.findall(r"\w+", whole)}
+    whole += "".join(f"{name} {path}" for name, path in module.given if name in words)
     return text + f"; {hashlib.sha256(whole.encode()).hexdigest()[:8]}" if contract else ""
 
 
@@ -192,7 +194,11 @@ class Module:
         self.root = parent.root if parent else self
         self.items, self.uses, self.globs, self.modules = {}, {}, [], {}
         self.impls, self.macros = [], []
-        self.cfgs = CFG.findall(text_of(tokens))
+        text = text_of(tokens)
+        self.cfgs = CFG.findall(text)
+        # The names that imports give, by `as`, and what they are given to.
+        self.given = [(name, whole.partition("{")[0] + path) for whole in USE.findall(text)
+            for path, name in re.findall(r"([^\s,{}]+) as (\w+)", whole)]
         for item in items(tokens, self):
             if item.kind == "mod":
                 inner, file = folder / item.name, folder / f"{item.name}{suffix}"
@@ -312,19 +318,20 @@ class Surface:
             if item.kind != "enum" and any(not it.startswith(("pub ", "ghost ")) for it in fields):
                 facts += "; private fields"
         elif item.kind == "trait":
-            for member in items(item.body):
+            for member in items(item.body, item.module):
                 self.list_member(f"{path}::{member.name}", member)
         text = item.declaration()
         if item.kind.endswith("!"):
             text += f" {text_of(item.body)}"
-        self.lines.append(f"{path}: {before}{text}{facts}{also}{sum_of(contract)}")
+        self.lines.append(f"{path}: {before}{text}{facts}{also}{sum_of(contract, item.module)}")
 
     def list_member(self, path, item):
         """Lists a member of a trait."""
         given = item.body is not None or re.search(r"\} = \{|^ghost \w+ = ", item.text)
         before = "provided " if given else ""
         if item.kind == "ghost":
-            self.lines.append(f"{path}: {before}ghost; {sum_of(item.contract())[-8:]}")
+            contract = sum_of([*item.contract()], item.module)
+            self.lines.append(f"{path}: {before}ghost; {contract[-8:]}")
         elif item.kind != "use":
             self.list_item(path, item, before=before)
 
@@ -335,11 +342,11 @@ class Surface:
         if any(isinstance(it, Item) and it not in self.paths for it in (kind, trait)):
             return
         path = self.paths[kind][0] if isinstance(kind, Item) else self.name
-        members = [*items(impl.body)]
+        members = [*items(impl.body, impl.module)]
         if of:
             types = [f"; {it.declaration()}" for it in members if it.kind in ("type", "const")]
             contract = [clause for it in members for clause in it.contract()]
-            self.lines.append(f"{path}: {impl.text}{''.join(types)}{sum_of(contract)}")
+            self.lines.append(f"{path}: {impl.text}{''.join(types)}{sum_of(contract, impl.module)}")
         else:
             also = f" in {impl.text}" if ": " in impl.text else ""
             for it in members:
@@ -413,7 +420,7 @@ def main():
     crates = [Surface(TOP / "crates" / crate) for crate in libraries()]
     exports = [item for crate in crates for module in crate.root.all()
         for item in module.items.values() if EXPORTED in item.attributes]
-    contracts = {item.name: sum_of(item.contract()) for item in exports}
+    contracts = {it.name: sum_of([*it.contract()], it.module) for it in exports}
     header = (TOP / "include/sockdiag.h").read_text(encoding="utf-8")
     lists = {
         "surface.txt": [line for crate in crates for line in crate.lines],
