@@ -50,10 +50,10 @@ def renamed(crates):
     """Yields the imports that give an item the name of an item of any crate, or of a variant or an
     imported item of its crate."""
     names, found = defaultdict(set), []
-    items, modules = set(), {"self", "ghosts", "TheVariants"}
+    items, modules = set(), {"self", "ghosts"}
     for crate, used in crates.items():
         for path, text in source_files(crate):
-            modules.add(path.stem)
+            modules |= {path.stem} if path.suffix == ".rt" else set()
             items.update(DECLARED.findall(text))
             names[crate].update(VARIANT.findall(text))
             for other, name, given in imports_of(path, text, crate, {*used, "std"}):

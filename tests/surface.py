@@ -23,8 +23,8 @@ The lists have
 - of the header also the position of each field in its struct.
 
 A line ends with the names of the clauses, ghost members and invariants, and with a sum of their
-text without comments and of the imports that give a name in them, by `as`. So a contract that
-changes is a difference. The sum does not cover the definitions that the text names.
+text, without comments, and of the imports that rename by `as` what the text names. So a contract
+that changes is a difference. The sum does not cover the definitions that the text names.
 """
 
 import difflib
@@ -55,6 +55,7 @@ GOES_ON = re.compile(
     rf" (?:ghost|requires|ensures)\*?(?: \w+)?$"
     rf"|^{PUB}(?:use|type|static|ghost|const(?! (?:unsafe )?fn\b))\b"
 )
+# An import, also one in an impl.
 USE = re.compile(r"\buse ([^;]*);")
 # A macro cfg, or an attribute cfg and the item that it applies to.
 OVER = rf"(?: ?#\[.*?\])* (?:{PUB}use [^;]*|[^{{;,=]*)"
@@ -182,7 +183,7 @@ def sum_of(contract, module):
         names.setdefault(kind, []).append(name)
     text = "".join(f"; {kind} {', '.join(them)}" for kind, them in names.items())
     words = {*re.findall(r"\w+", whole)}
-    whole += "".join(f"{name} {path}" for name, path in module.given if name in words)
+    whole += "".join(f"{name} {path}" for name, path in sorted(module.given) if name in words)
     return text + f"; {hashlib.sha256(whole.encode()).hexdigest()[:8]}" if contract else ""
 
 
@@ -196,7 +197,7 @@ class Module:
         self.impls, self.macros = [], []
         text = text_of(tokens)
         self.cfgs = CFG.findall(text)
-        # The names that imports give, by `as`, and what they are given to.
+        # The names that imports give by `as`, each with the path of what has the name.
         self.given = [(name, whole.partition("{")[0] + path) for whole in USE.findall(text)
             for path, name in re.findall(r"([^\s,{}]+) as (\w+)", whole)]
         for item in items(tokens, self):
