@@ -19,7 +19,7 @@ The lists have
   crate declares and no path reaches;
 - constants with their values, and modules;
 - macro calls that declare items, and these macros, with their full text;
-- each `cfg` with the item that it applies to;
+- each `cfg` with the item that it applies to, and `no_std`;
 - of the header also the position of each field in its struct.
 
 A line ends with the names of the clauses, ghost members and invariants, and with a sum of their
@@ -57,9 +57,9 @@ GOES_ON = re.compile(
 )
 # An import, also one in an impl.
 USE = re.compile(r"\buse ([^;]*);")
-# A macro cfg, or an attribute cfg and the item that it applies to.
+# A macro cfg, an attribute cfg and the item that it applies to, or that a crate needs no std.
 OVER = rf"(?: ?#\[.*?\])* (?:{PUB}use [^;]*|[^{{;,=]*)"
-CFG = re.compile(rf"\bcfg!\([^{{;]*|#!?\[cfg(?:_attr)?\b.*?\]{OVER}")
+CFG = re.compile(rf"\bcfg!\([^{{;]*|#!?\[cfg(?:_attr)?\b.*?\]{OVER}|#!\[no_std\]")
 # Attributes that do not concern a caller, or are listed in another way.
 QUIET = re.compile(r"#!?\[(?:tactic|inline|cold|doc|allow|expect|cfg|derive)\b.*")
 # An attribute that exports a function under its name.
