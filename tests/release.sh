@@ -5,10 +5,13 @@
 # - tests/release.txt lists the members of each archive and package in order, with modes, owners and
 #   times, and the files that tools/install installs. --write writes a new list.
 # - Two copies at different paths, with other times and modes, are packed to the same bytes.
+# - The command of INSTALL.md unpacks the archive of proof results over the sources, and changes no
+#   file of them.
 # - The archive for users has no broken link. Its examples in C and Rust can be built, but not with
 #   a library of another version, and its Rust crate can be packaged.
 # - The packages can be installed into another root and removed from it (skipped without root).
 # - tools/pack fails if a file or the date of the version is missing.
+# - tools/release packs what an rt built that is made here, and refuses an rt of another logic.
 #
 # What needs a C compiler, cargo or dpkg is skipped without it.
 set -eu
@@ -32,7 +35,6 @@ has() {
 # The programs, and a library whose functions return 0.
 mkdir built
 printf '#!/bin/sh\n# GLIBC_2.4 GLIBC_2.34\n' | tee built/sockdiag >built/sslist
-echo 'rattle-kit-1 logic 0123456789abcdef' >built/KIT
 names=$(grep -oE '\bsockdiag_[a-z0-9_]+\(' "$top/include/sockdiag.h" | tr -d '(' | sort -u)
 {
     for name in $names; do
@@ -50,7 +52,7 @@ ${CC:-cc} -c -o other/fake.o other/fake.s
 ar rcD other/libsockdiag.a other/fake.o
 
 # A copy of the tree with files that must not be packed, and with proof results, of which one file
-# has two names. An archive must not have the second one as a link.
+# has two names. An archive has it twice.
 for copy in one 'elsewhere/a tree'; do
     mkdir -p "$copy"
     (cd "$top" && tar -c --exclude=target --exclude=Cargo.lock --exclude=__pycache__ docs examples \
@@ -82,6 +84,25 @@ pack one first
 TZ=Asia/Tokyo pack 'elsewhere/a tree' second
 diff -r first second || fail "two trees are not packed to the same bytes"
 (cd first && cat ./*.sha256 | sha256sum -c --quiet) || fail "a sum is wrong"
+
+# The sources, with an archive and without proof results.
+proofs=sockdiag-$version-proofs.tar.gz
+cp -R one sources
+rm -r sources/crates
+cp -R sources before
+cp "first/$proofs" sources
+sed -n '/^    tar .*-proofs/ { s/VERSION/'"$version"'/; p }' "$top/INSTALL.md" >unpack
+[ -s unpack ] || fail "INSTALL.md does not unpack the archive of proof results"
+grep -qF "$(sed "s/$version/VERSION/" unpack)" "$top/docs/RATTLE.md" || fail "RATTLE.md: tar"
+(cd sources && sh -eu ../unpack)
+for crate in netlink_core program_streams; do
+    diff -r "one/crates/$crate/out/incremental" "sources/crates/$crate/out/incremental" ||
+        fail "proof results are not unpacked"
+    rm -r "sources/crates/$crate/out/incremental"
+done
+[ -z "$(find sources/crates ! -type d)" ] || fail "other files than proof results are unpacked"
+rm -r sources/crates "sources/$proofs"
+diff -r before sources || fail "the archive of proof results changes the sources"
 
 mkdir unpacked staged prefix
 tar -xzf "first/$users.tar.gz" -C unpacked
@@ -180,6 +201,43 @@ for case in "dated $day" 'future 2106-02-08'; do
     TZ=UTC tar -tvzf "$folder/$users.tar.gz" --full-time | grep -v " ${case#* } " >wrong || continue
     fail "$folder: $(head -n 1 wrong)"
 done
+
+# Libraries and programs that rt builds, one of which has no proof results after rt lib.
+mkdir -p bin one/tests/api one/crates/sockdiag_c/out
+cat >bin/rt <<'END'
+#!/bin/sh
+crate=$(basename "$PWD")
+case $1 in
+    version) echo "rattle-kit-1 logic $KIT_LOGIC" ;;
+    run) mkdir -p out && echo "$crate $(cat)" >"out/$crate" ;;
+    lib) mkdir -p out/rlib && { [ "$crate" = checked ] || mkdir -p out/incremental; } ;;
+    check) mkdir -p out/incremental ;;
+esac
+END
+printf 'low:\nchecked: low\nother:\nsockdiag: low\nsslist: checked\n' >one/crates.txt
+for crate in low checked other sockdiag sslist; do
+    mkdir -p "one/crates/$crate"
+    echo input >"one/crates/$crate/stdin"
+done
+echo 12 >one/LOGIC
+touch one/tests/tidy.py
+printf '#!/bin/sh\necho library >crates/sockdiag_c/out/libsockdiag_c.a\n' >one/tests/api/c_api.sh
+echo '#!/bin/sh' >one/tests/api/rust_api.sh
+chmod +x bin/rt one/tests/api/*.sh
+release() {
+    KIT_LOGIC=$1 PATH="$work/bin:$PATH" one/tools/release "$2" >/dev/null
+}
+if release 123 refused 2>said; then fail "it releases with a kit of another logic"; fi
+grep -q '^tools/release: rt version does not print logic 12$' said || fail "logic: $(cat said)"
+release 12 released
+printf '%s\n' crates/low/out/incremental/ crates/checked/out/incremental/ >expected
+tar -tzf "released/$proofs" | sed -n 's,^[^/]*/\(.*/\)$,\1,p' | diff expected - ||
+    fail "proof results of a release"
+for file in bin/sockdiag bin/sslist lib/libsockdiag.a; do
+    tar -xzOf "released/$users.tar.gz" "$users/$file"
+done >built.txt
+printf 'sockdiag input\nsslist input\nlibrary\n' | diff - built.txt ||
+    fail "built files of a release"
 
 mv one/docs/LINES.md one/docs/OTHER.md
 if pack one lacking 2>/dev/null; then fail "it packs without a page"; fi
