@@ -214,7 +214,7 @@ case $1 in
     check) mkdir -p out/incremental ;;
 esac
 END
-printf 'low:\nchecked: low\nother:\nsockdiag: low\nsslist: checked\n' >one/crates.txt
+printf 'low:\nchecked:\nother:\nsockdiag: low\nsslist: checked\n' >one/crates.txt
 for crate in low checked other sockdiag sslist; do
     mkdir -p "one/crates/$crate"
     echo input >"one/crates/$crate/stdin"
