@@ -502,7 +502,7 @@ def print_all():
             print(f"{crate}: {sums(specs, [crate])}")
         print(f"{title}: {sums(specs, crates)}")
     wrong = [*specs.errors, *misplaced(specs)]
-    print(*wrong, sep="\n", end="\n" * bool(wrong), file=sys.stderr)
+    print(*wrong, f"tests/believed.py: {len(wrong)} errors", sep="\n", file=sys.stderr)
     return 1 if wrong else 0
 
 

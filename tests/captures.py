@@ -575,7 +575,7 @@ def main():
         reports_invalid_blocks,
     ):
         check(sslist)
-    print(f"captures: {sslist.runs} runs as expected")
+    print(f"tests/captures.py: {sslist.runs} runs as expected")
 
 
 if __name__ == "__main__":

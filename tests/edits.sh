@@ -1,8 +1,9 @@
 #!/bin/sh
 # edits.sh [CRATE..]: tries the edits in crates/CRATE/must-fail and tests/edits/CRATE of these
 # crates, or of all. Each makes a function wrong, and the prover has to reject it. The edits are
-# tried by rt must-fail in a copy of the tree. It begins with the proof results in crates/*/out, so
-# run rt check in the crate first.
+# tried by rt must-fail in a copy of the tree with the proof results of each crate, which is proved
+# first if it has none. rt does not try an edit again until something changes that it depends on.
+# tools/release runs this script.
 set -eu
 top=$(CDPATH='' cd -- "$(dirname -- "$0")/.." && pwd)
 cd "$top"
@@ -12,8 +13,11 @@ cd "$top"
 for crate; do
     [ -d "crates/$crate" ] || { echo "tests/edits.sh: no crate $crate" >&2; exit 2; }
 done
+for crate; do
+    [ -d "crates/$crate/out/incremental" ] || (cd "crates/$crate" && rt check)
+done
 copy=$(mktemp -d)
-trap 'rm -rf "$copy"' EXIT
+trap '[ $? = 0 ] || echo "$0: failed" >&2; rm -rf "$copy"' EXIT
 trap 'exit 130' INT TERM HUP
 
 git ls-files -z --cached --others --exclude-standard | tar -c --null -T - | tar -x -C "$copy"

@@ -88,7 +88,7 @@ def are_rejected(groups, edits, files):
         tries = [pool.submit(try_in_turn, name) for names in groups for name in names]
         turns.release(2)
         rejected = [it.result() for it in tries]
-    print(f"gate_edits: {len(rejected)} edits tried, {sum(rejected)} rejected")
+    print(f"tests/gate_edits.py: {len(rejected)} edits tried, {sum(rejected)} rejected")
     return bool(rejected) and all(rejected)
 
 

@@ -78,7 +78,7 @@ def main():
     crates = {name: used.split() for name, used in found}
     kit = [name for line in re.findall(r"^# kit:(.*)$", text, re.M) for name in line.split()]
     wrong = [*renamed(crates), *unlisted(crates, kit)]
-    print(*(f"imports.py: {it}" for it in wrong), sep="\n", end="\n" * bool(wrong))
+    print(*wrong, f"tests/imports.py: {len(wrong)} errors", sep="\n")
     return 1 if wrong else 0
 
 

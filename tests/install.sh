@@ -9,7 +9,7 @@ for command in "${CC:=cc}" make pkg-config; do
     command -v "$command" >/dev/null || { echo "skipped: tools/install: no $command"; exit 0; }
 done
 work=$(mktemp -d)
-trap 'rm -rf "$work"' EXIT
+trap '[ $? = 0 ] || echo "$0: failed" >&2; rm -rf "$work"' EXIT
 tree="$work/a tree"
 install=$work/link
 version=$(cat VERSION)

@@ -263,7 +263,7 @@ def answers(asked):
 
 def main():
     if not shutil.which("gcc") or not INCLUDED.exists():
-        print(f"kernel_headers.py: skipped: no gcc or no {INCLUDED}")
+        print(f"skipped: tests/kernel_headers.py: no gcc or no {INCLUDED}")
         return 0
     asked = list(questions())
     found = answers(dict.fromkeys(one for one, _ in asked))
@@ -275,7 +275,8 @@ def main():
     print(*wrong, sep="\n", end="\n" * bool(wrong))
     lacking = dict.fromkeys(re.findall(r"\w+", it)[-1] for it in missing)
     print("The installed headers lack:", ", ".join(lacking) or "nothing")
-    print(f"{len(found)} lengths, offsets and constants compared, {len(wrong)} errors")
+    print(f"tests/kernel_headers.py: {len(found)} lengths, offsets and constants compared, "
+          f"{len(wrong)} errors")
     return int(bool(wrong) or not found)
 
 

@@ -1,7 +1,14 @@
 #!/usr/bin/env python3
-"""tests/pages.py SOCKDIAG SSLIST: checks the code blocks of the pages and of the manual pages that
-tests/code_blocks.py does not check. The arguments are the paths of both built programs.
+"""tests/pages.py [SOCKDIAG SSLIST]: checks the code blocks of the pages and of the manual pages, and
+the commands in the text of the pages. The arguments are the paths of both built programs. Without
+them only copies of code and commands in the text are checked.
 
+- Copies of code. A `rust` block has to occur, as consecutive whole lines, in a file under
+  crates/*/src, an `antt` block in one under crates/*/proofs or crates/*/specs, a `c` block in an
+  example, and a `rust,ignore` block in an example under bench/original. Indentation and blank lines
+  are ignored. In a README.md a block may omit the contracts, and a `rust` block may also occur in
+  an example of rust/sockdiag. A `text` block in a CALLING.md quotes contracts below a line that
+  names the file. Each quoted line has to occur in that file, in the notation of these pages.
 - Shell commands are run in a folder with what the page assumes: the programs, the stored capture as
   FILE, a library whose functions return 0. Each command has to end with status 0. If a command
   follows `$ `, standard output has to be the lines that follow it.
@@ -9,7 +16,6 @@ tests/code_blocks.py does not check. The arguments are the paths of both built p
   so have those in the commands of the text.
 - FORMS lists the other forms of blocks, such as input and answers of `sockdiag`, and how each is
   checked.
-- tests/tables.py compares tables.
 
 A block that is none of these is an error: to add a command of another kind, add it to RUN or
 NOT_RUN. Prints each error with its page and line, each command that is skipped since its tool is
@@ -30,12 +36,23 @@ from functools import cache
 from pathlib import Path
 
 sys.dont_write_bytecode = True
-import code_blocks
-import manual
 import tables
 import tidy
 
-TOP = code_blocks.TOP
+TOP = tidy.TOP
+DOCUMENTS = ["*.md", "crates/*.md", "crates/*/*.md", "docs/*.md", "rust/*/*.md"]
+# The files that a block of each language may be a copy of, and the examples that a block in a
+# README.md may be a copy of too.
+SOURCES = {
+    "rust": ["crates/*/src/**/*.rt"],
+    "rust,ignore": ["bench/original/examples/*.rs"],
+    "antt": ["crates/*/proofs/**/*.antt", "crates/*/specs/**/*.antt"],
+    "c": ["examples/*.c"],
+}
+EXAMPLES = {"rust": ["rust/sockdiag/examples/*.rs"]}
+FENCE = "```"
+# The language of a block that is indented and has no fence.
+INDENTED = "indented"
 PROGRAMS = ("sockdiag", "sslist")
 RELEASE = "sockdiag-VERSION-x86_64-linux"
 # The language of a block of a manual page.
@@ -57,8 +74,8 @@ NOT_RUN = {
     r"examples/list_sockets": "it needs the built library; tests/api/c_api.sh runs it",
     r"(SOCKDIAG_\w+=\S+ )?cargo ": "it needs the built library; tests/api/rust_api.sh runs cargo",
     r"cc .*tests/api/fuzz_c\.c|out/fuzz_c": "it needs the library; tests/api/c_api.sh runs both",
-    r"tests/(api/\w+_api|live/compare_lenient)\.sh": "it needs the library; the gate runs it later",
-    r"tests/(captures|pages|programs)\.py": "the gate runs them",
+    r"tests/api/\w+\.sh": "it needs the library; the gate runs it later",
+    r"tests/(captures|pages|programs|tables)\.py": "the gate runs them",
     r"tests/edits\.sh": "it proves each crate again",
     r"bench/": "it needs valgrind, and takes minutes",
     r"ldconfig": "it needs root",
@@ -76,6 +93,108 @@ PATH = re.compile(r"(?:\./)?"
 # A command in the text of a page.
 INLINE = re.compile(r"(\./|\.ci/|bench/|bin/|examples/|tests/|tools/|python3 |rt |make |cargo "
     r"|sslist |sockdiag )")
+
+
+def files(patterns):
+    return sorted(path for pattern in patterns for path in TOP.glob(pattern))
+
+
+def bare_lines(text):
+    """Returns the lines that are not blank, without leading and trailing blanks."""
+    return [line.strip() for line in text.splitlines() if line.strip()]
+
+
+def without_contracts(text):
+    """Returns the code without clauses, tactic attributes and imports of definitions."""
+    kept, depth = [], 0
+    for line in text.splitlines():
+        bare = line.strip()
+        if depth > 0 or re.match(r"(requires|ensures)\b", bare):
+            depth += line.count("{") - line.count("}")
+        elif not bare.startswith(("ghost use ", "#[tactic")):
+            kept.append(line)
+    return re.sub(r"\n\{\n", " {\n", "\n".join(kept))
+
+
+def blocks(document):
+    """Yields the line number, the language and the lines of each code block, without its
+    indentation."""
+    opened, before = None, ""
+    for number, line in enumerate(document.read_text(encoding="utf-8").splitlines(), 1):
+        mark = line.strip()
+        if opened and opened[1] == INDENTED and mark and not line.startswith("    "):
+            yield opened
+            opened = None
+        if opened and not mark.startswith(FENCE):
+            opened[2].append(line.removeprefix("    ") if opened[1] == INDENTED else line)
+        elif opened:
+            yield opened
+            opened = None
+        elif mark.startswith(FENCE):
+            opened = (number, mark.removeprefix(FENCE).strip(), [])
+        elif line.startswith("    ") and (not before or before.startswith(("#", FENCE))):
+            opened = (number, INDENTED, [line.removeprefix("    ")])
+        elif re.match(r"~~~|<pre|\t", line):
+            sys.exit(f"{document}:{number}: unknown form of code block")
+        before = mark
+    if opened and opened[1] != INDENTED:
+        sys.exit(f"{document}:{opened[0]}: code block is not closed")
+    if opened:
+        yield opened
+
+
+def occurs_in(block, source):
+    """Returns whether the lines of the block occur in the source as consecutive lines."""
+    return any(source[at : at + len(block)] == block for at in range(len(source) - len(block) + 1))
+
+
+def shortened(source):
+    """Returns the source as one line without comments, in the notation of the pages: S for *self,
+    and S' for *self at the return."""
+    code = re.sub(r"(^|\s)//.*", " ", source, flags=re.MULTILINE)
+    code = re.sub(r"\s+", " ", code).replace("( ", "(").replace(" )", ")").replace(",)", ")")
+    return re.sub(r"\bself\.(now|old)\b", "S", re.sub(r"\bself\.new\b", "S'", code))
+
+
+def written_out(line):
+    """Returns a quoted line in the form of the shortened source, or the part of it that has to
+    occur there."""
+    clause = re.fullmatch(r"(requires|ensures)( \w+)?: (.*)", line)
+    if clause:
+        return f"{clause[1]}{clause[2] or ''} {{ {clause[3]} }}"
+    member = re.fullmatch(r"ghost (\w+)(:| =) (.*)", line)
+    if member:
+        return f"ghost {member[1]}{member[2]} {{ {member[3]} }}"
+    return re.sub(r"^fn \w+::", "fn ", line)
+
+
+def missing_quotes(document, number, lines):
+    """Yields the number of each quoted line that does not occur in the file named above it."""
+    source = ""
+    for at, line in enumerate(lines, number + 1):
+        quoted = line.strip()
+        if re.fullmatch(r"src/[\w/]+\.rt", quoted):
+            source = shortened((document.parent / quoted).read_text(encoding="utf-8"))
+        elif quoted.startswith("impl "):
+            if re.sub(r"^impl ", "", quoted) not in source:
+                yield at
+        elif quoted and written_out(quoted) not in source:
+            yield at
+
+
+def lines_of(patterns, change=lambda text: text):
+    """Returns the lines of each file, after a change of its text."""
+    return [bare_lines(change(path.read_text(encoding="utf-8"))) for path in files(patterns)]
+
+
+@cache
+def likely_files(language, page):
+    """Returns the lines of the files that a block of a page with this name may be a copy of."""
+    patterns = SOURCES[language]
+    if page != "README.md":
+        return lines_of(patterns)
+    examples = lines_of(EXAMPLES.get(language, []))
+    return lines_of(patterns) + lines_of(patterns, without_contracts) + examples
 
 
 def simple_commands(text):
@@ -140,7 +259,7 @@ def source_of(program):
 @cache
 def program_options(program):
     """Returns the options of a program, and the one of the script that starts it."""
-    return {it.partition("=")[0] for it in manual.options(program)} | {"--unproved"}
+    return {it.partition("=")[0] for it in tables.options(program)} | {"--unproved"}
 
 
 def is_option(program, option):
@@ -309,8 +428,7 @@ class Checker:
         """Yields the line number and the text of each error in the blocks of a page."""
         is_prepared = False
         for number, language, lines in blocks:
-            is_quote = language == "text" and page.name == "CALLING.md"
-            if is_quote or language in code_blocks.SOURCES:
+            if language in SOURCES or language == "text" and page.name == "CALLING.md":
                 continue
             while lines and not lines[-1].strip():
                 lines.pop()
@@ -319,7 +437,7 @@ class Checker:
             if form:
                 self.counts["blocks compared"] += 1
                 errors = form(self, page, number, lines)
-            elif language in (code_blocks.INDENTED, MANUAL):
+            elif language in (INDENTED, MANUAL):
                 if not is_prepared:
                     self.folder.prepare()
                 is_prepared = True
@@ -460,13 +578,13 @@ class Checker:
                                   text=True, check=True)
             self.folder.printed.append(done.stdout.splitlines())
         for page, number, lines in self.shown:
-            if not any(code_blocks.occurs_in(lines, it) for it in self.folder.printed):
+            if not any(occurs_in(lines, it) for it in self.folder.printed):
                 yield page, number, f"no command prints or writes: {lines[0]}"
 
 
 # How the first line of a block of each form begins, and how the block is checked.
 FORMS = {
-    code_blocks.INDENTED: {
+    INDENTED: {
         rf"({NAMES}) [0-9a-f-]": Checker.check_stored,
         r"(tools/install: |inet  |try_it: |//! )": Checker.check_shown,
         r"\w+: all tests pass$": Checker.check_test_ends,
@@ -487,7 +605,7 @@ def is_found(word):
 
 
 def manual_blocks(page):
-    """Yields the examples of a manual page in the form of code_blocks.blocks."""
+    """Yields the examples of a manual page in the form of `blocks`."""
     text = page.read_text(encoding="utf-8")
     for block in re.finditer(r"(?ms)^\.Bd -literal.*?\n(.*?)\n\.Ed$", text):
         if text.rfind(".Sh EXAMPLES", 0, block.start()) > text.rfind("\n.Sh ", 0, block.start()):
@@ -505,28 +623,41 @@ def inline_errors(page):
             yield from ((number, it) for it in wrong_names(command, page))
 
 
+def copy_errors(page, blocks):
+    """Yields the line number and the text of each error in the blocks that are copies of code."""
+    for number, language, lines in blocks:
+        if language == "text" and page.name == "CALLING.md":
+            yield from ((at, "quoted line is not in the file named above it")
+                        for at in missing_quotes(page, number, lines))
+        elif language in SOURCES:
+            block, likely = bare_lines("\n".join(lines)), likely_files(language, page.name)
+            if not block or not any(occurs_in(block, it) for it in likely):
+                yield number, f"{language} block is not in any file"
+
+
 def main():
-    if len(sys.argv) != 3:
-        sys.exit("usage: tests/pages.py SOCKDIAG SSLIST")
-    programs = dict(zip(PROGRAMS, map(os.path.abspath, sys.argv[1:])))
-    pages = {page: code_blocks.blocks(page) for page in code_blocks.files(code_blocks.DOCUMENTS)}
-    pages |= {page: manual_blocks(page) for page in sorted(TOP.glob("man/*"))}
-    errors = []
-    with tempfile.TemporaryDirectory() as work:
-        checker = Checker(Folder(Path(work).resolve(), programs))
-        for page, blocks in pages.items():
-            errors += [(page, number, it) for number, it in checker.check_page(page, blocks)]
-            if page.suffix == ".md":
-                errors += [(page, number, it) for number, it in inline_errors(page)]
-        errors += checker.wrong_outputs()
-        errors += [(TOP / page, 0, it) for page, it in tables.errors(programs["sslist"])]
-    errors += [(Path(__file__), 0, f"NOT_RUN: no page has {it}") for it in NOT_RUN
-               if it not in checker.used]
+    if len(sys.argv) not in (1, 3):
+        sys.exit("usage: tests/pages.py [SOCKDIAG SSLIST]")
+    pages = {page: list(blocks(page)) for page in files(DOCUMENTS)}
+    errors = [(page, *it) for page, found in pages.items()
+              for it in [*copy_errors(page, found), *inline_errors(page)]]
+    counts = {"blocks": sum(map(len, pages.values()))}
+    if len(sys.argv) == 3:
+        pages |= {page: list(manual_blocks(page)) for page in sorted(TOP.glob("man/*"))}
+        with tempfile.TemporaryDirectory() as work:
+            programs = dict(zip(PROGRAMS, map(os.path.abspath, sys.argv[1:])))
+            checker = Checker(Folder(Path(work).resolve(), programs))
+            errors += [(page, *it) for page, found in pages.items()
+                       for it in checker.check_page(page, found)]
+            errors += checker.wrong_outputs()
+        errors += [(Path(__file__), 0, f"NOT_RUN: no page has {it}") for it in NOT_RUN
+                   if it not in checker.used]
+        counts |= checker.counts
     for page, number, text in errors:
         place = f"{page.resolve().relative_to(TOP)}:{number}"
         print(f"{place.removesuffix(':0')}: {text}")
-    counts = {**checker.counts, "failed": len(errors)}
-    print("pages:", ", ".join(f"{count} {name}" for name, count in counts.items()))
+    shown = ", ".join(f"{count} {name}" for name, count in counts.items())
+    print(f"tests/pages.py: {shown}, {len(errors)} errors")
     return 1 if errors else 0
 
 

@@ -795,26 +795,6 @@ def selected(program, option, capture):
     return run(program, ["-OH", option], capture)[1].decode().splitlines()
 
 
-def test_out_of_memory(program, arguments, given, status, output):
-    """Makes each allocation fail in turn. Either the run reports out of memory with status 1, and
-    its output is a prefix of the full output; or it can do without the memory, as for a buffer, and
-    status and output are as always."""
-    with tempfile.TemporaryDirectory() as folder:
-        library = os.path.join(folder, "fail_malloc.so")
-        source = Path(__file__).parent / "api/fail_malloc.c"
-        subprocess.run(["gcc", "-shared", "-fPIC", "-O1", "-o", library, source], check=True)
-        for first in range(1, 10_000):
-            refused = {"LD_PRELOAD": library, "REFUSE_FIRST": str(first), "REFUSE_LAST": str(first)}
-            ended, printed, errors = run(program, arguments, given, env=os.environ | refused)
-            if (ended, printed) == (status, output):
-                if b"refused\n" in errors:
-                    continue
-                return
-            if ended != 1 or b"out of memory\n" not in errors or not output.startswith(printed):
-                text = f"allocation {first} fails: {ended} {errors}"
-                failures.append(f"{program} {arguments}: {text}")
-
-
 if __name__ == "__main__":
     if len(sys.argv) != 3:
         print("usage: tests/programs.py SOCKDIAG SSLIST", file=sys.stderr)
@@ -836,9 +816,5 @@ if __name__ == "__main__":
     test_early_check(sslist)
     if shutil.which("gcc"):
         test_sockdump(sslist)
-        test_out_of_memory(sockdiag, ["--strict"], b"unix 00\n", 3, b"refused 2\n")
-        expected = run(sslist, ["-t"], CAPTURE.read_bytes())[:2]
-        test_out_of_memory(sslist, ["-t", CAPTURE], b"", *expected)
-        expected = run(sslist, ["--json", "-t"], CAPTURE.read_bytes())[:2]
-        test_out_of_memory(sslist, ["--json", "-t", CAPTURE], b"", *expected)
-    sys.exit("\n".join(failures) or 0)
+    print(*failures, f"tests/programs.py: {len(failures)} errors", sep="\n")
+    sys.exit(bool(failures))

@@ -19,7 +19,7 @@ top=$(CDPATH='' cd -- "$(dirname -- "$0")/.." && pwd)
 version=$(cat "$top/VERSION")
 users=sockdiag-$version-x86_64-linux
 work=$(realpath "$(mktemp -d)")
-trap 'rm -rf "$work"' EXIT
+trap '[ $? = 0 ] || echo "$0: failed" >&2; rm -rf "$work"' EXIT
 cd "$work"
 umask 022
 
@@ -223,13 +223,15 @@ echo 12 >one/LOGIC
 touch one/tests/tidy.py
 printf '#!/bin/sh\necho library >crates/sockdiag_c/out/libsockdiag_c.a\n' >one/tests/api/c_api.sh
 echo '#!/bin/sh' >one/tests/api/rust_api.sh
-chmod +x bin/rt one/tests/api/*.sh
+printf '#!/bin/sh\nexit $EDITS\n' >one/tests/edits.sh
+chmod +x bin/rt one/tests/api/*.sh one/tests/edits.sh
 release() {
-    KIT_LOGIC=$1 PATH="$work/bin:$PATH" one/tools/release "$2" >/dev/null
+    KIT_LOGIC=$1 EDITS=$2 PATH="$work/bin:$PATH" one/tools/release "$3" >/dev/null
 }
-if release 123 refused 2>said; then fail "it releases with a kit of another logic"; fi
+if release 123 0 refused 2>said; then fail "it releases with a kit of another logic"; fi
 grep -q '^tools/release: rt version does not print logic 12$' said || fail "logic: $(cat said)"
-release 12 released
+if release 12 1 refused; then fail "it releases with an edit that is not rejected"; fi
+release 12 0 released
 printf '%s\n' crates/low/out/incremental/ crates/checked/out/incremental/ >expected
 tar -tzf "released/$proofs" | sed -n 's,^[^/]*/\(.*/\)$,\1,p' | diff expected - ||
     fail "proof results of a release"

@@ -408,8 +408,8 @@ def is_current(name, lines, writes):
     listed = path.read_text(encoding="utf-8").splitlines()
     if lines != listed:
         print(*difflib.unified_diff(listed, lines, "list", "sources", n=0, lineterm=""), sep="\n")
-        print(f"surface.py: tests/{name} is out of date; if the change is intended, run "
-            "tests/surface.py --write")
+        print(f"tests/{name} is out of date; if the change is intended, run "
+              "tests/surface.py --write")
     return lines == listed
 
 

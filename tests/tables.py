@@ -1,23 +1,32 @@
-"""Compares tables and lists of the pages with the programs, their sources and their usages.
-tests/pages.py calls `errors`.
+#!/usr/bin/env python3
+"""tests/tables.py [SSLIST]: compares the tables and lists of the pages with the code, the header and
+the program at this path. Without it the members of JSON are not compared.
 
+- man/sockdiag.3: the functions of the header, and the decode errors with their codes and texts.
+- man/sslist.1 and man/sockdiag.1: each diagnostic is in the sources. tools/usage writes --help from
+  the options in these pages.
 - man/sslist-json.5: the members of each list are those that the program prints for replies with
   each attribute; those of `info` are in the same order.
-- man/sslist.1 and man/sockdiag.1: each diagnostic is in the sources. tests/manual.py compares the
-  options.
 - docs/LINES.md: the names and the decode errors.
 - INSTALL.md: the files of a release, and the installed files.
+- groff prints no warning about a manual page (skipped without groff).
+
+Prints what differs. The exit status is 1 if anything does.
 """
 
 import json
 import re
+import shutil
 import subprocess
+import sys
 from pathlib import Path
 
-import manual
+sys.dont_write_bytecode = True
 import programs
 
 TOP = Path(__file__).resolve().parent.parent
+HEADER = (TOP / "include/sockdiag.h").read_text(encoding="utf-8")
+LIBRARY_PAGE = (TOP / "man/sockdiag.3").read_text(encoding="utf-8")
 # The length of the header of a reply about a socket of each family.
 HEADERS = {1: 16, 2: 72, 10: 72, 16: 28, 17: 16, 40: 32, 44: 16}
 # The lengths of values of attributes: each kind is decoded with one of them.
@@ -58,6 +67,54 @@ def differences(name, found, expected):
     yield from ((name, f"{it} is missing") for it in expected if it not in found)
 
 
+def options(program):
+    """Returns the options in the manual page, where .Fl writes the first hyphen."""
+    page = (TOP / f"man/{program}.1").read_text(encoding="utf-8")
+    items = re.findall(r"(?m)^\.It Fl (.*)$", page)
+    return [f"-{it}" for names in items for it in names.split(" , ")]
+
+
+def diagnostics(program):
+    """Returns the texts in the lists of the section DIAGNOSTICS of the manual page."""
+    page = (TOP / f"man/{program}.1").read_text(encoding="utf-8")
+    shown = re.split(r"(?m)^\.Sh ", page.partition("\n.Sh DIAGNOSTICS\n")[2])[0]
+    return re.findall(r"(?m)^\.It (.*)$", shown)
+
+
+def manual_section(page, heading):
+    """Returns the text below a heading of a manual page, up to the next heading."""
+    text = (TOP / page).read_text(encoding="utf-8")
+    return re.split(r"(?m)^\.S[hs] ", re.split(rf"(?m)^\.S[hs] {heading}$", text)[1])[0]
+
+
+def members_of(text):
+    """Returns the members of JSON in the tags of the lists in a text of a manual page, and those in
+    the tags of lists within these lists."""
+    depth, found = 0, {1: [], 2: []}
+    for line in text.splitlines():
+        depth += line.startswith(".Bl ") - line.startswith(".El")
+        if line.startswith(".It Cm "):
+            found[depth] += line.removeprefix(".It Cm ").split(" , ")
+    return found[1], found[2]
+
+
+def functions():
+    """Returns the functions in the synopsis, and those that the header declares or defines."""
+    synopsis = LIBRARY_PAGE.partition(".Sh SYNOPSIS")[2].partition(".Sh DESCRIPTION")[0]
+    text = re.sub(r"\s+", " ", re.sub(r"(?m)^\..*$", "", synopsis)).replace("( ", "(")
+    start = r"(?m)^(?:static inline )?((?:const )?\w+ \*?sockdiag_\w+\([^;{]*\))(?:;|\n\{)"
+    prototypes = [re.sub(r"\s+", " ", it) for it in re.findall(start, HEADER)]
+    return [it.strip() for it in text.split(";") if it.strip()], prototypes
+
+
+def decode_errors():
+    """Returns the code, the name and the text of each decode error in the page and the header."""
+    codes = dict(re.findall(r"(?m)^    (SOCKDIAG_\w+) = (\d+),?", HEADER))
+    texts = re.findall(r'case (\w+):\s*return "([^"]*)"', HEADER)
+    return (re.findall(r"(?m)^\.It (\d+) Dv (\w+)\n(.*)$", LIBRARY_PAGE),
+            [(codes[name], name, text) for name, text in texts if name in codes])
+
+
 def replies():
     """Yields the packet of a reply for each family, with each attribute of each length."""
     for family, length in HEADERS.items():
@@ -94,20 +151,20 @@ def json_errors(sslist):
     for heading, names in (
         ("UNIX sockets", members[1]), ("IPv4 and IPv6 sockets", members[2] | members[10]),
     ):
-        found, _ = manual.members(manual.section(page, heading))
+        found, _ = members_of(manual_section(page, heading))
         yield from differences(page, found, names)
-    found, _ = manual.members(manual.section(page, "Members of info"))
+    found, _ = members_of(manual_section(page, "Members of info"))
     yield from differences(page, found, info)
     if found != info:
         yield page, "the members of info are in another order"
-    if f"These {len(info)} numbers" not in manual.section(page, "Members of info"):
+    if f"These {len(info)} numbers" not in manual_section(page, "Members of info"):
         yield page, f"info has {len(info)} numbers"
     text = (TOP / page).read_text(encoding="utf-8")
-    named = [it for found in manual.members(text) for it in found]
+    named = [it for found in members_of(text) for it in found]
     for names in inner.values():
         yield from ((page, f"{it} is missing") for it in names if it not in named)
     for family, heading in OTHERS.items():
-        found, within = manual.members(manual.section(page, heading))
+        found, within = members_of(manual_section(page, heading))
         yield from differences(page, found, members[family])
         yield from differences(page, within, inner.get(family, {}))
 
@@ -124,7 +181,7 @@ def diagnostic_errors(program):
     literals = re.findall(r'"([^"\n]*)"', "\n".join(it.read_text("utf-8") for it in files))
     texts = [it.removeprefix("sslist: ") for it in literals if re.search(r"\w\w .*\{", it)]
     forms = [re.sub(r"\\{\w*\\}", ".+", re.escape(it)) for it in texts]
-    items = manual.diagnostics(program)
+    items = diagnostics(program)
     if not items:
         yield page, "no diagnostics"
     for item in items:
@@ -169,7 +226,29 @@ def file_errors():
         yield page, "no table of installed files"
 
 
-def errors(sslist):
-    """Returns the page and the text of each error."""
-    return [*json_errors(sslist), *diagnostic_errors("sslist"), *diagnostic_errors("sockdiag"),
-            *line_errors(), *file_errors()]
+def library_errors():
+    page = "man/sockdiag.3"
+    for found, expected in (functions(), decode_errors()):
+        yield from differences(page, found, expected)
+
+
+def warnings():
+    """Yields the warnings of groff about the manual pages."""
+    for path in sorted((TOP / "man").iterdir()) if shutil.which("groff") else []:
+        words = ["groff", "-ww", "-mandoc", "-Tutf8", "-z", path]
+        ended = subprocess.run(words, stderr=subprocess.PIPE, text=True, check=False)
+        yield from (("groff", line) for line in ended.stderr.splitlines())
+
+
+def main():
+    wrong = [*library_errors(), *diagnostic_errors("sslist"), *diagnostic_errors("sockdiag"),
+             *line_errors(), *file_errors(), *warnings()]
+    for sslist in sys.argv[1:]:
+        wrong += json_errors(sslist)
+    print(*(f"{page}: {text}" for page, text in wrong), sep="\n", end="\n" * bool(wrong))
+    print(f"tests/tables.py: {len(wrong)} errors")
+    return 1 if wrong else 0
+
+
+if __name__ == "__main__":
+    sys.exit(main())

@@ -180,7 +180,7 @@ def main():
         files = text_files()
         wrong = [*repeated_code(files), *wide_lines(files), *broken_links(TOP, files),
                  *wrong_versions(files), *unusable_edits(files)]
-    print(*wrong, sep="\n", end="\n" * bool(wrong))
+    print(*wrong, f"tests/tidy.py: {len(wrong)} errors", sep="\n")
     return 1 if wrong else 0
 
 

@@ -4,7 +4,7 @@
 set -eu
 tools=$(CDPATH='' cd -- "$(dirname -- "$0")/../tools" && pwd)
 work=$(realpath "$(mktemp -d)")
-trap 'rm -rf "$work"' EXIT
+trap '[ $? = 0 ] || echo "$0: failed" >&2; rm -rf "$work"' EXIT
 cd "$work"
 
 libraries='netlink_core attribute_lists sock_diag_values sock_diag_records sock_diag_attributes

@@ -2,14 +2,14 @@
 # Builds the static library of include/sockdiag.h, and calls it from C: tests/api/c_api.c and
 # tests/api/c_lenient.c compare what the calls return, tests/api/cost.c counts their instructions,
 # if valgrind is installed, tests/api/fuzz_c.c calls them with changed replies, and
-# tests/live/compare_lenient.sh compares the lenient calls with an independent reader. Then installs
+# tests/api/compare_lenient.sh compares the lenient calls with an independent reader. Then installs
 # the library, and lists the sockets of this machine by examples/list_sockets.c, if the kernel
 # permits it. Needs the kit's rt, a C compiler and Python. The gate and tools/release run this
 # script.
 set -eu
 top=$(CDPATH='' cd -- "$(dirname -- "$0")/../.." && pwd)
 work=$(mktemp -d)
-trap 'rm -rf "$work"' EXIT
+trap '[ $? = 0 ] || echo "$0: failed" >&2; rm -rf "$work"' EXIT
 
 echo "c_api: proving and building the library, if it is older than a source"
 "$top/tests/api/library.sh" >"$work/log" 2>&1 || { cat "$work/log" >&2; exit 1; }
@@ -48,7 +48,7 @@ build fuzz_c "$top/tests/api/fuzz_c.c" "$@"
 "$work/fuzz_c" 20000 "$top/crates/sslist/stdin"
 
 # The lenient calls, compared with an independent reader.
-CFLAGS="$*" SOCKDIAG_LIB_DIR="$top/crates/sockdiag_c/out" "$top/tests/live/compare_lenient.sh"
+CFLAGS="$*" SOCKDIAG_LIB_DIR="$top/crates/sockdiag_c/out" "$top/tests/api/compare_lenient.sh"
 
 # The example with answers that a kernel seldom sends: an interrupted dump is requested again, and
 # one that lost data on another socket, a rejected reply does not end a dump, and a rejected

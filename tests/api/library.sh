@@ -7,6 +7,7 @@
 # (tests/over_gate.sh), and compiles it. If `rt ci` has put back what was built before it, `rt lib`
 # is quick.
 set -eu
+trap '[ $? = 0 ] || echo "$0: failed" >&2' EXIT
 cd "$(dirname -- "$0")/../.."
 crate=crates/sockdiag_c
 library=$crate/out/libsockdiag_c.a
@@ -28,7 +29,8 @@ are_of_gate() {
 if is_current; then exit 0; fi
 if [ "${1-}" != --of-gate ] || ! are_of_gate; then
     cd "$crate"
-    exec rt lib
+    rt lib
+    exit
 fi
 
 toolchain=$(dirname -- "$(dirname -- "$(readlink -f -- "$(command -v rt)")")")/toolchain
@@ -37,5 +39,5 @@ if [ "$jobs" -gt 4 ]; then jobs=4; fi
 over_gate=$PWD/tests/over_gate.sh
 cd "$crate"
 mkdir -p out
-exec "$over_gate" sockdiag_c build --crate-type staticlib --toolchain "$toolchain" \
+"$over_gate" sockdiag_c build --crate-type staticlib --toolchain "$toolchain" \
     --backend llvm --jobs "$jobs" -o out/libsockdiag_c.a

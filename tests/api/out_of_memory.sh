@@ -1,25 +1,26 @@
 #!/bin/sh
-# out_of_memory.sh TESTS SOCKDIAG: runs the built tests of netlink_packet_sock_diag and the program,
-# and makes allocations fail: in the first run the first allocation, in the second run the second,
-# and so on, until a run ends before its failing allocation. Then it repeats all runs, each with all
-# later allocations failing too.
+# out_of_memory.sh TESTS SOCKDIAG SSLIST: runs the built tests of netlink_packet_sock_diag and both
+# programs, and makes allocations fail: in the first run the first allocation, in the second run the
+# second, and so on, until a run ends before its failing allocation. Then it repeats all runs, each
+# with all later allocations failing too.
 #
 # The tests `out_of_memory` of netlink_packet_sock_diag_tests check each run of the readers, of
-# `canonical`, of `deserialize` and of each `clone`. If an allocation fails while sockdiag answers
-# its stored lines, its output has to be a prefix of the stored answers that consists of whole
-# lines, its exit status 1, and its error message "out of memory".
+# `canonical`, of `deserialize` and of each `clone`. If an allocation fails while a program answers
+# its stored input, its output has to be a prefix of the full output that consists of whole lines,
+# its exit status 1, and its error message "out of memory". `sslist` can do without some memory, as
+# for a buffer: then output and status are as always.
 #
 # The gate runs it, with what `rt ci` built. It preloads a library that replaces malloc, so it needs
 # a C compiler and a loader that supports LD_PRELOAD.
 set -eu
-if [ $# != 2 ]; then
-    echo "usage: tests/api/out_of_memory.sh TESTS SOCKDIAG" >&2
+if [ $# != 3 ]; then
+    echo "usage: tests/api/out_of_memory.sh TESTS SOCKDIAG SSLIST" >&2
     exit 2
 fi
-tests=$(realpath "$1") sockdiag=$(realpath "$2")
+tests=$(realpath "$1") sockdiag=$(realpath "$2") sslist=$(realpath "$3")
 top=$(CDPATH='' cd -- "$(dirname -- "$0")/../.." && pwd)
 work=$(mktemp -d)
-trap 'rm -rf "$work"' EXIT
+trap '[ $? = 0 ] || echo "$0: failed" >&2; rm -rf "$work"' EXIT
 
 ${CC:-cc} -shared -fPIC -O1 -o "$work/fail_malloc.so" "$top/tests/api/fail_malloc.c"
 
@@ -57,24 +58,35 @@ for what in $("$tests" --list | sed -n 's/^\(.*::out_of_memory::.*\): test$/\1/p
     sweep "$tests" "$what"
 done
 
-crate=$top/crates/sockdiag
-cp "$crate/stdin" "$work/in"
+# Compares the run of a program with the full output. $without_all is whether the program can do
+# without some memory.
 look() {
-    if ! grep -q '^refused$' "$work/errors"; then
-        [ "$status" -eq 0 ] || fail "exit status $status, expected 0"
-        cmp -s "$crate/stdout" "$work/out" || fail "the output differs from the stored answers"
+    if [ "$status" -eq 0 ] && cmp -s "$work/full" "$work/out"; then
+        "$without_all" || ! grep -q '^refused$' "$work/errors" || fail "no error"
         return
     fi
+    grep -q '^refused$' "$work/errors" || fail "the output differs from the full output"
     [ "$status" -eq 1 ] || fail "exit status $status, expected 1"
-    grep -q '^sockdiag: out of memory$' "$work/errors" ||
+    grep -q "^$program: out of memory$" "$work/errors" ||
         fail "standard error does not report out of memory"
-    head -c "$(wc -c <"$work/out")" "$crate/stdout" | cmp -s - "$work/out" ||
+    head -c "$(wc -c <"$work/out")" "$work/full" | cmp -s - "$work/out" ||
         fail "the output is not a prefix"
     [ ! -s "$work/out" ] || [ "$(tail -c 1 "$work/out" | wc -l)" -eq 1 ] ||
         fail "the last line is incomplete"
 }
-what=sockdiag
+
+program=sockdiag what=sockdiag without_all=false
+cp "$top/crates/sockdiag/stdin" "$work/in"
+cp "$top/crates/sockdiag/stdout" "$work/full"
 sweep "$sockdiag"
+
+program=sslist without_all=true
+cp "$top/crates/sslist/stdin" "$work/in"
+for option in -t --json; do
+    what="sslist $option"
+    "$sslist" "$option" <"$work/in" >"$work/full"
+    sweep "$sslist" "$option"
+done
 
 # Counts the allocations for 10,000 further lines, after the buffers have grown. At most two for
 # each line are allowed.

@@ -1,8 +1,8 @@
 /*
  * print_lenient: reads replies from standard input, a line each, and prints a line for each: what
  * the lenient calls of include/sockdiag.h return, and the errors with their fields.
- * tests/live/lenient_reader.py describes both formats and prints the same lines by other code;
- * tests/live/compare_lenient.sh compares them.
+ * tests/api/lenient_reader.py describes both formats and prints the same lines by other code;
+ * tests/api/compare_lenient.sh compares them.
  *
  * The bytes of a reply and each struct are next to a page that cannot be accessed, so the program
  * stops if the library accesses bytes outside of them. The program also compares the lenient call

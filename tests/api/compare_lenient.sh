@@ -16,7 +16,7 @@ library=$folder/libsockdiag.a
 [ -f "$library" ] || library=$folder/libsockdiag_c.a
 [ -f "$library" ] || { echo "compare_lenient: no library in $folder" >&2; exit 1; }
 work=$(mktemp -d)
-trap 'rm -rf "$work"' EXIT
+trap '[ $? = 0 ] || echo "$0: failed" >&2; rm -rf "$work"' EXIT
 trap 'exit 130' INT TERM HUP
 
 # CFLAGS are several words.
@@ -26,7 +26,7 @@ ${CC:-cc} -std=c99 -g -O1 -Wall -Wextra -Wpedantic -Werror \
     -o "$work/print_lenient" "$top/tests/api/print_lenient.c" "$library"
 
 reader() {
-    python3 "$top/tests/live/lenient_reader.py" "$@"
+    python3 "$top/tests/api/lenient_reader.py" "$@"
 }
 
 reader cuts >"$work/replies"
