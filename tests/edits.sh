@@ -13,13 +13,13 @@ cd "$top"
 for crate; do
     [ -d "crates/$crate" ] || { echo "tests/edits.sh: no crate $crate" >&2; exit 2; }
 done
-for crate; do
-    [ -d "crates/$crate/out/incremental" ] || (cd "crates/$crate" && rt check)
-done
 copy=$(mktemp -d)
 trap '[ $? = 0 ] || echo "$0: failed" >&2; rm -rf "$copy"' EXIT
 trap 'exit 130' INT TERM HUP
 
+for crate; do
+    [ -d "crates/$crate/out/incremental" ] || (cd "crates/$crate" && rt check)
+done
 git ls-files -z --cached --others --exclude-standard | tar -c --null -T - | tar -x -C "$copy"
 for results in crates/*/out; do
     [ ! -d "$results" ] || cp -R --preserve=timestamps --reflink=auto "$results" "$copy/$results"

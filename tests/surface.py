@@ -407,9 +407,7 @@ def is_current(name, lines, writes):
         path.write_text("\n".join(lines) + "\n", encoding="utf-8")
     listed = path.read_text(encoding="utf-8").splitlines()
     if lines != listed:
-        print(*difflib.unified_diff(listed, lines, "list", "sources", n=0, lineterm=""), sep="\n")
-        print(f"tests/{name} is out of date; if the change is intended, run "
-              "tests/surface.py --write")
+        print(*difflib.unified_diff(listed, lines, name, "sources", n=0, lineterm=""), sep="\n")
     return lines == listed
 
 
@@ -428,7 +426,11 @@ def main():
         "surface_c.txt": header_lines(header, contracts),
         "surface_rust.txt": Surface(TOP / "rust/sockdiag", ".rs").lines,
     }
-    return 0 if all([is_current(name, lines, writes) for name, lines in lists.items()]) else 1
+    outdated = sum(not is_current(name, lines, writes) for name, lines in lists.items())
+    if outdated:
+        print(f"tests/surface.py: {outdated} lists are out of date; if the changes are intended, "
+              "run tests/surface.py --write")
+    return 1 if outdated else 0
 
 
 if __name__ == "__main__":
