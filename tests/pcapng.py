@@ -1,14 +1,7 @@
-#!/usr/bin/env python3
-"""tests/pcapng.py [--big] [--simple | --obsolete] [--sections] CAPTURE: writes a pcap capture of
-netlink traffic to standard output in the pcapng format. `tests/programs.py` uses its functions.
+"""Writes a pcap capture of netlink traffic in the pcapng format, and single blocks of it, for
+tests/programs.py."""
 
-  --big        writes numbers in big-endian byte order
-  --simple     writes simple packet blocks, which have no timestamps
-  --obsolete   writes packet blocks, which enhanced packet blocks have replaced
-  --sections   begins a section for each packet, in alternating byte orders
-"""
 import struct
-import sys
 
 SECTION_HEADER, INTERFACE, PACKET, SIMPLE, STATISTICS, ENHANCED = 0x0A0D0D0A, 1, 2, 3, 5, 6
 # A block of a type that nobody has assigned, without a body.
@@ -111,20 +104,3 @@ def pcapng_of(capture, order="<", form=ENHANCED, sections=False):
             written += enhanced(order, 2, timestamp, whole, data, options)
         written += block(order, STATISTICS, struct.pack(order + "III", 0, 0, number))
     return written
-
-
-def main():
-    *options, name = sys.argv[1:] or ["--help"]
-    known = {"--big", "--simple", "--obsolete", "--sections"}
-    if name.startswith("-") or set(options) - known:
-        print(__doc__, file=sys.stderr)
-        sys.exit(2)
-    form = SIMPLE if "--simple" in options else PACKET if "--obsolete" in options else ENHANCED
-    with open(name, "rb") as file:
-        capture = file.read()
-    order = ">" if "--big" in options else "<"
-    sys.stdout.buffer.write(pcapng_of(capture, order, form, "--sections" in options))
-
-
-if __name__ == "__main__":
-    main()
