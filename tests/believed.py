@@ -31,21 +31,29 @@ a lemma is in a module of definitions, or if a promise reaches a module that nee
 import difflib
 import os
 import re
+import subprocess
 import sys
 from pathlib import Path
 
 ROOT = Path(__file__).resolve().parent.parent / "crates"
-PORT = ["netlink_core", "attribute_lists", "sock_diag_values", "sock_diag_records",
-    "sock_diag_attributes", "sock_diag_replies", "netlink_packet_sock_diag"]
+
+
+def libraries(crate):
+    """Returns the libraries of crates.txt that a crate depends on."""
+    run = subprocess.run([ROOT.parent / "tools/libraries", crate], stdout=subprocess.PIPE,
+                         text=True, check=True)
+    return run.stdout.split()
+
+
+PORT = [*libraries("netlink_packet_sock_diag"), "netlink_packet_sock_diag"]
 # The libraries of the program `sockdiag`.
-PROGRAM = ["program_streams", "sock_diag_lines"]
+PROGRAM = [it for it in libraries("sockdiag") if it not in PORT]
 # The library of sslist that reads files.
 CAPTURES = ["netlink_captures"]
 CRATES = PORT + PROGRAM + CAPTURES
-# The other crates, whose definitions are only counted.
-OTHERS = ["sock_diag_families", "sock_diag_any", "sock_diag_lenient", "sock_diag_extras",
-    "sock_diag_filters", "sock_diag_examples", "sslist_options", "sock_diag_listing",
-    "sock_diag_captures", "sockdiag_c", "sockdiag", "sslist"]
+# The other crates except those of tests. Their definitions are only counted.
+OTHERS = [it for it in re.findall(r"(?m)^\w+", (ROOT.parent / "crates.txt").read_text("utf-8"))
+    if it not in CRATES and not it.endswith("_tests")]
 # A module of these crates, except those that are generated from Rust.
 OURS = re.compile(rf"Rattle\.({'|'.join(CRATES + OTHERS)})\.specs\.(?!declared|contracts)")
 # Ghost members whose bodies need not be read. Most are laws, and their bodies are proofs. `eq`,

@@ -566,7 +566,7 @@ def reports_invalid_blocks(sslist):
 
 
 def main():
-    sslist = Lister(sys.argv[1])
+    sslist, failed = Lister(sys.argv[1]), 0
     for check in (
         lists_captures_of_both_orders, lists_other_families, lists_attributes_of_newer_kernels,
         lists_short_tcp_info, shows_names_in_utf8, lists_objects, lists_requests,
@@ -574,9 +574,14 @@ def main():
         lists_sections_of_both_orders, lists_times_of_requests, reports_where_a_file_is_truncated,
         reports_invalid_blocks,
     ):
-        check(sslist)
-    print(f"tests/captures.py: {sslist.runs} runs as expected")
+        try:
+            check(sslist)
+        except AssertionError as error:
+            print(f"{check.__name__}: {error}")
+            failed += 1
+    print(f"tests/captures.py: {sslist.runs} runs, {failed} functions failed")
+    return 1 if failed else 0
 
 
 if __name__ == "__main__":
-    main()
+    sys.exit(main())

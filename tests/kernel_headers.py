@@ -120,7 +120,7 @@ OPTIONS = """recverr is_icsk freebind hdrincl mc_loop transparent mc_all nodefra
 # A definition of a layout, and a definition that has one clause.
 LAYOUT = re.compile(
     r"^(?:abbrev|unfoldable) pub (\w+) : (?:\([^)]*\) → )?(?:Layout|RecordTable) "
-    r"|^(\w+)[^=\n]*= fields \d", re.M
+    r"|^(\w+)[^=\n]*= fields \w", re.M
 )
 CLAUSE = re.compile(r"^([a-z]\w*)\b[^:=\n]*=((?:.|\n(?!\S))*)", re.M)
 LENGTH = re.compile(
@@ -206,7 +206,7 @@ def about_record(table, struct, names):
     known = known or {member: names + member for member in members}
     differing = ", ".join(sorted(known.keys() ^ members.keys()))
     if differing:
-        sys.exit(f"kernel_headers.py: {table}: RECORDS and specs/ differ in {differing}")
+        sys.exit(f"tests/kernel_headers.py: {table}: RECORDS and specs/ differ in {differing}")
     yield from about_members(struct, members, known)
 
 

@@ -140,7 +140,9 @@ class Item:
     def __init__(self, attributes, head, body, module):
         self.attributes, self.head, self.text = attributes, head, text_of(head)
         self.body, self.module = body, module
-        found = ITEM.match(self.text) or sys.exit(f"surface.py: unknown item {self.text[:80]}")
+        found = ITEM.match(self.text)
+        if not found:
+            sys.exit(f"tests/surface.py: unknown item {self.text[:80]}")
         self.public, self.kind, self.name = found[1] == "pub ", found[2], found[3]
         if body and self.kind.endswith("!") and not self.name:
             # The first word of a macro call is taken as the item that it declares.
@@ -306,7 +308,7 @@ class Surface:
         elif "::" in found:
             self.lines += [f"{path}: pub use {found}" for path in paths]
         else:
-            sys.exit(f"surface.py: {paths[0]}: there is no {found}")
+            sys.exit(f"tests/surface.py: {paths[0]}: there is no {found}")
 
     def list_item(self, path, item, also="", before=""):
         """Lists an item, with its fields, variants or members."""

@@ -22,8 +22,6 @@ LINK = re.compile(r"\[[^\]]*\]\(([^)\s]+)\)")
 # try_it are placeholders.
 PATH = re.compile(r"`((?:bench|crates|docs|examples|include|tests|tools)/[\w./]+)`")
 PLACEHOLDER = re.compile(r"NAME|CRATE|try_it")
-# The files with the function whose name has the first two numbers of the version.
-ABI_FILES = ("crates/sockdiag_c/src/version.rt", "include/sockdiag.h", "rust/sockdiag/src/sys.rs")
 # The line with the version in each file; the first match counts. CHANGELOG.md may begin with a
 # heading [Unreleased], for the changes since that version.
 VERSIONS = {
@@ -114,11 +112,6 @@ def wrong_versions(files):
         found = re.search(pattern, files[name])
         if not found or found[1] != version:
             yield f"{name}: {found[1] if found else 'no version'}, expected {version}"
-    abi = "sockdiag_abi_" + version.rpartition(".")[0].replace(".", "_")
-    for name in ABI_FILES:
-        found = sorted({*re.findall(r"\bsockdiag_abi_\d\w*", files[name])})
-        if found != [abi]:
-            yield f"{name}: {', '.join(found) or 'no function of the version'}, expected {abi}"
     # Cargo packs the files below rust/sockdiag only, so the crate has the licence once more.
     if (TOP / "rust/sockdiag/LICENSE-MIT").read_bytes() != (TOP / "LICENSE-MIT").read_bytes():
         yield "rust/sockdiag/LICENSE-MIT: not the text of LICENSE-MIT"

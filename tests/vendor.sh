@@ -1,19 +1,21 @@
 #!/bin/sh
-# Runs tools/vendor in small repositories. It copies the seven libraries, refuses this repository as
-# target, and changes nothing in the target if it cannot copy all of them. Needs no kit.
+# Runs tools/vendor in small repositories. It copies the libraries of the port, refuses this
+# repository as target, and changes nothing in the target if it cannot copy all of them. Needs no
+# kit.
 set -eu
 tools=$(CDPATH='' cd -- "$(dirname -- "$0")/../tools" && pwd)
 work=$(realpath "$(mktemp -d)")
 trap '[ $? = 0 ] || echo "$0: failed" >&2; rm -rf "$work"' EXIT
 cd "$work"
 
-libraries='netlink_core attribute_lists sock_diag_values sock_diag_records sock_diag_attributes
-    sock_diag_replies netlink_packet_sock_diag'
+libraries='netlink_core sock_diag_replies netlink_packet_sock_diag'
 mkdir -p from/tools to/crates/mine/src to/crates/netlink_core/src linked
-cp "$tools/vendor" from/tools
+cp "$tools/vendor" "$tools/libraries" from/tools
 touch from/LICENSE-MIT from/VERSION
+below=
 for name in $libraries extra; do
-    echo "$name:" >>from/crates.txt
+    echo "$name:$below" >>from/crates.txt
+    below=" $name"
     mkdir -p "from/crates/$name"
     for part in src specs proofs; do
         mkdir "from/crates/$name/$part"
@@ -48,7 +50,7 @@ if from/tools/vendor to 2>errors; then fail "it ended with status 0 without the 
 diff -r to to.before || fail "the target was changed though not all was copied"
 mv proofs from/crates/sock_diag_replies/proofs
 
-{ for name in $libraries; do echo "$name:"; done; echo 'mine: netlink_core'; } >expected
+{ head -n 3 from/crates.txt; echo 'mine: netlink_core'; } >expected
 # The last target does not exist yet.
 for target in to to new; do
     from/tools/vendor $target 2>errors || fail "status $?"
