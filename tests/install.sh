@@ -45,13 +45,7 @@ cp tools/install "$tree/tools"
 for program in sockdiag sslist; do
     echo '#!/bin/sh' >"$tree/bin/$program"
 done
-{
-    echo '#include "sockdiag.h"'
-    tr '\n' ' ' <include/sockdiag.h | grep -oE '(size_t|uint32_t) sockdiag_[a-z0-9_]*\([^;{]*\);' |
-        sed 's/;$/ { return 0; }/'
-} >"$work/fake.c"
-"$CC" -w -fPIC -c -Iinclude -o "$work/fake.o" "$work/fake.c"
-ar rc "$tree/lib/libsockdiag.a" "$work/fake.o"
+tests/stand_in.sh "$tree/lib/libsockdiag.a"
 ln -s "$tree/tools/install" "$install"
 
 # Arguments, a compiler that fails, and signals.
@@ -94,13 +88,9 @@ PATH="$work/commands:$PATH" "$install" "$prefix" | grep -q 'run ldconfig as root
 "$install" --uninstall "$prefix" >/dev/null
 [ -z "$(find "$prefix" ! -type d)" ] || fail "--uninstall"
 
-# For packages: no compiler, another folder of the library.
+# For packages: no compiler is needed, and there is no hint. tests/release.sh lists the files.
 DESTDIR="$work/staged" LIBDIR=lib64 SHARED=no CC=false "$install" /usr >"$work/out"
 [ "$(wc -l <"$work/out")" = 1 ] || fail "a hint for a package"
-(cd "$work/staged/usr/lib64" && find . -type f | sort) >"$work/found"
-printf './libsockdiag.a\n./pkgconfig/sockdiag.pc\n' | diff - "$work/found" || fail "SHARED=no"
-# shellcheck disable=SC2016
-grep -qxF 'libdir=${prefix}/lib64' "$work/staged/usr/lib64/pkgconfig/sockdiag.pc" || fail "LIBDIR"
 DESTDIR="$work/staged" LIBDIR=lib64 "$install" --uninstall /usr >/dev/null
 [ -z "$(find "$work/staged" ! -type d)" ] || fail "--uninstall with DESTDIR"
 

@@ -35,21 +35,12 @@ has() {
 # The programs, and a library whose functions return 0.
 mkdir built
 printf '#!/bin/sh\n# GLIBC_2.4 GLIBC_2.34\n' | tee built/sockdiag >built/sslist
-names=$(grep -oE '\bsockdiag_[a-z0-9_]+\(' "$top/include/sockdiag.h" | tr -d '(' | sort -u)
-{
-    for name in $names; do
-        printf '.globl %s\n.type %s, @function\n%s:\n' "$name" "$name" "$name"
-    done
-    printf '    xor %%eax, %%eax\n    ret\n.section .note.GNU-stack, "", @progbits\n'
-} >fake.s
 has "${CC:-cc}" || exit 0
-${CC:-cc} -c fake.s
-ar rcD built/libsockdiag_c.a fake.o
+"$top/tests/stand_in.sh" built/libsockdiag_c.a
 # The same library with another version.
 mkdir other
-sed 's/sockdiag_abi_[0-9]*_[0-9]*/sockdiag_abi_0_0/' fake.s >other/fake.s
-${CC:-cc} -c -o other/fake.o other/fake.s
-ar rcD other/libsockdiag.a other/fake.o
+abi=$(grep -o 'sockdiag_abi_[0-9]*_[0-9]*' "$top/include/sockdiag.h" | head -n 1)
+objcopy --redefine-sym "$abi=sockdiag_abi_0_0" built/libsockdiag_c.a other/libsockdiag.a
 
 # A copy of the tree with files that must not be packed, and with proof results, of which one file
 # has two names. An archive has it twice.
