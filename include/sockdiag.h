@@ -12,8 +12,7 @@
  * - where the pointer of a text points: the clauses state the bytes of the text;
  * - that the previous contents of a struct are not read: the clauses state the new contents without
  *   them.
- * The functions that are defined here are not proved: sockdiag_is_compatible, sockdiag_error_text,
- * sockdiag_is_answer, sockdiag_is_interrupted and sockdiag_ends_answer.
+ * The only function that is defined here, sockdiag_error_text, is not proved.
  *
  * The library does not allocate, opens no files or sockets, and has no state between calls. So any
  * thread may call it at any time, with memory that meets the requirements below. It needs at most
@@ -77,7 +76,7 @@ extern "C" {
 /*
  * Returns the version of the library as a number: 1,000,000 times the first number of the version,
  * plus 1,000 times the second one, plus the third one. It is SOCKDIAG_VERSION_NUMBER of the header
- * that the library was built with. sockdiag_is_compatible compares the two.
+ * that the library was built with.
  */
 uint32_t sockdiag_version(void);
 
@@ -105,16 +104,19 @@ __attribute__((used)) static uint32_t (*const sockdiag_linked_abi)(void) = sockd
 #endif
 
 /*
- * Returns 1 if the program was compiled with the header of a version that is compatible with the
- * library that is linked, else 0. The first two numbers of both versions have to be equal: a newer
- * header may declare calls that the library lacks, and before version 1 structs had other sizes.
- * The linker ensures this by the pointer above, and the loader of programs by the soname of the
- * shared library. Call this function first if neither does.
+ * Returns 1 if a header of this version is compatible with the library, else 0: if the first two
+ * numbers of both versions are equal. A newer header may declare calls that the library lacks, and
+ * before version 1 structs had other sizes. sockdiag_is_compatible passes the version of the header
+ * that the program was compiled with.
  */
-static inline int sockdiag_is_compatible(void)
-{
-    return sockdiag_version() / 1000 == SOCKDIAG_VERSION_NUMBER / 1000;
-}
+uint32_t sockdiag_is_compatible_with(uint32_t version);
+
+/*
+ * Returns 1 if the program was compiled with the header of a version that is compatible with the
+ * library that is linked, else 0. The linker ensures this by the pointer above, and the loader of
+ * programs by the soname of the shared library. Call this first if neither does.
+ */
+#define sockdiag_is_compatible() sockdiag_is_compatible_with(SOCKDIAG_VERSION_NUMBER)
 
 #define SOCKDIAG_OK 0   /* Return value of a check that accepts the bytes. */
 #define SOCKDIAG_END 0  /* Return value of an iteration at its end, and of a getter that finds no
@@ -1605,11 +1607,8 @@ uint32_t sockdiag_find_error_attributes(const uint8_t *payload, size_t length,
  * other message. It may be a late answer to an earlier request. The message does not show who sent
  * it: connect the socket to port id 0 by connect(2), and only the kernel can send to it.
  */
-static inline int sockdiag_is_answer(const struct sockdiag_message *message,
-                                     uint32_t sequence_number, uint32_t port_number)
-{
-    return message->sequence_number == sequence_number && message->port_number == port_number;
-}
+uint32_t sockdiag_is_answer(const struct sockdiag_message *message, uint32_t sequence_number,
+                            uint32_t port_number);
 
 /*
  * Returns 1 if the message reports that the dump is inconsistent (NLM_F_DUMP_INTR), else 0. Test
@@ -1619,21 +1618,14 @@ static inline int sockdiag_is_answer(const struct sockdiag_message *message,
  * twice. To miss fewer sockets, request several dumps, and collect the sockets by their cookies. No
  * number of dumps gives a complete list for certain.
  */
-static inline int sockdiag_is_interrupted(const struct sockdiag_message *message)
-{
-    return (message->flags & SOCKDIAG_NLM_F_DUMP_INTR) != 0;
-}
+uint32_t sockdiag_is_interrupted(const struct sockdiag_message *message);
 
 /*
  * Returns 1 if no more messages of the answer follow, else 0: the message is an NLMSG_DONE or an
  * NLMSG_ERROR. sockdiag_get_error_number returns whether it reports success. An NLMSG_OVERRUN does
  * not end the answer, but data was lost.
  */
-static inline int sockdiag_ends_answer(const struct sockdiag_message *message)
-{
-    return message->message_type == SOCKDIAG_NLMSG_DONE ||
-           message->message_type == SOCKDIAG_NLMSG_ERROR;
-}
+uint32_t sockdiag_ends_answer(const struct sockdiag_message *message);
 
 /* ---- values of single attributes
  *

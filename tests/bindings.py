@@ -5,14 +5,18 @@
   offset of each field and the size of each struct, and as C99 the examples and the C files in
   tests/api that use it. Some are also compiled as C++.
 - Without the C library it checks rust/sockdiag with its tests and examples, and writes its
-  documentation. A build has to fail, and to name the folder and the remedy.
+  documentation. A build has to fail, and to name the folder and the remedy, also after a build with
+  another folder. The package has to contain the build script and to name the library that it links,
+  and only the module `sys` may have unsafe code.
 
 It prints which of these parts it skips. tools/bindings writes the header, tests/c_layout.c and the
 declarations of rust/sockdiag. With the library, tests/api/c_api.sh runs the calls from C, and
 tests/api/rust_api.sh the tests of rust/sockdiag.
 """
 
+import json
 import os
+import re
 import shutil
 import subprocess
 import sys
@@ -35,6 +39,8 @@ def compile_c(compiler):
         ("c++", "c++11", "tests/api/c_api.c"),
         ("c", "c99", "tests/api/c_lenient.c"),
         ("c++", "c++11", "tests/api/c_lenient.c"),
+        ("c", "c99", "tests/api/c_messages.c"),
+        ("c++", "c++11", "tests/api/c_messages.c"),
         ("c", "c99", "tests/api/fuzz_c.c"),
         ("c", "c99", "tests/api/print_lenient.c"),
         ("c", "c99", "tests/api/fake_kernel.c"),
@@ -53,6 +59,27 @@ def compile_c(compiler):
     return 0
 
 
+def package_errors(how):
+    """Returns what is wrong with the package of rust/sockdiag, as lines."""
+    how = how | {"capture_output": True, "text": True}
+    words = ["cargo", "metadata", "--offline", "--no-deps", "--format-version=1"]
+    package = json.loads(subprocess.run(words, **how).stdout)["packages"][0]
+    words = ["cargo", "package", "--list", "--offline", "--allow-dirty"]
+    listed = subprocess.run(words, **how).stdout.split()
+    folders = [RUST / "src", RUST / "examples", RUST / "tests"]
+    own = {"build.rs", *(str(it.relative_to(RUST)) for of in folders for it in of.rglob("*.rs"))}
+    errors = [f"the package lacks {it}" for it in sorted(own - {*listed})]
+    if package["links"] != "sockdiag":
+        errors.append("the package does not name the library that it links")
+    code = {it: it.read_text("utf-8") for it in RUST.glob("src/**/*.rs")}
+    allowed = [text for text in code.values() for _ in re.findall(r"\bunsafe_code\b", text)]
+    library = code[RUST / "src/lib.rs"]
+    if allowed != [library] * 2 or not re.search(r"(?m)^#!\[deny\(unsafe_code\)\]$", library) \
+            or not re.search(r"(?m)^#\[allow\(unsafe_code\)\]\nmod sys;$", library):
+        errors.append("another module than sys may have unsafe code")
+    return errors
+
+
 def check_rust():
     """Checks rust/sockdiag without the C library. Returns an exit status."""
     with tempfile.TemporaryDirectory() as folder:
@@ -63,6 +90,19 @@ def check_rust():
             status = subprocess.run(["cargo", *words, "--offline", "--quiet"], **how).returncode
             if status != 0:
                 return status
+        if errors := package_errors(how):
+            print(*errors, sep="\n")
+            return 1
+        # Without the library that this folder has, the next build has to fail.
+        has_library = Path(folder, "first", "libsockdiag.a")
+        has_library.parent.mkdir()
+        has_library.touch()
+        other = {"cwd": RUST, "env": how["env"] | {"SOCKDIAG_LIB_DIR": str(has_library.parent)}}
+        words = ["cargo", "check", "--offline", "--quiet"]
+        check = subprocess.run(words, **other, capture_output=True, text=True)
+        if check.stderr:
+            print("a check with a library:", check.stderr)
+            return 1
         words = ["cargo", "build", "--offline"]
         build = subprocess.run(words, **how, capture_output=True, text=True)
     expected = [f"libsockdiag.a not found in {folder}; ", "install it by tools/install",

@@ -317,7 +317,7 @@ class Surface:
             fields = [" ".join([text_of(it), *of]) for of, it in parts(item.body or [])]
             ghosts = [it for it in fields if it.startswith("ghost ")]
             contract += [("ghost", it.split()[1].rstrip(":"), it) for it in ghosts]
-            self.lines += members_of(path, item.kind, fields)
+            self.lines += members_of(path, item, fields)
             if item.kind != "enum" and any(not it.startswith(("pub ", "ghost ")) for it in fields):
                 facts += "; private fields"
         elif item.kind == "trait":
@@ -357,13 +357,15 @@ class Surface:
                     self.list_item(f"{path}::{it.name}", it, also)
 
 
-def members_of(path, kind, fields):
-    """Yields the lines of the variants of an enum, or of the public fields of another type."""
+def members_of(path, item, fields):
+    """Yields the lines of the variants of an enum, or of the public fields of another type, with
+    the position of each if the type has the layout of C."""
+    has_layout = any("repr(C)" in it for it in item.attributes)
     for place, it in enumerate(fields):
-        if kind == "enum":
+        if item.kind == "enum":
             yield f"{path}::{it}, variant {place}"
         elif it.startswith("pub "):
-            yield f"{path}.{it[4:]}"
+            yield f"{path}.{it[4:]}" + (f", field {place}" if has_layout else "")
 
 
 def path_in(text):

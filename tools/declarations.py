@@ -82,7 +82,7 @@ class Struct(NamedTuple):
 
 
 class Function(NamedTuple):
-    """An exported function."""
+    """An exported function, with its parameters as the source has them."""
 
     name: str
     lifetime: str
@@ -148,19 +148,27 @@ def fields_of(body):
 
 
 def parameters_of(text):
-    """Yields the parameters of a function. The length of the first slice is `length`, the length of
-    a later slice is `NAME_length`."""
-    slices = 0
+    """Yields the parameters of a function. An array of bytes is the struct that C gets."""
+    structs = {length: record[0] for length, record in RECORDS.items()} | dict([LONG_TCP_INFO])
     for name, kind in re.findall(r"(\w+): ([^,]+?)(?:,|\s*$)", text):
-        part = re.fullmatch(r"&(?:'a )?(mut )?\[u8\]", kind)
         array = re.fullmatch(r"&mut \[u8; (\w+)\]", kind)
-        structs = {length: record[0] for length, record in RECORDS.items()} | dict([LONG_TCP_INFO])
+        yield Field(name, f"&mut {structs[array[1]]}" if array else kind)
+
+
+def passed(parameters):
+    """Yields the parameters of a function in C, each with its value in Rust. A slice is a pointer
+    and a length. The length of the first one is `length`, of a later one `NAME_length`."""
+    slices = 0
+    for it in parameters:
+        part = re.fullmatch(r"&(?:'a )?(mut )?\[u8\]", it.kind)
         if part:
-            yield Field(name, f"&{part[1] or ''}u8")
-            yield Field(f"{name}_length" if slices else "length", "usize")
+            call = "as_mut_ptr" if part[1] else "as_ptr"
+            yield Field(it.name, f"&{part[1] or ''}u8"), f"{it.name}.{call}()"
+            length = f"{it.name}_length" if slices else "length"
+            yield Field(length, "usize"), f"{it.name}.len()"
             slices += 1
         else:
-            yield Field(name, f"&mut {structs[array[1]]}" if array else kind)
+            yield it, it.name
 
 
 def structs_in(text, is_public):
@@ -301,7 +309,8 @@ class Library:
         if "#[unsafe(no_mangle)]" not in attributes:
             sys.exit(f"{name} is not exported")
         parameters = [*parameters_of(inside)]
-        for kind in [*(it.kind for it in parameters), *([answer] if answer else [])]:
+        kinds = [it.kind for it, _ in passed(parameters)]
+        for kind in [*kinds, *([answer] if answer else [])]:
             self.size_and_align(re.sub(r"^&(mut )?", "", kind))
         return Function(name, lifetime, parameters, answer, doc_of(comment))
 

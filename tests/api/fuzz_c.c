@@ -468,6 +468,16 @@ static uint32_t explain_message(const uint8_t *payload, size_t length,
     return sockdiag_message_explain(payload, length, explained_type, error);
 }
 
+/* The calls about a message compare its fields. */
+static void try_message(const struct sockdiag_message *it) {
+    const uint32_t number = it->sequence_number ^ random_below(2), port = it->port_number;
+    expect(sockdiag_is_answer(it, number, port) == (number == it->sequence_number) &&
+               sockdiag_is_answer(it, it->sequence_number, port ^ 1u << random_below(32)) == 0,
+           "an answer");
+    expect(sockdiag_is_interrupted(it) == (it->flags >> 4 & 1), "an interrupted dump");
+    expect(sockdiag_ends_answer(it) == (it->message_type >> 1 == 1), "the end of an answer");
+}
+
 /* Both iterations over messages have the same items. */
 static void try_messages(const uint8_t *bytes, size_t length) {
     struct sockdiag_cursor cursor = {0}, checked = {0};
@@ -478,6 +488,7 @@ static void try_messages(const uint8_t *bytes, size_t length) {
     while ((answer = sockdiag_next_any_message(bytes, length, &cursor, it)) == SOCKDIAG_ITEM) {
         expect(++items <= length / 16 && it->offset <= length && it->length <= length - it->offset,
                "a message in the bytes");
+        try_message(it);
         other = sockdiag_next_message(bytes, length, &checked, &message);
         expect(other >= SOCKDIAG_ITEM && other <= SOCKDIAG_NAME_WITHOUT_END &&
                message.offset == it->offset && message.length == it->length &&
@@ -571,6 +582,7 @@ static void try_all(const uint8_t *bytes, size_t length) {
     try_values(bytes, length);
     try_values(bytes, length % 25);
     try_error_attributes(bytes, length);
+    expect(sockdiag_is_compatible_with((uint32_t)length) == 0, "a version before the first one");
     try_requests(bytes, length);
     try_attributes_of_request(bytes, length);
 }

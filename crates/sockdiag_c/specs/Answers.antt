@@ -27,3 +27,7 @@ IsCheckResult {V} {T} parses rejects found old new answer =
 abbrev pub IsGetterResult : {T : Type 0} → Option T → T → T → ℕ → Type 0
 IsGetterResult (Some item) old new answer = (answer ≡ 1) × (new ≡ item)
 IsGetterResult None old new answer = (answer ≡ 0) × (new ≡ old)
+
+-- IsOneIf P answer: the return value `answer` is 1 if `P` holds, else 0
+abbrev pub IsOneIf : Type 0 → ℕ → Type 0
+IsOneIf P answer = (P × (answer ≡ 1)) ⊎ ((¬ P) × (answer ≡ 0))

@@ -17,6 +17,7 @@ mod inet_details;
 pub mod laws;
 mod layout;
 mod lenient;
+mod messages;
 mod netlink_details;
 mod packet_details;
 mod pending;

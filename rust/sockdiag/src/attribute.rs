@@ -1,7 +1,7 @@
 //! Attributes of a reply.
 
-use crate::calls;
-use crate::sys::{Cursor, Rejections};
+use crate::calls::{self, Explain};
+use crate::sys::{self, Cursor, Rejections};
 use crate::DecodeError;
 use core::fmt;
 use core::marker::PhantomData;
@@ -54,6 +54,16 @@ impl<'a> Attributes<'a> {
                 offset: header_length,
             },
         }
+    }
+
+    /// Returns what `parse` returns for the first value of this kind that it accepts.
+    pub(crate) fn first<T>(
+        self,
+        kind: u16,
+        mut parse: impl FnMut(&'a [u8]) -> Option<T>,
+    ) -> Option<T> {
+        let mut attributes = self.flatten().filter(|it| it.kind() == kind);
+        attributes.find_map(|it| parse(it.value))
     }
 }
 
@@ -114,8 +124,8 @@ pub struct RejectedAttributes<'a> {
 pub(crate) struct AttributeError {
     /// Number of bytes before the attribute that the call takes too, in the place of a header.
     pub(crate) before: usize,
-    /// Returns the error of an attribute after these bytes.
-    pub(crate) call: fn(&[u8]) -> Option<DecodeError>,
+    /// The call that returns the error of an attribute after these bytes.
+    pub(crate) explain: Explain,
 }
 
 impl<'a> RejectedAttributes<'a> {
@@ -157,7 +167,7 @@ impl<'a> Iterator for RejectedAttributes<'a> {
                 Ok(attribute) if self.has_rejected(attribute.kind()) => {
                     let end = self.attributes.cursor.offset.min(bytes.len());
                     let start = start.checked_sub(self.error_of.before)?;
-                    let error = (self.error_of.call)(bytes.get(start..end)?);
+                    let error = calls::error_in(bytes.get(start..end)?, self.error_of.explain);
                     (error, Some(attribute.kind()), attribute.value)
                 }
                 Ok(_) => (None, None, remaining),
@@ -270,10 +280,11 @@ pub struct Numbers<'a> {
 }
 
 impl<'a> Numbers<'a> {
-    /// Returns an iterator over the numbers in these bytes.
-    pub(crate) fn new(bytes: &'a [u8]) -> Self {
+    /// Returns an iterator over the numbers in these bytes, or `None` if their length is not a
+    /// multiple of 4.
+    pub(crate) fn parse(bytes: &'a [u8]) -> Option<Self> {
         let cursor = Cursor::default();
-        Numbers { bytes, cursor }
+        (bytes.len() & 3 == 0).then_some(Numbers { bytes, cursor })
     }
 }
 
@@ -281,7 +292,7 @@ impl Iterator for Numbers<'_> {
     type Item = u32;
 
     fn next(&mut self) -> Option<u32> {
-        calls::next_pending(self.bytes, &mut self.cursor)
+        calls::next_item(self.bytes, &mut self.cursor, 0, sys::next_pending)
     }
 }
 

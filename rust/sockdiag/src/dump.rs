@@ -7,7 +7,7 @@ use crate::inet::{InetReply, InetRequest, RequestBytes};
 use crate::lenient::LenientMessage;
 use crate::netlink::NetlinkReply;
 use crate::packet::PacketReply;
-use crate::sys::{Cursor, MessageRange};
+use crate::sys::{self, Cursor, MessageRange};
 use crate::unix::{UnixReply, UnixRequest};
 use crate::vsock::VsockReply;
 use crate::xdp::XdpReply;
@@ -415,9 +415,14 @@ fn parse_payload<'a, I>(
 ) -> Result<NetlinkPayload<I>, DecodeError> {
     Ok(match message_type {
         NLMSG_NOOP => NetlinkPayload::Noop,
-        NLMSG_ERROR => NetlinkPayload::Error(calls::error_number(payload)),
-        NLMSG_DONE => NetlinkPayload::Done(calls::error_number(payload)),
+        NLMSG_ERROR => NetlinkPayload::Error(error_number(payload)),
+        NLMSG_DONE => NetlinkPayload::Done(error_number(payload)),
         NLMSG_OVERRUN => NetlinkPayload::Overrun,
         _ => NetlinkPayload::InnerMessage(parse(payload, message_type)?),
     })
+}
+
+/// Returns the number that the payload of an error or of the end of a dump begins with.
+fn error_number(payload: &[u8]) -> Option<i32> {
+    calls::value(payload, sys::get_error_number)
 }

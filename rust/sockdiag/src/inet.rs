@@ -264,7 +264,9 @@ impl InetRequest {
         buffer: &'b mut [u8],
     ) -> Result<Option<&'b [u8]>, DecodeError> {
         let request = self.to_sys(header);
-        let (written, outcome) = calls::write_inet_with_attributes(&request, attributes, buffer);
+        let mut outcome = sys::Outcome::default();
+        let written =
+            sys::write_inet_request_with_attributes(&request, attributes, buffer, &mut outcome);
         match outcome.error {
             0 => Ok((written != 0).then_some(&buffer[..written])),
             code => Err(Attributes::new(attributes)
@@ -275,7 +277,12 @@ impl InetRequest {
 
     fn message(&self, header: &NetlinkHeader, destroy: bool) -> RequestBytes {
         let mut bytes = [0; sys::INET_REQUEST_LENGTH];
-        let len = calls::write_inet(&self.to_sys(header), destroy, &mut bytes);
+        let write = if destroy {
+            sys::write_inet_destroy
+        } else {
+            sys::write_inet_request
+        };
+        let len = write(&self.to_sys(header), &mut bytes);
         RequestBytes { bytes, len }
     }
 
@@ -403,7 +410,7 @@ impl From<sys::InetHeader> for InetResponseHeader {
 /// ```
 pub fn tcp_info(payload: &[u8]) -> Option<(TcpInfo, usize)> {
     let mut info = TcpInfo::default();
-    let length = calls::tcp_info(payload, &mut info);
+    let length = sys::inet_get_tcp_info(payload, &mut info);
     (length != 0).then_some((info, length))
 }
 
@@ -434,7 +441,7 @@ impl<'a> InetReply<'a> {
     /// allocate. One rejected attribute makes the whole reply invalid, such as an `INET_DIAG_INFO`
     /// of fewer than 232 bytes; [`LenientInetReply::parse`] returns the others.
     pub fn parse(payload: &'a [u8]) -> Result<Self, DecodeError> {
-        let details = calls::inet_details(payload)?;
+        let details = calls::details(payload, sys::inet_get_details, sys::inet_explain)?;
         Ok(InetReply::of_details(details, payload))
     }
 
@@ -479,47 +486,43 @@ impl<'a> InetReply<'a> {
     /// [`TcpInfo`]. The value is taken for `struct tcp_info` whatever the protocol is: for SCTP the
     /// fields are meaningless.
     pub fn tcp_info(&self) -> Option<TcpInfo> {
-        match tcp_info(self.payload)? {
-            (info, length) if length >= size_of::<TcpInfo>() => Some(info),
+        match tcp_info(self.payload) {
+            Some((info, length)) if length >= size_of::<TcpInfo>() => Some(info),
             // A rejected value: only `LenientInetReply` has one. Another one may follow.
-            _ => self.nlas.iter().find_map(|nla| match nla {
-                nlas::Nla::TcpInfo(info) => Some(info),
-                _ => None,
-            }),
+            _ => self.first(INET_DIAG_INFO, |value| TcpInfoBytes::new(value).whole()),
         }
     }
 
     /// Returns the value of the first `INET_DIAG_INFO`, of any length, with all fields of
     /// `struct tcp_info` that it contains.
     pub fn tcp_info_bytes(&self) -> Option<TcpInfoBytes<'a>> {
-        self.values(INET_DIAG_INFO).next().map(TcpInfoBytes::new)
+        self.first(INET_DIAG_INFO, |value| Some(TcpInfoBytes::new(value)))
     }
 
     /// Returns the id of the control group (cgroup v2) of the socket (`INET_DIAG_CGROUP_ID`).
     pub fn cgroup_id(&self) -> Option<u64> {
-        self.values(INET_DIAG_CGROUP_ID).find_map(parse_cgroup_id)
+        self.first(INET_DIAG_CGROUP_ID, parse_cgroup_id)
     }
 
     /// Returns the options of the socket (`INET_DIAG_SOCKOPT`).
     pub fn socket_options(&self) -> Option<SocketOptions> {
-        let mut values = self.values(INET_DIAG_SOCKOPT);
-        values.find_map(SocketOptions::parse)
+        self.first(INET_DIAG_SOCKOPT, SocketOptions::parse)
     }
 
     /// Returns the measurements of TCP Vegas, or of another algorithm that reports in this format
     /// (`INET_DIAG_VEGASINFO`).
     pub fn vegas_info(&self) -> Option<VegasInfo> {
-        self.values(INET_DIAG_VEGASINFO).find_map(VegasInfo::parse)
+        self.first(INET_DIAG_VEGASINFO, VegasInfo::parse)
     }
 
     /// Returns the measurements of DCTCP (`INET_DIAG_DCTCPINFO`).
     pub fn dctcp_info(&self) -> Option<DctcpInfo> {
-        self.values(INET_DIAG_DCTCPINFO).find_map(DctcpInfo::parse)
+        self.first(INET_DIAG_DCTCPINFO, DctcpInfo::parse)
     }
 
     /// Returns the measurements of BBR (`INET_DIAG_BBRINFO`).
     pub fn bbr_info(&self) -> Option<BbrInfo> {
-        self.values(INET_DIAG_BBRINFO).find_map(BbrInfo::parse)
+        self.first(INET_DIAG_BBRINFO, BbrInfo::parse)
     }
 
     /// Returns an iterator over the MD5 signature keys of the socket (`INET_DIAG_MD5SIG`), which
@@ -538,20 +541,19 @@ impl<'a> InetReply<'a> {
         AttributeRecords::addresses(self.first_value(INET_DIAG_PEERS))
     }
 
-    /// Returns an iterator over the values of the attributes of a kind.
-    fn values(&self, kind: u16) -> impl Iterator<Item = &'a [u8]> {
-        let attributes = self.attributes().flatten();
-        attributes.filter_map(move |it| (it.kind() == kind).then_some(it.value))
+    /// Returns what `parse` returns for the first value of this kind that it accepts.
+    fn first<T>(&self, kind: u16, parse: impl FnMut(&'a [u8]) -> Option<T>) -> Option<T> {
+        self.attributes().first(kind, parse)
     }
 
     /// Returns the value of the first attribute of a kind, or no bytes.
     fn first_value(&self, kind: u16) -> &'a [u8] {
-        self.values(kind).next().unwrap_or_default()
+        self.first(kind, Some).unwrap_or_default()
     }
 
     /// Returns the name of the congestion control algorithm.
     pub fn congestion(&self) -> Option<&'a str> {
-        core::str::from_utf8(self.details.congestion.get()?).ok()
+        core::str::from_utf8(self.details.congestion.bytes()?).ok()
     }
 
     /// Returns the type of service.
@@ -594,7 +596,6 @@ impl<'a> InetReply<'a> {
     /// bits have the same canonical form. The bytes of `INET_DIAG_INFO` after its first 232 and the
     /// time of a TIME_WAIT timer are ignored. Returns `None` if the reply cannot be serialized.
     pub fn canonical(&self, buffer: &mut [u8]) -> Option<usize> {
-        let (_, outcome) = calls::rewrite(self.payload, false, buffer);
-        (outcome.needed != 0).then_some(outcome.needed)
+        calls::canonical(self.payload, buffer, sys::rewrite_inet_reply)
     }
 }

@@ -1,13 +1,13 @@
 //! Replies of which attributes may be rejected.
 
 use crate::attribute::AttributeError;
-use crate::calls;
+use crate::calls::{self, Explain};
 use crate::constants::{AF_NETLINK, AF_PACKET, AF_UNIX, AF_VSOCK, AF_XDP, SOCK_DIAG_BY_FAMILY};
 use crate::dump::family_of;
 use crate::inet::{InetReply, LenientInetReply};
 use crate::netlink::{LenientNetlinkReply, NetlinkReply};
 use crate::packet::{LenientPacketReply, PacketReply};
-use crate::sys::{Rejections, INET_ATTRIBUTES, NETLINK_ATTRIBUTES, PACKET_ATTRIBUTES};
+use crate::sys::{self, Rejections, INET_ATTRIBUTES, NETLINK_ATTRIBUTES, PACKET_ATTRIBUTES};
 use crate::sys::{UNIX_ATTRIBUTES, VSOCK_ATTRIBUTES, XDP_ATTRIBUTES};
 use crate::unix::{LenientUnixReply, UnixReply};
 use crate::vsock::{LenientVsockReply, VsockReply};
@@ -29,27 +29,17 @@ enum Family {
 impl Family {
     /// Returns the length of the header, and how the error of an attribute is found.
     fn attributes(self) -> (usize, AttributeError) {
-        let (header_length, before, call): (_, _, fn(&[u8]) -> _) = match self {
-            Family::Unix => (UNIX_ATTRIBUTES, 0, calls::unix_attribute_error),
-            Family::Inet => (INET_ATTRIBUTES, 0, calls::inet_attribute_error),
-            Family::Netlink => (
-                NETLINK_ATTRIBUTES,
-                NETLINK_ATTRIBUTES,
-                calls::netlink_attribute_error,
-            ),
-            Family::Packet => (
-                PACKET_ATTRIBUTES,
-                PACKET_ATTRIBUTES,
-                calls::packet_attribute_error,
-            ),
-            Family::Vsock => (
-                VSOCK_ATTRIBUTES,
-                VSOCK_ATTRIBUTES,
-                calls::vsock_attribute_error,
-            ),
-            Family::Xdp => (XDP_ATTRIBUTES, XDP_ATTRIBUTES, calls::xdp_attribute_error),
+        // Only the calls of the first two take an attribute. The others take a reply, whose header
+        // they do not check, so any bytes can take its place.
+        let (header_length, before, explain): (_, _, Explain) = match self {
+            Family::Unix => (UNIX_ATTRIBUTES, 0, sys::unix_explain_attribute),
+            Family::Inet => (INET_ATTRIBUTES, 0, sys::inet_explain_attribute),
+            Family::Netlink => (NETLINK_ATTRIBUTES, NETLINK_ATTRIBUTES, sys::netlink_explain),
+            Family::Packet => (PACKET_ATTRIBUTES, PACKET_ATTRIBUTES, sys::packet_explain),
+            Family::Vsock => (VSOCK_ATTRIBUTES, VSOCK_ATTRIBUTES, sys::vsock_explain),
+            Family::Xdp => (XDP_ATTRIBUTES, XDP_ATTRIBUTES, sys::xdp_explain),
         };
-        (header_length, AttributeError { before, call })
+        (header_length, AttributeError { before, explain })
     }
 }
 
@@ -106,7 +96,8 @@ impl<'a> LenientUnixReply<'a> {
     /// Parses the reply, which is the payload of its message, in one pass over the attributes. Does
     /// not allocate. Returns an error only if there are fewer than the 16 bytes of the header.
     pub fn parse(payload: &'a [u8]) -> Result<Self, DecodeError> {
-        let (details, rejections) = calls::unix_lenient_details(payload)?;
+        let (details, rejections) =
+            calls::lenient_details(payload, sys::unix_get_lenient_details, sys::unix_explain)?;
         Ok(LenientReply {
             reply: UnixReply::of_details(details, payload),
             rejections,
@@ -121,7 +112,8 @@ impl<'a> LenientInetReply<'a> {
     /// not allocate. Returns an error only if there are fewer than the 72 bytes of the header, or
     /// if the family is neither `AF_INET` nor `AF_INET6`.
     pub fn parse(payload: &'a [u8]) -> Result<Self, DecodeError> {
-        let (details, rejections) = calls::inet_lenient_details(payload)?;
+        let (details, rejections) =
+            calls::lenient_details(payload, sys::inet_get_lenient_details, sys::inet_explain)?;
         Ok(LenientReply {
             reply: InetReply::of_details(details, payload),
             rejections,
@@ -135,7 +127,11 @@ impl<'a> LenientNetlinkReply<'a> {
     /// Parses the reply, which is the payload of its message, in one pass over the attributes. Does
     /// not allocate. Returns an error only if there are fewer than the 28 bytes of the header.
     pub fn parse(payload: &'a [u8]) -> Result<Self, DecodeError> {
-        let (details, rejections) = calls::netlink_lenient_details(payload)?;
+        let (details, rejections) = calls::lenient_details(
+            payload,
+            sys::netlink_get_lenient_details,
+            sys::netlink_explain,
+        )?;
         Ok(LenientReply {
             reply: NetlinkReply::of_details(details, payload),
             rejections,
@@ -149,7 +145,11 @@ impl<'a> LenientPacketReply<'a> {
     /// Parses the reply, which is the payload of its message, in one pass over the attributes. Does
     /// not allocate. Returns an error only if there are fewer than the 16 bytes of the header.
     pub fn parse(payload: &'a [u8]) -> Result<Self, DecodeError> {
-        let (details, rejections) = calls::packet_lenient_details(payload)?;
+        let (details, rejections) = calls::lenient_details(
+            payload,
+            sys::packet_get_lenient_details,
+            sys::packet_explain,
+        )?;
         Ok(LenientReply {
             reply: PacketReply::of_details(details, payload),
             rejections,
@@ -163,7 +163,8 @@ impl<'a> LenientVsockReply<'a> {
     /// Parses the reply, which is the payload of its message, in one pass over the attributes. Does
     /// not allocate. Returns an error only if there are fewer than the 32 bytes of the header.
     pub fn parse(payload: &'a [u8]) -> Result<Self, DecodeError> {
-        let (details, rejections) = calls::vsock_lenient_details(payload)?;
+        let (details, rejections) =
+            calls::lenient_details(payload, sys::vsock_get_lenient_details, sys::vsock_explain)?;
         Ok(LenientReply {
             reply: VsockReply::of_details(details, payload),
             rejections,
@@ -177,7 +178,8 @@ impl<'a> LenientXdpReply<'a> {
     /// Parses the reply, which is the payload of its message, in one pass over the attributes. Does
     /// not allocate. Returns an error only if there are fewer than the 16 bytes of the header.
     pub fn parse(payload: &'a [u8]) -> Result<Self, DecodeError> {
-        let (details, rejections) = calls::xdp_lenient_details(payload)?;
+        let (details, rejections) =
+            calls::lenient_details(payload, sys::xdp_get_lenient_details, sys::xdp_explain)?;
         Ok(LenientReply {
             reply: XdpReply::of_details(details, payload),
             rejections,

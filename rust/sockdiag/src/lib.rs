@@ -87,9 +87,9 @@
 //! # What is proved
 //!
 //! Each function of the C library is proved to return what its contract says (`crates/sockdiag_c`
-//! of its sources). **No Rust code of this crate is proved, neither safe code nor an `unsafe`
-//! block**: it is tested, and a comment at each `unsafe` block names the contract that the block
-//! relies on. This crate calls the library with the caller's bytes and copies what it returns:
+//! of its sources). **No Rust code of this crate is proved**: it is tested. This crate calls the
+//! library with the caller's bytes and copies what it returns. The calls, and all other `unsafe`
+//! code, are in one module that a script writes from the source of the library:
 //!
 //! | results of the proved library | code of this crate, which is tested |
 //! |---|---|
@@ -172,6 +172,7 @@
 //! | `AF_VSOCK` | [`vsock::VsockRequest`] | [`vsock::VsockReply`] | [`vsock::LenientVsockReply`] | `struct vsock_diag_msg` | [`vsock::VSOCK_RESPONSE_HEADER_LEN`] |
 //! | `AF_XDP` | [`xdp::XdpRequest`] | [`xdp::XdpReply`] | [`xdp::LenientXdpReply`] | `struct xdp_diag_msg` | [`xdp::XDP_RESPONSE_HEADER_LEN`] |
 #![no_std]
+#![deny(unsafe_code)]
 
 #[cfg(not(any(
     docsrs,
@@ -194,6 +195,7 @@ mod lenient;
 pub mod netlink;
 pub mod packet;
 mod show;
+#[allow(unsafe_code)]
 mod sys;
 pub mod unix;
 mod version;

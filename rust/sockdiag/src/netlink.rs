@@ -45,7 +45,7 @@ impl<'a> NetlinkReply<'a> {
     /// allocate. One rejected attribute makes the whole reply invalid;
     /// [`LenientNetlinkReply::parse`] accepts it.
     pub fn parse(payload: &'a [u8]) -> Result<Self, DecodeError> {
-        let details = calls::netlink_details(payload)?;
+        let details = calls::details(payload, sys::netlink_get_details, sys::netlink_explain)?;
         Ok(NetlinkReply::of_details(details, payload))
     }
 
@@ -54,7 +54,7 @@ impl<'a> NetlinkReply<'a> {
         NetlinkReply {
             header: details.header,
             memory: details.memory.get(),
-            groups: details.groups.get(),
+            groups: details.groups.bytes(),
             flags: details.flags.get(),
             payload,
         }

@@ -60,7 +60,7 @@ impl<'a> PacketReply<'a> {
     /// allocate. One rejected attribute makes the whole reply invalid;
     /// [`LenientPacketReply::parse`] accepts it.
     pub fn parse(payload: &'a [u8]) -> Result<Self, DecodeError> {
-        let details = calls::packet_details(payload)?;
+        let details = calls::details(payload, sys::packet_get_details, sys::packet_explain)?;
         Ok(PacketReply::of_details(details, payload))
     }
 
@@ -69,13 +69,13 @@ impl<'a> PacketReply<'a> {
         PacketReply {
             header: details.header,
             info: (details.has_info != 0).then_some(details.info),
-            addresses: details.addresses.get(),
+            addresses: details.addresses.bytes(),
             receive_ring: (details.has_receive_ring != 0).then_some(details.receive_ring),
             send_ring: (details.has_send_ring != 0).then_some(details.send_ring),
             fanout: details.fanout.get(),
             owner: details.owner.get(),
             memory: details.memory.get(),
-            filter: details.filter.get(),
+            filter: details.filter.bytes(),
             payload,
         }
     }

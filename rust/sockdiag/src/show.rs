@@ -1,6 +1,5 @@
 //! The format of requests that netlink, packet and XDP sockets share.
 
-use crate::calls;
 use crate::constants::{AF_NETLINK, AF_PACKET, AF_XDP};
 use crate::dump::NetlinkHeader;
 use crate::sys;
@@ -50,7 +49,7 @@ impl<const FAMILY: u8> ShowRequest<FAMILY> {
             cookie: self.cookie,
         };
         let mut bytes = [0; sys::SHOW_REQUEST_LENGTH];
-        let len = calls::write_show(&request, &mut bytes);
+        let len = sys::write_show_request(&request, &mut bytes);
         debug_assert_eq!(len, bytes.len());
         bytes
     }

@@ -1,8 +1,7 @@
 //! The structs and functions of the C library, which `sockdiag.h` documents.
 //!
-//! The public structs are records of the kernel that users get unchanged. The modules of the
-//! families re-export them, and the public constants. `calls` has a safe function for each function
-//! that this crate calls.
+//! This is the only module with `unsafe` code. The public structs are records of the kernel that
+//! users get unchanged. The modules of the families re-export them, and the public constants.
 //
 // tools/bindings writes this file from the source of the C library.
 #![allow(dead_code)] // Everything that the library has is declared.
@@ -81,10 +80,10 @@ pub(crate) struct Number {
 #[repr(C)]
 #[derive(Clone, Copy)]
 pub(crate) struct Text<'a> {
-    pub(crate) kind: u32,
-    pub(crate) bytes: *const u8,
-    pub(crate) length: usize,
-    pub(crate) borrowed: PhantomData<&'a [u8]>,
+    kind: u32,
+    bytes: *const u8,
+    length: usize,
+    borrowed: PhantomData<&'a [u8]>,
 }
 
 #[repr(C)]
@@ -568,6 +567,17 @@ pub struct Md5Signature {
     pub key: [u8; 80],
 }
 
+impl Md5Signature {
+    /// The struct whose fields are all 0.
+    pub(crate) const ZERO: Self = Md5Signature {
+        family: 0,
+        prefix_length: 0,
+        key_length: 0,
+        address: [0; 16],
+        key: [0; 80],
+    };
+}
+
 /// The options of an IPv4 or IPv6 socket: the two bytes of `INET_DIAG_SOCKOPT`.
 #[repr(C)]
 #[derive(Clone, Copy, Debug, Default, PartialEq, Eq)]
@@ -599,6 +609,18 @@ pub struct StoredAddress {
     /// The bytes from offset 28 on, which neither `struct sockaddr_in` nor `struct sockaddr_in6`
     /// has.
     pub rest: [u8; 100],
+}
+
+impl StoredAddress {
+    /// The struct whose fields are all 0.
+    pub(crate) const ZERO: Self = StoredAddress {
+        family: 0,
+        port: 0,
+        front: [0; 4],
+        segments: [0; 8],
+        scope_id: 0,
+        rest: [0; 100],
+    };
 }
 
 /// The state of a TCP connection: `struct tcp_info` of `linux/tcp.h`, without the prefix `tcpi_`.
@@ -866,139 +888,138 @@ const _: () = assert!(size_of::<TcpInfo>() == 232);
 const _: () = assert!(size_of::<InetMemory>() == 36);
 const _: () = assert!(size_of::<LongTcpInfo>() == 280);
 
+// A text without bytes. Other texts are only made by the library.
+impl Default for Text<'_> {
+    fn default() -> Self {
+        Text {
+            kind: 0,
+            bytes: core::ptr::null(),
+            length: 0,
+            borrowed: PhantomData,
+        }
+    }
+}
+
+impl<'a> Text<'a> {
+    /// Returns the kind of the text, and its bytes, or `None` if the reply does not contain it.
+    pub(crate) fn get(self) -> Option<(u32, &'a [u8])> {
+        if self.kind == 0 {
+            return None;
+        }
+        // SAFETY: the fields are private, so the library stored this text. By the type `Text<'a>`
+        // in the contracts of the calls below, the bytes are then a part of the payload, which is
+        // borrowed for 'a, and their number is `length`.
+        Some((self.kind, unsafe {
+            core::slice::from_raw_parts(self.bytes, self.length)
+        }))
+    }
+}
+
+// SAFETY: a text is a shared borrow, as `&'a [u8]` is.
+unsafe impl Send for Text<'_> {}
+
+// SAFETY: a text is a shared borrow, as `&'a [u8]` is.
+unsafe impl Sync for Text<'_> {}
+
+impl TcpInfo {
+    /// Returns the struct that these bytes represent.
+    pub(crate) fn of_bytes(bytes: [u8; size_of::<TcpInfo>()]) -> Self {
+        // SAFETY: the struct consists of integers, so it is valid for all bytes.
+        unsafe { core::mem::transmute(bytes) }
+    }
+}
+
 extern "C" {
-    pub(crate) fn sockdiag_get_uid(value: *const u8, length: usize, uid: *mut u32) -> u32;
-    pub(crate) fn sockdiag_get_cgroup_id(value: *const u8, length: usize, id: *mut u64) -> u32;
-    pub(crate) fn sockdiag_get_socket_options(
+    fn sockdiag_get_uid(value: *const u8, length: usize, uid: *mut u32) -> u32;
+    fn sockdiag_get_cgroup_id(value: *const u8, length: usize, id: *mut u64) -> u32;
+    fn sockdiag_get_socket_options(
         value: *const u8,
         length: usize,
         options: *mut SocketOptions,
     ) -> u32;
-    pub(crate) fn sockdiag_get_vegas_info(
-        value: *const u8,
-        length: usize,
-        info: *mut VegasInfo,
-    ) -> u32;
-    pub(crate) fn sockdiag_get_dctcp_info(
-        value: *const u8,
-        length: usize,
-        info: *mut DctcpInfo,
-    ) -> u32;
-    pub(crate) fn sockdiag_get_bbr_info(value: *const u8, length: usize, info: *mut BbrInfo)
-        -> u32;
-    pub(crate) fn sockdiag_next_md5_signature(
+    fn sockdiag_get_vegas_info(value: *const u8, length: usize, info: *mut VegasInfo) -> u32;
+    fn sockdiag_get_dctcp_info(value: *const u8, length: usize, info: *mut DctcpInfo) -> u32;
+    fn sockdiag_get_bbr_info(value: *const u8, length: usize, info: *mut BbrInfo) -> u32;
+    fn sockdiag_next_md5_signature(
         value: *const u8,
         length: usize,
         cursor: *mut Cursor,
         signature: *mut Md5Signature,
     ) -> u32;
-    pub(crate) fn sockdiag_next_address(
+    fn sockdiag_next_address(
         value: *const u8,
         length: usize,
         cursor: *mut Cursor,
         address: *mut StoredAddress,
     ) -> u32;
-    pub(crate) fn sockdiag_next_pending(
+    fn sockdiag_next_pending(
         value: *const u8,
         length: usize,
         cursor: *mut Cursor,
         inode: *mut u32,
     ) -> u32;
-    pub(crate) fn sockdiag_check_unix_reply(
-        payload: *const u8,
-        length: usize,
-        header: *mut UnixHeader,
-    ) -> u32;
-    pub(crate) fn sockdiag_check_inet_reply(
-        payload: *const u8,
-        length: usize,
-        header: *mut InetHeader,
-    ) -> u32;
-    pub(crate) fn sockdiag_check_message(
+    fn sockdiag_check_unix_reply(payload: *const u8, length: usize, header: *mut UnixHeader)
+        -> u32;
+    fn sockdiag_check_inet_reply(payload: *const u8, length: usize, header: *mut InetHeader)
+        -> u32;
+    fn sockdiag_check_message(
         payload: *const u8,
         length: usize,
         message_type: u16,
         reply: *mut Reply,
     ) -> u32;
-    pub(crate) fn sockdiag_unix_get_details<'a>(
+    fn sockdiag_unix_get_details<'a>(
         payload: *const u8,
         length: usize,
         details: *mut UnixDetails<'a>,
     ) -> u32;
-    pub(crate) fn sockdiag_inet_get_details<'a>(
+    fn sockdiag_inet_get_details<'a>(
         payload: *const u8,
         length: usize,
         details: *mut InetDetails<'a>,
     ) -> u32;
-    pub(crate) fn sockdiag_find_error_attributes(
+    fn sockdiag_find_error_attributes(
         payload: *const u8,
         length: usize,
         message_type: u16,
         flags: u16,
         cursor: *mut Cursor,
     ) -> u32;
-    pub(crate) fn sockdiag_unix_explain(
-        payload: *const u8,
-        length: usize,
-        error: *mut ErrorDetails,
-    ) -> u32;
-    pub(crate) fn sockdiag_inet_explain(
-        payload: *const u8,
-        length: usize,
-        error: *mut ErrorDetails,
-    ) -> u32;
-    pub(crate) fn sockdiag_netlink_explain(
-        payload: *const u8,
-        length: usize,
-        error: *mut ErrorDetails,
-    ) -> u32;
-    pub(crate) fn sockdiag_packet_explain(
-        payload: *const u8,
-        length: usize,
-        error: *mut ErrorDetails,
-    ) -> u32;
-    pub(crate) fn sockdiag_vsock_explain(
-        payload: *const u8,
-        length: usize,
-        error: *mut ErrorDetails,
-    ) -> u32;
-    pub(crate) fn sockdiag_xdp_explain(
-        payload: *const u8,
-        length: usize,
-        error: *mut ErrorDetails,
-    ) -> u32;
-    pub(crate) fn sockdiag_message_explain(
+    fn sockdiag_unix_explain(payload: *const u8, length: usize, error: *mut ErrorDetails) -> u32;
+    fn sockdiag_inet_explain(payload: *const u8, length: usize, error: *mut ErrorDetails) -> u32;
+    fn sockdiag_netlink_explain(payload: *const u8, length: usize, error: *mut ErrorDetails)
+        -> u32;
+    fn sockdiag_packet_explain(payload: *const u8, length: usize, error: *mut ErrorDetails) -> u32;
+    fn sockdiag_vsock_explain(payload: *const u8, length: usize, error: *mut ErrorDetails) -> u32;
+    fn sockdiag_xdp_explain(payload: *const u8, length: usize, error: *mut ErrorDetails) -> u32;
+    fn sockdiag_message_explain(
         payload: *const u8,
         length: usize,
         message_type: u16,
         error: *mut ErrorDetails,
     ) -> u32;
-    pub(crate) fn sockdiag_framing_explain(
+    fn sockdiag_framing_explain(bytes: *const u8, length: usize, error: *mut ErrorDetails) -> u32;
+    fn sockdiag_unix_explain_attribute(
         bytes: *const u8,
         length: usize,
         error: *mut ErrorDetails,
     ) -> u32;
-    pub(crate) fn sockdiag_unix_explain_attribute(
+    fn sockdiag_inet_explain_attribute(
         bytes: *const u8,
         length: usize,
         error: *mut ErrorDetails,
     ) -> u32;
-    pub(crate) fn sockdiag_inet_explain_attribute(
-        bytes: *const u8,
-        length: usize,
-        error: *mut ErrorDetails,
-    ) -> u32;
-    pub(crate) fn sockdiag_write_show_request(
+    fn sockdiag_write_show_request(
         request: *const ShowRequest,
         buffer: *mut u8,
         length: usize,
     ) -> usize;
-    pub(crate) fn sockdiag_write_vsock_request(
+    fn sockdiag_write_vsock_request(
         request: *const VsockRequest,
         buffer: *mut u8,
         length: usize,
     ) -> usize;
-    pub(crate) fn sockdiag_write_inet_request_with_attributes(
+    fn sockdiag_write_inet_request_with_attributes(
         request: *const InetRequest,
         attributes: *const u8,
         length: usize,
@@ -1006,145 +1027,478 @@ extern "C" {
         buffer_length: usize,
         outcome: *mut Outcome,
     ) -> usize;
-    pub(crate) fn sockdiag_unix_get_lenient_details<'a>(
+    fn sockdiag_unix_get_lenient_details<'a>(
         payload: *const u8,
         length: usize,
         details: *mut UnixDetails<'a>,
         rejections: *mut Rejections,
     ) -> u32;
-    pub(crate) fn sockdiag_inet_get_lenient_details<'a>(
+    fn sockdiag_inet_get_lenient_details<'a>(
         payload: *const u8,
         length: usize,
         details: *mut InetDetails<'a>,
         rejections: *mut Rejections,
     ) -> u32;
-    pub(crate) fn sockdiag_netlink_get_lenient_details<'a>(
+    fn sockdiag_netlink_get_lenient_details<'a>(
         payload: *const u8,
         length: usize,
         details: *mut NetlinkDetails<'a>,
         rejections: *mut Rejections,
     ) -> u32;
-    pub(crate) fn sockdiag_packet_get_lenient_details<'a>(
+    fn sockdiag_packet_get_lenient_details<'a>(
         payload: *const u8,
         length: usize,
         details: *mut PacketDetails<'a>,
         rejections: *mut Rejections,
     ) -> u32;
-    pub(crate) fn sockdiag_vsock_get_lenient_details(
+    fn sockdiag_vsock_get_lenient_details(
         payload: *const u8,
         length: usize,
         details: *mut VsockResponseHeader,
         rejections: *mut Rejections,
     ) -> u32;
-    pub(crate) fn sockdiag_xdp_get_lenient_details(
+    fn sockdiag_xdp_get_lenient_details(
         payload: *const u8,
         length: usize,
         details: *mut XdpDetails,
         rejections: *mut Rejections,
     ) -> u32;
-    pub(crate) fn sockdiag_netlink_get_details<'a>(
+    fn sockdiag_is_answer(
+        message: *const MessageRange,
+        sequence_number: u32,
+        port_number: u32,
+    ) -> u32;
+    fn sockdiag_is_interrupted(message: *const MessageRange) -> u32;
+    fn sockdiag_ends_answer(message: *const MessageRange) -> u32;
+    fn sockdiag_netlink_get_details<'a>(
         payload: *const u8,
         length: usize,
         details: *mut NetlinkDetails<'a>,
     ) -> u32;
-    pub(crate) fn sockdiag_packet_get_details<'a>(
+    fn sockdiag_packet_get_details<'a>(
         payload: *const u8,
         length: usize,
         details: *mut PacketDetails<'a>,
     ) -> u32;
-    pub(crate) fn sockdiag_unix_get_pending(
+    fn sockdiag_unix_get_pending(
         payload: *const u8,
         length: usize,
         index: usize,
         inode: *mut u32,
     ) -> u32;
-    pub(crate) fn sockdiag_write_unix_request(
+    fn sockdiag_write_unix_request(
         request: *const UnixRequest,
         buffer: *mut u8,
         length: usize,
     ) -> usize;
-    pub(crate) fn sockdiag_write_unix_destroy(
+    fn sockdiag_write_unix_destroy(
         request: *const UnixRequest,
         buffer: *mut u8,
         length: usize,
     ) -> usize;
-    pub(crate) fn sockdiag_write_inet_request(
+    fn sockdiag_write_inet_request(
         request: *const InetRequest,
         buffer: *mut u8,
         length: usize,
     ) -> usize;
-    pub(crate) fn sockdiag_write_inet_destroy(
+    fn sockdiag_write_inet_destroy(
         request: *const InetRequest,
         buffer: *mut u8,
         length: usize,
     ) -> usize;
-    pub(crate) fn sockdiag_rewrite_unix_reply(
+    fn sockdiag_rewrite_unix_reply(
         payload: *const u8,
         length: usize,
         buffer: *mut u8,
         buffer_length: usize,
         outcome: *mut Outcome,
     ) -> usize;
-    pub(crate) fn sockdiag_rewrite_inet_reply(
+    fn sockdiag_rewrite_inet_reply(
         payload: *const u8,
         length: usize,
         buffer: *mut u8,
         buffer_length: usize,
         outcome: *mut Outcome,
     ) -> usize;
-    pub(crate) fn sockdiag_inet_get_tcp_info(
-        payload: *const u8,
-        length: usize,
-        info: *mut TcpInfo,
-    ) -> usize;
-    pub(crate) fn sockdiag_inet_get_long_tcp_info(
+    fn sockdiag_inet_get_tcp_info(payload: *const u8, length: usize, info: *mut TcpInfo) -> usize;
+    fn sockdiag_inet_get_long_tcp_info(
         payload: *const u8,
         length: usize,
         info: *mut LongTcpInfo,
     ) -> usize;
-    pub(crate) fn sockdiag_inet_get_memory(
+    fn sockdiag_inet_get_memory(
         payload: *const u8,
         length: usize,
         memory: *mut InetMemory,
     ) -> usize;
-    pub(crate) fn sockdiag_version() -> u32;
-    pub(crate) fn sockdiag_abi_1_0() -> u32;
-    pub(crate) fn sockdiag_vsock_get_details(
+    fn sockdiag_version() -> u32;
+    fn sockdiag_abi_1_0() -> u32;
+    fn sockdiag_is_compatible_with(version: u32) -> u32;
+    fn sockdiag_vsock_get_details(
         payload: *const u8,
         length: usize,
         details: *mut VsockResponseHeader,
     ) -> u32;
-    pub(crate) fn sockdiag_next_attribute(
+    fn sockdiag_next_attribute(
         bytes: *const u8,
         length: usize,
         cursor: *mut Cursor,
         attribute: *mut AttributeRange,
     ) -> u32;
-    pub(crate) fn sockdiag_next_message(
+    fn sockdiag_next_message(
         datagram: *const u8,
         length: usize,
         cursor: *mut Cursor,
         message: *mut MessageRange,
     ) -> u32;
-    pub(crate) fn sockdiag_next_any_message(
+    fn sockdiag_next_any_message(
         datagram: *const u8,
         length: usize,
         cursor: *mut Cursor,
         message: *mut MessageRange,
     ) -> u32;
-    pub(crate) fn sockdiag_get_error_number(
-        payload: *const u8,
-        length: usize,
-        number: *mut i32,
-    ) -> u32;
-    pub(crate) fn sockdiag_xdp_get_details(
-        payload: *const u8,
-        length: usize,
-        details: *mut XdpDetails,
-    ) -> u32;
+    fn sockdiag_get_error_number(payload: *const u8, length: usize, number: *mut i32) -> u32;
+    fn sockdiag_xdp_get_details(payload: *const u8, length: usize, details: *mut XdpDetails)
+        -> u32;
 }
 
 // Only a library with the same first two numbers of the version has this function, so no other one
 // can be linked: its structs might differ. Nothing calls the function.
 #[used]
 static LINKED_ABI: unsafe extern "C" fn() -> u32 = sockdiag_abi_1_0;
+
+// SAFETY, of each function below. It calls the function of the library with the prefix `sockdiag_`,
+// whose parameters in the source of the library are the same ones: slices and references, with
+// their lifetimes. The library gets a slice as its pointer and its length, and a reference as a
+// pointer. So `sockdiag.h` requires nothing more: a pointer to bytes is valid for the length next
+// to it; a pointer to a struct points to an initialized one; and memory that a call writes is
+// borrowed mutably, so that it overlaps nothing else.
+
+pub(crate) fn get_uid(value: &[u8], uid: &mut u32) -> u32 {
+    unsafe { sockdiag_get_uid(value.as_ptr(), value.len(), uid) }
+}
+
+pub(crate) fn get_cgroup_id(value: &[u8], id: &mut u64) -> u32 {
+    unsafe { sockdiag_get_cgroup_id(value.as_ptr(), value.len(), id) }
+}
+
+pub(crate) fn get_socket_options(value: &[u8], options: &mut SocketOptions) -> u32 {
+    unsafe { sockdiag_get_socket_options(value.as_ptr(), value.len(), options) }
+}
+
+pub(crate) fn get_vegas_info(value: &[u8], info: &mut VegasInfo) -> u32 {
+    unsafe { sockdiag_get_vegas_info(value.as_ptr(), value.len(), info) }
+}
+
+pub(crate) fn get_dctcp_info(value: &[u8], info: &mut DctcpInfo) -> u32 {
+    unsafe { sockdiag_get_dctcp_info(value.as_ptr(), value.len(), info) }
+}
+
+pub(crate) fn get_bbr_info(value: &[u8], info: &mut BbrInfo) -> u32 {
+    unsafe { sockdiag_get_bbr_info(value.as_ptr(), value.len(), info) }
+}
+
+pub(crate) fn next_md5_signature(
+    value: &[u8],
+    cursor: &mut Cursor,
+    signature: &mut Md5Signature,
+) -> u32 {
+    unsafe { sockdiag_next_md5_signature(value.as_ptr(), value.len(), cursor, signature) }
+}
+
+pub(crate) fn next_address(value: &[u8], cursor: &mut Cursor, address: &mut StoredAddress) -> u32 {
+    unsafe { sockdiag_next_address(value.as_ptr(), value.len(), cursor, address) }
+}
+
+pub(crate) fn next_pending(value: &[u8], cursor: &mut Cursor, inode: &mut u32) -> u32 {
+    unsafe { sockdiag_next_pending(value.as_ptr(), value.len(), cursor, inode) }
+}
+
+pub(crate) fn check_unix_reply(payload: &[u8], header: &mut UnixHeader) -> u32 {
+    unsafe { sockdiag_check_unix_reply(payload.as_ptr(), payload.len(), header) }
+}
+
+pub(crate) fn check_inet_reply(payload: &[u8], header: &mut InetHeader) -> u32 {
+    unsafe { sockdiag_check_inet_reply(payload.as_ptr(), payload.len(), header) }
+}
+
+pub(crate) fn check_message(payload: &[u8], message_type: u16, reply: &mut Reply) -> u32 {
+    unsafe { sockdiag_check_message(payload.as_ptr(), payload.len(), message_type, reply) }
+}
+
+pub(crate) fn unix_get_details<'a>(payload: &'a [u8], details: &mut UnixDetails<'a>) -> u32 {
+    unsafe { sockdiag_unix_get_details(payload.as_ptr(), payload.len(), details) }
+}
+
+pub(crate) fn inet_get_details<'a>(payload: &'a [u8], details: &mut InetDetails<'a>) -> u32 {
+    unsafe { sockdiag_inet_get_details(payload.as_ptr(), payload.len(), details) }
+}
+
+pub(crate) fn find_error_attributes(
+    payload: &[u8],
+    message_type: u16,
+    flags: u16,
+    cursor: &mut Cursor,
+) -> u32 {
+    unsafe {
+        sockdiag_find_error_attributes(payload.as_ptr(), payload.len(), message_type, flags, cursor)
+    }
+}
+
+pub(crate) fn unix_explain(payload: &[u8], error: &mut ErrorDetails) -> u32 {
+    unsafe { sockdiag_unix_explain(payload.as_ptr(), payload.len(), error) }
+}
+
+pub(crate) fn inet_explain(payload: &[u8], error: &mut ErrorDetails) -> u32 {
+    unsafe { sockdiag_inet_explain(payload.as_ptr(), payload.len(), error) }
+}
+
+pub(crate) fn netlink_explain(payload: &[u8], error: &mut ErrorDetails) -> u32 {
+    unsafe { sockdiag_netlink_explain(payload.as_ptr(), payload.len(), error) }
+}
+
+pub(crate) fn packet_explain(payload: &[u8], error: &mut ErrorDetails) -> u32 {
+    unsafe { sockdiag_packet_explain(payload.as_ptr(), payload.len(), error) }
+}
+
+pub(crate) fn vsock_explain(payload: &[u8], error: &mut ErrorDetails) -> u32 {
+    unsafe { sockdiag_vsock_explain(payload.as_ptr(), payload.len(), error) }
+}
+
+pub(crate) fn xdp_explain(payload: &[u8], error: &mut ErrorDetails) -> u32 {
+    unsafe { sockdiag_xdp_explain(payload.as_ptr(), payload.len(), error) }
+}
+
+pub(crate) fn message_explain(payload: &[u8], message_type: u16, error: &mut ErrorDetails) -> u32 {
+    unsafe { sockdiag_message_explain(payload.as_ptr(), payload.len(), message_type, error) }
+}
+
+pub(crate) fn framing_explain(bytes: &[u8], error: &mut ErrorDetails) -> u32 {
+    unsafe { sockdiag_framing_explain(bytes.as_ptr(), bytes.len(), error) }
+}
+
+pub(crate) fn unix_explain_attribute(bytes: &[u8], error: &mut ErrorDetails) -> u32 {
+    unsafe { sockdiag_unix_explain_attribute(bytes.as_ptr(), bytes.len(), error) }
+}
+
+pub(crate) fn inet_explain_attribute(bytes: &[u8], error: &mut ErrorDetails) -> u32 {
+    unsafe { sockdiag_inet_explain_attribute(bytes.as_ptr(), bytes.len(), error) }
+}
+
+pub(crate) fn write_show_request(request: &ShowRequest, buffer: &mut [u8]) -> usize {
+    unsafe { sockdiag_write_show_request(request, buffer.as_mut_ptr(), buffer.len()) }
+}
+
+pub(crate) fn write_vsock_request(request: &VsockRequest, buffer: &mut [u8]) -> usize {
+    unsafe { sockdiag_write_vsock_request(request, buffer.as_mut_ptr(), buffer.len()) }
+}
+
+pub(crate) fn write_inet_request_with_attributes(
+    request: &InetRequest,
+    attributes: &[u8],
+    buffer: &mut [u8],
+    outcome: &mut Outcome,
+) -> usize {
+    unsafe {
+        sockdiag_write_inet_request_with_attributes(
+            request,
+            attributes.as_ptr(),
+            attributes.len(),
+            buffer.as_mut_ptr(),
+            buffer.len(),
+            outcome,
+        )
+    }
+}
+
+pub(crate) fn unix_get_lenient_details<'a>(
+    payload: &'a [u8],
+    details: &mut UnixDetails<'a>,
+    rejections: &mut Rejections,
+) -> u32 {
+    unsafe {
+        sockdiag_unix_get_lenient_details(payload.as_ptr(), payload.len(), details, rejections)
+    }
+}
+
+pub(crate) fn inet_get_lenient_details<'a>(
+    payload: &'a [u8],
+    details: &mut InetDetails<'a>,
+    rejections: &mut Rejections,
+) -> u32 {
+    unsafe {
+        sockdiag_inet_get_lenient_details(payload.as_ptr(), payload.len(), details, rejections)
+    }
+}
+
+pub(crate) fn netlink_get_lenient_details<'a>(
+    payload: &'a [u8],
+    details: &mut NetlinkDetails<'a>,
+    rejections: &mut Rejections,
+) -> u32 {
+    unsafe {
+        sockdiag_netlink_get_lenient_details(payload.as_ptr(), payload.len(), details, rejections)
+    }
+}
+
+pub(crate) fn packet_get_lenient_details<'a>(
+    payload: &'a [u8],
+    details: &mut PacketDetails<'a>,
+    rejections: &mut Rejections,
+) -> u32 {
+    unsafe {
+        sockdiag_packet_get_lenient_details(payload.as_ptr(), payload.len(), details, rejections)
+    }
+}
+
+pub(crate) fn vsock_get_lenient_details(
+    payload: &[u8],
+    details: &mut VsockResponseHeader,
+    rejections: &mut Rejections,
+) -> u32 {
+    unsafe {
+        sockdiag_vsock_get_lenient_details(payload.as_ptr(), payload.len(), details, rejections)
+    }
+}
+
+pub(crate) fn xdp_get_lenient_details(
+    payload: &[u8],
+    details: &mut XdpDetails,
+    rejections: &mut Rejections,
+) -> u32 {
+    unsafe {
+        sockdiag_xdp_get_lenient_details(payload.as_ptr(), payload.len(), details, rejections)
+    }
+}
+
+pub(crate) fn is_answer(message: &MessageRange, sequence_number: u32, port_number: u32) -> u32 {
+    unsafe { sockdiag_is_answer(message, sequence_number, port_number) }
+}
+
+pub(crate) fn is_interrupted(message: &MessageRange) -> u32 {
+    unsafe { sockdiag_is_interrupted(message) }
+}
+
+pub(crate) fn ends_answer(message: &MessageRange) -> u32 {
+    unsafe { sockdiag_ends_answer(message) }
+}
+
+pub(crate) fn netlink_get_details<'a>(payload: &'a [u8], details: &mut NetlinkDetails<'a>) -> u32 {
+    unsafe { sockdiag_netlink_get_details(payload.as_ptr(), payload.len(), details) }
+}
+
+pub(crate) fn packet_get_details<'a>(payload: &'a [u8], details: &mut PacketDetails<'a>) -> u32 {
+    unsafe { sockdiag_packet_get_details(payload.as_ptr(), payload.len(), details) }
+}
+
+pub(crate) fn unix_get_pending(payload: &[u8], index: usize, inode: &mut u32) -> u32 {
+    unsafe { sockdiag_unix_get_pending(payload.as_ptr(), payload.len(), index, inode) }
+}
+
+pub(crate) fn write_unix_request(request: &UnixRequest, buffer: &mut [u8]) -> usize {
+    unsafe { sockdiag_write_unix_request(request, buffer.as_mut_ptr(), buffer.len()) }
+}
+
+pub(crate) fn write_unix_destroy(request: &UnixRequest, buffer: &mut [u8]) -> usize {
+    unsafe { sockdiag_write_unix_destroy(request, buffer.as_mut_ptr(), buffer.len()) }
+}
+
+pub(crate) fn write_inet_request(request: &InetRequest, buffer: &mut [u8]) -> usize {
+    unsafe { sockdiag_write_inet_request(request, buffer.as_mut_ptr(), buffer.len()) }
+}
+
+pub(crate) fn write_inet_destroy(request: &InetRequest, buffer: &mut [u8]) -> usize {
+    unsafe { sockdiag_write_inet_destroy(request, buffer.as_mut_ptr(), buffer.len()) }
+}
+
+pub(crate) fn rewrite_unix_reply(
+    payload: &[u8],
+    buffer: &mut [u8],
+    outcome: &mut Outcome,
+) -> usize {
+    unsafe {
+        sockdiag_rewrite_unix_reply(
+            payload.as_ptr(),
+            payload.len(),
+            buffer.as_mut_ptr(),
+            buffer.len(),
+            outcome,
+        )
+    }
+}
+
+pub(crate) fn rewrite_inet_reply(
+    payload: &[u8],
+    buffer: &mut [u8],
+    outcome: &mut Outcome,
+) -> usize {
+    unsafe {
+        sockdiag_rewrite_inet_reply(
+            payload.as_ptr(),
+            payload.len(),
+            buffer.as_mut_ptr(),
+            buffer.len(),
+            outcome,
+        )
+    }
+}
+
+pub(crate) fn inet_get_tcp_info(payload: &[u8], info: &mut TcpInfo) -> usize {
+    unsafe { sockdiag_inet_get_tcp_info(payload.as_ptr(), payload.len(), info) }
+}
+
+pub(crate) fn inet_get_long_tcp_info(payload: &[u8], info: &mut LongTcpInfo) -> usize {
+    unsafe { sockdiag_inet_get_long_tcp_info(payload.as_ptr(), payload.len(), info) }
+}
+
+pub(crate) fn inet_get_memory(payload: &[u8], memory: &mut InetMemory) -> usize {
+    unsafe { sockdiag_inet_get_memory(payload.as_ptr(), payload.len(), memory) }
+}
+
+pub(crate) fn version() -> u32 {
+    unsafe { sockdiag_version() }
+}
+
+pub(crate) fn abi_1_0() -> u32 {
+    unsafe { sockdiag_abi_1_0() }
+}
+
+pub(crate) fn is_compatible_with(version: u32) -> u32 {
+    unsafe { sockdiag_is_compatible_with(version) }
+}
+
+pub(crate) fn vsock_get_details(payload: &[u8], details: &mut VsockResponseHeader) -> u32 {
+    unsafe { sockdiag_vsock_get_details(payload.as_ptr(), payload.len(), details) }
+}
+
+pub(crate) fn next_attribute(
+    bytes: &[u8],
+    cursor: &mut Cursor,
+    attribute: &mut AttributeRange,
+) -> u32 {
+    unsafe { sockdiag_next_attribute(bytes.as_ptr(), bytes.len(), cursor, attribute) }
+}
+
+pub(crate) fn next_message(
+    datagram: &[u8],
+    cursor: &mut Cursor,
+    message: &mut MessageRange,
+) -> u32 {
+    unsafe { sockdiag_next_message(datagram.as_ptr(), datagram.len(), cursor, message) }
+}
+
+pub(crate) fn next_any_message(
+    datagram: &[u8],
+    cursor: &mut Cursor,
+    message: &mut MessageRange,
+) -> u32 {
+    unsafe { sockdiag_next_any_message(datagram.as_ptr(), datagram.len(), cursor, message) }
+}
+
+pub(crate) fn get_error_number(payload: &[u8], number: &mut i32) -> u32 {
+    unsafe { sockdiag_get_error_number(payload.as_ptr(), payload.len(), number) }
+}
+
+pub(crate) fn xdp_get_details(payload: &[u8], details: &mut XdpDetails) -> u32 {
+    unsafe { sockdiag_xdp_get_details(payload.as_ptr(), payload.len(), details) }
+}

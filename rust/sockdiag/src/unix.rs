@@ -105,7 +105,12 @@ impl UnixRequest {
             cookie: self.cookie,
         };
         let mut bytes = [0; sys::UNIX_REQUEST_LENGTH];
-        let len = calls::write_unix(&request, destroy, &mut bytes);
+        let write = if destroy {
+            sys::write_unix_destroy
+        } else {
+            sys::write_unix_request
+        };
+        let len = write(&request, &mut bytes);
         debug_assert_eq!(len, bytes.len());
         bytes
     }
@@ -202,7 +207,7 @@ pub type LenientUnixReply<'a> = LenientReply<'a, UnixReply<'a>>;
 /// Returns the user id in the value of `UNIX_DIAG_UID`, or `None` if the value does not have 4
 /// bytes. [`UnixReply::uid`] returns it for a reply.
 pub fn parse_uid(value: &[u8]) -> Option<u32> {
-    calls::uid(value)
+    calls::value(value, sys::get_uid)
 }
 
 impl<'a> UnixReply<'a> {
@@ -210,7 +215,7 @@ impl<'a> UnixReply<'a> {
     /// allocate. One rejected attribute makes the whole reply invalid; [`LenientUnixReply::parse`]
     /// returns the others.
     pub fn parse(payload: &'a [u8]) -> Result<Self, DecodeError> {
-        let details = calls::unix_details(payload)?;
+        let details = calls::details(payload, sys::unix_get_details, sys::unix_explain)?;
         Ok(UnixReply::of_details(details, payload))
     }
 
@@ -242,8 +247,7 @@ impl<'a> UnixReply<'a> {
 
     /// Returns the name that the socket is bound to.
     pub fn name(&self) -> Option<UnixDiagName<'a>> {
-        let name = self.details.name;
-        Some(match (name.kind, name.get()?) {
+        Some(match self.details.name.get()? {
             (sys::ABSTRACT, address) => UnixDiagName::Abstract(address),
             (_, path) => UnixDiagName::Pathname(path),
         })
@@ -267,17 +271,13 @@ impl<'a> UnixReply<'a> {
     /// accept(2) will return, have no inodes yet, and the kernel does not list them. The time to
     /// find the inodes and for all of them is proportional to the length of the reply.
     pub fn pending_connections(&self) -> impl Iterator<Item = u32> + 'a {
-        let inodes = self.nlas.iter().find_map(|nla| match nla {
-            nlas::Nla::PendingConnections(inodes) => Some(inodes),
-            _ => None,
-        });
-        inodes.unwrap_or(Numbers::new(&[]))
+        let inodes = self.attributes().first(UNIX_DIAG_ICONS, Numbers::parse);
+        inodes.into_iter().flatten()
     }
 
     /// Returns the user id of the owner, if it was requested by [`UDIAG_SHOW_UID`].
     pub fn uid(&self) -> Option<u32> {
-        let mut attributes = self.attributes().flatten();
-        attributes.find_map(|it| parse_uid(it.value).filter(|_| it.kind() == UNIX_DIAG_UID))
+        self.attributes().first(UNIX_DIAG_UID, parse_uid)
     }
 
     /// Returns the directions that are shut down: 1 for receiving, 2 for sending, 3 for both.
@@ -327,8 +327,7 @@ impl<'a> UnixReply<'a> {
     /// bytes. If the buffer is shorter, nothing is written. All replies that differ only in ignored
     /// bits have the same canonical form. Returns `None` if the reply cannot be serialized.
     pub fn canonical(&self, buffer: &mut [u8]) -> Option<usize> {
-        let (_, outcome) = calls::rewrite(self.payload, true, buffer);
-        (outcome.needed != 0).then_some(outcome.needed)
+        calls::canonical(self.payload, buffer, sys::rewrite_unix_reply)
     }
 
     fn listens(&self) -> bool {

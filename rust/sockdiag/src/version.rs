@@ -1,6 +1,6 @@
 //! The version of the library.
 
-use crate::calls;
+use crate::sys;
 
 /// Version of this crate: 1,000,000 times the first number, plus 1,000 times the second one, plus
 /// the third one. The library that is linked has the same first and second number: any other one
@@ -18,7 +18,7 @@ pub const VERSION: u32 = number(env!("CARGO_PKG_VERSION_MAJOR")) * 1_000_000
 /// assert_eq!(sockdiag::version() / 1_000, sockdiag::VERSION / 1_000);
 /// ```
 pub fn version() -> u32 {
-    calls::version()
+    sys::version()
 }
 
 /// Returns the number that is written in decimal.

@@ -30,7 +30,7 @@ impl VsockRequest {
             cookie: self.cookie,
         };
         let mut bytes = [0; sys::VSOCK_REQUEST_LENGTH];
-        let len = calls::write_vsock(&request, &mut bytes);
+        let len = sys::write_vsock_request(&request, &mut bytes);
         debug_assert_eq!(len, bytes.len());
         bytes
     }
@@ -59,7 +59,7 @@ impl<'a> VsockReply<'a> {
     /// allocate. Bytes after the header that are not attributes make the whole reply invalid;
     /// [`LenientVsockReply::parse`] accepts it.
     pub fn parse(payload: &'a [u8]) -> Result<Self, DecodeError> {
-        let header = calls::vsock_details(payload)?;
+        let header = calls::details(payload, sys::vsock_get_details, sys::vsock_explain)?;
         Ok(VsockReply::of_details(header, payload))
     }
 

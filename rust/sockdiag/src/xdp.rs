@@ -59,7 +59,7 @@ impl<'a> XdpReply<'a> {
     /// allocate. One rejected attribute makes the whole reply invalid; [`LenientXdpReply::parse`]
     /// accepts it.
     pub fn parse(payload: &'a [u8]) -> Result<Self, DecodeError> {
-        let details = calls::xdp_details(payload)?;
+        let details = calls::details(payload, sys::xdp_get_details, sys::xdp_explain)?;
         Ok(XdpReply::of_details(details, payload))
     }
 

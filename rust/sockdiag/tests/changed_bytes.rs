@@ -1,22 +1,27 @@
-//! Each prefix of some replies and datagrams, and each of them with a changed byte. Run under
-//! valgrind, this test finds reads outside of the bytes.
+//! Each prefix of some replies and datagrams, and each of them with a changed byte. All bytes have
+//! an allocation of their own, which ends at their end, and so has each buffer. So run under
+//! valgrind, this test finds each access outside of them.
 
 mod common;
 
-use common::{bytes_of, inet_reply, message, unix_reply, NETLINK, PACKET, VSOCK, XDP};
+use common::{bytes_of, inet_reply, message, unix_reply, HEADER, NETLINK, PACKET, VSOCK, XDP};
 use sockdiag::constants::SOCK_DIAG_BY_FAMILY;
 use sockdiag::inet::{self, AttributeRecords, BbrInfo, DctcpInfo, InetReply, LenientInetReply};
-use sockdiag::inet::{SocketOptions, TcpField, TcpInfoBytes, VegasInfo};
+use sockdiag::inet::{ExtensionFlags, InetRequest, SocketId, SocketOptions, StateFlags};
+use sockdiag::inet::{TcpField, TcpInfoBytes, VegasInfo};
 use sockdiag::netlink::NetlinkReply;
 use sockdiag::packet::PacketReply;
 use sockdiag::unix::{self, LenientUnixReply, UnixDiagName, UnixReply};
 use sockdiag::vsock::VsockReply;
 use sockdiag::xdp::XdpReply;
-use sockdiag::{AnyDump, Attributes, Dump};
+use sockdiag::SockDiagMessage;
+use sockdiag::{AnyDump, Attributes, Dump, LenientMessage, NetlinkMessage, NetlinkPayload};
 
-/// Parses bytes as each kind of reply. Texts that are returned lie within the bytes, and nothing
-/// panics.
+/// Parses a copy of the bytes as each kind of reply. Texts that are returned lie within the bytes,
+/// and nothing panics. The results for two copies are equal.
 fn parse_all(bytes: &[u8]) {
+    let (bytes, other) = (&Box::<[u8]>::from(bytes)[..], Box::<[u8]>::from(bytes));
+    compare(bytes, &other);
     if let Ok(reply) = UnixReply::parse(bytes) {
         assert!(reply.attributes().all(|it| it.is_ok()));
         let unknown = |nla| matches!(nla, unix::nlas::Nla::Other(it) if it.kind() <= 6);
@@ -59,6 +64,20 @@ fn parse_all(bytes: &[u8]) {
     let _ = Dump::new(bytes).count();
     parse_leniently(bytes);
     parse_values(bytes);
+}
+
+/// Compares the replies in two copies of bytes.
+fn compare(bytes: &[u8], other: &[u8]) {
+    assert!(UnixReply::parse(bytes) == UnixReply::parse(other));
+    assert!(InetReply::parse(bytes) == InetReply::parse(other));
+    assert!(NetlinkReply::parse(bytes) == NetlinkReply::parse(other));
+    assert!(PacketReply::parse(bytes) == PacketReply::parse(other));
+    assert!(VsockReply::parse(bytes) == VsockReply::parse(other));
+    assert!(XdpReply::parse(bytes) == XdpReply::parse(other));
+    for message_type in [20, 21] {
+        let lenient = LenientMessage::parse(bytes, message_type);
+        assert!(lenient == LenientMessage::parse(other, message_type));
+    }
 }
 
 /// Parses bytes as each kind of lenient reply. Values that are returned lie within the bytes.
@@ -118,5 +137,57 @@ fn parses_each_prefix_and_each_changed_byte() {
                 parse_all(&other);
             }
         }
+    }
+}
+
+/// Returns the canonical form of a reply by a buffer of this length.
+fn canonical_in(bytes: &[u8], length: usize) -> (Option<usize>, Box<[u8]>) {
+    let mut buffer = vec![0xaa; length].into_boxed_slice();
+    let needed = match SockDiagMessage::parse(bytes, SOCK_DIAG_BY_FAMILY) {
+        Ok(SockDiagMessage::UnixResponse(reply)) => reply.canonical(&mut buffer),
+        Ok(SockDiagMessage::InetResponse(reply)) => reply.canonical(&mut buffer),
+        other => panic!("{other:?}"),
+    };
+    (needed, buffer)
+}
+
+#[test]
+fn writes_only_into_the_buffer() {
+    for bytes in [unix_reply(), inet_reply()] {
+        let (needed, expected) = canonical_in(&bytes, 512);
+        for length in 0..512 {
+            let (found, buffer) = canonical_in(&bytes, length);
+            assert_eq!(found, needed);
+            let written = if needed > Some(length) {
+                0
+            } else {
+                needed.unwrap()
+            };
+            assert_eq!(buffer[..written], expected[..written]);
+            assert!(buffer[written..].iter().all(|byte| *byte == 0xaa));
+        }
+    }
+    let attributes: Box<[u8]> = [9, 0, 1, 0, 1, 2, 3, 4, 5].into();
+    let request = InetRequest {
+        family: 10,
+        protocol: 262,
+        extensions: ExtensionFlags::all(),
+        states: StateFlags::all(),
+        socket_id: SocketId::new_v6(),
+    };
+    let message = NetlinkMessage::new(
+        HEADER,
+        NetlinkPayload::from(SockDiagMessage::InetRequest(request)),
+    );
+    for length in 0..100 {
+        let mut buffer = vec![0xaa; length].into_boxed_slice();
+        let written = message.serialize(&mut buffer);
+        assert_eq!(written, (length >= 80).then_some(80));
+        let mut buffer = vec![0xaa; length].into_boxed_slice();
+        let written = request.write_with_attributes(&HEADER, &attributes, &mut buffer);
+        let written = written.unwrap().map(<[u8]>::len);
+        assert_eq!(written, (length >= 92).then_some(92));
+        let untouched = &buffer[written.unwrap_or(0)..];
+        assert!(untouched.iter().all(|byte| *byte == 0xaa));
     }
 }

@@ -2,7 +2,6 @@
 
 pub use super::TcpInfo;
 use crate::attribute::{u32_at, u32_in, u8_in, Attribute};
-use crate::calls;
 use crate::constants::*;
 
 /// Socket memory in the format of older kernels (`INET_DIAG_MEMINFO`), in bytes.
@@ -99,7 +98,7 @@ impl<'a> Nla<'a> {
                 cache: u32_at(value, 2)?,
                 send_queue: u32_at(value, 3)?,
             }),
-            INET_DIAG_INFO => Nla::TcpInfo(calls::tcp_info_in(value.first_chunk()?)),
+            INET_DIAG_INFO => Nla::TcpInfo(TcpInfo::of_bytes(*value.first_chunk()?)),
             INET_DIAG_CONG => {
                 let text = value.strip_suffix(&[0]).unwrap_or(value);
                 Nla::Congestion(core::str::from_utf8(text).ok()?)

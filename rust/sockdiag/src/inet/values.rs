@@ -5,7 +5,7 @@ use super::{BbrInfo, DctcpInfo, Md5Signature, SocketOptions, StoredAddress, Vega
 use super::{TcpField, TcpInfo};
 use crate::calls;
 use crate::constants::{AF_INET, AF_INET6};
-use crate::sys::Cursor;
+use crate::sys::{self, Cursor};
 use core::net::{IpAddr, Ipv4Addr, Ipv6Addr};
 
 /// Length of `struct tcp_info` of Linux 6.18 in bytes.
@@ -54,7 +54,7 @@ impl<'a> TcpInfoBytes<'a> {
 
     /// Returns the struct with the first 232 bytes. Returns `None` if there are fewer bytes.
     pub fn whole(&self) -> Option<TcpInfo> {
-        self.bytes.first_chunk().map(calls::tcp_info_in)
+        self.bytes.first_chunk().copied().map(TcpInfo::of_bytes)
     }
 
     /// Returns the bytes from offset 280 on, after the fields that [`TcpField`] lists. There are
@@ -67,34 +67,34 @@ impl<'a> TcpInfoBytes<'a> {
 /// Returns the id of the control group (cgroup v2) in the value of `INET_DIAG_CGROUP_ID`, or `None`
 /// if the value does not have 8 bytes.
 pub fn parse_cgroup_id(value: &[u8]) -> Option<u64> {
-    calls::cgroup_id(value)
+    calls::value(value, sys::get_cgroup_id)
 }
 
 impl SocketOptions {
     /// Parses the value of `INET_DIAG_SOCKOPT`. Returns `None` if there are fewer than 2 bytes.
     pub fn parse(value: &[u8]) -> Option<Self> {
-        calls::socket_options(value)
+        calls::value(value, sys::get_socket_options)
     }
 }
 
 impl VegasInfo {
     /// Parses the value of `INET_DIAG_VEGASINFO`. Returns `None` if there are fewer than 16 bytes.
     pub fn parse(value: &[u8]) -> Option<Self> {
-        calls::vegas_info(value)
+        calls::value(value, sys::get_vegas_info)
     }
 }
 
 impl DctcpInfo {
     /// Parses the value of `INET_DIAG_DCTCPINFO`. Returns `None` if there are fewer than 16 bytes.
     pub fn parse(value: &[u8]) -> Option<Self> {
-        calls::dctcp_info(value)
+        calls::value(value, sys::get_dctcp_info)
     }
 }
 
 impl BbrInfo {
     /// Parses the value of `INET_DIAG_BBRINFO`. Returns `None` if there are fewer than 20 bytes.
     pub fn parse(value: &[u8]) -> Option<Self> {
-        calls::bbr_info(value)
+        calls::value(value, sys::get_bbr_info)
     }
 }
 
@@ -125,7 +125,9 @@ impl<'a> AttributeRecords<'a, Md5Signature> {
         AttributeRecords {
             value,
             cursor: Cursor::default(),
-            next: calls::next_md5_signature,
+            next: |value, cursor| {
+                calls::next_item(value, cursor, Md5Signature::ZERO, sys::next_md5_signature)
+            },
         }
     }
 }
@@ -137,7 +139,9 @@ impl<'a> AttributeRecords<'a, StoredAddress> {
         AttributeRecords {
             value,
             cursor: Cursor::default(),
-            next: calls::next_address,
+            next: |value, cursor| {
+                calls::next_item(value, cursor, StoredAddress::ZERO, sys::next_address)
+            },
         }
     }
 }

@@ -59,7 +59,7 @@ impl<'a> Nla<'a> {
                 device: u32_at(value, 1)?,
             }),
             UNIX_DIAG_PEER => Nla::Peer(u32_in(value)?),
-            UNIX_DIAG_ICONS if value.len() & 3 == 0 => Nla::PendingConnections(Numbers::new(value)),
+            UNIX_DIAG_ICONS => Nla::PendingConnections(Numbers::parse(value)?),
             UNIX_DIAG_RQLEN if value.len() == 8 => {
                 Nla::ReceiveQueueLength(u32_at(value, 0)?, u32_at(value, 1)?)
             }
