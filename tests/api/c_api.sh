@@ -1,11 +1,11 @@
 #!/bin/sh
-# Builds the static library of include/sockdiag.h, and calls it from C: tests/api/c_api.c and
-# tests/api/c_lenient.c compare what the calls return, tests/api/cost.c counts their instructions,
-# if valgrind is installed, tests/api/fuzz_c.c calls them with changed replies, and
-# tests/api/compare_lenient.sh compares the lenient calls with an independent reader. Then installs
-# the library, and lists the sockets of this machine by examples/list_sockets.c, if the kernel
-# permits it. Needs the kit's rt, a C compiler and Python. The gate and tools/release run this
-# script.
+# Builds the static library of include/sockdiag.h, and calls it from C: tests/api/c_api.c,
+# c_lenient.c and c_messages.c compare what the calls return, also linked as C++, if the compiler
+# supports it, tests/api/cost.c counts their instructions, if valgrind is installed,
+# tests/api/fuzz_c.c calls them with changed replies, and tests/api/compare_lenient.sh compares the
+# lenient calls with an independent reader. Then installs the library, and lists the sockets of this
+# machine by examples/list_sockets.c, if the kernel permits it. Needs the kit's rt, a C compiler and
+# Python. The gate and tools/release run this script.
 set -eu
 top=$(CDPATH='' cd -- "$(dirname -- "$0")/../.." && pwd)
 work=$(mktemp -d)
@@ -21,17 +21,31 @@ if nm -u "$top/crates/sockdiag_c/out/libsockdiag_c.a" | sed -n 's/^ *U //p' |
     exit 1
 fi
 
-# build NAME SOURCE FLAG..: builds a program with the library.
-build() {
-    name=$1 source=$2
-    shift 2
-    ${CC:-cc} -std=c99 -O2 -Wall -Wextra -Wpedantic -Werror "$@" -I"$top/include" \
-        -o "$work/$name" "$source" "$top/crates/sockdiag_c/out/libsockdiag_c.a"
+# build_as LANGUAGE STANDARD NAME SOURCE FLAG..: builds a program with the library.
+build_as() {
+    language=$1 standard=$2 name=$3 source=$4
+    shift 4
+    ${CC:-cc} -std="$standard" -O2 -Wall -Wextra -Wpedantic -Werror "$@" -I"$top/include" \
+        -o "$work/$name" -x "$language" "$source" -x none \
+        "$top/crates/sockdiag_c/out/libsockdiag_c.a"
 }
 
-for name in c_api c_lenient; do
+# build NAME SOURCE FLAG..: builds a program in C with the library.
+build() {
+    build_as c c99 "$@"
+}
+
+has_plus=true
+${CC:-cc} -fsyntax-only -x c++ /dev/null 2>/dev/null || has_plus=false
+"$has_plus" || echo "c_api: skipped: programs linked as C++: no C++ compiler"
+for name in c_api c_lenient c_messages; do
     build "$name" "$top/tests/api/$name.c"
     "$work/$name"
+    if "$has_plus"; then
+        build_as c++ c++11 "$name" "$top/tests/api/$name.c"
+        "$work/$name" >"$work/found"
+        sed 's/$/, linked as C++/' "$work/found"
+    fi
 done
 if echo '#include <valgrind/callgrind.h>' | ${CC:-cc} -E - >/dev/null 2>&1; then
     build cost "$top/tests/api/cost.c"
@@ -75,6 +89,35 @@ unix type 1 state 7 inode 2 rejected 5 (buffer of too few bytes)
 3 list_sockets: udp: invalid datagram: message length is past the bytes given
 2 list_sockets: unix: invalid reply: buffer of too few bytes
 END
+
+# Wrong arguments.
+for arguments in 0 65536 443x -x "443 -l" "-l -l" "-l 443 444"; do
+    status=0
+    # shellcheck disable=SC2086 # Each word is an argument.
+    "$work/fake_list" $arguments >"$work/found" 2>"$work/errors" || status=$?
+    if [ "$status" -ne 2 ] || [ -s "$work/found" ] || ! grep -q '^usage: ' "$work/errors"; then
+        echo "c_api: list_sockets $arguments: status $status" >&2
+        exit 1
+    fi
+done
+
+# sockdump STATUS TEXT ARGUMENT VARIABLE: runs the example of this name with replies of a kernel. It
+# has to end with this status, and to print a line with this text to standard error.
+sockdump() {
+    status=0
+    env FAKE_KERNEL_REPLIES="$top/tests/api/kernels/linux-6.18" "$4" "$work/fake_dump" "$3" \
+        >"$work/found" 2>"$work/errors" || status=$?
+    if [ "$status" -ne "$1" ] || ! grep -q "$2" "$work/errors"; then
+        echo "c_api: sockdump $3, $4: status $status, expected $1 and a line $2" >&2
+        cat "$work/errors" >&2
+        exit 1
+    fi
+}
+
+build fake_dump "$top/examples/sockdump.c" "$top/tests/api/fake_kernel.c"
+sockdump 2 '^sockdump: unknown kind every' every A=
+sockdump 1 '^sockdump: connect: ' unix FAKE_KERNEL_REFUSES=1
+sockdump 1 'exceeds the buffer$' unix FAKE_KERNEL_EXCESS=1
 
 # As an author of a program does: installs the library, and builds with the shared library that
 # pkg-config finds. Without pkg-config or make, builds with the static library.

@@ -7,9 +7,11 @@
  * packet, a space, and the payload in hexadecimal digits. Other lines are comments. A dump has the
  * replies with the protocol, the family and the states of the request. If no line has the protocol,
  * the answer is EINVAL. If the file has no mptcp, the attribute with the protocol is ignored, as
- * kernels without MPTCP do. Each datagram begins with the end of a dump that another socket
- * requested, which a lister recognizes by its port id. tests/api/kernels.py runs listers in this
- * way.
+ * kernels without MPTCP do. A filter by the local port selects replies as the kernel does. Each
+ * datagram begins with the end of a dump that another socket requested, which a lister recognizes
+ * by its port id. If FAKE_KERNEL_EXCESS is a number, each datagram has so many bytes more than the
+ * buffer: it ends with an NLMSG_NOOP, which fills the rest of the buffer if the excess is cut.
+ * tests/api/kernels.py runs listers in this way.
  *
  * Otherwise the first request is answered by a dump that is interrupted. The second one, which has
  * to be the same with another sequence number, is answered by the end of another dump, a reply that
@@ -18,12 +20,17 @@
  * the first one over IPv6 has a truncated message. Neither of these dumps ends, so they have to be
  * requested again on another socket. Each other request is answered by ENOENT. The state of the
  * sockets shows which states were requested. tests/api/c_api.sh compares the output.
+ *
+ * A socket has to be connected to the kernel before it sends and receives. If FAKE_KERNEL_REFUSES
+ * is set, connect fails. Requests are answered all the same, as a kernel does, so a lister that
+ * ignores the failure lists sockets.
  */
 #define _DEFAULT_SOURCE        /* For syscall. */
 #define SOCKDIAG_NO_LINK_CHECK /* Only constants are used: a lister in Rust exports no function. */
 #include "sockdiag.h"
 
 #include <errno.h>
+#include <linux/inet_diag.h>
 #include <linux/netlink.h>
 #include <netinet/in.h>
 #include <stdio.h>
@@ -41,7 +48,8 @@
 #define MOST_REPLY 4096
 
 static uint8_t request[128], first_request[128];
-static int requests, datagrams, sockets, kernel = -1;
+static size_t request_length;
+static int requests, datagrams, sockets, is_connected, kernel = -1;
 /* The file of replies, or null; whether it has replies of the requested protocol; and whether it
  * has replies of MPTCP. */
 static FILE *replies;
@@ -64,13 +72,22 @@ int socket(int family, int type, int protocol) {
     if (path != NULL && replies == NULL && !open_replies(path))
         return -1;
     sockets++;
+    is_connected = 0;
     return kernel = dup(1);
 }
 
 int connect(int fd, const struct sockaddr *address, socklen_t length) {
-    (void)fd;
-    (void)length;
-    return ((const struct sockaddr_nl *)(const void *)address)->nl_pid == 0 ? 0 : -1;
+    const struct sockaddr_nl *it = (const struct sockaddr_nl *)(const void *)address;
+    is_connected = fd == kernel && length == sizeof *it && it->nl_family == AF_NETLINK &&
+                   it->nl_pid == 0;
+    errno = EPERM;
+    return is_connected && getenv("FAKE_KERNEL_REFUSES") == NULL ? 0 : -1;
+}
+
+/* Returns whether the socket is connected, or sets errno. */
+static int has_connected(void) {
+    errno = ENOTCONN;
+    return is_connected;
 }
 
 int getsockname(int fd, struct sockaddr *address, socklen_t *length) {
@@ -83,7 +100,10 @@ int getsockname(int fd, struct sockaddr *address, socklen_t *length) {
 ssize_t send(int fd, const void *bytes, size_t length, int flags) {
     (void)fd;
     (void)flags;
-    memcpy(request, bytes, length < sizeof request ? length : sizeof request);
+    if (!has_connected())
+        return -1;
+    request_length = length < sizeof request ? length : sizeof request;
+    memcpy(request, bytes, request_length);
     requests++;
     datagrams = 0;
     has_protocol = 0;
@@ -142,8 +162,41 @@ static const char *requested_protocol(void) {
     }
 }
 
+/* Returns whether a filter accepts a local port. Each operation has a port in the next one, and the
+ * lengths of the jumps if it is accepted and if not. A jump to the end accepts, one past the end
+ * rejects. */
+static int accepts_port(const uint8_t *filter, size_t length, uint16_t port) {
+    size_t offset = 0;
+    while (offset + 8 <= length) {
+        struct inet_diag_bc_op step, operand;
+        memcpy(&step, filter + offset, sizeof step);
+        memcpy(&operand, filter + offset + sizeof step, sizeof operand);
+        if (step.code != INET_DIAG_BC_S_GE && step.code != INET_DIAG_BC_S_LE)
+            return 0;
+        offset += (step.code == INET_DIAG_BC_S_GE ? port >= operand.no : port <= operand.no)
+                      ? step.yes
+                      : step.no;
+    }
+    return offset == length;
+}
+
+/* Returns whether the filter of the request, if it has one, accepts a local port. */
+static int is_filtered(uint16_t port) {
+    struct nlattr head;
+    size_t offset = 72;
+    while (offset + sizeof head <= request_length) {
+        memcpy(&head, request + offset, sizeof head);
+        if (head.nla_len < sizeof head || head.nla_len > request_length - offset)
+            return 1;
+        if (head.nla_type == SOCKDIAG_INET_DIAG_REQ_BYTECODE)
+            return !accepts_port(request + offset + sizeof head, head.nla_len - sizeof head, port);
+        offset += NLA_ALIGN(head.nla_len);
+    }
+    return 0;
+}
+
 /* Returns whether the request selects the reply: by the family, and by the states or, of netlink
- * sockets, the protocol. */
+ * sockets, the protocol, and by the filter. */
 static int is_requested(const uint8_t *reply) {
     const uint8_t state = reply[0] == AF_UNIX ? reply[2] : reply[1];
     uint32_t states;
@@ -151,6 +204,9 @@ static int is_requested(const uint8_t *reply) {
         return 0;
     if (reply[0] == AF_NETLINK)
         return request[17] == SOCKDIAG_NDIAG_PROTO_ALL || request[17] == reply[2];
+    if (reply[0] == AF_INET || reply[0] == AF_INET6)
+        if (is_filtered((uint16_t)(reply[4] << 8 | reply[5])))
+            return 0;
     memcpy(&states, request + 20, sizeof states);
     return reply[0] == AF_PACKET || (states >> state & 1) != 0;
 }
@@ -206,6 +262,16 @@ static size_t put_from_file(uint8_t *bytes, uint32_t number) {
     return start + put(bytes, NLMSG_DONE, NLM_F_MULTI, number, &success, 4);
 }
 
+/* Fills the buffer, after the first bytes of a datagram, with a message that exceeds it. Returns
+ * the length that recv returns. */
+static ssize_t exceed(uint8_t *bytes, size_t start, size_t capacity, size_t excess, int flags) {
+    const size_t length = (flags & MSG_TRUNC) != 0 ? capacity + excess : capacity;
+    const struct nlmsghdr header = {(uint32_t)(length - start), NLMSG_NOOP, 0, 0, OWN_PORT};
+    memset(bytes + start, 0, capacity - start);
+    memcpy(bytes + start, &header, sizeof header);
+    return (ssize_t)length;
+}
+
 /* Answers a request for UDP sockets. The first answer of each family loses data. A request on the
  * same socket is answered by EBUSY, and one on another socket by ENOENT. */
 static ssize_t lose_data(uint8_t *bytes, uint32_t number) {
@@ -234,11 +300,15 @@ ssize_t recv(int fd, void *buffer, size_t capacity, int flags) {
     uint32_t number;
     size_t end = 0;
     (void)fd;
-    (void)capacity;
-    (void)flags;
+    if (!has_connected())
+        return -1;
     memcpy(&number, request + 8, 4);
-    if (replies != NULL)
-        return (ssize_t)put_from_file(bytes, number);
+    if (replies != NULL) {
+        const char *excess = getenv("FAKE_KERNEL_EXCESS");
+        end = put_from_file(bytes, number);
+        return excess == NULL ? (ssize_t)end
+                              : exceed(bytes, end, capacity, strtoul(excess, NULL, 10), flags);
+    }
     datagrams++;
     if (request[16] != AF_UNIX && request[17] == IPPROTO_UDP)
         return lose_data(bytes, number);

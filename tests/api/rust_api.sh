@@ -27,6 +27,15 @@ else
 fi
 quiet cargo test --offline
 echo "rust_api: all tests pass"
+# A library whose version has another third number.
+if command -v cc >/dev/null && command -v ar >/dev/null; then
+    abi=$(sed -n 's/^uint32_t \(sockdiag_abi_[0-9_]*\)(void);$/\1/p' "$top/include/sockdiag.h")
+    echo "unsigned sockdiag_version(void) { return 7; } unsigned $abi(void) { return 0; }" |
+        cc -x c -c -o "$work/version.o" -
+    ar rcs "$work/libsockdiag.a" "$work/version.o"
+    quiet env SOCKDIAG_LIB_DIR="$work" SOCKDIAG_LIBRARY_VERSION=7 CARGO_TARGET_DIR="$work/target" \
+        cargo test --offline --test version
+fi
 quiet cargo build --offline --example list_sockets
 "$top/tests/api/kernels.py" "${CARGO_TARGET_DIR:-target}/debug/examples/list_sockets"
 if cargo run --offline --quiet --example list_sockets >"$work/sockets" 2>"$work/errors"; then

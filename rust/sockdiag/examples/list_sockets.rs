@@ -118,7 +118,7 @@ fn inet_line(protocol: &str, reply: &InetReply<'_>) -> String {
         header.inode
     );
     if let Some(algorithm) = reply.congestion() {
-        line += &format!(" {algorithm}");
+        line += &format!(" {}", algorithm.escape_debug());
     }
     // 0: not measured, as of a socket that listens.
     if let Some(rtt) = round_trip_time(protocol, reply).filter(|rtt| *rtt != 0) {

@@ -18,10 +18,9 @@ use sockdiag::SockDiagMessage;
 use sockdiag::{AnyDump, Attributes, Dump, LenientMessage, NetlinkMessage, NetlinkPayload};
 
 /// Parses a copy of the bytes as each kind of reply. Texts that are returned lie within the bytes,
-/// and nothing panics. The results for two copies are equal.
+/// and nothing panics.
 fn parse_all(bytes: &[u8]) {
-    let (bytes, other) = (&Box::<[u8]>::from(bytes)[..], Box::<[u8]>::from(bytes));
-    compare(bytes, &other);
+    let bytes = &Box::<[u8]>::from(bytes)[..];
     if let Ok(reply) = UnixReply::parse(bytes) {
         assert!(reply.attributes().all(|it| it.is_ok()));
         let unknown = |nla| matches!(nla, unix::nlas::Nla::Other(it) if it.kind() <= 6);
@@ -129,6 +128,7 @@ fn parses_each_prefix_and_each_changed_byte() {
     {
         for end in 0..=bytes.len() {
             parse_all(&bytes[..end]);
+            compare(&bytes[..end], &Box::<[u8]>::from(&bytes[..end]));
         }
         for index in 0..bytes.len() {
             for change in [0, 1, 3, 4, 5, 16, 0x7f, 0x80, 0xff] {
