@@ -227,8 +227,10 @@ fn checks_sequence_numbers_and_port_ids() {
         assert_eq!(check.check(&header(found_sequence, found_port)), result);
         assert!(!check.is_interrupted());
     }
-    assert!(sequence(8).to_string().contains("sequence number 8"));
-    assert!(port(8).to_string().contains("port id 8"));
+    let text = "message of another request: sequence number 8";
+    assert_eq!(sequence(8).to_string(), text);
+    let text = "message for another socket: port id 8";
+    assert_eq!(port(8).to_string(), text);
 }
 
 #[test]
