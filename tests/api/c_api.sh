@@ -54,6 +54,15 @@ else
     echo "c_api: skipped: cost.c: no valgrind"
 fi
 
+# A file that includes the header needs the library of its version, unless it says otherwise.
+printf '#include "sockdiag.h"\nint main(void) { return SOCKDIAG_OK; }\n' >"$work/alone.c"
+${CC:-cc} -DSOCKDIAG_NO_LINK_CHECK -I"$top/include" -o "$work/alone" "$work/alone.c"
+if ${CC:-cc} -I"$top/include" -o "$work/alone" "$work/alone.c" 2>"$work/errors" ||
+    ! grep -q 'sockdiag_abi_' "$work/errors"; then
+    echo "c_api: a program was linked without the library" >&2
+    exit 1
+fi
+
 # The sanitizers check the test itself, and what the library passes to functions like memcpy.
 set -- -fsanitize=address,undefined
 echo 'int main(void) { return 0; }' >"$work/empty.c"
