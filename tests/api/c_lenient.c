@@ -439,8 +439,8 @@ static void check_later_fields(const struct sockdiag_long_tcp_info *it, const ui
     FIELD(it->accecn_opt_seen, bytes + 278);
 }
 
-/* The fields of struct sockdiag_tcp_info are at the same offsets in the longer struct, which
- * tests/c_layout.c asserts. Here the bytes of both are compared. */
+/* The fields of struct sockdiag_tcp_info are at the same offsets in the longer struct, so the bytes
+ * of both are compared. */
 static void reads_long_tcp_info(void) {
     uint8_t bytes[400], value[300];
     const size_t lengths[8] = {1, 104, 224, 232, 248, 279, 280, 290};

@@ -1,5 +1,4 @@
 //! The sizes of the structs that are shared with C. `tools/bindings` compares them with the C ABI.
-//! `tests/c_layout.c` asserts them in C, and the offset of each field.
 
 use crate::details::{Number, Text};
 use crate::error_details::ErrorDetails;
