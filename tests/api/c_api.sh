@@ -1,6 +1,6 @@
 #!/bin/sh
 # Builds the static library of include/sockdiag.h, and calls it from C: tests/api/c_api.c,
-# c_lenient.c and c_messages.c compare what the calls return, also linked as C++, if the compiler
+# c_values.c and c_messages.c compare what the calls return, also linked as C++, if the compiler
 # supports it, tests/api/cost.c counts their instructions, if valgrind is installed,
 # tests/api/fuzz_c.c calls them with changed replies, and tests/api/compare_lenient.sh compares the
 # lenient calls with an independent reader. Then installs the library, and lists the sockets of this
@@ -38,7 +38,7 @@ build() {
 has_plus=true
 ${CC:-cc} -fsyntax-only -x c++ /dev/null 2>/dev/null || has_plus=false
 "$has_plus" || echo "c_api: skipped: programs linked as C++: no C++ compiler"
-for name in c_api c_lenient c_messages; do
+for name in c_api c_values c_messages; do
     build "$name" "$top/tests/api/$name.c"
     "$work/$name"
     if "$has_plus"; then

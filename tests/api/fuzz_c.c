@@ -179,135 +179,6 @@ static void try_explaining(explain *call, const uint8_t *bytes, size_t length, u
     expect(code != SOCKDIAG_BUFFER_TOO_SMALL || it->got < it->need, "a record that is too small");
 }
 
-/* The rejections of a reply agree with the attributes, explained one by one. */
-static void try_rejections(const struct sockdiag_rejections *it, const uint8_t *bytes,
-                           size_t length, size_t index, explain *call) {
-    struct sockdiag_rejections expected;
-    struct sockdiag_error_details error;
-    struct sockdiag_attribute attribute;
-    struct sockdiag_cursor cursor;
-    memset(&expected, 0, sizeof expected);
-    cursor.offset = index;
-    for (;;) {
-        const size_t start = cursor.offset;
-        const uint32_t answer = sockdiag_next_attribute(bytes, length, &cursor, &attribute);
-        const size_t end = answer == SOCKDIAG_ITEM && cursor.offset < length ? cursor.offset
-                                                                            : length;
-        const uint32_t code = start >= length ? 0 : call(bytes + start, end - start, &error);
-        if (answer == SOCKDIAG_END)
-            break;
-        if (expected.first == 0)
-            expected.first = code;
-        if (answer != SOCKDIAG_ITEM) {
-            expect(code == answer, "an explained framing error");
-            expected.framing = code;
-            break;
-        }
-        const unsigned kind = attribute.type_word & SOCKDIAG_NLA_TYPE_MASK;
-        if (code != 0)
-            expect(kind < SOCKDIAG_REJECTION_KINDS, "a kind");
-        if (code != 0 && expected.errors[kind] == 0)
-            expected.errors[kind] = (uint8_t)code;
-    }
-    expect(it->first == expected.first && it->framing == expected.framing &&
-           memcmp(it->errors, expected.errors, sizeof it->errors) == 0, "the rejections");
-}
-
-static int is_same_text(const struct sockdiag_text *one, const struct sockdiag_text *other) {
-    return one->kind == other->kind &&
-           (one->kind == 0 || (one->bytes == other->bytes && one->length == other->length));
-}
-
-/* Two texts, and the numbers up to the end of a struct, are the same. */
-static int is_same(const struct sockdiag_text *one, const struct sockdiag_text *other,
-                   const void *numbers, const void *other_numbers, size_t size) {
-    return is_same_text(one, other) && memcmp(numbers, other_numbers, size) == 0;
-}
-
-/* Defines a function for a family. The lenient call accepts the header if the first bytes of the
- * reply are one. If it accepts all attributes, it returns what the strict one does: the text, and
- * the numbers, of which `number` is the first. `error` is the error of the reply. */
-#define LENIENTLY(family, ATTRIBUTES, has_family, text, number)                                  \
-    static void try_##family##_leniently(const uint8_t *payload, size_t length, uint32_t error) { \
-        typedef struct sockdiag_##family##_details details;                                      \
-        details strict;                                                                          \
-        struct sockdiag_rejections *rejections =                                                 \
-            (struct sockdiag_rejections *)(void *)bytes_in(buffer_area, sizeof *rejections);     \
-        CALL(it, details,                                                                        \
-             sockdiag_##family##_get_lenient_details(payload, length, it, rejections));          \
-        expect((it_fault == SOCKDIAG_OK) == (length >= (ATTRIBUTES) && (has_family)),            \
-               "a header: " #family);                                                            \
-        if (it_fault != SOCKDIAG_OK) {                                                           \
-            expect(is_untouched(rejections, sizeof *rejections), "rejections of a header");      \
-            return;                                                                              \
-        }                                                                                        \
-        expect(rejections->first == error, "the first error: " #family);                         \
-        try_rejections(rejections, payload, length, ATTRIBUTES,                                  \
-                       sockdiag_##family##_explain_attribute);                                   \
-        expect_text(&it->text, payload, length);                                                 \
-        if (sockdiag_##family##_get_details(payload, length, &strict) == SOCKDIAG_OK)            \
-            expect(is_same(&it->text, &strict.text, &it->number, &strict.number,                 \
-                           sizeof strict - offsetof(details, number)) &&                         \
-                   it->header.inode == strict.header.inode, "lenient details: " #family);        \
-    }
-
-LENIENTLY(unix, SOCKDIAG_UNIX_ATTRIBUTES, 1, name, file_inode)
-LENIENTLY(inet, SOCKDIAG_INET_ATTRIBUTES, payload[0] == 2 || payload[0] == 10, congestion, tos)
-
-/* What a record contains that is not present. */
-static const uint8_t zeros[64];
-
-/* Defines a function for a family whose lenient call accepts each header. `absent` is true if each
- * record that is not present is zero. If the call accepts all attributes, it returns what the
- * strict one does to a struct of zeros: then `same` is true. */
-#define FAMILY_LENIENTLY(family, type, ATTRIBUTES, absent, same)                                 \
-    static void try_##family##_leniently(const uint8_t *payload, size_t length) {                \
-        type strict;                                                                             \
-        struct sockdiag_rejections *rejections =                                                 \
-            (struct sockdiag_rejections *)(void *)bytes_in(buffer_area, sizeof *rejections);     \
-        CALL(it, type, sockdiag_##family##_get_lenient_details(payload, length, it, rejections)); \
-        expect((it_fault == SOCKDIAG_OK) == (length >= (ATTRIBUTES)), "a header: " #family);     \
-        if (it_fault != SOCKDIAG_OK) {                                                           \
-            expect(is_untouched(rejections, sizeof *rejections), "rejections of a header");      \
-            return;                                                                              \
-        }                                                                                        \
-        try_rejections(rejections, payload, length, ATTRIBUTES, explain_##family##_attribute);   \
-        expect(absent, "records that are not present: " #family);                                \
-        memset(&strict, 0, sizeof strict);                                                       \
-        if (rejections->first == SOCKDIAG_OK)                                                    \
-            expect(sockdiag_##family##_get_details(payload, length, &strict) == SOCKDIAG_OK &&   \
-                       (same), "lenient details: " #family);                                     \
-    }
-
-#define IS_SAME(field) (memcmp(&it->field, &strict.field, sizeof it->field) == 0)
-#define IS_ABSENT(has, field) (it->has || memcmp(&it->field, zeros, sizeof it->field) == 0)
-#define HAS_TEXT(field) (expect_text(&it->field, payload, length), 1)
-
-FAMILY_LENIENTLY(netlink, struct sockdiag_netlink_details, SOCKDIAG_NETLINK_ATTRIBUTES,
-                 HAS_TEXT(groups),
-                 it->header.inode == strict.header.inode && IS_SAME(memory) && IS_SAME(flags) &&
-                     is_same_text(&it->groups, &strict.groups))
-FAMILY_LENIENTLY(packet, struct sockdiag_packet_details, SOCKDIAG_PACKET_ATTRIBUTES,
-                 HAS_TEXT(addresses) && HAS_TEXT(filter) && IS_ABSENT(has_info, info) &&
-                     IS_ABSENT(has_receive_ring, receive_ring) &&
-                     IS_ABSENT(has_send_ring, send_ring),
-                 it->header.inode == strict.header.inode && IS_SAME(has_info) && IS_SAME(info) &&
-                     IS_SAME(has_receive_ring) && IS_SAME(receive_ring) &&
-                     IS_SAME(has_send_ring) && IS_SAME(send_ring) && IS_SAME(fanout) &&
-                     IS_SAME(owner) && IS_SAME(memory) &&
-                     is_same_text(&it->addresses, &strict.addresses) &&
-                     is_same_text(&it->filter, &strict.filter))
-FAMILY_LENIENTLY(vsock, struct sockdiag_vsock_header, SOCKDIAG_VSOCK_ATTRIBUTES, 1,
-                 it->inode == strict.inode && it->cookie == strict.cookie)
-FAMILY_LENIENTLY(xdp, struct sockdiag_xdp_details, SOCKDIAG_XDP_ATTRIBUTES,
-                 IS_ABSENT(has_info, info) && IS_ABSENT(has_umem, umem) &&
-                     IS_ABSENT(has_statistics, statistics),
-                 it->header.inode == strict.header.inode && IS_SAME(has_info) && IS_SAME(info) &&
-                     IS_SAME(owner) && IS_SAME(receive_ring) && IS_SAME(send_ring) &&
-                     IS_SAME(has_umem) && IS_SAME(umem) && IS_SAME(fill_ring) &&
-                     IS_SAME(completion_ring) && IS_SAME(memory) && IS_SAME(has_statistics) &&
-                     IS_SAME(statistics))
-
 /* Calls a getter of a single value, which accepts these lengths. */
 #define VALUE(type, call, accepts)                                                         \
     do {                                                                                   \
@@ -371,7 +242,6 @@ static uint32_t try_unix(const uint8_t *payload, size_t length) {
         expect(it_fault == SOCKDIAG_OK && index < length / 4, "connections of a reply");
     expect(index > 0 || is_untouched(inode, sizeof *inode), "no connection");
     try_explaining(sockdiag_unix_explain, payload, length, it_fault);
-    try_unix_leniently(payload, length, it_fault);
     return it_fault;
 }
 
@@ -386,7 +256,6 @@ static uint32_t try_inet(const uint8_t *payload, size_t length) {
     expect(sockdiag_inet_get_memory(payload, length, memory) <= length, "the length of memory");
     try_tcp_info(payload, length);
     try_explaining(sockdiag_inet_explain, payload, length, it_fault);
-    try_inet_leniently(payload, length, it_fault);
     return it_fault;
 }
 
@@ -397,29 +266,22 @@ static void try_families(const uint8_t *payload, size_t length) {
         if (it_fault == SOCKDIAG_OK)
             expect_text(&it->groups, payload, length);
         try_explaining(sockdiag_netlink_explain, payload, length, it_fault);
-        try_netlink_leniently(payload, length);
     }
     {
         CALL(it, struct sockdiag_packet_details, sockdiag_packet_get_details(payload, length, it));
         if (it_fault == SOCKDIAG_OK) {
             expect_text(&it->addresses, payload, length);
             expect_text(&it->filter, payload, length);
-            expect(it->has_info || is_untouched(&it->info, sizeof it->info), "an absent record");
         }
         try_explaining(sockdiag_packet_explain, payload, length, it_fault);
-        try_packet_leniently(payload, length);
     }
     {
         CALL(it, struct sockdiag_xdp_details, sockdiag_xdp_get_details(payload, length, it));
-        expect(it_fault != SOCKDIAG_OK || it->has_umem || is_untouched(&it->umem, sizeof it->umem),
-               "an absent record of an XDP socket");
         try_explaining(sockdiag_xdp_explain, payload, length, it_fault);
-        try_xdp_leniently(payload, length);
     }
     {
         CALL(it, struct sockdiag_vsock_header, sockdiag_vsock_get_details(payload, length, it));
         try_explaining(sockdiag_vsock_explain, payload, length, it_fault);
-        try_vsock_leniently(payload, length);
     }
 }
 

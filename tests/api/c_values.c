@@ -1,12 +1,12 @@
 /*
- * Calls the functions of three sections of include/sockdiag.h, with input that they accept and
- * input that they reject: "lenient: list every socket", "values of single attributes", and "errors
- * with their fields"; and the lenient calls of "netlink, packet, vsock and XDP sockets". Each field
- * of each struct is compared with bytes that no other field has, and what a call leaves unchanged
- * with its contents before. The expected numbers are worked out by hand from sock_diag(7) and the
- * kernel's headers. tests/api/c_api.sh builds and runs this program.
+ * Calls the functions of two sections of include/sockdiag.h, "values of single attributes" and
+ * "errors with their fields", with input that they accept and input that they reject. Each field of
+ * each struct is compared with bytes that no other field has, and what a call leaves unchanged with
+ * its contents before. The expected numbers are worked out by hand from sock_diag(7) and the
+ * kernel's headers. tests/api/compare_lenient.sh tests the details of replies. tests/api/c_api.sh
+ * builds and runs this program.
  */
-#include "families.h"
+#include "check.h"
 
 /* The header of a reply about a UNIX socket in state 10 with the inode 78, and of one about an IPv4
  * socket with the inode 12345. */
@@ -16,10 +16,6 @@ static const uint8_t inet_header[72] = {
     0, 0, 0, 0, 0, 0, 0, 0, 0, 0, 0, 0, 0, 0, 0, 0, 0, 0, 0, 0, 0, 0, 0, 0, 0, 0, 0, 0, 0, 0, 0, 0,
     0, 0, 0, 0, 0x39, 0x30, 0, 0,
 };
-
-static int is_absent(struct sockdiag_number number) {
-    return number.is_set == 0 && number.value == 0;
-}
 
 /* The rejections have this code for this kind, and none for another kind. */
 static int has_one(const struct sockdiag_rejections *it, uint32_t kind, uint32_t code) {
@@ -39,8 +35,6 @@ struct expected {
 
 /* Errors by the fields that they have, and no error. */
 #define NO_ERROR {SOCKDIAG_OK, 0, 0, 0, -1, 0, 0, 0, 0}
-#define ONLY(code) {code, 0, 0, 0, -1, 0, 0, 0, 0}
-#define INDEX(code, index) {code, 0, 0, 0, -1, 0, 0, 0, index}
 #define LENGTHS(code, got, length) {code, 0, 0, 0, -1, got, 0, length, 0}
 #define OTHER(code, family, message_type) {code, 0, family, message_type, -1, 0, 0, 0, 0}
 #define WRONG(kind, got, need) {SOCKDIAG_WRONG_LENGTH, 0, 0, 0, kind, got, need, 0, 0}
@@ -76,115 +70,6 @@ static void check_error(explain *call, const uint8_t *bytes, size_t length,
         check_error(call, bytes, length, &expected, #call ", " #length ": " #__VA_ARGS__); \
     } while (0)
 
-/* A value of an attribute that is rejected, with its error. The value is `text`, or the bytes 0, 1,
- * 2, .. if that is null. */
-struct rejected_value {
-    uint16_t kind;
-    size_t length;
-    const char *text;
-    struct expected error;
-};
-
-/* Writes such an attribute at an offset, and returns the offset after it. The reply, up to there,
- * and the attribute by itself have its error. */
-static size_t put_rejected(uint8_t *bytes, size_t at, uint16_t flag,
-                           const struct rejected_value *row, explain *whole, explain *one) {
-    uint8_t numbers[240];
-    const void *value = row->text != NULL ? (const void *)row->text : numbers;
-    size_t end;
-    number_bytes(numbers, sizeof numbers);
-    end = put(bytes, at, row->kind | flag, value, row->length);
-    check_error(whole, bytes, end, &row->error, "the error of a reply with one attribute");
-    check_error(one, bytes + at, end - at, &row->error, "the error of an attribute");
-    return end;
-}
-
-/* Each kind of attribute of a UNIX socket that can be rejected, by itself, with its error; and
- * valid attributes after it. */
-static void rejects_each_unix_attribute(void) {
-    static const struct rejected_value rows[] = {
-        {0, 0, "", ONLY(SOCKDIAG_NAME_EMPTY)},
-        {0, 2, "/a", ONLY(SOCKDIAG_NAME_WITHOUT_END)},
-        {0, 5, "/a\0b", INDEX(SOCKDIAG_NAME_INNER_ZERO, 2)},
-        {1, 0, NULL, SMALL(SOCKDIAG_RECORD_VFS, 0, 8)},
-        {1, 7, NULL, SMALL(SOCKDIAG_RECORD_VFS, 7, 8)},
-        {2, 5, NULL, WRONG(2, 5, 4)},
-        {3, 6, NULL, LENGTHS(SOCKDIAG_NOT_MULTIPLE_OF_FOUR, 6, 0)},
-        {3, 9, NULL, LENGTHS(SOCKDIAG_NOT_MULTIPLE_OF_FOUR, 9, 0)},
-        {4, 9, NULL, WRONG(4, 9, 8)},
-        {4, 12, NULL, WRONG(4, 12, 8)},
-        {5, 12, NULL, SMALL(SOCKDIAG_RECORD_UNIX_MEM_INFO, 12, 36)},
-        {5, 35, NULL, SMALL(SOCKDIAG_RECORD_UNIX_MEM_INFO, 35, 36)},
-        {6, 4, NULL, WRONG(6, 4, 1)},
-    };
-    uint8_t bytes[256];
-    size_t row;
-    memcpy(bytes, unix_header, 16);
-    for (row = 0; row < sizeof rows / sizeof *rows; row++) {
-        struct sockdiag_unix_details it, strict;
-        struct sockdiag_rejections rejections;
-        const uint32_t code = rows[row].error.code;
-        size_t end = put_rejected(bytes, 16, 0x8000, &rows[row], sockdiag_unix_explain,
-                                  sockdiag_unix_explain_attribute);
-        end = put(bytes, end, 0, "/a", 3);
-        end = put(bytes, end, 2, "\3\0\0\0", 4);
-        memset(&it, UNTOUCHED, sizeof it);
-        memset(&rejections, UNTOUCHED, sizeof rejections);
-        check(sockdiag_unix_get_details(bytes, end, &strict) == code, "a strict call");
-        check(sockdiag_unix_get_lenient_details(bytes, end, &it, &rejections) == SOCKDIAG_OK,
-              "a reply with a rejected attribute");
-        check(has_one(&rejections, rows[row].kind, code), "its error");
-        check(it.header.kind == 1 && it.header.state == 10 && it.header.inode == 78, "its header");
-        check(it.name.kind == SOCKDIAG_TEXT && it.name.length == 2 && it.name.bytes[1] == 'a' &&
-              is(it.peer, 3), "its valid attributes");
-        check(is_absent(it.file_inode) && is_absent(it.recv_queue) && is_absent(it.queued) &&
-              is_absent(it.shutdown), "its other attributes");
-    }
-}
-
-static void rejects_each_inet_attribute(void) {
-    static const struct rejected_value rows[] = {
-        {1, 4, NULL, SMALL(SOCKDIAG_RECORD_LEGACY_MEM_INFO, 4, 16)},
-        {1, 15, NULL, SMALL(SOCKDIAG_RECORD_LEGACY_MEM_INFO, 15, 16)},
-        {2, 224, NULL, SMALL(SOCKDIAG_RECORD_TCP_INFO, 224, 232)},
-        {4, 1, "\377", ONLY(SOCKDIAG_NOT_UTF8)},
-        {4, 240, NULL, ONLY(SOCKDIAG_NOT_UTF8)},
-        {5, 4, NULL, WRONG(5, 4, 1)},
-        {6, 0, NULL, WRONG(6, 0, 1)},
-        {7, 24, NULL, SMALL(SOCKDIAG_RECORD_MEM_INFO, 24, 28)},
-        {8, 2, NULL, WRONG(8, 2, 1)},
-        {10, 4, NULL, WRONG(10, 4, 1)},
-        {11, 2, NULL, WRONG(11, 2, 1)},
-        {15, 8, NULL, WRONG(15, 8, 4)},
-        {17, 3, NULL, WRONG(17, 3, 4)},
-    };
-    uint8_t bytes[512];
-    size_t row;
-    memcpy(bytes, inet_header, 72);
-    for (row = 0; row < sizeof rows / sizeof *rows; row++) {
-        struct sockdiag_inet_details it, strict;
-        struct sockdiag_rejections rejections;
-        const uint32_t code = rows[row].error.code;
-        size_t end = put_rejected(bytes, 72, 0, &rows[row], sockdiag_inet_explain,
-                                  sockdiag_inet_explain_attribute);
-        end = put(bytes, end, 4, "cubic", 6);
-        end = put(bytes, end, 15, "\6\0\0\0", 4);
-        memset(&it, UNTOUCHED, sizeof it);
-        memset(&rejections, UNTOUCHED, sizeof rejections);
-        check(sockdiag_inet_get_details(bytes, end, &strict) == code, "a strict call");
-        check(sockdiag_inet_get_lenient_details(bytes, end, &it, &rejections) == SOCKDIAG_OK,
-              "an internet reply with a rejected attribute");
-        check(has_one(&rejections, rows[row].kind, code), "its error");
-        check(it.header.family == 2 && it.header.source_port == 80 && it.header.inode == 12345,
-              "its header");
-        check(it.congestion.length == 5 && memcmp(it.congestion.bytes, "cubic", 5) == 0 &&
-              is(it.mark, 6), "its valid attributes");
-        check(is_absent(it.tos) && is_absent(it.tclass) && is_absent(it.shutdown) &&
-              is_absent(it.protocol) && is_absent(it.v6only) && is_absent(it.class_id),
-              "its other attributes");
-    }
-}
-
 /* The first error of a kind, the first of all, and the framing error. */
 static void has_the_first_errors(void) {
     uint8_t bytes[128];
@@ -213,212 +98,6 @@ static void has_the_first_errors(void) {
           "a framing error by itself");
     check(sockdiag_unix_get_lenient_details(bytes, 16, &it, &rejections) == SOCKDIAG_OK &&
           has_one(&rejections, 0, 0) && it.shutdown.is_set == 0, "a header by itself");
-}
-
-/* A rejected header leaves both structs unchanged. */
-static void rejects_headers(void) {
-    struct sockdiag_unix_details unix_details;
-    struct sockdiag_inet_details inet_details;
-    struct sockdiag_rejections rejections;
-    uint8_t other[72];
-    memset(&unix_details, UNTOUCHED, sizeof unix_details);
-    memset(&inet_details, UNTOUCHED, sizeof inet_details);
-    memset(&rejections, UNTOUCHED, sizeof rejections);
-    memcpy(other, inet_header, 72);
-    other[0] = 1;
-    check(sockdiag_unix_get_lenient_details(unix_header, 15, &unix_details, &rejections) ==
-              SOCKDIAG_BUFFER_TOO_SMALL, "a truncated UNIX header");
-    check(sockdiag_unix_get_lenient_details(NULL, 0, &unix_details, &rejections) ==
-              SOCKDIAG_BUFFER_TOO_SMALL, "no bytes at a null pointer");
-    check(sockdiag_inet_get_lenient_details(inet_header, 71, &inet_details, &rejections) ==
-              SOCKDIAG_BUFFER_TOO_SMALL, "a truncated internet header");
-    check(sockdiag_inet_get_lenient_details(other, 72, &inet_details, &rejections) ==
-              SOCKDIAG_UNSUPPORTED_FAMILY, "another family");
-    check(is_untouched(&unix_details, sizeof unix_details) &&
-          is_untouched(&inet_details, sizeof inet_details) &&
-          is_untouched(&rejections, sizeof rejections), "structs of a rejected header");
-}
-
-#define SHORT_VALUE(family, kind, got, need) \
-    {kind, got, NULL, SMALL_OF(SOCKDIAG_RECORD_FAMILY_ATTRIBUTE, family, kind, got, need)}
-#define SHORT_MEMORY(kind, got) {kind, got, NULL, SMALL(SOCKDIAG_RECORD_MEM_INFO, got, 28)}
-#define WRONG_NUMBER(kind, got) {kind, got, NULL, WRONG(kind, got, 4)}
-
-/* Attributes that are rejected, with their errors. */
-static const struct rejected_value netlink_rows[] = {
-    SHORT_MEMORY(0, 0), SHORT_MEMORY(0, 27),
-    WRONG_NUMBER(4, 0), WRONG_NUMBER(4, 3), WRONG_NUMBER(4, 5),
-};
-static const struct rejected_value packet_rows[] = {
-    SHORT_VALUE(17, 0, 0, 24), SHORT_VALUE(17, 0, 23, 24), SHORT_VALUE(17, 2, 27, 28),
-    SHORT_VALUE(17, 3, 4, 28), WRONG_NUMBER(4, 8), WRONG_NUMBER(5, 1), SHORT_MEMORY(6, 24),
-};
-static const struct rejected_value xdp_rows[] = {
-    SHORT_VALUE(44, 1, 7, 8), WRONG_NUMBER(2, 2), WRONG_NUMBER(3, 40), WRONG_NUMBER(4, 0),
-    SHORT_VALUE(44, 5, 39, 40), WRONG_NUMBER(6, 12), WRONG_NUMBER(7, 3), SHORT_MEMORY(8, 20),
-    SHORT_VALUE(44, 9, 40, 48),
-};
-
-/* For each row: a reply with a rejected attribute, then one valid attribute of each kind, then
- * another one of each kind with other bytes. The rejected attribute hides only itself, and of each
- * kind the first valid one counts. */
-#define REJECTS_EACH(family, first_byte, ATTRIBUTES, kinds)                                      \
-    static void rejects_each_##family##_attribute(void) {                                        \
-        uint8_t bytes[768];                                                                      \
-        const uint8_t *values[kinds], *others[kinds];                                            \
-        size_t row;                                                                              \
-        for (row = 0; row < sizeof family##_rows / sizeof *family##_rows; row++) {               \
-            const uint32_t code = family##_rows[row].error.code;                                 \
-            struct sockdiag_##family##_details it, strict;                                       \
-            struct sockdiag_rejections rejections;                                               \
-            size_t end;                                                                          \
-            number_bytes(bytes, sizeof bytes);                                                   \
-            bytes[0] = first_byte;                                                               \
-            end = put_rejected(bytes, ATTRIBUTES, 0x8000, &family##_rows[row],                   \
-                               sockdiag_##family##_explain, explain_##family##_attribute);       \
-            number_bytes(bytes + end, sizeof bytes - end);                                       \
-            begin_each(bytes, &end, family##_lengths, kinds, values);                            \
-            begin_each(bytes, &end, family##_lengths, kinds, others);                            \
-            memset(&it, UNTOUCHED, sizeof it);                                                   \
-            memset(&rejections, UNTOUCHED, sizeof rejections);                                   \
-            check(sockdiag_##family##_get_details(bytes, end, &strict) == code, "a strict call"); \
-            check(sockdiag_##family##_get_lenient_details(bytes, end, &it, &rejections) ==       \
-                      SOCKDIAG_OK, "a reply with a rejected attribute: " #family);               \
-            check(has_one(&rejections, family##_rows[row].kind, code), "its error: " #family);   \
-            check_##family(&it, bytes, values);                                                  \
-        }                                                                                        \
-    }
-
-REJECTS_EACH(netlink, 16, SOCKDIAG_NETLINK_ATTRIBUTES, 5)
-REJECTS_EACH(packet, 17, SOCKDIAG_PACKET_ATTRIBUTES, 8)
-REJECTS_EACH(xdp, 44, SOCKDIAG_XDP_ATTRIBUTES, 10)
-
-static int has_no_memory(const struct sockdiag_memory *it) {
-    return is_absent(it->receive_queue) && is_absent(it->receive_queue_max) &&
-           is_absent(it->bottom_send_queues) && is_absent(it->send_queue_max) &&
-           is_absent(it->cache) && is_absent(it->send_queue) && is_absent(it->options) &&
-           is_absent(it->backlog_queue_length) && is_absent(it->drops);
-}
-
-/* Replies with rejected attributes of all kinds, so that no field has a value and each record is
- * zero; and then a framing error. */
-static void has_no_valid_attribute(void) {
-    static const uint8_t zeros[64] = {0};
-    uint8_t bytes[256], kind;
-    struct sockdiag_netlink_details netlink;
-    struct sockdiag_packet_details packet;
-    struct sockdiag_xdp_details xdp;
-    struct sockdiag_rejections rejections;
-    size_t end = SOCKDIAG_NETLINK_ATTRIBUTES;
-    number_bytes(bytes, sizeof bytes);
-    memset(&netlink, UNTOUCHED, sizeof netlink);
-    memset(&packet, UNTOUCHED, sizeof packet);
-    memset(&xdp, UNTOUCHED, sizeof xdp);
-    begin(bytes, &end, 4, 2);
-    begin(bytes, &end, 0, 8);
-    check(sockdiag_netlink_get_lenient_details(bytes, end, &netlink, &rejections) == SOCKDIAG_OK &&
-          rejections.first == SOCKDIAG_WRONG_LENGTH && rejections.framing == 0 &&
-          rejections.errors[0] == SOCKDIAG_BUFFER_TOO_SMALL &&
-          rejections.errors[4] == SOCKDIAG_WRONG_LENGTH && rejections.errors[1] == 0,
-          "errors of a netlink reply");
-    check(has_no_memory(&netlink.memory) && netlink.groups.kind == 0 && is_absent(netlink.flags),
-          "no netlink attribute");
-    check_netlink_header(&netlink.header, bytes);
-    end = SOCKDIAG_PACKET_ATTRIBUTES;
-    for (kind = 0; kind < 10; kind++)
-        begin(bytes, &end, kind, kind == 1 || kind == 7 ? 0 : 3);
-    check(sockdiag_packet_get_lenient_details(bytes, end, &packet, &rejections) == SOCKDIAG_OK &&
-          rejections.first == SOCKDIAG_BUFFER_TOO_SMALL && rejections.errors[1] == 0 &&
-          rejections.errors[3] == SOCKDIAG_BUFFER_TOO_SMALL &&
-          rejections.errors[5] == SOCKDIAG_WRONG_LENGTH && rejections.errors[7] == 0 &&
-          rejections.errors[8] == 0 && rejections.errors[9] == 0, "errors of a packet reply");
-    check(!packet.has_info && !packet.has_receive_ring && !packet.has_send_ring &&
-          memcmp(&packet.info, zeros, sizeof packet.info) == 0 &&
-          memcmp(&packet.receive_ring, zeros, sizeof packet.receive_ring) == 0 &&
-          memcmp(&packet.send_ring, zeros, sizeof packet.send_ring) == 0, "no packet record");
-    check(is_absent(packet.fanout) && is_absent(packet.owner) && has_no_memory(&packet.memory) &&
-          packet.addresses.kind == SOCKDIAG_BYTES && packet.addresses.length == 0 &&
-          packet.filter.kind == SOCKDIAG_BYTES && packet.filter.length == 0, "two empty texts");
-    memcpy(bytes + end, "\3\0\2\0\0", 5);
-    check(sockdiag_xdp_get_lenient_details(bytes, end + 5, &xdp, &rejections) == SOCKDIAG_OK &&
-          rejections.first == SOCKDIAG_BUFFER_TOO_SMALL && rejections.errors[0] == 0 &&
-          rejections.framing == SOCKDIAG_ATTRIBUTE_LENGTH_UNDER_4 &&
-          rejections.errors[7] == SOCKDIAG_WRONG_LENGTH &&
-          rejections.errors[9] == SOCKDIAG_BUFFER_TOO_SMALL, "errors of an XDP reply");
-    check(!xdp.has_info && !xdp.has_umem && !xdp.has_statistics &&
-          memcmp(&xdp.info, zeros, sizeof xdp.info) == 0 &&
-          memcmp(&xdp.umem, zeros, sizeof xdp.umem) == 0 &&
-          memcmp(&xdp.statistics, zeros, sizeof xdp.statistics) == 0, "no XDP record");
-    check(is_absent(xdp.owner) && is_absent(xdp.receive_ring) && is_absent(xdp.send_ring) &&
-          is_absent(xdp.fill_ring) && is_absent(xdp.completion_ring) &&
-          has_no_memory(&xdp.memory), "no XDP number");
-}
-
-/* Of two values of socket memory the first one counts as a whole: the last two numbers of the
- * second one are not added. */
-static void takes_memory_as_a_whole(void) {
-    uint8_t bytes[128];
-    struct sockdiag_netlink_details it;
-    struct sockdiag_rejections rejections;
-    size_t end = SOCKDIAG_NETLINK_ATTRIBUTES, first;
-    number_bytes(bytes, sizeof bytes);
-    first = begin(bytes, &end, 0, 28);
-    begin(bytes, &end, 0, 36);
-    check(sockdiag_netlink_get_lenient_details(bytes, end, &it, &rejections) == SOCKDIAG_OK &&
-          has_one(&rejections, 0, 0), "two values of memory");
-    TOLD(it.memory.receive_queue, bytes + first, 4);
-    TOLD(it.memory.options, bytes + first + 24, 4);
-    check(is_absent(it.memory.backlog_queue_length) && is_absent(it.memory.drops),
-          "numbers of the second value");
-}
-
-/* Only the framing of bytes after the header of a vsock socket is checked. */
-static void reads_vsock_leniently(void) {
-    uint8_t bytes[40];
-    struct sockdiag_vsock_header it;
-    struct sockdiag_rejections rejections;
-    size_t length;
-    number_bytes(bytes, sizeof bytes);
-    put_header(bytes + 32, 8, 0);
-    for (length = 32; length <= 40; length++) {
-        const uint32_t code = length == 32 || length == 40 ? 0 :
-            length < 36 ? SOCKDIAG_ATTRIBUTE_HEADER_CUT : SOCKDIAG_ATTRIBUTE_LENGTH_PAST;
-        memset(&it, UNTOUCHED, sizeof it);
-        memset(&rejections, UNTOUCHED, sizeof rejections);
-        check(sockdiag_vsock_get_lenient_details(bytes, length, &it, &rejections) == SOCKDIAG_OK,
-              "a vsock reply");
-        check_vsock(&it, bytes);
-        check(rejections.framing == code && rejections.first == code, "bytes after a vsock header");
-        rejections.first = rejections.framing = 0;
-        check(has_one(&rejections, 0, 0), "kinds of a vsock reply");
-    }
-}
-
-/* A truncated header of any family leaves both structs unchanged. */
-#define REJECTS_HEADER(family, type, ATTRIBUTES)                                                \
-    do {                                                                                        \
-        type it;                                                                                \
-        memset(&it, UNTOUCHED, sizeof it);                                                      \
-        memset(&rejections, UNTOUCHED, sizeof rejections);                                      \
-        check(sockdiag_##family##_get_lenient_details(bytes, (ATTRIBUTES) - 1, &it,             \
-                                                      &rejections) ==                           \
-                  SOCKDIAG_BUFFER_TOO_SMALL, "a truncated header: " #family);                   \
-        check(sockdiag_##family##_get_lenient_details(NULL, 0, &it, &rejections) ==             \
-                  SOCKDIAG_BUFFER_TOO_SMALL, "no bytes: " #family);                             \
-        check(is_untouched(&it, sizeof it) && is_untouched(&rejections, sizeof rejections),     \
-              "structs of a truncated header: " #family);                                       \
-        check(sockdiag_##family##_get_lenient_details(bytes, ATTRIBUTES, &it, &rejections) ==   \
-                  SOCKDIAG_OK && has_one(&rejections, 0, 0), "a header: " #family);             \
-    } while (0)
-
-static void rejects_headers_of_families(void) {
-    uint8_t bytes[32];
-    struct sockdiag_rejections rejections;
-    number_bytes(bytes, sizeof bytes);
-    REJECTS_HEADER(netlink, struct sockdiag_netlink_details, SOCKDIAG_NETLINK_ATTRIBUTES);
-    REJECTS_HEADER(packet, struct sockdiag_packet_details, SOCKDIAG_PACKET_ATTRIBUTES);
-    REJECTS_HEADER(vsock, struct sockdiag_vsock_header, SOCKDIAG_VSOCK_ATTRIBUTES);
-    REJECTS_HEADER(xdp, struct sockdiag_xdp_details, SOCKDIAG_XDP_ATTRIBUTES);
 }
 
 /* Each field of struct sockdiag_long_tcp_info after the fields of struct sockdiag_tcp_info. */
@@ -712,17 +391,7 @@ static void has_numbers(void) {
 }
 
 int main(void) {
-    rejects_each_unix_attribute();
-    rejects_each_inet_attribute();
     has_the_first_errors();
-    rejects_headers();
-    rejects_each_netlink_attribute();
-    rejects_each_packet_attribute();
-    rejects_each_xdp_attribute();
-    has_no_valid_attribute();
-    takes_memory_as_a_whole();
-    reads_vsock_leniently();
-    rejects_headers_of_families();
     reads_long_tcp_info();
     reads_single_values();
     reads_pending_connections();
@@ -734,5 +403,5 @@ int main(void) {
     explains_framing();
     explains_attributes();
     has_numbers();
-    return end_of_tests("c_lenient");
+    return end_of_tests("c_values");
 }
