@@ -1,4 +1,4 @@
-//! The tests of `netlink_packet_sock_diag`.
+//! The tests of the port: of `netlink_packet_sock_diag` and the crates that it uses.
 #![tactic(auto)]
 
 #[cfg(test)]

@@ -3,14 +3,18 @@
 
 ghost use Rattle.std.specs.Iterator.{IsFinite};
 
-use netlink_core::{DecodeError, NetlinkDeserializable, NetlinkMessage};
+use netlink_core::{CanonError, DecodeError, Emitable, NetlinkDeserializable, NetlinkMessage};
 use std::alloc::Global;
 use std::fmt::Debug;
 use std::process::Abort;
 
+mod attribute_sizes;
+mod attributes;
 mod hostile;
+mod netlink;
 mod out_of_memory;
 mod parsers;
+mod records;
 mod replies;
 mod requests;
 mod sizes;
@@ -42,6 +46,9 @@ const PEER: &str = "01010100b77c00002200000000000000170000002f72756e2f757365722f
 /// An attribute `INET_DIAG_SHUTDOWN` with the value 0: no direction is shut down.
 const SHUTDOWN: &str = "0500080000000000";
 
+/// A request for UNIX sockets.
+const UNIX_REQUEST: &str = "01000000020400003412000004000000ffffffffffffffff";
+
 /// The digits of sixteen zero bytes.
 const ZEROS: &str = "00000000000000000000000000000000";
 
@@ -58,6 +65,11 @@ fn cells<'a>(rt: &impl Abort, alloc: Global, front: &str, row: &'a str) -> (Vec<
     (bytes(rt, alloc, &[front, digits]), text)
 }
 
+/// Asserts that two texts are equal.
+fn is_text(rt: &impl Abort, shown: &str, text: &str) {
+    assert!(rt; shown == text, "{shown}");
+}
+
 /// Asserts that the bytes are equal.
 fn same(rt: &impl Abort, bytes: &[u8], wanted: &[u8]) {
     assert!(rt; bytes == wanted, "{bytes:?}");
@@ -68,14 +80,48 @@ fn has_part(rt: &impl Abort, text: &str, part: &str) {
     assert!(rt; text.contains(part), "{text}");
 }
 
-/// Asserts that `part` occurs in what `Debug` prints for the value.
-fn shows<T: Debug>(rt: &impl Abort, alloc: Global, value: &T, part: &str) {
-    let shown = format!(in alloc; "{value:?}").expect(rt, "memory");
-    has_part(rt, shown.as_str(), part);
+/// Serializes the value to the start of a buffer of two more bytes. Returns the bytes of the value,
+/// or the whole buffer if one of the two bytes has changed.
+fn emitted<T: Emitable>(alloc: Global, value: &T) -> Result<Vec<u8>, CanonError> {
+    let Some(len) = value.writable_len() else {
+        return Err(CanonError::Unwritable);
+    };
+    let mut buffer = vec![in alloc; 0xff; len]?;
+    buffer.extend_from_slice(&[0xff, 0xff])?;
+    value.emit(&mut buffer);
+    if buffer.ends_with(&[0xff, 0xff]) {
+        buffer.truncate(len);
+    }
+    Ok(buffer)
 }
 
-/// Asserts that `text` occurs in what `Debug` prints for the list of all items that the iterator
-/// yields.
+/// Asserts that the value serializes to these bytes.
+fn writes<T: Emitable>(rt: &impl Abort, alloc: Global, value: &T, bytes: &[u8]) {
+    same(rt, &emitted(alloc, value).expect(rt, "unwritable"), bytes);
+}
+
+/// Returns what `Debug` prints for the value.
+fn debug_text<T: Debug>(rt: &impl Abort, alloc: Global, value: &T) -> String {
+    format!(in alloc; "{value:?}").expect(rt, "memory")
+}
+
+/// Asserts that `Debug` prints the value as this text.
+fn shows<T: Debug>(rt: &impl Abort, alloc: Global, value: &T, text: &str) {
+    is_text(rt, debug_text(rt, alloc, value).as_str(), text);
+}
+
+/// Asserts that `part` occurs in what `Debug` prints for the value.
+fn shows_part<T: Debug>(rt: &impl Abort, alloc: Global, value: &T, part: &str) {
+    has_part(rt, debug_text(rt, alloc, value).as_str(), part);
+}
+
+/// Asserts that `{:#?}` prints the value as these lines.
+fn shows_lines<T: Debug>(rt: &impl Abort, alloc: Global, value: &T, lines: &str) {
+    let shown = format!(in alloc; "{value:#?}").expect(rt, "memory");
+    is_text(rt, shown.as_str(), lines);
+}
+
+/// Asserts that `Debug` prints the list of all items of the iterator as this text.
 fn gives<I: Iterator + Drop>(rt: &impl Abort, alloc: Global, walk: I, text: &str)
 where
     I::Item: Debug + Drop,

@@ -1,12 +1,9 @@
 //! Two requests and four replies with each byte changed, and truncated at each byte.
 
 use super::parsers::{Report, Subject, parse_all};
-use super::{ABSTRACT, INET, PATH, PEER, SHUTDOWN, ZEROS, bytes, shows};
+use super::{ABSTRACT, INET, PATH, PEER, SHUTDOWN, UNIX_REQUEST, ZEROS, bytes, shows, shows_part};
 use std::alloc::Global;
 use std::process::Abort;
-
-/// A request for UNIX sockets.
-const UNIX_REQUEST: &[&str] = &["01000000020400003412000004000000ffffffffffffffff"];
 
 /// A request for UDP sockets over IPv4.
 const INET_REQUEST: &[&str] = &["0211000002000000", ZEROS, ZEROS, ZEROS];
@@ -54,14 +51,14 @@ fn changes(rt: &impl Abort, alloc: Global, subject: Subject, parts: &[&str], cou
             count(rt, &mut tally, &original, &report);
         }
     }
-    shows(rt, alloc, &tally, counts);
+    shows_part(rt, alloc, &tally, counts);
 }
 
 #[test]
 fn requests(rt: HostRuntime) {
     let alloc = rt.alloc();
     let counts = "[2552, 3568, 0, 0, 0, 0, 0, 0, 0, 0, 0]";
-    changes(&rt, alloc, Subject::UnixRequest, UNIX_REQUEST, counts);
+    changes(&rt, alloc, Subject::UnixRequest, &[UNIX_REQUEST], counts);
     let counts = "[6901, 7125, 0, 254, 0, 0, 0, 0, 0, 0, 0]";
     changes(&rt, alloc, Subject::InetRequest, INET_REQUEST, counts);
 }
@@ -87,8 +84,8 @@ fn an_inet_reply(rt: HostRuntime) {
     changes(&rt, alloc, Subject::InetReply, &[INET, SHUTDOWN], counts);
 }
 
-/// Calls all parsers and serializers with each proper prefix of the bytes. Asserts that `counts`
-/// occurs in what `Debug` prints for the counts.
+/// Calls all parsers and serializers with each proper prefix of the bytes. Asserts that `Debug`
+/// prints the counts as `counts`.
 fn prefixes(rt: &impl Abort, alloc: Global, subject: Subject, parts: &[&str], counts: &str) {
     let whole = bytes(rt, alloc, parts);
     let original = parse_all(rt, alloc, subject, &whole, None, false);
@@ -105,7 +102,7 @@ fn prefixes(rt: &impl Abort, alloc: Global, subject: Subject, parts: &[&str], co
 fn truncated_requests(rt: HostRuntime) {
     let alloc = rt.alloc();
     let counts = "[0, 0, 24, 0, 0, 0, 0, 0, 0, 0, 0]";
-    prefixes(&rt, alloc, Subject::UnixRequest, UNIX_REQUEST, counts);
+    prefixes(&rt, alloc, Subject::UnixRequest, &[UNIX_REQUEST], counts);
     let counts = "[0, 0, 56, 0, 0, 0, 0, 0, 0, 0, 0]";
     prefixes(&rt, alloc, Subject::InetRequest, INET_REQUEST, counts);
 }

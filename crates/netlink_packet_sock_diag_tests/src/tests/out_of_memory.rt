@@ -1,7 +1,7 @@
 //! What holds in each run, whichever allocations fail.
 
 use super::parsers::{Report, Subject, examine};
-use super::{ABSTRACT, CONNECTED, INET, LISTENING, PATH, SHUTDOWN, code, has_part};
+use super::{ABSTRACT, CONNECTED, INET, LISTENING, PATH, SHUTDOWN, UNIX_REQUEST, code, has_part};
 use hex::FromHexError;
 use netlink_core::{
     CanonError, DecodeError, NetlinkMessage, Parseable, ParseableParametrized, RecordName,
@@ -27,9 +27,6 @@ const INET_OTHER: &str = "05000800000000000a000400637562696300000005000300aa0000
 
 /// A text in its canonical form, with its terminating NUL and padding.
 const CUBIC: &str = "0a0004006375626963000000";
-
-/// A request for UNIX sockets.
-const UNIX_REQUEST: &str = "01000000020400003412000004000000ffffffffffffffff";
 
 /// The digits of 48 zero bytes.
 const ZEROS_48: &str = "000000000000000000000000000000000000000000000000000000000000000000000000\

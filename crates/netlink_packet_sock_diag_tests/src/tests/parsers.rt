@@ -1,9 +1,8 @@
 //! The parsers and serializers of a type. All parsers of a type return equal results, and all
 //! serializers write the same bytes.
 
-use netlink_core::{
-    CanonError, DecodeError, Emitable, Parseable, ParseableParametrized, Wire, canonical,
-};
+use super::emitted;
+use netlink_core::{CanonError, DecodeError, Parseable, ParseableParametrized, Wire, canonical};
 use netlink_packet_sock_diag::inet::{InetRequest, InetResponse, InetResponseView};
 use netlink_packet_sock_diag::unix::{UnixRequest, UnixResponse, UnixResponseView};
 use netlink_packet_sock_diag::{SockDiagMessage, SockDiagView};
@@ -126,21 +125,6 @@ fn owned_form<T: Parsers>(
         Ok(value) => value.owned_form(alloc),
         Err(error) => Err(CanonError::from(*error)),
     }
-}
-
-/// Serializes the value to the start of a buffer of two more bytes. Returns the bytes of the value,
-/// or the whole buffer if one of the two bytes has changed.
-fn emitted<T: Emitable>(alloc: Global, value: &T) -> Result<Vec<u8>, CanonError> {
-    let Some(len) = value.writable_len() else {
-        return Err(CanonError::Unwritable);
-    };
-    let mut buffer = vec![in alloc; 0xff; len]?;
-    buffer.extend_from_slice(&[0xff, 0xff])?;
-    value.emit(&mut buffer);
-    if buffer.ends_with(&[0xff, 0xff]) {
-        buffer.truncate(len);
-    }
-    Ok(buffer)
 }
 
 /// Calls all parsers and serializers. The report compares the value also with the one of the

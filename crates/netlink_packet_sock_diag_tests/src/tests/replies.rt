@@ -4,6 +4,7 @@
 use super::parsers::{Subject, parse_all};
 use super::{
     ABSTRACT, CONNECTED, INET, LISTENING, PATH, PEER, SHUTDOWN, bytes, cells, has_part, shows,
+    shows_lines, shows_part,
 };
 use netlink_core::{NetlinkDeserializable, NetlinkMessage, Parseable, ParseableParametrized};
 use netlink_packet_sock_diag::unix::{UnixResponse, UnixResponseView};
@@ -201,13 +202,6 @@ fn getters(rt: HostRuntime) {
     gets(&rt, alloc, PATH, (details, numbers));
 }
 
-/// Asserts that `Debug` prints the text for the value in the alternate form, with a line for each
-/// field.
-fn shows_lines<T: Debug>(rt: &impl Abort, alloc: Global, value: &T, text: &str) {
-    let shown = format!(in alloc; "{value:#?}").expect(rt, "memory");
-    assert!(rt; shown.as_str() == text, "{shown}");
-}
-
 /// What `Debug` prints for a reply in the alternate form.
 const REPLY_LINES: &str = "UnixResponse {
     header: UnixResponseHeader {
@@ -314,7 +308,7 @@ fn check_messages<I: NetlinkDeserializable + Debug + Drop>(
     for row in rows.lines() {
         let (message, part) = cells(rt, alloc, "", row);
         let read = NetlinkMessage::<I>::deserialize(alloc, &message);
-        shows(rt, alloc, &read, part);
+        shows_part(rt, alloc, &read, part);
     }
 }
 

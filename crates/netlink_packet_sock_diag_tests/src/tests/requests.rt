@@ -62,8 +62,8 @@ fn a_unix_request(rt: HostRuntime) {
         show_flags: ShowFlags::PEER,
         cookie: [255; 8],
     });
-    let text = "UnixRequest(UnixRequest { state_flags: StateFlags(1024), inode: 4660, show_flags: \
-        ShowFlags(4), cookie: [255, 255, 255, 255, 255, 255, 255, 255] })";
+    let text = "Ok(UnixRequest(UnixRequest { state_flags: StateFlags(1024), inode: 4660, \
+        show_flags: ShowFlags(4), cookie: [255, 255, 255, 255, 255, 255, 255, 255] }))";
     shows(&rt, alloc, &request.clone(alloc), text);
     let wanted = "2800000014000103000000000000000001000000000400003412000004000000ffffffffffffffff";
     sends(&rt, alloc, request, &[wanted]);
@@ -80,10 +80,10 @@ fn an_inet_request_and_one_to_close(rt: HostRuntime) {
         socket_id: SocketId::new_v4(),
     });
     let destroy = SockDiagDestroy::new(request.clone(alloc).expect(&rt, "memory"));
-    let text = "SockDiagDestroy(InetRequest(InetRequest { family: 2, protocol: 6, extensions: \
-        ExtensionFlags(0), states: StateFlags(4094), socket_id: SocketId { source_port: 0, \
-        destination_port: 0, source_address: 0.0.0.0, destination_address: 0.0.0.0, \
-        interface_id: 0, cookie: [0, 0, 0, 0, 0, 0, 0, 0] } }))";
+    let text = "Ok(SockDiagDestroy(InetRequest(InetRequest { family: 2, protocol: 6, \
+        extensions: ExtensionFlags(0), states: StateFlags(4094), socket_id: SocketId { \
+        source_port: 0, destination_port: 0, source_address: 0.0.0.0, \
+        destination_address: 0.0.0.0, interface_id: 0, cookie: [0, 0, 0, 0, 0, 0, 0, 0] } })))";
     shows(&rt, alloc, &destroy.clone(alloc), text);
     let front = "4800000014000103000000000000000002060000fe0f0000";
     sends(&rt, alloc, request, &[front, ZEROS, ZEROS, ZEROS]);

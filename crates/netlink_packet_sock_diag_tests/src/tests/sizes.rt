@@ -1,5 +1,6 @@
 //! Lists, payloads and dumps of each size: no allocation fails if there is memory. Long attributes.
 
+use super::attribute_sizes::SIZES;
 use super::parsers::{Subject, parse_all};
 use super::{CONNECTED, INET, LISTENING, bytes, message_code, shows};
 use netlink_core::{CanonError, NetlinkMessage, NetlinkPayload};
@@ -11,12 +12,6 @@ use std::process::Abort;
 
 /// Numbers of attributes and of messages above 300. Tests also have each number up to 300.
 const COUNTS: [usize; 7] = [512, 1_000, 1_024, 2_048, 4_096, 8_192, 10_000];
-
-/// Sizes of payloads above 300, up to a million. Tests also have each size up to 300.
-const SIZES: [usize; 15] = [
-    512, 1_000, 1_024, 2_048, 4_096, 8_192, 10_000, 16_384, 32_768, 65_536, 100_000, 131_072,
-    262_144, 524_288, 1_000_000,
-];
 
 /// Asserts that all parsers accept the bytes, and that the bytes have a canonical form.
 fn accepts(rt: &impl Abort, alloc: Global, subject: Subject, bytes: &[u8]) {

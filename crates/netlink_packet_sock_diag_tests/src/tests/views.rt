@@ -1,7 +1,7 @@
 //! Borrowed replies, the messages of a datagram, and the states of dumps.
 
 use super::sizes::keeps;
-use super::{INET, PATH, SHUTDOWN, bytes, gives, same, shows};
+use super::{INET, PATH, SHUTDOWN, bytes, gives, same, shows, shows_part};
 use netlink_core::{DecodeError, Emitable, write_new};
 use netlink_packet_sock_diag::inet::InetResponseView;
 use netlink_packet_sock_diag::unix::UnixResponseView;
@@ -21,7 +21,7 @@ fn writes<T: Emitable>(rt: &impl Abort, alloc: Global, value: &T, parts: &[&str]
 /// the message serializes to these bytes.
 fn message_writes(rt: &impl Abort, alloc: Global, reply: &[u8], part: &str, parts: &[&str]) {
     let message = SockDiagView::parse(reply, 20).expect(rt, "refused");
-    shows(rt, alloc, &message, part);
+    shows_part(rt, alloc, &message, part);
     writes(rt, alloc, &message, parts);
 }
 
@@ -61,8 +61,9 @@ fn attributes_are_checked_as_they_are_given(rt: HostRuntime) {
     let alloc = rt.alloc();
     let reply = bytes(&rt, alloc, &[PATH, "0500020001000000", SHUTDOWN]);
     let (header, nlas) = UnixResponseView::walk(&reply).expect(&rt, "refused");
-    shows(&rt, alloc, &header, "state: 10");
-    let answers = "Ok(ReceiveQueueLength(0, 128)), Ok(Shutdown(0)), \
+    shows_part(&rt, alloc, &header, "state: 10");
+    let answers = "[Ok(Name(Pathname([47, 116, 109, 112, 47, 46, 73, 67, 69, 45, 117, 110, 105, \
+        120, 47, 49, 49, 53, 49]))), Ok(ReceiveQueueLength(0, 128)), Ok(Shutdown(0)), \
         Err(WrongLength { kind: Some(2), got: 1, need: 4 })]";
     gives(&rt, alloc, nlas, answers);
 }
@@ -73,7 +74,8 @@ fn inet_attributes_are_checked_as_they_are_given(rt: HostRuntime) {
     let parts = [INET, "0a0004006375626963000000", SHUTDOWN, "0300"];
     let reply = bytes(&rt, alloc, &parts);
     let (_, nlas) = InetResponseView::walk(&reply).expect(&rt, "refused");
-    let answers = "cubic\")), Ok(Shutdown(0)), Err(AttributeHeaderCut { left: 2 })]";
+    let answers = "[Ok(Congestion(\"cubic\")), Ok(Shutdown(0)), \
+        Err(AttributeHeaderCut { left: 2 })]";
     gives(&rt, alloc, nlas, answers);
 }
 
@@ -159,8 +161,8 @@ fn fed(rt: &impl Abort, alloc: Global, datagrams: &str) -> Told {
 #[test]
 fn dumps_are_read(rt: HostRuntime) {
     for row in DUMPS.lines() {
-        let (datagrams, part) = row.split_once(": ").expect(&rt, "no part");
-        shows(&rt, rt.alloc(), &fed(&rt, rt.alloc(), datagrams), part);
+        let (datagrams, text) = row.split_once(": ").expect(&rt, "no text");
+        shows(&rt, rt.alloc(), &fed(&rt, rt.alloc(), datagrams), text);
     }
 }
 
@@ -200,8 +202,8 @@ fn lossy_reported(rt: &impl Abort, alloc: Global, dump: &LossyDump) -> String {
     format!(in alloc; "{reported:?}").expect(rt, "memory")
 }
 
-/// Feeds the datagrams to a `LossyDump`, and asserts that its report contains the text.
-fn lossy(rt: &impl Abort, alloc: Global, datagrams: &str, part: &str) {
+/// Feeds the datagrams to a `LossyDump`, and asserts that `Debug` prints its report as this text.
+fn lossy(rt: &impl Abort, alloc: Global, datagrams: &str, text: &str) {
     let mut dump = LossyDump::new(alloc);
     let mut answer = Ok(());
     for names in datagrams.split(' ') {
@@ -215,15 +217,15 @@ fn lossy(rt: &impl Abort, alloc: Global, datagrams: &str, part: &str) {
         rt,
         alloc,
         &(answer, state, number, faults(rt, alloc, dump)),
-        part,
+        text,
     );
 }
 
 #[test]
 fn lossy_dumps_continue_after_invalid_replies(rt: HostRuntime) {
     for row in LOSSY_DUMPS.lines() {
-        let (datagrams, part) = row.split_once(": ").expect(&rt, "no part");
-        lossy(&rt, rt.alloc(), datagrams, part);
+        let (datagrams, text) = row.split_once(": ").expect(&rt, "no text");
+        lossy(&rt, rt.alloc(), datagrams, text);
     }
 }
 
@@ -260,9 +262,9 @@ odd+reply: [Ok(InnerMessage(UnixResponse(UnixResponseView { bytes: [1, 1, 10, 0,
 #[test]
 fn datagrams_are_walked(rt: HostRuntime) {
     for row in WALKS.lines() {
-        let (names, parts) = row.split_once(": ").expect(&rt, "no part");
+        let (names, text) = row.split_once(": ").expect(&rt, "no text");
         let bytes = datagram(&rt, rt.alloc(), names);
         let views = DumpViews::new(&bytes).clone().expect(&rt, "memory");
-        gives(&rt, rt.alloc(), views, parts);
+        gives(&rt, rt.alloc(), views, text);
     }
 }

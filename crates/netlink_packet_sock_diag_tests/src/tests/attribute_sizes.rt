@@ -1,4 +1,4 @@
-//! Tests that parsers, copies and serializers succeed for inputs of each size, if there is memory.
+//! Names and attributes of each size: no allocation fails if there is memory.
 
 use super::attributes::{Subject, examine};
 use super::shows;
@@ -23,11 +23,11 @@ pub(super) fn attribute(
 /// Asserts that a value is parsed, copied from its view, printed, and serialized.
 fn has_room(rt: &impl Abort, alloc: Global, subject: Subject, bytes: &[u8]) {
     let report = examine(rt, alloc, subject, bytes).expect(rt, "refused");
-    assert!(rt; report.written.is_some() && report.form.is_ok());
+    assert!(rt; report.written.is_ok() && report.form.is_ok());
 }
 
 /// Sizes from 512 to 1,000,000. Tests of sizes also have each size up to 300.
-pub(super) const LARGE: [usize; 17] = [
+pub(super) const SIZES: [usize; 17] = [
     512, 1_000, 1_024, 2_048, 4_096, 8_192, 10_000, 16_384, 32_768, 65_531, 65_532, 65_536,
     100_000, 131_072, 262_144, 524_288, 1_000_000,
 ];
@@ -51,7 +51,7 @@ fn names(rt: HostRuntime) {
     for size in 0..301 {
         names_of_size(&rt, rt.alloc(), size);
     }
-    for &size in &LARGE {
+    for &size in &SIZES {
         names_of_size(&rt, rt.alloc(), size);
     }
 }

@@ -2,7 +2,7 @@
 //! are derived by hand from sock_diag(7) and `linux/inet_diag.h`, except for the bytes that Linux
 //! sent, as noted below.
 
-use super::{debug_text, gives, is_text, shows};
+use super::shows;
 use netlink_core::{DecodeError, FamilyView, NlaBuffer, NlasIterator};
 use sock_diag_extras::{
     AckAttributes, AckView, AttributeRecord, AttributeRecords, BbrInfo, BpfStorage, DctcpInfo,
@@ -51,17 +51,8 @@ fn record<T: AttributeRecord + Debug + Drop>(
     let parsed = read_attribute_record::<T>(bytes).expect(rt, "too short");
     let mut back = vec![in alloc; 1; bytes.len()].expect(rt, "memory");
     write_attribute_record(&parsed, &mut back);
-    and_same(
-        rt,
-        alloc,
-        &debug_text(rt, alloc, &parsed),
-        back.as_slice() == bytes,
-    )
-}
-
-/// Returns the text, followed by whether the bytes are the same.
-fn and_same(rt: &impl Abort, alloc: Global, text: &str, is_same: bool) -> String {
-    format!(in alloc; "{text} {is_same}").expect(rt, "memory")
+    let is_same = back.as_slice() == bytes;
+    format!(in alloc; "{parsed:?} {is_same}").expect(rt, "memory")
 }
 
 /// Returns the port, the IP address and the scope of a stored address. Its bytes are `front`,
@@ -423,9 +414,12 @@ fn acknowledgements_and_items_have_texts(rt: HostRuntime) {
     shows(&rt, alloc, &ack, text);
     let bytes = reply(&rt, alloc, 1, 16, &[5, 0, 2, 128, 7, 0, 0, 0, 0, 0]);
     let reply = LenientUnixReply::parse(&bytes).expect(&rt, "refused");
-    let text = "[Err(Attribute(NlaBuffer { type_word: 32770, value: [7] }, WrongLength { kind: \
-        Some(2), got: 1, need: 4 })), Err(Framing(AttributeHeaderCut { left: 2 }))]";
-    gives(&rt, alloc, reply.attributes(), text);
+    let mut attributes = reply.attributes();
+    let three = [attributes.next(), attributes.next(), attributes.next()];
+    let text = "[Some(Err(Attribute(NlaBuffer { type_word: 32770, value: [7] }, WrongLength { \
+        kind: Some(2), got: 1, need: 4 }))), Some(Err(Framing(AttributeHeaderCut { left: 2 }))), \
+        None]";
+    shows(&rt, alloc, &three, text);
 }
 
 /// All fields of `struct tcp_info`, in order.

@@ -2,6 +2,7 @@
 //! 6.18 sent the bytes of the netlink and packet replies. The bytes of the vsock and XDP replies
 //! and of the requests are derived by hand from the kernel's headers.
 
+use super::shows;
 use netlink_core::{DecodeError, Emitable, write_new};
 use sock_diag_any::AnySockDiagView;
 use sock_diag_any::laws::{equal_raw_headers, equal_raw_reply_views};
@@ -12,7 +13,6 @@ use sock_diag_any::xdp::{self, XdpResponseView};
 use sock_diag_families::netlink::NetlinkRequest;
 use sock_diag_families::vsock::VsockRequest;
 use std::alloc::Global;
-use std::fmt::Debug;
 use std::process::Abort;
 
 /// A reply about a `NETLINK_ROUTE` socket that is a member of the multicast groups 1 and 5.
@@ -56,28 +56,7 @@ fn decoded(rt: &impl Abort, alloc: Global, row: &str) -> Vec<u8> {
 /// Asserts that the value serializes to the bytes in hexadecimal.
 fn writes<T: Emitable>(rt: &impl Abort, alloc: Global, value: &T, row: &str) {
     let written = write_new(alloc, value).expect(rt, "unwritable");
-    same(rt, &written, &decoded(rt, alloc, row));
-}
-
-/// Asserts that the bytes are equal.
-fn same(rt: &impl Abort, bytes: &[u8], wanted: &[u8]) {
-    assert!(rt; bytes == wanted, "{bytes:?}");
-}
-
-/// Asserts that the `Debug` output of the value contains the text.
-fn shows<T: Debug>(rt: &impl Abort, alloc: Global, value: &T, part: &str) {
-    let shown = format!(in alloc; "{value:?}").expect(rt, "memory");
-    has_part(rt, shown.as_str(), part);
-}
-
-/// Asserts that `part` occurs in the text.
-fn has_part(rt: &impl Abort, text: &str, part: &str) {
-    assert!(rt; text.contains(part), "{text}");
-}
-
-/// Asserts that two texts are equal.
-fn is_text(rt: &impl Abort, shown: &str, text: &str) {
-    assert!(rt; shown == text, "{shown}");
+    assert!(rt; written == decoded(rt, alloc, row), "{written:?}");
 }
 
 /// Asserts the `Debug` output of a reply after `more` copies of [`OTHER`] are appended to it: the
@@ -100,8 +79,7 @@ fn shows_reply(
 /// Asserts the `Debug` output of the reply in the bytes.
 fn is_shown(rt: &impl Abort, alloc: Global, bytes: &[u8], text: &str) {
     let reply = AnySockDiagView::parse(bytes, 20).expect(rt, "refused");
-    let shown = format!(in alloc; "{reply:?}").expect(rt, "memory");
-    is_text(rt, shown.as_str(), text);
+    shows(rt, alloc, &reply, text);
 }
 
 /// Returns the number of packets dropped at the netlink socket that a reply describes.
@@ -139,11 +117,11 @@ fn packet_socket_that_linux_sent(rt: HostRuntime) {
     let text = "RawHeader(PacketResponseHeader { kind: 3, protocol: 2048, inode: 87040, \
         cookie: 4099 })";
     shows(&rt, alloc, &reply.header(), text);
-    let text = "Some(PacketInfo { interface: 1, version: 0, reserve: 0, copy_threshold: 0, \
-        timestamp: 0, flags: 1 })";
+    let text = "Ok(Some(PacketInfo { interface: 1, version: 0, reserve: 0, copy_threshold: 0, \
+        timestamp: 0, flags: 1 }))";
     shows(&rt, alloc, &packet::info(&reply), text);
-    let text = "Some(PacketRing { block_size: 4096, blocks: 2, frame_size: 2048, frames: 4, \
-        retire_timeout: 0, private_size: 0, features: 0 })";
+    let text = "Ok(Some(PacketRing { block_size: 4096, blocks: 2, frame_size: 2048, frames: 4, \
+        retire_timeout: 0, private_size: 0, features: 0 }))";
     shows(&rt, alloc, &packet::receive_ring(&reply), text);
     let fanout = packet::fanout(&reply).expect(&rt, "refused");
     let text = "(Some(7), Some([6, 0, 0, 0, 255, 255, 0, 0]))";
@@ -168,13 +146,13 @@ fn fields_of_an_xdp_socket(rt: HostRuntime) {
     let reply = XdpResponseView::parse(&bytes).expect(&rt, "refused");
     let text = "RawHeader(XdpResponseHeader { kind: 3, inode: 11, cookie: 6 })";
     shows(&rt, alloc, &reply.header(), text);
-    let text = "Some(XdpUmem { size: 4194304, id: 2, pages: 1024, chunk_size: 4096, headroom: 0, \
-        interface: 3, queue: 1, flags: 1, references: 1 })";
+    let text = "Ok(Some(XdpUmem { size: 4194304, id: 2, pages: 1024, chunk_size: 4096, \
+        headroom: 0, interface: 3, queue: 1, flags: 1, references: 1 }))";
     shows(&rt, alloc, &xdp::shared_memory(&reply), text);
-    let text = "Some(XdpInfo { interface: 3, queue: 1 })";
+    let text = "Ok(Some(XdpInfo { interface: 3, queue: 1 }))";
     shows(&rt, alloc, &xdp::info(&reply), text);
-    let text = "Some(XdpStatistics { received_dropped: 1, received_invalid: 2, received_full: 3, \
-        fill_ring_empty: 4, sent_invalid: 5, send_ring_empty: 6 })";
+    let text = "Ok(Some(XdpStatistics { received_dropped: 1, received_invalid: 2, \
+        received_full: 3, fill_ring_empty: 4, sent_invalid: 5, send_ring_empty: 6 }))";
     shows(&rt, alloc, &xdp::statistics(&reply), text);
 }
 

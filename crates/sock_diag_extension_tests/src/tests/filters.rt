@@ -1,7 +1,7 @@
 //! Tests of programs against those that ss(8) sends, of requests, and of `Debug` outputs.
 
 use super::{is_text, shows};
-use netlink_core::{Emitable, RecordName};
+use netlink_core::Emitable;
 use sock_diag_filters::uses::listening_on;
 use sock_diag_filters::{
     AnyRequestView, AssembleError, Comparison, Condition, Filter, Host, Prefix, RequestAttribute,
@@ -97,8 +97,7 @@ fn requests_are_written(rt: HostRuntime) {
     assert!(rt; request.is_writable());
     let mut bytes = vec![in alloc; 0; request.buffer_len()].expect(&rt, "memory");
     request.emit(&mut bytes);
-    let digits = hex::encode(alloc, bytes).expect(&rt, "memory");
-    assert!(rt; digits.as_str() == ASKED);
+    is_hex(&rt, alloc, &bytes, ASKED);
 }
 
 /// Requests derived by hand from the kernel's headers, each with its `Debug` output: to close the
@@ -159,12 +158,6 @@ fn requests_are_read(rt: HostRuntime) {
     is_shown(&rt, rt.alloc(), asked.as_str());
 }
 
-/// Asserts that `Display` prints the name of a record as this text.
-fn is_named(rt: &impl Abort, alloc: Global, name: RecordName, text: &str) {
-    let shown = format!(in alloc; "{name}").expect(rt, "memory");
-    is_text(rt, shown.as_str(), text);
-}
-
 /// Asserts that `Debug` and `Display` print the error of `assemble` as these texts.
 fn fails(rt: &impl Abort, alloc: Global, error: AssembleError, name: &str, text: &str) {
     shows(rt, alloc, &error, name);
@@ -172,19 +165,10 @@ fn fails(rt: &impl Abort, alloc: Global, error: AssembleError, name: &str, text:
     is_text(rt, shown.as_str(), text);
 }
 
-/// Checks the names of records of other families, and the texts of errors of `assemble`.
+/// Checks the texts of errors of `assemble`.
 #[test]
-fn names_and_errors_have_texts(rt: HostRuntime) {
+fn errors_have_texts(rt: HostRuntime) {
     let alloc = rt.alloc();
-    let name = RecordName::FamilyRequest { family: 16 };
-    is_named(&rt, alloc, name, "FamilyRequest { family: 16 }");
-    let name = RecordName::FamilyResponseHeader { family: 44 };
-    is_named(&rt, alloc, name, "FamilyResponseHeader { family: 44 }");
-    let name = RecordName::FamilyAttribute {
-        family: 17,
-        kind: 2,
-    };
-    is_named(&rt, alloc, name, "FamilyAttribute { family: 17, kind: 2 }");
     let text = "a filter of more than 65531 bytes";
     fails(&rt, alloc, AssembleError::TooLong, "TooLong", text);
     fails(&rt, alloc, AssembleError::Memory, "Memory", "out of memory");

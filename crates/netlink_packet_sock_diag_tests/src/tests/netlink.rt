@@ -1,4 +1,6 @@
-use super::sizes::LARGE;
+//! Tests of `netlink_core`.
+
+use super::attribute_sizes::SIZES;
 use super::{gives, is_text, same, shows, writes};
 use netlink_core::{
     CanonError, DecodeError, DefaultNla, Emitable, MessageStrings, Nla, NlaBuffer, NlasIterator,
@@ -159,8 +161,8 @@ fn record_names_have_texts(rt: HostRuntime) {
     }
 }
 
-/// The record names of the port, and their texts.
-const RECORDS: [(RecordName, &str); 10] = [
+/// Names of the records of the port and of other families, and their texts.
+const RECORDS: [(RecordName, &str); 13] = [
     (RecordName::SocketId, "SocketId"),
     (RecordName::InetRequest, "InetRequest"),
     (RecordName::InetResponseHeader, "InetResponseHeader"),
@@ -171,6 +173,21 @@ const RECORDS: [(RecordName, &str); 10] = [
     (RecordName::TcpInfo, "TcpInfo"),
     (RecordName::Vfs, "Vfs"),
     (RecordName::UnixMemInfo, "UnixMemInfo"),
+    (
+        RecordName::FamilyRequest { family: 16 },
+        "FamilyRequest { family: 16 }",
+    ),
+    (
+        RecordName::FamilyResponseHeader { family: 44 },
+        "FamilyResponseHeader { family: 44 }",
+    ),
+    (
+        RecordName::FamilyAttribute {
+            family: 17,
+            kind: 2,
+        },
+        "FamilyAttribute { family: 17, kind: 2 }",
+    ),
 ];
 
 // Asserts that there is memory for `size` bytes: to parse a text, to copy a list, and to clone an
@@ -195,7 +212,7 @@ fn sizes(rt: HostRuntime) {
     for size in 0..301 {
         has_room(&rt, rt.alloc(), size);
     }
-    for &size in &LARGE {
+    for &size in &SIZES {
         has_room(&rt, rt.alloc(), size);
     }
 }

@@ -1,7 +1,8 @@
 //! Tests of names and attributes. The bytes are worked out by hand from the layouts of
 //! sock_diag(7).
 
-use super::{debug_text, emitted, is_text, same, shows, sizes, writes};
+use super::attribute_sizes::attribute;
+use super::{debug_text, emitted, is_text, same, shows, writes};
 use netlink_core::{
     CanonError, DecodeError, DefaultNla, Emitable, NlaBuffer, Parseable, Wire, canonical,
 };
@@ -29,8 +30,8 @@ pub(super) struct Report {
     /// What `Debug` prints for the view, and for a clone of its owned copy.
     pub(super) view: String,
     pub(super) copy: String,
-    /// Bytes that the owned value serializes to, or `None` if it is not writable.
-    pub(super) written: Option<Vec<u8>>,
+    /// Bytes of the owned value.
+    pub(super) written: Result<Vec<u8>, CanonError>,
     /// Canonical form of the bytes.
     pub(super) form: Result<Vec<u8>, CanonError>,
 }
@@ -127,7 +128,7 @@ fn examine_as<T: Viewed>(
         owned: short_text(rt, alloc, &value, bytes),
         view,
         copy: short_text(rt, alloc, &copy, bytes),
-        written: emitted(rt, alloc, &value),
+        written: emitted(alloc, &value),
         form: T::form(alloc, bytes),
     })
 }
@@ -171,7 +172,7 @@ fn told(
     is_text(rt, report.copy.as_str(), owned);
     is_text(rt, report.view.as_str(), viewed);
     match (&report.written, &report.form) {
-        (Some(bytes), Ok(form)) => {
+        (Ok(bytes), Ok(form)) => {
             same(rt, bytes, written);
             same(rt, form, written);
         }
@@ -257,7 +258,7 @@ fn names_and_attributes(rt: HostRuntime) {
 #[test]
 fn information_on_a_connection(rt: HostRuntime) {
     let alloc = rt.alloc();
-    let bytes = sizes::attribute(alloc, 236, 2, 7).expect(&rt, "memory");
+    let bytes = attribute(alloc, 236, 2, 7).expect(&rt, "memory");
     let info = TcpInfo::parse(bytes.get(4..).expect(&rt, "short")).expect(&rt, "refused");
     let text = format!(in alloc; "TcpInfo({info:?})").expect(&rt, "memory");
     let subject = Subject::InetAttribute;

@@ -1,3 +1,5 @@
+//! Tests of the records of `sock_diag_values` and `sock_diag_records`.
+
 use super::{same, shows, shows_lines, writes};
 use bitflags::Flags;
 use netlink_core::{

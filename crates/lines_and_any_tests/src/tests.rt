@@ -1,2 +1,0 @@
-mod any;
-mod lines;
