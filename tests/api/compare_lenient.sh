@@ -1,9 +1,9 @@
 #!/bin/sh
-# compare_lenient.sh [COUNT [SEED]]: compares what the lenient calls of the C library return, and
-# the errors with their fields, with what lenient_reader.py reads from the same replies: COUNT
-# replies that it makes (100000 by default), and every prefix of each stored reply. Then compares
-# rust/sockdiag with the reader, if cargo is installed. Prints a line for each comparison, or the
-# first lines that differ.
+# compare_lenient.sh [COUNT [SEED]]: compares the details that the strict and the lenient calls of
+# the C library return, and the errors with their fields, with what lenient_reader.py reads from the
+# same replies: COUNT replies that it makes (100000 by default), and every prefix of each stored
+# reply. Then compares rust/sockdiag with the reader, if cargo is installed. Prints a line for each
+# comparison, or the first lines that differ. c_api.sh runs it.
 #
 # The library is libsockdiag.a or libsockdiag_c.a of the folder SOCKDIAG_LIB_DIR, or the one that
 # crates/sockdiag_c has built. CFLAGS are flags for the compiler, -fsanitize=address,undefined by

@@ -1,8 +1,8 @@
 #!/bin/sh
-# Tests rust/sockdiag with the C library, offline, and also under valgrind if it is installed. Then
-# lists the sockets of this machine by its example. Builds the C library first if it is older than a
-# source. Compares the crate with the program sockdiag if it is built. Needs cargo. The gate and
-# tools/release run this script.
+# Tests rust/sockdiag with the C library, offline, and calls with changed bytes also under valgrind,
+# if it is installed. Builds the C library first if it is older than a source. Compares the crate
+# with the program sockdiag if it is built. Then runs kernels.py with its example, and lists the
+# sockets of this machine. Needs cargo. The gate and tools/release run this script.
 set -eu
 top=$(CDPATH='' cd -- "$(dirname -- "$0")/../.." && pwd)
 work=$(mktemp -d)
