@@ -1,7 +1,7 @@
 /*
  * fuzz_c COUNT CAPTURE [SEED]: calls the functions of include/sockdiag.h COUNT times with changed
- * copies of the messages in a capture of netlink, such as crates/sslist/stdin. The lenient calls are
- * tried by compare_lenient.sh.
+ * copies of the messages in a capture of netlink, such as crates/sslist/stdin. compare_lenient.sh
+ * tries the lenient calls.
  *
  * Each input, buffer and struct is next to a page that cannot be accessed, at its start or at its
  * end, so the program stops if the library accesses bytes outside of them. What the calls return is
