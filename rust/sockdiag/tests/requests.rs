@@ -100,6 +100,17 @@ fn writes_requests_for_internet_sockets() {
 }
 
 #[test]
+fn pads_addresses_of_another_version() {
+    // In a request for IPv6 sockets, an IPv4 address is followed by zeros.
+    let mut request = inet_request(AF_INET6, 6);
+    request.socket_id.source_address = inet_request(AF_INET, 6).socket_id.source_address;
+    let mut record = inet_record(AF_INET6, 6);
+    record[12..16].copy_from_slice(&inet_record(AF_INET, 6)[12..16]);
+    record[16..28].fill(0);
+    assert_eq!(request.to_message(&HEADER)[16..], record);
+}
+
+#[test]
 fn writes_no_request_for_another_family() {
     let request = inet_request(1, 6);
     assert!(request.to_message(&HEADER).is_empty());
