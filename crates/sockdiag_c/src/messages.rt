@@ -1,4 +1,5 @@
-//! What a program asks about a message before it reads the payload.
+//! Tests of the header of a message: whether the message answers a request, ends the answer, or
+//! reports that the dump was interrupted.
 
 ghost use Rattle.std.specs.Prelude.{◌≡◌, ◌≢◌, ◌⊎◌, bit_and};
 ghost use Rattle.sockdiag_c.specs.Answers.{IsOneIf};
