@@ -199,6 +199,24 @@ fn rejects_only_headers() {
     }
 }
 
+#[test]
+fn looks_for_attributes_after_the_header() {
+    for family in FAMILIES {
+        // No part of the header is an attribute.
+        let mut bytes = vec![0xff; family.header_length];
+        attribute(&mut bytes, 99, &[1]);
+        let end = [5, 0, 1, 0];
+        bytes.extend(end);
+        let (_, is_accepted, rejected) = (family.lenient)(&bytes).unwrap();
+        let framing = RejectedAttribute {
+            error: DecodeError::AttributeLengthPast { length: 5, left: 4 },
+            kind: None,
+            value: &end[..],
+        };
+        assert!(!is_accepted && rejected.eq([framing]));
+    }
+}
+
 /// Returns the bytes of a reply without its rejected attributes.
 fn without_rejected(bytes: &[u8], header: usize, rejected: &[RejectedAttribute<'_>]) -> Vec<u8> {
     let mut rest = bytes[..header].to_vec();
