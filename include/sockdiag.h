@@ -651,10 +651,11 @@ struct sockdiag_inet_details {
 /*
  * Checks a whole reply about a UNIX socket, as sockdiag_check_unix_reply does, and returns its
  * contents, in one pass over the attributes. The bytes are the payload of the netlink message.
- * Returns 0, and sets all fields; or the code of the first error, and then the details are
- * unchanged. The previous contents of the details are not read. If the reply has several attributes
- * of a kind, the first one counts. Texts point into the payload, and are valid as long as it is.
- * The family, the first byte, is not checked: use it to choose the call.
+ * Returns 0, and sets all fields: a number that the reply does not contain is all 0. Or returns the
+ * code of the first error, in the order of the bytes, and then the details are unchanged. The
+ * previous contents of the details are not read. Each attribute is checked, and of several
+ * attributes of a kind the first one counts. Texts point into the payload, and are valid as long as
+ * it is. The family, the first byte, is not checked: use it to choose the call.
  *
  * Attributes without a field, such as UNIX_DIAG_UID, are not an error: sockdiag_next_attribute
  * returns them. Old kernels send values that are rejected: sockdiag_unix_get_lenient_details
@@ -667,10 +668,11 @@ uint32_t sockdiag_unix_get_details(const uint8_t *payload, size_t length,
  * Checks a whole reply about an IPv4 or IPv6 socket, as sockdiag_check_inet_reply does, and returns
  * its header and the attributes that are a text or a number, in one pass over the attributes.
  * Memory and struct tcp_info are checked, and not returned. The bytes are the payload of the
- * netlink message. Returns 0, and sets all fields; or the code of the first error, and then the
- * details are unchanged. The previous contents of the details are not read. If the reply has
- * several attributes of a kind, the first one counts. Texts point into the payload, and are valid
- * as long as it is.
+ * netlink message. Returns 0, and sets all fields: a number that the reply does not contain is all
+ * 0. Or returns the code of the first error, in the order of the bytes, and then the details are
+ * unchanged. The previous contents of the details are not read. Each attribute is checked, and of
+ * several attributes of a kind the first one counts. Texts point into the payload, and are valid as
+ * long as it is.
  *
  * Attributes without a field, such as INET_DIAG_MD5SIG and others that are arrays or nested, are
  * not an error: sockdiag_next_attribute returns them. A reply with a short INET_DIAG_INFO is
@@ -1079,12 +1081,9 @@ size_t sockdiag_inet_get_memory(const uint8_t *payload, size_t length,
  * - XDP sockets: 1 to 9, from XDP_DIAG_INFO to XDP_DIAG_STATS of linux/xdp_diag.h.
  */
 struct sockdiag_rejections {
-    uint32_t first;     /* Code of the first error, in the order of the attributes. If it is 0,
-                           the strict call for this reply, a sockdiag_.._get_details, accepts it.
-                           Otherwise sockdiag_unix_get_details and sockdiag_inet_get_details
-                           return the same code. The strict calls for other families may then
-                           return another code, or 0, since they check the framing before values,
-                           and only the first attribute of each kind. */
+    uint32_t first;     /* Code of the first error, in the order of the bytes: the strict call
+                           for this reply, a sockdiag_.._get_details, returns the same code. If
+                           it is 0, both calls return the same details. */
     uint32_t framing;   /* Code of the framing error after the last attribute, 7 to 9. What
                            follows is not parsed. */
     uint8_t errors[32]; /* Codes of the errors of attributes. The index is the kind, below
@@ -1140,10 +1139,9 @@ uint32_t sockdiag_inet_get_lenient_details(const uint8_t *payload, size_t length
  * it.
  *
  * sockdiag_netlink_get_details and its siblings are strict: one attribute that is rejected hides
- * its socket. They check the framing of all attributes first, with errors 7 to 9, and then values
- * in the order of their kinds. To list every socket use the lenient calls,
- * sockdiag_netlink_get_lenient_details and so on: an attribute that is rejected hides only itself,
- * and struct sockdiag_rejections has its error.
+ * its socket. To list every socket use the lenient calls, sockdiag_netlink_get_lenient_details and
+ * so on: an attribute that is rejected hides only itself, and struct sockdiag_rejections has its
+ * error.
  */
 
 /* Offsets of the attributes, which are the lengths of the headers. */
@@ -1388,11 +1386,12 @@ struct sockdiag_xdp_details {
 };
 
 /*
- * Checks a whole reply about a netlink socket, and returns its contents. The bytes are the payload
- * of the netlink message. Returns 0, and sets all fields; or the code of the first error, and then
- * the details are unchanged. If the reply has several attributes of a kind, the first one counts.
- * The framing of all attributes is checked before their values, and values are checked in the order
- * of their kinds. Texts point into the payload, and are valid as long as it is.
+ * Checks a whole reply about a netlink socket, and returns its contents, in one pass over the
+ * attributes. The bytes are the payload of the netlink message. Returns 0, and sets all fields: a
+ * number or a record that the reply does not contain is all 0. Or returns the code of the first
+ * error, in the order of the bytes, and then the details are unchanged. The previous contents of
+ * the details are not read. Each attribute is checked, and of several attributes of a kind the
+ * first one counts. Texts point into the payload, and are valid as long as it is.
  *
  * One rejected attribute hides the others: sockdiag_netlink_get_lenient_details returns them.
  */
@@ -1400,12 +1399,12 @@ uint32_t sockdiag_netlink_get_details(const uint8_t *payload, size_t length,
                                       struct sockdiag_netlink_details *details);
 
 /*
- * Checks a whole reply about a packet socket, and returns its contents. The bytes are the payload
- * of the netlink message. Returns 0, or the code of the first error; then the details are
- * unchanged. If the reply has several attributes of a kind, the first one counts. The framing of
- * all attributes is checked before their values, and values are checked in the order of their
- * kinds. A record that the reply does not contain is unchanged, and its field has_.. is 0: do not
- * use it. All other fields are set. Texts point into the payload, and are valid as long as it is.
+ * Checks a whole reply about a packet socket, and returns its contents, in one pass over the
+ * attributes. The bytes are the payload of the netlink message. Returns 0, and sets all fields: a
+ * number or a record that the reply does not contain is all 0. Or returns the code of the first
+ * error, in the order of the bytes, and then the details are unchanged. The previous contents of
+ * the details are not read. Each attribute is checked, and of several attributes of a kind the
+ * first one counts. Texts point into the payload, and are valid as long as it is.
  *
  * One rejected attribute hides the others: sockdiag_packet_get_lenient_details returns them.
  */
@@ -1426,12 +1425,12 @@ uint32_t sockdiag_vsock_get_details(const uint8_t *payload, size_t length,
                                     struct sockdiag_vsock_header *details);
 
 /*
- * Checks a whole reply about an XDP socket, and returns its contents. The bytes are the payload of
- * the netlink message. Returns 0, or the code of the first error; then the details are unchanged.
- * If the reply has several attributes of a kind, the first one counts. The framing of all
- * attributes is checked before their values, and values are checked in the order of their kinds. A
- * record that the reply does not contain is unchanged, and its field has_.. is 0: do not use it.
- * All other fields are set.
+ * Checks a whole reply about an XDP socket, and returns its contents, in one pass over the
+ * attributes. The bytes are the payload of the netlink message. Returns 0, and sets all fields: a
+ * number or a record that the reply does not contain is all 0. Or returns the code of the first
+ * error, in the order of the bytes, and then the details are unchanged. The previous contents of
+ * the details are not read. Each attribute is checked, and of several attributes of a kind the
+ * first one counts.
  *
  * One rejected attribute hides the others: sockdiag_xdp_get_lenient_details returns them.
  */

@@ -29,7 +29,8 @@ reader() {
     python3 "$top/tests/api/lenient_reader.py" "$@"
 }
 
-reader cuts >"$work/replies"
+reader odd >"$work/replies"
+reader cuts >>"$work/replies"
 cuts=$(wc -l <"$work/replies")
 reader make "$count" "$seed" >>"$work/replies"
 reader read <"$work/replies" >"$work/expected"

@@ -6,6 +6,9 @@
     lenient_reader.py make COUNT SEED   prints COUNT replies: stored ones, built ones, and changed
                                         copies of both
     lenient_reader.py cuts              prints each stored reply, and each of its prefixes
+    lenient_reader.py odd               prints a reply for each row of the table "Odd replies" of
+                                        docs/C.md and each family, if the reader answers as the
+                                        table says
 
 The line of a reply is `NAME HEX`, with the payload of the netlink message. NAME is `unix`, `inet`,
 `netlink`, `packet`, `vsock` or `xdp`. Its answer is `error ERROR` if the header is rejected.
@@ -346,6 +349,52 @@ def answer(name, payload):
     return " ".join([*words, *rejections(rejected)])
 
 
+# The rows of the table "Odd replies" of docs/C.md: the attributes, the value of the detail, and the
+# codes of the first error and of the framing error. `1` and `2` are attributes of a known kind
+# with these values, `x` is one with an invalid value, `n` is `1` with the flag NLA_F_NESTED, `u` is
+# one of an unknown kind, and `c` is one that is truncated.
+ODD_REPLIES = (
+    ("", "-", 0, 0),
+    ("1", 1, 0, 0),
+    ("12", 1, 0, 0),
+    ("x", "-", WRONG_LENGTH, 0),
+    ("x1", 1, WRONG_LENGTH, 0),
+    ("1x", 1, WRONG_LENGTH, 0),
+    ("1c", 1, LENGTH_PAST, LENGTH_PAST),
+    ("xc", "-", WRONG_LENGTH, LENGTH_PAST),
+    ("u1", 1, 0, 0),
+    ("n2", 1, 0, 0),
+)
+# A kind of attribute of each family whose value is a u32, and its detail. A vsock socket has none.
+ODD_KINDS = {
+    "unix": (2, "peer"), "inet": (15, "mark"), "netlink": (4, "flags"), "packet": (4, "fanout"),
+    "vsock": (4, None), "xdp": (2, "owner"),
+}
+
+
+def odd_replies():
+    """Yields a reply for each row of the table and each family. Exits if the reader's answer is not
+    as the row says."""
+    for name, (kind, detail) in ODD_KINDS.items():
+        attributes = {
+            "1": struct.pack("<HHI", 8, kind, 1), "2": struct.pack("<HHI", 8, kind, 2),
+            "n": struct.pack("<HHI", 8, kind | 0x8000, 1), "x": struct.pack("<HHI", 7, kind, 1),
+            "u": struct.pack("<HHI", 8, 99, 1), "c": struct.pack("<HHI", 9, kind, 1),
+        }
+        family = next(number for number, it in FAMILIES.items() if it == name)
+        header = bytes([family]).ljust(REPLIES[name][0], b"\0")
+        for row, value, first, framing in ODD_REPLIES:
+            payload = header + b"".join(attributes[letter] for letter in row)
+            if detail is None and first != framing:
+                first = framing  # No value is invalid.
+            found = answer(name, payload).split()
+            code = next(word for word in found if word.startswith("first=")).split("/")[0]
+            expected = {f"framing={framing}", *([f"{detail}={value}"] if detail else [])}
+            if code != f"first={first}" or not expected <= set(found):
+                sys.exit(f"lenient_reader: {name} {row}: {found}, not {expected} first={first}")
+            yield name, payload
+
+
 def messages(datagram):
     """Yields (type, flags, payload) for each message of a datagram, as far as it is well-formed."""
     offset = 0
@@ -536,11 +585,13 @@ def main():
         return
     if command == "make" and len(words) == 2:
         replies = made_replies(int(words[0]), int(words[1]))
+    elif command == "odd" and not words:
+        replies = odd_replies()
     elif command == "cuts" and not words:
         replies = sorted({(name, it[:end]) for name, it in stored_replies()
                           for end in range(len(it) + 1)})
     else:
-        sys.exit("usage: lenient_reader.py read | make COUNT SEED | cuts")
+        sys.exit("usage: lenient_reader.py read | make COUNT SEED | cuts | odd")
     for name, payload in replies:
         print(name, payload.hex())
 

@@ -283,21 +283,6 @@ static size_t end_of_item(uint32_t answer, size_t offset) {
     return answer == SOCKDIAG_ITEM && offset < payload_length ? offset : payload_length;
 }
 
-/* Explains the first attribute that is rejected. Returns its code, or 0. */
-static uint32_t explain_first(explain *call, size_t offset) {
-    struct sockdiag_cursor cursor;
-    struct sockdiag_attribute attribute;
-    uint32_t answer, code = SOCKDIAG_OK;
-    cursor.offset = offset;
-    for (; code == SOCKDIAG_OK; offset = cursor.offset) {
-        answer = sockdiag_next_attribute(payload, payload_length, &cursor, &attribute);
-        if (answer == SOCKDIAG_END)
-            return SOCKDIAG_OK;
-        code = explain_part(call, offset, end_of_item(answer, cursor.offset));
-    }
-    return code;
-}
-
 /* Adds the error of each attribute that is rejected. Each is explained by itself. */
 static void add_each_error(struct words *words, explain *call, size_t offset) {
     struct sockdiag_cursor cursor;
@@ -332,17 +317,20 @@ static void print_header_error(struct words *words) {
 }
 
 /* Prints what a family's calls return for the reply, and compares the lenient one with the strict
- * one. `start` is the offset of the first attribute. */
-#define TRY(family, start)                                                                       \
+ * one. `type` is the struct of the details, `start` the offset of the first attribute, and `each`
+ * the call that explains one attribute. */
+#define TRY(family, type, start, each)                                                           \
     static void try_##family(void) {                                                             \
         static struct words words, strict_words;                                                 \
-        struct sockdiag_##family##_details strict, *found =                                      \
-            (struct sockdiag_##family##_details *)(void *)(end_of_details - sizeof strict);      \
-        const uint32_t first = sockdiag_##family##_get_details(payload, payload_length, &strict); \
-        uint32_t code;                                                                           \
+        type strict, *found = (type *)(void *)(end_of_details - sizeof strict);                  \
+        uint32_t code, first;                                                                    \
         words.length = strict_words.length = 0;                                                  \
+        memset(&strict, UNTOUCHED, sizeof strict);                                               \
         memset(found, UNTOUCHED, sizeof *found);                                                 \
         memset(rejections, UNTOUCHED, sizeof *rejections);                                       \
+        first = sockdiag_##family##_get_details(payload, payload_length, &strict);               \
+        expect(first == SOCKDIAG_OK || is_untouched(&strict, sizeof strict),                     \
+               "unchanged details of a strict call");                                            \
         code = sockdiag_##family##_get_lenient_details(payload, payload_length, found,           \
                                                        rejections);                              \
         expect(explain_part(sockdiag_##family##_explain, 0, payload_length) == first,            \
@@ -359,51 +347,17 @@ static void print_header_error(struct words *words) {
             expect(strcmp(words.text, strict_words.text) == 0, "equal details");                 \
         }                                                                                        \
         add_rejections(&words, first);                                                           \
-        add_each_error(&words, sockdiag_##family##_explain_attribute, start);                    \
+        add_each_error(&words, each, start);                                                     \
         puts(words.text);                                                                        \
     }
 
-TRY(unix, SOCKDIAG_UNIX_ATTRIBUTES)
-TRY(inet, SOCKDIAG_INET_ATTRIBUTES)
-
-/* The same for a family whose strict call checks the framing before values, and only the first
- * attribute of each kind. So only its code of a header, and that of a reply without rejections, is
- * the one that the lenient call returns. */
-#define TRY_FAMILY(family, type, start)                                                          \
-    static void try_##family(void) {                                                             \
-        static struct words words, strict_words;                                                 \
-        type strict, *found = (type *)(void *)(end_of_details - sizeof strict);                  \
-        uint32_t code, strict_code;                                                              \
-        words.length = strict_words.length = 0;                                                  \
-        memset(&strict, 0, sizeof strict);                                                       \
-        memset(found, UNTOUCHED, sizeof *found);                                                 \
-        memset(rejections, UNTOUCHED, sizeof *rejections);                                       \
-        strict_code = sockdiag_##family##_get_details(payload, payload_length, &strict);         \
-        code = sockdiag_##family##_get_lenient_details(payload, payload_length, found,           \
-                                                       rejections);                              \
-        if (code != SOCKDIAG_OK) {                                                               \
-            expect(code == strict_code, "the error of the header");                              \
-            expect(explain_part(sockdiag_##family##_explain, 0, payload_length) == code,         \
-                   "the explained error of the header");                                         \
-            expect(is_untouched(found, sizeof *found), "unchanged details");                     \
-            print_header_error(&words);                                                          \
-            return;                                                                              \
-        }                                                                                        \
-        add_##family(&words, found);                                                             \
-        if (rejections->first == SOCKDIAG_OK) {                                                  \
-            expect(strict_code == SOCKDIAG_OK, "a reply without rejections");                    \
-            add_##family(&strict_words, &strict);                                                \
-            expect(strcmp(words.text, strict_words.text) == 0, "equal details");                 \
-        }                                                                                        \
-        add_rejections(&words, explain_first(explain_##family##_attribute, start));              \
-        add_each_error(&words, explain_##family##_attribute, start);                             \
-        puts(words.text);                                                                        \
-    }
-
-TRY_FAMILY(netlink, struct sockdiag_netlink_details, SOCKDIAG_NETLINK_ATTRIBUTES)
-TRY_FAMILY(packet, struct sockdiag_packet_details, SOCKDIAG_PACKET_ATTRIBUTES)
-TRY_FAMILY(vsock, struct sockdiag_vsock_header, SOCKDIAG_VSOCK_ATTRIBUTES)
-TRY_FAMILY(xdp, struct sockdiag_xdp_details, SOCKDIAG_XDP_ATTRIBUTES)
+TRY(unix, struct sockdiag_unix_details, SOCKDIAG_UNIX_ATTRIBUTES, sockdiag_unix_explain_attribute)
+TRY(inet, struct sockdiag_inet_details, SOCKDIAG_INET_ATTRIBUTES, sockdiag_inet_explain_attribute)
+TRY(netlink, struct sockdiag_netlink_details, SOCKDIAG_NETLINK_ATTRIBUTES,
+    explain_netlink_attribute)
+TRY(packet, struct sockdiag_packet_details, SOCKDIAG_PACKET_ATTRIBUTES, explain_packet_attribute)
+TRY(vsock, struct sockdiag_vsock_header, SOCKDIAG_VSOCK_ATTRIBUTES, explain_vsock_attribute)
+TRY(xdp, struct sockdiag_xdp_details, SOCKDIAG_XDP_ATTRIBUTES, explain_xdp_attribute)
 
 /* The kinds of replies, by the word at the start of a line. */
 static const struct {

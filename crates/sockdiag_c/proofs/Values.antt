@@ -1,8 +1,8 @@
 -- The first value of a kind among the attributes that bytes are split into.
 use Rattle.std.proofs.lemmas.Grind.{common_steps}
 use Rattle.std.proofs.Common.{◌≡◌, ◌≢◌, ◌∙◌, ℕ, List, [], ◌∷◌, refl, sym, ap, subst, unwrap_or}
-use Rattle.std.proofs.Common.{Option, rules}
-use Rattle.std.proofs.Common.{◌+◌, ◌++◌, length, take, replicate, min, inl, inr, arith}
+use Rattle.std.proofs.Common.{Option, None, Some, rules}
+use Rattle.std.proofs.Common.{◌+◌, ◌++◌, length, take, replicate, min, arith}
 use Rattle.std.proofs.lemmas.Bool.{cases_lt, ne_eqb}
 use Rattle.std.proofs.lemmas.List.{take_all}
 use Rattle.netlink_core.specs.Attribute.{Attribute, IsFramingError, StartsWithAttribute}
@@ -12,7 +12,9 @@ use Rattle.netlink_core.specs.laws.Prefix.{prefix_or_error_apart}
 use Rattle.netlink_core.proofs.Splitting.{one_first_attribute}
 use Rattle.netlink_core.proofs.Iterating.{StartsWithAttribute-nonempty, attribute_prefix_of_start}
 use Rattle.sock_diag_replies.specs.UnixGetters.{first_content_of}
-use Rattle.sockdiag_c.specs.TcpInfo.{AreAttributesIn, padded_or_truncated, value_of_type}
+use Rattle.sockdiag_c.specs.TcpInfo.{AreAttributesIn, first_of_type, padded_or_truncated}
+use Rattle.sockdiag_c.specs.TcpInfo.{value_of_type}
+use Rattle.sockdiag_c.proofs.Rows.{first_attribute}
 
 -- the value, truncated to n bytes or followed by zeros
 pub padded_or_truncated_is : (n : ℕ) (value : List ℕ) (found left : ℕ)
@@ -27,18 +29,18 @@ padded_or_truncated_is n value found left is all =
 first_attribute_is_at_start : (bytes : List ℕ) (a : Attribute) (more : List Attribute)
     → AreAttributesIn bytes (a ∷ more)
     → (rest : List ℕ) × StartsWithAttribute bytes a rest × AreAttributesIn rest more
-first_attribute_is_at_start bytes a more (inl cut) = (cut.0, cut.1, inl cut.2)
-first_attribute_is_at_start bytes a more (inr (e, (left, cut, some, error))) =
-    (cut.0, cut.1, inr (e, (left, cut.2, some, error)))
+first_attribute_is_at_start bytes a more (end, ends) =
+    let first = first_attribute bytes a more end ends in
+    (first.0, first.1, (end, first.2))
 
 -- an attribute at the start of the bytes is the first of them
 attribute_at_start_is_first : (bytes rest : List ℕ) (a : Attribute)
     → StartsWithAttribute bytes a rest
     → (attributes : List Attribute) → AreAttributesIn bytes attributes
     → (more : List Attribute) × (attributes ≡ a ∷ more) × AreAttributesIn rest more
-attribute_at_start_is_first bytes rest a start [] (inl none) =
+attribute_at_start_is_first bytes rest a start [] (None, none) =
     absurd (StartsWithAttribute-nonempty bytes rest a start none)
-attribute_at_start_is_first bytes rest a start [] (inr (e, off)) =
+attribute_at_start_is_first bytes rest a start [] (Some e, off) =
     grind (
       arith,
       prefix_or_error_apart bytes a e (attribute_prefix_of_start bytes rest a start),
@@ -76,36 +78,32 @@ found_after_skipped k bytes rest after a start found other = record {
       );
 }
 
--- the value that is found, or no bytes if there is none
-abbrev value_or_nothing : ℕ → List Attribute → List ℕ
-value_or_nothing k attributes = unwrap_or (first_content_of (value_of_type k) attributes) []
-
 -- the first attribute has the type, and its value is found
 first_value_is : (k : ℕ) (a : Attribute) (more : List Attribute) → attribute_kind a ≡ k
-    → a.value ≡ value_or_nothing k (a ∷ more)
+    → a.value ≡ first_of_type k (a ∷ more)
 first_value_is k a more is = rw is (search rules)
 
 pub found_here : (k : ℕ) (bytes rest after : List ℕ) (a : Attribute)
     → StartsWithAttribute rest a after
     → FoundAfter k bytes rest → attribute_kind a ≡ k
     → (attributes : List Attribute) → AreAttributesIn bytes attributes
-    → a.value ≡ value_or_nothing k attributes
+    → a.value ≡ first_of_type k attributes
 found_here k bytes rest after a start found is attributes stand =
     let f = found.behind attributes stand in
     let first = attribute_at_start_is_first rest after a start f.0 f.1 in
-    first_value_is k a first.0 is ∙ ap (value_or_nothing k) (sym first.1)
+    first_value_is k a first.0 is ∙ ap (first_of_type k) (sym first.1)
     ∙ ap (λ (o : Option (List ℕ)). unwrap_or o []) (sym f.2)
 
 -- if no attribute is left, no value is found
 no_value_is_found : (k : ℕ) (bytes rest : List ℕ) → FoundAfter k bytes rest
     → ((a : Attribute) (after : List ℕ) → StartsWithAttribute rest a after → ⊥)
     → (attributes : List Attribute) → AreAttributesIn bytes attributes
-    → [] ≡ value_or_nothing k attributes
+    → [] ≡ first_of_type k attributes
 no_value_is_found k bytes rest found alone attributes stand =
     let f = found.behind attributes stand in
     none f.0 f.1 ∙ ap (λ (o : Option (List ℕ)). unwrap_or o []) (sym f.2)
   where
-    none : (later : List Attribute) → AreAttributesIn rest later → [] ≡ value_or_nothing k later
+    none : (later : List Attribute) → AreAttributesIn rest later → [] ≡ first_of_type k later
     none [] left = refl
     none (a ∷ more) left =
         let first = first_attribute_is_at_start rest a more left in
@@ -113,7 +111,7 @@ no_value_is_found k bytes rest found alone attributes stand =
 
 pub found_nowhere : (k : ℕ) (bytes rest : List ℕ) → FoundAfter k bytes rest → rest ≡ []
     → (attributes : List Attribute) → AreAttributesIn bytes attributes
-    → [] ≡ value_or_nothing k attributes
+    → [] ≡ first_of_type k attributes
 found_nowhere k bytes rest found none =
     grind (arith, no_value_is_found k bytes rest found)
 
@@ -121,6 +119,6 @@ pub framing_error_is_found : (k : ℕ) (bytes rest : List ℕ) (e : DecodeError)
     → FoundAfter k bytes rest
     → IsFramingError rest e
     → (attributes : List Attribute) → AreAttributesIn bytes attributes
-    → [] ≡ value_or_nothing k attributes
+    → [] ≡ first_of_type k attributes
 framing_error_is_found k bytes rest e found error =
     grind (arith, common_steps, no_value_is_found, prefix_or_error_apart, attribute_prefix_of_start)

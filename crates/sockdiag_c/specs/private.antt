@@ -1,6 +1,2 @@
 -- Definitions that only the contracts of private functions use.
-pub mod FirstNumber
-pub mod UnixDetails
-pub mod InetDetails
-pub mod Rejections
-pub mod ReplyBy
+pub mod Rows

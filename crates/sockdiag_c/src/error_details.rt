@@ -5,11 +5,6 @@ ghost use Rattle.netlink_core.specs.Errors.{error_code};
 ghost use Rattle.netlink_core.specs.Header.{HasHeader, IsMessageError};
 ghost use Rattle.netlink_core.specs.Response.{response_codec};
 ghost use Rattle.netlink_packet_sock_diag.specs.Message.{message_codec};
-ghost use Rattle.sock_diag_any.specs.RawReply.{raw_reply_spec};
-ghost use Rattle.sock_diag_families.specs.NetlinkResponseHeader.{netlink_header};
-ghost use Rattle.sock_diag_families.specs.PacketResponseHeader.{packet_header};
-ghost use Rattle.sock_diag_families.specs.VsockResponseHeader.{vsock_header};
-ghost use Rattle.sock_diag_families.specs.XdpResponseHeader.{xdp_header};
 ghost use Rattle.sock_diag_replies.specs.InetResponseSpec.{inet_response_spec};
 ghost use Rattle.sock_diag_replies.specs.UnixResponseSpec.{unix_response_spec};
 ghost use Rattle.sock_diag_attributes.specs.InetAttributes.{inet_attribute_set};
@@ -18,21 +13,24 @@ ghost use Rattle.sockdiag_c.specs.Details.{optional_number};
 ghost use Rattle.sockdiag_c.specs.ErrorDetails.{IsExplained, IsItemExplained, error_details_of};
 ghost use Rattle.sockdiag_c.specs.ErrorDetails.{no_details, record_code, record_family};
 ghost use Rattle.sockdiag_c.specs.ErrorDetails.{record_kind};
-ghost use Rattle.sockdiag_c.specs.FamilyValues.{RejectsReplyOrValue};
-ghost use Rattle.sockdiag_c.specs.NetlinkDetails.{netlink_value_errors};
-ghost use Rattle.sockdiag_c.specs.PacketDetails.{packet_value_errors};
-ghost use Rattle.sockdiag_c.specs.XdpDetails.{xdp_value_errors};
+ghost use Rattle.sockdiag_c.specs.Family.{DetailsAre, IsFirstError};
+ghost use Rattle.sockdiag_c.specs.NetlinkDetails.{netlink_family};
+ghost use Rattle.sockdiag_c.specs.PacketDetails.{packet_family};
+ghost use Rattle.sockdiag_c.specs.VsockDetails.{vsock_family};
+ghost use Rattle.sockdiag_c.specs.XdpDetails.{xdp_family};
 
 use crate::check::OK;
-use crate::details::{NO_NUMBER, Number};
-use crate::{netlink_details, packet_details, xdp_details};
+use crate::details::{NO_NUMBER, Number, strict_details};
+use crate::netlink_details::NetlinkDetails;
+use crate::packet_details::PacketDetails;
+use crate::xdp_details::XdpDetails;
 use netlink_core::{DecodeError, FamilyView, NetlinkHeader, RecordName};
 use netlink_packet_sock_diag::SockDiagView;
 use netlink_packet_sock_diag::inet::InetResponseView;
 use netlink_packet_sock_diag::unix::UnixResponseView;
-use sock_diag_any::vsock::VsockResponseView;
 use sock_diag_attributes::inet::nlas::NlaView as InetNlaView;
 use sock_diag_attributes::unix::nlas::NlaView as UnixNlaView;
+use sock_diag_families::vsock::VsockResponseHeader;
 use sock_diag_lenient::LenientNlas;
 
 /// A decode error with its fields. A field that the error does not have is 0.
@@ -249,11 +247,10 @@ pub extern "C" fn sockdiag_inet_explain(payload: &[u8], error: &mut ErrorDetails
 /// unchanged.
 #[unsafe(no_mangle)]
 pub extern "C" fn sockdiag_netlink_explain(payload: &[u8], error: &mut ErrorDetails) -> u32
-    ensures { IsExplained ((response_codec (raw_reply_spec netlink_header)).parses payload.now tt)
-        (RejectsReplyOrValue (raw_reply_spec netlink_header) netlink_value_errors payload.now)
-        error.old error.new result }
+    ensures { IsExplained (DetailsAre netlink_family payload.now)
+        (IsFirstError netlink_family payload.now) error.old error.new result }
 {
-    explain(netlink_details::read(payload), error)
+    explain(strict_details::<NetlinkDetails>(payload), error)
 }
 
 /// Stores the error of a reply about a packet socket that `sockdiag_packet_get_details` rejects,
@@ -261,36 +258,30 @@ pub extern "C" fn sockdiag_netlink_explain(payload: &[u8], error: &mut ErrorDeta
 /// unchanged.
 #[unsafe(no_mangle)]
 pub extern "C" fn sockdiag_packet_explain(payload: &[u8], error: &mut ErrorDetails) -> u32
-    ensures { IsExplained ((response_codec (raw_reply_spec packet_header)).parses payload.now tt)
-        (RejectsReplyOrValue (raw_reply_spec packet_header) packet_value_errors payload.now)
-        error.old error.new result }
+    ensures { IsExplained (DetailsAre packet_family payload.now)
+        (IsFirstError packet_family payload.now) error.old error.new result }
 {
-    explain(
-        packet_details::read(payload, &packet_details::NO_DETAILS),
-        error,
-    )
+    explain(strict_details::<PacketDetails>(payload), error)
 }
 
 /// Stores the error of a reply about a vsock socket that `sockdiag_vsock_get_details` rejects, with
 /// its fields. Returns its code; or 0 if the reply is accepted, and then the error is unchanged.
 #[unsafe(no_mangle)]
 pub extern "C" fn sockdiag_vsock_explain(payload: &[u8], error: &mut ErrorDetails) -> u32
-    ensures { IsExplained ((response_codec (raw_reply_spec vsock_header)).parses payload.now tt)
-        ((response_codec (raw_reply_spec vsock_header)).rejects payload.now tt) error.old error.new
-        result }
+    ensures { IsExplained (DetailsAre vsock_family payload.now)
+        (IsFirstError vsock_family payload.now) error.old error.new result }
 {
-    explain(VsockResponseView::parse(payload), error)
+    explain(strict_details::<VsockResponseHeader>(payload), error)
 }
 
 /// Stores the error of a reply about an XDP socket that `sockdiag_xdp_get_details` rejects, with
 /// its fields. Returns its code; or 0 if the reply is accepted, and then the error is unchanged.
 #[unsafe(no_mangle)]
 pub extern "C" fn sockdiag_xdp_explain(payload: &[u8], error: &mut ErrorDetails) -> u32
-    ensures { IsExplained ((response_codec (raw_reply_spec xdp_header)).parses payload.now tt)
-        (RejectsReplyOrValue (raw_reply_spec xdp_header) xdp_value_errors payload.now)
-        error.old error.new result }
+    ensures { IsExplained (DetailsAre xdp_family payload.now)
+        (IsFirstError xdp_family payload.now) error.old error.new result }
 {
-    explain(xdp_details::read(payload, &xdp_details::NO_DETAILS), error)
+    explain(strict_details::<XdpDetails>(payload), error)
 }
 
 /// Stores the error with which `sockdiag_next_message` rejects the payload of a message of this

@@ -1,21 +1,16 @@
 //! Attributes of netlink, packet and XDP sockets, as C structs.
 
-ghost use Rattle.std.specs.Prelude.{◌≡◌, [], ◌∷◌, drop, IfErr, IfOk, None, Ok, Err, Option};
-ghost use Rattle.std.specs.Prelude.{option_map};
-ghost use Rattle.std.specs.Result.{result_err};
+ghost use Rattle.std.specs.Prelude.{◌≡◌, drop, IfErr, IfOk, Ok, Err, Option, Some};
+ghost use Rattle.std.specs.Result.{result_err, result_ok};
 ghost use Rattle.netlink_core.specs.Layout.{parse_record};
-ghost use Rattle.netlink_core.specs.Walk.{buffered_attribute};
-ghost use Rattle.sock_diag_families.specs.AttributeGetters.{first_value_of_kind};
 ghost use Rattle.sock_diag_values.specs.declared.inet.mem_info.MemInfo.{MemInfo as MemInfoModel};
 ghost use Rattle.sockdiag_c.specs.Answers.{IsGetterResult};
-ghost use Rattle.sockdiag_c.specs.Details.{optional_number, text_parts};
-ghost use Rattle.sockdiag_c.specs.FamilyValues.{memory_struct};
-ghost use Rattle.sockdiag_c.specs.private.FirstNumber.{first_present};
+ghost use Rattle.sockdiag_c.specs.Details.{memory_struct, optional_number, optional_record};
+ghost use Rattle.sockdiag_c.specs.Family.{first_present};
 
-use crate::details::{BYTES, NO_NUMBER, Number, Text};
+use crate::details::{NO_NUMBER, Number};
 use crate::walks::{END, ITEM};
-use netlink_core::{DecodeError, NlaBuffer, Record, read_record};
-use sock_diag_any::RawAttributes;
+use netlink_core::{DecodeError, Record, read_record};
 use sock_diag_values::inet::MemInfo;
 
 /// Memory of a netlink, packet or XDP socket: the fields `SK_MEMINFO_..` of `linux/sock_diag.h`. A
@@ -69,25 +64,10 @@ impl From<Option<u32>> for Number {
     }
 }
 
-impl<'a> From<Option<&'a [u8]>> for Text<'a> {
-    ghost from_gives = { λ value text. text_parts text
-        ≡ option_map (λ bytes. (3, bytes)) (option_map (λ bytes. bytes.now) value) };
+impl From<MemInfo> for Memory {
+    ghost from_gives = { λ value memory. memory ≡ memory_struct (Some value) };
 
-    fn from(value: Option<&'a [u8]>) -> Text<'a> {
-        match value {
-            Some(bytes) => Text { kind: BYTES, bytes },
-            None => Text::none(),
-        }
-    }
-}
-
-impl From<Option<MemInfo>> for Memory {
-    ghost from_gives = { λ value memory. memory ≡ memory_struct value };
-
-    fn from(value: Option<MemInfo>) -> Memory {
-        let Some(memory) = value else {
-            return NO_MEMORY;
-        };
+    fn from(memory: MemInfo) -> Memory {
         Memory {
             receive_queue: Number::from(Some(memory.receive_queue)),
             receive_queue_max: Number::from(Some(memory.receive_queue_max)),
@@ -103,15 +83,38 @@ impl From<Option<MemInfo>> for Memory {
 }
 
 impl Memory {
-    /// Sets the memory, if there is any, unless it is set already.
-    pub(crate) fn set_first(&mut self, memory: Option<MemInfo>)
-        ensures { (before : Option MemInfoModel) → self.old ≡ memory_struct before
-            → self.new ≡ memory_struct (first_present before memory) }
+    /// Sets the memory, if it was parsed, unless it is set already. Returns the error, if any.
+    pub(crate) fn set(&mut self, parsed: Result<MemInfo, DecodeError>) -> Result<(), DecodeError>
+        ensures memory { (o : Option MemInfoModel) → self.old ≡ memory_struct o
+            → self.new ≡ memory_struct (first_present o (result_ok parsed)) }
+        ensures error { result_err result ≡ result_err parsed }
     {
+        let memory = parsed?;
         if self.receive_queue.is_set == 0 {
             *self = Memory::from(memory);
         }
+        Ok(())
     }
+}
+
+/// Sets the record, if it was parsed, unless one is set already. `is_set` is 1 if one is set, else
+/// 0. Returns the error, if any.
+pub(crate) fn set_record<T: Copy>(
+    parsed: Result<T, DecodeError>,
+    is_set: &mut u32,
+    record: &mut T,
+) -> Result<(), DecodeError>
+    ensures record { (zero : T) (o : Option T)
+        → (is_set.old, record.old) ≡ optional_record zero o
+        → (is_set.new, record.new) ≡ optional_record zero (first_present o (result_ok parsed)) }
+    ensures error { result_err result ≡ result_err parsed }
+{
+    let found = parsed?;
+    if *is_set == 0 {
+        *is_set = 1;
+        *record = found;
+    }
+    Ok(())
 }
 
 /// Stores the record, if there is one. Returns 1, or 0 if there is none; then the target is
@@ -128,20 +131,6 @@ pub(crate) fn store<T: Copy>(found: Option<T>, target: &mut T) -> u32
     }
 }
 
-/// Stores the record, if there is one, unless one is stored already. `is_set` is 1 if so, else 0.
-/// Returns its new value.
-pub(crate) fn store_first<T: Copy>(found: Option<T>, is_set: u32, target: &mut T) -> u32
-    ensures { (absent : T) (before : Option T)
-        → IsGetterResult before absent target.old is_set
-        → IsGetterResult (first_present before found) absent target.new result }
-{
-    if is_set == 0 {
-        store(found, target)
-    } else {
-        is_set
-    }
-}
-
 /// Parses the header at the start of the payload. Returns it, and the bytes after it.
 #[tactic(auto, using(netlink_core::proofs::LayoutLaws::parsed_by_fields))]
 #[inline(always)]
@@ -155,55 +144,4 @@ pub(crate) fn split_header<H: Record<Param = ()>>(payload: &[u8]) -> Result<(H, 
     let header = read_record::<H>(payload, ())?;
     let (_, least) = H::name_and_least();
     Ok((header, &payload[least..]))
-}
-
-/// One attribute of a reply. The getters of [`RawAttributes`] parse its value if it has their kind.
-#[derive(Clone, Copy)]
-pub(crate) struct OneAttribute<'a>(pub(crate) NlaBuffer<'a>);
-
-impl<'a> OneAttribute<'a> {
-    /// Returns the value if the attribute has the kind.
-    pub(crate) fn bytes_of(&self, kind: u16) -> Option<&'a [u8]>
-        ensures { option_map (λ value. value.now) result
-            ≡ first_value_of_kind kind (buffered_attribute self.now.0 ∷ []) }
-    {
-        if self.0.kind() == kind {
-            Some(self.0.value())
-        } else {
-            None
-        }
-    }
-}
-
-impl RawAttributes for OneAttribute<'_> {
-    ghost attributes = { λ one. buffered_attribute one.0 ∷ [] };
-
-    fn value_of(&self, kind: u16) -> Option<&[u8]> {
-        self.bytes_of(kind)
-    }
-}
-
-/// The first error of the values of a reply, if any.
-#[derive(Drop)]
-pub(crate) struct FirstError {
-    pub(crate) first: Option<DecodeError>,
-}
-
-impl FirstError {
-    /// Returns the value. If the value is rejected, returns `None` and keeps the error, unless
-    /// there was an earlier one.
-    pub(crate) fn keep<T>(&mut self, found: Result<Option<T>, DecodeError>) -> Option<T>
-        ensures first { self.new.first ≡ first_present self.old.first (result_err found) }
-        ensures value { self.new.first ≡ None → found ≡ Ok result }
-    {
-        match found {
-            Ok(value) => value,
-            Err(error) => {
-                if self.first.is_none() {
-                    self.first = Some(error);
-                }
-                None
-            }
-        }
-    }
 }

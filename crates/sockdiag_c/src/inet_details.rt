@@ -1,18 +1,16 @@
 //! The contents of a reply about an IPv4 or IPv6 socket as a C struct, except for memory and
 //! `tcp_info`.
 
-ghost use Rattle.std.specs.Prelude.{◌≡◌};
+ghost use Rattle.std.specs.Prelude.{◌≡◌, ◌≢◌, Ok};
+ghost use Rattle.netlink_core.specs.Attribute.{Attribute};
 ghost use Rattle.netlink_core.specs.AttributeSet.{decode_attribute};
 ghost use Rattle.sock_diag_attributes.specs.InetAttributes.{inet_attribute_set};
 ghost use Rattle.sock_diag_attributes.specs.InetModel.{inet_nla_view_model};
-ghost use Rattle.sock_diag_replies.specs.InetResponseSpec.{inet_response_spec};
-ghost use Rattle.sockdiag_c.specs.Details.{text_parts};
-ghost use Rattle.sockdiag_c.specs.Headers.{inet_header_of};
-ghost use Rattle.sockdiag_c.specs.InetDetails.{HasInetDetails, congestion_text};
-ghost use Rattle.sockdiag_c.specs.private.InetDetails.{inet_details_with};
-ghost use Rattle.sockdiag_c.specs.private.FirstNumber.{first_present};
+ghost use Rattle.sockdiag_c.specs.Family.{DetailsAre, IsCodeOf, IsFirstError};
+ghost use Rattle.sockdiag_c.specs.InetDetails.{inet_family, inet_rows};
+ghost use Rattle.sockdiag_c.specs.private.Rows.{AddsValues};
 
-use crate::details::{NO_NUMBER, Number, ReplyDetails, TEXT, Text};
+use crate::details::{NO_NUMBER, NO_TEXT, Number, ReplyDetails, TEXT, Text, store_details};
 use crate::headers::InetHeader;
 use netlink_core::{DecodeError, NlaBuffer};
 use netlink_packet_sock_diag::inet::nlas::NlaView;
@@ -44,14 +42,37 @@ pub struct InetDetails<'a> {
     pub class_id: Number,
 }
 
+/// Checks a whole reply about an IPv4 or IPv6 socket, as `sockdiag_check_inet_reply` does, and
+/// returns its header and the attributes that are a text or a number, in one pass over the
+/// attributes. Memory and `struct tcp_info` are checked, and not returned. The bytes are the
+/// payload of the netlink message. Returns 0, and sets all fields: a number that the reply does not
+/// contain is all 0. Or returns the code of the first error, in the order of the bytes, and then
+/// the details are unchanged. The previous contents of the details are not read. Each attribute is
+/// checked, and of several attributes of a kind the first one counts. Texts point into the payload,
+/// and are valid as long as it is.
+///
+/// Attributes without a field, such as `INET_DIAG_MD5SIG` and others that are arrays or nested, are
+/// not an error: `sockdiag_next_attribute` returns them. A reply with a short `INET_DIAG_INFO` is
+/// rejected: `sockdiag_inet_get_lenient_details` returns its other attributes.
+#[unsafe(no_mangle)]
+pub extern "C" fn sockdiag_inet_get_details<'a>(
+    payload: &'a [u8],
+    details: &mut InetDetails<'a>,
+) -> u32
+    ensures details { result ≡ 0 → DetailsAre inet_family payload.entry.now details.new }
+    ensures error { result ≢ 0 → IsCodeOf (IsFirstError inet_family payload.entry.now) result }
+    ensures unchanged { result ≢ 0 → details.new ≡ details.old }
+{
+    store_details(payload, details)
+}
+
 impl<'a> InetDetails<'a> {
     // Sets the field of the attribute, unless an earlier attribute of its kind has set it.
     fn set(&mut self, nla: NlaView<'a>)
-        ensures numbers { self.new ≡ inet_details_with self.new.congestion self.old
-            (inet_nla_view_model nla.entry) }
-        ensures congestion { text_parts self.new.congestion
-            ≡ first_present (text_parts self.old.congestion)
-            (congestion_text (inet_nla_view_model nla.entry)) }
+        ensures header { self.new.header ≡ self.old.header }
+        ensures values { (a : Attribute)
+            → decode_attribute inet_attribute_set a ≡ Ok (inet_nla_view_model nla.entry)
+            → AddsValues inet_rows a self.old self.new }
     {
         match nla {
             NlaView::Congestion(name) => self.congestion.set(TEXT, name.as_bytes()),
@@ -71,11 +92,7 @@ impl<'a> InetDetails<'a> {
 }
 
 impl<'a> ReplyDetails<'a> for InetDetails<'a> {
-    ghost reply = { inet_response_spec };
-
-    ghost decode = { decode_attribute inet_attribute_set };
-
-    ghost describes = { λ h found vs. HasInetDetails (inet_header_of h) found vs };
+    ghost family = { inet_family };
 
     #[tactic(auto, using(sock_diag_replies::specs::laws::InetResponseSpec::inet_header_bytes_suffice))]
     #[inline(always)]
@@ -83,7 +100,7 @@ impl<'a> ReplyDetails<'a> for InetDetails<'a> {
         let header = InetResponseHeader::from_prefix(payload)?;
         let found = InetDetails {
             header: InetHeader::from(header),
-            congestion: Text::none(),
+            congestion: NO_TEXT,
             tos: NO_NUMBER,
             tclass: NO_NUMBER,
             shutdown: NO_NUMBER,
@@ -96,7 +113,7 @@ impl<'a> ReplyDetails<'a> for InetDetails<'a> {
     }
 
     #[inline(always)]
-    fn set_detail(&mut self, nla: &NlaBuffer<'a>) -> Result<(), DecodeError> {
+    fn set_value(&mut self, nla: &NlaBuffer<'a>) -> Result<(), DecodeError> {
         let view = NlaView::parse(nla)?;
         self.set(view);
         Ok(())

@@ -1,36 +1,20 @@
 //! Properties of iterations and of lenient calls. Proof only: each contract states a property.
 
-ghost use Rattle.std.specs.Prelude.{◌≡◌, ◌<◌, ℕ, List, [], ◌∷◌, Option, Some, None, Err};
-ghost use Rattle.netlink_core.specs.Attribute.{Attribute, SplitsIntoAttributes, attribute_kind};
-ghost use Rattle.netlink_core.specs.AttributeSet.{decode_attribute};
+ghost use Rattle.std.specs.Prelude.{◌≡◌, ℕ, List, [], ◌∷◌, Option, Some, None};
+ghost use Rattle.netlink_core.specs.Attribute.{Attribute, SplitsIntoAttributes};
 ghost use Rattle.netlink_core.specs.Bytes.{IsBytes};
 ghost use Rattle.netlink_core.specs.Datagram.{SplitsIntoMessages};
 ghost use Rattle.netlink_core.specs.declared.error.DecodeError.{DecodeError};
 ghost use Rattle.netlink_core.specs.Errors.{error_code};
-ghost use Rattle.netlink_core.specs.Response.{ReplyValue, response_codec};
-ghost use Rattle.sock_diag_any.specs.RawReply.{raw_reply_spec};
-ghost use Rattle.sock_diag_attributes.specs.InetAttributes.{inet_attribute_set};
-ghost use Rattle.sock_diag_attributes.specs.UnixAttributes.{unix_attribute_set};
-ghost use Rattle.sock_diag_lenient.specs.Lenient.{HasLenientItems};
-ghost use Rattle.sock_diag_replies.specs.UnixGetters.{first_content_of};
-ghost use Rattle.sock_diag_families.specs.NetlinkResponseHeader.{netlink_header};
-ghost use Rattle.sock_diag_families.specs.PacketResponseHeader.{packet_header};
-ghost use Rattle.sock_diag_families.specs.VsockResponseHeader.{vsock_header};
-ghost use Rattle.sock_diag_families.specs.XdpResponseHeader.{xdp_header};
-ghost use Rattle.sock_diag_families.specs.declared.vsock.response.VsockResponseHeader.{VsockResponseHeader};
-ghost use Rattle.sockdiag_c.specs.FamilyValues.{check_attribute, no_errors_in};
-ghost use Rattle.sockdiag_c.specs.LenientDetails.{AgreesWithStrictParse, IsLenientResultBy};
-ghost use Rattle.sockdiag_c.specs.LenientDetails.{LenientItem};
-ghost use Rattle.sockdiag_c.specs.NetlinkDetails.{HasNetlinkDetails, IsNetlinkDetailsOf};
-ghost use Rattle.sockdiag_c.specs.NetlinkDetails.{netlink_errors_in, netlink_value_errors};
-ghost use Rattle.sockdiag_c.specs.PacketDetails.{HasPacketDetails, packet_errors_in};
-ghost use Rattle.sockdiag_c.specs.PacketDetails.{packet_value_errors};
-ghost use Rattle.sockdiag_c.specs.XdpDetails.{HasXdpDetails, xdp_errors_in, xdp_value_errors};
-ghost use Rattle.sockdiag_c.specs.declared.lenient.Rejections.{Rejections};
-ghost use Rattle.sockdiag_c.specs.declared.lenient.TheConstants.{REJECTION_KINDS};
-ghost use Rattle.sockdiag_c.specs.declared.netlink_details.NetlinkDetails.{NetlinkDetails};
-ghost use Rattle.sockdiag_c.specs.declared.packet_details.PacketDetails.{PacketDetails};
-ghost use Rattle.sockdiag_c.specs.declared.xdp_details.XdpDetails.{XdpDetails};
+ghost use Rattle.sock_diag_replies.specs.InetResponseSpec.{inet_response_spec};
+ghost use Rattle.sock_diag_replies.specs.UnixResponseSpec.{unix_response_spec};
+ghost use Rattle.sockdiag_c.specs.Family.{AgreesWithCodec, CallsAgree, EveryRejectedKindHasCode};
+ghost use Rattle.sockdiag_c.specs.InetDetails.{inet_family};
+ghost use Rattle.sockdiag_c.specs.NetlinkDetails.{netlink_family};
+ghost use Rattle.sockdiag_c.specs.PacketDetails.{packet_family};
+ghost use Rattle.sockdiag_c.specs.UnixDetails.{unix_family};
+ghost use Rattle.sockdiag_c.specs.VsockDetails.{vsock_family};
+ghost use Rattle.sockdiag_c.specs.XdpDetails.{xdp_family};
 ghost use Rattle.sockdiag_c.specs.declared.walks.AttributeRange.{AttributeRange};
 ghost use Rattle.sockdiag_c.specs.declared.walks.Cursor.{Cursor};
 ghost use Rattle.sockdiag_c.specs.declared.walks.MessageRange.{MessageRange};
@@ -84,63 +68,31 @@ pub fn a_step_passes_the_first_message()
         → (answer ≡ error_code e) × (bytes_after_cursor bytes new ≡ []) }
 {}
 
-/// States that a lenient call agrees with the strict call.
-///
-/// - UNIX and internet sockets: the rejections have the code 0 in `first` if and only if the
-///   attributes are accepted, and then both calls have the same values. Otherwise `first` is the
-///   code of the error that the strict call returns. `bytes`: the bytes after the header of a
-///   reply. `items`: their lenient items, as in the contracts of both calls.
-/// - The other families: if a lenient call returns 0 and `first` is 0, the strict call accepts the
-///   reply: it parses (`v`), and no value has an error (`.._value_errors`). The details are those
-///   of the reply. `old` and `new` are the details before and after the lenient call, `was` and
-///   `now` the rejections.
+/// States that a lenient call agrees with the strict call, for each family: if `first` of the
+/// rejections is 0, the details are those of the strict call. Otherwise `first` is the code of the
+/// error that the strict call returns.
 pub fn lenient_calls_agree_with_strict_calls()
-    ensures unix { (bytes : List ℕ) (items : List (LenientItem unix_attribute_set))
-        → HasLenientItems unix_attribute_set bytes items
-        → AgreesWithStrictParse unix_attribute_set bytes items }
-    ensures inet { (bytes : List ℕ) (items : List (LenientItem inet_attribute_set))
-        → HasLenientItems inet_attribute_set bytes items
-        → AgreesWithStrictParse inet_attribute_set bytes items }
-    ensures netlink { (payload : List ℕ) (old new : NetlinkDetails) (was now : Rejections)
-        → IsLenientResultBy (raw_reply_spec netlink_header) (check_attribute netlink_errors_in)
-        HasNetlinkDetails payload old new was now 0 → now.first ≡ 0
-        → (v : ReplyValue (raw_reply_spec netlink_header))
-        × (response_codec (raw_reply_spec netlink_header)).parses payload tt v
-        × (first_content_of (λ o. o) (netlink_value_errors v) ≡ None)
-        × IsNetlinkDetailsOf v new }
-    ensures packet { (payload : List ℕ) (old new : PacketDetails) (was now : Rejections)
-        → IsLenientResultBy (raw_reply_spec packet_header) (check_attribute packet_errors_in)
-        HasPacketDetails payload old new was now 0 → now.first ≡ 0
-        → (v : ReplyValue (raw_reply_spec packet_header))
-        × (response_codec (raw_reply_spec packet_header)).parses payload tt v
-        × (first_content_of (λ o. o) (packet_value_errors v) ≡ None)
-        × HasPacketDetails v.header new v.nlas }
-    ensures vsock { (payload : List ℕ) (old new : VsockResponseHeader) (was now : Rejections)
-        → IsLenientResultBy (raw_reply_spec vsock_header) (check_attribute no_errors_in)
-        (λ header found _. found ≡ header) payload old new was now 0 → now.first ≡ 0
-        → (v : ReplyValue (raw_reply_spec vsock_header))
-        × (response_codec (raw_reply_spec vsock_header)).parses payload tt v
-        × (new ≡ v.header) }
-    ensures xdp { (payload : List ℕ) (old new : XdpDetails) (was now : Rejections)
-        → IsLenientResultBy (raw_reply_spec xdp_header) (check_attribute xdp_errors_in)
-        HasXdpDetails payload old new was now 0 → now.first ≡ 0
-        → (v : ReplyValue (raw_reply_spec xdp_header))
-        × (response_codec (raw_reply_spec xdp_header)).parses payload tt v
-        × (first_content_of (λ o. o) (xdp_value_errors v) ≡ None)
-        × HasXdpDetails v.header new v.nlas }
+    ensures unix { CallsAgree unix_family }
+    ensures inet { CallsAgree inet_family }
+    ensures netlink { CallsAgree netlink_family }
+    ensures packet { CallsAgree packet_family }
+    ensures vsock { CallsAgree vsock_family }
+    ensures xdp { CallsAgree xdp_family }
+{}
+
+/// States that the strict calls for UNIX and internet sockets accept and reject the replies that
+/// `sockdiag_check_unix_reply` and `sockdiag_check_inet_reply` do, with the same errors.
+pub fn strict_calls_agree_with_checks()
+    ensures unix { AgreesWithCodec unix_family unix_response_spec }
+    ensures inet { AgreesWithCodec inet_family inet_response_spec }
 {}
 
 /// States that each kind of attribute that can be rejected has an element in `errors` of
 /// `struct sockdiag_rejections`.
 pub fn every_rejected_kind_has_a_code()
-    ensures unix { (a : Attribute) (e : DecodeError)
-        → decode_attribute unix_attribute_set a ≡ Err e → attribute_kind a < REJECTION_KINDS }
-    ensures inet { (a : Attribute) (e : DecodeError)
-        → decode_attribute inet_attribute_set a ≡ Err e → attribute_kind a < REJECTION_KINDS }
-    ensures netlink { (a : Attribute) (e : DecodeError)
-        → check_attribute netlink_errors_in a ≡ Err e → attribute_kind a < REJECTION_KINDS }
-    ensures packet { (a : Attribute) (e : DecodeError)
-        → check_attribute packet_errors_in a ≡ Err e → attribute_kind a < REJECTION_KINDS }
-    ensures xdp { (a : Attribute) (e : DecodeError)
-        → check_attribute xdp_errors_in a ≡ Err e → attribute_kind a < REJECTION_KINDS }
+    ensures unix { EveryRejectedKindHasCode unix_family }
+    ensures inet { EveryRejectedKindHasCode inet_family }
+    ensures netlink { EveryRejectedKindHasCode netlink_family }
+    ensures packet { EveryRejectedKindHasCode packet_family }
+    ensures xdp { EveryRejectedKindHasCode xdp_family }
 {}

@@ -1,36 +1,25 @@
 //! The contents of a reply of which attributes may be rejected: the first valid attribute and the
 //! first error of each kind.
 
-ghost use Rattle.std.specs.Prelude.{◌≡◌, ◌<◌, ◌==◌, if◌then◌else◌, ℕ, List, [], slice_index};
-ghost use Rattle.netlink_core.specs.Errors.{error_code};
-ghost use Rattle.netlink_core.specs.AttributeSet.{AttributeValue};
-ghost use Rattle.sock_diag_any.specs.RawReply.{raw_reply_spec};
-ghost use Rattle.sock_diag_lenient.specs.Lenient.{HasLenientItemsBy};
-ghost use Rattle.sock_diag_families.specs.NetlinkResponseHeader.{netlink_header};
-ghost use Rattle.sock_diag_families.specs.PacketResponseHeader.{packet_header};
-ghost use Rattle.sock_diag_families.specs.VsockResponseHeader.{vsock_header};
-ghost use Rattle.sock_diag_families.specs.XdpResponseHeader.{xdp_header};
-ghost use Rattle.sock_diag_replies.specs.InetResponseSpec.{inet_response_spec};
-ghost use Rattle.sock_diag_replies.specs.UnixResponseSpec.{unix_response_spec};
-ghost use Rattle.sockdiag_c.specs.Headers.{inet_header_of, unix_header_of};
-ghost use Rattle.sockdiag_c.specs.InetDetails.{HasInetDetails};
-ghost use Rattle.sockdiag_c.specs.UnixDetails.{HasUnixDetails};
-ghost use Rattle.sockdiag_c.specs.FamilyValues.{check_attribute, no_errors_in};
-ghost use Rattle.sockdiag_c.specs.LenientDetails.{HasRejections, IsLenientResult, LenientItem};
-ghost use Rattle.sockdiag_c.specs.LenientDetails.{IsLenientResultBy, accepted_values};
-ghost use Rattle.sockdiag_c.specs.NetlinkDetails.{HasNetlinkDetails, netlink_errors_in};
-ghost use Rattle.sockdiag_c.specs.PacketDetails.{HasPacketDetails, packet_errors_in};
-ghost use Rattle.sockdiag_c.specs.XdpDetails.{HasXdpDetails, xdp_errors_in};
-ghost use Rattle.sockdiag_c.specs.private.Rejections.{kept_code};
+ghost use Rattle.std.specs.Prelude.{◌≡◌, ◌≢◌, ◌<◌, ◌==◌, if◌then◌else◌, ℕ, None, Option, Some};
+ghost use Rattle.std.specs.Prelude.{slice_index};
+ghost use Rattle.netlink_core.specs.declared.error.DecodeError.{DecodeError};
+ghost use Rattle.sockdiag_c.specs.Family.{IsCodeOf, IsHeaderError, LenientDetailsAre};
+ghost use Rattle.sockdiag_c.specs.Family.{first_present, optional_code};
+ghost use Rattle.sockdiag_c.specs.InetDetails.{inet_family};
+ghost use Rattle.sockdiag_c.specs.NetlinkDetails.{netlink_family};
+ghost use Rattle.sockdiag_c.specs.PacketDetails.{packet_family};
+ghost use Rattle.sockdiag_c.specs.UnixDetails.{unix_family};
+ghost use Rattle.sockdiag_c.specs.VsockDetails.{vsock_family};
+ghost use Rattle.sockdiag_c.specs.XdpDetails.{xdp_family};
 
-use crate::check::OK;
-use crate::details::ReplyDetails;
+use crate::details::store_lenient_details;
 use crate::inet_details::InetDetails;
 use crate::netlink_details::NetlinkDetails;
 use crate::packet_details::PacketDetails;
 use crate::unix_details::UnixDetails;
 use crate::xdp_details::XdpDetails;
-use netlink_core::{DecodeError, NlasIterator};
+use netlink_core::DecodeError;
 use sock_diag_families::vsock::VsockResponseHeader;
 
 /// Number of elements of `errors` of `struct sockdiag_rejections`, and so the end of a loop over
@@ -59,11 +48,9 @@ pub const REJECTION_KINDS: usize = 32;
 #[repr(C)]
 #[derive(Clone, Copy)]
 pub struct Rejections {
-    /// Code of the first error, in the order of the attributes. If it is 0, the strict call for
-    /// this reply, a `sockdiag_.._get_details`, accepts it. Otherwise `sockdiag_unix_get_details`
-    /// and `sockdiag_inet_get_details` return the same code. The strict calls for other families
-    /// may then return another code, or 0, since they check the framing before values, and only the
-    /// first attribute of each kind.
+    /// Code of the first error, in the order of the bytes: the strict call for this reply, a
+    /// `sockdiag_.._get_details`, returns the same code. If it is 0, both calls return the same
+    /// details.
     pub first: u32,
     /// Code of the framing error after the last attribute, 7 to 9. What follows is not parsed.
     pub framing: u32,
@@ -74,47 +61,68 @@ pub struct Rejections {
     pub errors: [u8; REJECTION_KINDS],
 }
 
-/// The rejections of a reply that has none.
-const NO_REJECTIONS: Rejections = Rejections {
-    first: 0,
-    framing: 0,
-    errors: [0; REJECTION_KINDS],
-};
-
-// Sets the code of the error, unless it is set already.
-fn keep_first(code: &mut u32, error: DecodeError)
-    ensures { code.new ≡ kept_code code.old (error_code error) }
-{
-    if *code == 0 {
-        *code = u32::from(error.number());
-    }
+/// The errors of a reply after its header.
+#[derive(Clone, Copy)]
+pub(crate) struct Errors {
+    /// The first error.
+    pub(crate) first: Option<DecodeError>,
+    /// The codes of the errors.
+    pub(crate) rejections: Rejections,
 }
 
-impl Rejections {
-    // Adds the error of an attribute of this kind.
-    fn add_attribute(&mut self, kind: u16, error: DecodeError)
-        ensures first { self.new.first ≡ kept_code self.old.first (error_code error) }
-        ensures framing { self.new.framing ≡ self.old.framing }
-        ensures errors { (k : ℕ) → k < REJECTION_KINDS
-            → slice_index self.new.errors k ≡ (if kind == k
-            then kept_code (slice_index self.old.errors k) (error_code error)
-            else slice_index self.old.errors k) }
+/// The errors of a reply that has none.
+pub(crate) const NO_ERRORS: Errors = Errors {
+    first: None,
+    rejections: Rejections {
+        first: 0,
+        framing: 0,
+        errors: [0; REJECTION_KINDS],
+    },
+};
+
+impl Errors {
+    // Adds an error, which has no other code yet.
+    fn add(&mut self, error: DecodeError)
+        ensures first { self.new.first ≡ first_present self.old.first (Some error) }
+        ensures code { self.old.rejections.first ≡ optional_code self.old.first
+            → self.new.rejections.first ≡ optional_code self.new.first }
+        ensures others { (self.new.rejections.framing ≡ self.old.rejections.framing)
+            × (self.new.rejections.errors ≡ self.old.rejections.errors) }
     {
-        let index = usize::from(kind);
-        if index < REJECTION_KINDS && self.errors[index] == 0 {
-            self.errors[index] = error.number();
+        if self.first.is_none() {
+            self.first = Some(error);
+            self.rejections.first = u32::from(error.number());
         }
-        keep_first(&mut self.first, error);
     }
 
-    // Adds the framing error.
-    fn add_framing(&mut self, error: DecodeError)
-        ensures first { self.new.first ≡ kept_code self.old.first (error_code error) }
-        ensures framing { self.new.framing ≡ kept_code self.old.framing (error_code error) }
-        ensures errors { self.new.errors ≡ self.old.errors }
+    /// Adds the error of an attribute of this kind.
+    pub(crate) fn add_value(&mut self, kind: u16, error: DecodeError)
+        ensures first { self.new.first ≡ first_present self.old.first (Some error) }
+        ensures code { self.old.rejections.first ≡ optional_code self.old.first
+            → self.new.rejections.first ≡ optional_code self.new.first }
+        ensures framing { self.new.rejections.framing ≡ self.old.rejections.framing }
+        ensures errors { (k : ℕ) (o : Option DecodeError) → k < REJECTION_KINDS
+            → slice_index self.old.rejections.errors k ≡ optional_code o
+            → slice_index self.new.rejections.errors k
+            ≡ optional_code (first_present o (if kind == k then Some error else None)) }
     {
-        keep_first(&mut self.framing, error);
-        keep_first(&mut self.first, error);
+        let index = usize::from(kind);
+        if index < REJECTION_KINDS && self.rejections.errors[index] == 0 {
+            self.rejections.errors[index] = error.number();
+        }
+        self.add(error);
+    }
+
+    /// Adds the framing error, after which no other follows.
+    pub(crate) fn add_framing(&mut self, error: DecodeError)
+        ensures first { self.new.first ≡ first_present self.old.first (Some error) }
+        ensures code { self.old.rejections.first ≡ optional_code self.old.first
+            → self.new.rejections.first ≡ optional_code self.new.first }
+        ensures framing { self.new.rejections.framing ≡ optional_code (Some error) }
+        ensures errors { self.new.rejections.errors ≡ self.old.rejections.errors }
+    {
+        self.rejections.framing = u32::from(error.number());
+        self.add(error);
     }
 }
 
@@ -134,10 +142,11 @@ pub extern "C" fn sockdiag_unix_get_lenient_details<'a>(
     details: &mut UnixDetails<'a>,
     rejections: &mut Rejections,
 ) -> u32
-    // In order: the layout of the reply, what the struct has for a header and attributes, the
-    // payload, and both structs before and after the call.
-    ensures { IsLenientResult unix_response_spec (λ h found vs. HasUnixDetails (unix_header_of h)
-        found vs) payload.entry.now details.old details.new rejections.old rejections.new result }
+    ensures details { result ≡ 0
+        → LenientDetailsAre unix_family payload.entry.now (details.new, rejections.new) }
+    ensures error { result ≢ 0 → IsCodeOf (IsHeaderError unix_family payload.entry.now) result }
+    ensures unchanged { result ≢ 0
+        → (details.new ≡ details.old) × (rejections.new ≡ rejections.old) }
 {
     store_lenient_details(payload, details, rejections)
 }
@@ -159,10 +168,11 @@ pub extern "C" fn sockdiag_inet_get_lenient_details<'a>(
     details: &mut InetDetails<'a>,
     rejections: &mut Rejections,
 ) -> u32
-    // In order: the layout of the reply, what the struct has for a header and attributes, the
-    // payload, and both structs before and after the call.
-    ensures { IsLenientResult inet_response_spec (λ h found vs. HasInetDetails (inet_header_of h)
-        found vs) payload.entry.now details.old details.new rejections.old rejections.new result }
+    ensures details { result ≡ 0
+        → LenientDetailsAre inet_family payload.entry.now (details.new, rejections.new) }
+    ensures error { result ≢ 0 → IsCodeOf (IsHeaderError inet_family payload.entry.now) result }
+    ensures unchanged { result ≢ 0
+        → (details.new ≡ details.old) × (rejections.new ≡ rejections.old) }
 {
     store_lenient_details(payload, details, rejections)
 }
@@ -180,11 +190,11 @@ pub extern "C" fn sockdiag_netlink_get_lenient_details<'a>(
     details: &mut NetlinkDetails<'a>,
     rejections: &mut Rejections,
 ) -> u32
-    // In order: the layout of the reply, which attributes are accepted, what the struct has for a
-    // header and the accepted attributes, the payload, and both structs before and after the call.
-    ensures { IsLenientResultBy (raw_reply_spec netlink_header) (check_attribute netlink_errors_in)
-        HasNetlinkDetails payload.entry.now details.old details.new rejections.old rejections.new
-        result }
+    ensures details { result ≡ 0
+        → LenientDetailsAre netlink_family payload.entry.now (details.new, rejections.new) }
+    ensures error { result ≢ 0 → IsCodeOf (IsHeaderError netlink_family payload.entry.now) result }
+    ensures unchanged { result ≢ 0
+        → (details.new ≡ details.old) × (rejections.new ≡ rejections.old) }
 {
     store_lenient_details(payload, details, rejections)
 }
@@ -203,11 +213,11 @@ pub extern "C" fn sockdiag_packet_get_lenient_details<'a>(
     details: &mut PacketDetails<'a>,
     rejections: &mut Rejections,
 ) -> u32
-    // In order: the layout of the reply, which attributes are accepted, what the struct has for a
-    // header and the accepted attributes, the payload, and both structs before and after the call.
-    ensures { IsLenientResultBy (raw_reply_spec packet_header) (check_attribute packet_errors_in)
-        HasPacketDetails payload.entry.now details.old details.new rejections.old rejections.new
-        result }
+    ensures details { result ≡ 0
+        → LenientDetailsAre packet_family payload.entry.now (details.new, rejections.new) }
+    ensures error { result ≢ 0 → IsCodeOf (IsHeaderError packet_family payload.entry.now) result }
+    ensures unchanged { result ≢ 0
+        → (details.new ≡ details.old) × (rejections.new ≡ rejections.old) }
 {
     store_lenient_details(payload, details, rejections)
 }
@@ -224,11 +234,11 @@ pub extern "C" fn sockdiag_vsock_get_lenient_details(
     details: &mut VsockResponseHeader,
     rejections: &mut Rejections,
 ) -> u32
-    // In order: the layout of the reply, which attributes are accepted (all), the header that is
-    // stored, the payload, and both structs before and after the call.
-    ensures { IsLenientResultBy (raw_reply_spec vsock_header) (check_attribute no_errors_in)
-        (λ header found _. found ≡ header) payload.now details.old details.new rejections.old
-        rejections.new result }
+    ensures details { result ≡ 0
+        → LenientDetailsAre vsock_family payload.now (details.new, rejections.new) }
+    ensures error { result ≢ 0 → IsCodeOf (IsHeaderError vsock_family payload.now) result }
+    ensures unchanged { result ≢ 0
+        → (details.new ≡ details.old) × (rejections.new ≡ rejections.old) }
 {
     store_lenient_details(payload, details, rejections)
 }
@@ -246,56 +256,11 @@ pub extern "C" fn sockdiag_xdp_get_lenient_details(
     details: &mut XdpDetails,
     rejections: &mut Rejections,
 ) -> u32
-    // In order: the layout of the reply, which attributes are accepted, what the struct has for a
-    // header and the accepted attributes, the payload, and both structs before and after the call.
-    ensures { IsLenientResultBy (raw_reply_spec xdp_header) (check_attribute xdp_errors_in)
-        HasXdpDetails payload.now details.old details.new rejections.old rejections.new result }
+    ensures details { result ≡ 0
+        → LenientDetailsAre xdp_family payload.now (details.new, rejections.new) }
+    ensures error { result ≢ 0 → IsCodeOf (IsHeaderError xdp_family payload.now) result }
+    ensures unchanged { result ≢ 0
+        → (details.new ≡ details.old) × (rejections.new ≡ rejections.old) }
 {
     store_lenient_details(payload, details, rejections)
-}
-
-// Stores the header and the first valid attribute of each kind in the details, and the first error
-// of each kind in the rejections. Returns 0, or the code of the error of the header; then both are
-// unchanged.
-fn store_lenient_details<'a, T: ReplyDetails<'a>>(
-    payload: &'a [u8],
-    details: &mut T,
-    rejections: &mut Rejections,
-) -> u32
-    ensures { IsLenientResultBy T.reply T.decode T.describes payload.entry.now details.old
-        details.new rejections.old rejections.new result }
-{
-    match T::parse_header(payload) {
-        Ok((mut found, rest)) => {
-            *rejections = set_valid_details(rest, &mut found);
-            *details = found;
-            OK
-        }
-        Err(error) => u32::from(error.number()),
-    }
-}
-
-// Parses each attribute. Sets the fields of the valid ones, unless they are set already, and
-// returns the errors of the others.
-fn set_valid_details<'a, T: ReplyDetails<'a>>(bytes: &'a [u8], details: &mut T) -> Rejections
-    ensures items { (items : List (LenientItem T.reply.attribute_set))
-        × HasLenientItemsBy T.decode bytes.entry.now items
-        × ((h : T.reply.header.Value) → T.describes h details.old []
-        → T.describes h details.new (accepted_values items))
-        × HasRejections result items }
-{
-    let mut rejections = NO_REJECTIONS;
-    for item in NlasIterator::new(bytes) {
-        match item {
-            Ok(nla) => match details.set_detail(&nla) {
-                Ok(()) => {}
-                Err(error) => rejections.add_attribute(nla.kind(), error),
-            },
-            Err(error) => {
-                rejections.add_framing(error);
-                return rejections;
-            }
-        }
-    }
-    rejections
 }

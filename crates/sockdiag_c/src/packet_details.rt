@@ -1,29 +1,18 @@
 //! The contents of a reply about a packet socket, as a C struct.
 
-ghost use Rattle.std.specs.Prelude.{◌≡◌, [], ◌∷◌, IfOk, IfErr};
-ghost use Rattle.netlink_core.specs.Response.{ReplyValue, response_codec};
-ghost use Rattle.netlink_core.specs.Walk.{buffered_attribute};
-ghost use Rattle.sock_diag_families.specs.PacketAttributes.{packet_info, packet_ring};
-ghost use Rattle.sock_diag_families.specs.PacketResponseHeader.{packet_header};
-ghost use Rattle.sock_diag_any.specs.RawReply.{raw_reply_spec};
-ghost use Rattle.sockdiag_c.specs.Answers.{IsCheckResultBy};
-ghost use Rattle.sockdiag_c.specs.FamilyValues.{RejectsReplyOrValue, check_attribute, parse_first};
-ghost use Rattle.sockdiag_c.specs.PacketDetails.{HasPacketDetails, IsPacketDetailsOf};
-ghost use Rattle.sockdiag_c.specs.PacketDetails.{packet_errors_in, packet_value_errors};
+ghost use Rattle.std.specs.Prelude.{◌≡◌, ◌≢◌};
+ghost use Rattle.sockdiag_c.specs.Family.{DetailsAre, IsCodeOf, IsFirstError};
+ghost use Rattle.sockdiag_c.specs.PacketDetails.{packet_family};
 
-use crate::check::OK;
-use crate::details::{NO_NUMBER, NO_TEXT, Number, ReplyDetails, Text};
-use crate::family_values::{
-    FirstError, Memory, NO_MEMORY, OneAttribute, split_header, store, store_first,
-};
+use crate::details::{BYTES, NO_NUMBER, NO_TEXT, Number, ReplyDetails, Text, store_details};
+use crate::family_values::{Memory, NO_MEMORY, set_record, split_header};
 use netlink_core::{DecodeError, NlaBuffer};
-use sock_diag_any::RawAttributes;
-use sock_diag_any::packet::{self, PacketResponseView};
 use sock_diag_families::packet::{
     PACKET_DIAG_FANOUT, PACKET_DIAG_FILTER, PACKET_DIAG_INFO, PACKET_DIAG_MCLIST,
     PACKET_DIAG_MEMINFO, PACKET_DIAG_RX_RING, PACKET_DIAG_TX_RING, PACKET_DIAG_UID, PacketInfo,
     PacketResponseHeader, PacketRing,
 };
+use sock_diag_values::inet::MemInfo;
 
 /// Everything that a reply contains about a packet socket, by the attributes of
 /// `linux/packet_diag.h`.
@@ -61,7 +50,7 @@ pub struct PacketDetails<'a> {
     pub filter: Text<'a>,
 }
 
-/// The information of a reply that has none.
+// The information of a reply that has none.
 const NO_INFO: PacketInfo = PacketInfo {
     interface: 0,
     version: 0,
@@ -71,7 +60,7 @@ const NO_INFO: PacketInfo = PacketInfo {
     flags: 0,
 };
 
-/// The ring of a reply that has none.
+// The ring of a reply that has none.
 const NO_RING: PacketRing = PacketRing {
     block_size: 0,
     blocks: 0,
@@ -82,8 +71,8 @@ const NO_RING: PacketRing = PacketRing {
     features: 0,
 };
 
-/// Details in which nothing is set.
-pub(crate) const NO_DETAILS: PacketDetails<'static> = PacketDetails {
+// Details in which nothing is set.
+const NO_DETAILS: PacketDetails<'static> = PacketDetails {
     header: PacketResponseHeader {
         kind: 0,
         protocol: 0,
@@ -103,13 +92,12 @@ pub(crate) const NO_DETAILS: PacketDetails<'static> = PacketDetails {
     filter: NO_TEXT,
 };
 
-/// Checks a whole reply about a packet socket, and returns its contents. The bytes are the payload
-/// of the netlink message. Returns 0, or the code of the first error; then the details are
-/// unchanged. If the reply has several attributes of a kind, the first one counts. The framing of
-/// all attributes is checked before their values, and values are checked in the order of their
-/// kinds. A record that the reply does not contain is unchanged, and its field `has_..` is 0: do
-/// not use it. All other fields are set. Texts point into the payload, and are valid as long as it
-/// is.
+/// Checks a whole reply about a packet socket, and returns its contents, in one pass over the
+/// attributes. The bytes are the payload of the netlink message. Returns 0, and sets all fields: a
+/// number or a record that the reply does not contain is all 0. Or returns the code of the first
+/// error, in the order of the bytes, and then the details are unchanged. The previous contents of
+/// the details are not read. Each attribute is checked, and of several attributes of a kind the
+/// first one counts. Texts point into the payload, and are valid as long as it is.
 ///
 /// One rejected attribute hides the others: `sockdiag_packet_get_lenient_details` returns them.
 #[unsafe(no_mangle)]
@@ -117,84 +105,15 @@ pub extern "C" fn sockdiag_packet_get_details<'a>(
     payload: &'a [u8],
     details: &mut PacketDetails<'a>,
 ) -> u32
-    // In order: how the payload parses, the first error of the reply or else of its values, what
-    // the struct has for a parsed reply, and the struct before and after the call.
-    ensures { IsCheckResultBy ((response_codec (raw_reply_spec packet_header)).parses
-        payload.entry.now tt)
-        (RejectsReplyOrValue (raw_reply_spec packet_header) packet_value_errors payload.entry.now)
-        (IsPacketDetailsOf details.old)
-        details.old details.new
-        result }
+    ensures details { result ≡ 0 → DetailsAre packet_family payload.entry.now details.new }
+    ensures error { result ≢ 0 → IsCodeOf (IsFirstError packet_family payload.entry.now) result }
+    ensures unchanged { result ≢ 0 → details.new ≡ details.old }
 {
-    match read(payload, details) {
-        Ok(found) => {
-            *details = found;
-            OK
-        }
-        Err(error) => u32::from(error.number()),
-    }
-}
-
-/// Parses the reply over the old details, and returns its contents or the first error.
-#[inline(always)]
-pub(crate) fn read<'a>(
-    payload: &'a [u8],
-    old: &PacketDetails<'a>,
-) -> Result<PacketDetails<'a>, DecodeError>
-    ensures value { IfOk result (λ found. (v : ReplyValue (raw_reply_spec packet_header))
-        × (response_codec (raw_reply_spec packet_header)).parses payload.entry.now tt v
-        × IsPacketDetailsOf old.now v found) }
-    ensures error { IfErr result
-        (RejectsReplyOrValue (raw_reply_spec packet_header) packet_value_errors payload.entry.now) }
-{
-    let reply = PacketResponseView::parse(payload)?;
-    let mut errors = FirstError { first: None };
-    let mut found = *old;
-    found.header = reply.header().0;
-    found.has_info = store(errors.keep(packet::info(&reply)), &mut found.info);
-    found.addresses = Text::from(packet::addresses(&reply));
-    found.has_receive_ring = store(
-        errors.keep(packet::receive_ring(&reply)),
-        &mut found.receive_ring,
-    );
-    found.has_send_ring = store(errors.keep(packet::send_ring(&reply)), &mut found.send_ring);
-    found.fanout = Number::from(errors.keep(packet::fanout(&reply)));
-    found.owner = Number::from(errors.keep(packet::owner(&reply)));
-    found.memory = Memory::from(errors.keep(packet::memory(&reply)));
-    found.filter = Text::from(packet::filter(&reply));
-    match errors.first {
-        Some(error) => Err(error),
-        None => Ok(found),
-    }
-}
-
-// Parses the attribute as `struct packet_diag_info`, if it has its kind.
-fn info(nla: OneAttribute<'_>) -> Result<Option<PacketInfo>, DecodeError>
-    ensures { result
-        ≡ parse_first packet_info PACKET_DIAG_INFO (buffered_attribute nla.entry.0 ∷ []) }
-{
-    match nla.bytes_of(PACKET_DIAG_INFO) {
-        Some(value) => Ok(Some(PacketInfo::parse(value)?)),
-        None => Ok(None),
-    }
-}
-
-// Parses the attribute as `struct packet_diag_ring`, if it has the kind.
-fn ring(nla: OneAttribute<'_>, kind: u16) -> Result<Option<PacketRing>, DecodeError>
-    ensures { result ≡ parse_first (packet_ring kind) kind (buffered_attribute nla.entry.0 ∷ []) }
-{
-    match nla.bytes_of(kind) {
-        Some(value) => Ok(Some(PacketRing::parse(value, kind)?)),
-        None => Ok(None),
-    }
+    store_details(payload, details)
 }
 
 impl<'a> ReplyDetails<'a> for PacketDetails<'a> {
-    ghost reply = { raw_reply_spec packet_header };
-
-    ghost decode = { check_attribute packet_errors_in };
-
-    ghost describes = { HasPacketDetails };
+    ghost family = { packet_family };
 
     #[inline(always)]
     fn parse_header(payload: &'a [u8]) -> Result<(Self, &'a [u8]), DecodeError> {
@@ -204,26 +123,36 @@ impl<'a> ReplyDetails<'a> for PacketDetails<'a> {
         Ok((found, rest))
     }
 
-    fn set_detail(&mut self, nla: &NlaBuffer<'a>) -> Result<(), DecodeError> {
-        let nla = OneAttribute(*nla);
-        let info = info(nla)?;
-        let receive_ring = ring(nla, PACKET_DIAG_RX_RING)?;
-        let send_ring = ring(nla, PACKET_DIAG_TX_RING)?;
-        let fanout = nla.number_of(PACKET_DIAG_FANOUT)?;
-        let owner = nla.number_of(PACKET_DIAG_UID)?;
-        let memory = nla.record_of(PACKET_DIAG_MEMINFO)?;
-        self.has_info = store_first(info, self.has_info, &mut self.info);
-        self.addresses.set_first(nla.bytes_of(PACKET_DIAG_MCLIST));
-        self.has_receive_ring = store_first(
-            receive_ring,
-            self.has_receive_ring,
-            &mut self.receive_ring,
-        );
-        self.has_send_ring = store_first(send_ring, self.has_send_ring, &mut self.send_ring);
-        self.fanout.set_first(fanout);
-        self.owner.set_first(owner);
-        self.memory.set_first(memory);
-        self.filter.set_first(nla.bytes_of(PACKET_DIAG_FILTER));
-        Ok(())
+    fn set_value(&mut self, nla: &NlaBuffer<'a>) -> Result<(), DecodeError> {
+        let value = nla.value();
+        match nla.kind() {
+            PACKET_DIAG_INFO => set_record(
+                PacketInfo::parse(value),
+                &mut self.has_info,
+                &mut self.info,
+            ),
+            PACKET_DIAG_MCLIST => {
+                self.addresses.set(BYTES, value);
+                Ok(())
+            }
+            PACKET_DIAG_RX_RING => set_record(
+                PacketRing::parse(value, PACKET_DIAG_RX_RING),
+                &mut self.has_receive_ring,
+                &mut self.receive_ring,
+            ),
+            PACKET_DIAG_TX_RING => set_record(
+                PacketRing::parse(value, PACKET_DIAG_TX_RING),
+                &mut self.has_send_ring,
+                &mut self.send_ring,
+            ),
+            PACKET_DIAG_FANOUT => self.fanout.set_u32(value, PACKET_DIAG_FANOUT),
+            PACKET_DIAG_UID => self.owner.set_u32(value, PACKET_DIAG_UID),
+            PACKET_DIAG_MEMINFO => self.memory.set(MemInfo::parse(value)),
+            PACKET_DIAG_FILTER => {
+                self.filter.set(BYTES, value);
+                Ok(())
+            }
+            _ => Ok(()),
+        }
     }
 }

@@ -1,10 +1,9 @@
 //! The values of `INET_DIAG_INFO` and `INET_DIAG_SKMEMINFO`: the state of a TCP connection, and the
 //! memory of an internet socket.
 
-ghost use Rattle.std.specs.Prelude.{◌≡◌, List, [], drop, length, unwrap_or};
+ghost use Rattle.std.specs.Prelude.{◌≡◌, List, drop, length};
 ghost use Rattle.netlink_core.specs.Attribute.{Attribute};
-ghost use Rattle.sock_diag_replies.specs.UnixGetters.{first_content_of};
-ghost use Rattle.sockdiag_c.specs.TcpInfo.{AreAttributesIn, padded_or_truncated, value_of_type};
+ghost use Rattle.sockdiag_c.specs.TcpInfo.{AreAttributesIn, first_of_type, padded_or_truncated};
 
 use netlink_core::NlasIterator;
 use netlink_packet_sock_diag::constants::{INET_DIAG_INFO, INET_DIAG_SKMEMINFO};
@@ -29,14 +28,14 @@ pub(crate) const LONG_TCP_INFO_LEN: usize = 280;
 #[unsafe(no_mangle)]
 pub extern "C" fn sockdiag_inet_get_tcp_info(payload: &[u8], info: &mut [u8; TCP_INFO_LEN]) -> usize
     // attributes: those after the header, up to the end or to a framing error.
-    ensures { (attributes : List Attribute) → AreAttributesIn (drop 72 payload.now) attributes
-        → let value =
-        unwrap_or (first_content_of (value_of_type INET_DIAG_INFO) attributes) [] in
-        (result ≡ length value) × (info.new ≡ padded_or_truncated 232 value) }
+    ensures length { (attributes : List Attribute)
+        → AreAttributesIn (drop 72 payload.now) attributes
+        → result ≡ length (first_of_type INET_DIAG_INFO attributes) }
+    ensures bytes { (attributes : List Attribute)
+        → AreAttributesIn (drop 72 payload.now) attributes
+        → info.new ≡ padded_or_truncated 232 (first_of_type INET_DIAG_INFO attributes) }
 {
-    let value = first_value(bytes_after_inet_header(payload), INET_DIAG_INFO);
-    fill(value, info);
-    value.len()
+    copy_first_value(payload, INET_DIAG_INFO, info)
 }
 
 /// Copies the value of the first `INET_DIAG_INFO` after the header of a reply about an IPv4 or IPv6
@@ -53,14 +52,14 @@ pub extern "C" fn sockdiag_inet_get_long_tcp_info(
     info: &mut [u8; LONG_TCP_INFO_LEN],
 ) -> usize
     // attributes: those after the header, up to the end or to a framing error.
-    ensures { (attributes : List Attribute) → AreAttributesIn (drop 72 payload.now) attributes
-        → let value =
-        unwrap_or (first_content_of (value_of_type INET_DIAG_INFO) attributes) [] in
-        (result ≡ length value) × (info.new ≡ padded_or_truncated 280 value) }
+    ensures length { (attributes : List Attribute)
+        → AreAttributesIn (drop 72 payload.now) attributes
+        → result ≡ length (first_of_type INET_DIAG_INFO attributes) }
+    ensures bytes { (attributes : List Attribute)
+        → AreAttributesIn (drop 72 payload.now) attributes
+        → info.new ≡ padded_or_truncated 280 (first_of_type INET_DIAG_INFO attributes) }
 {
-    let value = first_value(bytes_after_inet_header(payload), INET_DIAG_INFO);
-    fill(value, info);
-    value.len()
+    copy_first_value(payload, INET_DIAG_INFO, info)
 }
 
 /// Copies the value of the first `INET_DIAG_SKMEMINFO` after the header of a reply about an IPv4 or
@@ -73,13 +72,31 @@ pub extern "C" fn sockdiag_inet_get_long_tcp_info(
 #[unsafe(no_mangle)]
 pub extern "C" fn sockdiag_inet_get_memory(payload: &[u8], memory: &mut [u8; MEM_INFO_LEN]) -> usize
     // attributes: those after the header, up to the end or to a framing error.
-    ensures { (attributes : List Attribute) → AreAttributesIn (drop 72 payload.now) attributes
-        → let value =
-        unwrap_or (first_content_of (value_of_type INET_DIAG_SKMEMINFO) attributes) [] in
-        (result ≡ length value) × (memory.new ≡ padded_or_truncated 36 value) }
+    ensures length { (attributes : List Attribute)
+        → AreAttributesIn (drop 72 payload.now) attributes
+        → result ≡ length (first_of_type INET_DIAG_SKMEMINFO attributes) }
+    ensures bytes { (attributes : List Attribute)
+        → AreAttributesIn (drop 72 payload.now) attributes
+        → memory.new ≡ padded_or_truncated 36 (first_of_type INET_DIAG_SKMEMINFO attributes) }
 {
-    let value = first_value(bytes_after_inet_header(payload), INET_DIAG_SKMEMINFO);
-    fill(value, memory);
+    copy_first_value(payload, INET_DIAG_SKMEMINFO, memory)
+}
+
+// Copies the value of the first attribute of the kind after the header of a reply, truncated to `N`
+// bytes or followed by zeros. Returns its length, or 0 if there is none.
+fn copy_first_value<const N: usize>(payload: &[u8], kind: u16, found: &mut [u8; N]) -> usize
+    ensures length { (attributes : List Attribute)
+        → AreAttributesIn (drop 72 payload.now) attributes
+        → result ≡ length (first_of_type kind attributes) }
+    ensures bytes { (attributes : List Attribute)
+        → AreAttributesIn (drop 72 payload.now) attributes
+        → found.new ≡ padded_or_truncated N (first_of_type kind attributes) }
+{
+    let value = first_value(bytes_after_inet_header(payload), kind);
+    let len = value.len().min(N);
+    let (front, behind) = found.split_at_mut(len);
+    front.copy_from_slice(&value[..len]);
+    behind.fill(0);
     value.len()
 }
 
@@ -96,7 +113,7 @@ fn bytes_after_inet_header(payload: &[u8]) -> &[u8]
 // Returns the value of the first attribute of the kind, or no bytes if there is none.
 fn first_value(bytes: &[u8], kind: u16) -> &[u8]
     ensures { (attributes : List Attribute) → AreAttributesIn bytes.entry.now attributes
-        → result.now ≡ unwrap_or (first_content_of (value_of_type kind) attributes) [] }
+        → result.now ≡ first_of_type kind attributes }
 {
     for item in NlasIterator::new(bytes) {
         match item {
@@ -109,14 +126,4 @@ fn first_value(bytes: &[u8], kind: u16) -> &[u8]
         }
     }
     &[]
-}
-
-// Copies the value, truncated to `N` bytes or followed by zeros.
-fn fill<const N: usize>(value: &[u8], found: &mut [u8; N])
-    ensures { found.new ≡ padded_or_truncated N value.now }
-{
-    let len = value.len().min(N);
-    let (front, behind) = found.split_at_mut(len);
-    front.copy_from_slice(&value[..len]);
-    behind.fill(0);
 }

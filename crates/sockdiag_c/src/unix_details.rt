@@ -1,17 +1,17 @@
 //! The contents of a reply about a UNIX socket, as a C struct.
 
-ghost use Rattle.std.specs.Prelude.{◌≡◌};
+ghost use Rattle.std.specs.Prelude.{◌≡◌, ◌≢◌, Ok};
+ghost use Rattle.netlink_core.specs.Attribute.{Attribute};
 ghost use Rattle.netlink_core.specs.AttributeSet.{decode_attribute};
 ghost use Rattle.sock_diag_attributes.specs.UnixAttributes.{unix_attribute_set};
 ghost use Rattle.sock_diag_attributes.specs.UnixModel.{unix_nla_view_model};
-ghost use Rattle.sock_diag_replies.specs.UnixResponseSpec.{unix_response_spec};
-ghost use Rattle.sockdiag_c.specs.Details.{text_parts};
-ghost use Rattle.sockdiag_c.specs.Headers.{unix_header_of};
-ghost use Rattle.sockdiag_c.specs.private.FirstNumber.{first_present};
-ghost use Rattle.sockdiag_c.specs.UnixDetails.{HasUnixDetails, name_text};
-ghost use Rattle.sockdiag_c.specs.private.UnixDetails.{unix_details_with};
+ghost use Rattle.sockdiag_c.specs.Family.{DetailsAre, IsCodeOf, IsFirstError};
+ghost use Rattle.sockdiag_c.specs.UnixDetails.{unix_family, unix_rows};
+ghost use Rattle.sockdiag_c.specs.private.Rows.{AddsValues};
 
-use crate::details::{ABSTRACT, NO_NUMBER, Number, ReplyDetails, TEXT, Text};
+use crate::details::{
+    ABSTRACT, NO_NUMBER, NO_TEXT, Number, ReplyDetails, TEXT, Text, store_details,
+};
 use crate::headers::UnixHeader;
 use netlink_core::{DecodeError, NlaBuffer};
 use netlink_packet_sock_diag::unix::nlas::{NameView, NlaView};
@@ -54,13 +54,36 @@ pub struct UnixDetails<'a> {
     pub shutdown: Number,
 }
 
+/// Checks a whole reply about a UNIX socket, as `sockdiag_check_unix_reply` does, and returns its
+/// contents, in one pass over the attributes. The bytes are the payload of the netlink message.
+/// Returns 0, and sets all fields: a number that the reply does not contain is all 0. Or returns
+/// the code of the first error, in the order of the bytes, and then the details are unchanged. The
+/// previous contents of the details are not read. Each attribute is checked, and of several
+/// attributes of a kind the first one counts. Texts point into the payload, and are valid as long
+/// as it is. The family, the first byte, is not checked: use it to choose the call.
+///
+/// Attributes without a field, such as `UNIX_DIAG_UID`, are not an error: `sockdiag_next_attribute`
+/// returns them. Old kernels send values that are rejected: `sockdiag_unix_get_lenient_details`
+/// returns the other attributes.
+#[unsafe(no_mangle)]
+pub extern "C" fn sockdiag_unix_get_details<'a>(
+    payload: &'a [u8],
+    details: &mut UnixDetails<'a>,
+) -> u32
+    ensures details { result ≡ 0 → DetailsAre unix_family payload.entry.now details.new }
+    ensures error { result ≢ 0 → IsCodeOf (IsFirstError unix_family payload.entry.now) result }
+    ensures unchanged { result ≢ 0 → details.new ≡ details.old }
+{
+    store_details(payload, details)
+}
+
 impl<'a> UnixDetails<'a> {
     // Sets the fields of the attribute, unless an earlier attribute of its kind has set them.
     fn set(&mut self, nla: NlaView<'a>)
-        ensures numbers { self.new ≡ unix_details_with self.new.name self.old
-            (unix_nla_view_model nla.entry) }
-        ensures name { text_parts self.new.name
-            ≡ first_present (text_parts self.old.name) (name_text (unix_nla_view_model nla.entry)) }
+        ensures header { self.new.header ≡ self.old.header }
+        ensures values { (a : Attribute)
+            → decode_attribute unix_attribute_set a ≡ Ok (unix_nla_view_model nla.entry)
+            → AddsValues unix_rows a self.old self.new }
     {
         match nla {
             NlaView::Name(NameView::Pathname(path)) => self.name.set(TEXT, path),
@@ -87,18 +110,14 @@ impl<'a> UnixDetails<'a> {
 }
 
 impl<'a> ReplyDetails<'a> for UnixDetails<'a> {
-    ghost reply = { unix_response_spec };
-
-    ghost decode = { decode_attribute unix_attribute_set };
-
-    ghost describes = { λ h found vs. HasUnixDetails (unix_header_of h) found vs };
+    ghost family = { unix_family };
 
     #[inline(always)]
     fn parse_header(payload: &'a [u8]) -> Result<(Self, &'a [u8]), DecodeError> {
         let header = UnixResponseHeader::from_prefix(payload)?;
         let found = UnixDetails {
             header: UnixHeader::from(header),
-            name: Text::none(),
+            name: NO_TEXT,
             file_inode: NO_NUMBER,
             file_device: NO_NUMBER,
             peer: NO_NUMBER,
@@ -113,7 +132,7 @@ impl<'a> ReplyDetails<'a> for UnixDetails<'a> {
     }
 
     #[inline(always)]
-    fn set_detail(&mut self, nla: &NlaBuffer<'a>) -> Result<(), DecodeError> {
+    fn set_value(&mut self, nla: &NlaBuffer<'a>) -> Result<(), DecodeError> {
         let view = NlaView::parse(nla)?;
         self.set(view);
         Ok(())

@@ -1,17 +1,12 @@
 //! The contents of a reply about a vsock socket: its header.
 
-ghost use Rattle.std.specs.Prelude.{◌≡◌};
-ghost use Rattle.netlink_core.specs.Response.{response_codec};
-ghost use Rattle.sock_diag_families.specs.VsockResponseHeader.{vsock_header};
-ghost use Rattle.sock_diag_any.specs.RawReply.{raw_reply_spec};
-ghost use Rattle.sockdiag_c.specs.Answers.{IsCheckResult};
-ghost use Rattle.sockdiag_c.specs.FamilyValues.{check_attribute, no_errors_in};
+ghost use Rattle.std.specs.Prelude.{◌≡◌, ◌≢◌};
+ghost use Rattle.sockdiag_c.specs.Family.{DetailsAre, IsCodeOf, IsFirstError};
+ghost use Rattle.sockdiag_c.specs.VsockDetails.{vsock_family};
 
-use crate::check::OK;
-use crate::details::ReplyDetails;
+use crate::details::{ReplyDetails, store_details};
 use crate::family_values::split_header;
 use netlink_core::{DecodeError, NlaBuffer};
-use sock_diag_any::vsock::VsockResponseView;
 use sock_diag_families::vsock::VsockResponseHeader;
 
 /// Checks a whole reply about a vsock socket, and returns its header. The bytes are the payload of
@@ -27,28 +22,16 @@ pub extern "C" fn sockdiag_vsock_get_details(
     payload: &[u8],
     details: &mut VsockResponseHeader,
 ) -> u32
-    // In order: how the payload parses, its errors, the header that is stored, and the header
-    // before and after the call.
-    ensures { IsCheckResult ((response_codec (raw_reply_spec vsock_header)).parses payload.now tt)
-        ((response_codec (raw_reply_spec vsock_header)).rejects payload.now tt)
-        (λ v. v.header) details.old details.new result }
+    ensures details { result ≡ 0 → DetailsAre vsock_family payload.now details.new }
+    ensures error { result ≢ 0 → IsCodeOf (IsFirstError vsock_family payload.now) result }
+    ensures unchanged { result ≢ 0 → details.new ≡ details.old }
 {
-    match VsockResponseView::parse(payload) {
-        Ok(view) => {
-            *details = view.header().0;
-            OK
-        }
-        Err(error) => u32::from(error.number()),
-    }
+    store_details(payload, details)
 }
 
 // A reply about a vsock socket has no attributes that are parsed.
 impl<'a> ReplyDetails<'a> for VsockResponseHeader {
-    ghost reply = { raw_reply_spec vsock_header };
-
-    ghost decode = { check_attribute no_errors_in };
-
-    ghost describes = { λ header found _. found ≡ header };
+    ghost family = { vsock_family };
 
     #[inline(always)]
     fn parse_header(payload: &'a [u8]) -> Result<(Self, &'a [u8]), DecodeError> {
@@ -56,7 +39,7 @@ impl<'a> ReplyDetails<'a> for VsockResponseHeader {
     }
 
     #[inline(always)]
-    fn set_detail(&mut self, _nla: &NlaBuffer<'a>) -> Result<(), DecodeError> {
+    fn set_value(&mut self, _nla: &NlaBuffer<'a>) -> Result<(), DecodeError> {
         Ok(())
     }
 }

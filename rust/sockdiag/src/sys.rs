@@ -968,16 +968,6 @@ extern "C" {
         message_type: u16,
         reply: *mut Reply,
     ) -> u32;
-    fn sockdiag_unix_get_details<'a>(
-        payload: *const u8,
-        length: usize,
-        details: *mut UnixDetails<'a>,
-    ) -> u32;
-    fn sockdiag_inet_get_details<'a>(
-        payload: *const u8,
-        length: usize,
-        details: *mut InetDetails<'a>,
-    ) -> u32;
     fn sockdiag_find_error_attributes(
         payload: *const u8,
         length: usize,
@@ -1027,6 +1017,11 @@ extern "C" {
         buffer_length: usize,
         outcome: *mut Outcome,
     ) -> usize;
+    fn sockdiag_inet_get_details<'a>(
+        payload: *const u8,
+        length: usize,
+        details: *mut InetDetails<'a>,
+    ) -> u32;
     fn sockdiag_unix_get_lenient_details<'a>(
         payload: *const u8,
         length: usize,
@@ -1131,6 +1126,11 @@ extern "C" {
         length: usize,
         memory: *mut InetMemory,
     ) -> usize;
+    fn sockdiag_unix_get_details<'a>(
+        payload: *const u8,
+        length: usize,
+        details: *mut UnixDetails<'a>,
+    ) -> u32;
     fn sockdiag_version() -> u32;
     fn sockdiag_abi_1_0() -> u32;
     fn sockdiag_is_compatible_with(version: u32) -> u32;
@@ -1226,14 +1226,6 @@ pub(crate) fn check_message(payload: &[u8], message_type: u16, reply: &mut Reply
     unsafe { sockdiag_check_message(payload.as_ptr(), payload.len(), message_type, reply) }
 }
 
-pub(crate) fn unix_get_details<'a>(payload: &'a [u8], details: &mut UnixDetails<'a>) -> u32 {
-    unsafe { sockdiag_unix_get_details(payload.as_ptr(), payload.len(), details) }
-}
-
-pub(crate) fn inet_get_details<'a>(payload: &'a [u8], details: &mut InetDetails<'a>) -> u32 {
-    unsafe { sockdiag_inet_get_details(payload.as_ptr(), payload.len(), details) }
-}
-
 pub(crate) fn find_error_attributes(
     payload: &[u8],
     message_type: u16,
@@ -1309,6 +1301,10 @@ pub(crate) fn write_inet_request_with_attributes(
             outcome,
         )
     }
+}
+
+pub(crate) fn inet_get_details<'a>(payload: &'a [u8], details: &mut InetDetails<'a>) -> u32 {
+    unsafe { sockdiag_inet_get_details(payload.as_ptr(), payload.len(), details) }
 }
 
 pub(crate) fn unix_get_lenient_details<'a>(
@@ -1453,6 +1449,10 @@ pub(crate) fn inet_get_long_tcp_info(payload: &[u8], info: &mut LongTcpInfo) -> 
 
 pub(crate) fn inet_get_memory(payload: &[u8], memory: &mut InetMemory) -> usize {
     unsafe { sockdiag_inet_get_memory(payload.as_ptr(), payload.len(), memory) }
+}
+
+pub(crate) fn unix_get_details<'a>(payload: &'a [u8], details: &mut UnixDetails<'a>) -> u32 {
+    unsafe { sockdiag_unix_get_details(payload.as_ptr(), payload.len(), details) }
 }
 
 pub(crate) fn version() -> u32 {

@@ -1,0 +1,199 @@
+-- The values and the errors of a reply after one more attribute.
+use Rattle.std.proofs.Common.{◌≡◌, ◌≢◌, ◌∙◌, ℕ, List, [], ◌∷◌, ◌++◌, Option, Some, None, refl, sym}
+use Rattle.std.proofs.Common.{Ok, ap, arith, drop, slice_get, subst}
+use Rattle.std.specs.Prelude.{⊤, ◌==◌, Bool, false, if◌then◌else◌, true}
+use Rattle.std.proofs.lemmas.List.{append_assoc, append-nil}
+use Rattle.std.specs.List.{filter_map, cons_option}
+use Rattle.netlink_core.specs.Attribute.{Attribute, IsFramingError, StartsWithAttribute}
+use Rattle.netlink_core.specs.Attribute.{attribute_kind}
+use Rattle.netlink_core.specs.Errors.{error_code}
+use Rattle.netlink_core.specs.declared.error.DecodeError.{DecodeError}
+use Rattle.sock_diag_replies.specs.UnixGetters.{first_content_of}
+use Rattle.sockdiag_c.specs.Family.{ArePartsOf, EndsWith, Family, HasValues, Parts, Row}
+use Rattle.sockdiag_c.specs.Family.{error_of_kind, first_present, value_error, value_in}
+use Rattle.sock_diag_values.specs.declared.inet.mem_info.MemInfo.{MemInfo}
+use Rattle.sockdiag_c.specs.Details.{memory_struct}
+use Rattle.sockdiag_c.specs.declared.family_values.Memory.{Memory}
+use Rattle.sockdiag_c.specs.private.Rows.{AddsValues}
+
+-- ---- the first of several
+
+option_alone : {B : Type 0} (o : Option B) → slice_get (cons_option o []) 0 ≡ o
+option_alone o =
+    grind arith
+
+first_of_prefix : {B : Type 0} (o p : Option B) (now later : List B)
+    → slice_get later 0 ≡ first_present (slice_get now 0) p
+    → slice_get (cons_option o later) 0 ≡ first_present (slice_get (cons_option o now) 0) p
+first_of_prefix o p now later e =
+    grind arith
+
+pub or_none : {A : Type 0} (o : Option A) → first_present o None ≡ o
+or_none None = refl
+or_none (Some x) = refl
+
+module _ {A B : Type 0} where
+  -- the first content of a list with one more element
+  pub first_more : (content : A → Option B) (xs : List A) (x : A)
+      → first_content_of content (xs ++ x ∷ [])
+      ≡ first_present (first_content_of content xs) (content x)
+  first_more content [] x = option_alone (content x)
+  first_more content (y ∷ ys) x =
+      grind (
+        arith,
+        first_of_prefix (content y) (content x) (filter_map content ys)
+            (filter_map content (ys ++ x ∷ [])) (first_more content ys x),
+        first_more content ys x,
+      )
+
+  -- an element without content changes nothing
+  pub first_unchanged : (content : A → Option B) (xs : List A) (x : A) → content x ≡ None
+      → first_content_of content xs ≡ first_content_of content (xs ++ x ∷ [])
+  first_unchanged content xs x none =
+      sym (first_more content xs x
+      ∙ ap (first_present (first_content_of content xs)) none
+      ∙ or_none (first_content_of content xs))
+
+module _ {D : Type 0} where
+  -- the values after one more attribute
+  pub values_after : (rows : List (Row D)) (old new : D) (attributes : List Attribute)
+      (a : Attribute)
+      → AddsValues rows a old new → HasValues rows old attributes
+      → HasValues rows new (attributes ++ a ∷ [])
+  values_after [] old new attributes a adds has = tt
+  values_after (row ∷ others) old new attributes a (adds, more) (has, later) = (
+    adds (first_content_of (value_in row) attributes) has
+        ∙ sym (ap row.contents (first_more (value_in row) attributes a)),
+    values_after others old new attributes a more later,
+  )
+
+module _ {A : Type 0} where
+  -- the first error after one more attribute, which has an error
+  pub first_after : (error_of : Attribute → Option A) (xs : List Attribute) (a : Attribute)
+      (before : Option A) (e : A)
+      → before ≡ first_content_of error_of xs → error_of a ≡ Some e
+      → first_present before (Some e) ≡ first_content_of error_of (xs ++ a ∷ [])
+  first_after error_of xs a before e was error =
+      ap (λ (o : Option A). first_present o (Some e)) was
+      ∙ ap (first_present (first_content_of error_of xs)) (sym error)
+      ∙ sym (first_more error_of xs a)
+
+if_equal : (o p : Option DecodeError) (t : Bool) → o ≡ p
+    → (if t then o else None) ≡ (if t then p else None)
+if_equal o p t is = ap (λ (x : Option DecodeError). if t then x else None) is
+
+no_value_if : (o : Option DecodeError) (t : Bool) → o ≡ None → (if t then o else None) ≡ None
+no_value_if o true is = is
+no_value_if o false is = refl
+
+module _ {D : Type 0} (family : Family D) where
+  -- the first error of a kind after an attribute without an error
+  pub kind_unchanged : (k : ℕ) (xs : List Attribute) (a : Attribute)
+      → value_error family.rows a ≡ None
+      → first_content_of (error_of_kind family k) xs
+      ≡ first_content_of (error_of_kind family k) (xs ++ a ∷ [])
+  kind_unchanged k xs a none = first_unchanged (error_of_kind family k) xs a
+      (no_value_if (value_error family.rows a) (attribute_kind a == k) none)
+
+  -- the first error of a kind after an attribute with an error
+  pub kind_after : (k : ℕ) (xs : List Attribute) (a : Attribute) (kind : ℕ) (e : DecodeError)
+      → value_error family.rows a ≡ Some e → kind ≡ attribute_kind a
+      → first_present (first_content_of (error_of_kind family k) xs)
+      (if kind == k then Some e else None)
+      ≡ first_content_of (error_of_kind family k) (xs ++ a ∷ [])
+  kind_after k xs a kind e error is =
+      ap (λ (n : ℕ). first_present (first_content_of (error_of_kind family k) xs)
+      (if n == k then Some e else None)) is
+      ∙ ap (first_present (first_content_of (error_of_kind family k) xs))
+      (if_equal _ _ (attribute_kind a == k) (sym error))
+      ∙ sym (first_more (error_of_kind family k) xs a)
+
+-- no error has the code 0
+pub code_is_not_zero : (e : DecodeError) → error_code e ≢ 0
+code_is_not_zero e =
+    grind arith
+
+-- ---- the attributes so far
+
+-- the bytes have the attributes so far, and then those of the bytes left
+pub record AttributesSoFar (bytes left : List ℕ) (so_far : List Attribute) : Type 0 where
+  pub extend : (later : List Attribute) (end : Option DecodeError) → EndsWith later end left
+      → EndsWith (so_far ++ later) end bytes
+
+pub no_attributes_yet : (bytes left : List ℕ) → left ≡ bytes → AttributesSoFar bytes left []
+no_attributes_yet bytes left same = record {
+  extend = λ later end h. subst (λ (b : List ℕ). EndsWith later end b) same h;
+}
+
+first_and_others : (bytes left : List ℕ) (a : Attribute) (later : List Attribute)
+    (end : Option DecodeError)
+    → StartsWithAttribute bytes a left → EndsWith later end left → EndsWith (a ∷ later) end bytes
+first_and_others bytes left a later None start cut = (left, start, cut)
+first_and_others bytes left a later (Some e) start (rest, cut, some, error) =
+    (rest, (left, start, cut), some, error)
+
+-- the first attribute is at the start of the bytes, and the others follow it
+pub first_attribute : (bytes : List ℕ) (a : Attribute) (others : List Attribute)
+    (end : Option DecodeError) → EndsWith (a ∷ others) end bytes
+    → (left : List ℕ) × StartsWithAttribute bytes a left × EndsWith others end left
+first_attribute bytes a others None (left, start, cut) = (left, start, cut)
+first_attribute bytes a others (Some e) (rest, (left, start, cut), some, error) =
+    (left, start, (rest, cut, some, error))
+
+pub one_more_attribute : (bytes left rest : List ℕ) (a : Attribute) (so_far : List Attribute)
+    → StartsWithAttribute left a rest → AttributesSoFar bytes left so_far
+    → AttributesSoFar bytes rest (so_far ++ a ∷ [])
+one_more_attribute bytes left rest a so_far start collected = record {
+  extend = λ later end h.
+      subst (λ (all : List Attribute). EndsWith all end bytes)
+      (sym (append_assoc so_far (a ∷ []) later))
+      (collected.extend (a ∷ later) end (first_and_others left rest a later end start h));
+}
+
+pub all_attributes : (bytes left : List ℕ) (so_far : List Attribute) → left ≡ []
+    → AttributesSoFar bytes left so_far → EndsWith so_far None bytes
+all_attributes bytes left so_far none collected =
+    subst (λ (all : List Attribute). EndsWith all None bytes) (append-nil so_far)
+    (collected.extend [] None none)
+
+pub until_framing_error : (bytes left : List ℕ) (so_far : List Attribute) (e : DecodeError)
+    → left ≢ [] → IsFramingError left e → AttributesSoFar bytes left so_far
+    → EndsWith so_far (Some e) bytes
+until_framing_error bytes left so_far e some error collected =
+    subst (λ (all : List Attribute). EndsWith all (Some e) bytes) (append-nil so_far)
+    (collected.extend [] (Some e) (left, refl, some, error))
+
+-- ---- an attribute without values
+
+-- no row has a value in the attribute
+abbrev pub NoValues : {D : Type 0} → List (Row D) → Attribute → Type 0
+NoValues [] a = ⊤
+NoValues (row ∷ others) a = (value_in row a ≡ None) × NoValues others a
+
+-- it changes nothing
+pub unchanged : {D : Type 0} (rows : List (Row D)) (a : Attribute) (d : D) → NoValues rows a
+    → AddsValues rows a d d
+unchanged [] a d none = tt
+unchanged (row ∷ others) a d (none, more) = (
+  λ o has. has ∙ ap row.contents (sym (ap (first_present o) none ∙ or_none o)),
+  unchanged others a d more,
+)
+
+-- memory that is not set is set
+pub memory_set : (o : Option MemInfo) (old new : Memory) (m : MemInfo)
+    → old.receive_queue.is_set ≡ 0 → old ≡ memory_struct o → new ≡ memory_struct (Some m)
+    → new ≡ memory_struct (first_present o (Some m))
+memory_set None old new m unset was is = is
+memory_set (Some x) old new m unset was is =
+    absurd (omega (arith, unset, ap (λ (d : Memory). d.receive_queue.is_set) was))
+
+-- the parts of a reply, after its header was parsed into a struct
+pub are_parts : {D : Type 0} (family : Family D) (payload rest : List ℕ) (d : D)
+    (parts : Parts family.Header)
+    → family.parse_header payload ≡ Ok (family.header d) → rest ≡ drop family.header_size payload
+    → EndsWith parts.attributes parts.framing_error rest → parts.header ≡ family.header d
+    → ArePartsOf family payload parts
+are_parts family payload rest d parts header same ends is = (
+  header ∙ ap Ok (sym is),
+  subst (λ (b : List ℕ). EndsWith parts.attributes parts.framing_error b) same ends,
+)

@@ -1,0 +1,27 @@
+use Rattle.std.proofs.Common.{◌∙◌, ap, sym}
+use Rattle.std.proofs.lemmas.Result.{err_from_is_err_and}
+use Rattle.std.specs.Result.{result_err}
+use Rattle.netlink_core.specs.Walk.{buffered_attribute}
+use Rattle.sockdiag_c.specs.UnixDetails.{unix_rows}
+use Rattle.sockdiag_c.proofs.RejectedKinds.{unix_error, no_unix_values}
+use Rattle.sockdiag_c.proofs.Rows.{unchanged}
+use Rattle.sockdiag_c.proofs.unix_details.UnixDetailsReplyDetails.set_value.Goals as goal
+
+pub returns-clause-values : goal.returns-clause-values
+returns-clause-values c =
+    c.set.ensures.values (buffered_attribute c.args.nla.now) c.in_ok-view.ensures
+
+pub returns-clause-error : goal.returns-clause-error
+returns-clause-error c =
+    sym (unix_error (buffered_attribute c.args.nla.now) ∙ ap result_err c.in_ok-view.ensures)
+
+pub returns-in_err-view-clause-values : goal.returns-in_err-view-clause-values
+returns-in_err-view-clause-values c =
+    let a = buffered_attribute c.args.nla.now in
+    unchanged unix_rows a c.args.self.now (no_unix_values a _ c.in_err-view.ensures)
+
+pub returns-in_err-view-clause-error : goal.returns-in_err-view-clause-error
+returns-in_err-view-clause-error c =
+    let p = err_from_is_err_and c.from_residual.result c.from_residual.ensures.1 in
+    rw (p.1, p.2) (sym (unix_error (buffered_attribute c.args.nla.now)
+    ∙ ap result_err c.in_err-view.ensures))

@@ -1,0 +1,16 @@
+-- The contents of a reply about a vsock socket: its header.
+use Rattle.std.specs.Prelude.{[]}
+use Rattle.netlink_core.specs.Layout.{parse_record}
+use Rattle.sock_diag_families.specs.VsockResponseHeader.{vsock_header}
+use Rattle.sock_diag_families.specs.declared.vsock.response.VsockResponseHeader.{VsockResponseHeader}
+use Rattle.sockdiag_c.specs.Family.{Family}
+
+-- replies about vsock sockets, to which Linux adds no attributes
+abbrev pub vsock_family : Family VsockResponseHeader
+vsock_family = record {
+  Header = VsockResponseHeader;
+  parse_header = parse_record vsock_header tt;
+  header_size = vsock_header.least;
+  header = λ d. d;
+  rows = [];
+}
