@@ -140,13 +140,12 @@ pub(crate) fn store_details<'a, T: ReplyDetails<'a>>(payload: &'a [u8], details:
 }
 
 /// Parses the reply, and returns its contents or the first error.
-#[inline(always)]
 pub(crate) fn strict_details<'a, T: ReplyDetails<'a>>(payload: &'a [u8]) -> Result<T, DecodeError>
     ensures details { IfOk result (DetailsAre T.family payload.entry.now) }
     ensures error { IfErr result (IsFirstError T.family payload.entry.now) }
 {
-    let (found, errors) = read::<T>(payload)?;
-    match errors.first {
+    let (mut found, rest) = T::parse_header(payload)?;
+    match set_values(rest, &mut found).first {
         Some(error) => Err(error),
         None => Ok(found),
     }
@@ -166,30 +165,29 @@ pub(crate) fn store_lenient_details<'a, T: ReplyDetails<'a>>(
     ensures unchanged { result ≢ 0
         → (details.new ≡ details.old) × (rejections.new ≡ rejections.old) }
 {
-    match read::<T>(payload) {
-        Ok((found, errors)) => {
+    match lenient_details::<T>(payload, rejections) {
+        Ok(found) => {
             *details = found;
-            *rejections = errors.rejections;
             OK
         }
         Err(error) => u32::from(error.number()),
     }
 }
 
-// Parses the header, and each attribute up to a framing error. Returns the contents and the errors
-// after the header, or the error of the header.
-#[inline(always)]
-fn read<'a, T: ReplyDetails<'a>>(payload: &'a [u8]) -> Result<(T, Errors), DecodeError>
-    ensures value { IfOk result (λ read. (parts : Parts T.family.Header)
-        × ArePartsOf T.family payload.entry.now parts
-        × Describes T.family read.0 parts
-        × HasRejections T.family read.1.rejections parts
-        × (read.1.first ≡ first_error T.family parts)) }
+// Parses the reply, and returns its contents and stores the errors, or returns the error of the
+// header.
+fn lenient_details<'a, T: ReplyDetails<'a>>(
+    payload: &'a [u8],
+    rejections: &mut Rejections,
+) -> Result<T, DecodeError>
+    ensures details { IfOk result (λ found.
+        LenientDetailsAre T.family payload.entry.now (found, rejections.new)) }
     ensures error { IfErr result (IsHeaderError T.family payload.entry.now) }
+    ensures unchanged { IfErr result (λ _. rejections.new ≡ rejections.old) }
 {
     let (mut found, rest) = T::parse_header(payload)?;
-    let errors = set_values(rest, &mut found);
-    Ok((found, errors))
+    *rejections = set_values(rest, &mut found).rejections;
+    Ok(found)
 }
 
 // Parses each attribute up to a framing error. Sets the fields of the valid ones, unless they are
