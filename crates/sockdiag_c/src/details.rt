@@ -145,7 +145,9 @@ pub(crate) fn strict_details<'a, T: ReplyDetails<'a>>(payload: &'a [u8]) -> Resu
     ensures error { IfErr result (IsFirstError T.family payload.entry.now) }
 {
     let (mut found, rest) = T::parse_header(payload)?;
-    match set_values(rest, &mut found).first {
+    let mut errors = NO_ERRORS;
+    set_values(rest, &mut found, &mut errors);
+    match errors.first {
         Some(error) => Err(error),
         None => Ok(found),
     }
@@ -186,21 +188,23 @@ fn lenient_details<'a, T: ReplyDetails<'a>>(
     ensures unchanged { IfErr result (λ _. rejections.new ≡ rejections.old) }
 {
     let (mut found, rest) = T::parse_header(payload)?;
-    *rejections = set_values(rest, &mut found).rejections;
+    let mut errors = NO_ERRORS;
+    set_values(rest, &mut found, &mut errors);
+    *rejections = errors.rejections;
     Ok(found)
 }
 
 // Parses each attribute up to a framing error. Sets the fields of the valid ones, unless they are
-// set already, and returns the errors of the others.
-fn set_values<'a, T: ReplyDetails<'a>>(bytes: &'a [u8], details: &mut T) -> Errors
+// set already, and stores the errors of the others.
+fn set_values<'a, T: ReplyDetails<'a>>(bytes: &'a [u8], details: &mut T, errors: &mut Errors)
     ensures { HasValues T.family.rows details.old [] → (parts : Parts T.family.Header)
         × EndsWith parts.attributes parts.framing_error bytes.entry.now
         × (parts.header ≡ T.family.header details.old)
         × Describes T.family details.new parts
-        × HasRejections T.family result.rejections parts
-        × (result.first ≡ first_error T.family parts) }
+        × HasRejections T.family errors.new.rejections parts
+        × (errors.new.first ≡ first_error T.family parts) }
 {
-    let mut errors = NO_ERRORS;
+    *errors = NO_ERRORS;
     for item in NlasIterator::new(bytes) {
         match item {
             Ok(nla) => match details.set_value(&nla) {
@@ -209,9 +213,8 @@ fn set_values<'a, T: ReplyDetails<'a>>(bytes: &'a [u8], details: &mut T) -> Erro
             },
             Err(error) => {
                 errors.add_framing(error);
-                return errors;
+                return;
             }
         }
     }
-    errors
 }
