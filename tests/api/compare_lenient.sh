@@ -1,9 +1,10 @@
 #!/bin/sh
-# compare_lenient.sh [COUNT [SEED]]: compares the details that the strict and the lenient calls of
-# the C library return, and the errors with their fields, with what lenient_reader.py reads from the
-# same replies: COUNT replies that it makes (100000 by default), and every prefix of each stored
-# reply. Then compares rust/sockdiag with the reader, if cargo is installed. Prints a line for each
-# comparison, or the first lines that differ. c_api.sh runs it.
+# compare_lenient.sh [COUNT [SEED]]: compares what the strict and the lenient calls of the C library
+# return, and the errors with their fields, with what lenient_reader.py reads from the same replies:
+# a reply for each row of the table "Odd replies" of docs/C.md and each family, COUNT replies that
+# it makes (100000 by default), and every prefix of each stored reply. Then compares rust/sockdiag
+# with the reader, if cargo is installed. Prints a line for each comparison, or the first lines that
+# differ. c_api.sh runs it.
 #
 # The library is libsockdiag.a or libsockdiag_c.a of the folder SOCKDIAG_LIB_DIR, or the one that
 # crates/sockdiag_c has built. CFLAGS are flags for the compiler, -fsanitize=address,undefined by
@@ -30,8 +31,8 @@ reader() {
 }
 
 reader odd >"$work/replies"
+odd=$(wc -l <"$work/replies")
 reader cuts >>"$work/replies"
-cuts=$(wc -l <"$work/replies")
 reader make "$count" "$seed" >>"$work/replies"
 reader read <"$work/replies" >"$work/expected"
 "$work/print_lenient" <"$work/replies" >"$work/found"
@@ -42,9 +43,10 @@ if ! cmp -s "$work/expected" "$work/found"; then
 fi
 rejected=$(grep -c '^error ' "$work/found" || true)
 whole=$(grep -c ' first=0 ' "$work/found" || true)
-echo "compare_lenient: $count replies with seed $seed and $cuts prefixes of stored ones," \
-    "all equal: $whole accepted, $rejected without a header," \
-    "$((count + cuts - whole - rejected)) with rejected attributes"
+total=$(wc -l <"$work/replies")
+echo "compare_lenient: $odd odd replies, $count with seed $seed and" \
+    "$((total - odd - count)) prefixes of stored ones, all equal: $whole accepted," \
+    "$rejected without a header, $((total - whole - rejected)) with rejected attributes"
 
 command -v cargo >/dev/null || exit 0
 cd "$top/rust/sockdiag"
