@@ -19,7 +19,7 @@ pub const NETLINK_RESPONSE_HEADER_LEN: usize = 28;
 /// It has 28 bytes, little-endian. The byte at offset 0 (`ndiag_family`) is ignored, and serialized
 /// as AF_NETLINK (16).
 #[repr(C)]
-#[derive(Clone, Copy, Debug, PartialEq, Eq)]
+#[derive(Clone, Copy, Debug, Default, PartialEq, Eq)]
 pub struct NetlinkResponseHeader {
     /// Socket type (`ndiag_type`), SOCK_RAW (3) or SOCK_DGRAM (2), at offset 1.
     pub kind: u8,

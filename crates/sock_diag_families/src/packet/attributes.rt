@@ -15,7 +15,7 @@ use sock_diag_records::constants::AF_PACKET;
 ///
 /// It is the first 24 bytes of the value of `PACKET_DIAG_INFO`: six `u32`, little-endian.
 #[repr(C)]
-#[derive(Clone, Copy, Debug, PartialEq, Eq)]
+#[derive(Clone, Copy, Debug, Default, PartialEq, Eq)]
 pub struct PacketInfo {
     /// Index of the interface that the socket is bound to (`pdi_index`), at offset 0. 0 means all
     /// interfaces.
@@ -71,7 +71,7 @@ impl PacketInfo {
 /// It is the first 28 bytes of the value of `PACKET_DIAG_RX_RING` or `PACKET_DIAG_TX_RING`: seven
 /// `u32`, little-endian.
 #[repr(C)]
-#[derive(Clone, Copy, Debug, PartialEq, Eq)]
+#[derive(Clone, Copy, Debug, Default, PartialEq, Eq)]
 pub struct PacketRing {
     /// Size of a block in bytes (`pdr_block_size`), at offset 0.
     pub block_size: u32,

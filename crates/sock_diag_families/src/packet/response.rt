@@ -18,7 +18,7 @@ pub const PACKET_RESPONSE_HEADER_LEN: usize = 16;
 /// It has 16 bytes, little-endian. The byte at offset 0 (`pdiag_family`) is ignored, and serialized
 /// as AF_PACKET (17).
 #[repr(C)]
-#[derive(Clone, Copy, Debug, PartialEq, Eq)]
+#[derive(Clone, Copy, Debug, Default, PartialEq, Eq)]
 pub struct PacketResponseHeader {
     /// Socket type (`pdiag_type`), `SOCK_*`, at offset 1.
     pub kind: u8,

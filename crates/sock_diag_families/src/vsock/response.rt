@@ -19,7 +19,7 @@ pub const VSOCK_RESPONSE_HEADER_LEN: usize = 32;
 /// It has 32 bytes, little-endian. The byte at offset 0 (`vdiag_family`) is ignored, and serialized
 /// as AF_VSOCK (40).
 #[repr(C)]
-#[derive(Clone, Copy, Debug, PartialEq, Eq)]
+#[derive(Clone, Copy, Debug, Default, PartialEq, Eq)]
 pub struct VsockResponseHeader {
     /// Socket type (`vdiag_type`), `SOCK_*`, at offset 1.
     pub kind: u8,

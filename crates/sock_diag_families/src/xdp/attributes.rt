@@ -15,7 +15,7 @@ use netlink_core::{DecodeError, Exact};
 ///
 /// It is the first 8 bytes of the value of `XDP_DIAG_INFO`, little-endian.
 #[repr(C)]
-#[derive(Clone, Copy, Debug, PartialEq, Eq)]
+#[derive(Clone, Copy, Debug, Default, PartialEq, Eq)]
 pub struct XdpInfo {
     /// Index of the interface (`ifindex`), at offset 0.
     pub interface: u32,
@@ -45,7 +45,7 @@ impl XdpInfo {
 ///
 /// It is the first 40 bytes of the value of `XDP_DIAG_UMEM`, little-endian.
 #[repr(C)]
-#[derive(Clone, Copy, Debug, PartialEq, Eq)]
+#[derive(Clone, Copy, Debug, Default, PartialEq, Eq)]
 pub struct XdpUmem {
     /// Size of the memory in bytes (`size`), at offset 0.
     pub size: u64,
@@ -87,7 +87,7 @@ impl XdpUmem {
 ///
 /// They are the first 48 bytes of the value of `XDP_DIAG_STATS`: six `u64`, little-endian.
 #[repr(C)]
-#[derive(Clone, Copy, Debug, PartialEq, Eq)]
+#[derive(Clone, Copy, Debug, Default, PartialEq, Eq)]
 pub struct XdpStatistics {
     /// Number of received packets that were dropped for reasons other than the following
     /// (`n_rx_dropped`), at offset 0.

@@ -18,7 +18,7 @@ pub const XDP_RESPONSE_HEADER_LEN: usize = 16;
 /// It has 16 bytes, little-endian. The bytes at offsets 0 (`xdiag_family`), 2 and 3 (`pad`) are
 /// ignored, and serialized as AF_XDP (44) and 0.
 #[repr(C)]
-#[derive(Clone, Copy, Debug, PartialEq, Eq)]
+#[derive(Clone, Copy, Debug, Default, PartialEq, Eq)]
 pub struct XdpResponseHeader {
     /// Socket type (`xdiag_type`), SOCK_RAW (3), at offset 1.
     pub kind: u8,
