@@ -1,11 +1,12 @@
 //! Numbers and texts of a reply, and how its attributes are read into a struct of C, in one pass.
 
-ghost use Rattle.std.specs.Prelude.{◌≡◌, ◌≢◌, ℕ, [], drop, Err, IfErr, IfOk, Ok, Option, Some};
+ghost use Rattle.std.specs.Prelude.{◌≡◌, ◌≢◌, ℕ, [], drop, Err, IfErr, IfOk, None, Ok, Option};
+ghost use Rattle.std.specs.Prelude.{Some};
 ghost use Rattle.std.specs.Result.{result_err, result_ok};
 ghost use Rattle.netlink_core.specs.Parse.{number_of_width};
 ghost use Rattle.netlink_core.specs.Walk.{buffered_attribute};
 ghost use Rattle.sockdiag_c.specs.Details.{optional_number, text_parts};
-ghost use Rattle.sockdiag_c.specs.Family.{ArePartsOf, DetailsAre, Describes, EndsWith, Family};
+ghost use Rattle.sockdiag_c.specs.Family.{DetailsAre, Describes, EndsWith, Family};
 ghost use Rattle.sockdiag_c.specs.Family.{HasRejections, HasValues, IsCodeOf, IsFirstError};
 ghost use Rattle.sockdiag_c.specs.Family.{IsHeaderError, LenientDetailsAre, Parts, first_error};
 ghost use Rattle.sockdiag_c.specs.Family.{first_present, value_error};
@@ -17,7 +18,7 @@ use netlink_core::{DecodeError, NlaBuffer, NlasIterator, parse_u32};
 
 /// A number that a reply may contain.
 #[repr(C)]
-#[derive(Clone, Copy)]
+#[derive(Clone, Copy, Default)]
 pub struct Number {
     /// 1 if the reply contains the number, else 0.
     pub is_set: u32,
@@ -50,12 +51,6 @@ pub(crate) const ABSTRACT: u32 = 2;
 /// Kind of the groups of a netlink socket, and of memberships and the filter of a packet socket.
 pub(crate) const BYTES: u32 = 3;
 
-/// The text of a reply that contains none.
-pub(crate) const NO_TEXT: Text<'static> = Text {
-    kind: 0,
-    bytes: &[],
-};
-
 /// The number of a reply that contains none.
 pub(crate) const NO_NUMBER: Number = Number {
     is_set: 0,
@@ -83,6 +78,17 @@ impl Number {
     {
         self.set(parse_u32(value).map_err(|error| error.with_kind(kind))?);
         Ok(())
+    }
+}
+
+impl Default for Text<'_> {
+    ghost is_default = { λ text. text_parts text ≡ None };
+
+    fn default() -> Self {
+        Text {
+            kind: 0,
+            bytes: &[],
+        }
     }
 }
 

@@ -16,7 +16,7 @@ use sock_diag_values::inet::MemInfo;
 /// Memory of a netlink, packet or XDP socket: the fields `SK_MEMINFO_..` of `linux/sock_diag.h`. A
 /// reply contains the first seven fields together, or none of them.
 #[repr(C)]
-#[derive(Clone, Copy)]
+#[derive(Clone, Copy, Default)]
 pub struct Memory {
     /// Memory in use by the receive queue, in bytes (`SK_MEMINFO_RMEM_ALLOC`, at 0).
     pub receive_queue: Number,
@@ -39,19 +39,6 @@ pub struct Memory {
     /// Number of dropped packets (`SK_MEMINFO_DROPS`, at 32). Older kernels do not send it.
     pub drops: Number,
 }
-
-/// The memory of a reply that contains none.
-pub(crate) const NO_MEMORY: Memory = Memory {
-    receive_queue: NO_NUMBER,
-    receive_queue_max: NO_NUMBER,
-    bottom_send_queues: NO_NUMBER,
-    send_queue_max: NO_NUMBER,
-    cache: NO_NUMBER,
-    send_queue: NO_NUMBER,
-    options: NO_NUMBER,
-    backlog_queue_length: NO_NUMBER,
-    drops: NO_NUMBER,
-};
 
 impl From<Option<u32>> for Number {
     ghost from_gives = { λ value number. number ≡ optional_number value };

@@ -12,7 +12,7 @@ use std::time::Duration;
 
 /// Header of a reply about a UNIX socket: `struct unix_diag_msg` of sock_diag(7).
 #[repr(C)]
-#[derive(Clone, Copy)]
+#[derive(Clone, Copy, Default)]
 pub struct UnixHeader {
     /// Type of the socket, one of `SOCK_..` (`udiag_type`, at 1).
     pub kind: u8,
@@ -28,7 +28,7 @@ pub struct UnixHeader {
 
 /// Header of a reply about an IPv4 or IPv6 socket: `struct inet_diag_msg` of sock_diag(7).
 #[repr(C)]
-#[derive(Clone, Copy)]
+#[derive(Clone, Copy, Default)]
 pub struct InetHeader {
     /// `AF_INET` or `AF_INET6` (`idiag_family`, at 0).
     pub family: u8,

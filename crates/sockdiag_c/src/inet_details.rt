@@ -10,7 +10,7 @@ ghost use Rattle.sockdiag_c.specs.Family.{DetailsAre, IsCodeOf, IsFirstError};
 ghost use Rattle.sockdiag_c.specs.InetDetails.{inet_family, inet_rows};
 ghost use Rattle.sockdiag_c.specs.private.Rows.{AddsValues};
 
-use crate::details::{NO_NUMBER, NO_TEXT, Number, ReplyDetails, TEXT, Text, store_details};
+use crate::details::{Number, ReplyDetails, TEXT, Text, store_details};
 use crate::headers::InetHeader;
 use netlink_core::{DecodeError, NlaBuffer};
 use netlink_packet_sock_diag::inet::nlas::NlaView;
@@ -19,7 +19,7 @@ use netlink_packet_sock_diag::inet::{INET_RESPONSE_HEADER_LEN, InetResponseHeade
 /// Everything that a reply contains about an IPv4 or IPv6 socket, except its TCP connection and its
 /// memory, which have separate calls.
 #[repr(C)]
-#[derive(Clone, Copy)]
+#[derive(Clone, Copy, Default)]
 pub struct InetDetails<'a> {
     /// The header.
     pub header: InetHeader,
@@ -98,17 +98,8 @@ impl<'a> ReplyDetails<'a> for InetDetails<'a> {
     #[inline(always)]
     fn parse_header(payload: &'a [u8]) -> Result<(Self, &'a [u8]), DecodeError> {
         let header = InetResponseHeader::from_prefix(payload)?;
-        let found = InetDetails {
-            header: InetHeader::from(header),
-            congestion: NO_TEXT,
-            tos: NO_NUMBER,
-            tclass: NO_NUMBER,
-            shutdown: NO_NUMBER,
-            protocol: NO_NUMBER,
-            v6only: NO_NUMBER,
-            mark: NO_NUMBER,
-            class_id: NO_NUMBER,
-        };
+        let mut found = InetDetails::default();
+        found.header = InetHeader::from(header);
         Ok((found, &payload[INET_RESPONSE_HEADER_LEN..]))
     }
 

@@ -4,8 +4,8 @@ ghost use Rattle.std.specs.Prelude.{◌≡◌, ◌≢◌};
 ghost use Rattle.sockdiag_c.specs.Family.{DetailsAre, IsCodeOf, IsFirstError};
 ghost use Rattle.sockdiag_c.specs.NetlinkDetails.{netlink_family};
 
-use crate::details::{BYTES, NO_NUMBER, NO_TEXT, Number, ReplyDetails, Text, store_details};
-use crate::family_values::{Memory, NO_MEMORY, split_header};
+use crate::details::{BYTES, Number, ReplyDetails, Text, store_details};
+use crate::family_values::{Memory, split_header};
 use netlink_core::{DecodeError, NlaBuffer};
 use sock_diag_families::netlink::{
     NETLINK_DIAG_FLAGS, NETLINK_DIAG_GROUPS, NETLINK_DIAG_MEMINFO, NetlinkResponseHeader,
@@ -16,7 +16,7 @@ use sock_diag_values::inet::MemInfo;
 /// except the rings `NETLINK_DIAG_RX_RING` and `NETLINK_DIAG_TX_RING`, which Linux 4.6 removed.
 /// Attributes without a field are not an error: `sockdiag_next_attribute` returns them.
 #[repr(C)]
-#[derive(Clone, Copy)]
+#[derive(Clone, Copy, Default)]
 pub struct NetlinkDetails<'a> {
     /// The header.
     pub header: NetlinkResponseHeader,
@@ -55,12 +55,8 @@ impl<'a> ReplyDetails<'a> for NetlinkDetails<'a> {
     #[inline(always)]
     fn parse_header(payload: &'a [u8]) -> Result<(Self, &'a [u8]), DecodeError> {
         let (header, rest) = split_header::<NetlinkResponseHeader>(payload)?;
-        let found = NetlinkDetails {
-            header,
-            memory: NO_MEMORY,
-            groups: NO_TEXT,
-            flags: NO_NUMBER,
-        };
+        let mut found = NetlinkDetails::default();
+        found.header = header;
         Ok((found, rest))
     }
 

@@ -4,8 +4,8 @@ ghost use Rattle.std.specs.Prelude.{◌≡◌, ◌≢◌};
 ghost use Rattle.sockdiag_c.specs.Family.{DetailsAre, IsCodeOf, IsFirstError};
 ghost use Rattle.sockdiag_c.specs.PacketDetails.{packet_family};
 
-use crate::details::{BYTES, NO_NUMBER, NO_TEXT, Number, ReplyDetails, Text, store_details};
-use crate::family_values::{Memory, NO_MEMORY, set_record, split_header};
+use crate::details::{BYTES, Number, ReplyDetails, Text, store_details};
+use crate::family_values::{Memory, set_record, split_header};
 use netlink_core::{DecodeError, NlaBuffer};
 use sock_diag_families::packet::{
     PACKET_DIAG_FANOUT, PACKET_DIAG_FILTER, PACKET_DIAG_INFO, PACKET_DIAG_MCLIST,
@@ -17,7 +17,7 @@ use sock_diag_values::inet::MemInfo;
 /// Everything that a reply contains about a packet socket, by the attributes of
 /// `linux/packet_diag.h`.
 #[repr(C)]
-#[derive(Clone, Copy)]
+#[derive(Clone, Copy, Default)]
 pub struct PacketDetails<'a> {
     /// The header.
     pub header: PacketResponseHeader,
@@ -50,48 +50,6 @@ pub struct PacketDetails<'a> {
     pub filter: Text<'a>,
 }
 
-// The information of a reply that has none.
-const NO_INFO: PacketInfo = PacketInfo {
-    interface: 0,
-    version: 0,
-    reserve: 0,
-    copy_threshold: 0,
-    timestamp: 0,
-    flags: 0,
-};
-
-// The ring of a reply that has none.
-const NO_RING: PacketRing = PacketRing {
-    block_size: 0,
-    blocks: 0,
-    frame_size: 0,
-    frames: 0,
-    retire_timeout: 0,
-    private_size: 0,
-    features: 0,
-};
-
-// Details in which nothing is set.
-const NO_DETAILS: PacketDetails<'static> = PacketDetails {
-    header: PacketResponseHeader {
-        kind: 0,
-        protocol: 0,
-        inode: 0,
-        cookie: 0,
-    },
-    has_info: 0,
-    info: NO_INFO,
-    addresses: NO_TEXT,
-    has_receive_ring: 0,
-    receive_ring: NO_RING,
-    has_send_ring: 0,
-    send_ring: NO_RING,
-    fanout: NO_NUMBER,
-    owner: NO_NUMBER,
-    memory: NO_MEMORY,
-    filter: NO_TEXT,
-};
-
 /// Checks a whole reply about a packet socket, and returns its contents, in one pass over the
 /// attributes. The bytes are the payload of the netlink message. Returns 0, and sets all fields: a
 /// number or a record that the reply does not contain is all 0. Or returns the code of the first
@@ -118,7 +76,7 @@ impl<'a> ReplyDetails<'a> for PacketDetails<'a> {
     #[inline(always)]
     fn parse_header(payload: &'a [u8]) -> Result<(Self, &'a [u8]), DecodeError> {
         let (header, rest) = split_header::<PacketResponseHeader>(payload)?;
-        let mut found: PacketDetails<'a> = NO_DETAILS;
+        let mut found = PacketDetails::default();
         found.header = header;
         Ok((found, rest))
     }

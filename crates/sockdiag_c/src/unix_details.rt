@@ -9,9 +9,7 @@ ghost use Rattle.sockdiag_c.specs.Family.{DetailsAre, IsCodeOf, IsFirstError};
 ghost use Rattle.sockdiag_c.specs.UnixDetails.{unix_family, unix_rows};
 ghost use Rattle.sockdiag_c.specs.private.Rows.{AddsValues};
 
-use crate::details::{
-    ABSTRACT, NO_NUMBER, NO_TEXT, Number, ReplyDetails, TEXT, Text, store_details,
-};
+use crate::details::{ABSTRACT, Number, ReplyDetails, TEXT, Text, store_details};
 use crate::headers::UnixHeader;
 use netlink_core::{DecodeError, NlaBuffer};
 use netlink_packet_sock_diag::unix::nlas::{NameView, NlaView};
@@ -20,7 +18,7 @@ use netlink_packet_sock_diag::unix::{UNIX_RESPONSE_HEADER_LEN, UnixResponseHeade
 /// Everything that a reply contains about a UNIX socket, except the connections that wait to be
 /// accepted.
 #[repr(C)]
-#[derive(Clone, Copy)]
+#[derive(Clone, Copy, Default)]
 pub struct UnixDetails<'a> {
     /// The header.
     pub header: UnixHeader,
@@ -115,19 +113,8 @@ impl<'a> ReplyDetails<'a> for UnixDetails<'a> {
     #[inline(always)]
     fn parse_header(payload: &'a [u8]) -> Result<(Self, &'a [u8]), DecodeError> {
         let header = UnixResponseHeader::from_prefix(payload)?;
-        let found = UnixDetails {
-            header: UnixHeader::from(header),
-            name: NO_TEXT,
-            file_inode: NO_NUMBER,
-            file_device: NO_NUMBER,
-            peer: NO_NUMBER,
-            recv_queue: NO_NUMBER,
-            send_queue: NO_NUMBER,
-            receive_buffer: NO_NUMBER,
-            send_buffer: NO_NUMBER,
-            queued: NO_NUMBER,
-            shutdown: NO_NUMBER,
-        };
+        let mut found = UnixDetails::default();
+        found.header = UnixHeader::from(header);
         Ok((found, &payload[UNIX_RESPONSE_HEADER_LEN..]))
     }
 

@@ -4,8 +4,8 @@ ghost use Rattle.std.specs.Prelude.{◌≡◌, ◌≢◌};
 ghost use Rattle.sockdiag_c.specs.Family.{DetailsAre, IsCodeOf, IsFirstError};
 ghost use Rattle.sockdiag_c.specs.XdpDetails.{xdp_family};
 
-use crate::details::{NO_NUMBER, Number, ReplyDetails, store_details};
-use crate::family_values::{Memory, NO_MEMORY, set_record, split_header};
+use crate::details::{Number, ReplyDetails, store_details};
+use crate::family_values::{Memory, set_record, split_header};
 use netlink_core::{DecodeError, NlaBuffer};
 use sock_diag_families::xdp::{
     XDP_DIAG_INFO, XDP_DIAG_MEMINFO, XDP_DIAG_RX_RING, XDP_DIAG_STATS, XDP_DIAG_TX_RING,
@@ -16,7 +16,7 @@ use sock_diag_values::inet::MemInfo;
 
 /// Everything that a reply contains about an XDP socket, by the attributes of `linux/xdp_diag.h`.
 #[repr(C)]
-#[derive(Clone, Copy)]
+#[derive(Clone, Copy, Default)]
 pub struct XdpDetails {
     /// The header.
     pub header: XdpResponseHeader,
@@ -48,47 +48,6 @@ pub struct XdpDetails {
     pub statistics: XdpStatistics,
 }
 
-// Details in which nothing is set.
-const NO_DETAILS: XdpDetails = XdpDetails {
-    header: XdpResponseHeader {
-        kind: 0,
-        inode: 0,
-        cookie: 0,
-    },
-    has_info: 0,
-    info: XdpInfo {
-        interface: 0,
-        queue: 0,
-    },
-    owner: NO_NUMBER,
-    receive_ring: NO_NUMBER,
-    send_ring: NO_NUMBER,
-    has_umem: 0,
-    umem: XdpUmem {
-        size: 0,
-        id: 0,
-        pages: 0,
-        chunk_size: 0,
-        headroom: 0,
-        interface: 0,
-        queue: 0,
-        flags: 0,
-        references: 0,
-    },
-    fill_ring: NO_NUMBER,
-    completion_ring: NO_NUMBER,
-    memory: NO_MEMORY,
-    has_statistics: 0,
-    statistics: XdpStatistics {
-        received_dropped: 0,
-        received_invalid: 0,
-        received_full: 0,
-        fill_ring_empty: 0,
-        sent_invalid: 0,
-        send_ring_empty: 0,
-    },
-};
-
 /// Checks a whole reply about an XDP socket, and returns its contents, in one pass over the
 /// attributes. The bytes are the payload of the netlink message. Returns 0, and sets all fields: a
 /// number or a record that the reply does not contain is all 0. Or returns the code of the first
@@ -112,7 +71,7 @@ impl<'a> ReplyDetails<'a> for XdpDetails {
     #[inline(always)]
     fn parse_header(payload: &'a [u8]) -> Result<(Self, &'a [u8]), DecodeError> {
         let (header, rest) = split_header::<XdpResponseHeader>(payload)?;
-        let mut found = NO_DETAILS;
+        let mut found = XdpDetails::default();
         found.header = header;
         Ok((found, rest))
     }

@@ -4,7 +4,7 @@ use Rattle.sockdiag_c.proofs.unix_details.UnixDetailsReplyDetails.parse_header.G
 
 pub returns-clause-header : goal.returns-clause-header
 returns-clause-header c =
-    grind (arith, c.from_prefix.ensures, c.from.ensures)
+    grind (arith, c.from_prefix.ensures, c.from-found.ensures)
 
 pub returns-clause-rest : goal.returns-clause-rest
 returns-clause-rest c = take_rest c.args.payload.now 16
