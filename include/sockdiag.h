@@ -35,9 +35,7 @@
  *   sockdiag_get_error_number, sockdiag_find_error_attributes and each call of the section "values
  *   of single attributes", returns 0; if a sockdiag_.._explain or sockdiag_.._explain_attribute
  *   returns 0; and if an iteration returns 0 or the code of a framing error;
- * - if sockdiag_check_message returns 0, the header of the other kind;
- * - if sockdiag_packet_get_details or sockdiag_xdp_get_details returns 0, each record whose field
- *   has_.. is 0. The lenient calls set such a record to 0.
+ * - if sockdiag_check_message returns 0, the header of the other kind.
  *
  * All other fields are set. sockdiag_inet_get_tcp_info, sockdiag_inet_get_long_tcp_info and
  * sockdiag_inet_get_memory set all fields in any case, and so does each call with a struct
@@ -586,7 +584,8 @@ struct sockdiag_text {
                              which is valid UTF-8. SOCKDIAG_ABSTRACT: an abstract name, of any
                              bytes. SOCKDIAG_BYTES: the groups of a netlink socket, or the
                              memberships or the filter of a packet socket. 0: the reply contains
-                             no such text; then do not use the other fields. */
+                             no such text; then do not use the other fields. bytes is not null
+                             then. */
     const uint8_t *bytes; /* The text, without the NUL that ends a text or precedes an abstract
                              name. Do not use it as a string of C: an abstract name may contain
                              NULs, and only a pathname is always followed by its NUL in the

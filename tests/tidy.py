@@ -38,7 +38,8 @@ def repeated_code(files):
     lines and indentation. docs/DECISIONS.md lists the blocks that differ only in names."""
     seen, found = {}, set()
     for name, text in files.items():
-        if Path(name).suffix not in CODE | {".edit"}:
+        # Scripts have no suffix.
+        if Path(name).suffix not in CODE | {".edit", ""}:
             continue
         numbered = [(number, line.strip()) for number, line in enumerate(text.splitlines(), 1)]
         lines = [pair for pair in numbered if pair[1]]

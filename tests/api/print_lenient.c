@@ -88,8 +88,8 @@ static void add_text(struct words *words, const char *name, const struct sockdia
         add(words, "%s=- ", name);
         return;
     }
-    expect(text->length == 0 || (text->bytes >= payload && text->length <= payload_length &&
-           (size_t)(text->bytes - payload) <= payload_length - text->length),
+    expect(text->bytes >= payload && text->length <= payload_length &&
+               (size_t)(text->bytes - payload) <= payload_length - text->length,
            "a text in the payload");
     add(words, "%s=%s:", name, kinds[text->kind]);
     add_bytes(words, text->bytes, text->length);
@@ -409,7 +409,7 @@ int main(void) {
         /* At the start of the area or at its end. */
         copy = line_number % 2 ? end_of_input - payload_length : end_of_input - AREA;
         memcpy(copy, bytes, payload_length);
-        payload = copy;
+        payload = payload_length == 0 ? NULL : copy;
         replies[kind].run();
     }
     return ferror(stdin) || fflush(stdout) != 0 || ferror(stdout) ? 1 : 0;

@@ -34,7 +34,7 @@ pub struct Text<'a> {
     /// the name of a congestion control algorithm, which is valid UTF-8. `SOCKDIAG_ABSTRACT`: an
     /// abstract name, of any bytes. `SOCKDIAG_BYTES`: the groups of a netlink socket, or the
     /// memberships or the filter of a packet socket. 0: the reply contains no such text; then do
-    /// not use the other fields.
+    /// not use the other fields. `bytes` is not null then.
     pub kind: u32,
     /// The text, without the NUL that ends a text or precedes an abstract name. Do not use it as a
     /// string of C: an abstract name may contain NULs, and only a pathname is always followed by
