@@ -11,6 +11,7 @@ ghost use Rattle.sock_diag_listing.specs.Cells.{number_cell, peer_cell, port_tex
 ghost use Rattle.sock_diag_listing.specs.CellsModel.{cells_model};
 ghost use Rattle.sock_diag_listing.specs.Escapes.{byte_digits, escaped_byte};
 
+use itoa::Buffer;
 use std::alloc::AllocError;
 use std::io::Write;
 use std::net::IpAddr;
@@ -39,10 +40,8 @@ pub fn name_of_state(state: u8) -> &'static str
 pub fn push_number(text: &mut Vec<u8>, number: u64) -> Result<(), AllocError>
     ensures { OnOk result (text.new.items ≡ text.old.items ++ decimal number) }
 {
-    match write!(text, "{number}") {
-        Ok(()) => Ok(()),
-        Err(_) => Err(AllocError),
-    }
+    let mut buffer = Buffer::new();
+    text.extend_from_slice(buffer.format(number).as_bytes())
 }
 
 /// Appends a number in lowercase hexadecimal digits, without leading zeros.
