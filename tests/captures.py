@@ -439,7 +439,7 @@ def lists_attributes_of_newer_kernels(sslist):
 
 def lists_short_tcp_info(sslist):
     """The fields of a short struct tcp_info have details if the request was for TCP sockets."""
-    details = "rtt:100 rttvar:50 rto:204000 cwnd:10 retrans:3 ts sack wscale:(7,9)\n"
+    details = "ts sack wscale:(7,9) rto:204000 rtt:100 rttvar:50 cwnd:10 retrans:3\n"
     request, reply = (SOCK_DIAG, TCP_REQUEST), (SOCK_DIAG, SHORT_INFO)
     sslist.run(pcap(HEADERS[0], request, reply), lines=["tcp   ", SHORT_INFO_COLUMNS, details])
     details = "unread:(2,104,too-short)\n"

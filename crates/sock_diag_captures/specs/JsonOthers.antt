@@ -13,7 +13,7 @@ use Rattle.sock_diag_listing.specs.JsonData.{JsonMember, hex_member, json_line, 
 use Rattle.sock_diag_listing.specs.JsonData.{text_member}
 use Rattle.sock_diag_captures.specs.Others.{other_kind}
 use Rattle.sock_diag_captures.specs.Pieces.{AttributeOrError}
-use Rattle.sock_diag_captures.specs.declared.details.Sockets.TheVariants.{Other}
+use Rattle.sock_diag_captures.specs.declared.attributes.Sockets.TheVariants.{Other}
 use Rattle.sslist_options.specs.declared.options.Family.{Family}
 use Rattle.sslist_options.specs.declared.options.Family.TheVariants.{Netlink, Packet, Vsock}
 use Rattle.sslist_options.specs.declared.options.Family.TheVariants.{Xdp}

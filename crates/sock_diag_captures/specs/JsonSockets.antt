@@ -11,7 +11,7 @@ use Rattle.sock_diag_listing.specs.JsonData.{JsonMember, address_member, cookie_
 use Rattle.sock_diag_listing.specs.JsonData.{json_line, number_members, text_member}
 use Rattle.sock_diag_captures.specs.Pieces.{AttributeOrError}
 use Rattle.sock_diag_captures.specs.Table.{inet_kind, is_tcp, unix_kind}
-use Rattle.sock_diag_captures.specs.declared.details.Sockets.TheVariants.{Inet, Unix}
+use Rattle.sock_diag_captures.specs.declared.attributes.Sockets.TheVariants.{Inet, Unix}
 use Rattle.sock_diag_listing.specs.declared.parts.TimerFields.{TimerFields}
 
 -- The members of the header of a UNIX socket, `struct unix_diag_msg` of linux/unix_diag.h:

@@ -1,16 +1,20 @@
--- The MD5 keys of a TCP socket, INET_DIAG_MD5SIG, as ss(8) prints them: an array of records of 100
--- bytes. Texts are lists of ASCII codes: 44 is a comma, 47 a slash, 58 a colon, 61 an equals sign.
+-- The MD5 keys of a TCP socket, INET_DIAG_MD5SIG: an array of records of 100 bytes. The texts are
+-- those of ss(8), and names in JSON are the kernel's names without the prefix `tcpm_`. Texts are
+-- lists of ASCII codes: 44 is a comma, 47 a slash, 58 a colon, 61 an equals sign.
 use Rattle.std.specs.Prelude.{ℕ, zero, suc, ◌==◌, ◌&&◌, ◌/◌, ◌%◌, nat_le, if◌then◌else◌, Bool, List}
-use Rattle.std.specs.Prelude.{[], ◌∷◌, ◌++◌, codes, decimal, drop, flat_map, length, Option, Some}
-use Rattle.std.specs.Prelude.{None}
+use Rattle.std.specs.Prelude.{[], ◌∷◌, ◌++◌, codes, decimal, drop, flat_map, length, map, Option}
+use Rattle.std.specs.Prelude.{None, Some, Ok}
 use Rattle.std.specs.Net.Text.{ip_text}
 use Rattle.std.specs.declared.net.ip_addr.IpAddr.{IpAddr}
-use Rattle.netlink_core.specs.Attribute.{Attribute}
+use Rattle.hex.specs.Hex.{encode_lower}
+use Rattle.json.specs.Json.{Json}
 use Rattle.sock_diag_extras.specs.Md5Signature.{md5_signature, peer_ip, used_key}
 use Rattle.sock_diag_extras.specs.RecordTable.{parse_by_table}
 use Rattle.sock_diag_extras.specs.declared.md5_signature.Md5Signature.{Md5Signature}
 use Rattle.sock_diag_listing.specs.Escapes.{byte_digits, escaped_byte}
-use Rattle.sock_diag_captures.specs.Rows.{unknown_attribute_text}
+use Rattle.sock_diag_listing.specs.JsonData.{JsonMember, address_member, array_member}
+use Rattle.sock_diag_listing.specs.JsonData.{number_members, object_of, text_member}
+use Rattle.sock_diag_captures.specs.Facts.{Facts, Outcome}
 
 -- the record in the first 100 bytes
 unfoldable pub key_at : List ℕ → Md5Signature
@@ -50,9 +54,32 @@ abbrev pub md5_keys_text : ℕ → List Md5Signature → List ℕ
 md5_keys_text separator [] = []
 md5_keys_text separator (k ∷ later) = separator ∷ md5_key_text k ++ md5_keys_text 44 later
 
--- the text of the attribute: a space, `md5keys` and the keys; the text of an unknown attribute if
--- the value does not consist of keys
-abbrev pub md5_text : Attribute → List ℕ
-md5_text a =
-    if are_md5_keys a.value then codes " md5keys" ++ md5_keys_text 58 (md5_keys a.value)
-    else unknown_attribute_text a
+-- ---- JSON
+
+-- the address, or no member if the family has none
+unfoldable pub peer_member : Option IpAddr → List JsonMember
+peer_member None = []
+peer_member (Some ip) = address_member (codes "addr") ip
+
+-- the members of a key; `key` has the bytes that are used, in lowercase hexadecimal digits
+unfoldable pub md5_key_members : Md5Signature → List JsonMember
+md5_key_members k =
+    number_members ((codes "family", k.family) ∷ (codes "prefixlen", k.prefix_length)
+    ∷ (codes "keylen", k.key_length) ∷ [])
+    ++ (peer_member (peer_ip k) ++ text_member (codes "key") (encode_lower (used_key k)))
+
+-- the object of a key
+abbrev pub md5_key_value : Md5Signature → Json
+md5_key_value k = object_of (md5_key_members k)
+
+-- the keys in a value
+unfoldable pub md5_facts : List ℕ → Facts
+md5_facts value = record {
+  text = codes " md5keys" ++ md5_keys_text 58 (md5_keys value);
+  members = array_member (codes "md5sig") (map md5_key_value (md5_keys value));
+}
+
+-- the keys in the value of an attribute; a value that does not consist of keys is shown as an
+-- unknown attribute
+abbrev pub md5_outcome : List ℕ → Outcome
+md5_outcome value = if are_md5_keys value then Ok (Some (md5_facts value)) else Ok None

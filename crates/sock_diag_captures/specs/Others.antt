@@ -18,9 +18,10 @@ use Rattle.sock_diag_records.specs.declared.constants.TheConstants.{AF_NETLINK, 
 use Rattle.sock_diag_families.specs.declared.packet.TheConstants.{PACKET_DIAG_INFO, PACKET_DIAG_UID}
 use Rattle.sock_diag_families.specs.declared.vsock.TheConstants.{AF_VSOCK}
 use Rattle.sock_diag_families.specs.declared.xdp.TheConstants.{AF_XDP, XDP_DIAG_INFO, XDP_DIAG_UID}
-use Rattle.sock_diag_captures.specs.Details.{details, memory_kind}
+use Rattle.sock_diag_captures.specs.Details.{details}
+use Rattle.sock_diag_captures.specs.AttributeFacts.{memory_kind}
 use Rattle.sock_diag_captures.specs.Pieces.{AttributeOrError, first_of_kind}
-use Rattle.sock_diag_captures.specs.declared.details.Sockets.TheVariants.{Other}
+use Rattle.sock_diag_captures.specs.declared.attributes.Sockets.TheVariants.{Other}
 use Rattle.sock_diag_captures.specs.declared.others.OtherSocket.{OtherSocket}
 
 -- ---- families

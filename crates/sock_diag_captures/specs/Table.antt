@@ -2,6 +2,8 @@
 use Rattle.std.specs.Prelude.{ℕ, ◌==◌, nat_lt, if◌then◌else◌, ◌&&◌, Bool, List, [], ◌∷◌, ◌++◌}
 use Rattle.std.specs.Prelude.{length, codes, Option, None, Some, slice_index, option_map, drop}
 use Rattle.std.specs.Prelude.{◌||◌, false, option_and_then}
+use Rattle.byteorder.specs.Endian.{little_number}
+use Rattle.netlink_core.specs.Attribute.{Attribute}
 use Rattle.sock_diag_listing.specs.Cells.{endpoint, named_line, peer_cell, table_line}
 use Rattle.sock_diag_listing.specs.Parts.{no_timer, details_after_separator}
 use Rattle.sock_diag_listing.specs.Escapes.{byte_digits, unescaped_bytes, shown_name}
@@ -17,10 +19,9 @@ use Rattle.sock_diag_attributes.specs.declared.unix.name.SocketName.{SocketName}
 use Rattle.sock_diag_attributes.specs.declared.unix.name.SocketName.TheVariants.{Abstract, Pathname}
 use Rattle.sock_diag_attributes.specs.UnixAttributes.{unix_attribute_set}
 use Rattle.sock_diag_captures.specs.Details.{details}
-use Rattle.sock_diag_captures.specs.Newer.{user_id}
 use Rattle.sock_diag_captures.specs.Pieces.{AttributeOrError, first_content, first_of_kind}
 use Rattle.sock_diag_extras.specs.declared.constants.TheConstants.{UNIX_DIAG_UID}
-use Rattle.sock_diag_captures.specs.declared.details.Sockets.TheVariants.{Inet, Unix}
+use Rattle.sock_diag_captures.specs.declared.attributes.Sockets.TheVariants.{Inet, Unix}
 
 -- ---- UNIX sockets
 
@@ -78,6 +79,10 @@ inet_kind (Some protocol) family =
     else if protocol == 262 then codes "mptcp" else family_name family
 
 -- ---- lines
+
+-- the user id in an attribute; None if its value does not have four bytes
+abbrev pub user_id : Attribute → Option ℕ
+user_id a = if length a.value == 4 then Some (little_number 4 a.value) else None
 
 -- `unix_line o h given`: the columns of a UNIX socket, whose header is `h`. The name is in the
 -- attribute UNIX_DIAG_NAME, the inode of the peer in UNIX_DIAG_PEER, and the lengths of the queues

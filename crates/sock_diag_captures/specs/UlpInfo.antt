@@ -1,15 +1,12 @@
--- The upper layer protocol of a TCP socket, INET_DIAG_ULP_INFO, as ss(8) prints it. The value of
--- the attribute consists of attributes, which may consist of attributes again. Of each type the
--- first one counts. Texts are lists of ASCII codes: 32 is a space, 41 a closing parenthesis, 47 a
--- slash, 58 a colon.
-use Rattle.std.specs.Prelude.{ℕ, ◌==◌, if◌then◌else◌, List, [], ◌∷◌, ◌++◌, false, bit_and, codes}
-use Rattle.std.specs.Prelude.{decimal, flat_map, length, Option, None, Some, option_and_then}
-use Rattle.std.specs.Prelude.{option_map}
-use Rattle.std.specs.Fmt.{digits}
+-- The upper layer protocol of a TCP socket, INET_DIAG_ULP_INFO. The value of the attribute consists
+-- of attributes, which may consist of attributes again. Of each type the first one counts. Names in
+-- JSON are the kernel's names without the prefixes `INET_ULP_INFO_`, `TLS_INFO_` and
+-- `MPTCP_SUBFLOW_ATTR_`; the texts are those of ss(8).
+use Rattle.std.specs.Prelude.{ℕ, ◌==◌, if◌then◌else◌, List, [], ◌∷◌, codes, is_some, length, Option}
+use Rattle.std.specs.Prelude.{None, Some, Ok, false, option_and_then, option_map}
 use Rattle.std.specs.Option.{option_map_or}
 use Rattle.std.specs.Result.{result_ok}
 use Rattle.byteorder.specs.Endian.{little_number}
-use Rattle.netlink_core.specs.Attribute.{Attribute}
 use Rattle.netlink_core.specs.Parse.{parse_text}
 use Rattle.sock_diag_extras.specs.UlpInfo.{subflow_row, tls_row}
 use Rattle.sock_diag_extras.specs.declared.constants.TheConstants.{INET_ULP_INFO_MPTCP}
@@ -17,13 +14,16 @@ use Rattle.sock_diag_extras.specs.declared.constants.TheConstants.{INET_ULP_INFO
 use Rattle.sock_diag_extras.specs.declared.constants.TheConstants.{INET_ULP_INFO_TLS}
 use Rattle.sock_diag_extras.specs.declared.constants.TheConstants.{TLS_INFO_RX_NO_PAD}
 use Rattle.sock_diag_extras.specs.declared.constants.TheConstants.{TLS_INFO_ZC_RO_TX}
-use Rattle.sock_diag_extras.specs.declared.ulp_info.SubflowField.{SubflowField}
 use Rattle.sock_diag_extras.specs.declared.ulp_info.SubflowField.TheVariants as subflow
-use Rattle.sock_diag_extras.specs.declared.ulp_info.TlsField.{TlsField}
 use Rattle.sock_diag_extras.specs.declared.ulp_info.TlsField.TheVariants as tls
-use Rattle.sock_diag_listing.specs.Escapes.{shown_name}
+use Rattle.sock_diag_captures.specs.Facts.{Facts, Outcome, both, facts_of_each, flag_facts, group}
+use Rattle.sock_diag_captures.specs.Facts.{no_facts, number_row, numbers, text_facts}
 use Rattle.sock_diag_captures.specs.Pieces.{attributes_or_error, first_of_kind}
-use Rattle.sock_diag_captures.specs.Rows.{unknown_attribute_text}
+use Rattle.sock_diag_captures.specs.declared.facts.Shown.{Shown}
+use Rattle.sock_diag_captures.specs.declared.facts.Shown.TheVariants.{Bits, Cipher, Closed, Hex}
+use Rattle.sock_diag_captures.specs.declared.facts.Shown.TheVariants.{Letters, Mode, Never, Version}
+use Rattle.sock_diag_captures.specs.declared.ulp_info.UlpField.{UlpField}
+use Rattle.sock_diag_captures.specs.declared.ulp_info.UlpField.TheVariants.{Subflow, Tls}
 
 -- ---- nested attributes
 
@@ -32,10 +32,6 @@ use Rattle.sock_diag_captures.specs.Rows.{unknown_attribute_text}
 abbrev pub nested_value : ℕ → List ℕ → Option (List ℕ)
 nested_value kind bytes =
     option_map (λ a. a.value) (first_of_kind kind (attributes_or_error 0 bytes))
-
--- `nested_bytes kind bytes`: the same value, or no bytes if there is none
-abbrev pub nested_bytes : ℕ → List ℕ → List ℕ
-nested_bytes kind bytes = option_map_or (λ value. value) (nested_value kind bytes) []
 
 -- `number_of_length width value`: a value of `width` bytes as a little-endian number, or None for
 -- any other length
@@ -48,13 +44,10 @@ number_of_length width value =
 abbrev pub nested_number : ℕ × ℕ → List ℕ → Option ℕ
 nested_number row bytes = option_and_then (number_of_length row.1) (nested_value row.0 bytes)
 
--- the value of a field about TLS in the nested attributes
-abbrev pub tls_number : List ℕ → TlsField → Option ℕ
-tls_number bytes field = nested_number (tls_row field) bytes
-
--- the value of a field of an MPTCP subflow in the nested attributes
-abbrev pub subflow_number : List ℕ → SubflowField → Option ℕ
-subflow_number bytes field = nested_number (subflow_row field) bytes
+-- the number of a field of the nested attributes
+abbrev pub ulp_number : List ℕ → UlpField → Option ℕ
+ulp_number bytes (Tls field) = nested_number (tls_row field) bytes
+ulp_number bytes (Subflow field) = nested_number (subflow_row field) bytes
 
 -- the name of the protocol, without one terminating NUL if it has one; None if there is none, or if
 -- it is not valid UTF-8
@@ -62,126 +55,91 @@ abbrev pub ulp_name : List ℕ → Option (List ℕ)
 ulp_name value =
     option_and_then (λ name. result_ok (parse_text name)) (nested_value INET_ULP_INFO_NAME value)
 
--- ---- TLS in the kernel (linux/tls.h)
+-- ---- rows
 
--- the name, or else the number in decimal
-abbrev pub name_or_number : Option (List ℕ) → ℕ → List ℕ
-name_or_number (Some name) n = name
-name_or_number None n = decimal n
+-- a row: how the table shows a number (`.0`), its text there (`.1`), its name in JSON (`.2`), and
+-- its field (`.3`)
+abbrev pub UlpRow : Type 0
+UlpRow = Shown × List ℕ × Option (List ℕ) × UlpField
 
--- the version of TLS (TLS_1_2_VERSION, TLS_1_3_VERSION)
-abbrev pub tls_version_name : ℕ → Option (List ℕ)
-tls_version_name n =
-    if n == 0x303 then Some (codes "1.2") else if n == 0x304 then Some (codes "1.3") else None
+-- the facts of a row
+unfoldable pub ulp_row : List ℕ → UlpRow → Facts
+ulp_row bytes row = number_row (row.0, row.1, row.2, ulp_number bytes row.3)
 
--- the ciphers of TLS that ss(8) names (TLS_CIPHER_AES_GCM_128, TLS_CIPHER_AES_GCM_256)
-abbrev pub tls_cipher_name : ℕ → Option (List ℕ)
-tls_cipher_name n =
-    if n == 51 then Some (codes "aes-gcm-128") else if n == 52 then Some (codes "aes-gcm-256")
-    else None
+-- ---- TLS in the kernel
 
--- how data is encrypted or decrypted (TLS_CONF_BASE, TLS_CONF_SW, TLS_CONF_HW, TLS_CONF_HW_RECORD)
-abbrev pub tls_mode_name : ℕ → Option (List ℕ)
-tls_mode_name n =
-    if n == 1 then Some (codes "none") else if n == 2 then Some (codes "sw")
-    else if n == 3 then Some (codes "hw") else if n == 4 then Some (codes "hw-record") else None
+-- the numbers about TLS; the table shows `rxconf` before `txconf`
+unfoldable pub tls_rows : List UlpRow
+tls_rows =
+    (Version, codes " version:", Some (codes "version"), Tls tls.Version) ∷
+    (Cipher, codes " cipher:", Some (codes "cipher"), Tls tls.Cipher) ∷
+    (Mode, codes " rxconf:", None, Tls tls.Receiving) ∷
+    (Mode, codes " txconf:", Some (codes "txconf"), Tls tls.Sending) ∷
+    (Never, [], Some (codes "rxconf"), Tls tls.Receiving) ∷ []
 
--- `named_detail word name n`: a space, `word`, a colon, and the name or else the number
-abbrev pub named_detail : List ℕ → Option (List ℕ) → ℕ → List ℕ
-named_detail word name n = 32 ∷ word ++ 58 ∷ name_or_number name n
+-- `presence_facts kind text member bytes`: whether the nested attributes have one of this type,
+-- which the table shows by `text`
+abbrev pub presence_facts : ℕ → List ℕ → List ℕ → List ℕ → Facts
+presence_facts kind text member bytes =
+    flag_facts (Bits 1) text member (is_some (nested_value kind bytes))
 
--- the version, or nothing for None
-abbrev pub tls_version_text : Option ℕ → List ℕ
-tls_version_text None = []
-tls_version_text (Some n) = named_detail (codes "version") (tls_version_name n) n
+-- the facts of the nested attributes about TLS: the numbers, and whether each flag is present
+unfoldable pub tls_facts : List ℕ → Facts
+tls_facts bytes = both (facts_of_each (ulp_row bytes) tls_rows)
+    (both (presence_facts TLS_INFO_ZC_RO_TX (codes " zc_ro_tx") (codes "zc_ro_tx") bytes)
+    (presence_facts TLS_INFO_RX_NO_PAD (codes " no_pad_rx") (codes "rx_no_pad") bytes))
 
--- the cipher, or nothing for None
-abbrev pub tls_cipher_text : Option ℕ → List ℕ
-tls_cipher_text None = []
-tls_cipher_text (Some n) = named_detail (codes "cipher") (tls_cipher_name n) n
+-- ---- subflows of MPTCP connections
 
--- `tls_mode_text word mode`: how data is encrypted or decrypted, or nothing for None
-abbrev pub tls_mode_text : List ℕ → Option ℕ → List ℕ
-tls_mode_text word None = []
-tls_mode_text word (Some n) = named_detail word (tls_mode_name n) n
+-- The tokens of a connection, and the ids of the addresses: remote token, remote id, local token,
+-- local id. The table shows them if all four are present.
+abbrev pub token_facts : Option ℕ → Option ℕ → Option ℕ → Option ℕ → Facts
+token_facts (Some remote) (Some remote_id) (Some local) (Some local_id) = numbers (
+    (Hex, codes " token:", None, Some remote) ∷ (Closed, codes "(id:", None, Some remote_id) ∷
+    (Hex, codes "/", None, Some local) ∷ (Closed, codes "(id:", None, Some local_id) ∷ [])
+token_facts _ _ _ _ = no_facts
 
--- `present_detail word value`: a space and `word`, or nothing for None
-abbrev pub present_detail : List ℕ → Option (List ℕ) → List ℕ
-present_detail word None = []
-present_detail word (Some value) = 32 ∷ word
+-- the same, of the nested attributes
+abbrev pub tokens_in : List ℕ → Facts
+tokens_in bytes = token_facts (ulp_number bytes (Subflow subflow.RemoteToken))
+    (ulp_number bytes (Subflow subflow.RemoteId)) (ulp_number bytes (Subflow subflow.LocalToken))
+    (ulp_number bytes (Subflow subflow.LocalId))
 
--- The details of the nested attributes about TLS. The last two are flags.
-abbrev pub tls_text : List ℕ → List ℕ
-tls_text bytes =
-    tls_version_text (tls_number bytes tls.Version)
-    ++ tls_cipher_text (tls_number bytes tls.Cipher)
-    ++ tls_mode_text (codes "rxconf") (tls_number bytes tls.Receiving)
-    ++ tls_mode_text (codes "txconf") (tls_number bytes tls.Sending)
-    ++ present_detail (codes "zc_ro_tx") (nested_value TLS_INFO_ZC_RO_TX bytes)
-    ++ present_detail (codes "no_pad_rx") (nested_value TLS_INFO_RX_NO_PAD bytes)
+-- the numbers of a subflow
+unfoldable pub subflow_rows : List UlpRow
+subflow_rows =
+    (Never, [], Some (codes "token_rem"), Subflow subflow.RemoteToken) ∷
+    (Never, [], Some (codes "token_loc"), Subflow subflow.LocalToken) ∷
+    (Never, [], Some (codes "relwrite_seq"), Subflow subflow.RelativeWriteSequence) ∷
+    (Hex, codes " seq:", Some (codes "map_seq"), Subflow subflow.MapSequence) ∷
+    (Hex, codes " sfseq:", Some (codes "map_sfseq"), Subflow subflow.MapSubflowSequence) ∷
+    (Hex, codes " ssnoff:", Some (codes "ssn_offset"), Subflow subflow.SequenceOffset) ∷
+    (Hex, codes " maplen:", Some (codes "map_datalen"), Subflow subflow.MapLength) ∷
+    (Never, [], Some (codes "flags"), Subflow subflow.Flags) ∷
+    (Never, [], Some (codes "id_rem"), Subflow subflow.RemoteId) ∷
+    (Never, [], Some (codes "id_loc"), Subflow subflow.LocalId) ∷ []
 
--- ---- subflows of MPTCP connections (linux/mptcp.h)
-
--- The bits MPTCP_SUBFLOW_FLAG_.. with the letters of ss(8): M (77) MCAP_REM, m (109) MCAP_LOC, J
--- (74) JOIN_REM, j (106) JOIN_LOC, B (66) BKUP_REM, b (98) BKUP_LOC, e (101) FULLY_ESTABLISHED, c
--- (99) CONNECTED and v (118) MAPVALID.
-abbrev pub subflow_flags : List (ℕ × ℕ)
-subflow_flags =
-    (1, 77) ∷ (2, 109) ∷ (4, 74) ∷ (8, 106) ∷ (16, 66) ∷ (32, 98) ∷ (64, 101) ∷ (128, 99)
-    ∷ (256, 118) ∷ []
-
--- `flag_letter n row`: the letter `row.1` if the number `n` has the bit `row.0`
-abbrev pub flag_letter : ℕ → ℕ × ℕ → List ℕ
-flag_letter n row = if bit_and n row.0 == 0 then [] else row.1 ∷ []
-
--- the flags that are set, a letter for each; nothing if there are no flags
-abbrev pub subflow_flags_text : Option ℕ → List ℕ
-subflow_flags_text None = []
-subflow_flags_text (Some n) =
-    if n == 0 then [] else codes " flags:" ++ flat_map (flag_letter n) subflow_flags
-
--- the token of a connection in hexadecimal digits, and the id of an address
-abbrev pub token_text : ℕ → ℕ → List ℕ
-token_text token id = digits 16 false token ++ codes "(id:" ++ decimal id ++ 41 ∷ []
-
--- The tokens and the ids of the addresses: remote token, remote id, local token, local id. Nothing
--- unless all four are present.
-abbrev pub tokens_text : Option ℕ → Option ℕ → Option ℕ → Option ℕ → List ℕ
-tokens_text (Some remote) (Some remote_id) (Some local) (Some local_id) =
-    codes " token:" ++ token_text remote remote_id ++ 47 ∷ token_text local local_id
-tokens_text _ _ _ _ = []
-
--- a space, the name, a colon and a number in hexadecimal digits, or nothing for None
-abbrev pub optional_hex : List ℕ → Option ℕ → List ℕ
-optional_hex word None = []
-optional_hex word (Some n) = 32 ∷ word ++ 58 ∷ digits 16 false n
-
--- the tokens and ids in the nested attributes of a subflow
-abbrev pub subflow_tokens : List ℕ → List ℕ
-subflow_tokens bytes =
-    tokens_text (subflow_number bytes subflow.RemoteToken) (subflow_number bytes subflow.RemoteId)
-    (subflow_number bytes subflow.LocalToken) (subflow_number bytes subflow.LocalId)
-
--- the details of the nested attributes of a subflow
-abbrev pub subflow_text : List ℕ → List ℕ
-subflow_text bytes =
-    subflow_flags_text (subflow_number bytes subflow.Flags)
-    ++ subflow_tokens bytes
-    ++ optional_hex (codes "seq") (subflow_number bytes subflow.MapSequence)
-    ++ optional_hex (codes "sfseq") (subflow_number bytes subflow.MapSubflowSequence)
-    ++ optional_hex (codes "ssnoff") (subflow_number bytes subflow.SequenceOffset)
-    ++ optional_hex (codes "maplen") (subflow_number bytes subflow.MapLength)
+-- the facts of the nested attributes of a subflow
+unfoldable pub subflow_facts : List ℕ → Facts
+subflow_facts bytes =
+    both (ulp_row bytes (Letters, codes " flags:", None, Subflow subflow.Flags))
+    (both (tokens_in bytes) (facts_of_each (ulp_row bytes) subflow_rows))
 
 -- ---- the attribute
 
--- `ulp_details name value`: the name of the protocol, escaped as names of sockets are, and what the
--- value has about TLS and MPTCP
-abbrev pub ulp_details : List ℕ → List ℕ → List ℕ
-ulp_details name value =
-    codes " tcp-ulp-" ++ shown_name false name ++ tls_text (nested_bytes INET_ULP_INFO_TLS value)
-    ++ subflow_text (nested_bytes INET_ULP_INFO_MPTCP value)
+-- `nested_group member facts found`: the facts of nested attributes, or none for None
+abbrev pub nested_group : List ℕ → (List ℕ → Facts) → Option (List ℕ) → Facts
+nested_group member facts found =
+    option_map_or (λ bytes. group [] [] member (facts bytes)) found no_facts
 
--- the text of the attribute; the text of an unknown attribute if the value has no name
-abbrev pub ulp_text : Attribute → List ℕ
-ulp_text a =
-    option_map_or (λ name. ulp_details name a.value) (ulp_name a.value) (unknown_attribute_text a)
+-- `ulp_parts name value`: the name of the protocol, and what the value has about TLS and MPTCP
+abbrev pub ulp_parts : List ℕ → List ℕ → Facts
+ulp_parts name value =
+    both (text_facts false (codes " tcp-ulp-") (codes "name") name)
+    (both (nested_group (codes "tls") tls_facts (nested_value INET_ULP_INFO_TLS value))
+    (nested_group (codes "mptcp") subflow_facts (nested_value INET_ULP_INFO_MPTCP value)))
+
+-- the facts of the value of the attribute; a value without a name is shown as an unknown attribute
+abbrev pub ulp_outcome : List ℕ → Outcome
+ulp_outcome value =
+    Ok (option_map (λ name. group [] [] (codes "ulp_info") (ulp_parts name value)) (ulp_name value))

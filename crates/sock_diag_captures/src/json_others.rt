@@ -14,7 +14,7 @@ ghost use Rattle.sslist_options.specs.declared.options.Family.TheVariants.{Netli
 ghost use Rattle.sslist_options.specs.declared.options.Family.TheVariants.{Vsock, Xdp};
 ghost use Rattle.sock_diag_listing.specs.JsonWriting.{AddsMembers, AddsTokens, KeepsText};
 
-use crate::details::Sockets;
+use crate::attributes::Sockets;
 use crate::json_attributes::write_attributes;
 use crate::kinds::name_of_other_kind;
 use json::Writer;

@@ -11,7 +11,7 @@ ghost use Rattle.sock_diag_captures.specs.JsonSockets.{unix_json, unix_members};
 ghost use Rattle.sock_diag_captures.specs.Pieces.{attributes_or_error};
 ghost use Rattle.sock_diag_listing.specs.JsonWriting.{AddsMembers, AddsTokens, KeepsText};
 
-use crate::details::Sockets;
+use crate::attributes::Sockets;
 use crate::json_attributes::write_attributes;
 use crate::kinds::{name_of_inet_kind, name_of_unix_kind};
 use crate::line::is_tcp;

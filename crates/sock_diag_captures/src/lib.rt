@@ -12,33 +12,31 @@ ghost use Rattle.sock_diag_listing.specs.declared.list_error.ListError.{ListErro
 ghost use Rattle.sock_diag_captures.specs.Run.{Fails, Finishes};
 ghost use Rattle.sock_diag_captures.specs.private.Run.{closing_text};
 
+mod attributes;
 mod details;
 mod error_text;
 mod explanation;
+mod facts;
 mod headings;
 mod json_attributes;
 pub mod json_laws;
-mod json_md5_keys;
 mod json_names;
-mod json_newer;
 mod json_others;
 mod json_sockets;
-mod json_tcp;
-mod json_ulp_info;
 mod kinds;
 pub mod laws;
 mod line;
 mod list;
 mod md5_keys;
 mod name_cells;
-mod newer;
 mod others;
 mod pieces;
 mod request_line;
 mod requests;
-mod short_info;
 mod stream;
+mod tcp;
 mod ulp_info;
+mod ulp_names;
 
 pub use headings::heading;
 pub use line::HEADING;

@@ -13,15 +13,15 @@ ghost use Rattle.sock_diag_captures.specs.Details.{timer_in};
 ghost use Rattle.sock_diag_captures.specs.JsonListing.{inet_output, unix_output};
 ghost use Rattle.sock_diag_captures.specs.Listing.{error_after_reply_header, payload_error};
 ghost use Rattle.sock_diag_captures.specs.Listing.{payload_lines, lines_after_header};
-ghost use Rattle.sock_diag_captures.specs.Newer.{user_id};
 ghost use Rattle.sock_diag_captures.specs.Pieces.{attributes_or_error, first_content};
 ghost use Rattle.sock_diag_captures.specs.Pieces.{first_of_kind};
 ghost use Rattle.sock_diag_captures.specs.Selection.{lists_inet};
 ghost use Rattle.sock_diag_captures.specs.Table.{inet_kind, inet_line, inet_lines};
-ghost use Rattle.sock_diag_captures.specs.Table.{is_tcp};
+ghost use Rattle.sock_diag_captures.specs.Table.{is_tcp, user_id};
 ghost use Rattle.sock_diag_captures.specs.Table.{unix_kind, unix_line, unix_lines};
 
-use crate::details::{Sockets, push_details, timer_of};
+use crate::attributes::Sockets;
+use crate::details::{push_details, timer_of};
 use crate::json_sockets::{push_inet_json, push_unix_json};
 use crate::kinds::{name_of_inet_kind, name_of_unix_kind};
 use crate::name_cells::push_name_column;

@@ -17,7 +17,8 @@ ghost use Rattle.sock_diag_captures.specs.Others.{xdp_socket};
 ghost use Rattle.sock_diag_captures.specs.Pieces.{AttributeOrError, attributes_or_error};
 ghost use Rattle.sock_diag_captures.specs.declared.others.OtherSocket.{OtherSocket as SocketShown};
 
-use crate::details::{Sockets, memory_kind, push_details};
+use crate::attributes::{Sockets, memory_kind};
+use crate::details::push_details;
 use crate::json_others::{JsonHeader, push_other_json};
 use crate::kinds::name_of_other_kind;
 use crate::line::LOCAL;

@@ -1,51 +1,322 @@
-//! The upper layer protocol of a TCP socket (`INET_DIAG_ULP_INFO`): its name, and what TLS and
-//! MPTCP report. A function of this module that appends allocates only to grow the text. If it
-//! fails, an allocation failed, and the content of the text is not specified.
+//! The facts of the upper layer protocol of a TCP socket (`INET_DIAG_ULP_INFO`): its name, and what
+//! TLS and MPTCP report. A function of this module that appends to a sink may fail: then an
+//! allocation failed, and the content of the sink is not specified.
 
-ghost use Rattle.std.specs.Prelude.{◌≡◌, ◌≤◌, ◌++◌, OnOk, flat_map, option_map};
-ghost use Rattle.netlink_core.specs.Walk.{buffered_attribute};
-ghost use Rattle.sock_diag_captures.specs.UlpInfo.{flag_letter, named_detail, nested_bytes};
-ghost use Rattle.sock_diag_captures.specs.UlpInfo.{name_or_number, nested_number, nested_value};
-ghost use Rattle.sock_diag_captures.specs.UlpInfo.{optional_hex, present_detail};
-ghost use Rattle.sock_diag_captures.specs.UlpInfo.{subflow_flags_text, subflow_number};
-ghost use Rattle.sock_diag_captures.specs.UlpInfo.{subflow_text, subflow_tokens};
-ghost use Rattle.sock_diag_captures.specs.UlpInfo.{tls_cipher_name, tls_cipher_text};
-ghost use Rattle.sock_diag_captures.specs.UlpInfo.{tls_mode_name, tls_mode_text, tls_number};
-ghost use Rattle.sock_diag_captures.specs.UlpInfo.{tls_text, tls_version_name, tls_version_text};
-ghost use Rattle.sock_diag_captures.specs.UlpInfo.{token_text, tokens_text, ulp_details, ulp_name};
-ghost use Rattle.sock_diag_captures.specs.UlpInfo.{ulp_text};
+ghost use Rattle.std.specs.Prelude.{◌≡◌, ◌≤◌, ◌++◌, [], OnOk, codes, flat_map, map, option_map};
+ghost use Rattle.sock_diag_captures.specs.Facts.{Decodes, Shows, facts_of_each, group};
+ghost use Rattle.sock_diag_captures.specs.UlpInfo.{nested_group, nested_number, nested_value};
+ghost use Rattle.sock_diag_captures.specs.UlpInfo.{presence_facts, tokens_in};
+ghost use Rattle.sock_diag_captures.specs.UlpInfo.{subflow_facts, subflow_rows, tls_facts};
+ghost use Rattle.sock_diag_captures.specs.UlpInfo.{tls_rows, token_facts, ulp_name, ulp_number};
+ghost use Rattle.sock_diag_captures.specs.UlpInfo.{ulp_outcome, ulp_parts, ulp_row};
 
-use crate::details::push_unknown;
+use crate::facts::{FactSink, NumberRow, Shown, Status, show_numbers};
 use crate::pieces::find_kind;
 use byteorder::{ByteOrder, LittleEndian};
-use netlink_core::{NlaBuffer, parse_str};
+use netlink_core::parse_str;
 use sock_diag_extras::constants::{
     INET_ULP_INFO_MPTCP, INET_ULP_INFO_NAME, INET_ULP_INFO_TLS, TLS_INFO_RX_NO_PAD,
     TLS_INFO_ZC_RO_TX,
 };
 use sock_diag_extras::{SubflowField, TlsField};
-use sock_diag_listing::cells::{push_hex, push_number};
-use sock_diag_listing::names::push_shown;
 use std::alloc::AllocError;
 
-/// Returns the value of the first attribute of this kind in the bytes, if there is one.
-pub(crate) fn find_value<'a>(bytes: &'a [u8], kind: u16) -> Option<&'a [u8]>
-    ensures { option_map (λ value. value.now) result ≡ nested_value kind bytes.entry.now }
+/// A number in the nested attributes.
+#[derive(Clone, Copy)]
+pub(crate) enum UlpField {
+    /// A field about TLS.
+    Tls(TlsField),
+    /// A field of a subflow of an MPTCP connection.
+    Subflow(SubflowField),
+}
+
+/// A row: how the table shows a number, its text there, its name in JSON, and its field.
+type UlpRow = (Shown, &'static [u8], Option<&'static str>, UlpField);
+
+/// A number about TLS.
+macro_rules! tls {
+    ($format:ident, $text:literal, $member:expr, $field:ident) => {
+        (
+            Shown::$format,
+            $text,
+            $member,
+            UlpField::Tls(TlsField::$field),
+        )
+    };
+}
+
+/// A number of a subflow.
+macro_rules! subflow {
+    ($format:ident, $text:literal, $member:literal, $field:ident) => {
+        (
+            Shown::$format,
+            $text,
+            Some($member),
+            UlpField::Subflow(SubflowField::$field),
+        )
+    };
+}
+
+/// The numbers about TLS. The table shows `rxconf` before `txconf`.
+static TLS_ROWS: [UlpRow; 5] = [
+    tls!(Version, b" version:", Some("version"), Version),
+    tls!(Cipher, b" cipher:", Some("cipher"), Cipher),
+    tls!(Mode, b" rxconf:", None, Receiving),
+    tls!(Mode, b" txconf:", Some("txconf"), Sending),
+    tls!(Never, b"", Some("rxconf"), Receiving),
+];
+
+/// The numbers of a subflow.
+static SUBFLOW_ROWS: [UlpRow; 10] = [
+    subflow!(Never, b"", "token_rem", RemoteToken),
+    subflow!(Never, b"", "token_loc", LocalToken),
+    subflow!(Never, b"", "relwrite_seq", RelativeWriteSequence),
+    subflow!(Hex, b" seq:", "map_seq", MapSequence),
+    subflow!(Hex, b" sfseq:", "map_sfseq", MapSubflowSequence),
+    subflow!(Hex, b" ssnoff:", "ssn_offset", SequenceOffset),
+    subflow!(Hex, b" maplen:", "map_datalen", MapLength),
+    subflow!(Never, b"", "flags", Flags),
+    subflow!(Never, b"", "id_rem", RemoteId),
+    subflow!(Never, b"", "id_loc", LocalId),
+];
+
+/// Shows the upper layer protocol in a value. A value without the name of a protocol has no facts.
+pub(crate) fn show_ulp<S: FactSink>(sink: &mut S, value: &[u8]) -> Result<Status, AllocError>
+    ensures { Decodes S.kept S.content S.items result sink.old sink.new (ulp_outcome value.now) }
 {
-    match find_kind(bytes, kind) {
-        Some(nla) => Some(nla.value()),
-        None => None,
+    match name_of_protocol(value) {
+        Some(name) => {
+            show_ulp_info(sink, name, value)?;
+            Ok(Ok(true))
+        }
+        None => Ok(Ok(false)),
     }
 }
 
-/// Returns the value of the first attribute of this kind in the bytes, or no bytes if there is
-/// none.
-pub(crate) fn find_bytes<'a>(bytes: &'a [u8], kind: u16) -> &'a [u8]
-    ensures { result.now ≡ nested_bytes kind bytes.entry.now }
+/// Shows the name of a protocol, and what the value has about TLS and MPTCP, as a group.
+fn show_ulp_info<S: FactSink>(sink: &mut S, name: &str, value: &[u8]) -> Result<(), AllocError>
+    ensures { Shows S.kept S.content S.items result sink.old sink.new
+        (group [] [] (codes "ulp_info") (ulp_parts name.now value.now)) }
 {
-    match find_value(bytes, kind) {
-        Some(value) => value,
-        None => &[],
+    sink.begin(b"", "ulp_info")?;
+    show_ulp_parts(sink, name, value)?;
+    sink.end(b"")
+}
+
+/// Shows the name of a protocol, and what the value has about TLS and MPTCP.
+fn show_ulp_parts<S: FactSink>(sink: &mut S, name: &str, value: &[u8]) -> Result<(), AllocError>
+    ensures { Shows S.kept S.content S.items result sink.old sink.new
+        (ulp_parts name.now value.now) }
+{
+    sink.name(false, b" tcp-ulp-", "name", name)?;
+    show_tls(sink, value)?;
+    show_subflow(sink, value)
+}
+
+/// Shows what TLS reports, if the value has it.
+fn show_tls<S: FactSink>(sink: &mut S, value: &[u8]) -> Result<(), AllocError>
+    ensures { Shows S.kept S.content S.items result sink.old sink.new
+        (nested_group (codes "tls") tls_facts (nested_value INET_ULP_INFO_TLS value.now)) }
+{
+    match find_value(value, INET_ULP_INFO_TLS) {
+        Some(bytes) => show_tls_info(sink, bytes),
+        None => Ok(()),
+    }
+}
+
+/// Shows what TLS reports, as a group.
+fn show_tls_info<S: FactSink>(sink: &mut S, bytes: &[u8]) -> Result<(), AllocError>
+    ensures { Shows S.kept S.content S.items result sink.old sink.new
+        (group [] [] (codes "tls") (tls_facts bytes.now)) }
+{
+    sink.begin(b"", "tls")?;
+    show_tls_parts(sink, bytes)?;
+    sink.end(b"")
+}
+
+/// Shows the numbers about TLS, and whether each flag is present.
+fn show_tls_parts<S: FactSink>(sink: &mut S, bytes: &[u8]) -> Result<(), AllocError>
+    ensures { Shows S.kept S.content S.items result sink.old sink.new (tls_facts bytes.now) }
+{
+    show_tls_numbers(sink, bytes)?;
+    show_presence(sink, bytes, TLS_INFO_ZC_RO_TX, b" zc_ro_tx", "zc_ro_tx")?;
+    show_presence(sink, bytes, TLS_INFO_RX_NO_PAD, b" no_pad_rx", "rx_no_pad")
+}
+
+/// Shows whether the nested attributes have one of this kind. The table shows this text if so.
+fn show_presence<S: FactSink>(
+    sink: &mut S,
+    bytes: &[u8],
+    kind: u16,
+    text: &[u8],
+    member: &str,
+) -> Result<(), AllocError>
+    ensures { Shows S.kept S.content S.items result sink.old sink.new
+        (presence_facts kind text.now member.now bytes.now) }
+{
+    let is_present = find_value(bytes, kind).is_some();
+    sink.flag(Shown::Bits(1), text, member, is_present)
+}
+
+/// Shows the numbers about TLS.
+fn show_tls_numbers<S: FactSink>(sink: &mut S, bytes: &[u8]) -> Result<(), AllocError>
+    ensures { Shows S.kept S.content S.items result sink.old sink.new
+        (facts_of_each (ulp_row bytes.now) tls_rows) }
+{
+    show_rows(sink, bytes, list_tls_rows())
+}
+
+/// Returns the rows of the numbers about TLS.
+#[tactic(auto, unfolding(crate::specs::UlpInfo::tls_rows))]
+fn list_tls_rows() -> &'static [UlpRow]
+    ensures { map (λ row. (row.0, row.1.now, option_map (λ m. m.now) row.2, row.3)) result.now
+        ≡ tls_rows }
+{
+    &TLS_ROWS
+}
+
+/// Shows what MPTCP reports, if the value has it.
+fn show_subflow<S: FactSink>(sink: &mut S, value: &[u8]) -> Result<(), AllocError>
+    ensures { Shows S.kept S.content S.items result sink.old sink.new (nested_group (codes "mptcp")
+        subflow_facts (nested_value INET_ULP_INFO_MPTCP value.now)) }
+{
+    match find_value(value, INET_ULP_INFO_MPTCP) {
+        Some(bytes) => show_subflow_info(sink, bytes),
+        None => Ok(()),
+    }
+}
+
+/// Shows what MPTCP reports, as a group.
+fn show_subflow_info<S: FactSink>(sink: &mut S, bytes: &[u8]) -> Result<(), AllocError>
+    ensures { Shows S.kept S.content S.items result sink.old sink.new
+        (group [] [] (codes "mptcp") (subflow_facts bytes.now)) }
+{
+    sink.begin(b"", "mptcp")?;
+    show_subflow_parts(sink, bytes)?;
+    sink.end(b"")
+}
+
+/// Shows the flags, the tokens and the numbers of a subflow.
+fn show_subflow_parts<S: FactSink>(sink: &mut S, bytes: &[u8]) -> Result<(), AllocError>
+    ensures { Shows S.kept S.content S.items result sink.old sink.new (subflow_facts bytes.now) }
+{
+    let flags = UlpField::Subflow(SubflowField::Flags);
+    show_row(sink, bytes, Shown::Letters, b" flags:", None, flags)?;
+    show_tokens(sink, bytes)?;
+    show_subflow_numbers(sink, bytes)
+}
+
+/// Shows the numbers of a subflow.
+fn show_subflow_numbers<S: FactSink>(sink: &mut S, bytes: &[u8]) -> Result<(), AllocError>
+    ensures { Shows S.kept S.content S.items result sink.old sink.new
+        (facts_of_each (ulp_row bytes.now) subflow_rows) }
+{
+    show_rows(sink, bytes, list_subflow_rows())
+}
+
+/// Returns the rows of the numbers of a subflow.
+#[tactic(auto, unfolding(crate::specs::UlpInfo::subflow_rows))]
+fn list_subflow_rows() -> &'static [UlpRow]
+    ensures { map (λ row. (row.0, row.1.now, option_map (λ m. m.now) row.2, row.3)) result.now
+        ≡ subflow_rows }
+{
+    &SUBFLOW_ROWS
+}
+
+/// Shows the tokens of a connection and the ids of the addresses, which JSON has as numbers of the
+/// subflow, if all four are present.
+fn show_tokens<S: FactSink>(sink: &mut S, bytes: &[u8]) -> Result<(), AllocError>
+    ensures { Shows S.kept S.content S.items result sink.old sink.new (tokens_in bytes.now) }
+{
+    show_four(
+        sink,
+        number_of(bytes, UlpField::Subflow(SubflowField::RemoteToken)),
+        number_of(bytes, UlpField::Subflow(SubflowField::RemoteId)),
+        number_of(bytes, UlpField::Subflow(SubflowField::LocalToken)),
+        number_of(bytes, UlpField::Subflow(SubflowField::LocalId)),
+    )
+}
+
+/// Shows these tokens and ids, if all four are present.
+fn show_four<S: FactSink>(
+    sink: &mut S,
+    remote: Option<u64>,
+    remote_id: Option<u64>,
+    local: Option<u64>,
+    local_id: Option<u64>,
+) -> Result<(), AllocError>
+    ensures { Shows S.kept S.content S.items result sink.old sink.new
+        (token_facts remote remote_id local local_id) }
+{
+    match (remote, remote_id, local, local_id) {
+        (Some(remote), Some(remote_id), Some(local), Some(local_id)) => {
+            let rows: [NumberRow<'_>; 4] = [
+                (Shown::Hex, b" token:", None, Some(remote)),
+                (Shown::Closed, b"(id:", None, Some(remote_id)),
+                (Shown::Hex, b"/", None, Some(local)),
+                (Shown::Closed, b"(id:", None, Some(local_id)),
+            ];
+            show_numbers(sink, &rows)
+        }
+        _ => Ok(()),
+    }
+}
+
+/// Shows the number of each row, if the nested attributes have its field.
+fn show_rows<S: FactSink>(sink: &mut S, bytes: &[u8], rows: &[UlpRow]) -> Result<(), AllocError>
+    ensures { OnOk result ((S.kept sink.new ≡ S.kept sink.old)
+        × (S.content sink.new ≡ S.content sink.old ++ flat_map (λ row. S.items (ulp_row bytes.now
+        (row.0, row.1.now, option_map (λ m. m.now) row.2, row.3))) rows.now)) }
+{
+    for &(format, text, member, field) in rows {
+        show_row(sink, bytes, format, text, member, field)?;
+    }
+    Ok(())
+}
+
+/// Shows a number, if the nested attributes have its field.
+#[tactic(auto, unfolding(crate::specs::UlpInfo::ulp_row))]
+fn show_row<S: FactSink>(
+    sink: &mut S,
+    bytes: &[u8],
+    format: Shown,
+    text: &[u8],
+    member: Option<&str>,
+    field: UlpField,
+) -> Result<(), AllocError>
+    ensures { Shows S.kept S.content S.items result sink.old sink.new (ulp_row bytes.now
+        (format, text.now, option_map (λ m. m.now) member.entry, field)) }
+{
+    match number_of(bytes, field) {
+        Some(number) => sink.number(format, text, member, number),
+        None => Ok(()),
+    }
+}
+
+/// Returns the number of a field of the nested attributes.
+fn number_of(bytes: &[u8], field: UlpField) -> Option<u64>
+    ensures { result ≡ ulp_number bytes.now field }
+{
+    match field {
+        UlpField::Tls(field) => {
+            let (kind, width) = field.row();
+            find_number(bytes, kind, width)
+        }
+        UlpField::Subflow(field) => {
+            let (kind, width) = field.row();
+            find_number(bytes, kind, width)
+        }
+    }
+}
+
+/// Returns the name of the protocol, without one terminating NUL if it has one. Returns `None` if
+/// there is none, or if it is not valid UTF-8.
+fn name_of_protocol<'a>(value: &'a [u8]) -> Option<&'a str>
+    ensures { option_map (λ name. name.now) result ≡ ulp_name value.entry.now }
+{
+    match parse_str(find_value(value, INET_ULP_INFO_NAME)?) {
+        Ok(name) => Some(name),
+        Err(_) => None,
     }
 }
 
@@ -62,304 +333,12 @@ pub(crate) fn find_number(bytes: &[u8], kind: u16, width: usize) -> Option<u64>
     }
 }
 
-/// Returns the value of a field about TLS.
-pub(crate) fn number_of_tls(bytes: &[u8], field: TlsField) -> Option<u64>
-    ensures { result ≡ tls_number bytes.now field }
+/// Returns the value of the first attribute of this kind in the bytes, if there is one.
+pub(crate) fn find_value<'a>(bytes: &'a [u8], kind: u16) -> Option<&'a [u8]>
+    ensures { option_map (λ value. value.now) result ≡ nested_value kind bytes.entry.now }
 {
-    let (kind, width) = field.row();
-    find_number(bytes, kind, width)
-}
-
-/// Returns the value of a field of an MPTCP subflow.
-pub(crate) fn number_of_subflow(bytes: &[u8], field: SubflowField) -> Option<u64>
-    ensures { result ≡ subflow_number bytes.now field }
-{
-    let (kind, width) = field.row();
-    find_number(bytes, kind, width)
-}
-
-/// Returns the name of the protocol, without one terminating NUL if it has one. Returns `None` if
-/// there is none, or if it is not valid UTF-8.
-pub(crate) fn name_of_protocol<'a>(value: &'a [u8]) -> Option<&'a str>
-    ensures { option_map (λ name. name.now) result ≡ ulp_name value.entry.now }
-{
-    match parse_str(find_value(value, INET_ULP_INFO_NAME)?) {
-        Ok(name) => Some(name),
-        Err(_) => None,
+    match find_kind(bytes, kind) {
+        Some(nla) => Some(nla.value()),
+        None => None,
     }
-}
-
-/// Appends the upper layer protocol of a TCP socket. An attribute without the name of a protocol is
-/// appended as an unknown one.
-pub(crate) fn push_ulp(text: &mut Vec<u8>, nla: &NlaBuffer<'_>) -> Result<(), AllocError>
-    ensures { OnOk result (text.new.items ≡ text.old.items
-        ++ ulp_text (buffered_attribute nla.now)) }
-{
-    match name_of_protocol(nla.value()) {
-        Some(name) => push_ulp_details(text, name, nla.value()),
-        None => push_unknown(text, nla),
-    }
-}
-
-/// Appends the name of the protocol, and what the value has about TLS and MPTCP.
-#[tactic(auto, using(crate::proofs::Adding::appended_texts_concatenate))]
-fn push_ulp_details(text: &mut Vec<u8>, name: &str, value: &[u8]) -> Result<(), AllocError>
-    ensures { OnOk result (text.new.items ≡ text.old.items ++ ulp_details name.now value.now) }
-{
-    text.extend_from_slice(b" tcp-ulp-")?;
-    push_shown(text, false, name.as_bytes())?;
-    push_tls(text, find_bytes(value, INET_ULP_INFO_TLS))?;
-    push_subflow(text, find_bytes(value, INET_ULP_INFO_MPTCP))
-}
-
-/// Appends the details about TLS.
-#[tactic(auto, using(crate::proofs::Adding::appended_texts_concatenate))]
-fn push_tls(text: &mut Vec<u8>, bytes: &[u8]) -> Result<(), AllocError>
-    ensures { OnOk result (text.new.items ≡ text.old.items ++ tls_text bytes.now) }
-{
-    push_version(text, number_of_tls(bytes, TlsField::Version))?;
-    push_cipher(text, number_of_tls(bytes, TlsField::Cipher))?;
-    push_mode(text, b"rxconf", number_of_tls(bytes, TlsField::Receiving))?;
-    push_mode(text, b"txconf", number_of_tls(bytes, TlsField::Sending))?;
-    push_present(text, b"zc_ro_tx", find_value(bytes, TLS_INFO_ZC_RO_TX))?;
-    push_present(text, b"no_pad_rx", find_value(bytes, TLS_INFO_RX_NO_PAD))
-}
-
-/// Appends the version of TLS. Appends nothing for `None`.
-fn push_version(text: &mut Vec<u8>, version: Option<u64>) -> Result<(), AllocError>
-    ensures { OnOk result (text.new.items ≡ text.old.items ++ tls_version_text version) }
-{
-    match version {
-        Some(number) => push_named(text, b"version", name_of_version(number), number),
-        None => Ok(()),
-    }
-}
-
-/// Returns the name of a version of TLS, if it is known.
-fn name_of_version(number: u64) -> Option<&'static [u8]>
-    ensures { option_map (λ name. name.now) result ≡ tls_version_name number }
-{
-    match number {
-        0x303 => Some(b"1.2"),
-        0x304 => Some(b"1.3"),
-        _ => None,
-    }
-}
-
-/// Appends the cipher of TLS. Appends nothing for `None`.
-fn push_cipher(text: &mut Vec<u8>, cipher: Option<u64>) -> Result<(), AllocError>
-    ensures { OnOk result (text.new.items ≡ text.old.items ++ tls_cipher_text cipher) }
-{
-    match cipher {
-        Some(number) => push_named(text, b"cipher", name_of_cipher(number), number),
-        None => Ok(()),
-    }
-}
-
-/// Returns the name of a cipher of TLS, if ss(8) has one.
-fn name_of_cipher(number: u64) -> Option<&'static [u8]>
-    ensures { option_map (λ name. name.now) result ≡ tls_cipher_name number }
-{
-    match number {
-        51 => Some(b"aes-gcm-128"),
-        52 => Some(b"aes-gcm-256"),
-        _ => None,
-    }
-}
-
-/// Appends how data is encrypted or decrypted, after a space, `word` and a colon. Appends nothing
-/// for `None`.
-fn push_mode(text: &mut Vec<u8>, word: &[u8], mode: Option<u64>) -> Result<(), AllocError>
-    ensures { OnOk result (text.new.items ≡ text.old.items ++ tls_mode_text word.now mode) }
-{
-    match mode {
-        Some(number) => push_named(text, word, name_of_mode(number), number),
-        None => Ok(()),
-    }
-}
-
-/// Returns the name of how data is encrypted or decrypted, if it is known: not in the kernel, in
-/// software, in hardware, or in hardware that also makes the records.
-fn name_of_mode(number: u64) -> Option<&'static [u8]>
-    ensures { option_map (λ name. name.now) result ≡ tls_mode_name number }
-{
-    match number {
-        1 => Some(b"none"),
-        2 => Some(b"sw"),
-        3 => Some(b"hw"),
-        4 => Some(b"hw-record"),
-        _ => None,
-    }
-}
-
-/// Appends a space, `word`, a colon and the name, or else the number in decimal.
-fn push_named(
-    text: &mut Vec<u8>,
-    word: &[u8],
-    name: Option<&[u8]>,
-    number: u64,
-) -> Result<(), AllocError>
-    ensures { OnOk result (text.new.items ≡ text.old.items
-        ++ named_detail word.now (option_map (λ n. n.now) name.entry) number) }
-{
-    text.push(b' ')?;
-    text.extend_from_slice(word)?;
-    text.push(b':')?;
-    push_name_or_number(text, name, number)
-}
-
-/// Appends the name, or else the number in decimal.
-fn push_name_or_number(
-    text: &mut Vec<u8>,
-    name: Option<&[u8]>,
-    number: u64,
-) -> Result<(), AllocError>
-    ensures { OnOk result (text.new.items ≡ text.old.items
-        ++ name_or_number (option_map (λ n. n.now) name.entry) number) }
-{
-    match name {
-        Some(name) => text.extend_from_slice(name),
-        None => push_number(text, number),
-    }
-}
-
-/// Appends a space and `word`. Appends nothing for `None`.
-fn push_present(text: &mut Vec<u8>, word: &[u8], value: Option<&[u8]>) -> Result<(), AllocError>
-    ensures { OnOk result (text.new.items ≡ text.old.items
-        ++ present_detail word.now (option_map (λ bytes. bytes.now) value.entry)) }
-{
-    if value.is_none() {
-        return Ok(());
-    }
-    text.push(b' ')?;
-    text.extend_from_slice(word)
-}
-
-/// Appends the details of an MPTCP subflow.
-#[tactic(auto, using(crate::proofs::Adding::appended_texts_concatenate))]
-fn push_subflow(text: &mut Vec<u8>, bytes: &[u8]) -> Result<(), AllocError>
-    ensures { OnOk result (text.new.items ≡ text.old.items ++ subflow_text bytes.now) }
-{
-    push_subflow_flags(text, number_of_subflow(bytes, SubflowField::Flags))?;
-    push_subflow_tokens(text, bytes)?;
-    push_optional_hex(
-        text,
-        b"seq",
-        number_of_subflow(bytes, SubflowField::MapSequence),
-    )?;
-    push_optional_hex(
-        text,
-        b"sfseq",
-        number_of_subflow(bytes, SubflowField::MapSubflowSequence),
-    )?;
-    push_optional_hex(
-        text,
-        b"ssnoff",
-        number_of_subflow(bytes, SubflowField::SequenceOffset),
-    )?;
-    push_optional_hex(
-        text,
-        b"maplen",
-        number_of_subflow(bytes, SubflowField::MapLength),
-    )
-}
-
-/// Appends the flags of a subflow that are set, a letter for each. Appends nothing if there are no
-/// flags.
-fn push_subflow_flags(text: &mut Vec<u8>, flags: Option<u64>) -> Result<(), AllocError>
-    ensures { OnOk result (text.new.items ≡ text.old.items ++ subflow_flags_text flags) }
-{
-    match flags {
-        None | Some(0) => Ok(()),
-        Some(flags) => {
-            text.extend_from_slice(b" flags:")?;
-            push_letters(
-                text,
-                flags,
-                &[
-                    (1, b'M'),
-                    (2, b'm'),
-                    (4, b'J'),
-                    (8, b'j'),
-                    (16, b'B'),
-                    (32, b'b'),
-                    (64, b'e'),
-                    (128, b'c'),
-                    (256, b'v'),
-                ],
-            )
-        }
-    }
-}
-
-/// Appends the letter of each bit that is set in a number.
-fn push_letters(text: &mut Vec<u8>, number: u64, rows: &[(u64, u8)]) -> Result<(), AllocError>
-    ensures { OnOk result (text.new.items ≡ text.old.items
-        ++ flat_map (flag_letter number) rows.now) }
-{
-    for &(bit, letter) in rows {
-        if number & bit != 0 {
-            text.push(letter)?;
-        }
-    }
-    Ok(())
-}
-
-/// Appends the tokens and the ids of the addresses of a subflow, if all four are present.
-fn push_subflow_tokens(text: &mut Vec<u8>, bytes: &[u8]) -> Result<(), AllocError>
-    ensures { OnOk result (text.new.items ≡ text.old.items ++ subflow_tokens bytes.now) }
-{
-    push_tokens(
-        text,
-        number_of_subflow(bytes, SubflowField::RemoteToken),
-        number_of_subflow(bytes, SubflowField::RemoteId),
-        number_of_subflow(bytes, SubflowField::LocalToken),
-        number_of_subflow(bytes, SubflowField::LocalId),
-    )
-}
-
-/// Appends the tokens and the ids, if all four are present.
-fn push_tokens(
-    text: &mut Vec<u8>,
-    remote: Option<u64>,
-    remote_id: Option<u64>,
-    local: Option<u64>,
-    local_id: Option<u64>,
-) -> Result<(), AllocError>
-    ensures { OnOk result (text.new.items ≡ text.old.items
-        ++ tokens_text remote remote_id local local_id) }
-{
-    match (remote, remote_id, local, local_id) {
-        (Some(remote), Some(remote_id), Some(local), Some(local_id)) => {
-            text.extend_from_slice(b" token:")?;
-            push_token(text, remote, remote_id)?;
-            text.push(b'/')?;
-            push_token(text, local, local_id)
-        }
-        _ => Ok(()),
-    }
-}
-
-/// Appends the token of a connection in hexadecimal digits, and the id of an address.
-fn push_token(text: &mut Vec<u8>, token: u64, id: u64) -> Result<(), AllocError>
-    ensures { OnOk result (text.new.items ≡ text.old.items ++ token_text token id) }
-{
-    push_hex(text, token)?;
-    text.extend_from_slice(b"(id:")?;
-    push_number(text, id)?;
-    Ok(text.push(b')')?)
-}
-
-/// Appends a space, a name, a colon and a number in lowercase hexadecimal digits. Appends nothing
-/// for `None`.
-fn push_optional_hex(text: &mut Vec<u8>, word: &[u8], number: Option<u64>) -> Result<(), AllocError>
-    ensures { OnOk result (text.new.items ≡ text.old.items ++ optional_hex word.now number) }
-{
-    let Some(number) = number else {
-        return Ok(());
-    };
-    text.push(b' ')?;
-    text.extend_from_slice(word)?;
-    text.push(b':')?;
-    push_hex(text, number)
 }

@@ -1,17 +1,13 @@
 -- Details of a line. Texts are lists of ASCII codes: 32 is a space, 58 a colon, 44 a comma, 41 a
 -- closing parenthesis. Arguments named `word` are names of details.
 use Rattle.std.specs.Prelude.{ℕ, ◌==◌, if◌then◌else◌, List, [], ◌∷◌, ◌++◌, false, codes, decimal}
-use Rattle.std.specs.Prelude.{bit_and, ◌||◌, Option, None, Some}
+use Rattle.std.specs.Prelude.{bit_and}
 use Rattle.std.specs.Fmt.{digits}
 use Rattle.byteorder.specs.Endian.{little_number}
 use Rattle.sslist_options.specs.Options.{shows_detail}
 use Rattle.sslist_options.specs.declared.options.Detail.TheVariants.{Timer, Extended}
 use Rattle.sslist_options.specs.declared.options.Options.{Options}
 use Rattle.sock_diag_listing.specs.declared.parts.TimerFields.{TimerFields}
-
--- a space, the name, a colon and a number in decimal
-abbrev pub detail : List ℕ → ℕ → List ℕ
-detail word n = 32 ∷ word ++ 58 ∷ decimal n
 
 -- a space, the name, a colon, `0x` and a number in hexadecimal digits (`digits 16 false`: in
 -- lowercase, without leading zeros)
@@ -22,24 +18,6 @@ hex_detail word n = 32 ∷ word ++ codes ":0x" ++ digits 16 false n
 abbrev pub pair_detail : List ℕ → ℕ → ℕ → List ℕ
 pair_detail word n m = 32 ∷ word ++ codes ":(" ++ decimal n ++ 44 ∷ decimal m ++ 41 ∷ []
 
--- the detail with a name and a number, or nothing if the number is 0, or 2 ^ 64 - 1, which is no
--- limit
-abbrev pub nonzero_detail : List ℕ → ℕ → List ℕ
-nonzero_detail word n = if n == 0 || n == 0xffffffffffffffff then [] else detail word n
-
--- the slow start threshold, or nothing if it is 0, or 0x7fffffff (TCP_INFINITE_SSTHRESH)
-abbrev pub threshold_detail : ℕ → List ℕ
-threshold_detail n = if n == 0 || n == 0x7fffffff then [] else detail (codes "ssthresh") n
-
--- `flag_detail word bits n`: a space and the name, if the number `n` has at least one of these bits
-abbrev pub flag_detail : List ℕ → ℕ → ℕ → List ℕ
-flag_detail word bits n = if bit_and n bits == 0 then [] else 32 ∷ word
-
--- a comma, the name and a number, or nothing for None
-abbrev pub optional_part : List ℕ → Option ℕ → List ℕ
-optional_part word None = []
-optional_part word (Some n) = 44 ∷ word ++ decimal n
-
 -- A space, and the directions that are not shut down, by the bits of `sk_shutdown`: `<->` if none
 -- is. `<` (60) is `-` (45) if bit 1 (RCV_SHUTDOWN) is set, and `>` (62) is `-` if bit 2
 -- (SEND_SHUTDOWN) is set.
@@ -47,13 +25,6 @@ abbrev pub directions : ℕ → List ℕ
 directions state =
     32 ∷ (if bit_and state 1 == 0 then 60 else 45) ∷ 45
     ∷ (if bit_and state 2 == 0 then 62 else 45) ∷ []
-
--- the names of the flags that are set, by the bits PDI_.. of linux/packet_diag.h (`pdi_flags`)
-abbrev pub packet_flags : ℕ → List ℕ
-packet_flags n =
-    flag_detail (codes "running") 1 n ++ flag_detail (codes "auxdata") 2 n
-    ++ flag_detail (codes "origdev") 4 n ++ flag_detail (codes "vnethdr") 8 n
-    ++ flag_detail (codes "loss") 16 n
 
 -- the name of a kind of timer (`idiag_timer`), as ss(8) prints it
 abbrev pub timer_name : ℕ → List ℕ
