@@ -24,13 +24,10 @@ use sock_diag_families::vsock::{AF_VSOCK, VsockResponseHeader};
 use sock_diag_families::xdp::{AF_XDP, XdpResponseHeader};
 use sock_diag_listing::cells::name_of_state;
 use sock_diag_listing::json_writing::{write_hex, write_numbers, write_text};
-use sock_diag_records::constants::{AF_NETLINK, AF_PACKET};
+use sock_diag_records::constants::{AF_NETLINK, AF_PACKET, TCP_CLOSE};
 use sslist_options::Family;
 use std::alloc::{AllocError, Global};
 use std::mem;
-
-/// State that ss(8) prints as `UNCONN`.
-const UNCONNECTED: u8 = 7;
 
 /// A header of a reply about a netlink, packet, vsock or XDP socket, which can be written as JSON.
 pub(crate) trait JsonHeader {
@@ -134,7 +131,7 @@ impl JsonHeader for NetlinkResponseHeader {
             ("ino", self.inode as u64),
         ];
         let netid = name_of_other_kind(Family::Netlink, self.kind);
-        write_header(alloc, writer, netid, UNCONNECTED, &rows, self.cookie)
+        write_header(alloc, writer, netid, TCP_CLOSE, &rows, self.cookie)
     }
 }
 
@@ -155,7 +152,7 @@ impl JsonHeader for PacketResponseHeader {
             ("ino", self.inode as u64),
         ];
         let netid = name_of_other_kind(Family::Packet, self.kind);
-        write_header(alloc, writer, netid, UNCONNECTED, &rows, self.cookie)
+        write_header(alloc, writer, netid, TCP_CLOSE, &rows, self.cookie)
     }
 }
 
@@ -201,6 +198,6 @@ impl JsonHeader for XdpResponseHeader {
             ("ino", self.inode as u64),
         ];
         let netid = name_of_other_kind(Family::Xdp, self.kind);
-        write_header(alloc, writer, netid, UNCONNECTED, &rows, self.cookie)
+        write_header(alloc, writer, netid, TCP_CLOSE, &rows, self.cookie)
     }
 }

@@ -29,8 +29,8 @@ use crate::requests::Requests;
 use byteorder::{ByteOrder, LittleEndian};
 use netlink_captures::{Packet, PacketHeader};
 use netlink_core::{
-    DecodeError, MessageStrings, NETLINK_HEADER_LEN, NLM_F_REQUEST, NLMSG_NOOP, NLMSG_OVERRUN,
-    NetlinkHeader, error_number,
+    DecodeError, MessageStrings, NETLINK_HEADER_LEN, NLM_F_DUMP_INTR, NLM_F_REQUEST, NLMSG_NOOP,
+    NLMSG_OVERRUN, NetlinkHeader, error_number,
 };
 use sock_diag_listing::PacketOutput;
 use sock_diag_listing::output::{push_short, push_truncation};
@@ -39,9 +39,6 @@ use std::alloc::AllocError;
 use std::error::Error;
 use std::fmt;
 use std::io::Write;
-
-/// `NLM_F_DUMP_INTR` of netlink(7).
-const DUMP_INTERRUPTED: u16 = 0x10;
 
 /// `ENOENT` of errno(3).
 const ENOENT: u32 = 2;
@@ -330,7 +327,7 @@ fn interruption_diagnostic(message: &[u8]) -> Option<Diagnostic>
     requires { 16 ≤ length message.now }
     ensures { result ≡ interrupted_diagnostic message.now }
 {
-    if LittleEndian::read_u16(&message[6..]) & DUMP_INTERRUPTED == 0 {
+    if LittleEndian::read_u16(&message[6..]) & NLM_F_DUMP_INTR == 0 {
         None
     } else {
         Some(Diagnostic::Interrupted)

@@ -31,12 +31,9 @@ use sock_diag_families::vsock::{AF_VSOCK, VsockResponseHeader};
 use sock_diag_families::xdp::{AF_XDP, XDP_DIAG_INFO, XDP_DIAG_UID, XdpResponseHeader};
 use sock_diag_listing::cells::{Cells, end_column, push_first_columns, push_peer};
 use sock_diag_listing::parts::NO_TIMER;
-use sock_diag_records::constants::{AF_NETLINK, AF_PACKET};
+use sock_diag_records::constants::{AF_NETLINK, AF_PACKET, TCP_CLOSE};
 use sslist_options::{Family, Options};
 use std::alloc::AllocError;
-
-/// State that ss(8) prints as `UNCONN`.
-const UNCONNECTED: u8 = 7;
 
 /// `NETLINK_CONNECTED`, the state of a netlink socket that is connected to another one.
 const NETLINK_CONNECTED: u8 = 1;
@@ -308,7 +305,7 @@ impl Listed for NetlinkResponseHeader {
         OtherSocket {
             family: Family::Netlink,
             kind: self.kind,
-            state: UNCONNECTED,
+            state: TCP_CLOSE,
             inode: self.inode,
             cookie: self.cookie,
             local: (Some(self.protocol.into()), Some(self.port)),
@@ -325,7 +322,7 @@ impl Listed for PacketResponseHeader {
         OtherSocket {
             family: Family::Packet,
             kind: self.kind,
-            state: UNCONNECTED,
+            state: TCP_CLOSE,
             inode: self.inode,
             cookie: self.cookie,
             local: (Some(self.protocol.into()), interface),
@@ -365,7 +362,7 @@ impl Listed for XdpResponseHeader {
         OtherSocket {
             family: Family::Xdp,
             kind: self.kind,
-            state: UNCONNECTED,
+            state: TCP_CLOSE,
             inode: self.inode,
             cookie: self.cookie,
             local: (interface, word_at(attributes, Some(XDP_DIAG_INFO), 4)),

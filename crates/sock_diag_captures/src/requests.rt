@@ -11,15 +11,12 @@ use crate::pieces::find_kind;
 use byteorder::{ByteOrder, LittleEndian};
 use netlink_core::{Exact, NETLINK_HEADER_LEN, NLM_F_REQUEST, NlaBuffer};
 use sock_diag_records::constants::{AF_INET, AF_INET6, SOCK_DIAG_BY_FAMILY};
-use sock_diag_records::inet::INET_REQUEST_LEN;
+use sock_diag_records::inet::{INET_DIAG_REQ_PROTOCOL, INET_REQUEST_LEN};
 use std::alloc::{AllocError, Global};
 
 /// Length in bytes of a netlink header and a request for IPv4 and IPv6 sockets
 /// (`inet_diag_req_v2`).
 const REQUEST: usize = NETLINK_HEADER_LEN + INET_REQUEST_LEN;
-
-/// `INET_DIAG_REQ_PROTOCOL`, the type of the attribute with a protocol above 255.
-const PROTOCOL: u16 = 3;
 
 /// Number of requests that are kept when a new one is added.
 const MAX_OLDER_REQUESTS: usize = 15;
@@ -136,7 +133,10 @@ fn parse_request_fields(request: &[u8]) -> Query
     Query {
         sequence_number: LittleEndian::read_u32(&request[8..]),
         port_number: LittleEndian::read_u32(&request[12..]),
-        protocol: choose_protocol(request[17], find_kind(&request[REQUEST..], PROTOCOL)),
+        protocol: choose_protocol(
+            request[17],
+            find_kind(&request[REQUEST..], INET_DIAG_REQ_PROTOCOL),
+        ),
         family: request[16],
         states: LittleEndian::read_u32(&request[20..]),
     }
