@@ -5,7 +5,6 @@ pub mod Table
 pub mod Md5Keys
 pub mod UlpInfo
 pub mod Facts
-pub mod FactTokens
 pub mod Tcp
 pub mod AttributeFacts
 pub mod UlpNames
@@ -22,4 +21,5 @@ pub mod JsonAttributes
 pub mod JsonSockets
 pub mod JsonOthers
 pub mod JsonListing
+pub mod laws
 pub mod private

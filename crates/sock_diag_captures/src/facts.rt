@@ -10,7 +10,7 @@ ghost use Rattle.sock_diag_attributes.specs.NumbersModel.{numbers_view_model};
 ghost use Rattle.sock_diag_captures.specs.Facts.{Facts, Shows, both, flag_facts, group, list_facts};
 ghost use Rattle.sock_diag_captures.specs.Facts.{name_facts, named_member, no_facts, number_facts};
 ghost use Rattle.sock_diag_captures.specs.Facts.{number_row, number_text, numbers, text_facts};
-ghost use Rattle.sock_diag_captures.specs.FactTokens.{group_tokens, no_tokens};
+ghost use Rattle.sock_diag_captures.specs.laws.FactTokens.{group_tokens, no_tokens};
 ghost use Rattle.sock_diag_captures.specs.Md5Keys.{md5_facts};
 ghost use Rattle.sock_diag_captures.specs.UlpNames.{name_or_number};
 ghost use Rattle.sock_diag_listing.proofs.JsonWriting.{tokens_append};

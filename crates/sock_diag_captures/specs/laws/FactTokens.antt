@@ -1,4 +1,4 @@
--- Tokens of facts.
+-- The tokens of facts in JSON.
 use Rattle.std.specs.Prelude.{◌≡◌, ℕ, List, [], ◌∷◌, ◌++◌, refl}
 use Rattle.json.specs.Token.{begin_object, end_object, key}
 use Rattle.sock_diag_listing.proofs.JsonWriting.{object_member_tokens}
