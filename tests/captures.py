@@ -8,6 +8,9 @@ import subprocess
 import sys
 from pathlib import Path
 
+sys.dont_write_bytecode = True
+import pcapng
+
 HEADING = (Path(__file__).parent.parent / "crates/sslist/stdout").read_text().splitlines(True)[0]
 
 # A reply about an IPv6 socket in TIME-WAIT. Local: [fe80::1], interface 3, port 22. Peer:
@@ -396,10 +399,7 @@ def enhanced(order, *digits):
     """Returns an enhanced packet block of the first interface, captured 7.000009 seconds after 1970
     if its timestamps have microseconds."""
     packet = bytes.fromhex("".join(digits))
-    padded = packet + bytes(-len(packet) % 4)
-    total = 32 + len(padded)
-    numbers = (6, total, 0, 0, 7_000_009, len(packet), len(packet))
-    return struct.pack(f"{order}7I", *numbers) + padded + struct.pack(f"{order}I", total)
+    return pcapng.enhanced(order, 0, 7_000_009, len(packet), packet)
 
 
 def section(number, *packets):

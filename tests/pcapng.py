@@ -1,5 +1,5 @@
 """Writes a pcap capture of netlink traffic in the pcapng format, and single blocks of it, for
-tests/programs.py."""
+tests/programs.py and tests/captures.py."""
 
 import struct
 
