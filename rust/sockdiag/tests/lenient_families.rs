@@ -304,18 +304,15 @@ fn returns_the_socket_of_a_rejected_message() {
     attribute(&mut replies[0], 4, &[0; 3]);
     attribute(&mut replies[1], 5, &[0; 2]);
     attribute(&mut replies[3], 9, &[0; 8]);
-    // The strict replies check only the first attribute of each kind, so bytes follow that are
-    // none.
-    for reply in &mut replies {
-        reply.extend([2, 0, 0, 0]);
-    }
+    // No attribute of a vsock reply is rejected, so bytes follow that are not an attribute.
+    replies[2].extend([2, 0, 0, 0]);
     let mut datagram: Vec<_> = replies
         .iter()
         .flat_map(|reply| message(20, reply))
         .collect();
     datagram.extend(message(20, &replies[0][..27]));
     datagram.extend(message(21, &replies[0]));
-    let expected = [(16, 2), (17, 2), (40, 1), (44, 2), (0, 0), (0, 0)];
+    let expected = [(16, 1), (17, 1), (40, 1), (44, 1), (0, 0), (0, 0)];
     let any = AnyDump::new(&datagram).map(|message| found(message.unwrap_err().lenient()));
     assert_eq!(any.collect::<Vec<_>>(), expected);
     let port = Dump::new(&datagram).map(|message| found(message.unwrap_err().lenient()));
