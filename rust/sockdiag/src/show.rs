@@ -23,6 +23,13 @@ use crate::unix::request_header;
 /// assert_eq!(bytes[..8], [36, 0, 0, 0, 20, 0, 1, 3]);
 /// assert_eq!(bytes[16..20], [16, 255, 0, 0]);
 /// ```
+///
+/// This does not compile, since 1 is `AF_UNIX`:
+///
+/// ```compile_fail
+/// let header = sockdiag::NetlinkHeader::default();
+/// sockdiag::ShowRequest::<1>::default().to_message(&header);
+/// ```
 #[derive(Clone, Copy, Debug, Default, PartialEq, Eq)]
 pub struct ShowRequest<const FAMILY: u8> {
     /// The protocol for netlink sockets: 0 is `NETLINK_ROUTE`, and `NDIAG_PROTO_ALL` requests all.

@@ -153,7 +153,8 @@ fn canonical_in(bytes: &[u8], length: usize) -> (Option<usize>, Box<[u8]>) {
 
 #[test]
 fn writes_only_into_the_buffer() {
-    for bytes in [unix_reply(), inet_reply()] {
+    // The canonical form of a header alone has 16 bytes.
+    for bytes in [unix_reply(), inet_reply(), unix_reply()[..16].to_vec()] {
         let (needed, expected) = canonical_in(&bytes, 512);
         for length in 0..512 {
             let (found, buffer) = canonical_in(&bytes, length);

@@ -144,6 +144,10 @@ fn ends_after_a_framing_error() {
     assert_eq!(dump.next().unwrap().unwrap_err(), rejected);
     assert_eq!(rejected.to_string(), "message header cut: 3 bytes");
     assert!(dump.next().is_none() && dump.next().is_none());
+    // The bytes are returned unchanged, also if they begin with a header.
+    let truncated = &datagram[..datagram.len() - end.len() - 1];
+    let rejected = Dump::new(truncated).next().unwrap().unwrap_err();
+    assert_eq!((rejected.header, rejected.payload), (None, truncated));
     for bytes in [&end[..], &[]] {
         let error = NetlinkMessage::<SockDiagMessage>::deserialize(bytes).unwrap_err();
         assert_eq!(error, DecodeError::EnvelopeCut { got: bytes.len() });

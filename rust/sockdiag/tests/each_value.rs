@@ -5,8 +5,8 @@ mod common;
 use common::{attribute, inet_reply, unix_reply};
 use sockdiag::inet::{InetReply, StoredAddress, Timer};
 use sockdiag::unix::UnixReply;
-use sockdiag::{AnswerCheck, AnyDump, AnySockDiagMessage, Attributes, Dump, LenientMessage};
-use sockdiag::{NetlinkHeader, NetlinkPayload, SockDiagMessage, UnrelatedMessage};
+use sockdiag::{AnswerCheck, AnyDump, AnySockDiagMessage, Attribute, Attributes, Dump};
+use sockdiag::{LenientMessage, NetlinkHeader, NetlinkPayload, SockDiagMessage, UnrelatedMessage};
 use std::net::IpAddr;
 use std::time::Duration;
 
@@ -222,5 +222,11 @@ fn each_type_field() {
         let attribute = Attributes::new(&bytes).next().unwrap().unwrap();
         let found = (attribute.type_word, attribute.kind(), attribute.value);
         assert_eq!(found, (type_word, type_word % 0x4000, &[7][..]));
+        let value = attribute.value;
+        let first = Attribute {
+            type_word: 0,
+            value,
+        };
+        assert_eq!(attribute == first, type_word == 0);
     }
 }

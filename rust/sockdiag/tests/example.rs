@@ -1,7 +1,7 @@
 //! The example `list_sockets`, with a stand-in for the kernel: it repeats a dump that was
-//! interrupted or lost data, skips messages of other requests and for other sockets, continues
-//! after a reply that is rejected, and lists the socket of a reply with an attribute that is
-//! rejected.
+//! interrupted or lost data, and a read that a signal interrupted, skips messages of other requests
+//! and for other sockets, continues after a reply that is rejected, and lists the socket of a reply
+//! with an attribute that is rejected.
 
 mod common;
 #[allow(dead_code)]
@@ -27,12 +27,13 @@ const PORT_NUMBER: u32 = 9;
 /// sockets over IPv4 a datagram was dropped, and the first one over IPv6 has a truncated message:
 /// neither has an end. The answer about netlink sockets has a reply, and the one about packet
 /// sockets also a reply with settings of 4 bytes instead of 24. Each other request is answered by
-/// an error.
+/// an error. A signal interrupts the first read of each socket.
 struct Kernel<'r> {
     /// The requests that were sent on all sockets.
     requests: &'r RefCell<Vec<Vec<u8>>>,
     /// The datagrams that this socket receives; an error if there are no more.
     datagrams: Vec<Vec<u8>>,
+    has_read: bool,
 }
 
 /// Returns a message of the answer to this request.
@@ -90,6 +91,9 @@ impl Write for Kernel<'_> {
 
 impl Read for Kernel<'_> {
     fn read(&mut self, buffer: &mut [u8]) -> io::Result<usize> {
+        if !std::mem::replace(&mut self.has_read, true) {
+            return Err(io::ErrorKind::Interrupted.into());
+        }
         if self.datagrams.is_empty() {
             return Err(io::Error::from_raw_os_error(ENOBUFS));
         }
@@ -111,6 +115,7 @@ fn lists_sockets_once_after_incomplete_dumps() {
         let kernel = Kernel {
             requests: &requests,
             datagrams: Vec::new(),
+            has_read: false,
         };
         Ok((kernel, PORT_NUMBER))
     };

@@ -59,6 +59,16 @@ fn decodes_the_header() {
 }
 
 #[test]
+fn decodes_a_mapped_address_as_ipv6() {
+    let mut bytes = header(10, 0);
+    bytes[8..18].fill(0);
+    bytes[18..24].copy_from_slice(&[0xff, 0xff, 0xf1, 0xf2, 0xf3, 0xf4]);
+    let id = InetReply::parse(&bytes).unwrap().header.socket_id;
+    let address = Ipv4Addr::new(0xf1, 0xf2, 0xf3, 0xf4).to_ipv6_mapped();
+    assert_eq!(id.source_address, IpAddr::V6(address));
+}
+
+#[test]
 fn decodes_the_timer() {
     let time = Duration::from_millis(u32_at(&header(2, 0), 52).into());
     let retransmits = header(2, 0)[3];

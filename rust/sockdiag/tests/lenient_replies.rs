@@ -7,7 +7,7 @@ use common::{attribute, counted, inet_reply, message, unix_reply, Random};
 use sockdiag::inet::{self, InetReply, LenientInetReply, TcpField};
 use sockdiag::unix::{self, LenientUnixReply, UnixReply};
 use sockdiag::{Attribute, Attributes, DecodeError, Dump, LenientMessage, RecordName};
-use sockdiag::{RejectedAttribute, SockDiagMessage};
+use sockdiag::{RejectedAttribute, RejectedMessage, SockDiagMessage};
 
 /// Kind and value of an attribute that is rejected, with the error.
 type Row = (u16, Vec<u8>, DecodeError);
@@ -203,6 +203,9 @@ fn rejects_only_headers() {
     for length in 16..unix.len() {
         assert!(LenientUnixReply::parse(&unix[..length]).is_ok());
     }
+    // A byte that is not an attribute.
+    let reply = LenientUnixReply::parse(&unix[..17]).unwrap();
+    assert_eq!((reply.nlas.len(), reply.nlas.is_empty()), (0, true));
 }
 
 #[test]
@@ -253,6 +256,13 @@ fn returns_the_socket_of_a_rejected_message() {
         .collect();
     let inode = common::u32_at(&inet, 68);
     assert_eq!(found, [(78, 1), (inode, 1), (0, 0), (0, 0), (0, 0), (0, 0)]);
+    // The bytes of a framing error are no reply, even if they could be parsed as one.
+    let framing_error = RejectedMessage {
+        error: DecodeError::EnvelopeCut { got: unix.len() },
+        header: None,
+        payload: &unix,
+    };
+    assert_eq!(framing_error.lenient(), None);
 }
 
 /// Returns the bytes of a reply without its rejected attributes, and the number of attributes that

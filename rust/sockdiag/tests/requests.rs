@@ -111,6 +111,17 @@ fn pads_addresses_of_another_version() {
 }
 
 #[test]
+fn writes_all_octets_of_a_mapped_address() {
+    let mut request = inet_request(AF_INET6, 6);
+    let address = Ipv4Addr::new(0xf1, 0xf2, 0xf3, 0xf4).to_ipv6_mapped();
+    request.socket_id.source_address = IpAddr::V6(address);
+    let mut record = inet_record(AF_INET6, 6);
+    record[12..22].fill(0);
+    record[22..28].copy_from_slice(&[0xff, 0xff, 0xf1, 0xf2, 0xf3, 0xf4]);
+    assert_eq!(request.to_message(&HEADER)[16..], record);
+}
+
+#[test]
 fn writes_no_request_for_another_family() {
     let request = inet_request(1, 6);
     assert!(request.to_message(&HEADER).is_empty());

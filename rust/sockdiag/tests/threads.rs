@@ -1,4 +1,5 @@
-//! Compiles only if all public types are `Send` and `Sync`, and need no pinning.
+//! Compiles only if all public types are `Send` and `Sync`, and need no pinning, and if a type that
+//! borrows can be used where a shorter borrow is expected.
 
 use sockdiag::inet::{self, AttributeRecords, InetReply, LenientInetReply};
 use sockdiag::unix::{self, LenientUnixReply, UnixReply};
@@ -14,6 +15,22 @@ fn is_shared<T: Send + Sync + Unpin>() {}
 
 macro_rules! are_shared {
     ($($kind:ty,)*) => { $(is_shared::<$kind>();)* };
+}
+
+macro_rules! can_be_shortened {
+    ($($($part:ident)::+,)*) => {
+        $(const _: for<'b> fn(&'b $($part)::+<'static>) -> &'b $($part)::+<'b> = |it| it;)*
+    };
+}
+
+type Addresses<'a> = AttributeRecords<'a, inet::StoredAddress>;
+
+can_be_shortened! {
+    UnixReply, InetReply, netlink::NetlinkReply, packet::PacketReply, vsock::VsockReply,
+    xdp::XdpReply, LenientUnixReply, LenientInetReply, LenientMessage, SockDiagMessage,
+    AnySockDiagMessage, RejectedMessage, Dump, AnyDump, Attribute, Attributes, RejectedAttribute,
+    RejectedAttributes, Numbers, Addresses, unix::nlas::Nla, inet::nlas::Nla, unix::UnixDiagName,
+    inet::TcpInfoBytes,
 }
 
 #[test]
