@@ -338,7 +338,8 @@ static void writes_unix_request(void) {
     memcpy(before, buffer, sizeof buffer);
     check(sockdiag_write_unix_request(&request, buffer, 39) == 0, "a short buffer");
     check(memcmp(buffer, before, sizeof buffer) == 0, "a short buffer is written to");
-    check(sockdiag_write_unix_request(&request, buffer, sizeof buffer) == 40, "a UNIX request");
+    check(sockdiag_write_unix_request(&request, buffer, sizeof buffer) ==
+          SOCKDIAG_UNIX_REQUEST_LENGTH, "a UNIX request");
     check(memcmp(buffer, want, 40) == 0, "a UNIX request's bytes");
     check(memcmp(buffer + 40, before + 40, 8) == 0, "the bytes after a request");
     check(sockdiag_write_unix_destroy(&request, buffer, 40) == 40 && buffer[4] == 21,
@@ -380,7 +381,8 @@ static void writes_inet_request(void) {
           buffer[17] == 6, "a destroy");
     request.protocol = 262;
     check(sockdiag_write_inet_request(&request, buffer, 79) == 0, "a short buffer for a protocol");
-    check(sockdiag_write_inet_request(&request, buffer, 80) == 80, "a request for MPTCP");
+    check(sockdiag_write_inet_request(&request, buffer, 80) == SOCKDIAG_INET_REQUEST_LENGTH,
+          "a request for MPTCP");
     check(buffer[0] == 80 && buffer[4] == 20 && buffer[17] == 6 &&
           memcmp(buffer + 72, attribute, 8) == 0, "its protocol");
     request.family = 1;
@@ -408,7 +410,8 @@ static void writes_family_requests(void) {
     memset(buffer, UNTOUCHED, sizeof buffer);
     check(sockdiag_write_show_request(&request, buffer, 35) == 0 && buffer[0] == UNTOUCHED,
           "a short buffer for a request");
-    check(sockdiag_write_show_request(&request, buffer, 41) == 36, "a netlink request");
+    check(sockdiag_write_show_request(&request, buffer, 41) == SOCKDIAG_SHOW_REQUEST_LENGTH,
+          "a netlink request");
     check(memcmp(buffer, want, 36) == 0 && buffer[36] == UNTOUCHED,
           "its bytes, and those after it");
     request.family = 44;
@@ -420,8 +423,8 @@ static void writes_family_requests(void) {
           "a vsock request of another form");
     check(sockdiag_write_vsock_request(&other, buffer, 39) == 0,
           "a short buffer for a vsock request");
-    check(sockdiag_write_vsock_request(&other, buffer, 41) == 40 && buffer[0] == 40 &&
-          buffer[4] == 20, "a vsock request");
+    check(sockdiag_write_vsock_request(&other, buffer, 41) == SOCKDIAG_VSOCK_REQUEST_LENGTH &&
+          buffer[0] == 40 && buffer[4] == 20, "a vsock request");
     check(memcmp(buffer + 16, vsock, 24) == 0 && buffer[40] == UNTOUCHED, "its record");
 }
 

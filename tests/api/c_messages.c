@@ -77,6 +77,14 @@ static void each_part_of_a_version(void) {
     check(sockdiag_version() == own && sockdiag_abi_1_0() == own / 1000, "the version");
 }
 
+/* As a file that was compiled with the header of the next version. */
+#undef SOCKDIAG_VERSION_NUMBER
+#define SOCKDIAG_VERSION_NUMBER (sockdiag_version() + 1000000)
+
+static void has_a_header_of_another_version(void) {
+    check(sockdiag_is_compatible() == 0, "a header of the next version");
+}
+
 /* Each number that is a byte, and each bit, has a text. Each error has another one. */
 static void each_text_of_an_error(void) {
     const uint32_t least = SOCKDIAG_BUFFER_TOO_SMALL, most = SOCKDIAG_ENVELOPE_LENGTH_PAST;
@@ -107,6 +115,7 @@ int main(void) {
     each_type_and_flag();
     each_bit_of_an_answer();
     each_part_of_a_version();
+    has_a_header_of_another_version();
     each_text_of_an_error();
     return end_of_tests("c_messages");
 }

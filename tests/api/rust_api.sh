@@ -27,14 +27,26 @@ else
 fi
 quiet cargo test --offline
 echo "rust_api: all tests pass"
-# A library whose version has another third number.
-if command -v cc >/dev/null && command -v ar >/dev/null; then
-    abi=$(sed -n 's/^uint32_t \(sockdiag_abi_[0-9_]*\)(void);$/\1/p' "$top/include/sockdiag.h")
-    echo "unsigned sockdiag_version(void) { return 7; } unsigned $abi(void) { return 0; }" |
+
+# version_with FUNCTION: runs the test of the version with a library that has only this function,
+# and the version 7.
+version_with() {
+    echo "unsigned sockdiag_version(void) { return 7; } unsigned $1(void) { return 0; }" |
         cc -x c -c -o "$work/version.o" -
     ar rcs "$work/libsockdiag.a" "$work/version.o"
-    quiet env SOCKDIAG_LIB_DIR="$work" SOCKDIAG_LIBRARY_VERSION=7 CARGO_TARGET_DIR="$work/target" \
+    SOCKDIAG_LIB_DIR="$work" SOCKDIAG_LIBRARY_VERSION=7 CARGO_TARGET_DIR="$work/target" \
         cargo test --offline --test version
+}
+
+# A library whose version has another third number can be linked, and one of another version not.
+if command -v cc >/dev/null && command -v ar >/dev/null; then
+    abi=$(sed -n 's/^uint32_t \(sockdiag_abi_[0-9_]*\)(void);$/\1/p' "$top/include/sockdiag.h")
+    quiet version_with "$abi"
+    if version_with sockdiag_abi_0_0 >"$work/log" 2>&1 || ! grep -q "$abi" "$work/log"; then
+        cat "$work/log" >&2
+        echo "rust_api: a library of another version was linked" >&2
+        exit 1
+    fi
 fi
 quiet cargo build --offline --example list_sockets
 "$top/tests/api/kernels.py" "${CARGO_TARGET_DIR:-target}/debug/examples/list_sockets"
