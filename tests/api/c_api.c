@@ -2,7 +2,7 @@
  * Calls the functions of include/sockdiag.h that check, walk and rewrite messages, write requests,
  * or return details of UNIX and internet sockets, with input that they accept and input that they
  * reject. The bytes are worked out by hand from the layouts of sock_diag(7), netlink(7) and the
- * kernel's headers. compare_lenient.sh tries each field of the details, and c_values.c and
+ * kernel's headers. compare_replies.sh tries each field of the details, and c_values.c and
  * c_messages.c call the other functions. tests/api/c_api.sh builds and runs this program.
  */
 #include "check.h"

@@ -2,7 +2,7 @@
 # Builds the static library of include/sockdiag.h, and calls it from C: tests/api/c_api.c,
 # c_values.c and c_messages.c compare what the calls return, also linked as C++, if the compiler
 # supports it, tests/api/cost.c counts their instructions, if valgrind is installed,
-# tests/api/fuzz_c.c calls them with changed replies, and tests/api/compare_lenient.sh compares the
+# tests/api/fuzz_c.c calls them with changed replies, and tests/api/compare_replies.sh compares the
 # lenient calls with an independent reader. Then installs the library, and lists the sockets of this
 # machine by examples/list_sockets.c, if the kernel permits it. Needs the kit's rt, a C compiler and
 # Python. The gate and tools/release run this script.
@@ -74,7 +74,7 @@ build fuzz_c "$top/tests/api/fuzz_c.c" "$@"
 "$work/fuzz_c" 20000 "$top/crates/sslist/stdin"
 
 # The lenient calls, compared with an independent reader.
-CFLAGS="$*" SOCKDIAG_LIB_DIR="$top/crates/sockdiag_c/out" "$top/tests/api/compare_lenient.sh"
+CFLAGS="$*" SOCKDIAG_LIB_DIR="$top/crates/sockdiag_c/out" "$top/tests/api/compare_replies.sh"
 
 # The example with answers that a kernel seldom sends: an interrupted dump is requested again, and
 # one that lost data on another socket, a rejected reply does not end a dump, and a rejected

@@ -3,7 +3,7 @@
  * "errors with their fields", with input that they accept and input that they reject. Each field of
  * each struct is compared with bytes that no other field has, and what a call leaves unchanged with
  * its contents before. The expected numbers are worked out by hand from sock_diag(7) and the
- * kernel's headers. tests/api/compare_lenient.sh tests the details of replies. tests/api/c_api.sh
+ * kernel's headers. tests/api/compare_replies.sh tests the details of replies. tests/api/c_api.sh
  * builds and runs this program.
  */
 #include "check.h"

@@ -1,6 +1,6 @@
 /*
  * fuzz_c COUNT CAPTURE [SEED]: calls the functions of include/sockdiag.h COUNT times with changed
- * copies of the messages in a capture of netlink, such as crates/sslist/stdin. compare_lenient.sh
+ * copies of the messages in a capture of netlink, such as crates/sslist/stdin. compare_replies.sh
  * tries the lenient calls.
  *
  * Each input, buffer and struct is next to a page that cannot be accessed, at its start or at its

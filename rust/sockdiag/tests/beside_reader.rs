@@ -1,6 +1,6 @@
 //! Compares lenient replies with the answers of an independent reader, if `SOCKDIAG_REPLIES` and
 //! `SOCKDIAG_ANSWERS` are the paths of its replies and answers. In the sources, the script
-//! `compare_lenient.sh` of `tests/api` makes both files and runs this test. `lenient_reader.py`
+//! `compare_replies.sh` of `tests/api` makes both files and runs this test. `reply_reader.py`
 //! next to it describes the lines.
 
 mod common;

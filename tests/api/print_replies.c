@@ -1,8 +1,8 @@
 /*
- * print_lenient: reads replies from standard input, a line each, and prints a line for each: what
+ * print_replies: reads replies from standard input, a line each, and prints a line for each: what
  * the lenient calls of include/sockdiag.h return, and the errors with their fields.
- * tests/api/lenient_reader.py describes both formats and prints the same lines by other code;
- * tests/api/compare_lenient.sh compares them.
+ * tests/api/reply_reader.py describes both formats and prints the same lines by other code;
+ * tests/api/compare_replies.sh compares them.
  *
  * The bytes of a reply and each struct are next to a page that cannot be accessed, so the program
  * stops if the library accesses bytes outside of them. The program also compares the lenient call
@@ -32,7 +32,7 @@ static struct sockdiag_error_details *error;
 static void expect(int holds, const char *what) {
     if (holds)
         return;
-    fprintf(stderr, "print_lenient: line %lu: failed: %s\n", line_number, what);
+    fprintf(stderr, "print_replies: line %lu: failed: %s\n", line_number, what);
     exit(1);
 }
 
@@ -372,7 +372,7 @@ static unsigned digit_value(char digit) {
     static const char digits[] = "0123456789abcdef";
     const char *found = digit != '\0' ? strchr(digits, digit) : NULL;
     if (found == NULL) {
-        fprintf(stderr, "print_lenient: line %lu: not hexadecimal digits\n", line_number);
+        fprintf(stderr, "print_replies: line %lu: not hexadecimal digits\n", line_number);
         exit(2);
     }
     return (unsigned)(found - digits);
@@ -404,7 +404,7 @@ int main(void) {
         while (kind < 6 && strncmp(line, replies[kind].name, strlen(replies[kind].name)) != 0)
             kind++;
         if (kind == 6)
-            return fprintf(stderr, "print_lenient: line %lu: not a reply\n", line_number), 2;
+            return fprintf(stderr, "print_replies: line %lu: not a reply\n", line_number), 2;
         payload_length = read_digits(line + strlen(replies[kind].name), bytes);
         /* At the start of the area or at its end. */
         copy = line_number % 2 ? end_of_input - payload_length : end_of_input - AREA;

@@ -1,12 +1,12 @@
 #!/usr/bin/env python3
 """An independent reader of replies of sock_diag(7), and replies to compare it with the library.
 
-    lenient_reader.py read              reads replies from standard input, a line each, and prints
+    reply_reader.py read              reads replies from standard input, a line each, and prints
                                         a line for each: what a lenient reading returns
-    lenient_reader.py make COUNT SEED   prints COUNT replies: stored ones, built ones, and changed
+    reply_reader.py make COUNT SEED   prints COUNT replies: stored ones, built ones, and changed
                                         copies of both
-    lenient_reader.py cuts              prints each stored reply, and each of its prefixes
-    lenient_reader.py odd               prints a reply for each row of the table "Odd replies" of
+    reply_reader.py cuts              prints each stored reply, and each of its prefixes
+    reply_reader.py odd               prints a reply for each row of the table "Odd replies" of
                                         docs/C.md and each family, if the reader answers as the
                                         table says
 
@@ -20,8 +20,8 @@ of `struct sockdiag_error_details` in the order of the header, separated by slas
 
 The tables are written from sock_diag(7), linux/unix_diag.h, linux/inet_diag.h, linux/sock_diag.h,
 linux/netlink_diag.h, linux/packet_diag.h, linux/vm_sockets_diag.h, linux/xdp_diag.h and the pages
-in docs. The reader shares no code with the crates. compare_lenient.sh compares its
-answers with those of tests/api/print_lenient.c and of rust/sockdiag.
+in docs. The reader shares no code with the crates. compare_replies.sh compares its
+answers with those of tests/api/print_replies.c and of rust/sockdiag.
 """
 
 import random
@@ -391,7 +391,7 @@ def odd_replies():
             code = next(word for word in found if word.startswith("first=")).split("/")[0]
             expected = {f"framing={framing}", *([f"{detail}={value}"] if detail else [])}
             if code != f"first={first}" or not expected <= set(found):
-                sys.exit(f"lenient_reader: {name} {row}: {found}, not {expected} first={first}")
+                sys.exit(f"reply_reader: {name} {row}: {found}, not {expected} first={first}")
             yield name, payload
 
 
@@ -591,7 +591,7 @@ def main():
         replies = sorted({(name, it[:end]) for name, it in stored_replies()
                           for end in range(len(it) + 1)})
     else:
-        sys.exit("usage: lenient_reader.py read | make COUNT SEED | cuts | odd")
+        sys.exit("usage: reply_reader.py read | make COUNT SEED | cuts | odd")
     for name, payload in replies:
         print(name, payload.hex())
 

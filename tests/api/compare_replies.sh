@@ -1,6 +1,6 @@
 #!/bin/sh
-# compare_lenient.sh [COUNT [SEED]]: compares what the strict and the lenient calls of the C library
-# return, and the errors with their fields, with what lenient_reader.py reads from the same replies:
+# compare_replies.sh [COUNT [SEED]]: compares what the strict and the lenient calls of the C library
+# return, and the errors with their fields, with what reply_reader.py reads from the same replies:
 # a reply for each row of the table "Odd replies" of docs/C.md and each family, COUNT replies that
 # it makes (100000 by default), and every prefix of each stored reply. Then compares rust/sockdiag
 # with the reader, if cargo is installed. Prints a line for each comparison, or the first lines that
@@ -15,7 +15,7 @@ top=$(CDPATH='' cd -- "$(dirname -- "$0")/../.." && pwd)
 folder=$(CDPATH='' cd -- "${SOCKDIAG_LIB_DIR:-$top/crates/sockdiag_c/out}" && pwd)
 library=$folder/libsockdiag.a
 [ -f "$library" ] || library=$folder/libsockdiag_c.a
-[ -f "$library" ] || { echo "compare_lenient: no library in $folder" >&2; exit 1; }
+[ -f "$library" ] || { echo "compare_replies: no library in $folder" >&2; exit 1; }
 work=$(mktemp -d)
 trap '[ $? = 0 ] || echo "$0: failed" >&2; rm -rf "$work"' EXIT
 trap 'exit 130' INT TERM HUP
@@ -24,10 +24,10 @@ trap 'exit 130' INT TERM HUP
 # shellcheck disable=SC2086
 ${CC:-cc} -std=c99 -g -O1 -Wall -Wextra -Wpedantic -Werror \
     ${CFLAGS--fsanitize=address,undefined -fno-sanitize-recover=all} -I"$top/include" \
-    -o "$work/print_lenient" "$top/tests/api/print_lenient.c" "$library"
+    -o "$work/print_replies" "$top/tests/api/print_replies.c" "$library"
 
 reader() {
-    python3 "$top/tests/api/lenient_reader.py" "$@"
+    python3 "$top/tests/api/reply_reader.py" "$@"
 }
 
 reader odd >"$work/replies"
@@ -35,16 +35,16 @@ odd=$(wc -l <"$work/replies")
 reader cuts >>"$work/replies"
 reader make "$count" "$seed" >>"$work/replies"
 reader read <"$work/replies" >"$work/expected"
-"$work/print_lenient" <"$work/replies" >"$work/found"
+"$work/print_replies" <"$work/replies" >"$work/found"
 if ! cmp -s "$work/expected" "$work/found"; then
-    echo "compare_lenient: the reader's lines (<) and those of the library (>) differ, seed $seed:"
+    echo "compare_replies: the reader's lines (<) and those of the library (>) differ, seed $seed:"
     diff "$work/expected" "$work/found" | head -n 20
     exit 1
 fi
 rejected=$(grep -c '^error ' "$work/found" || true)
 whole=$(grep -c ' first=0 ' "$work/found" || true)
 total=$(wc -l <"$work/replies")
-echo "compare_lenient: $odd odd replies, $count with seed $seed and" \
+echo "compare_replies: $odd odd replies, $count with seed $seed and" \
     "$((total - odd - count)) prefixes of stored ones, all equal: $whole accepted," \
     "$rejected without a header, $((total - whole - rejected)) with rejected attributes"
 
@@ -53,4 +53,4 @@ cd "$top/rust/sockdiag"
 export SOCKDIAG_LIB_DIR="$folder" SOCKDIAG_REPLIES="$work/replies"
 SOCKDIAG_ANSWERS="$work/expected" cargo test --offline --quiet --test beside_reader >"$work/log" \
     2>&1 || { tail -n 20 "$work/log"; exit 1; }
-echo "compare_lenient: the same with rust/sockdiag"
+echo "compare_replies: the same with rust/sockdiag"
