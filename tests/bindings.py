@@ -101,7 +101,10 @@ def link_errors(folder, variables):
     library is added to those before it, and has to be preferred to them."""
     crate = folder / "rust/sockdiag"
     shutil.copytree(RUST, crate, ignore=shutil.ignore_patterns("target", "out"))
-    named = ["first", "second"] if shutil.which("pkg-config") else []
+    named = ["first", "second"]
+    if not shutil.which("pkg-config"):
+        print("skipped: libraries that pkg-config finds: no pkg-config")
+        named = []
     words = ["cargo", "check", "--offline", "--quiet", "--message-format=json"]
     errors = []
     for name in [*named, "crates/sockdiag_c/out", "lib"]:
