@@ -1119,7 +1119,8 @@ uint32_t sockdiag_unix_get_lenient_details(const uint8_t *payload, size_t length
  *
  * Use this call to list sockets: a value that this library does not accept, such as the
  * INET_DIAG_INFO of an old kernel or of MPTCP, hides only itself, and not its socket.
- * sockdiag_inet_get_long_tcp_info returns such a value as far as it goes.
+ * sockdiag_inet_get_long_tcp_info returns the value of an old kernel as far as it goes. That of
+ * MPTCP is another struct.
  */
 uint32_t sockdiag_inet_get_lenient_details(const uint8_t *payload, size_t length,
                                            struct sockdiag_inet_details *details,
@@ -1392,7 +1393,8 @@ struct sockdiag_xdp_details {
  * the details are not read. Each attribute is checked, and of several attributes of a kind the
  * first one counts. Texts point into the payload, and are valid as long as it is.
  *
- * One rejected attribute hides the others: sockdiag_netlink_get_lenient_details returns them.
+ * One rejected attribute hides the others: sockdiag_netlink_get_lenient_details returns them. Linux
+ * 6.18 lists a netlink socket twice if it is a member of a group.
  */
 uint32_t sockdiag_netlink_get_details(const uint8_t *payload, size_t length,
                                       struct sockdiag_netlink_details *details);

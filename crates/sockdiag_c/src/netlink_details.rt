@@ -37,6 +37,7 @@ pub struct NetlinkDetails<'a> {
 /// first one counts. Texts point into the payload, and are valid as long as it is.
 ///
 /// One rejected attribute hides the others: `sockdiag_netlink_get_lenient_details` returns them.
+/// Linux 6.18 lists a netlink socket twice if it is a member of a group.
 #[unsafe(no_mangle)]
 pub extern "C" fn sockdiag_netlink_get_details<'a>(
     payload: &'a [u8],
