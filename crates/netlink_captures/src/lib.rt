@@ -5,6 +5,7 @@
 mod block_error;
 mod captures;
 mod compression;
+mod exact;
 pub mod laws;
 mod pcapng;
 mod reader;

@@ -19,9 +19,7 @@ pub mod Framing
 pub mod Datagrams
 pub mod Items
 pub mod Equivalence
-pub mod Equality
 pub mod ValueTests
-pub mod ErrorEquality
 pub mod Rewriting
 mod Walking
 mod CompleteIteration

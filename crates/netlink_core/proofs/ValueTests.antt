@@ -3,7 +3,7 @@ use Rattle.std.proofs.Common.{◌≡◌, ◌↔◌, ◌&&◌, inl, inr, ℕ, [],
 use lib.Pointwise.{pointwise, bytes_decides}
 use Rattle.netlink_core.specs.Attribute.{Attribute}
 use Rattle.netlink_core.specs.AttributeSet.{AttributeSet, AttributeValue}
-use Rattle.netlink_core.proofs.Equality.{and_decides, numbers_equal, false_decides}
+use Rattle.netlink_core.specs.laws.Equality.{and_decides, numbers_equal, false_decides}
 
 -- a test that decides whether two values are equal
 abbrev pub Test : Type 0 → Type 0

@@ -5,3 +5,5 @@ pub mod ReplyObligations
 pub mod Prefix
 pub mod AttributeSet
 pub mod FirstAttribute
+pub mod Equality
+pub mod EqualErrors

@@ -1,19 +1,10 @@
-//! Types whose `==` and `clone` use every field.
+//! Proof only: `==` and `clone` of plain types compare and copy the whole value.
 
-ghost use Rattle.std.specs.Prelude.{◌≡◌, ◌↔◌, IsTrue};
 ghost use Rattle.std.proofs.Common.{rules};
+ghost use Rattle.netlink_core.specs.laws.EqualErrors.{decode_error_equal, error_equal};
 
-use crate::{NetlinkHeader, RecordBuffer, RecordName};
-
-/// A type whose `==` returns whether two values are the same, and whose `clone` returns the same
-/// value and cannot fail.
-pub trait Exact: PartialEq + Clone {
-    // In this order: `==` is true if and only if the values are the same. A clone of `v`
-    // (`is_clone v w`) is `v`. Cloning cannot fail (`is_infallible`).
-    ghost exact: { ((v w : Self) → IsTrue (Self.eq v w) ↔ (v ≡ w))
-        × ((v w : Self) → Self.is_clone v w → w ≡ v)
-        × ((v : Self) → Self.is_infallible v) };
-}
+use crate::{CanonError, DecodeError, NetlinkHeader, RecordBuffer, RecordName};
+use exact_values::Exact;
 
 impl Exact for RecordName {
     ghost exact = { Prim.search rules };
@@ -25,4 +16,12 @@ impl Exact for NetlinkHeader {
 
 impl<T: PartialEq + Clone, const N: usize> Exact for RecordBuffer<T, N> {
     ghost exact = { Prim.search rules };
+}
+
+impl Exact for DecodeError {
+    ghost exact = { (decode_error_equal, Prim.search rules, Prim.search rules) };
+}
+
+impl Exact for CanonError {
+    ghost exact = { (error_equal, Prim.search rules, Prim.search rules) };
 }

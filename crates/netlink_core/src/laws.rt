@@ -31,11 +31,8 @@ ghost use Rattle.netlink_core.specs.NetlinkMessage.{Payload, NetlinkMessageModel
 ghost use Rattle.netlink_core.specs.NetlinkMessage.{netlink_codec};
 
 use crate::attribute::{NlaBuffer, NlasIterator};
-use crate::canonical_form::CanonError;
 use crate::codec::Readable;
 use crate::datagram::{FramedMessages, MessageStrings};
-use crate::error::DecodeError as Fault;
-use crate::exact::Exact;
 use crate::family::FamilyNla;
 use crate::header::NetlinkHeader;
 use crate::message::{NetlinkMessage, NetlinkPayload};
@@ -47,6 +44,7 @@ use crate::{
     NLM_F_DUMP, NLM_F_DUMP_FILTERED, NLM_F_DUMP_INTR, NLM_F_ECHO, NLM_F_MATCH, NLM_F_MULTI,
     NLM_F_REQUEST, NLM_F_ROOT, NLMSG_DONE, NLMSG_ERROR, NLMSG_NOOP, NLMSG_OVERRUN,
 };
+use exact_values::Exact;
 use std::alloc::AllocError;
 
 /// Bytes are split into attributes (`SplitsIntoAttributes`) exactly as follows. Empty bytes have no
@@ -154,38 +152,6 @@ pub fn equal_iff_same<T: Exact>(v: &T, w: &T) -> bool
     ensures { IsTrue result ↔ (v.now ≡ w.now) }
 {
     v == w
-}
-
-/// Returns `v == w`, which is true if and only if the two decode errors are the same.
-pub fn equal_decode_errors(v: &Fault, w: &Fault) -> bool
-    ensures { IsTrue result ↔ (v.now ≡ w.now) }
-{
-    v == w
-}
-
-/// Returns `v == w`, which is true if and only if the two errors of [`canonical`](crate::canonical)
-/// are the same.
-pub fn equal_errors(v: &CanonError, w: &CanonError) -> bool
-    ensures { IsTrue result ↔ (v.now ≡ w.now) }
-{
-    v == w
-}
-
-/// Returns a clone. Cloning a decode error succeeds, and the clone is the same error.
-pub fn copied_decode_error(v: &Fault) -> Result<Fault, AllocError>
-    ensures ok { IsOk result }
-    ensures same { IfOk result (λ copy. copy ≡ v.now) }
-{
-    v.clone()
-}
-
-/// Returns a clone. Cloning an error of [`canonical`](crate::canonical) succeeds, and the clone is
-/// the same error.
-pub fn copied_error(v: &CanonError) -> Result<CanonError, AllocError>
-    ensures ok { IsOk result }
-    ensures same { IfOk result (λ copy. copy ≡ v.now) }
-{
-    v.clone()
 }
 
 /// Returns a clone. Cloning a value of an `Exact` type succeeds, and the clone is the same value.

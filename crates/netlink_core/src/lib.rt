@@ -23,7 +23,6 @@ pub use crate::canonical_form::{CanonError, canonical};
 pub use crate::codec::{Emitable, Input, Parseable, ParseableParametrized, ReadParam, Readable};
 pub use crate::datagram::{FramedMessages, MessageStrings};
 pub use crate::error::{DecodeError, RecordName};
-pub use crate::exact::Exact;
 pub use crate::family::{FamilyNla, FamilyView};
 pub use crate::header::{NETLINK_HEADER_LEN, NetlinkHeader};
 pub use crate::message::{
@@ -39,3 +38,4 @@ pub use crate::nla::{
 pub use crate::parse::{emit_u32, parse_str, parse_string, parse_u8, parse_u32};
 pub use crate::record::{Fills, Record, RecordBuffer, read_record};
 pub use crate::wire::{HasCodec, Wire, prove_bytes_in_range, prove_u32_in_range, write_new};
+pub use exact_values::Exact;

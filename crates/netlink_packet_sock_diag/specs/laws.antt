@@ -2,3 +2,4 @@
 pub mod Message
 pub mod EqualMessage
 pub mod DumpEntry
+pub mod EqualDumpError

@@ -46,7 +46,7 @@ ghost use Rattle.netlink_packet_sock_diag.specs.Message.{netlink_message_codec};
 ghost use Rattle.sock_diag_records.specs.ResponseKind.{MessageKind, inet_request, inet_response};
 ghost use Rattle.sock_diag_records.specs.ResponseKind.{unix_request, unix_response};
 
-use crate::dump::{DumpError, DumpViews as Views, PayloadView as View};
+use crate::dump::{DumpViews as Views, PayloadView as View};
 use crate::inet::{InetResponse, InetResponseView};
 use crate::message::{SockDiagDestroy as SockDiagDestroyed, SockDiagMessage, SockDiagView};
 use crate::unix::{UnixResponse, UnixResponseView};
@@ -383,21 +383,6 @@ pub fn complete_views_are_the_datagram()
         → AreItemsOf (IsItemOf message_codec) (unread_views walk)
         (map (map_ok payload_view_model) given) }
 {}
-
-/// `==` of two errors of a dump is true if and only if they are equal.
-pub fn equal_dump_errors(v: &DumpError, w: &DumpError) -> bool
-    ensures { IsTrue result ↔ (v.now ≡ w.now) }
-{
-    v == w
-}
-
-/// The clone of an error of a dump is equal, and cloning does not fail.
-pub fn copied_dump_error(v: &DumpError) -> Result<DumpError, AllocError>
-    ensures ok { IsOk result }
-    ensures same { IfOk result (λ copy. copy ≡ v.now) }
-{
-    v.clone()
-}
 
 /// The clone of a `DumpViews` has the same bytes left, and cloning does not fail.
 pub fn copied_views<'a>(walk: &Views<'a>) -> Result<Views<'a>, AllocError>

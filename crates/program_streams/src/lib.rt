@@ -3,6 +3,7 @@
 #![tactic(auto)]
 
 mod error_text;
+mod exact;
 pub mod laws;
 mod lines;
 mod streams;

@@ -1,6 +1,6 @@
 -- Borrowed replies of any family are equal if and only if their models are.
 use Rattle.std.proofs.Common.{◌≡◌, ◌↔◌, [], Bool, IsTrue, Option, Some, None, ap, arith}
-use Rattle.netlink_core.proofs.Equality.{false_decides}
+use Rattle.netlink_core.specs.laws.Equality.{false_decides}
 use Rattle.netlink_packet_sock_diag.specs.laws.EqualMessage.{view_equal}
 use Rattle.netlink_packet_sock_diag.specs.Message.{Message}
 use Rattle.sock_diag_replies.specs.laws.EqualResponse.{response_test_decides}

@@ -1,7 +1,7 @@
 -- The `==` of `Diagnostic` is equality.
 use Rattle.std.proofs.Common.{◌≡◌, ◌↔◌, IsTrue, rules, arith}
-use Rattle.netlink_core.proofs.Equality.{false_decides}
-use Rattle.netlink_core.proofs.ErrorEquality.{decode_error_equal}
+use Rattle.netlink_core.specs.laws.Equality.{false_decides}
+use Rattle.netlink_core.specs.laws.EqualErrors.{decode_error_equal}
 use Rattle.sock_diag_captures.specs.declared.list.Diagnostic.{Diagnostic}
 use Rattle.sock_diag_captures.specs.declared.list.Diagnostic.TheVariants as diagnostic
 use Rattle.sock_diag_captures.specs.contracts.list.DiagnosticPartialEq.TheImpl.{ghosts}

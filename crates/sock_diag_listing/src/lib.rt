@@ -3,6 +3,7 @@
 #![tactic(auto)]
 
 pub mod cells;
+mod exact;
 pub mod json_writing;
 pub mod laws;
 pub mod list_error;

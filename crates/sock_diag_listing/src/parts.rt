@@ -18,7 +18,7 @@ const SHUT_RECEIVING: u64 = 1;
 const SHUT_SENDING: u64 = 2;
 
 /// The timer fields of `inet_diag_msg`, the header of a reply about an IPv4 or IPv6 socket.
-#[derive(Clone, Copy)]
+#[derive(Clone, Copy, PartialEq, Eq)]
 pub struct TimerFields {
     /// Kind of the timer (`idiag_timer`). 0 if no timer runs.
     pub class: u8,

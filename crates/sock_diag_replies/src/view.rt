@@ -14,7 +14,7 @@ ghost use Rattle.netlink_core.specs.AttributeSet.{decode_attribute};
 ghost use Rattle.netlink_core.specs.Response.{ResponseSpec, ReplyValue, response_bytes};
 ghost use Rattle.netlink_core.specs.Response.{response_codec};
 ghost use Rattle.netlink_core.specs.Walk.{unread_bytes};
-ghost use Rattle.netlink_core.proofs.Equality.{equivalence};
+ghost use Rattle.netlink_core.specs.laws.Equality.{equivalence};
 ghost use Rattle.attribute_lists.specs.AttributesIn.{HasNoAttributeError, reply_after, decoded_in};
 ghost use Rattle.sock_diag_replies.specs.laws.OneValue.{result_has_one_value};
 

@@ -1,3 +1,2 @@
 pub mod Choosing
 pub mod Listed
-pub mod OptionsEquality

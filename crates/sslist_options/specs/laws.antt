@@ -1,3 +1,4 @@
 -- Properties of the definitions.
 pub mod EqualFilter
+pub mod EqualOptions
 pub mod LongNames

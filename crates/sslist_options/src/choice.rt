@@ -7,7 +7,7 @@ use crate::arguments::{Argument, Place, argument_at};
 use crate::options::Options;
 
 /// The reason why an argument is rejected.
-#[derive(Clone, Copy, Debug)]
+#[derive(Clone, Copy, Debug, PartialEq, Eq)]
 pub enum Rejection {
     /// It is an unknown long option.
     UnknownOption,

@@ -4,6 +4,7 @@
 
 mod arguments;
 mod choice;
+mod exact;
 mod files;
 mod filter;
 pub mod laws;

@@ -78,7 +78,7 @@ pub struct Options {
 }
 
 /// A group of details that an option selects.
-#[derive(Clone, Copy)]
+#[derive(Clone, Copy, PartialEq, Eq)]
 pub enum Detail {
     /// Timer (`-o`).
     Timer,
@@ -92,7 +92,7 @@ pub enum Detail {
 }
 
 /// A family of sockets other than UNIX, IPv4 and IPv6.
-#[derive(Clone, Copy)]
+#[derive(Clone, Copy, PartialEq, Eq)]
 pub enum Family {
     /// Netlink sockets.
     Netlink,

@@ -1,7 +1,7 @@
 -- `==` of messages is true if and only if their models are equal.
 use Rattle.std.proofs.Common.{arith}
 use Rattle.std.proofs.Common.{◌≡◌, ◌↔◌, Bool, IsTrue, ap}
-use Rattle.netlink_core.proofs.Equality.{false_decides}
+use Rattle.netlink_core.specs.laws.Equality.{false_decides}
 use Rattle.sock_diag_records.specs.contracts.inet.exact.InetRequestExact.TheImpl.Laws.{exact-law as exact_inet_request}
 use Rattle.sock_diag_records.specs.contracts.unix.request.UnixRequestExact.TheImpl.Laws.{exact-law as exact_unix_request}
 use Rattle.sock_diag_attributes.specs.contracts.inet.codec.NlaHasCodec.TheImpl.Laws.{eq_is_model-law as same_inet}

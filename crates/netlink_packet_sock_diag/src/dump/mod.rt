@@ -6,6 +6,7 @@ ghost use Rattle.netlink_core.specs.Items.{IsItemOf};
 ghost use Rattle.netlink_packet_sock_diag.specs.Feed.{FeedLeadsTo, new_dump};
 ghost use Rattle.netlink_packet_sock_diag.specs.Message.{message_codec};
 ghost use Rattle.netlink_packet_sock_diag.specs.MessageModel.{message_model};
+ghost use Rattle.netlink_packet_sock_diag.specs.laws.EqualDumpError.{dump_error_equal};
 
 mod entry;
 mod generic;
@@ -46,6 +47,10 @@ pub enum DumpError {
 
 impl Exact for DumpState {
     ghost exact = { Prim.search rules };
+}
+
+impl Exact for DumpError {
+    ghost exact = { (dump_error_equal, Prim.search rules, Prim.search rules) };
 }
 
 /// The reader of a dump, which arrives in several datagrams. It keeps the messages of the protocol

@@ -6,7 +6,7 @@ use denote.RattleType.{RattleType}
 use lib.Pointwise.{pointwise, bytes_decides}
 use Rattle.std.specs.declared.cmp.PartialEq.{Ghosts}
 use Rattle.netlink_core.specs.Attribute.{Attribute}
-use Rattle.netlink_core.proofs.Equality.{same_test}
+use Rattle.netlink_core.specs.laws.Equality.{same_test}
 use Rattle.netlink_core.proofs.AttributeTypeLaws.{◌⊕◌}
 use Rattle.netlink_core.proofs.ValueTests.{Tests, attribute_test, number_test, value_test}
 use Rattle.netlink_core.proofs.ValueTests.{value_test_decides}

@@ -3,7 +3,7 @@ use Rattle.std.proofs.Common.{arith}
 use Rattle.std.proofs.Common.{◌≡◌, ◌↔◌, ◌&&◌, Bool, true, IsTrue}
 use Rattle.std.proofs.lemmas.List.{map-id}
 use lib.Pointwise.{pointwise}
-use Rattle.netlink_core.proofs.Equality.{and_decides, lists_equal}
+use Rattle.netlink_core.specs.laws.Equality.{and_decides, lists_equal}
 use Rattle.netlink_core.proofs.ValueTests.{Tests, value_test, value_test_decides}
 use Rattle.netlink_core.specs.AttributeSet.{AttributeSet, AttributeValue}
 use Rattle.netlink_core.specs.Response.{ResponseValue}

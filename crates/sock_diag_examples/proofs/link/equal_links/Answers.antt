@@ -2,7 +2,7 @@ use Rattle.std.proofs.Common.{◌≡◌, ◌↔◌, ℕ, IsTrue, Option, Some, S
 use Rattle.std.specs.Option.{option_eq}
 use Rattle.std.specs.declared.alloc.Global.{Global}
 use lib.Pointwise.{bytes_decides}
-use Rattle.netlink_core.proofs.Equality.{and_decides}
+use Rattle.netlink_core.specs.laws.Equality.{and_decides}
 use Rattle.sock_diag_examples.specs.Link.{string_content}
 use Rattle.sock_diag_examples.proofs.link.equal_links.Goals as goal
 

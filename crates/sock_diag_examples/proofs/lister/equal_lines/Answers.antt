@@ -1,6 +1,6 @@
 use Rattle.std.proofs.Common.{◌≡◌, ◌↔◌, IsTrue, ap, rules}
-use Rattle.netlink_core.proofs.Equality.{false_decides}
-use Rattle.netlink_core.proofs.ErrorEquality.{decode_error_equal}
+use Rattle.netlink_core.specs.laws.Equality.{false_decides}
+use Rattle.netlink_core.specs.laws.EqualErrors.{decode_error_equal}
 use Rattle.sock_diag_examples.specs.declared.lister.Line.{Line}
 use Rattle.sock_diag_examples.specs.declared.lister.Line.TheVariants.{Socket, End, Failure, Refused}
 use Rattle.sock_diag_examples.specs.contracts.lister.LinePartialEq.TheImpl.{ghosts}

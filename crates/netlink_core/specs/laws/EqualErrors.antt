@@ -1,6 +1,6 @@
 -- `==` of decode errors and of errors of `canonical` decides whether they are equal.
 use Rattle.std.proofs.Common.{◌≡◌, ◌↔◌, IsTrue, T, eqb, subst, rules, arith}
-use Rattle.netlink_core.proofs.Equality.{false_decides}
+use Rattle.netlink_core.specs.laws.Equality.{false_decides}
 use Rattle.netlink_core.specs.Errors.{error_code}
 use Rattle.netlink_core.specs.declared.canonical_form.CanonError.{CanonError}
 use Rattle.netlink_core.specs.declared.canonical_form.CanonError.TheVariants as canon

@@ -1,0 +1,15 @@
+//! Proof only: `==` and `clone` of plain types compare and copy the whole value.
+
+ghost use Rattle.std.proofs.Common.{rules};
+
+use crate::list_error::ListError;
+use crate::parts::TimerFields;
+use exact_values::Exact;
+
+impl Exact for ListError {
+    ghost exact = { Prim.search rules };
+}
+
+impl Exact for TimerFields {
+    ghost exact = { Prim.search rules };
+}

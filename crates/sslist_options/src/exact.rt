@@ -1,0 +1,34 @@
+//! Proof only: `==` and `clone` of options and what they select compare and copy the whole value.
+
+ghost use Rattle.std.proofs.Common.{rules};
+ghost use Rattle.sslist_options.specs.laws.EqualFilter.{condition_equal, filter_equal};
+ghost use Rattle.sslist_options.specs.laws.EqualOptions.{options_equal};
+
+use crate::choice::Rejection;
+use crate::filter::{PortCondition, SocketFilter};
+use crate::options::{Detail, Family, Options};
+use exact_values::Exact;
+
+impl Exact for PortCondition {
+    ghost exact = { (condition_equal, Prim.search rules, Prim.search rules) };
+}
+
+impl Exact for SocketFilter {
+    ghost exact = { (filter_equal, Prim.search rules, Prim.search rules) };
+}
+
+impl Exact for Detail {
+    ghost exact = { Prim.search rules };
+}
+
+impl Exact for Family {
+    ghost exact = { Prim.search rules };
+}
+
+impl Exact for Rejection {
+    ghost exact = { Prim.search rules };
+}
+
+impl Exact for Options {
+    ghost exact = { (options_equal, Prim.search rules, Prim.search rules) };
+}
