@@ -1,6 +1,5 @@
 -- Serializing a list of attributes is serializing their decoded values.
-use Rattle.std.proofs.Common.{arith}
-use Rattle.std.proofs.Common.{◌≡◌, List, [], ◌∷◌, map, refl}
+use Rattle.std.proofs.Common.{arith, ◌≡◌, List, [], ◌∷◌, map, refl}
 use Rattle.netlink_core.specs.Attribute.{Attribute}
 use Rattle.netlink_core.specs.AttributeSet.{AttributeSet, AttributeValue, encode_attribute}
 

@@ -5,9 +5,7 @@ use Rattle.std.proofs.Common.{◌↔◌, ◌≤◌, ◌<◌, subst, refl, ap, le
 use Rattle.std.proofs.lemmas.List.{append-nil}
 use Rattle.byteorder.specs.Endian.{little_number}
 use Rattle.netlink_core.specs.declared.error.DecodeError.{DecodeError}
-use Rattle.netlink_core.specs.declared.error.DecodeError.TheVariants.{AttributeHeaderCut}
-use Rattle.netlink_core.specs.declared.error.DecodeError.TheVariants.{AttributeLengthUnder4}
-use Rattle.netlink_core.specs.declared.error.DecodeError.TheVariants.{AttributeLengthPast}
+use Rattle.netlink_core.specs.declared.error.DecodeError.TheVariants as errors
 use Rattle.netlink_core.specs.Bytes.{IsBytes}
 use Rattle.netlink_core.specs.Attribute.{Attribute, StartsWithAttribute, IsFramingError}
 use Rattle.netlink_core.specs.Attribute.{DecodeTo, HasAttributeError}
@@ -94,14 +92,14 @@ module _ {A : Type 0} (parses : Attribute → Result A DecodeError) where
       let wrong = λ (e : DecodeError). no_framing_error_in_attributes bytes e clean
       (λ none. omega (arith, some, ap length none)) in
       elim (length_field_cases 4 (length bytes) (little_number 2 bytes)) [
-        | inl short ↦ absurd (wrong (AttributeHeaderCut (length bytes)) (refl, short))
-        | inr (inl under) ↦ absurd (wrong (AttributeLengthUnder4 (little_number 2 bytes)) (
+        | inl short ↦ absurd (wrong (errors.AttributeHeaderCut (length bytes)) (refl, short))
+        | inr (inl under) ↦ absurd (wrong (errors.AttributeLengthUnder4 (little_number 2 bytes)) (
           refl,
           under.0,
           under.1,
         ))
         | inr (inr (inl past)) ↦ absurd (wrong
-            (AttributeLengthPast (little_number 2 bytes) (length bytes))
+            (errors.AttributeLengthPast (little_number 2 bytes) (length bytes))
             (refl, refl, past.0, past.1, past.2))
         | inr (inr (inr there)) ↦ there
       ]

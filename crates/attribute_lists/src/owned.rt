@@ -1,8 +1,8 @@
 //! The owned attributes of a reply. A list of up to eight attributes needs no allocation by itself.
 #![tactic(auto, using(crate::proofs::EncodedAttributes::encoded_attributes_of_views))]
 
-ghost use Rattle.std.specs.Prelude.{◌≡◌, ◌≤◌, ◌++◌, ◌∷◌, [], length, map, Ok, IfOk, IsOk};
-ghost use Rattle.std.specs.Prelude.{OnOk, OnErr, SomeIff};
+ghost use Rattle.std.specs.Prelude.{◌≡◌, ◌≤◌, ◌++◌, ◌∷◌, [], length, map, Ok, IfOk, IsOk, OnOk};
+ghost use Rattle.std.specs.Prelude.{OnErr, SomeIff};
 ghost use Rattle.std.specs.List.{AllByRecursion, flat_map};
 ghost use Rattle.netlink_core.specs.Bytes.{HoldsAtStart};
 ghost use Rattle.netlink_core.specs.Attribute.{AreWritableWithin, attribute_bytes};

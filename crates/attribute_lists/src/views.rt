@@ -1,8 +1,7 @@
 //! The borrowed attributes of a reply.
 
-ghost use Rattle.std.specs.Prelude.{◌≡◌, ◌≤◌, ◌↔◌, ◌+◌, ◌-◌, length, map};
-ghost use Rattle.std.specs.Prelude.{Err, OnOk, IfOk, IfErr, IsSome, IfSome, None, Some, SomeIff};
-ghost use Rattle.std.specs.Prelude.{MatchOption};
+ghost use Rattle.std.specs.Prelude.{◌≡◌, ◌≤◌, ◌↔◌, ◌+◌, ◌-◌, length, map, Err, OnOk, IfOk, IfErr};
+ghost use Rattle.std.specs.Prelude.{IsSome, IfSome, None, Some, SomeIff, MatchOption};
 ghost use Rattle.std.specs.List.{AllByRecursion, flat_map};
 ghost use Rattle.std.specs.Iterator.{YieldsFirstBy};
 ghost use Rattle.netlink_core.specs.Bytes.{HoldsAtStart};

@@ -1,12 +1,11 @@
 -- Lemmas about the states of the input when reading stops.
-use Rattle.std.proofs.Common.{◌≡◌, ◌⊎◌, inl, inr, ℕ, ◌<◌, ◌≤◌, List, [], ◌++◌, length, sym}
-use Rattle.std.proofs.Common.{ap, subst, ◌∙◌, append-nil, arith}
+use Rattle.std.proofs.Common.{◌≡◌, ◌⊎◌, inl, inr, ℕ, ◌<◌, ◌≤◌, List, [], ◌++◌, length, sym, ap}
+use Rattle.std.proofs.Common.{subst, ◌∙◌, append-nil, arith}
 use Rattle.std.specs.Prelude.{Option}
 use Rattle.std.specs.Io.KnownBytes.{Consumes}
 use Rattle.std.proofs.KnownBytes.{Consumes-trans}
-use Rattle.netlink_captures.specs.Capture.{IsPacketStop}
+use Rattle.netlink_captures.specs.Capture.{IsPacketStop, number_at_offset}
 use Rattle.netlink_captures.specs.private.Capture.{IsReadStop}
-use Rattle.netlink_captures.specs.Capture.{number_at_offset}
 use Rattle.netlink_captures.specs.declared.captures.CaptureError.{CaptureError}
 use Rattle.netlink_captures.specs.declared.captures.CaptureError.TheVariants.{Memory}
 use Rattle.netlink_captures.specs.declared.captures.FileHeader.{FileHeader}

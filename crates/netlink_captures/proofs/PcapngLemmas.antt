@@ -1,14 +1,12 @@
 -- Lemmas about blocks of pcapng files.
 use Rattle.std.proofs.Common.{◌≡◌, ℕ, zero, suc, ◌+◌, ◌-◌, ◌<◌, ◌≤◌, List, [], ◌∷◌, ◌++◌, length}
-use Rattle.std.proofs.Common.{inl, inr, true, false, length-append}
+use Rattle.std.proofs.Common.{inl, inr, true, false, length-append, drop, refl, sym, ap, subst, ◌∙◌}
+use Rattle.std.proofs.Common.{append-nil, arith, length-drop}
 use Rattle.std.proofs.lemmas.Bool.Decides.{nat_tests}
-use Rattle.std.specs.Prelude.{◌≢◌, ◌==◌, ◌^◌}
-use Rattle.std.proofs.Common.{drop, refl, sym, ap, subst, ◌∙◌, append-nil, arith}
+use Rattle.std.specs.Prelude.{◌≢◌, ◌==◌, ◌^◌, MatchOption, Option, None, Some, Result, Ok, Err}
 use Rattle.std.proofs.lemmas.List.{drop-append-le}
-use Rattle.std.specs.Prelude.{MatchOption, Option, None, Some, Result, Ok, Err}
 use Rattle.std.specs.List.{concat}
 use Rattle.std.proofs.lemmas.List.Folds.{concat-append}
-use Rattle.std.proofs.Common.{length-drop}
 use Rattle.byteorder.specs.Endian.{little_from, big_from}
 use Rattle.byteorder.specs.Numbers.{little_from-append, big_from-append}
 use Rattle.netlink_captures.specs.Capture.{number_at_offset}

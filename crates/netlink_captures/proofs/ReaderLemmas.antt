@@ -11,8 +11,7 @@ use Rattle.netlink_captures.specs.Reader.{IsCaptureStartStop, IsCaptureStop, IsE
 use Rattle.netlink_captures.specs.Reader.{in_pcap, in_pcapng}
 use Rattle.netlink_captures.specs.declared.captures.ByteOrder.TheVariants.{BigEndian, LittleEndian}
 use Rattle.netlink_captures.specs.declared.captures.CaptureError.{CaptureError}
-use Rattle.netlink_captures.specs.declared.captures.CaptureError.TheVariants.{Memory, PacketTooLong}
-use Rattle.netlink_captures.specs.declared.captures.CaptureError.TheVariants.{Read, Truncated}
+use Rattle.netlink_captures.specs.declared.captures.CaptureError.TheVariants as errors
 use Rattle.netlink_captures.specs.declared.captures.FileHeader.{FileHeader}
 use Rattle.program_streams.specs.declared.streams.ReadError.{ReadError}
 
@@ -23,7 +22,7 @@ nothing_more (in_pcapng p) = (p, ([], refl, refl))
 
 -- A read may fail at once after any state.
 pub stopped_at_once : (s : CaptureState) (left : Option (List ℕ)) (failed : Type 0)
-    (error : ReadError) → failed → IsCaptureStop s left failed [] (Read error)
+    (error : ReadError) → failed → IsCaptureStop s left failed [] (errors.Read error)
 stopped_at_once (in_pcap file) left failed error h = (inl (omega arith), h)
 stopped_at_once (in_pcapng p) left failed error h = record {
   blocks = [];
@@ -37,16 +36,16 @@ stopped_at_once (in_pcapng p) left failed error h = record {
 packet_stop_for_either : (file : FileHeader) (left : Option (List ℕ)) (A B : Type 0)
     (part : List ℕ) (e : CaptureError)
     → IsPacketStop file left A part e → IsPacketStop file left (A ⊎ B) part e
-packet_stop_for_either file left A B part Truncated h = h
-packet_stop_for_either file left A B part (Read error) h = (h.0, inl h.1)
-packet_stop_for_either file left A B part Memory h = h
-packet_stop_for_either file left A B part (PacketTooLong count) h = h
+packet_stop_for_either file left A B part errors.Truncated h = h
+packet_stop_for_either file left A B part (errors.Read error) h = (h.0, inl h.1)
+packet_stop_for_either file left A B part errors.Memory h = h
+packet_stop_for_either file left A B part (errors.PacketTooLong count) h = h
 packet_stop_for_either file left A B part _ h = h
 
 input_stop_for_either : (left : Option (List ℕ)) (A B : Type 0) (part : List ℕ) (e : CaptureError)
     → IsInputStop left A part e → IsInputStop left (A ⊎ B) part e
-input_stop_for_either left A B part Truncated h = h
-input_stop_for_either left A B part (Read error) h = inl h
+input_stop_for_either left A B part errors.Truncated h = h
+input_stop_for_either left A B part (errors.Read error) h = inl h
 input_stop_for_either left A B part _ h = h
 
 block_stop_for_either : (p : Position) (left : Option (List ℕ)) (A B : Type 0) (part : List ℕ)
@@ -83,12 +82,12 @@ magic-append a b long found =
 pub early_stop : (left : Option (List ℕ)) (failed : Type 0) (head part : List ℕ) (e : CaptureError)
     → 4 ≤ length head → HasMagic head → IsReadStop left failed e
     → IsEarlyReadStop left failed (head ++ part) e
-early_stop left failed head part Truncated long found stop = (
+early_stop left failed head part errors.Truncated long found stop = (
   omega (arith, length-append head part, long),
   magic-append head part long found,
   stop,
 )
-early_stop left failed head part (Read error) long found stop = stop
+early_stop left failed head part (errors.Read error) long found stop = stop
 early_stop left failed head part _ long found stop = absurd stop
 
 -- A stop within the file header of a pcap file, after its first 12 bytes, or an invalid one, is a

@@ -1,18 +1,13 @@
 -- Captures of netlink traffic in the classic pcap format. Numbers in headers are in the byte order
 -- of the file.
-use Rattle.std.specs.Prelude.{◌≡◌, ◌≢◌, ℕ, ◌%◌, ◌<◌, ◌≤◌, ◌⊎◌, List, ◌++◌, length}
-use Rattle.std.specs.Prelude.{drop, Option, None, Some, ◌==◌, if◌then◌else◌}
+use Rattle.std.specs.Prelude.{◌≡◌, ◌≢◌, ℕ, ◌%◌, ◌<◌, ◌≤◌, ◌⊎◌, List, ◌++◌, length, drop, Option}
+use Rattle.std.specs.Prelude.{None, Some, ◌==◌, if◌then◌else◌}
 use Rattle.std.specs.Io.KnownBytes.{IsAtEnd}
 use Rattle.byteorder.specs.Endian.{big_number, little_number}
 use Rattle.netlink_captures.specs.declared.captures.ByteOrder.{ByteOrder}
 use Rattle.netlink_captures.specs.declared.captures.ByteOrder.TheVariants.{LittleEndian, BigEndian}
 use Rattle.netlink_captures.specs.declared.captures.CaptureError.{CaptureError}
-use Rattle.netlink_captures.specs.declared.captures.CaptureError.TheVariants.{Read, Memory}
-use Rattle.netlink_captures.specs.declared.captures.CaptureError.TheVariants.{Truncated}
-use Rattle.netlink_captures.specs.declared.captures.CaptureError.TheVariants.{NoCapture, Compressed}
-use Rattle.netlink_captures.specs.declared.captures.CaptureError.TheVariants.{OtherVersion}
-use Rattle.netlink_captures.specs.declared.captures.CaptureError.TheVariants.{OtherLinkType}
-use Rattle.netlink_captures.specs.declared.captures.CaptureError.TheVariants.{PacketTooLong}
+use Rattle.netlink_captures.specs.declared.captures.CaptureError.TheVariants as errors
 use Rattle.netlink_captures.specs.declared.captures.FileHeader.{FileHeader}
 use Rattle.netlink_captures.specs.declared.captures.PacketHeader.{PacketHeader}
 use Rattle.netlink_captures.specs.declared.captures.TimeUnit.{TimeUnit}
@@ -52,8 +47,8 @@ pub record IsFileHeader (bytes : List ℕ) (h : FileHeader) : Type 0 where
 -- `first` is their big-endian number. The error is Compressed if they begin a file in a format of
 -- compressed files, with this format, and else NoCapture with `first`.
 abbrev pub IsMagicError : ℕ → CaptureError → Type 0
-IsMagicError first (Compressed compression) = compression_of first ≡ Some compression
-IsMagicError first (NoCapture magic) = (magic ≡ first) × (compression_of first ≡ None)
+IsMagicError first (errors.Compressed compression) = compression_of first ≡ Some compression
+IsMagicError first (errors.NoCapture magic) = (magic ≡ first) × (compression_of first ≡ None)
 IsMagicError first _ = ⊥
 
 -- the bytes do not begin with a magic number of pcap in either byte order, and `e` is their error
@@ -66,12 +61,13 @@ HasNoPcapMagic bytes e =
 -- The error of bytes that are not a file header: an unknown magic number is reported first, then a
 -- major version that is not 2, then a link type that is not 253.
 abbrev pub IsFileHeaderError : List ℕ → CaptureError → Type 0
-IsFileHeaderError bytes (Compressed compression) = HasNoPcapMagic bytes (Compressed compression)
-IsFileHeaderError bytes (NoCapture magic) = HasNoPcapMagic bytes (NoCapture magic)
-IsFileHeaderError bytes (OtherVersion version) =
+IsFileHeaderError bytes (errors.Compressed compression) =
+    HasNoPcapMagic bytes (errors.Compressed compression)
+IsFileHeaderError bytes (errors.NoCapture magic) = HasNoPcapMagic bytes (errors.NoCapture magic)
+IsFileHeaderError bytes (errors.OtherVersion version) =
     (order : ByteOrder) × IsPcapMagic (number_at_offset order 4 0 bytes)
     × (version ≡ number_at_offset order 2 4 bytes) × (version ≢ 2)
-IsFileHeaderError bytes (OtherLinkType link_type) =
+IsFileHeaderError bytes (errors.OtherLinkType link_type) =
     (order : ByteOrder) × IsPcapMagic (number_at_offset order 4 0 bytes)
     × (number_at_offset order 2 4 bytes ≡ 2)
     × (link_type ≡ number_at_offset order 4 20 bytes % 65536) × (link_type ≢ 253)
@@ -130,11 +126,11 @@ IsPartOfPacket file part =
 -- the allocation of this memory failed (Memory), or is greater than 262144 (PacketTooLong with this
 -- length).
 abbrev pub IsPacketStop : FileHeader → Option (List ℕ) → Type 0 → List ℕ → CaptureError → Type 0
-IsPacketStop file left failed part Truncated = (0 < length part) × IsPartOfPacket file part
+IsPacketStop file left failed part errors.Truncated = (0 < length part) × IsPartOfPacket file part
     × IsAtEnd left
-IsPacketStop file left failed part (Read error) = IsPartOfPacket file part × failed
-IsPacketStop file left failed part Memory = (length part ≡ 16)
+IsPacketStop file left failed part (errors.Read error) = IsPartOfPacket file part × failed
+IsPacketStop file left failed part errors.Memory = (length part ≡ 16)
     × (number_at_offset file.order 4 8 part ≤ 262144)
-IsPacketStop file left failed part (PacketTooLong told) =
+IsPacketStop file left failed part (errors.PacketTooLong told) =
     (length part ≡ 16) × (told ≡ number_at_offset file.order 4 8 part) × (262144 < told)
 IsPacketStop file left failed part _ = ⊥

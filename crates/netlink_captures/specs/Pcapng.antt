@@ -16,27 +16,17 @@
 --
 -- All other blocks are skipped, and so are the options of all blocks but interface descriptions.
 use Rattle.std.specs.Prelude.{◌≡◌, ⊤, ℕ, zero, suc, ◌+◌, ◌-◌, ◌*◌, ◌/◌, ◌%◌, ◌^◌, ◌<◌, ◌≤◌, ◌⊎◌}
-use Rattle.std.specs.Prelude.{◌==◌, ◌&&◌, nat_lt, nat_le, if◌then◌else◌, Bool, List}
-use Rattle.std.specs.Prelude.{[], ◌∷◌, ◌++◌, length, drop, slice_range, slice_get, slice_index}
-use Rattle.std.specs.Prelude.{Option, None, Some, Result, Ok, Err, min}
+use Rattle.std.specs.Prelude.{◌==◌, ◌&&◌, nat_lt, nat_le, if◌then◌else◌, Bool, List, [], ◌∷◌, ◌++◌}
+use Rattle.std.specs.Prelude.{length, drop, slice_range, slice_get, slice_index, Option, None, Some}
+use Rattle.std.specs.Prelude.{Result, Ok, Err, min}
 use Rattle.std.specs.List.{concat}
 use Rattle.std.specs.Io.KnownBytes.{IsAtEnd}
 use Rattle.netlink_captures.specs.declared.block_error.BlockError.{BlockError}
-use Rattle.netlink_captures.specs.declared.block_error.BlockError.TheVariants.{Length, EndLength}
-use Rattle.netlink_captures.specs.declared.block_error.BlockError.TheVariants.{ByteOrderMagic}
-use Rattle.netlink_captures.specs.declared.block_error.BlockError.TheVariants.{Version, Options}
-use Rattle.netlink_captures.specs.declared.block_error.BlockError.TheVariants.{Resolution}
-use Rattle.netlink_captures.specs.declared.block_error.BlockError.TheVariants.{TooManyInterfaces}
-use Rattle.netlink_captures.specs.declared.block_error.BlockError.TheVariants.{NoInterface}
-use Rattle.netlink_captures.specs.declared.block_error.BlockError.TheVariants.{CapturedLength}
-use Rattle.netlink_captures.specs.declared.block_error.BlockError.TheVariants.{Time}
+use Rattle.netlink_captures.specs.declared.block_error.BlockError.TheVariants as errors
 use Rattle.netlink_captures.specs.declared.captures.ByteOrder.{ByteOrder}
 use Rattle.netlink_captures.specs.declared.captures.ByteOrder.TheVariants.{LittleEndian, BigEndian}
 use Rattle.netlink_captures.specs.declared.captures.CaptureError.{CaptureError}
-use Rattle.netlink_captures.specs.declared.captures.CaptureError.TheVariants.{Block, Memory, Read}
-use Rattle.netlink_captures.specs.declared.captures.CaptureError.TheVariants.{OtherLinkType}
-use Rattle.netlink_captures.specs.declared.captures.CaptureError.TheVariants.{PacketTooLong}
-use Rattle.netlink_captures.specs.declared.captures.CaptureError.TheVariants.{Truncated}
+use Rattle.netlink_captures.specs.declared.captures.CaptureError.TheVariants as capture_errors
 use Rattle.netlink_captures.specs.declared.captures.PacketHeader.{PacketHeader}
 use Rattle.netlink_captures.specs.declared.captures.TimeUnit.{TimeUnit}
 use Rattle.netlink_captures.specs.declared.captures.TimeUnit.TheVariants.{Microseconds, Nanoseconds}
@@ -91,10 +81,10 @@ is_block_length offset n =
 
 -- the byte order of a block, or the error if it has none or an invalid length
 abbrev pub order_or_error : Position → List ℕ → Option ByteOrder → Result ByteOrder CaptureError
-order_or_error p block None = Err (Block p.offset ByteOrderMagic)
+order_or_error p block None = Err (capture_errors.Block p.offset errors.ByteOrderMagic)
 order_or_error p block (Some order) =
     if is_block_length p.offset (number_at_offset order 4 4 block) then Ok order
-    else Err (Block p.offset Length)
+    else Err (capture_errors.Block p.offset errors.Length)
 
 -- `frame_of p block`: the byte order of the block, by its first 12 bytes, or the error of these
 -- bytes
@@ -107,7 +97,7 @@ frame_of p block = order_or_error p block (order_of_block p.order block)
 -- 9 for nanoseconds (10^-9 seconds); no other value is supported
 abbrev pub unit_by_resolution : ℕ → Result TimeUnit BlockError
 unit_by_resolution n =
-    if n == 6 then Ok Microseconds else if n == 9 then Ok Nanoseconds else Err Resolution
+    if n == 6 then Ok Microseconds else if n == 9 then Ok Nanoseconds else Err errors.Resolution
 
 -- the length of the option that the bytes begin with: its code (u16 at 0), the length of its value
 -- (u16 at 2), and its value from 4 on, padded to a multiple of 4 bytes
@@ -118,7 +108,7 @@ option_size order options = 4 + (number_at_offset order 2 2 options + 3) / 4 * 4
 abbrev pub unit_in_option : ByteOrder → List ℕ → Result TimeUnit BlockError
 unit_in_option order options =
     if number_at_offset order 2 2 options == 1 then unit_by_resolution (slice_index options 4)
-    else Err Options
+    else Err errors.Options
 
 -- `unit_or_next order options next`: the unit if the first option has it: an option if_tsresol has
 -- code 9. The end of the options (no bytes, or the code 0) means microseconds. After any other
@@ -128,9 +118,9 @@ abbrev pub unit_or_next : ByteOrder → List ℕ → Result TimeUnit BlockError
     → Result TimeUnit BlockError
 unit_or_next order options next =
     if length options == 0 then Ok Microseconds
-    else if nat_lt (length options) 4 then Err Options
+    else if nat_lt (length options) 4 then Err errors.Options
     else if number_at_offset order 2 0 options == 0 then Ok Microseconds
-    else if nat_lt (length options) (option_size order options) then Err Options
+    else if nat_lt (length options) (option_size order options) then Err errors.Options
     else if number_at_offset order 2 0 options == 9 then unit_in_option order options
     else next
 
@@ -148,7 +138,7 @@ options_of block = slice_range block 16 (length block - 4)
 -- an interface description with this unit of timestamps, or the error of its options
 abbrev pub interface_or_error : Position → ByteOrder → List ℕ → Result TimeUnit BlockError
     → Result Content CaptureError
-interface_or_error p order block (Err e) = Err (Block p.offset e)
+interface_or_error p order block (Err e) = Err (capture_errors.Block p.offset e)
 interface_or_error p order block (Ok unit) = Ok (Described (record {
   link_type = number_at_offset order 2 8 block;
   snap_length = number_at_offset order 4 12 block;
@@ -159,8 +149,9 @@ interface_or_error p order block (Ok unit) = Ok (Described (record {
 -- interfaces.
 abbrev pub interface_in : Position → ByteOrder → List ℕ → Result Content CaptureError
 interface_in p order block =
-    if nat_lt (length block) 20 then Err (Block p.offset Length)
-    else if nat_le 4096 (length p.interfaces) then Err (Block p.offset TooManyInterfaces)
+    if nat_lt (length block) 20 then Err (capture_errors.Block p.offset errors.Length)
+    else if nat_le 4096 (length p.interfaces) then
+    Err (capture_errors.Block p.offset errors.TooManyInterfaces)
     else interface_or_error p order block
     (unit_in (length (options_of block)) order (options_of block))
 
@@ -169,9 +160,9 @@ interface_in p order block =
 -- the interface of a packet, which the section has described with the link type 253
 -- (LINKTYPE_NETLINK), or the error
 abbrev pub netlink_or_error : Position → Option Interface → Result Interface CaptureError
-netlink_or_error p None = Err (Block p.offset NoInterface)
+netlink_or_error p None = Err (capture_errors.Block p.offset errors.NoInterface)
 netlink_or_error p (Some i) =
-    if i.link_type == 253 then Ok i else Err (OtherLinkType i.link_type)
+    if i.link_type == 253 then Ok i else Err (capture_errors.OtherLinkType i.link_type)
 
 -- the interface with this number, from 0 on, or the error
 abbrev pub interface_of : Position → ℕ → Result Interface CaptureError
@@ -182,8 +173,9 @@ interface_of p id = netlink_or_error p (slice_get p.interfaces id)
 -- the end of the block.
 abbrev pub packet_at : Position → List ℕ → ℕ → ℕ → PacketHeader → Result Content CaptureError
 packet_at p block start captured header =
-    if nat_lt 262144 captured then Err (PacketTooLong captured)
-    else if nat_lt (length block) (start + captured + 4) then Err (Block p.offset CapturedLength)
+    if nat_lt 262144 captured then Err (capture_errors.PacketTooLong captured)
+    else if nat_lt (length block) (start + captured + 4) then
+    Err (capture_errors.Block p.offset errors.CapturedLength)
     else Ok (Captured (record { header = header; start = start; count = captured }))
 
 -- the number of units in a second
@@ -203,7 +195,7 @@ timed_packet p order block unit timestamp =
       unit = unit;
       whole_length = number_at_offset order 4 24 block;
     })
-    else Err (Block p.offset Time)
+    else Err (capture_errors.Block p.offset errors.Time)
 
 -- an enhanced packet of this interface, or the error of its interface
 abbrev pub enhanced_packet : Position → ByteOrder → List ℕ → Result Interface CaptureError
@@ -216,7 +208,7 @@ enhanced_packet p order block (Ok i) = timed_packet p order block i.unit
 -- which has at least 32 bytes, of the interface with the number `id`
 abbrev pub enhanced_packet_in : Position → ByteOrder → List ℕ → ℕ → Result Content CaptureError
 enhanced_packet_in p order block id =
-    if nat_lt (length block) 32 then Err (Block p.offset Length)
+    if nat_lt (length block) 32 then Err (capture_errors.Block p.offset errors.Length)
     else enhanced_packet p order block (interface_of p id)
 
 -- the captured length of a simple packet: the original length, at most the snapshot length of the
@@ -242,7 +234,7 @@ simple_packet p order block (Ok i) =
 -- the content of a simple packet block, which has at least 16 bytes, of the first interface
 abbrev pub simple_packet_in : Position → ByteOrder → List ℕ → Result Content CaptureError
 simple_packet_in p order block =
-    if nat_lt (length block) 16 then Err (Block p.offset Length)
+    if nat_lt (length block) 16 then Err (capture_errors.Block p.offset errors.Length)
     else simple_packet p order block (interface_of p 0)
 
 -- ---- contents of blocks
@@ -250,9 +242,9 @@ simple_packet_in p order block =
 -- the content of a section header, which has at least 28 bytes and the major version 1
 abbrev pub section_header_in : Position → ByteOrder → List ℕ → Result Content CaptureError
 section_header_in p order block =
-    if nat_lt (length block) 28 then Err (Block p.offset Length)
+    if nat_lt (length block) 28 then Err (capture_errors.Block p.offset errors.Length)
     else if number_at_offset order 2 12 block == 1 then Ok SectionHeader
-    else Err (Block p.offset Version)
+    else Err (capture_errors.Block p.offset errors.Version)
 
 -- `content_by_type p order block t`: the content of a block of the type `t`
 abbrev pub content_by_type : Position → ByteOrder → List ℕ → ℕ → Result Content CaptureError
@@ -270,7 +262,7 @@ content_of p order block =
     if number_at_offset order 4 (length block - 4) block == length block
     then (if is_section_header block then section_header_in p order block
     else content_by_type p order block (number_at_offset order 4 0 block))
-    else Err (Block p.offset EndLength)
+    else Err (capture_errors.Block p.offset errors.EndLength)
 
 -- a whole block: at least 12 bytes with a valid frame, as many as its length at 4
 pub record IsFramed (p : Position) (block : List ℕ) (order : ByteOrder) : Type 0 where
@@ -363,8 +355,8 @@ IsPartOfBlock p part =
 -- its end, after at least one byte (Truncated), or a read failed (Read). `left` are the remaining
 -- bytes, if known. `failed` states that a read failed.
 abbrev pub IsInputStop : Option (List ℕ) → Type 0 → List ℕ → CaptureError → Type 0
-IsInputStop left failed part Truncated = (0 < length part) × IsAtEnd left
-IsInputStop left failed part (Read error) = failed
+IsInputStop left failed part capture_errors.Truncated = (0 < length part) × IsAtEnd left
+IsInputStop left failed part (capture_errors.Read error) = failed
 IsInputStop left failed part _ = ⊥
 
 -- `IsBlockStop p left failed part e`: `e` is the reason why no block was read at the position `p`.
@@ -375,7 +367,7 @@ IsInputStop left failed part _ = ⊥
 abbrev pub IsBlockStop : Position → Option (List ℕ) → Type 0 → List ℕ → CaptureError → Type 0
 IsBlockStop p left failed part e =
     (IsPartOfBlock p part × IsInputStop left failed part e)
-    ⊎ ((12 ≤ length part) × HasFrame p part × (e ≡ Memory))
+    ⊎ ((12 ≤ length part) × HasFrame p part × (e ≡ capture_errors.Memory))
     ⊎ ((length part ≡ 12) × (frame_of p part ≡ Err e))
     ⊎ ((order : ByteOrder) × IsFramed p part order × (content_of p order part ≡ Err e))
 

@@ -4,10 +4,7 @@ use Rattle.std.specs.Io.KnownBytes.{IsAtEnd}
 use Rattle.netlink_captures.specs.declared.captures.ByteOrder.{ByteOrder}
 use Rattle.netlink_captures.specs.declared.captures.ByteOrder.TheVariants.{BigEndian, LittleEndian}
 use Rattle.netlink_captures.specs.declared.captures.CaptureError.{CaptureError}
-use Rattle.netlink_captures.specs.declared.captures.CaptureError.TheVariants.{Empty, NoCapture}
-use Rattle.netlink_captures.specs.declared.captures.CaptureError.TheVariants.{Compressed, Read}
-use Rattle.netlink_captures.specs.declared.captures.CaptureError.TheVariants.{TooShort}
-use Rattle.netlink_captures.specs.declared.captures.CaptureError.TheVariants.{Truncated}
+use Rattle.netlink_captures.specs.declared.captures.CaptureError.TheVariants as errors
 use Rattle.netlink_captures.specs.declared.captures.FileHeader.{FileHeader}
 use Rattle.netlink_captures.specs.declared.pcapng.Content.{Content}
 use Rattle.netlink_captures.specs.declared.reader.CaptureReader.{CaptureReader}
@@ -57,14 +54,15 @@ HasNoMagic bytes e = (¬ IsTrue (is_section_header bytes)) × HasNoPcapMagic byt
 -- (Compressed, NoCapture). `left` are the remaining bytes, if known. `failed` states that a read
 -- failed.
 abbrev pub IsEarlyReadStop : Option (List ℕ) → Type 0 → List ℕ → CaptureError → Type 0
-IsEarlyReadStop left failed part Empty = (part ≡ []) × IsAtEnd left
-IsEarlyReadStop left failed part TooShort = (0 < length part) × (length part < 4) × IsAtEnd left
-IsEarlyReadStop left failed part Truncated = (4 ≤ length part) × HasMagic part × IsAtEnd left
-IsEarlyReadStop left failed part (Read error) = failed
-IsEarlyReadStop left failed part (Compressed compression) =
-    (length part ≡ 4) × HasNoMagic part (Compressed compression)
-IsEarlyReadStop left failed part (NoCapture magic) =
-    (length part ≡ 4) × HasNoMagic part (NoCapture magic)
+IsEarlyReadStop left failed part errors.Empty = (part ≡ []) × IsAtEnd left
+IsEarlyReadStop left failed part errors.TooShort =
+    (0 < length part) × (length part < 4) × IsAtEnd left
+IsEarlyReadStop left failed part errors.Truncated = (4 ≤ length part) × HasMagic part × IsAtEnd left
+IsEarlyReadStop left failed part (errors.Read error) = failed
+IsEarlyReadStop left failed part (errors.Compressed compression) =
+    (length part ≡ 4) × HasNoMagic part (errors.Compressed compression)
+IsEarlyReadStop left failed part (errors.NoCapture magic) =
+    (length part ≡ 4) × HasNoMagic part (errors.NoCapture magic)
 IsEarlyReadStop left failed part _ = ⊥
 
 -- `IsCaptureStartStop left failed part e`: `e` is the reason why a capture could not be opened,

@@ -3,8 +3,7 @@
 ghost use Rattle.std.specs.Prelude.{◌≡◌, ◌++◌, ◌<◌, ◌≤◌, ◌⊎◌, ℕ, List, length, IfOk, IfErr, OnOk};
 ghost use Rattle.std.specs.Prelude.{IsTrue, MatchOption, MatchResult};
 ghost use Rattle.std.specs.Io.KnownBytes.{Consumes, IsAtEnd};
-ghost use Rattle.netlink_captures.specs.Capture.{IsFileHeader, IsFileHeaderError};
-ghost use Rattle.netlink_captures.specs.Capture.{captured_packet};
+ghost use Rattle.netlink_captures.specs.Capture.{IsFileHeader, IsFileHeaderError, captured_packet};
 ghost use Rattle.netlink_captures.specs.Pcapng.{IsBlockStop, is_section_header, position_of};
 ghost use Rattle.netlink_captures.specs.Pcapng.{start_of_file};
 ghost use Rattle.netlink_captures.specs.Reader.{HasMagic, HasNoMagic, IsEarlyReadStop};

@@ -1,6 +1,6 @@
 -- The laws of the usual attribute types.
-use Rattle.std.proofs.Common.{Some, Result, Ok, Err, ◌≡◌, ◌∙◌, ℕ, ◌^◌, ◌<◌, List, []}
-use Rattle.std.proofs.Common.{length, sym, arith}
+use Rattle.std.proofs.Common.{Some, Result, Ok, Err, ◌≡◌, ◌∙◌, ℕ, ◌^◌, ◌<◌, List, [], length, sym}
+use Rattle.std.proofs.Common.{arith}
 use Rattle.std.specs.Prelude.{⊤, bit_and}
 use Rattle.std.proofs.lemmas.List.{append-nil, take_all}
 use Rattle.std.proofs.lemmas.Bool.Decides.{nat_tests}
@@ -18,8 +18,7 @@ use Rattle.netlink_core.specs.laws.ReplyObligations.{AttributeSpecLaws}
 use Rattle.netlink_core.specs.AttributeSpecs.{whole_value_codec, attribute_spec}
 use Rattle.netlink_core.specs.AttributeSpecs.{allocating_attribute_spec, number_attribute_spec}
 use Rattle.netlink_core.specs.Parse.{number_of_width}
-use Rattle.netlink_core.proofs.Numbers.{little_endian}
-use Rattle.netlink_core.proofs.Numbers.{number-same}
+use Rattle.netlink_core.proofs.Numbers.{little_endian, number-same}
 
 -- bytes are equal if the numbers of all of these bytes are equal
 pub same_bytes : (n : ℕ) (x y : List ℕ) → IsBytes x → IsBytes y → length x ≡ n → length y ≡ n

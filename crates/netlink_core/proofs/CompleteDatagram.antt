@@ -1,6 +1,5 @@
 -- Iterating over a whole datagram yields the messages that it is split into.
-use Rattle.std.proofs.Common.{arith}
-use Rattle.std.proofs.Common.{Err, Some, None, ◌≡◌, ℕ, List, [], ◌∷◌}
+use Rattle.std.proofs.Common.{arith, Err, Some, None, ◌≡◌, ℕ, List, [], ◌∷◌}
 use Rattle.std.specs.Prelude.{map}
 use Rattle.std.specs.Borrow.{Bor}
 use Rattle.std.specs.Iterator.{Drains, YieldsThen}

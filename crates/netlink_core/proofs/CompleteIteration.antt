@@ -1,7 +1,6 @@
 -- Iterating over all bytes yields the attributes that they are split into, up to the first framing
 -- error.
-use Rattle.std.proofs.Common.{arith}
-use Rattle.std.proofs.Common.{Result, Ok, Err, Some, ◌≡◌, List, [], ◌∷◌}
+use Rattle.std.proofs.Common.{arith, Result, Ok, Err, Some, ◌≡◌, List, [], ◌∷◌}
 use Rattle.std.specs.Prelude.{map}
 use Rattle.std.specs.Iterator.{Drains, YieldsThen}
 use Rattle.netlink_core.specs.declared.error.DecodeError.{DecodeError}

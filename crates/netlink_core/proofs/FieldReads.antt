@@ -1,15 +1,14 @@
 -- Numbers and bytes that were read from consecutive positions are the numbers of the table's
 -- fields, and numbers within their width fit these fields.
-use Rattle.std.proofs.Common.{◌≡◌, ℕ, zero, suc, ◌+◌, ◌-◌, ◌*◌, ◌^◌, ◌<◌, ◌≤◌, List, [], ◌∷◌}
-use Rattle.std.proofs.Common.{◌++◌, length, take, drop, slice_index, refl, sym, ap, ◌∙◌}
-use Rattle.std.proofs.Common.{arith, mul-le-mul_left, mul-suc}
+use Rattle.std.proofs.Common.{◌≡◌, ℕ, zero, suc, ◌+◌, ◌-◌, ◌*◌, ◌^◌, ◌<◌, ◌≤◌, List, [], ◌∷◌, ◌++◌}
+use Rattle.std.proofs.Common.{length, take, drop, slice_index, refl, sym, ap, ◌∙◌, arith}
+use Rattle.std.proofs.Common.{mul-le-mul_left, mul-suc}
 use Rattle.std.proofs.lemmas.List.{ext_get_or, drop-take, drop-drop, drop_more}
 use Rattle.byteorder.specs.Endian.{IsRead}
 use Rattle.netlink_core.specs.Bytes.{IsBytes}
 use Rattle.netlink_core.specs.Table.{Field, number, unread}
 use Rattle.netlink_core.specs.Table.{bytes_at, array, values_of, first_numbers, FitFields}
-use Rattle.netlink_core.proofs.Numbers.{Order, field_in, number_in}
-use Rattle.netlink_core.proofs.Numbers.{number-take}
+use Rattle.netlink_core.proofs.Numbers.{Order, field_in, number_in, number-take}
 use Rattle.netlink_core.proofs.TableLaws.{AreBytes-drop}
 
 length-field : (order : Order) (width offset count : ℕ) (bytes : List ℕ)

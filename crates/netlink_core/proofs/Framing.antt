@@ -1,6 +1,5 @@
 -- Bytes begin with one message, or have one error.
-use Rattle.std.proofs.Common.{◌≡◌, ℕ, zero, suc, ◌-◌, ◌⊎◌, inl, inr, List}
-use Rattle.std.proofs.Common.{take, drop, refl, arith}
+use Rattle.std.proofs.Common.{◌≡◌, ℕ, zero, suc, ◌-◌, ◌⊎◌, inl, inr, List, take, drop, refl, arith}
 use Rattle.netlink_core.specs.declared.error.DecodeError.{DecodeError}
 use Rattle.netlink_core.specs.declared.error.DecodeError.TheVariants.{Memory}
 use Rattle.netlink_core.specs.declared.header.NetlinkHeader.{NetlinkHeader}

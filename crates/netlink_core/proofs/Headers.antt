@@ -1,8 +1,8 @@
 -- Bytes begin with at most one header, and a header is determined by the bytes that it serializes
 -- to.
 use Rattle.std.proofs.lemmas.Grind.{common_steps}
-use Rattle.std.proofs.Common.{◌≡◌, ◌↔◌, ℕ, ◌+◌, ◌-◌, ◌≤◌, ◌⊎◌, inl, inr, List, [], ◌++◌}
-use Rattle.std.proofs.Common.{length, take, drop, slice_index, refl, sym, ap, ◌∙◌, arith}
+use Rattle.std.proofs.Common.{◌≡◌, ◌↔◌, ℕ, ◌+◌, ◌-◌, ◌≤◌, ◌⊎◌, inl, inr, List, [], ◌++◌, length}
+use Rattle.std.proofs.Common.{take, drop, slice_index, refl, sym, ap, ◌∙◌, arith}
 use Rattle.netlink_core.specs.laws.Prefix.{length_field_cases}
 use Rattle.std.proofs.lemmas.List.{take-append-drop, take_at, length-append}
 use Rattle.std.proofs.lemmas.List.{length-take, length-drop, drop-append-le}
@@ -10,9 +10,7 @@ use Rattle.byteorder.specs.Numbers.{little_from-append}
 use Rattle.byteorder.specs.Endian.{little_number}
 use Rattle.netlink_core.specs.declared.header.NetlinkHeader.{NetlinkHeader}
 use Rattle.netlink_core.specs.declared.error.DecodeError.{DecodeError}
-use Rattle.netlink_core.specs.declared.error.DecodeError.TheVariants.{EnvelopeCut}
-use Rattle.netlink_core.specs.declared.error.DecodeError.TheVariants.{EnvelopeLengthUnder16}
-use Rattle.netlink_core.specs.declared.error.DecodeError.TheVariants.{EnvelopeLengthPast}
+use Rattle.netlink_core.specs.declared.error.DecodeError.TheVariants as errors
 use Rattle.netlink_core.specs.Bytes.{IsBytes}
 use Rattle.netlink_core.specs.Table.{FitFields, values_of}
 use Rattle.netlink_core.specs.Header.{header_fields, header_values, header_bytes}
@@ -46,10 +44,13 @@ same_header h k e = ap header_of_numbers e
 pub header_or_error : (bytes : List ℕ) → IsBytes bytes → ((h : NetlinkHeader) × HasHeader bytes h)
     ⊎ ((e : DecodeError) × IsMessageError bytes e)
 header_or_error bytes fits = elim (length_field_cases 16 (length bytes) (little_number 4 bytes)) [
-  | inl cut ↦ inr (EnvelopeCut (length bytes), (refl, cut))
-  | inr (inl under) ↦ inr (EnvelopeLengthUnder16 (little_number 4 bytes), (refl, under.0, under.1))
+  | inl cut ↦ inr (errors.EnvelopeCut (length bytes), (refl, cut))
+  | inr (inl under) ↦ inr (
+    errors.EnvelopeLengthUnder16 (little_number 4 bytes),
+    (refl, under.0, under.1),
+  )
   | inr (inr (inl past)) ↦ inr (
-    EnvelopeLengthPast (little_number 4 bytes) (length bytes),
+    errors.EnvelopeLengthPast (little_number 4 bytes) (length bytes),
     (refl, refl, past.0, past.1, past.2),
   )
   | inr (inr (inr there)) ↦ inl (

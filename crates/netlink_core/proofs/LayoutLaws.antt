@@ -1,8 +1,7 @@
 -- A layout that meets the conditions of `MeetsLayoutConditions` keeps the laws. Proved once, for
 -- every layout.
-use Rattle.std.proofs.Common.{◌≡◌, ◌↔◌, ℕ, ◌<◌, ◌≤◌, IsTrue, List, [], length}
-use Rattle.std.proofs.Common.{Result, Ok, Err, refl, sym, ap, ◌∙◌, arith}
-use Rattle.std.proofs.Common.{append-nil, le-ltb, lt-ltb}
+use Rattle.std.proofs.Common.{◌≡◌, ◌↔◌, ℕ, ◌<◌, ◌≤◌, IsTrue, List, [], length, Result, Ok, Err}
+use Rattle.std.proofs.Common.{refl, sym, ap, ◌∙◌, arith, append-nil, le-ltb, lt-ltb}
 use Rattle.std.proofs.lemmas.Bool.{cases_lt}
 use Rattle.netlink_core.specs.Bytes.{IsBytes}
 use Rattle.netlink_core.specs.Table.{values_of, bytes_of}

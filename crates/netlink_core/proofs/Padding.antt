@@ -1,7 +1,6 @@
 -- The padding after an attribute, and induction on the number of bytes.
-use Rattle.std.proofs.Common.{zero, suc, ◌≢◌, inl, inr, refl, ◌∷◌}
-use Rattle.std.proofs.Common.{[], ◌<◌, ◌⊎◌, ◌≡◌, ℕ, ◌+◌, List, ◌++◌, length, take, drop}
-use Rattle.std.proofs.Common.{arith}
+use Rattle.std.proofs.Common.{zero, suc, ◌≢◌, inl, inr, refl, ◌∷◌, [], ◌<◌, ◌⊎◌, ◌≡◌, ℕ, ◌+◌, List}
+use Rattle.std.proofs.Common.{◌++◌, length, take, drop, arith}
 use Rattle.std.proofs.lemmas.List.{take-append-drop, length-take, drop_all}
 use Rattle.std.proofs.Math.Seq.{drop-append-add}
 use Rattle.netlink_core.specs.Attribute.{Attribute, HasAttributePrefix, StartsWithAttribute}

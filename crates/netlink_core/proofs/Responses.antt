@@ -1,13 +1,11 @@
 -- The codec laws of a reply follow from the laws of its header and of its set of attribute types.
-use Rattle.std.proofs.Common.{Ok, ◌≡◌, ◌↔◌, inl, inr, ℕ, List, [], ◌∷◌}
-use Rattle.std.proofs.Common.{arith}
+use Rattle.std.proofs.Common.{Ok, ◌≡◌, ◌↔◌, inl, inr, ℕ, List, [], ◌∷◌, arith}
 use Rattle.std.specs.Prelude.{drop, map}
 use Rattle.std.specs.List.{AllByRecursion, AllZip, flat_map}
 use Rattle.std.proofs.lemmas.List.{drop_at}
 use Rattle.netlink_core.specs.Bytes.{IsBytes}
 use Rattle.netlink_core.specs.Attribute.{Attribute, FitsLengthField}
-use Rattle.netlink_core.specs.laws.Prefix.{FitsHeaderFields}
-use Rattle.netlink_core.specs.laws.Prefix.{IsAttributeInRange}
+use Rattle.netlink_core.specs.laws.Prefix.{FitsHeaderFields, IsAttributeInRange, value_or_error}
 use Rattle.netlink_core.specs.Attribute.{attribute_bytes, SplitsIntoAttributes}
 use Rattle.netlink_core.specs.AttributeSet.{AttributeSet, AttributeValue, decode_attribute}
 use Rattle.netlink_core.specs.AttributeSet.{encode_attribute, IsInRangeIn, IsNormalIn}
@@ -16,7 +14,6 @@ use Rattle.netlink_core.specs.laws.ReplyObligations.{AttributeSetLaws, ResponseL
 use Rattle.netlink_core.specs.Response.{ResponseSpec, response_codec}
 use Rattle.netlink_core.specs.Codec.{KeepsCodecLaws}
 use Rattle.netlink_core.specs.laws.Byte.{IsBytes-append}
-use Rattle.netlink_core.specs.laws.Prefix.{value_or_error}
 use Rattle.netlink_core.specs.laws.AttributeSet.{decode_error_is_not_memory, decoded_is_normal}
 use Rattle.netlink_core.specs.laws.AttributeSet.{decoded_equal_iff_equivalent, encoded_in_range}
 use Rattle.netlink_core.specs.laws.AttributeSet.{decoded_round_trips}

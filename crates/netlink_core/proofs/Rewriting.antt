@@ -1,6 +1,5 @@
 -- When a parsed value is not serialized.
-use Rattle.std.proofs.Common.{arith}
-use Rattle.std.proofs.Common.{◌≡◌, ◌↔◌}
+use Rattle.std.proofs.Common.{arith, ◌≡◌, ◌↔◌}
 use Rattle.netlink_core.specs.declared.error.DecodeError.{DecodeError}
 use Rattle.netlink_core.specs.declared.canonical_form.CanonError.{CanonError}
 use Rattle.netlink_core.specs.Canonical.{CanonicalFails}

@@ -1,6 +1,5 @@
 -- How bytes are split, with the two cases of a padding apart.
-use Rattle.std.proofs.Common.{◌≡◌, ◌<◌, ◌⊎◌, ◌↔◌, ℕ, List, [], ◌∷◌, ◌++◌, length}
-use Rattle.std.proofs.Common.{arith}
+use Rattle.std.proofs.Common.{◌≡◌, ◌<◌, ◌⊎◌, ◌↔◌, ℕ, List, [], ◌∷◌, ◌++◌, length, arith}
 use Rattle.netlink_core.specs.Attribute.{Attribute, SplitsIntoAttributes, padding_length}
 use Rattle.netlink_core.specs.Attribute.{header_and_value}
 use Rattle.netlink_core.specs.laws.Prefix.{FitsHeaderFields}

@@ -1,8 +1,7 @@
 -- Bytes are split into attributes in at most one way, and either these parse as values or the bytes
 -- have an error.
 use Rattle.std.proofs.lemmas.Grind.{common_steps}
-use Rattle.std.proofs.Common.{◌<◌, Option, Some, None}
-use Rattle.std.proofs.Common.{Result, Ok, ◌≡◌, ◌≢◌, ℕ, ◌+◌, ◌⊎◌, inl, inr}
+use Rattle.std.proofs.Common.{◌<◌, Option, Some, None, Result, Ok, ◌≡◌, ◌≢◌, ℕ, ◌+◌, ◌⊎◌, inl, inr}
 use Rattle.std.proofs.Common.{List, [], ◌∷◌, ◌++◌, length, drop, replicate, refl, sym, ap, ◌∙◌}
 use Rattle.std.proofs.Common.{append_assoc, append-nil, arith, subst}
 use Rattle.std.specs.Prelude.{IsOk}

@@ -1,19 +1,16 @@
 -- Properties of tables of fields, by induction on the fields: serialized numbers are parsed again,
 -- and two byte strings have the same numbers if and only if they have the same significant bits.
 use Rattle.std.proofs.lemmas.Grind.{common_steps}
-use Rattle.std.proofs.Common.{◌≡◌, ◌↔◌, ℕ, zero, suc, ◌+◌, ◌<◌, ◌≤◌, Bool, ◌&&◌, IsTrue}
-use Rattle.std.proofs.Common.{List, [], ◌∷◌, ◌++◌, length, drop, replicate, slice_index}
-use Rattle.std.proofs.Common.{bit_and, refl, sym, ap, ◌∙◌, arith, append_assoc, eqb}
-use Rattle.std.proofs.Common.{length-drop, add-zero, ◌^◌}
-use Rattle.std.specs.Prelude.{⊤}
-use Rattle.std.proofs.lemmas.List.{drop_at, drop-drop, length-replicate, get_or-drop}
-use Rattle.std.proofs.lemmas.List.{take_all}
+use Rattle.std.proofs.Common.{◌≡◌, ◌↔◌, ℕ, zero, suc, ◌+◌, ◌<◌, ◌≤◌, Bool, ◌&&◌, IsTrue, List, []}
+use Rattle.std.proofs.Common.{◌∷◌, ◌++◌, length, drop, replicate, slice_index, bit_and, refl, sym}
+use Rattle.std.proofs.Common.{ap, ◌∙◌, arith, append_assoc, eqb, length-drop, add-zero, ◌^◌}
+use Rattle.std.specs.Prelude.{⊤, nat_lt}
+use Rattle.std.proofs.lemmas.List.{drop_at, drop-drop, length-replicate, get_or-drop, take_all}
 use Rattle.std.proofs.lemmas.Nat.{and_le_l, and_assoc}
 use Rattle.std.proofs.lemmas.Bool.Decides.{nat_tests}
 use Rattle.std.proofs.lemmas.Bool.{eqb-true}
 use Rattle.std.specs.Int.Bits.{and_self}
 use Rattle.std.specs.List.{list_all}
-use Rattle.std.specs.Prelude.{nat_lt}
 use Rattle.byteorder.specs.Numbers.{length-bytes_low_first}
 use Rattle.byteorder.specs.Endian.{little_number, little_bytes, big_bytes}
 use Rattle.netlink_core.specs.Table.{Field, byte, number, network, flags, unread}

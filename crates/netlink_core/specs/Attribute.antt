@@ -5,9 +5,7 @@ use Rattle.std.specs.Prelude.{length, replicate, bit_and, Result, Ok, Err, IsOk}
 use Rattle.byteorder.specs.Endian.{little_bytes, little_number}
 use Rattle.std.specs.List.{AllByRecursion, AllZip, flat_map}
 use Rattle.netlink_core.specs.declared.error.DecodeError.{DecodeError}
-use Rattle.netlink_core.specs.declared.error.DecodeError.TheVariants.{AttributeHeaderCut}
-use Rattle.netlink_core.specs.declared.error.DecodeError.TheVariants.{AttributeLengthUnder4}
-use Rattle.netlink_core.specs.declared.error.DecodeError.TheVariants.{AttributeLengthPast}
+use Rattle.netlink_core.specs.declared.error.DecodeError.TheVariants as errors
 
 -- an attribute without its length field and its padding
 pub record Attribute : Type 0 where
@@ -73,10 +71,10 @@ SplitsIntoAttributes bytes (a ∷ later) rest =
 -- `nla_len` is above the number of bytes. In the errors, `word` is `nla_len` and `left` is the
 -- number of bytes.
 abbrev pub IsFramingError : List ℕ → DecodeError → Type 0
-IsFramingError bytes (AttributeHeaderCut left) = (left ≡ length bytes) × (length bytes < 4)
-IsFramingError bytes (AttributeLengthUnder4 word) =
+IsFramingError bytes (errors.AttributeHeaderCut left) = (left ≡ length bytes) × (length bytes < 4)
+IsFramingError bytes (errors.AttributeLengthUnder4 word) =
     (word ≡ little_number 2 bytes) × (4 ≤ length bytes) × (word < 4)
-IsFramingError bytes (AttributeLengthPast word left) =
+IsFramingError bytes (errors.AttributeLengthPast word left) =
     (word ≡ little_number 2 bytes) × (left ≡ length bytes)
     × (4 ≤ length bytes) × (4 ≤ word) × (length bytes < word)
 IsFramingError bytes _ = ⊥

@@ -1,8 +1,8 @@
 -- Sets of attribute types. A set determines what each attribute decodes to, which attributes are
 -- equivalent, and what a decoded value serializes to. In a set `spec ∷ others`, `spec` is the first
 -- type. Of a value of `A ⊎ B`, `inl x` is one of `A`, and `inr y` is one of `B`.
-use Rattle.std.specs.Prelude.{◌≡◌, ◌≢◌, ℕ, ◌⊎◌, ◌==◌, if◌then◌else◌, cond, Bool, true, false}
-use Rattle.std.specs.Prelude.{◌<◌, ◌^◌, List, [], ◌∷◌, map, Option, Some, None, Result, Ok, ⊤}
+use Rattle.std.specs.Prelude.{◌≡◌, ◌≢◌, ℕ, ◌⊎◌, ◌==◌, if◌then◌else◌, cond, Bool, true, false, ◌<◌}
+use Rattle.std.specs.Prelude.{◌^◌, List, [], ◌∷◌, map, Option, Some, None, Result, Ok, ⊤}
 use Rattle.std.proofs.Common.{inl, inr}
 use Rattle.netlink_core.specs.declared.error.DecodeError.{DecodeError}
 use Rattle.netlink_core.specs.Attribute.{Attribute, attribute_kind}

@@ -2,49 +2,36 @@
 use Rattle.std.specs.Prelude.{ℕ, Some, None, Result}
 use Rattle.std.specs.Result.{result_map_both}
 use Rattle.netlink_core.specs.declared.error.DecodeError.{DecodeError}
-use Rattle.netlink_core.specs.declared.error.DecodeError.TheVariants.{Memory, BufferTooSmall}
-use Rattle.netlink_core.specs.declared.error.DecodeError.TheVariants.{UnsupportedFamily}
-use Rattle.netlink_core.specs.declared.error.DecodeError.TheVariants.{MessageTooShort}
-use Rattle.netlink_core.specs.declared.error.DecodeError.TheVariants.{UnknownFamily}
-use Rattle.netlink_core.specs.declared.error.DecodeError.TheVariants.{UnknownMessageType}
-use Rattle.netlink_core.specs.declared.error.DecodeError.TheVariants.{AttributeHeaderCut}
-use Rattle.netlink_core.specs.declared.error.DecodeError.TheVariants.{AttributeLengthUnder4}
-use Rattle.netlink_core.specs.declared.error.DecodeError.TheVariants.{AttributeLengthPast}
-use Rattle.netlink_core.specs.declared.error.DecodeError.TheVariants.{WrongLength}
-use Rattle.netlink_core.specs.declared.error.DecodeError.TheVariants.{NotMultipleOfFour, NotUtf8}
-use Rattle.netlink_core.specs.declared.error.DecodeError.TheVariants.{NameEmpty, NameInnerZero}
-use Rattle.netlink_core.specs.declared.error.DecodeError.TheVariants.{NameWithoutEnd, EnvelopeCut}
-use Rattle.netlink_core.specs.declared.error.DecodeError.TheVariants.{EnvelopeLengthUnder16}
-use Rattle.netlink_core.specs.declared.error.DecodeError.TheVariants.{EnvelopeLengthPast}
+use Rattle.netlink_core.specs.declared.error.DecodeError.TheVariants as errors
 
 -- The code of an error: its position among the variants of `DecodeError`, from 1 on. Except for
 -- `Memory`, include/sockdiag.h has the code as `SOCKDIAG_` and the name of the error. 2 to 6 are
 -- errors of records and messages; 7 to 9 of the framing of attributes; 10 to 15 of values of
 -- attributes; 16 to 18 of netlink headers.
 abbrev pub error_code : DecodeError → ℕ
-error_code Memory = 1
-error_code (BufferTooSmall which got need) = 2
-error_code (UnsupportedFamily family) = 3
-error_code (MessageTooShort got) = 4
-error_code (UnknownFamily family) = 5
-error_code (UnknownMessageType message_type) = 6
-error_code (AttributeHeaderCut left) = 7
-error_code (AttributeLengthUnder4 len) = 8
-error_code (AttributeLengthPast len left) = 9
-error_code (WrongLength kind got need) = 10
-error_code (NotMultipleOfFour got) = 11
-error_code NotUtf8 = 12
-error_code NameEmpty = 13
-error_code (NameInnerZero index) = 14
-error_code NameWithoutEnd = 15
-error_code (EnvelopeCut got) = 16
-error_code (EnvelopeLengthUnder16 len) = 17
-error_code (EnvelopeLengthPast len got) = 18
+error_code errors.Memory = 1
+error_code (errors.BufferTooSmall which got need) = 2
+error_code (errors.UnsupportedFamily family) = 3
+error_code (errors.MessageTooShort got) = 4
+error_code (errors.UnknownFamily family) = 5
+error_code (errors.UnknownMessageType message_type) = 6
+error_code (errors.AttributeHeaderCut left) = 7
+error_code (errors.AttributeLengthUnder4 len) = 8
+error_code (errors.AttributeLengthPast len left) = 9
+error_code (errors.WrongLength kind got need) = 10
+error_code (errors.NotMultipleOfFour got) = 11
+error_code errors.NotUtf8 = 12
+error_code errors.NameEmpty = 13
+error_code (errors.NameInnerZero index) = 14
+error_code errors.NameWithoutEnd = 15
+error_code (errors.EnvelopeCut got) = 16
+error_code (errors.EnvelopeLengthUnder16 len) = 17
+error_code (errors.EnvelopeLengthPast len got) = 18
 
 -- with_missing_kind k e: the error `e`; only a `WrongLength` without a kind is changed, and gets
 -- the kind `k`
 abbrev pub with_missing_kind : ℕ → DecodeError → DecodeError
-with_missing_kind k (WrongLength None got need) = WrongLength (Some k) got need
+with_missing_kind k (errors.WrongLength None got need) = errors.WrongLength (Some k) got need
 with_missing_kind k other = other
 
 -- map_ok made answer: `Ok (made v)` if `answer` is `Ok v`; an error is unchanged

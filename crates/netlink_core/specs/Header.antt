@@ -1,13 +1,10 @@
 -- The header of a netlink message, and the first error of bytes that do not begin with a message.
 use Rattle.std.specs.Prelude.{◌≡◌, ℕ, ◌<◌, ◌≤◌, List, [], ◌∷◌, length, drop}
 use Rattle.byteorder.specs.Endian.{little_number}
-use Rattle.netlink_core.specs.Table.{Field, values_of, bytes_of}
+use Rattle.netlink_core.specs.Table.{Field, values_of, bytes_of, FitFields}
 use Rattle.netlink_core.specs.Rows.{Row, u16, u32, fields_of, numbers_of}
-use Rattle.netlink_core.specs.Table.{FitFields}
 use Rattle.netlink_core.specs.declared.error.DecodeError.{DecodeError}
-use Rattle.netlink_core.specs.declared.error.DecodeError.TheVariants.{EnvelopeCut}
-use Rattle.netlink_core.specs.declared.error.DecodeError.TheVariants.{EnvelopeLengthUnder16}
-use Rattle.netlink_core.specs.declared.error.DecodeError.TheVariants.{EnvelopeLengthPast}
+use Rattle.netlink_core.specs.declared.error.DecodeError.TheVariants as errors
 use Rattle.netlink_core.specs.declared.header.NetlinkHeader.{NetlinkHeader}
 
 -- `struct nlmsghdr` (linux/netlink.h), in the order of the rows: `nlmsg_len`, `nlmsg_type`,
@@ -49,9 +46,9 @@ message_type_in bytes = little_number 2 (drop 4 bytes)
 -- else `nlmsg_len` is above the number of bytes. In the errors, `word` is `nlmsg_len` and `got` is
 -- the number of bytes.
 abbrev pub IsMessageError : List ℕ → DecodeError → Type 0
-IsMessageError bytes (EnvelopeCut got) = (got ≡ length bytes) × (length bytes < 16)
-IsMessageError bytes (EnvelopeLengthUnder16 word) =
+IsMessageError bytes (errors.EnvelopeCut got) = (got ≡ length bytes) × (length bytes < 16)
+IsMessageError bytes (errors.EnvelopeLengthUnder16 word) =
     (word ≡ little_number 4 bytes) × (16 ≤ length bytes) × (word < 16)
-IsMessageError bytes (EnvelopeLengthPast word got) = (word ≡ little_number 4 bytes)
+IsMessageError bytes (errors.EnvelopeLengthPast word got) = (word ≡ little_number 4 bytes)
     × (got ≡ length bytes) × (16 ≤ length bytes) × (16 ≤ word) × (length bytes < word)
 IsMessageError bytes _ = ⊥

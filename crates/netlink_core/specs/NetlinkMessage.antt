@@ -1,15 +1,13 @@
 -- A netlink message: its header, and its payload by the header's type.
 use Rattle.std.specs.Prelude.{◌≡◌, ℕ, ℤ, ◌+◌, ◌-◌, ◌≤◌, ◌<◌, ◌⊎◌, List, [], ◌++◌, length, take}
-use Rattle.std.specs.Prelude.{drop, ⊤}
-use Rattle.std.specs.Prelude.{nat_lt, if◌then◌else◌, Option, None, Some}
+use Rattle.std.specs.Prelude.{drop, ⊤, nat_lt, if◌then◌else◌, Option, None, Some}
 use Rattle.std.specs.Int.{cast_signed, w32}
 use Rattle.byteorder.specs.Endian.{little_number}
 use Rattle.netlink_core.specs.declared.header.NetlinkHeader.{NetlinkHeader}
 use Rattle.netlink_core.specs.declared.message.NetlinkPayload.{NetlinkPayload}
 use Rattle.netlink_core.specs.declared.message.NetlinkPayload.TheVariants.{Done, Error, Noop}
 use Rattle.netlink_core.specs.declared.message.NetlinkPayload.TheVariants.{Overrun, InnerMessage}
-use Rattle.netlink_core.specs.declared.message.TheConstants.{NLMSG_NOOP, NLMSG_ERROR, NLMSG_DONE}
-use Rattle.netlink_core.specs.declared.message.TheConstants.{NLMSG_OVERRUN}
+use Rattle.netlink_core.specs.declared.message.TheConstants as constants
 use Rattle.netlink_core.specs.Table.{FitFields}
 use Rattle.netlink_core.specs.Header.{header_bytes, header_fields, header_values}
 use Rattle.netlink_core.specs.Header.{HasHeader, IsMessageError, message_type_in}
@@ -28,25 +26,25 @@ pub record NetlinkMessageModel (A : Type 0) : Type 0 where
 -- messages have 1 to 4. The kernel's header reserves the other types below NLMSG_MIN_TYPE (16) for
 -- control messages, and defines none of them: here they count as types of inner messages.
 abbrev pub IsInnerMessageType : ℕ → Type 0
-IsInnerMessageType t = (t ≡ 0) ⊎ (NLMSG_OVERRUN < t)
+IsInnerMessageType t = (t ≡ 0) ⊎ (constants.NLMSG_OVERRUN < t)
 
 -- ParsesAsPayload parses bytes t payload: the bytes parse as this payload under the message type
 -- `t`; `parses` says how inner messages parse. The raw bytes of NLMSG_ERROR, NLMSG_DONE and
 -- NLMSG_OVERRUN are all bytes. NLMSG_NOOP accepts any bytes, and drops them.
 abbrev pub ParsesAsPayload : {A : Type 0} → (List ℕ → ℕ → A → Type 0) → List ℕ → ℕ → Payload A
     → Type 0
-ParsesAsPayload parses bytes t Noop = t ≡ NLMSG_NOOP
-ParsesAsPayload parses bytes t (Error given) = (t ≡ NLMSG_ERROR) × (given ≡ bytes)
-ParsesAsPayload parses bytes t (Done given) = (t ≡ NLMSG_DONE) × (given ≡ bytes)
-ParsesAsPayload parses bytes t (Overrun given) = (t ≡ NLMSG_OVERRUN) × (given ≡ bytes)
+ParsesAsPayload parses bytes t Noop = t ≡ constants.NLMSG_NOOP
+ParsesAsPayload parses bytes t (Error given) = (t ≡ constants.NLMSG_ERROR) × (given ≡ bytes)
+ParsesAsPayload parses bytes t (Done given) = (t ≡ constants.NLMSG_DONE) × (given ≡ bytes)
+ParsesAsPayload parses bytes t (Overrun given) = (t ≡ constants.NLMSG_OVERRUN) × (given ≡ bytes)
 ParsesAsPayload parses bytes t (InnerMessage value) = IsInnerMessageType t × parses bytes t value
 
 -- AreEquivalentPayloads inner t b c: two payloads of the message type `t` are equivalent; `inner`
 -- says when inner messages are. Any two of NLMSG_NOOP are; of the other control messages (2 to 4),
 -- equal bytes; of the other types, equivalent inner messages.
 abbrev pub AreEquivalentPayloads : (ℕ → List ℕ → List ℕ → Type 0) → ℕ → List ℕ → List ℕ → Type 0
-AreEquivalentPayloads inner t b c = (t ≡ NLMSG_NOOP)
-    ⊎ (((NLMSG_NOOP < t) × (t ≤ NLMSG_OVERRUN) × (b ≡ c))
+AreEquivalentPayloads inner t b c = (t ≡ constants.NLMSG_NOOP)
+    ⊎ (((constants.NLMSG_NOOP < t) × (t ≤ constants.NLMSG_OVERRUN) × (b ≡ c))
     ⊎ (IsInnerMessageType t × inner t b c))
 
 -- ---- serializing
@@ -63,10 +61,10 @@ payload_bytes bytes (InnerMessage value) = bytes value
 -- payload_type type_of payload: the message type of a payload; `type_of` is that of an inner
 -- message
 abbrev pub payload_type : {A : Type 0} → (A → ℕ) → Payload A → ℕ
-payload_type type_of Noop = NLMSG_NOOP
-payload_type type_of (Error given) = NLMSG_ERROR
-payload_type type_of (Done given) = NLMSG_DONE
-payload_type type_of (Overrun given) = NLMSG_OVERRUN
+payload_type type_of Noop = constants.NLMSG_NOOP
+payload_type type_of (Error given) = constants.NLMSG_ERROR
+payload_type type_of (Done given) = constants.NLMSG_DONE
+payload_type type_of (Overrun given) = constants.NLMSG_OVERRUN
 payload_type type_of (InnerMessage value) = type_of value
 
 -- HoldsOfInnerMessage is payload: the predicate `is` holds of the inner message; it also counts as

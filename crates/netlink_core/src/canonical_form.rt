@@ -3,8 +3,7 @@
 ghost use Rattle.std.specs.Prelude.{◌≡◌, ◌≢◌, ◌↔◌, ℕ, List, IfOk, IfErr};
 ghost use Rattle.netlink_core.specs.Bytes.{IsBytes};
 ghost use Rattle.netlink_core.specs.Canonical.{HasCanonicalForm, CanonicalFormFails};
-ghost use Rattle.netlink_core.specs.declared.canonical_form.CanonError.TheVariants.{Memory};
-ghost use Rattle.netlink_core.specs.declared.canonical_form.CanonError.TheVariants.{Refused};
+ghost use Rattle.netlink_core.specs.declared.canonical_form.CanonError.TheVariants as canon_errors;
 ghost use Rattle.netlink_core.specs.declared.error.DecodeError.TheVariants as errors;
 
 use crate::{DecodeError, Wire};
@@ -23,8 +22,8 @@ pub enum CanonError {
 
 impl From<DecodeError> for CanonError {
     // A failed allocation has its own variant.
-    ghost from_gives = { λ error e. (error ≡ errors.Memory → e ≡ Memory)
-        × (error ≢ errors.Memory → e ≡ Refused error) };
+    ghost from_gives = { λ error e. (error ≡ errors.Memory → e ≡ canon_errors.Memory)
+        × (error ≢ errors.Memory → e ≡ canon_errors.Refused error) };
 
     fn from(error: DecodeError) -> CanonError {
         match error {
@@ -35,7 +34,7 @@ impl From<DecodeError> for CanonError {
 }
 
 impl From<AllocError> for CanonError {
-    ghost from_gives = { λ _ e. e ≡ Memory };
+    ghost from_gives = { λ _ e. e ≡ canon_errors.Memory };
 
     fn from(_e: AllocError) -> CanonError {
         CanonError::Memory

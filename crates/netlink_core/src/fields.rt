@@ -1,8 +1,7 @@
 //! Reads the fields of a record from its bytes.
 
 ghost use Rattle.std.specs.Prelude.{◌≡◌, ◌≤◌, ◌+◌, ◌*◌, ℕ, length};
-ghost use Rattle.netlink_core.specs.Table.{bytes_at, network, number, array, values_of};
-ghost use Rattle.netlink_core.specs.Table.{FitFields};
+ghost use Rattle.netlink_core.specs.Table.{bytes_at, network, number, array, values_of, FitFields};
 
 use byteorder::{BigEndian, ByteOrder, LittleEndian};
 

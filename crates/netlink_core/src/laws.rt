@@ -1,9 +1,8 @@
 //! Properties of attributes, records and messages. Proof only: the contracts state the properties.
 
-ghost use Rattle.std.specs.Prelude.{◌≡◌, ◌≢◌, ◌↔◌, ◌⊎◌, ◌%◌, ◌^◌, ◌<◌, ◌++◌, Contains};
-ghost use Rattle.std.specs.Prelude.{ℕ, List, [], ◌∷◌, length, map};
-ghost use Rattle.std.specs.Prelude.{Option, Some, None, Result, Ok, Err, IsTrue, IfOk, IsOk, true};
-ghost use Rattle.std.specs.Prelude.{false, vec_items};
+ghost use Rattle.std.specs.Prelude.{◌≡◌, ◌≢◌, ◌↔◌, ◌⊎◌, ◌%◌, ◌^◌, ◌<◌, ◌++◌, Contains, ℕ, List, []};
+ghost use Rattle.std.specs.Prelude.{◌∷◌, length, map, Option, Some, None, Result, Ok, Err, IsTrue};
+ghost use Rattle.std.specs.Prelude.{IfOk, IsOk, true, false, vec_items};
 ghost use Rattle.std.specs.Borrow.{Bor};
 ghost use Rattle.std.specs.Iterator.{Drains, YieldsThen};
 ghost use Rattle.std.specs.List.{AllByRecursion, flat_map};
@@ -16,8 +15,7 @@ ghost use Rattle.netlink_core.specs.Layout.{parse_record, IsContainedIn};
 ghost use Rattle.netlink_core.specs.Bytes.{IsBytes};
 ghost use Rattle.netlink_core.specs.Walk.{buffered_attribute, unread_bytes, YieldsAttribute};
 ghost use Rattle.netlink_core.specs.Datagram.{SplitsIntoMessages};
-ghost use Rattle.netlink_core.specs.DatagramWalk.{unread_messages, unread_datagram};
-ghost use Rattle.netlink_core.specs.DatagramWalk.{YieldsMessage};
+ghost use Rattle.netlink_core.specs.DatagramWalk.{unread_messages, unread_datagram, YieldsMessage};
 ghost use Rattle.netlink_core.specs.Items.{IsItemOf, AreItemsOf};
 ghost use Rattle.netlink_core.specs.NetlinkMessageModel.{netlink_message_model, payload_model};
 ghost use Rattle.netlink_core.specs.declared.attribute.NlaBuffer.{NlaBuffer};

@@ -1,7 +1,6 @@
 -- A complete iteration over the payloads of the messages of a datagram yields the items of the
 -- datagram.
-use Rattle.std.proofs.Common.{Result, ◌≡◌, inl, inr, List, [], ◌∷◌, refl}
-use Rattle.std.proofs.Common.{arith}
+use Rattle.std.proofs.Common.{Result, ◌≡◌, inl, inr, List, [], ◌∷◌, refl, arith}
 use Rattle.std.specs.Prelude.{map}
 use Rattle.std.specs.Iterator.{Drains}
 use Rattle.netlink_core.specs.declared.error.DecodeError.{DecodeError}
@@ -9,12 +8,11 @@ use Rattle.netlink_core.specs.Items.{IsItemOf, AreItemsOf}
 use Rattle.netlink_core.proofs.Datagrams.{shorter-rest}
 use Rattle.netlink_core.proofs.Items.{leading_item, no_items, error_is_only_item}
 use Rattle.netlink_packet_sock_diag.specs.declared.dump.views.DumpViews.{DumpViews}
-use Rattle.netlink_packet_sock_diag.specs.PayloadViewModel.{PayloadView}
+use Rattle.netlink_packet_sock_diag.specs.PayloadViewModel.{PayloadView, payload_view_model}
 use Rattle.netlink_core.specs.DatagramWalk.{unread_messages}
 use Rattle.netlink_packet_sock_diag.specs.DumpWalk.{YieldsPayloadView}
 use Rattle.netlink_packet_sock_diag.specs.Message.{message_codec}
 use Rattle.netlink_core.specs.Errors.{map_ok}
-use Rattle.netlink_packet_sock_diag.specs.PayloadViewModel.{payload_view_model}
 
 -- nothing is yielded if no bytes are left
 nothing_more : (walk : DumpViews) (given : List (Result PayloadView DecodeError))

@@ -1,6 +1,6 @@
 -- Reading the messages of a datagram one by one, up to the end of the dump.
-use Rattle.std.proofs.Common.{◌≡◌, ◌≢◌, ◌↔◌, ℕ, ◌⊎◌, List, [], ◌∷◌, ◌++◌, refl, ◌∙◌}
-use Rattle.std.proofs.Common.{append_assoc, arith, Bool, IsTrue}
+use Rattle.std.proofs.Common.{◌≡◌, ◌≢◌, ◌↔◌, ℕ, ◌⊎◌, List, [], ◌∷◌, ◌++◌, refl, ◌∙◌, append_assoc}
+use Rattle.std.proofs.Common.{arith, Bool, IsTrue}
 use Rattle.std.specs.Prelude.{Some, None, Ok, Err, IsBitSet}
 use Rattle.std.proofs.lemmas.List.{append-nil}
 use Rattle.netlink_core.specs.Bytes.{IsBytes}
@@ -11,12 +11,11 @@ use Rattle.netlink_core.specs.Header.{HasHeader, IsMessageError}
 use Rattle.netlink_core.specs.Datagram.{StartsWithMessage}
 use Rattle.netlink_core.specs.declared.message.NetlinkPayload.TheVariants.{InnerMessage}
 use Rattle.netlink_core.specs.Items.{Item, AreItemsOf}
-use Rattle.netlink_core.proofs.Datagrams.{no_error_at_message}
+use Rattle.netlink_core.proofs.Datagrams.{no_error_at_message, IsOfOwnLength}
 use Rattle.netlink_core.proofs.Headers.{one_header}
 use Rattle.netlink_core.proofs.Items.{items_by_messages, leading_item, rest_in_range}
 use Rattle.netlink_core.proofs.Items.{error_is_only_item}
 use Rattle.netlink_packet_sock_diag.specs.Dump.{dump_end_at, inner_message_list}
-use Rattle.netlink_core.proofs.Datagrams.{IsOfOwnLength}
 use Rattle.netlink_packet_sock_diag.specs.Feed.{InterruptsDump, ReadsDatagram, AllocationFailsAt}
 use Rattle.netlink_packet_sock_diag.specs.Feed.{dump_with}
 use Rattle.netlink_packet_sock_diag.proofs.DumpRows.{EndOrDecodeError, dump_is, first_or_later}

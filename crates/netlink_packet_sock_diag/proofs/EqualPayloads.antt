@@ -1,6 +1,5 @@
 -- `==` of payloads is true if and only if their models are equal.
-use Rattle.std.proofs.Common.{arith}
-use Rattle.std.proofs.Common.{◌≡◌, ◌↔◌, ℕ, List, IsTrue}
+use Rattle.std.proofs.Common.{arith, ◌≡◌, ◌↔◌, ℕ, List, IsTrue}
 use mir.Syntax.{given}
 use denote.RattleType.{RattleType}
 use Rattle.std.specs.declared.cmp.PartialEq.{Ghosts}

@@ -1,8 +1,7 @@
 -- When a message has no canonical form.
 use Rattle.std.proofs.Common.{◌≡◌, ℕ, List, Ok, inr}
 use Rattle.netlink_core.specs.declared.canonical_form.CanonError.{CanonError}
-use Rattle.netlink_core.specs.declared.canonical_form.CanonError.TheVariants.{Refused, Unwritable}
-use Rattle.netlink_core.specs.declared.canonical_form.CanonError.TheVariants.{Memory}
+use Rattle.netlink_core.specs.declared.canonical_form.CanonError.TheVariants as errors
 use Rattle.netlink_core.specs.Canonical.{CanonicalFails}
 use Rattle.netlink_packet_sock_diag.specs.Message.{codec_of_message_kind, message_of, message_codec}
 use Rattle.sock_diag_records.specs.ResponseKind.{MessageKind, response_kind}
@@ -14,7 +13,9 @@ pub kind_gives_up : (kind : MessageKind) (b : List ℕ) (t : ℕ) → response_k
     ((codec_of_message_kind kind).rejects b tt) (codec_of_message_kind kind).is_writable e
     → CanonicalFails (message_codec.parses b t)
     (message_codec.rejects b t) message_codec.is_writable e
-kind_gives_up kind b t found (Refused error) (refused, named) = (inr (kind, found, refused), named)
-kind_gives_up kind b t found Unwritable (v, parses, long) =
+kind_gives_up kind b t found (errors.Refused error) (refused, named) =
+    (inr (kind, found, refused), named)
+kind_gives_up kind b t found errors.Unwritable (v, parses, long) =
     (message_of kind v, (found, parses), long)
-kind_gives_up kind b t found Memory (v, parses, fits) = (message_of kind v, (found, parses), fits)
+kind_gives_up kind b t found errors.Memory (v, parses, fits) =
+    (message_of kind v, (found, parses), fits)

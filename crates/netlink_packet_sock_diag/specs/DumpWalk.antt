@@ -6,10 +6,9 @@ use Rattle.netlink_core.specs.DatagramWalk.{unread_messages}
 use Rattle.netlink_core.specs.Header.{IsMessageError}
 use Rattle.netlink_core.specs.Items.{IsItemOf}
 use Rattle.netlink_packet_sock_diag.specs.declared.dump.views.DumpViews.{DumpViews}
-use Rattle.netlink_packet_sock_diag.specs.PayloadViewModel.{PayloadView}
+use Rattle.netlink_packet_sock_diag.specs.PayloadViewModel.{PayloadView, payload_view_model}
 use Rattle.netlink_packet_sock_diag.specs.Message.{message_codec}
 use Rattle.netlink_core.specs.Errors.{map_ok}
-use Rattle.netlink_packet_sock_diag.specs.PayloadViewModel.{payload_view_model}
 
 -- the bytes that the iterator has not read yet
 abbrev pub unread_views : DumpViews → List ℕ

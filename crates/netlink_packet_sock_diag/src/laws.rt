@@ -6,8 +6,7 @@ ghost use Rattle.std.specs.Iterator.{Drains};
 ghost use Rattle.std.specs.List.{AllByRecursion, concat};
 ghost use Rattle.netlink_core.specs.Bytes.{IsBytes};
 ghost use Rattle.netlink_core.specs.declared.error.DecodeError.{DecodeError};
-ghost use Rattle.netlink_core.specs.declared.error.DecodeError.TheVariants.{Memory};
-ghost use Rattle.netlink_core.specs.declared.error.DecodeError.TheVariants.{UnknownMessageType};
+ghost use Rattle.netlink_core.specs.declared.error.DecodeError.TheVariants as errors;
 ghost use Rattle.netlink_core.specs.declared.header.NetlinkHeader.{NetlinkHeader};
 ghost use Rattle.netlink_core.specs.Header.{IsMessageError, header_fields, header_values};
 ghost use Rattle.netlink_core.specs.Table.{FitFields};
@@ -21,21 +20,27 @@ ghost use Rattle.netlink_core.specs.Errors.{map_ok};
 ghost use Rattle.netlink_core.specs.Items.{IsItemOf, AreItemsOf};
 ghost use Rattle.netlink_core.specs.NetlinkMessageModel.{netlink_message_model};
 ghost use Rattle.netlink_core.specs.Response.{ReplyValue, response_bytes, response_codec};
-ghost use Rattle.netlink_packet_sock_diag.specs.contracts.codec.SockDiagMessageEmitable.TheImpl.{ghosts as owned_messages};
-ghost use Rattle.netlink_packet_sock_diag.specs.contracts.codec.SockDiagViewEmitable.TheImpl.{ghosts as message_views};
-ghost use Rattle.netlink_packet_sock_diag.specs.contracts.codec.SockDiagDestroyHasCodec.TheImpl.{ghosts as destroys};
-ghost use Rattle.netlink_packet_sock_diag.specs.contracts.codec.SockDiagMessageHasCodec.TheImpl.{ghosts as messages};
+ghost use Rattle.netlink_packet_sock_diag.specs.contracts.codec.SockDiagMessageEmitable.TheImpl.{
+  ghosts as owned_messages,
+};
+ghost use Rattle.netlink_packet_sock_diag.specs.contracts.codec.SockDiagViewEmitable.TheImpl.{
+  ghosts as message_views,
+};
+ghost use Rattle.netlink_packet_sock_diag.specs.contracts.codec.SockDiagDestroyHasCodec.TheImpl.{
+  ghosts as destroys,
+};
+ghost use Rattle.netlink_packet_sock_diag.specs.contracts.codec.SockDiagMessageHasCodec.TheImpl.{
+  ghosts as messages,
+};
 ghost use Rattle.netlink_packet_sock_diag.specs.declared.message.SockDiagDestroy.{SockDiagDestroy};
 ghost use Rattle.netlink_packet_sock_diag.specs.Dump.{AreSplitsOfSameBytes, DumpOfDatagrams};
 ghost use Rattle.netlink_packet_sock_diag.specs.Dump.{DumpOfItems, DumpStatus, HaveSameItems};
 ghost use Rattle.netlink_packet_sock_diag.specs.Dump.{IsCompleteSplit};
-ghost use Rattle.netlink_packet_sock_diag.specs.Feed.{DumpProgress, FeedingAllLeadsTo};
-ghost use Rattle.netlink_packet_sock_diag.specs.Feed.{new_dump};
+ghost use Rattle.netlink_packet_sock_diag.specs.Feed.{DumpProgress, FeedingAllLeadsTo, new_dump};
 ghost use Rattle.netlink_packet_sock_diag.specs.declared.dump.DumpState.TheVariants.{Reading};
 ghost use Rattle.netlink_packet_sock_diag.specs.declared.dump.views.DumpViews.{DumpViews};
-ghost use Rattle.netlink_packet_sock_diag.specs.PayloadViewModel.{PayloadView};
+ghost use Rattle.netlink_packet_sock_diag.specs.PayloadViewModel.{PayloadView, payload_view_model};
 ghost use Rattle.netlink_packet_sock_diag.specs.DumpWalk.{YieldsPayloadView, unread_views};
-ghost use Rattle.netlink_packet_sock_diag.specs.PayloadViewModel.{payload_view_model};
 ghost use Rattle.sock_diag_replies.specs.UnixResponseSpec.{unix_response_spec};
 ghost use Rattle.sock_diag_replies.specs.InetResponseSpec.{inet_response_spec};
 ghost use Rattle.sock_diag_replies.specs.ViewModel.{view_model};
@@ -130,7 +135,7 @@ pub fn finalized_destroy_is_rejected()
               (record { header = h; payload = InnerMessage m });
           payload = InnerMessage m;
         })) tt
-        (UnknownMessageType (destroys.serialized_type m)) }
+        (errors.UnknownMessageType (destroys.serialized_type m)) }
 {}
 
 /// The parser of requests to close sockets rejects what `serialize` writes for a
@@ -152,7 +157,7 @@ pub fn finalized_destroy_value_is_rejected()
           header = finalized_header message_codec.serialized destroys.serialized_type
               (netlink_message_model destroys.model message);
         })) ++ rest) tt
-        (UnknownMessageType (destroys.serialized_type (destroys.model destroy))) }
+        (errors.UnknownMessageType (destroys.serialized_type (destroys.model destroy))) }
 {}
 
 /// Each input has one netlink message of sock_diag(7) at its start, or one decode error. It does
@@ -172,7 +177,8 @@ pub fn one_message_or_error()
     ensures error_is_unique { (b : List ℕ) (e f : DecodeError)
         → netlink_message_codec.rejects b tt e
         → netlink_message_codec.rejects b tt f → e ≡ f }
-    ensures error_is_not_memory { (b : List ℕ) → netlink_message_codec.rejects b tt Memory → ⊥ }
+    ensures error_is_not_memory { (b : List ℕ) → netlink_message_codec.rejects b tt errors.Memory →
+        ⊥ }
 {
     laws::one_message_or_error::<SockDiagMessage>();
 }

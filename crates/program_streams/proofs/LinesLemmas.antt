@@ -1,8 +1,7 @@
 -- How a text splits at a byte, and into lines as it grows.
-use Rattle.std.proofs.Common.{◌≡◌, ◌<◌, ◌≤◌, ◌+◌, ℕ, false, List, [], ◌∷◌, ◌++◌}
-use Rattle.std.proofs.Common.{length, take, drop, None, Some, inl, inr, refl, sym}
-use Rattle.std.proofs.Common.{◌∙◌, append_assoc, take-append-drop, take_all, le_refl, add-one}
-use Rattle.std.proofs.Common.{arith}
+use Rattle.std.proofs.Common.{◌≡◌, ◌<◌, ◌≤◌, ◌+◌, ℕ, false, List, [], ◌∷◌, ◌++◌, length, take, drop}
+use Rattle.std.proofs.Common.{None, Some, inl, inr, refl, sym, ◌∙◌, append_assoc, take-append-drop}
+use Rattle.std.proofs.Common.{take_all, le_refl, add-one, arith}
 use Rattle.std.specs.List.{All, slice_split}
 use Rattle.std.proofs.lemmas.Bool.{cases_Bool, eq-eqb, eqb-true, false_from_ne_true}
 use Rattle.std.proofs.lemmas.List.{get_or-take, get_or_default, length-take, same_from_push}

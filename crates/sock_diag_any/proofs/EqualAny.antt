@@ -5,10 +5,18 @@ use Rattle.netlink_packet_sock_diag.specs.laws.EqualMessage.{view_equal}
 use Rattle.netlink_packet_sock_diag.specs.Message.{Message}
 use Rattle.sock_diag_replies.specs.laws.EqualResponse.{response_test_decides}
 use Rattle.sock_diag_replies.specs.ViewModel.{view_model}
-use Rattle.sock_diag_families.specs.contracts.netlink.response.NetlinkResponseHeaderExact.TheImpl.Laws.{exact-law as exact_netlink}
-use Rattle.sock_diag_families.specs.contracts.packet.response.PacketResponseHeaderExact.TheImpl.Laws.{exact-law as exact_packet}
-use Rattle.sock_diag_families.specs.contracts.vsock.response.VsockResponseHeaderExact.TheImpl.Laws.{exact-law as exact_vsock}
-use Rattle.sock_diag_families.specs.contracts.xdp.response.XdpResponseHeaderExact.TheImpl.Laws.{exact-law as exact_xdp}
+use Rattle.sock_diag_families.specs.contracts.netlink.response.NetlinkResponseHeaderExact.TheImpl.Laws.{
+  exact-law as exact_netlink,
+}
+use Rattle.sock_diag_families.specs.contracts.packet.response.PacketResponseHeaderExact.TheImpl.Laws.{
+  exact-law as exact_packet,
+}
+use Rattle.sock_diag_families.specs.contracts.vsock.response.VsockResponseHeaderExact.TheImpl.Laws.{
+  exact-law as exact_vsock,
+}
+use Rattle.sock_diag_families.specs.contracts.xdp.response.XdpResponseHeaderExact.TheImpl.Laws.{
+  exact-law as exact_xdp,
+}
 use Rattle.sock_diag_any.specs.AnyMessage.{AnyMessage, ExtensionFamily, extension_codec_of}
 use Rattle.sock_diag_any.specs.AnyMessage.{any_view_model, of_port, of_family, netlink, packet}
 use Rattle.sock_diag_any.specs.AnyMessage.{vsock, xdp}

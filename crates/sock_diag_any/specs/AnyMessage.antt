@@ -10,8 +10,7 @@ use Rattle.netlink_packet_sock_diag.specs.MessageViewModel.{message_view_model}
 use Rattle.sock_diag_families.specs.NetlinkResponseHeader.{netlink_header}
 use Rattle.sock_diag_families.specs.PacketResponseHeader.{packet_header}
 use Rattle.sock_diag_families.specs.VsockResponseHeader.{vsock_header}
-use Rattle.sock_diag_records.specs.declared.constants.TheConstants.{AF_NETLINK, AF_PACKET}
-use Rattle.sock_diag_records.specs.declared.constants.TheConstants.{SOCK_DIAG_BY_FAMILY}
+use Rattle.sock_diag_records.specs.declared.constants.TheConstants as c
 use Rattle.sock_diag_families.specs.declared.vsock.TheConstants.{AF_VSOCK}
 use Rattle.sock_diag_families.specs.declared.xdp.TheConstants.{AF_XDP}
 use Rattle.sock_diag_any.specs.RawReply.{raw_reply_spec}
@@ -36,9 +35,9 @@ extension_codec_of xdp = response_codec (raw_reply_spec xdp_header)
 -- the family. In all other cases it is `None`, and the port parses the bytes.
 abbrev pub extension_family_of : List ℕ → ℕ → Option ExtensionFamily
 extension_family_of b t =
-    if nat_lt (length b) 2 || not (t == SOCK_DIAG_BY_FAMILY) then None
-    else if slice_index b 0 == AF_NETLINK then Some netlink
-    else if slice_index b 0 == AF_PACKET then Some packet
+    if nat_lt (length b) 2 || not (t == c.SOCK_DIAG_BY_FAMILY) then None
+    else if slice_index b 0 == c.AF_NETLINK then Some netlink
+    else if slice_index b 0 == c.AF_PACKET then Some packet
     else if slice_index b 0 == AF_VSOCK then Some vsock
     else if slice_index b 0 == AF_XDP then Some xdp
     else None

@@ -4,8 +4,7 @@ ghost use Rattle.std.specs.Prelude.{[], refl};
 ghost use Rattle.netlink_core.proofs.LayoutLaws.{parsed_by_fields};
 ghost use Rattle.netlink_core.specs.Codec.{KeepsCodecLaws};
 ghost use Rattle.netlink_core.specs.Response.{response_codec};
-ghost use Rattle.sock_diag_replies.specs.laws.EqualResponse.{response_test};
-ghost use Rattle.sock_diag_replies.specs.laws.EqualResponse.{response_test_decides};
+ghost use Rattle.sock_diag_replies.specs.laws.EqualResponse.{response_test, response_test_decides};
 ghost use Rattle.sock_diag_any.specs.RawReply.{raw_reply_spec};
 
 use attribute_lists::{check_nlas, check_nlas_len, emit_views, views_len};

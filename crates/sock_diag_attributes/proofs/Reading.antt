@@ -1,7 +1,6 @@
 -- An attribute of any family: when a parser of an owned value returns `Memory`, and when an
 -- attribute has no canonical form.
-use Rattle.std.proofs.Common.{arith, inr}
-use Rattle.std.proofs.Common.{◌≡◌, ◌≢◌, List, ℕ, Result, Ok, Err, IsOk, IfErr, IsErrAnd}
+use Rattle.std.proofs.Common.{arith, inr, ◌≡◌, ◌≢◌, List, ℕ, Result, Ok, Err, IsOk, IfErr, IsErrAnd}
 use Rattle.std.proofs.lemmas.Result.{err_from_is_err_and}
 use Rattle.netlink_core.specs.declared.error.DecodeError.{DecodeError}
 use Rattle.netlink_core.specs.declared.error.DecodeError.TheVariants.{Memory}

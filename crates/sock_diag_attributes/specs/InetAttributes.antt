@@ -11,15 +11,7 @@ use Rattle.sock_diag_values.specs.MemInfo.{mem_info}
 use Rattle.sock_diag_values.specs.TcpInfo.{tcp_info}
 use Rattle.sock_diag_attributes.specs.Text.{text_value}
 use Rattle.sock_diag_attributes.specs.Flag.{flag_value}
-use Rattle.sock_diag_records.specs.declared.constants.TheConstants.{INET_DIAG_MEMINFO}
-use Rattle.sock_diag_records.specs.declared.constants.TheConstants.{INET_DIAG_INFO, INET_DIAG_CONG}
-use Rattle.sock_diag_records.specs.declared.constants.TheConstants.{INET_DIAG_TOS, INET_DIAG_TCLASS}
-use Rattle.sock_diag_records.specs.declared.constants.TheConstants.{INET_DIAG_SKMEMINFO}
-use Rattle.sock_diag_records.specs.declared.constants.TheConstants.{INET_DIAG_SHUTDOWN}
-use Rattle.sock_diag_records.specs.declared.constants.TheConstants.{INET_DIAG_PROTOCOL}
-use Rattle.sock_diag_records.specs.declared.constants.TheConstants.{INET_DIAG_SKV6ONLY}
-use Rattle.sock_diag_records.specs.declared.constants.TheConstants.{INET_DIAG_MARK}
-use Rattle.sock_diag_records.specs.declared.constants.TheConstants.{INET_DIAG_CLASS_ID}
+use Rattle.sock_diag_records.specs.declared.constants.TheConstants as c
 
 -- Types 1 (`struct inet_diag_meminfo`), 2 (`struct tcp_info`), 4 (the name of the congestion
 -- control algorithm), 5 (type of service), 6 (traffic class), 7 (`u32` values, indexed by
@@ -30,14 +22,14 @@ use Rattle.sock_diag_records.specs.declared.constants.TheConstants.{INET_DIAG_CL
 -- value of an `allocating_attribute_spec` needs memory, the value of any other type does not.
 abbrev pub inet_attribute_set : AttributeSet
 inet_attribute_set =
-    attribute_spec INET_DIAG_MEMINFO (value_codec legacy_mem_info) ∷
-    attribute_spec INET_DIAG_INFO (value_codec tcp_info) ∷
-    allocating_attribute_spec INET_DIAG_CONG text_value ∷
-    number_attribute_spec INET_DIAG_TOS 1 ∷
-    number_attribute_spec INET_DIAG_TCLASS 1 ∷
-    attribute_spec INET_DIAG_SKMEMINFO (value_codec mem_info) ∷
-    number_attribute_spec INET_DIAG_SHUTDOWN 1 ∷
-    number_attribute_spec INET_DIAG_PROTOCOL 1 ∷
-    attribute_spec INET_DIAG_SKV6ONLY (flag_value INET_DIAG_SKV6ONLY) ∷
-    number_attribute_spec INET_DIAG_MARK 4 ∷
-    number_attribute_spec INET_DIAG_CLASS_ID 4 ∷ []
+    attribute_spec c.INET_DIAG_MEMINFO (value_codec legacy_mem_info) ∷
+    attribute_spec c.INET_DIAG_INFO (value_codec tcp_info) ∷
+    allocating_attribute_spec c.INET_DIAG_CONG text_value ∷
+    number_attribute_spec c.INET_DIAG_TOS 1 ∷
+    number_attribute_spec c.INET_DIAG_TCLASS 1 ∷
+    attribute_spec c.INET_DIAG_SKMEMINFO (value_codec mem_info) ∷
+    number_attribute_spec c.INET_DIAG_SHUTDOWN 1 ∷
+    number_attribute_spec c.INET_DIAG_PROTOCOL 1 ∷
+    attribute_spec c.INET_DIAG_SKV6ONLY (flag_value c.INET_DIAG_SKV6ONLY) ∷
+    number_attribute_spec c.INET_DIAG_MARK 4 ∷
+    number_attribute_spec c.INET_DIAG_CLASS_ID 4 ∷ []

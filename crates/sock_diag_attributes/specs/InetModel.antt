@@ -12,17 +12,7 @@ use Rattle.netlink_core.specs.Walk.{buffered_attribute}
 use Rattle.sock_diag_attributes.specs.declared.inet.nlas.InetNla.{InetNla}
 use Rattle.sock_diag_attributes.specs.declared.inet.nlas.InetNla.TheVariants as nla
 use Rattle.sock_diag_attributes.specs.InetAttributes.{inet_attribute_set}
-use Rattle.sock_diag_records.specs.declared.constants.TheConstants.{INET_DIAG_MEMINFO}
-use Rattle.sock_diag_records.specs.declared.constants.TheConstants.{INET_DIAG_INFO}
-use Rattle.sock_diag_records.specs.declared.constants.TheConstants.{INET_DIAG_CONG}
-use Rattle.sock_diag_records.specs.declared.constants.TheConstants.{INET_DIAG_TOS}
-use Rattle.sock_diag_records.specs.declared.constants.TheConstants.{INET_DIAG_TCLASS}
-use Rattle.sock_diag_records.specs.declared.constants.TheConstants.{INET_DIAG_SKMEMINFO}
-use Rattle.sock_diag_records.specs.declared.constants.TheConstants.{INET_DIAG_SHUTDOWN}
-use Rattle.sock_diag_records.specs.declared.constants.TheConstants.{INET_DIAG_PROTOCOL}
-use Rattle.sock_diag_records.specs.declared.constants.TheConstants.{INET_DIAG_SKV6ONLY}
-use Rattle.sock_diag_records.specs.declared.constants.TheConstants.{INET_DIAG_MARK}
-use Rattle.sock_diag_records.specs.declared.constants.TheConstants.{INET_DIAG_CLASS_ID}
+use Rattle.sock_diag_records.specs.declared.constants.TheConstants as c
 
 -- Owned and borrowed attributes differ in the types of texts and of raw attributes. `text` and
 -- `other` return the bytes of a text, and the type field and value of a raw attribute.
@@ -31,17 +21,17 @@ module _ {T O : Type 0} (text : T → List ℕ) (other : O → Attribute) where
   -- of this kind in the set. No type in the set has the number 0xffff, so that `Other` is a raw
   -- attribute.
   abbrev pub inet_nla_value : InetNla T O → AttributeValue inet_attribute_set
-  inet_nla_value (nla.LegacyMemInfo m) = value_as_decoded inet_attribute_set INET_DIAG_MEMINFO m
-  inet_nla_value (nla.TcpInfo t) = value_as_decoded inet_attribute_set INET_DIAG_INFO t
-  inet_nla_value (nla.Congestion t) = value_as_decoded inet_attribute_set INET_DIAG_CONG (text t)
-  inet_nla_value (nla.Tos n) = value_as_decoded inet_attribute_set INET_DIAG_TOS n
-  inet_nla_value (nla.Tc n) = value_as_decoded inet_attribute_set INET_DIAG_TCLASS n
-  inet_nla_value (nla.MemInfo m) = value_as_decoded inet_attribute_set INET_DIAG_SKMEMINFO m
-  inet_nla_value (nla.Shutdown n) = value_as_decoded inet_attribute_set INET_DIAG_SHUTDOWN n
-  inet_nla_value (nla.Protocol n) = value_as_decoded inet_attribute_set INET_DIAG_PROTOCOL n
-  inet_nla_value (nla.SkV6Only flag) = value_as_decoded inet_attribute_set INET_DIAG_SKV6ONLY flag
-  inet_nla_value (nla.Mark n) = value_as_decoded inet_attribute_set INET_DIAG_MARK n
-  inet_nla_value (nla.ClassId n) = value_as_decoded inet_attribute_set INET_DIAG_CLASS_ID n
+  inet_nla_value (nla.LegacyMemInfo m) = value_as_decoded inet_attribute_set c.INET_DIAG_MEMINFO m
+  inet_nla_value (nla.TcpInfo t) = value_as_decoded inet_attribute_set c.INET_DIAG_INFO t
+  inet_nla_value (nla.Congestion t) = value_as_decoded inet_attribute_set c.INET_DIAG_CONG (text t)
+  inet_nla_value (nla.Tos n) = value_as_decoded inet_attribute_set c.INET_DIAG_TOS n
+  inet_nla_value (nla.Tc n) = value_as_decoded inet_attribute_set c.INET_DIAG_TCLASS n
+  inet_nla_value (nla.MemInfo m) = value_as_decoded inet_attribute_set c.INET_DIAG_SKMEMINFO m
+  inet_nla_value (nla.Shutdown n) = value_as_decoded inet_attribute_set c.INET_DIAG_SHUTDOWN n
+  inet_nla_value (nla.Protocol n) = value_as_decoded inet_attribute_set c.INET_DIAG_PROTOCOL n
+  inet_nla_value (nla.SkV6Only flag) = value_as_decoded inet_attribute_set c.INET_DIAG_SKV6ONLY flag
+  inet_nla_value (nla.Mark n) = value_as_decoded inet_attribute_set c.INET_DIAG_MARK n
+  inet_nla_value (nla.ClassId n) = value_as_decoded inet_attribute_set c.INET_DIAG_CLASS_ID n
   inet_nla_value (nla.Other a) = value_as_decoded inet_attribute_set 0xffff (other a)
 
 -- The variant of a decoded value. The values of the types are nested in the order of the set:

@@ -7,8 +7,7 @@ use Rattle.netlink_core.specs.Codec.{Codec, as_codec}
 use Rattle.netlink_core.specs.ValueCodec.{ValueCodec}
 use Rattle.netlink_core.specs.AttributeSpecs.{whole_value_codec}
 use Rattle.netlink_core.specs.declared.error.DecodeError.{DecodeError}
-use Rattle.netlink_core.specs.declared.error.DecodeError.TheVariants.{NameEmpty, NameInnerZero}
-use Rattle.netlink_core.specs.declared.error.DecodeError.TheVariants.{NameWithoutEnd}
+use Rattle.netlink_core.specs.declared.error.DecodeError.TheVariants as errors
 use Rattle.sock_diag_attributes.specs.declared.unix.name.SocketName.{SocketName}
 use Rattle.sock_diag_attributes.specs.declared.unix.name.SocketName.TheVariants.{Pathname, Abstract}
 
@@ -29,11 +28,11 @@ IsNormalName (Abstract address) = ⊤
 -- `i` is the index of the first zero byte, or the length if there is none. A missing zero byte and
 -- an earlier one are errors. The path `/a` is the bytes 2f 61 00; the abstract name `a` is 00 61.
 abbrev pub read_name : List ℕ → Result (SocketName (List ℕ)) DecodeError
-read_name [] = Err NameEmpty
+read_name [] = Err errors.NameEmpty
 read_name (zero ∷ address) = Ok (Abstract address)
 read_name bytes = let i = position_or_len (λ byte. byte == 0) bytes in
     if i + 1 == length bytes then Ok (Pathname (take i bytes))
-    else Err (if i == length bytes then NameWithoutEnd else NameInnerZero i)
+    else Err (if i == length bytes then errors.NameWithoutEnd else errors.NameInnerZero i)
 
 -- a name as the value of an attribute: how it is parsed and serialized, when it is in range (if it
 -- serializes to bytes), and its normal form; only equal values are equivalent

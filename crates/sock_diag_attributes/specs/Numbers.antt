@@ -8,8 +8,7 @@ use Rattle.netlink_core.specs.AttributeSpecs.{whole_value_codec}
 use Rattle.std.specs.Prelude.{⊤, ◌<◌, ◌^◌, ℕ, ◌%◌, ◌==◌, if◌then◌else◌, List, [], ◌∷◌, ◌++◌, length}
 use Rattle.std.specs.Prelude.{drop, flat_map, Some, Ok, Err}
 use Rattle.byteorder.specs.Endian.{little_number, little_bytes}
-use Rattle.netlink_core.specs.declared.error.DecodeError.TheVariants.{WrongLength}
-use Rattle.netlink_core.specs.declared.error.DecodeError.TheVariants.{NotMultipleOfFour}
+use Rattle.netlink_core.specs.declared.error.DecodeError.TheVariants as errors
 
 -- the consecutive little-endian numbers of four bytes each in the bytes; up to three bytes at the
 -- end that are not a complete number are left out
@@ -24,7 +23,8 @@ numbers_in bytes = []
 abbrev pub number_pair_value : ℕ → ValueCodec (Unit {0})
 number_pair_value k = whole_value_codec {A = ℕ × ℕ}
     (λ b. if length b == 8 then Ok (little_number 4 b, little_number 4 (drop 4 b))
-    else Err (WrongLength (Some k) (length b) 8)) (λ ns. little_bytes 4 ns.0 ++ little_bytes 4 ns.1)
+    else Err (errors.WrongLength (Some k) (length b) 8)) (λ ns. little_bytes 4 ns.0 ++ little_bytes
+    4 ns.1)
     (λ ns. (ns.0 < 2 ^ 32) × (ns.1 < 2 ^ 32)) (λ ns. ⊤)
 
 -- Any count of little-endian numbers of four bytes each, as the value of an attribute. A length
@@ -32,5 +32,6 @@ number_pair_value k = whole_value_codec {A = ℕ × ℕ}
 -- normal form.
 abbrev pub numbers_value : ValueCodec (Unit {0})
 numbers_value = whole_value_codec
-    (λ b. if length b % 4 == 0 then Ok (numbers_in b) else Err (NotMultipleOfFour (length b)))
+    (λ b. if length b % 4 == 0 then Ok (numbers_in b) else Err
+    (errors.NotMultipleOfFour (length b)))
     (flat_map (little_bytes 4)) (AllByRecursion (λ n. n < 2 ^ 32)) (λ ns. ⊤)

@@ -10,11 +10,7 @@ use Rattle.sock_diag_values.specs.Vfs.{vfs}
 use Rattle.sock_diag_values.specs.UnixMemInfo.{unix_mem_info}
 use Rattle.sock_diag_attributes.specs.Name.{name_value}
 use Rattle.sock_diag_attributes.specs.Numbers.{number_pair_value, numbers_value}
-use Rattle.sock_diag_records.specs.declared.constants.TheConstants.{UNIX_DIAG_NAME, UNIX_DIAG_VFS}
-use Rattle.sock_diag_records.specs.declared.constants.TheConstants.{UNIX_DIAG_PEER, UNIX_DIAG_ICONS}
-use Rattle.sock_diag_records.specs.declared.constants.TheConstants.{UNIX_DIAG_RQLEN}
-use Rattle.sock_diag_records.specs.declared.constants.TheConstants.{UNIX_DIAG_MEMINFO}
-use Rattle.sock_diag_records.specs.declared.constants.TheConstants.{UNIX_DIAG_SHUTDOWN}
+use Rattle.sock_diag_records.specs.declared.constants.TheConstants as c
 
 -- Types 0 (the name), 1 (`struct unix_diag_vfs`), 2 (the inode of the peer), 3 (the inodes of the
 -- connections that wait to be accepted), 4 (`struct unix_diag_rqlen`), 5 (`u32` values, indexed by
@@ -24,10 +20,10 @@ use Rattle.sock_diag_records.specs.declared.constants.TheConstants.{UNIX_DIAG_SH
 -- `allocating_attribute_spec` needs memory, the value of any other type does not.
 abbrev pub unix_attribute_set : AttributeSet
 unix_attribute_set =
-    allocating_attribute_spec UNIX_DIAG_NAME name_value ∷
-    attribute_spec UNIX_DIAG_VFS (value_codec vfs) ∷
-    number_attribute_spec UNIX_DIAG_PEER 4 ∷
-    allocating_attribute_spec UNIX_DIAG_ICONS numbers_value ∷
-    attribute_spec UNIX_DIAG_RQLEN (number_pair_value UNIX_DIAG_RQLEN) ∷
-    attribute_spec UNIX_DIAG_MEMINFO (value_codec unix_mem_info) ∷
-    number_attribute_spec UNIX_DIAG_SHUTDOWN 1 ∷ []
+    allocating_attribute_spec c.UNIX_DIAG_NAME name_value ∷
+    attribute_spec c.UNIX_DIAG_VFS (value_codec vfs) ∷
+    number_attribute_spec c.UNIX_DIAG_PEER 4 ∷
+    allocating_attribute_spec c.UNIX_DIAG_ICONS numbers_value ∷
+    attribute_spec c.UNIX_DIAG_RQLEN (number_pair_value c.UNIX_DIAG_RQLEN) ∷
+    attribute_spec c.UNIX_DIAG_MEMINFO (value_codec unix_mem_info) ∷
+    number_attribute_spec c.UNIX_DIAG_SHUTDOWN 1 ∷ []

@@ -16,13 +16,7 @@ use Rattle.sock_diag_attributes.specs.declared.unix.nlas.UnixNla.TheVariants as 
 use Rattle.sock_diag_attributes.specs.NameModel.{socket_name_model}
 use Rattle.sock_diag_attributes.specs.NumbersModel.{numbers_view_model}
 use Rattle.sock_diag_attributes.specs.UnixAttributes.{unix_attribute_set}
-use Rattle.sock_diag_records.specs.declared.constants.TheConstants.{UNIX_DIAG_NAME}
-use Rattle.sock_diag_records.specs.declared.constants.TheConstants.{UNIX_DIAG_VFS}
-use Rattle.sock_diag_records.specs.declared.constants.TheConstants.{UNIX_DIAG_PEER}
-use Rattle.sock_diag_records.specs.declared.constants.TheConstants.{UNIX_DIAG_ICONS}
-use Rattle.sock_diag_records.specs.declared.constants.TheConstants.{UNIX_DIAG_RQLEN}
-use Rattle.sock_diag_records.specs.declared.constants.TheConstants.{UNIX_DIAG_MEMINFO}
-use Rattle.sock_diag_records.specs.declared.constants.TheConstants.{UNIX_DIAG_SHUTDOWN}
+use Rattle.sock_diag_records.specs.declared.constants.TheConstants as c
 
 -- Owned and borrowed attributes differ in the types of names, lists and raw attributes. `name`,
 -- `list` and `other` return the name with its bytes, the numbers of a list, and the type field and
@@ -33,15 +27,15 @@ module _ {N L O : Type 0} (name : N → SocketName (List ℕ)) (list : L → Lis
   -- of this kind in the set. No type in the set has the number 0xffff, so that `Other` is a raw
   -- attribute.
   abbrev pub unix_nla_value : UnixNla N L O → AttributeValue unix_attribute_set
-  unix_nla_value (nla.Name n) = value_as_decoded unix_attribute_set UNIX_DIAG_NAME (name n)
-  unix_nla_value (nla.Vfs v) = value_as_decoded unix_attribute_set UNIX_DIAG_VFS v
-  unix_nla_value (nla.Peer n) = value_as_decoded unix_attribute_set UNIX_DIAG_PEER n
+  unix_nla_value (nla.Name n) = value_as_decoded unix_attribute_set c.UNIX_DIAG_NAME (name n)
+  unix_nla_value (nla.Vfs v) = value_as_decoded unix_attribute_set c.UNIX_DIAG_VFS v
+  unix_nla_value (nla.Peer n) = value_as_decoded unix_attribute_set c.UNIX_DIAG_PEER n
   unix_nla_value (nla.PendingConnections ns) =
-      value_as_decoded unix_attribute_set UNIX_DIAG_ICONS (list ns)
+      value_as_decoded unix_attribute_set c.UNIX_DIAG_ICONS (list ns)
   unix_nla_value (nla.ReceiveQueueLength first second) =
-      value_as_decoded unix_attribute_set UNIX_DIAG_RQLEN (first, second)
-  unix_nla_value (nla.MemInfo m) = value_as_decoded unix_attribute_set UNIX_DIAG_MEMINFO m
-  unix_nla_value (nla.Shutdown n) = value_as_decoded unix_attribute_set UNIX_DIAG_SHUTDOWN n
+      value_as_decoded unix_attribute_set c.UNIX_DIAG_RQLEN (first, second)
+  unix_nla_value (nla.MemInfo m) = value_as_decoded unix_attribute_set c.UNIX_DIAG_MEMINFO m
+  unix_nla_value (nla.Shutdown n) = value_as_decoded unix_attribute_set c.UNIX_DIAG_SHUTDOWN n
   unix_nla_value (nla.Other a) = value_as_decoded unix_attribute_set 0xffff (other a)
 
 -- The variant of a decoded value. The values of the types are nested in the order of the set:

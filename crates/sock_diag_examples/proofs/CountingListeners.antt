@@ -1,6 +1,6 @@
 -- The listening sockets before the first end of a dump in a datagram.
-use Rattle.std.proofs.Common.{◌≡◌, ◌≢◌, ℕ, ◌+◌, ◌*◌, ◌≤◌, inl, inr, List, [], ◌∷◌, ◌++◌}
-use Rattle.std.proofs.Common.{length, refl, sym, ap, subst, ◌∙◌, arith, add-zero, length-append}
+use Rattle.std.proofs.Common.{◌≡◌, ◌≢◌, ℕ, ◌+◌, ◌*◌, ◌≤◌, inl, inr, List, [], ◌∷◌, ◌++◌, length}
+use Rattle.std.proofs.Common.{refl, sym, ap, subst, ◌∙◌, arith, add-zero, length-append}
 use Rattle.std.specs.Prelude.{Bool, true, false, count_by, cond, Option, Some, None, Result, Ok}
 use Rattle.std.specs.Prelude.{Err}
 use Rattle.std.specs.List.{AllByRecursion}
@@ -14,13 +14,12 @@ use Rattle.netlink_core.proofs.Items.{FoundItemsSoFar, error_is_only_item, no_it
 use Rattle.netlink_core.proofs.Items.{next_item_found, items_with_next, no_items}
 use Rattle.netlink_core.specs.DatagramWalk.{unread_messages}
 use Rattle.netlink_packet_sock_diag.specs.declared.dump.views.DumpViews.{DumpViews}
-use Rattle.netlink_packet_sock_diag.specs.PayloadViewModel.{PayloadView}
+use Rattle.netlink_packet_sock_diag.specs.PayloadViewModel.{PayloadView, payload_view_model}
 use Rattle.netlink_packet_sock_diag.specs.Dump.{dump_end_at}
 use Rattle.netlink_packet_sock_diag.specs.DumpWalk.{YieldsPayloadView}
 use Rattle.netlink_packet_sock_diag.specs.Message.{Message, message_codec}
 use Rattle.netlink_packet_sock_diag.specs.laws.Message.{message_laws}
 use Rattle.netlink_core.specs.Errors.{map_ok}
-use Rattle.netlink_packet_sock_diag.specs.PayloadViewModel.{payload_view_model}
 use Rattle.sock_diag_examples.specs.Readme.{IsCountAtEnd, IsCounted, is_listening_reply}
 
 -- `count` listening sockets are before the bytes that are left

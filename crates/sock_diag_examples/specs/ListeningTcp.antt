@@ -6,15 +6,14 @@ use Rattle.std.specs.declared.net.ip_addr.IpAddr.{IpAddr}
 use Rattle.std.specs.declared.net.ip_addr.IpAddr.TheVariants.{V4, V6}
 use Rattle.netlink_packet_sock_diag.specs.Message.{Message, message_of}
 use Rattle.sock_diag_records.specs.ResponseKind.{inet_request}
-use Rattle.sock_diag_records.specs.declared.constants.TheConstants.{AF_INET, AF_INET6}
-use Rattle.sock_diag_records.specs.declared.constants.TheConstants.{SOCK_DIAG_BY_FAMILY}
+use Rattle.sock_diag_records.specs.declared.constants.TheConstants as c
 use Rattle.sock_diag_examples.specs.declared.listening_tcp.Family.{Family}
 use Rattle.sock_diag_examples.specs.declared.listening_tcp.Family.TheVariants.{Inet, Inet6}
 
 -- `family_number family`: AF_INET or AF_INET6
 abbrev pub family_number : Family → ℕ
-family_number Inet = AF_INET
-family_number Inet6 = AF_INET6
+family_number Inet = c.AF_INET
+family_number Inet6 = c.AF_INET6
 
 -- `zero_address family`: the address of all zeros, IPv4 or IPv6 by the family
 abbrev pub zero_address : Family → IpAddr
@@ -29,7 +28,7 @@ abbrev pub listening_request : Family → ℕ → NetlinkMessageModel Message
 listening_request family sequence_number = record {
   header = record {
     length = 72;
-    message_type = SOCK_DIAG_BY_FAMILY;
+    message_type = c.SOCK_DIAG_BY_FAMILY;
     flags = 0x301;
     sequence_number = sequence_number;
     port_number = 0;

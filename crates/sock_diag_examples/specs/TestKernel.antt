@@ -22,9 +22,7 @@ use Rattle.netlink_packet_sock_diag.specs.Message.{netlink_message_codec}
 use Rattle.sock_diag_records.specs.ResponseKind.{unix_response}
 use Rattle.sock_diag_replies.specs.UnixResponseSpec.{unix_response_spec}
 use Rattle.sock_diag_examples.specs.declared.test_kernel.AnswerError.{AnswerError}
-use Rattle.sock_diag_examples.specs.declared.test_kernel.AnswerError.TheVariants.{Request}
-use Rattle.sock_diag_examples.specs.declared.test_kernel.AnswerError.TheVariants.{Unwritable}
-use Rattle.sock_diag_examples.specs.declared.test_kernel.AnswerError.TheVariants.{Memory}
+use Rattle.sock_diag_examples.specs.declared.test_kernel.AnswerError.TheVariants as errors
 
 -- `numbered_message_bytes sequence_number payload`: the bytes of the netlink message with this
 -- payload and sequence number. Its length and its type are those of the payload (20,
@@ -96,9 +94,9 @@ IsWritableReplyMessage reply =
 -- IsErrorFor reason e: the error of a function that appends messages: never an error of the
 -- request; `Unwritable` only if `reason` holds; `Memory` without a condition
 abbrev pub IsErrorFor : Type 0 → AnswerError → Type 0
-IsErrorFor reason (Request e) = ⊥
-IsErrorFor reason Unwritable = reason
-IsErrorFor reason Memory = ⊤
+IsErrorFor reason (errors.Request e) = ⊥
+IsErrorFor reason errors.Unwritable = reason
+IsErrorFor reason errors.Memory = ⊤
 
 -- `IsUnixRequestMessage request`: the request starts with a netlink message of type
 -- SOCK_DIAG_BY_FAMILY whose payload, the bytes from offset 16 to its length, parses as a request
@@ -113,10 +111,10 @@ IsUnixRequestMessage request = (h : NetlinkHeader) × (asked : UnixRequest)
 -- - `Unwritable`: the request is accepted, and the message of some reply is not writable.
 -- - `Memory`: the request is accepted, and an allocation failed.
 abbrev pub AnswerFails : List ℕ → List (ReplyValue unix_response_spec) → AnswerError → Type 0
-AnswerFails request replies (Request e) = RejectsUnixRequest request e
-AnswerFails request replies Unwritable =
+AnswerFails request replies (errors.Request e) = RejectsUnixRequest request e
+AnswerFails request replies errors.Unwritable =
     IsUnixRequestMessage request × ¬ AllByRecursion IsWritableReplyMessage replies
-AnswerFails request replies Memory = IsUnixRequestMessage request
+AnswerFails request replies errors.Memory = IsUnixRequestMessage request
 
 -- a reply as parsers return it, whose message is writable
 pub record IsWritableReply (reply : ReplyValue unix_response_spec) : Type 0 where

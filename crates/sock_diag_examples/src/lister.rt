@@ -5,10 +5,9 @@ ghost use Rattle.std.specs.Iterator.{Drains};
 ghost use Rattle.std.specs.List.{filter_map};
 ghost use Rattle.netlink_core.specs.declared.error.DecodeError.{DecodeError as Fault};
 ghost use Rattle.netlink_packet_sock_diag.specs.DumpWalk.{YieldsPayloadView};
-ghost use Rattle.netlink_packet_sock_diag.specs.PayloadViewModel.{PayloadView};
+ghost use Rattle.netlink_packet_sock_diag.specs.PayloadViewModel.{PayloadView, payload_view_model};
 ghost use Rattle.netlink_packet_sock_diag.specs.MessageViewModel.{message_view_model};
 ghost use Rattle.netlink_core.specs.Errors.{map_ok};
-ghost use Rattle.netlink_packet_sock_diag.specs.PayloadViewModel.{payload_view_model};
 ghost use Rattle.sock_diag_examples.specs.Lister.{AreLinesOf, line_of, socket_of};
 
 use netlink_core::DecodeError;

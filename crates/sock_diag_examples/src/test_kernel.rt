@@ -13,8 +13,7 @@ ghost use Rattle.sock_diag_examples.specs.TestKernel.{IsWritableReply, IsErrorFo
 ghost use Rattle.sock_diag_examples.specs.TestKernel.{IsWritableMessage, IsAnswer, IsCompleteDump};
 ghost use Rattle.sock_diag_examples.specs.TestKernel.{IsWritableReplyMessage};
 ghost use Rattle.sock_diag_examples.specs.TestKernel.{numbered_message_bytes, reply_message_bytes};
-ghost use Rattle.sock_diag_examples.specs.declared.test_kernel.AnswerError.TheVariants.{Request};
-ghost use Rattle.sock_diag_examples.specs.declared.test_kernel.AnswerError.TheVariants.{Memory};
+ghost use Rattle.sock_diag_examples.specs.declared.test_kernel.AnswerError.TheVariants as errors;
 
 use netlink_core::{
     DecodeError, NETLINK_HEADER_LEN, NLM_F_MULTI, NetlinkHeader, NetlinkMessage, NetlinkPayload,
@@ -37,7 +36,7 @@ pub enum AnswerError {
 }
 
 impl From<DecodeError> for AnswerError {
-    ghost from_gives = { λ error e. e ≡ Request error };
+    ghost from_gives = { λ error e. e ≡ errors.Request error };
 
     fn from(error: DecodeError) -> AnswerError {
         AnswerError::Request(error)
@@ -45,7 +44,7 @@ impl From<DecodeError> for AnswerError {
 }
 
 impl From<AllocError> for AnswerError {
-    ghost from_gives = { λ _ e. e ≡ Memory };
+    ghost from_gives = { λ _ e. e ≡ errors.Memory };
 
     fn from(_e: AllocError) -> AnswerError {
         AnswerError::Memory
@@ -53,7 +52,7 @@ impl From<AllocError> for AnswerError {
 }
 
 impl<T: Drop> From<AllocFailed<T>> for AnswerError {
-    ghost from_gives = { λ _ e. e ≡ Memory };
+    ghost from_gives = { λ _ e. e ≡ errors.Memory };
 
     fn from(_e: AllocFailed<T>) -> AnswerError {
         AnswerError::Memory

@@ -3,8 +3,8 @@
 -- first four bytes, and the request, starting with its header `msg`. Attributes NLMSGERR_ATTR_..
 -- may follow. An NLMSG_DONE contains the error number, and attributes may follow. In this file
 -- `flags` are the flags of the header of the NLMSG_ERROR or NLMSG_DONE.
-use Rattle.std.specs.Prelude.{◌≤◌, ℕ, ◌+◌, ◌==◌, ◌&&◌, if◌then◌else◌, List, [], length, take}
-use Rattle.std.specs.Prelude.{drop, bit_and, not}
+use Rattle.std.specs.Prelude.{◌≤◌, ℕ, ◌+◌, ◌==◌, ◌&&◌, if◌then◌else◌, List, [], length, take, drop}
+use Rattle.std.specs.Prelude.{bit_and, not}
 use Rattle.byteorder.specs.Endian.{little_number}
 use Rattle.netlink_core.specs.Attribute.{padding_length}
 

@@ -1,8 +1,7 @@
 //! Properties of the fields of `struct tcp_info`, and of `==` and `clone`. Proof only: the contract
 //! of each function states the property.
 
-ghost use Rattle.std.specs.Prelude.{◌≡◌, ◌↔◌, [], ◌∷◌, ◌++◌, map};
-ghost use Rattle.std.specs.Prelude.{IfOk, IsOk, IsTrue};
+ghost use Rattle.std.specs.Prelude.{◌≡◌, ◌↔◌, [], ◌∷◌, ◌++◌, map, IfOk, IsOk, IsTrue};
 ghost use Rattle.netlink_core.specs.Layout.{tag_fields};
 ghost use Rattle.sock_diag_values.specs.TcpInfo.{tcp_info};
 ghost use Rattle.sock_diag_extras.specs.Models.{ack_attributes, ack_number, ack_request};

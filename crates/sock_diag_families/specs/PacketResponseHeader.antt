@@ -3,7 +3,9 @@ use Rattle.std.specs.Prelude.{⊤, ℕ, List, [], ◌∷◌, slice_index}
 use Rattle.netlink_core.specs.Layout.{Layout, plain}
 use Rattle.netlink_core.specs.Rows.{skip, u8, u16, u32, u64}
 use Rattle.netlink_core.specs.declared.error.RecordName.TheVariants as name
-use Rattle.sock_diag_families.specs.declared.packet.response.PacketResponseHeader.{PacketResponseHeader}
+use Rattle.sock_diag_families.specs.declared.packet.response.PacketResponseHeader.{
+  PacketResponseHeader,
+}
 use Rattle.sock_diag_records.specs.declared.constants.TheConstants.{AF_PACKET}
 
 -- the header with these numbers in the fields that are not ignored, in the order of the rows below

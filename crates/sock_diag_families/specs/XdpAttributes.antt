@@ -4,15 +4,14 @@
 use Rattle.std.specs.Prelude.{ℕ, List, Result}
 use Rattle.netlink_core.specs.declared.error.DecodeError.{DecodeError}
 use Rattle.sock_diag_families.specs.AttributeGetters.{fields, u32_at, u64_at}
-use Rattle.sock_diag_families.specs.declared.xdp.TheConstants.{AF_XDP, XDP_DIAG_INFO}
-use Rattle.sock_diag_families.specs.declared.xdp.TheConstants.{XDP_DIAG_STATS, XDP_DIAG_UMEM}
+use Rattle.sock_diag_families.specs.declared.xdp.TheConstants as c
 use Rattle.sock_diag_families.specs.declared.xdp.attributes.XdpInfo.{XdpInfo}
 use Rattle.sock_diag_families.specs.declared.xdp.attributes.XdpStatistics.{XdpStatistics}
 use Rattle.sock_diag_families.specs.declared.xdp.attributes.XdpUmem.{XdpUmem}
 
 -- `struct xdp_diag_info` (linux/xdp_diag.h), the value of `XDP_DIAG_INFO`: `ifindex`, `queue_id`
 abbrev pub xdp_info : List ℕ → Result XdpInfo DecodeError
-xdp_info = fields AF_XDP XDP_DIAG_INFO 8 (λ bytes. record {
+xdp_info = fields c.AF_XDP c.XDP_DIAG_INFO 8 (λ bytes. record {
   interface = u32_at 0 bytes;
   queue = u32_at 4 bytes;
 })
@@ -34,7 +33,7 @@ xdp_umem_fields bytes = record {
 
 -- the value of `XDP_DIAG_UMEM`, if it has at least 40 bytes
 abbrev pub xdp_umem : List ℕ → Result XdpUmem DecodeError
-xdp_umem = fields AF_XDP XDP_DIAG_UMEM 40 xdp_umem_fields
+xdp_umem = fields c.AF_XDP c.XDP_DIAG_UMEM 40 xdp_umem_fields
 
 -- `struct xdp_diag_stats` (linux/xdp_diag.h), in at least 48 bytes: `n_rx_dropped`, `n_rx_invalid`,
 -- `n_rx_full`, `n_fill_ring_empty`, `n_tx_invalid`, `n_tx_ring_empty`
@@ -50,4 +49,4 @@ xdp_statistics_fields bytes = record {
 
 -- the value of `XDP_DIAG_STATS`, if it has at least 48 bytes
 abbrev pub xdp_statistics : List ℕ → Result XdpStatistics DecodeError
-xdp_statistics = fields AF_XDP XDP_DIAG_STATS 48 xdp_statistics_fields
+xdp_statistics = fields c.AF_XDP c.XDP_DIAG_STATS 48 xdp_statistics_fields

@@ -1,11 +1,9 @@
 -- The kernel's evaluation of a condition's operation is whether the socket meets the condition.
-use Rattle.std.proofs.Common.{◌≡◌, ℕ, ◌<◌, ◌^◌, List, [], ◌++◌, refl, ap, arith}
-use Rattle.std.proofs.Common.{Option, Some, None}
+use Rattle.std.proofs.Common.{◌≡◌, ℕ, ◌<◌, ◌^◌, List, [], ◌++◌, refl, ap, arith, Option, Some, None}
 use Rattle.std.specs.Prelude.{◌||◌, ◌==◌, nat_le, not, slice_index, drop, unwrap_or}
 use Rattle.std.proofs.lemmas.Bool.{ne_eqb}
 use Rattle.byteorder.specs.Endian.{little_bytes, little_number}
-use Rattle.netlink_core.proofs.Numbers.{little_endian}
-use Rattle.netlink_core.proofs.Numbers.{number-reads_back}
+use Rattle.netlink_core.proofs.Numbers.{little_endian, number-reads_back}
 use Rattle.std.specs.declared.net.ip_addr.IpAddr.{IpAddr}
 use Rattle.std.specs.declared.net.ip_addr.IpAddr.TheVariants.{V4, V6}
 use Rattle.sock_diag_filters.specs.declared.condition.Comparison.TheVariants.{AtLeast, AtMost}
@@ -13,11 +11,7 @@ use Rattle.sock_diag_filters.specs.declared.condition.Comparison.TheVariants.{Eq
 use Rattle.sock_diag_filters.specs.declared.condition.Prefix.{Prefix}
 use Rattle.sock_diag_filters.specs.declared.condition.Host.{Host}
 use Rattle.sock_diag_filters.specs.declared.condition.Condition.{Condition}
-use Rattle.sock_diag_filters.specs.declared.condition.Condition.TheVariants.{SourcePort, Source}
-use Rattle.sock_diag_filters.specs.declared.condition.Condition.TheVariants.{DestinationPort}
-use Rattle.sock_diag_filters.specs.declared.condition.Condition.TheVariants.{Destination, Interface}
-use Rattle.sock_diag_filters.specs.declared.condition.Condition.TheVariants.{Mark, Cgroup}
-use Rattle.sock_diag_filters.specs.declared.condition.Condition.TheVariants.{AutoBound}
+use Rattle.sock_diag_filters.specs.declared.condition.Condition.TheVariants as conditions
 use Rattle.sock_diag_filters.specs.declared.filter.Filter.{Filter}
 use Rattle.sock_diag_filters.specs.declared.filter.Filter.TheVariants as parts
 use Rattle.sock_diag_filters.specs.Conditions.{arguments, code_of}
@@ -88,31 +82,31 @@ host_found h family port octets range =
 
 condition_found : (s : Socket) (c : Condition) → IsConditionInRange c
     → kernel_evaluates s (code_of c) (arguments c) ≡ meets s c
-condition_found s (SourcePort AtLeast port) range =
+condition_found s (conditions.SourcePort AtLeast port) range =
     ap (λ (n : ℕ). nat_le n s.source_port) (port_round_trips port range)
-condition_found s (SourcePort AtMost port) range =
+condition_found s (conditions.SourcePort AtMost port) range =
     ap (λ (n : ℕ). nat_le s.source_port n) (port_round_trips port range)
-condition_found s (SourcePort Equal port) range =
+condition_found s (conditions.SourcePort Equal port) range =
     ap (λ (n : ℕ). s.source_port == n) (port_round_trips port range)
-condition_found s (DestinationPort AtLeast port) range =
+condition_found s (conditions.DestinationPort AtLeast port) range =
     ap (λ (n : ℕ). nat_le n s.destination_port) (port_round_trips port range)
-condition_found s (DestinationPort AtMost port) range =
+condition_found s (conditions.DestinationPort AtMost port) range =
     ap (λ (n : ℕ). nat_le s.destination_port n) (port_round_trips port range)
-condition_found s (DestinationPort Equal port) range =
+condition_found s (conditions.DestinationPort Equal port) range =
     ap (λ (n : ℕ). s.destination_port == n) (port_round_trips port range)
-condition_found s (Source h) range = host_found h s.family s.source_port s.source range
-condition_found s (Destination h) range =
+condition_found s (conditions.Source h) range = host_found h s.family s.source_port s.source range
+condition_found s (conditions.Destination h) range =
     host_found h s.family s.destination_port s.destination range
-condition_found s (Interface number) range =
+condition_found s (conditions.Interface number) range =
     ap (λ (n : ℕ). s.interface == n) (u32_round_trips number range)
-condition_found s (Mark mark mask) range =
+condition_found s (conditions.Mark mark mask) range =
     cc (
       little_endian_round_trips 4 mark (little_bytes 4 mask) range.0,
       u32_round_trips mask range.1,
     )
-condition_found s (Cgroup number) range =
+condition_found s (conditions.Cgroup number) range =
     ap (λ (n : ℕ). s.cgroup == n) (u64_round_trips number range)
-condition_found s AutoBound range = refl
+condition_found s conditions.AutoBound range = refl
 
 pub evaluation_is_meaning : (s : Socket) (f : Filter) → AreInRange f
     → meaning (λ c. kernel_evaluates s (code_of c) (arguments c)) f ≡ meaning (meets s) f

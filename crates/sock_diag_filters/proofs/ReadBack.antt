@@ -14,12 +14,11 @@ use Rattle.netlink_core.specs.declared.error.DecodeError.{DecodeError}
 use Rattle.netlink_core.specs.declared.header.NetlinkHeader.{NetlinkHeader}
 use Rattle.netlink_core.specs.Layout.{record_bytes, parse_record}
 use Rattle.netlink_core.specs.Header.{HasHeader, IsMessageError, header_bytes}
-use Rattle.netlink_core.proofs.Numbers.{little_endian}
+use Rattle.netlink_core.proofs.Numbers.{little_endian, number-reads_back}
 use Rattle.netlink_core.proofs.Splitting.{all_attribute_bytes_split, decoded_or_error_apart}
 use Rattle.netlink_core.proofs.Splitting.{one_split_into_attributes, encoded_values_are_decoded}
 use Rattle.netlink_core.proofs.Datagrams.{one_split_into_messages}
 use Rattle.netlink_core.proofs.Headers.{header_length, begins_with_header, one_header}
-use Rattle.netlink_core.proofs.Numbers.{number-reads_back}
 use Rattle.netlink_core.proofs.PrefixCodecs.{is_prefix_codec}
 use Rattle.sock_diag_records.specs.InetRequest.{inet_request}
 use Rattle.sock_diag_records.specs.laws.InetRequest.{inet_request_has_fixed_length}

@@ -1,7 +1,6 @@
 -- The family of a request, or its error.
-use Rattle.std.proofs.Common.{arith}
-use Rattle.std.proofs.Common.{◌≡◌, ℕ, ◌≤◌, List, length}
-use Rattle.std.proofs.Common.{le-ltb, Result, Ok, Err, IfErr, MatchResult, is_ok}
+use Rattle.std.proofs.Common.{arith, ◌≡◌, ℕ, ◌≤◌, List, length, le-ltb, Result, Ok, Err, IfErr}
+use Rattle.std.proofs.Common.{MatchResult, is_ok}
 use Rattle.std.specs.Prelude.{slice_index}
 use Rattle.netlink_core.specs.declared.error.DecodeError.{DecodeError}
 use Rattle.netlink_core.specs.declared.header.NetlinkHeader.{NetlinkHeader}

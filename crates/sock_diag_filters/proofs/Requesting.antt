@@ -1,6 +1,6 @@
 -- The length of requests with attributes, and the bytes that they are serialized to.
-use Rattle.std.proofs.Common.{◌≡◌, ◌∙◌, ℕ, ◌+◌, ◌≤◌, List, ◌++◌, length, drop, sym, ap, arith}
-use Rattle.std.proofs.Common.{Ok, append_assoc}
+use Rattle.std.proofs.Common.{◌≡◌, ◌∙◌, ℕ, ◌+◌, ◌≤◌, List, ◌++◌, length, drop, sym, ap, arith, Ok}
+use Rattle.std.proofs.Common.{append_assoc}
 use Rattle.std.proofs.lemmas.List.{drop-drop, length-append}
 use Rattle.std.specs.List.{flat_map}
 use Rattle.netlink_core.specs.Attribute.{Attribute, attribute_bytes}

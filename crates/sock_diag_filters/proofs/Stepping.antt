@@ -1,7 +1,7 @@
 -- Stepping over the operations of a program leads to its end.
 use Rattle.std.proofs.lemmas.Grind.{common_steps}
-use Rattle.std.proofs.Common.{◌≡◌, ◌∙◌, ℕ, ◌+◌, ◌%◌, ◌⊎◌, List, [], ◌++◌}
-use Rattle.std.proofs.Common.{length, drop, refl, sym, ap, subst, arith, append_assoc}
+use Rattle.std.proofs.Common.{◌≡◌, ◌∙◌, ℕ, ◌+◌, ◌%◌, ◌⊎◌, List, [], ◌++◌, length, drop, refl, sym}
+use Rattle.std.proofs.Common.{ap, subst, arith, append_assoc}
 use Rattle.std.proofs.lemmas.List.{length-append}
 use Rattle.sock_diag_filters.specs.declared.filter.Filter.{Filter}
 use Rattle.sock_diag_filters.specs.declared.filter.Filter.TheVariants as parts

@@ -4,18 +4,12 @@ use Rattle.std.specs.Prelude.{drop, slice_index, Result, Ok, Err}
 use Rattle.netlink_core.specs.Header.{HasHeader, IsMessageError}
 use Rattle.netlink_core.specs.ValueCodec.{ValueCodec, value_codec}
 use Rattle.netlink_core.specs.declared.error.DecodeError.{DecodeError}
-use Rattle.netlink_core.specs.declared.error.DecodeError.TheVariants.{MessageTooShort}
-use Rattle.netlink_core.specs.declared.error.DecodeError.TheVariants.{UnknownFamily}
-use Rattle.netlink_core.specs.declared.error.DecodeError.TheVariants.{UnknownMessageType}
+use Rattle.netlink_core.specs.declared.error.DecodeError.TheVariants as errors
 use Rattle.netlink_core.specs.declared.header.NetlinkHeader.{NetlinkHeader}
 use Rattle.sock_diag_records.specs.UnixRequest.{unix_request}
 use Rattle.sock_diag_families.specs.ShowRequest.{show_request}
 use Rattle.sock_diag_families.specs.VsockRequest.{vsock_request}
-use Rattle.sock_diag_records.specs.declared.constants.TheConstants.{AF_INET, AF_INET6}
-use Rattle.sock_diag_records.specs.declared.constants.TheConstants.{AF_NETLINK, AF_PACKET}
-use Rattle.sock_diag_records.specs.declared.constants.TheConstants.{AF_UNIX}
-use Rattle.sock_diag_records.specs.declared.constants.TheConstants.{SOCK_DESTROY}
-use Rattle.sock_diag_records.specs.declared.constants.TheConstants.{SOCK_DIAG_BY_FAMILY}
+use Rattle.sock_diag_records.specs.declared.constants.TheConstants as c
 use Rattle.sock_diag_families.specs.declared.vsock.TheConstants.{AF_VSOCK}
 use Rattle.sock_diag_families.specs.declared.xdp.TheConstants.{AF_XDP}
 use Rattle.sock_diag_filters.specs.declared.any.AnyRequestView.{AnyRequestView}
@@ -31,8 +25,8 @@ pub data RecordFamily : Type 0 where
 -- The codec of each family's record. The argument of `show_request` is the family.
 abbrev pub record_request_codec : RecordFamily → ValueCodec (Unit {0})
 record_request_codec unix = value_codec unix_request
-record_request_codec netlink = value_codec (show_request AF_NETLINK)
-record_request_codec packet = value_codec (show_request AF_PACKET)
+record_request_codec netlink = value_codec (show_request c.AF_NETLINK)
+record_request_codec packet = value_codec (show_request c.AF_PACKET)
 record_request_codec vsock = value_codec vsock_request
 record_request_codec xdp = value_codec (show_request AF_XDP)
 
@@ -53,13 +47,13 @@ pub data RequestedFamily : Type 0 where
 -- The family by the first byte of the payload. Any byte other than these seven is UnknownFamily.
 abbrev pub family_by_byte : ℕ → Result RequestedFamily DecodeError
 family_by_byte first =
-    if (first == AF_INET) || (first == AF_INET6) then Ok inet
-    else if first == AF_UNIX then Ok (of_record unix)
-    else if first == AF_NETLINK then Ok (of_record netlink)
-    else if first == AF_PACKET then Ok (of_record packet)
+    if (first == c.AF_INET) || (first == c.AF_INET6) then Ok inet
+    else if first == c.AF_UNIX then Ok (of_record unix)
+    else if first == c.AF_NETLINK then Ok (of_record netlink)
+    else if first == c.AF_PACKET then Ok (of_record packet)
     else if first == AF_VSOCK then Ok (of_record vsock)
     else if first == AF_XDP then Ok (of_record xdp)
-    else Err (UnknownFamily first)
+    else Err (errors.UnknownFamily first)
 
 -- `family_of_request_payload payload t`: the family of the payload of a message of type `t`, or the
 -- first error of one that is not a request: fewer than 2 bytes are MessageTooShort; a type other
@@ -67,9 +61,9 @@ family_by_byte first =
 -- byte.
 abbrev pub family_of_request_payload : List ℕ → ℕ → Result RequestedFamily DecodeError
 family_of_request_payload payload t =
-    if nat_lt (length payload) 2 then Err (MessageTooShort (length payload))
-    else if not ((t == SOCK_DIAG_BY_FAMILY) || (t == SOCK_DESTROY))
-    then Err (UnknownMessageType t)
+    if nat_lt (length payload) 2 then Err (errors.MessageTooShort (length payload))
+    else if not ((t == c.SOCK_DIAG_BY_FAMILY) || (t == c.SOCK_DESTROY))
+    then Err (errors.UnknownMessageType t)
     else family_by_byte (slice_index payload 0)
 
 -- The family of a message with the netlink header `h`, or its error.

@@ -9,8 +9,7 @@ use Rattle.std.specs.Prelude.{◌≡◌, ◌≢◌, ℕ, ◌+◌, ◌-◌, ◌*�
 use Rattle.std.specs.Prelude.{List, [], ◌∷◌, length, drop, slice_index, slice_get, Option, Some}
 use Rattle.std.specs.Prelude.{None, option_map}
 use Rattle.byteorder.specs.Endian.{little_number}
-use Rattle.sock_diag_records.specs.declared.constants.TheConstants.{AF_INET, AF_INET6}
-use Rattle.sock_diag_records.specs.declared.constants.TheConstants.{AF_UNSPEC}
+use Rattle.sock_diag_records.specs.declared.constants.TheConstants.{AF_INET, AF_INET6, AF_UNSPEC}
 
 -- `code` of the operation at the start: INET_DIAG_BC_..
 abbrev pub code_at : List ℕ → ℕ

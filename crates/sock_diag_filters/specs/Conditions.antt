@@ -9,11 +9,7 @@ use Rattle.sock_diag_filters.specs.declared.condition.Comparison.TheVariants.{Eq
 use Rattle.sock_diag_filters.specs.declared.condition.Prefix.{Prefix}
 use Rattle.sock_diag_filters.specs.declared.condition.Host.{Host}
 use Rattle.sock_diag_filters.specs.declared.condition.Condition.{Condition}
-use Rattle.sock_diag_filters.specs.declared.condition.Condition.TheVariants.{SourcePort, Source}
-use Rattle.sock_diag_filters.specs.declared.condition.Condition.TheVariants.{DestinationPort}
-use Rattle.sock_diag_filters.specs.declared.condition.Condition.TheVariants.{Destination, Interface}
-use Rattle.sock_diag_filters.specs.declared.condition.Condition.TheVariants.{Mark, Cgroup}
-use Rattle.sock_diag_filters.specs.declared.condition.Condition.TheVariants.{AutoBound}
+use Rattle.sock_diag_filters.specs.declared.condition.Condition.TheVariants as conditions
 use Rattle.sock_diag_filters.specs.Prefixes.{bits_of, family_of, octets_of, port_bytes}
 
 -- `IsNewPrefix result address bits`: `result` of `Prefix::new` is the prefix of `bits` bits of
@@ -38,14 +34,14 @@ destination_code Equal = 12
 -- The code of a condition's operation. Other than for comparisons of ports: 7 INET_DIAG_BC_S_COND,
 -- 8 D_COND, 9 DEV_COND, 10 MARK_COND, 13 CGROUP_COND, 6 AUTO.
 abbrev pub code_of : Condition → ℕ
-code_of (SourcePort comparison port) = source_code comparison
-code_of (DestinationPort comparison port) = destination_code comparison
-code_of (Source host) = 7
-code_of (Destination host) = 8
-code_of (Interface number) = 9
-code_of (Mark mark mask) = 10
-code_of (Cgroup number) = 13
-code_of AutoBound = 6
+code_of (conditions.SourcePort comparison port) = source_code comparison
+code_of (conditions.DestinationPort comparison port) = destination_code comparison
+code_of (conditions.Source host) = 7
+code_of (conditions.Destination host) = 8
+code_of (conditions.Interface number) = 9
+code_of (conditions.Mark mark mask) = 10
+code_of (conditions.Cgroup number) = 13
+code_of conditions.AutoBound = 6
 
 -- The first four bytes of a `struct inet_diag_hostcond`: `family`, `prefix_len` and two bytes of
 -- padding. Without a prefix, the family is 0 (AF_UNSPEC) and `prefix_len` 0.
@@ -70,11 +66,11 @@ host_bytes h =
 -- `struct inet_diag_hostcond`, for an interface its index as a u32, for a mark a
 -- `struct inet_diag_markcond`, and for a control group its id as a u64, each little-endian.
 abbrev pub arguments : Condition → List ℕ
-arguments (SourcePort comparison port) = port_bytes port
-arguments (DestinationPort comparison port) = port_bytes port
-arguments (Source host) = host_bytes host
-arguments (Destination host) = host_bytes host
-arguments (Interface number) = little_bytes 4 number
-arguments (Mark mark mask) = little_bytes 4 mark ++ little_bytes 4 mask
-arguments (Cgroup number) = little_bytes 8 number
-arguments AutoBound = []
+arguments (conditions.SourcePort comparison port) = port_bytes port
+arguments (conditions.DestinationPort comparison port) = port_bytes port
+arguments (conditions.Source host) = host_bytes host
+arguments (conditions.Destination host) = host_bytes host
+arguments (conditions.Interface number) = little_bytes 4 number
+arguments (conditions.Mark mark mask) = little_bytes 4 mark ++ little_bytes 4 mask
+arguments (conditions.Cgroup number) = little_bytes 8 number
+arguments conditions.AutoBound = []

@@ -12,10 +12,8 @@ use Rattle.netlink_core.specs.declared.error.DecodeError.TheVariants.{UnknownMes
 use Rattle.netlink_core.specs.declared.header.NetlinkHeader.{NetlinkHeader}
 use Rattle.sock_diag_records.specs.InetRequest.{inet_request}
 use Rattle.sock_diag_records.specs.declared.inet.request.InetRequest.{InetRequest}
-use Rattle.sock_diag_records.specs.declared.constants.TheConstants.{SOCK_DESTROY}
-use Rattle.sock_diag_records.specs.declared.constants.TheConstants.{SOCK_DIAG_BY_FAMILY}
-use Rattle.sock_diag_records.specs.declared.inet.request.TheConstants.{INET_DIAG_REQ_BYTECODE}
-use Rattle.sock_diag_records.specs.declared.inet.request.TheConstants.{INET_DIAG_REQ_PROTOCOL}
+use Rattle.sock_diag_records.specs.declared.constants.TheConstants as c
+use Rattle.sock_diag_records.specs.declared.inet.request.TheConstants as constants
 use Rattle.sock_diag_filters.specs.declared.request.RequestAttribute.{RequestAttribute}
 use Rattle.sock_diag_filters.specs.declared.request.RequestAttribute.TheVariants.{Program, Protocol}
 use Rattle.sock_diag_filters.specs.declared.view.Found.{Found}
@@ -32,8 +30,8 @@ pub data RequestContent : Type 0 where
 -- length other than 4 is WrongLength. Other types have no content.
 abbrev pub decode_request_attribute : Attribute → Result RequestContent DecodeError
 decode_request_attribute a =
-    if attribute_kind a == INET_DIAG_REQ_BYTECODE then Ok (program_asked a.value)
-    else if attribute_kind a == INET_DIAG_REQ_PROTOCOL
+    if attribute_kind a == constants.INET_DIAG_REQ_BYTECODE then Ok (program_asked a.value)
+    else if attribute_kind a == constants.INET_DIAG_REQ_PROTOCOL
     then map_ok protocol_asked (number_of_width None 4 a.value)
     else Ok nothing_asked
 
@@ -68,7 +66,7 @@ message_payload message h = take (h.length - 16) (drop 16 message)
 
 -- The message type is SOCK_DIAG_BY_FAMILY or SOCK_DESTROY.
 abbrev pub IsRequestType : ℕ → Type 0
-IsRequestType t = (t ≡ SOCK_DIAG_BY_FAMILY) ⊎ (t ≡ SOCK_DESTROY)
+IsRequestType t = (t ≡ c.SOCK_DIAG_BY_FAMILY) ⊎ (t ≡ c.SOCK_DESTROY)
 
 -- `ParsesAsRequest message view`: the message at the start of the bytes parses as the view. Bytes
 -- after it are ignored.

@@ -8,8 +8,7 @@ use Rattle.netlink_core.specs.Layout.{record_bytes}
 use Rattle.netlink_core.specs.Header.{header_bytes}
 use Rattle.sock_diag_records.specs.InetRequest.{inet_request}
 use Rattle.sock_diag_records.specs.declared.inet.request.InetRequest.{InetRequest}
-use Rattle.sock_diag_records.specs.declared.inet.request.TheConstants.{INET_DIAG_REQ_BYTECODE}
-use Rattle.sock_diag_records.specs.declared.inet.request.TheConstants.{INET_DIAG_REQ_PROTOCOL}
+use Rattle.sock_diag_records.specs.declared.inet.request.TheConstants as c
 use Rattle.sock_diag_filters.specs.declared.request.RequestAttribute.{RequestAttribute}
 use Rattle.sock_diag_filters.specs.declared.request.RequestAttribute.TheVariants.{Program, Protocol}
 
@@ -17,9 +16,9 @@ use Rattle.sock_diag_filters.specs.declared.request.RequestAttribute.TheVariants
 -- INET_DIAG_REQ_PROTOCOL with the protocol as a little-endian u32.
 abbrev pub request_attribute : RequestAttribute → Attribute
 request_attribute (Program program) =
-    record { type_word = INET_DIAG_REQ_BYTECODE; value = program.now }
+    record { type_word = c.INET_DIAG_REQ_BYTECODE; value = program.now }
 request_attribute (Protocol protocol) =
-    record { type_word = INET_DIAG_REQ_PROTOCOL; value = little_bytes 4 protocol }
+    record { type_word = c.INET_DIAG_REQ_PROTOCOL; value = little_bytes 4 protocol }
 
 -- The header with its length replaced by `len`.
 abbrev pub header_with_length : NetlinkHeader → ℕ → NetlinkHeader

@@ -5,19 +5,14 @@ use Rattle.std.specs.Prelude.{Option, Some, None}
 use Rattle.byteorder.specs.Endian.{big_number, little_number}
 use Rattle.std.specs.declared.net.ip_addr.IpAddr.{IpAddr}
 use Rattle.std.specs.declared.net.ip_addr.IpAddr.TheVariants.{V4, V6}
-use Rattle.sock_diag_records.specs.declared.constants.TheConstants.{AF_INET, AF_INET6}
-use Rattle.sock_diag_records.specs.declared.constants.TheConstants.{AF_UNSPEC}
+use Rattle.sock_diag_records.specs.declared.constants.TheConstants.{AF_INET, AF_INET6, AF_UNSPEC}
 use Rattle.sock_diag_filters.specs.declared.condition.Comparison.{Comparison}
 use Rattle.sock_diag_filters.specs.declared.condition.Comparison.TheVariants.{AtLeast, AtMost}
 use Rattle.sock_diag_filters.specs.declared.condition.Comparison.TheVariants.{Equal}
 use Rattle.sock_diag_filters.specs.declared.condition.Prefix.{Prefix}
 use Rattle.sock_diag_filters.specs.declared.condition.Host.{Host}
 use Rattle.sock_diag_filters.specs.declared.condition.Condition.{Condition}
-use Rattle.sock_diag_filters.specs.declared.condition.Condition.TheVariants.{SourcePort, Source}
-use Rattle.sock_diag_filters.specs.declared.condition.Condition.TheVariants.{DestinationPort}
-use Rattle.sock_diag_filters.specs.declared.condition.Condition.TheVariants.{Destination, Interface}
-use Rattle.sock_diag_filters.specs.declared.condition.Condition.TheVariants.{Mark, Cgroup}
-use Rattle.sock_diag_filters.specs.declared.condition.Condition.TheVariants.{AutoBound}
+use Rattle.sock_diag_filters.specs.declared.condition.Condition.TheVariants as conditions
 use Rattle.sock_diag_filters.specs.declared.filter.Filter.{Filter}
 use Rattle.sock_diag_filters.specs.declared.filter.Filter.TheVariants as parts
 use Rattle.sock_diag_filters.specs.Prefixes.{octets_of}
@@ -150,14 +145,14 @@ is_host h family port octets =
 -- socket's mark that are in `mask` are equal to `mark`. `AutoBound`: the kernel chose the socket's
 -- local port.
 abbrev pub meets : Socket → Condition → Bool
-meets s (SourcePort comparison port) = compares comparison s.source_port port
-meets s (DestinationPort comparison port) = compares comparison s.destination_port port
-meets s (Source h) = is_host h s.family s.source_port s.source
-meets s (Destination h) = is_host h s.family s.destination_port s.destination
-meets s (Interface number) = s.interface == number
-meets s (Mark mark mask) = bit_and s.mark mask == mark
-meets s (Cgroup number) = s.cgroup == number
-meets s AutoBound = s.is_auto_bound
+meets s (conditions.SourcePort comparison port) = compares comparison s.source_port port
+meets s (conditions.DestinationPort comparison port) = compares comparison s.destination_port port
+meets s (conditions.Source h) = is_host h s.family s.source_port s.source
+meets s (conditions.Destination h) = is_host h s.family s.destination_port s.destination
+meets s (conditions.Interface number) = s.interface == number
+meets s (conditions.Mark mark mask) = bit_and s.mark mask == mark
+meets s (conditions.Cgroup number) = s.cgroup == number
+meets s conditions.AutoBound = s.is_auto_bound
 
 -- ---- ranges of the numbers of a condition, as the Rust types have them
 
@@ -168,14 +163,14 @@ IsPort (Some port) = port < 2 ^ 16
 
 -- Each number of a condition fits its Rust type.
 abbrev pub IsConditionInRange : Condition → Type 0
-IsConditionInRange (SourcePort comparison port) = port < 2 ^ 16
-IsConditionInRange (DestinationPort comparison port) = port < 2 ^ 16
-IsConditionInRange (Source h) = IsPort h.port
-IsConditionInRange (Destination h) = IsPort h.port
-IsConditionInRange (Interface number) = number < 2 ^ 32
-IsConditionInRange (Mark mark mask) = (mark < 2 ^ 32) × (mask < 2 ^ 32)
-IsConditionInRange (Cgroup number) = number < 2 ^ 64
-IsConditionInRange AutoBound = ⊤
+IsConditionInRange (conditions.SourcePort comparison port) = port < 2 ^ 16
+IsConditionInRange (conditions.DestinationPort comparison port) = port < 2 ^ 16
+IsConditionInRange (conditions.Source h) = IsPort h.port
+IsConditionInRange (conditions.Destination h) = IsPort h.port
+IsConditionInRange (conditions.Interface number) = number < 2 ^ 32
+IsConditionInRange (conditions.Mark mark mask) = (mark < 2 ^ 32) × (mask < 2 ^ 32)
+IsConditionInRange (conditions.Cgroup number) = number < 2 ^ 64
+IsConditionInRange conditions.AutoBound = ⊤
 
 -- Each number of each condition of a filter fits its Rust type.
 abbrev pub AreInRange : Filter → Type 0

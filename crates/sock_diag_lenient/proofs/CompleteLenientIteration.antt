@@ -1,6 +1,6 @@
 -- A `LenientNlas` that is iterated to its end yields the items of its bytes.
-use Rattle.std.proofs.Common.{Result, Ok, Err, IsOk, None, ◌≡◌, ◌≢◌, List, [], ◌∷◌}
-use Rattle.std.proofs.Common.{ℕ, inl, inr, sym, subst, refl, ap, ◌∙◌}
+use Rattle.std.proofs.Common.{Result, Ok, Err, IsOk, None, ◌≡◌, ◌≢◌, List, [], ◌∷◌, ℕ, inl, inr}
+use Rattle.std.proofs.Common.{sym, subst, refl, ap, ◌∙◌}
 use Rattle.std.specs.Prelude.{map}
 use Rattle.std.specs.Iterator.{Drains}
 use Rattle.netlink_core.specs.declared.error.DecodeError.{DecodeError}

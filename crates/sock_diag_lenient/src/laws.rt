@@ -1,8 +1,8 @@
 //! Properties of replies that are read leniently, and of a copied error. Proof only: the contract
 //! of each function states the property.
 
-ghost use Rattle.std.specs.Prelude.{◌≡◌, ℕ, List, [], map, drop, Result, Ok, Err};
-ghost use Rattle.std.specs.Prelude.{IfErr, IfOk, IsOk, MatchOption};
+ghost use Rattle.std.specs.Prelude.{◌≡◌, ℕ, List, [], map, drop, Result, Ok, Err, IfErr, IfOk};
+ghost use Rattle.std.specs.Prelude.{IsOk, MatchOption};
 ghost use Rattle.std.specs.Iterator.{Drains};
 ghost use Rattle.netlink_core.specs.Attribute.{DecodeTo};
 ghost use Rattle.netlink_core.specs.AttributeSet.{AttributeValue, decode_attribute};

@@ -1,8 +1,7 @@
 -- The request in a line, and that a line has one answer.
 use Rattle.std.proofs.Common.{◌≡◌, ◌≢◌, ◌∙◌, ◌⊎◌, inl, inr, ℕ, List, [], ◌∷◌, ◌++◌, length, codes}
 use Rattle.std.proofs.Common.{get_or, refl, sym, ap, arith}
-use Rattle.std.specs.List.{AllByRecursion, join_with_byte}
-use Rattle.std.specs.List.{position_or_len, slice_split}
+use Rattle.std.specs.List.{AllByRecursion, join_with_byte, position_or_len, slice_split}
 use Rattle.std.proofs.lemmas.List.Sums.{fails_before_first, passes_at_first, split_at_first}
 use Rattle.std.specs.Str.{bytes_eq}
 use Rattle.std.proofs.lemmas.Bool.{cases_lt, eqb-true}
@@ -19,10 +18,7 @@ use Rattle.sock_diag_lines.specs.private.Text.{is_space}
 use Rattle.sock_diag_lines.specs.declared.answers.LineRequest.{LineRequest}
 use Rattle.sock_diag_lines.specs.declared.answers.LineRequest.TheVariants.{Field, Dump, Nothing}
 use Rattle.sock_diag_lines.specs.declared.answers.Name.{Name}
-use Rattle.sock_diag_lines.specs.declared.answers.Name.TheVariants.{UnixRequest, UnixResponse}
-use Rattle.sock_diag_lines.specs.declared.answers.Name.TheVariants.{InetRequest, InetResponse}
-use Rattle.sock_diag_lines.specs.declared.answers.Name.TheVariants.{SocketId4, SocketId6, Message}
-use Rattle.sock_diag_lines.specs.declared.answers.Name.TheVariants.{NetlinkMessage, UnixView}
+use Rattle.sock_diag_lines.specs.declared.answers.Name.TheVariants as name_variants
 use Rattle.sock_diag_lines.proofs.AnswerTexts.{answers_more, same_answer, some_answer}
 use Rattle.sock_diag_lines.proofs.AnswerTexts.{same_text_iff_equivalent}
 use Rattle.sock_diag_lines.proofs.Deciding.{both_or_not, same_or_not}
@@ -37,27 +33,30 @@ use Rattle.sock_diag_lines.proofs.SubjectLaws.{AreEquivalentUnder, IsAccepted}
 
 -- all names
 abbrev names : List Name
-names = UnixRequest ∷ UnixResponse ∷ InetRequest ∷ InetResponse ∷ SocketId4 ∷ SocketId6 ∷ Message
-    ∷ NetlinkMessage ∷ UnixView ∷ []
+names = name_variants.UnixRequest ∷ name_variants.UnixResponse ∷ name_variants.InetRequest ∷
+    name_variants.InetResponse ∷ name_variants.SocketId4 ∷ name_variants.SocketId6 ∷
+    name_variants.Message
+    ∷ name_variants.NetlinkMessage ∷ name_variants.UnixView ∷ []
 
 -- the name that is spelled in this way, if there is one
 abbrev name_of_spelling : List ℕ → Name
 name_of_spelling word =
-    get_or names (position_or_len (λ name. bytes_eq word (name_entry name).0) names) UnixView
+    get_or names (position_or_len (λ name. bytes_eq word (name_entry name).0) names)
+    name_variants.UnixView
 
 -- each name is found by its spelling, which ends at the first space
 spelling_of_name : (name : Name) → (name_of_spelling (name_entry name).0 ≡ name)
     × ((text : List ℕ) → slice_split is_space ((name_entry name).0 ++ 32 ∷ text)
     ≡ (name_entry name).0 ∷ slice_split is_space text)
-spelling_of_name UnixRequest = (refl, λ text. refl)
-spelling_of_name UnixResponse = (refl, λ text. refl)
-spelling_of_name InetRequest = (refl, λ text. refl)
-spelling_of_name InetResponse = (refl, λ text. refl)
-spelling_of_name SocketId4 = (refl, λ text. refl)
-spelling_of_name SocketId6 = (refl, λ text. refl)
-spelling_of_name Message = (refl, λ text. refl)
-spelling_of_name NetlinkMessage = (refl, λ text. refl)
-spelling_of_name UnixView = (refl, λ text. refl)
+spelling_of_name name_variants.UnixRequest = (refl, λ text. refl)
+spelling_of_name name_variants.UnixResponse = (refl, λ text. refl)
+spelling_of_name name_variants.InetRequest = (refl, λ text. refl)
+spelling_of_name name_variants.InetResponse = (refl, λ text. refl)
+spelling_of_name name_variants.SocketId4 = (refl, λ text. refl)
+spelling_of_name name_variants.SocketId6 = (refl, λ text. refl)
+spelling_of_name name_variants.Message = (refl, λ text. refl)
+spelling_of_name name_variants.NetlinkMessage = (refl, λ text. refl)
+spelling_of_name name_variants.UnixView = (refl, λ text. refl)
 
 -- different names have different spellings
 one_name : (name other : Name) → (name_entry name).0 ≡ (name_entry other).0 → name ≡ other
@@ -66,7 +65,8 @@ one_name name other e = sym (spelling_of_name name).0 ∙ ap name_of_spelling e
 
 pub not_dump : (name : Name) → (name_entry name).0 ≢ codes "dump"
 not_dump name e =
-    let is : name ≡ UnixView = sym (spelling_of_name name).0 ∙ ap name_of_spelling e in
+    let is : name ≡ name_variants.UnixView = sym (spelling_of_name name).0 ∙ ap name_of_spelling e
+    in
     let same = rw is at e in omega (arith, ap length same)
 
 -- a word is the spelling of a name, or of none
@@ -260,7 +260,8 @@ pub same_answer_iff_equivalent : (name : Name) (line other bytes bytes' text tex
     → IsAnswerOf line text → IsAnswerOf other text' → IsRequest line name bytes
     → IsRequest other name bytes' → IsAccepted (name_entry name).1 bytes
     → IsAccepted (name_entry name).1 bytes'
-    → (name ≢ UnixView → text ≡ text' → AreEquivalentUnder (name_entry name).1 bytes bytes')
+    → (name ≢ name_variants.UnixView → text ≡ text' → AreEquivalentUnder (name_entry name).1 bytes
+    bytes')
     × (AreEquivalentUnder (name_entry name).1 bytes bytes' → text ≡ text')
 same_answer_iff_equivalent name line other bytes bytes' text text' is is' asked asked' ok ok' =
     let both = same_text_iff_equivalent (name_entry name).1 (name_answer_laws name).0 bytes bytes'

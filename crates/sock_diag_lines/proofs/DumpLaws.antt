@@ -1,7 +1,7 @@
 -- There is one dump over datagrams, how it grows by a datagram and by a message, and its answer.
-use Rattle.std.proofs.Common.{◌≡◌, ◌≢◌, ◌⊎◌, inl, inr, ℕ, List, [], ◌∷◌, ◌++◌}
-use Rattle.std.proofs.Common.{length, map, take, drop, Some, None, true, codes, decimal}
-use Rattle.std.proofs.Common.{Result, Ok, Err, refl, sym, ap, subst, ◌∙◌, append_assoc, arith}
+use Rattle.std.proofs.Common.{◌≡◌, ◌≢◌, ◌⊎◌, inl, inr, ℕ, List, [], ◌∷◌, ◌++◌, length, map, take}
+use Rattle.std.proofs.Common.{drop, Some, None, true, codes, decimal, Result, Ok, Err, refl, sym}
+use Rattle.std.proofs.Common.{ap, subst, ◌∙◌, append_assoc, arith}
 use Rattle.std.proofs.lemmas.List.{append-nil, drop-append-le, drop_all, flat_map_more}
 use Rattle.std.proofs.lemmas.List.{length-map, map-append, take-append-le, take_all}
 use Rattle.std.proofs.lemmas.List.Concat.{flat_map-append}

@@ -1,7 +1,7 @@
 -- The values of a reply, appended one at a time, are the joined values; and the numbers that are
 -- left of a list.
-use Rattle.std.proofs.Common.{◌≡◌, ◌+◌, ℕ, suc, List, ◌∷◌, ◌++◌, [], drop, Some, slice_get}
-use Rattle.std.proofs.Common.{refl, ap, ◌∙◌, add-one, append_assoc}
+use Rattle.std.proofs.Common.{◌≡◌, ◌+◌, ℕ, suc, List, ◌∷◌, ◌++◌, [], drop, Some, slice_get, refl}
+use Rattle.std.proofs.Common.{ap, ◌∙◌, add-one, append_assoc}
 use Rattle.std.specs.List.{join_with_byte}
 use Rattle.std.proofs.lemmas.Option.{get_or_from_slice_get, slice_get_within}
 use Rattle.std.proofs.Math.Seq.{drop-cons}

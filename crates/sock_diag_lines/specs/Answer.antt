@@ -16,12 +16,8 @@ use Rattle.sock_diag_lines.specs.AnswerText.{AnswerCodec, answer_codec, IsAnswer
 use Rattle.sock_diag_lines.specs.MessageLine.{netlink_message_text}
 use Rattle.sock_diag_lines.specs.ViewLine.{reply_text}
 use Rattle.sock_diag_lines.specs.declared.answers.Name.{Name}
-use Rattle.sock_diag_lines.specs.declared.answers.Name.TheVariants.{UnixRequest, UnixResponse}
-use Rattle.sock_diag_lines.specs.declared.answers.Name.TheVariants.{InetRequest, InetResponse}
-use Rattle.sock_diag_lines.specs.declared.answers.Name.TheVariants.{SocketId4, SocketId6, Message}
-use Rattle.sock_diag_records.specs.declared.constants.TheConstants.{AF_INET, AF_INET6}
-use Rattle.sock_diag_records.specs.declared.constants.TheConstants.{SOCK_DIAG_BY_FAMILY}
-use Rattle.sock_diag_lines.specs.declared.answers.Name.TheVariants.{NetlinkMessage, UnixView}
+use Rattle.sock_diag_lines.specs.declared.answers.Name.TheVariants as names
+use Rattle.sock_diag_records.specs.declared.constants.TheConstants as c
 
 -- `name_entry name`: the spelling of the name in a line, and how the bytes after it are parsed and
 -- shown (`AnswerCodec`): the parameter's type (`_`: it follows from the rest), the codec, its
@@ -29,18 +25,19 @@ use Rattle.sock_diag_lines.specs.declared.answers.Name.TheVariants.{NetlinkMessa
 -- parameter of a message is its type. The others have none, `tt`. The text is the canonical form in
 -- hex (`answer_codec`), except for the last two names.
 abbrev pub name_entry : Name → List ℕ × AnswerCodec
-name_entry UnixRequest = (codes "unixreq", answer_codec (record_codec unix_request) tt)
-name_entry UnixResponse = (codes "unix", answer_codec (response_codec unix_response_spec) tt)
-name_entry InetRequest = (codes "inetreq", answer_codec (record_codec inet_request) tt)
-name_entry InetResponse = (codes "inet", answer_codec (response_codec inet_response_spec) tt)
-name_entry SocketId4 = (codes "sockid4", answer_codec (record_codec socket_id) AF_INET)
-name_entry SocketId6 = (codes "sockid6", answer_codec (record_codec socket_id) AF_INET6)
-name_entry Message = (codes "message", answer_codec message_codec SOCK_DIAG_BY_FAMILY)
+name_entry names.UnixRequest = (codes "unixreq", answer_codec (record_codec unix_request) tt)
+name_entry names.UnixResponse = (codes "unix", answer_codec (response_codec unix_response_spec) tt)
+name_entry names.InetRequest = (codes "inetreq", answer_codec (record_codec inet_request) tt)
+name_entry names.InetResponse = (codes "inet", answer_codec (response_codec inet_response_spec) tt)
+name_entry names.SocketId4 = (codes "sockid4", answer_codec (record_codec socket_id) c.AF_INET)
+name_entry names.SocketId6 = (codes "sockid6", answer_codec (record_codec socket_id) c.AF_INET6)
+name_entry names.Message = (codes "message", answer_codec message_codec c.SOCK_DIAG_BY_FAMILY)
 -- the fields of the header as they were parsed, and the serialized payload
-name_entry NetlinkMessage = (codes "netlink", (_, netlink_message_codec, tt, netlink_message_text))
+name_entry names.NetlinkMessage =
+    (codes "netlink", (_, netlink_message_codec, tt, netlink_message_text))
 -- thirteen values of a reply about a UNIX socket; never `unwritable`, since each value counts as
 -- writable (`is_writable`)
-name_entry UnixView =
+name_entry names.UnixView =
     let replies = record (response_codec unix_response_spec) { is_writable = λ v. ⊤ } in
     (codes "unixview", (_, replies, tt, reply_text))
 

@@ -6,10 +6,7 @@ use Rattle.netlink_core.specs.AttributeSet.{value_of_kind}
 use Rattle.sock_diag_attributes.specs.declared.unix.name.SocketName.{SocketName}
 use Rattle.sock_diag_attributes.specs.declared.unix.name.SocketName.TheVariants.{Abstract, Pathname}
 use Rattle.sock_diag_attributes.specs.UnixAttributes.{unix_attribute_set}
-use Rattle.sock_diag_records.specs.declared.constants.TheConstants.{UNIX_DIAG_ICONS}
-use Rattle.sock_diag_records.specs.declared.constants.TheConstants.{UNIX_DIAG_MEMINFO}
-use Rattle.sock_diag_records.specs.declared.constants.TheConstants.{UNIX_DIAG_NAME, UNIX_DIAG_PEER}
-use Rattle.sock_diag_records.specs.declared.constants.TheConstants.{UNIX_DIAG_SHUTDOWN}
+use Rattle.sock_diag_records.specs.declared.constants.TheConstants as c
 use Rattle.netlink_core.specs.Response.{ReplyValue}
 use Rattle.sock_diag_replies.specs.UnixGetters.{first_content_of, listening_queue_of}
 use Rattle.sock_diag_replies.specs.UnixGetters.{nonlistening_queue_of}
@@ -48,11 +45,11 @@ reply_text v = let found = λ (k : ℕ). first_content_of (value_of_kind unix_at
     let both = λ (o : Option (ℕ × ℕ)). option_map (λ p. p.0) o ∷ option_map (λ p. p.1) o ∷ [] in
     join_with_byte 32 (map decimal (v.header.kind ∷ v.header.state ∷ v.header.inode ∷ [])
     -- UNIX_DIAG_PEER, UNIX_DIAG_NAME, UNIX_DIAG_ICONS
-    ++ or_none decimal (found UNIX_DIAG_PEER) ∷ or_none socket_name_text (found UNIX_DIAG_NAME)
-    ∷ or_none comma_list (found UNIX_DIAG_ICONS)
+    ++ or_none decimal (found c.UNIX_DIAG_PEER) ∷ or_none socket_name_text (found c.UNIX_DIAG_NAME)
+    ∷ or_none comma_list (found c.UNIX_DIAG_ICONS)
     -- UNIX_DIAG_SHUTDOWN; the queue lengths of a socket that listens, and those of any other socket
-    ∷ map (or_none decimal) (found UNIX_DIAG_SHUTDOWN
+    ∷ map (or_none decimal) (found c.UNIX_DIAG_SHUTDOWN
     ∷ both (listening_queue_of v) ++ both (nonlistening_queue_of v)
     -- two numbers of UNIX_DIAG_MEMINFO: SK_MEMINFO_SNDBUF and SK_MEMINFO_WMEM_QUEUED
-    ++ option_map (λ info. info.max_datagram_size) (found UNIX_DIAG_MEMINFO)
-    ∷ option_map (λ info. info.alloc) (found UNIX_DIAG_MEMINFO) ∷ []))
+    ++ option_map (λ info. info.max_datagram_size) (found c.UNIX_DIAG_MEMINFO)
+    ∷ option_map (λ info. info.alloc) (found c.UNIX_DIAG_MEMINFO) ∷ []))

@@ -1,16 +1,13 @@
 -- Lemmas about reporting several texts on a writer.
 use Rattle.std.proofs.Common.{◌≡◌, ℕ, Bool, true, false, List, [], ◌++◌, refl, sym, ap, subst, ◌∙◌}
-use Rattle.std.proofs.Common.{append_assoc, append-nil}
-use Rattle.std.proofs.Common.{◌∷◌}
+use Rattle.std.proofs.Common.{append_assoc, append-nil, ◌∷◌}
 use Rattle.std.specs.Prelude.{Option, ⊤}
 use Rattle.std.specs.Io.KnownBytes.{Appends}
 use Rattle.std.proofs.KnownBytes.{Appends-nil, Appends-trans}
 use Rattle.sock_diag_listing.specs.Reports.{ReportsText, ReportsMore, WritesPrefix, closing_line}
 use Rattle.sock_diag_listing.specs.Reports.{list_error_text}
 use Rattle.sock_diag_listing.specs.declared.list_error.ListError.{ListError}
-use Rattle.sock_diag_listing.specs.declared.list_error.ListError.TheVariants.{Header, Packet}
-use Rattle.sock_diag_listing.specs.declared.list_error.ListError.TheVariants.{Memory}
-use Rattle.sock_diag_listing.specs.declared.list_error.ListError.TheVariants.{Write}
+use Rattle.sock_diag_listing.specs.declared.list_error.ListError.TheVariants as errors
 use Rattle.program_streams.specs.declared.streams.WriteError.TheVariants.{Closed, Os, Other}
 
 -- Two texts that are reported are their concatenation.
@@ -76,11 +73,11 @@ reports_prefix a b g false text (sent, more, split, appended, failed) =
     (sent, more, split, appended)
 
 -- The line of a failure other than a closed pipe is the prefix and its text.
-pub closing_other : (front : List ℕ) (e : ListError) → (e ≡ Write Closed → ⊥)
+pub closing_other : (front : List ℕ) (e : ListError) → (e ≡ errors.Write Closed → ⊥)
     → closing_line front e ≡ front ++ list_error_text e ++ 10 ∷ []
-closing_other front (Write Closed) other = absurd (other refl)
-closing_other front (Write (Os code)) other = refl
-closing_other front (Write Other) other = refl
-closing_other front (Header error) other = refl
-closing_other front (Packet packet error) other = refl
-closing_other front Memory other = refl
+closing_other front (errors.Write Closed) other = absurd (other refl)
+closing_other front (errors.Write (Os code)) other = refl
+closing_other front (errors.Write Other) other = refl
+closing_other front (errors.Header error) other = refl
+closing_other front (errors.Packet packet error) other = refl
+closing_other front errors.Memory other = refl

@@ -1,7 +1,6 @@
 -- Dates and times from 1970 on.
-use Rattle.std.proofs.Common.{arith, rules, ◌≡◌, ℕ, zero, suc, ◌+◌, ◌^◌, ◌/◌, ◌%◌}
-use Rattle.std.proofs.Common.{◌<◌, ◌≤◌}
-use Rattle.std.proofs.Common.{inl, inr, refl, ◌∙◌, ℤ, pos, List}
+use Rattle.std.proofs.Common.{arith, rules, ◌≡◌, ℕ, zero, suc, ◌+◌, ◌^◌, ◌/◌, ◌%◌, ◌<◌, ◌≤◌, inl}
+use Rattle.std.proofs.Common.{inr, refl, ◌∙◌, ℤ, pos, List}
 use Rattle.std.proofs.lemmas.Bool.{cases_lt, lt-ltb, le-ltb}
 use Rattle.jiff.proofs.SpanFacts.{signed_arith}
 use Rattle.jiff.proofs.Family.{civil_nanos-parts, days_from_civil-day, days_from_civil-max}

@@ -1,7 +1,6 @@
 -- Names under `--utf8`.
-use Rattle.std.proofs.Common.{arith}
-use Rattle.std.proofs.Common.{◌≡◌, ◌&&◌, Bool, true, cond, List, ℕ, refl, IsUtf8}
-use Rattle.std.proofs.Common.{chars, flat_map}
+use Rattle.std.proofs.Common.{arith, ◌≡◌, ◌&&◌, Bool, true, cond, List, ℕ, refl, IsUtf8, chars}
+use Rattle.std.proofs.Common.{flat_map}
 use Rattle.std.specs.Str.{is_utf8}
 use Rattle.std.proofs.lemmas.Str.{IsUtf8-from_is_utf8, is_utf8-from_IsUtf8}
 use Rattle.sock_diag_listing.specs.Escapes.{shown_character, escaped_byte, shown_name}

@@ -1,7 +1,6 @@
 -- Cells of a line of the table. Texts are lists of ASCII codes.
 use Rattle.std.specs.Prelude.{ℕ, ◌-◌, ◌==◌, if◌then◌else◌, Bool, List, [], ◌∷◌, ◌++◌, length}
-use Rattle.std.specs.Prelude.{replicate}
-use Rattle.std.specs.Prelude.{codes, decimal, Option, None, Some, slice_get, unwrap_or}
+use Rattle.std.specs.Prelude.{replicate, codes, decimal, Option, None, Some, slice_get, unwrap_or}
 use Rattle.std.specs.declared.net.ip_addr.IpAddr.{IpAddr}
 use Rattle.std.specs.declared.net.ip_addr.IpAddr.TheVariants.{V4, V6}
 use Rattle.std.specs.Net.Text.{ip_text, scope_text}

@@ -1,16 +1,13 @@
 -- Escapes in names, so that a name cannot break a line or a column. Texts are lists of bytes.
 use Rattle.std.specs.Prelude.{ℕ, zero, suc, ◌+◌, ◌-◌, ◌*◌, ◌==◌, nat_le, if◌then◌else◌, Bool, true}
-use Rattle.std.specs.Prelude.{◌≡◌, ◌||◌, not}
+use Rattle.std.specs.Prelude.{◌≡◌, ◌||◌, not, false, ◌&&◌, List, [], slice_index, ◌∷◌, chars}
+use Rattle.std.specs.Prelude.{encode_utf8, flat_map, codes, length}
 use Rattle.std.specs.List.{AllByRecursion}
-use Rattle.std.specs.Prelude.{false, ◌&&◌, List, [], slice_index, ◌∷◌, chars, encode_utf8, flat_map}
-use Rattle.std.specs.Prelude.{codes, length}
 use Rattle.std.specs.Str.{is_utf8}
 use Rattle.hex.specs.Hex.{encode_lower}
 use Rattle.ucd_bidi.specs.BidiClass.{bidi_class}
 use Rattle.ucd_bidi.specs.declared.BidiClass.{BidiClass}
-use Rattle.ucd_bidi.specs.declared.BidiClass.TheVariants.{CommonSeparator, EuropeanNumber}
-use Rattle.ucd_bidi.specs.declared.BidiClass.TheVariants.{EuropeanSeparator, EuropeanTerminator}
-use Rattle.ucd_bidi.specs.declared.BidiClass.TheVariants.{LeftToRight, OtherNeutral}
+use Rattle.ucd_bidi.specs.declared.BidiClass.TheVariants as bidi_class_variants
 use Rattle.ucd_category.specs.GeneralCategory.{general_category}
 use Rattle.ucd_category.specs.GeneralCategoryGroup.{in_group}
 use Rattle.ucd_category.specs.declared.GeneralCategory.{GeneralCategory}
@@ -49,12 +46,12 @@ is_visible category =
 -- or take the direction of their neighbors. The others are written from right to left, or control
 -- the direction.
 abbrev pub is_left_to_right : BidiClass → Bool
-is_left_to_right LeftToRight = true
-is_left_to_right EuropeanNumber = true
-is_left_to_right EuropeanSeparator = true
-is_left_to_right EuropeanTerminator = true
-is_left_to_right CommonSeparator = true
-is_left_to_right OtherNeutral = true
+is_left_to_right bidi_class_variants.LeftToRight = true
+is_left_to_right bidi_class_variants.EuropeanNumber = true
+is_left_to_right bidi_class_variants.EuropeanSeparator = true
+is_left_to_right bidi_class_variants.EuropeanTerminator = true
+is_left_to_right bidi_class_variants.CommonSeparator = true
+is_left_to_right bidi_class_variants.OtherNeutral = true
 is_left_to_right _ = false
 
 -- Visible characters by their category that are blank: fillers, which programs may ignore

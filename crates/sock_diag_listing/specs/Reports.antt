@@ -8,9 +8,7 @@ use Rattle.program_streams.specs.Streams.{os_error_end, write_error_text}
 use Rattle.program_streams.specs.declared.streams.WriteError.{WriteError}
 use Rattle.program_streams.specs.declared.streams.WriteError.TheVariants.{Closed, Os, Other}
 use Rattle.sock_diag_listing.specs.declared.list_error.ListError.{ListError}
-use Rattle.sock_diag_listing.specs.declared.list_error.ListError.TheVariants.{Header, Packet}
-use Rattle.sock_diag_listing.specs.declared.list_error.ListError.TheVariants.{Write}
-use Rattle.sock_diag_listing.specs.declared.list_error.ListError.TheVariants.{Memory}
+use Rattle.sock_diag_listing.specs.declared.list_error.ListError.TheVariants as errors
 
 -- ---- diagnostics of packets
 
@@ -47,15 +45,15 @@ output_error_text Other = codes "writing to standard output failed"
 
 -- the text of an error of a run
 abbrev pub list_error_text : ListError → List ℕ
-list_error_text (Header error) = capture_error_text error
-list_error_text (Packet packet error) =
+list_error_text (errors.Header error) = capture_error_text error
+list_error_text (errors.Packet packet error) =
     codes "packet " ++ decimal packet ++ codes ": " ++ capture_error_text error
-list_error_text (Write error) = output_error_text error
-list_error_text Memory = codes "out of memory"
+list_error_text (errors.Write error) = output_error_text error
+list_error_text errors.Memory = codes "out of memory"
 
 -- the line that names a failure, or nothing if the failure is a closed output pipe
 abbrev pub closing_line : List ℕ → ListError → List ℕ
-closing_line front (Write Closed) = []
+closing_line front (errors.Write Closed) = []
 closing_line front error = front ++ list_error_text error ++ 10 ∷ []
 
 -- ---- output on a writer: `held` and `held'` are the bytes written before and after, if known

@@ -1,6 +1,6 @@
 -- Columns that a cell takes in a terminal.
-use Rattle.std.specs.Prelude.{ℕ, ◌-◌, if◌then◌else◌, ◌&&◌, Bool, false, List, [], ◌∷◌, ◌++◌}
-use Rattle.std.specs.Prelude.{chars, length, replicate}
+use Rattle.std.specs.Prelude.{ℕ, ◌-◌, if◌then◌else◌, ◌&&◌, Bool, false, List, [], ◌∷◌, ◌++◌, chars}
+use Rattle.std.specs.Prelude.{length, replicate}
 use Rattle.std.specs.Str.{is_utf8}
 use Rattle.unicode_width.specs.Width.{str_width}
 

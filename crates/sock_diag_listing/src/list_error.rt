@@ -1,7 +1,7 @@
 //! The error of a run over a capture, and the steps that read its header and its packets.
 
-ghost use Rattle.std.specs.Prelude.{◌≡◌, ◌↔◌, ◌++◌, List, ℕ, IfErr, IfOk, IsTrue};
-ghost use Rattle.std.specs.Prelude.{MatchOption, Some};
+ghost use Rattle.std.specs.Prelude.{◌≡◌, ◌↔◌, ◌++◌, List, ℕ, IfErr, IfOk, IsTrue, MatchOption};
+ghost use Rattle.std.specs.Prelude.{Some};
 ghost use Rattle.std.specs.Io.KnownBytes.{Consumes, IsAtEnd};
 ghost use Rattle.netlink_captures.specs.Capture.{captured_packet};
 ghost use Rattle.netlink_captures.specs.Reader.{IsCaptureEnd, IsCaptureStart, IsCaptureStartStop};

@@ -1,8 +1,7 @@
 //! Names and other texts that the owner of a socket or the user of the program chose. A function of
 //! this module allocates only to grow the output.
 
-ghost use Rattle.std.specs.Prelude.{◌≡◌, ◌++◌, ℕ, List, IfOk, OnOk, chars, flat_map};
-ghost use Rattle.std.specs.Prelude.{string_bytes};
+ghost use Rattle.std.specs.Prelude.{◌≡◌, ◌++◌, ℕ, List, IfOk, OnOk, chars, flat_map, string_bytes};
 ghost use Rattle.sock_diag_listing.specs.Escapes.{unescaped_bytes, shown_character, escaped_byte};
 ghost use Rattle.sock_diag_listing.specs.Escapes.{is_blank, is_left_to_right, is_shown_character};
 ghost use Rattle.sock_diag_listing.specs.Escapes.{is_visible, shown_argument, shown_name};

@@ -1,6 +1,6 @@
 -- The header of a reply about an IPv4 or IPv6 socket, 72 bytes.
-use Rattle.std.specs.Prelude.{◌≡◌, ℕ, ◌==◌, ◌||◌, if◌then◌else◌, [], ◌∷◌}
-use Rattle.std.specs.Prelude.{replicate, slice_index, Ok}
+use Rattle.std.specs.Prelude.{◌≡◌, ℕ, ◌==◌, ◌||◌, if◌then◌else◌, [], ◌∷◌, replicate, slice_index}
+use Rattle.std.specs.Prelude.{Ok}
 use Rattle.netlink_core.specs.Layout.{Layout}
 use Rattle.sock_diag_records.specs.declared.inet.response.InetResponseHeader.{InetResponseHeader}
 use Rattle.netlink_core.specs.Errors.{map_ok}

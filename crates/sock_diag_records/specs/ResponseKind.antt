@@ -1,10 +1,8 @@
 -- Which kind of message a payload is.
-use Rattle.std.specs.Prelude.{ℕ, ◌==◌, ◌||◌, not, nat_lt, if◌then◌else◌, List, length}
-use Rattle.std.specs.Prelude.{slice_index, Result, Ok, Err}
+use Rattle.std.specs.Prelude.{ℕ, ◌==◌, ◌||◌, not, nat_lt, if◌then◌else◌, List, length, slice_index}
+use Rattle.std.specs.Prelude.{Result, Ok, Err}
 use Rattle.netlink_core.specs.declared.error.DecodeError.{DecodeError}
-use Rattle.netlink_core.specs.declared.error.DecodeError.TheVariants.{MessageTooShort}
-use Rattle.netlink_core.specs.declared.error.DecodeError.TheVariants.{UnknownFamily}
-use Rattle.netlink_core.specs.declared.error.DecodeError.TheVariants.{UnknownMessageType}
+use Rattle.netlink_core.specs.declared.error.DecodeError.TheVariants as errors
 
 -- The four kinds of messages. Payloads are parsed as replies only: `inet_response` or
 -- `unix_response`.
@@ -18,8 +16,8 @@ pub data MessageKind : Type 0 where
 -- other byte is considered here.
 abbrev pub response_kind : List ℕ → ℕ → Result MessageKind DecodeError
 response_kind b t =
-    if nat_lt (length b) 2 then Err (MessageTooShort (length b))
-    else if not (t == 20) then Err (UnknownMessageType t)
+    if nat_lt (length b) 2 then Err (errors.MessageTooShort (length b))
+    else if not (t == 20) then Err (errors.UnknownMessageType t)
     else if slice_index b 0 == 1 then Ok unix_response
     else if (slice_index b 0 == 2) || (slice_index b 0 == 10) then Ok inet_response
-    else Err (UnknownFamily (slice_index b 0))
+    else Err (errors.UnknownFamily (slice_index b 0))

@@ -2,15 +2,13 @@
 -- the first four, as octets. An IPv6 address is in all, as eight segments in network byte order.
 use Rattle.std.specs.Prelude.{◌≡◌, ℕ, ◌+◌, List, [], ◌∷◌, ◌++◌, length, replicate, Ok}
 use Rattle.std.specs.declared.net.ip_addr.IpAddr.{IpAddr}
-use Rattle.netlink_core.specs.Table.{Field, unread, bytes_at}
-use Rattle.netlink_core.specs.Table.{first_numbers}
+use Rattle.netlink_core.specs.Table.{Field, unread, bytes_at, first_numbers, network, array}
 use Rattle.netlink_core.specs.Layout.{Layout}
 use Rattle.sock_diag_records.specs.declared.inet.socket_id.SocketId.{SocketId}
 use Rattle.netlink_core.specs.declared.error.RecordName.TheVariants as name
 use Rattle.sock_diag_records.specs.IpVersions.{IpVersion, ipv4, ipv6, IpVersions}
 use Rattle.sock_diag_records.specs.IpVersions.{versions_of_family, versions_of, address_data}
 use Rattle.sock_diag_records.specs.inverse.SocketId.{socket_id_of}
-use Rattle.netlink_core.specs.Table.{network, array}
 use Rattle.netlink_core.specs.Rows.{Row, be16, u32, u8s}
 
 -- `address_fields offset version`: the fields of an address whose 16 bytes start at the offset. For

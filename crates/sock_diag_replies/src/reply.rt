@@ -1,7 +1,7 @@
 //! Comparing, measuring and serializing replies of every family: a header followed by attributes.
 
-ghost use Rattle.std.specs.Prelude.{◌≡◌, ◌≤◌, ◌↔◌, length, map, Bool, IsSome, IfSome};
-ghost use Rattle.std.specs.Prelude.{IfErr, IfOk, OnOk, SomeIff};
+ghost use Rattle.std.specs.Prelude.{◌≡◌, ◌≤◌, ◌↔◌, length, map, Bool, IsSome, IfSome, IfErr, IfOk};
+ghost use Rattle.std.specs.Prelude.{OnOk, SomeIff};
 ghost use lib.Pointwise.{pointwise};
 ghost use Rattle.attribute_lists.specs.AttributesIn.{HasNoAttributeError, decoded_in};
 ghost use Rattle.netlink_core.specs.Attribute.{HasAttributeError};

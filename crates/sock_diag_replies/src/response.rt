@@ -1,7 +1,7 @@
 //! Owned replies of any family.
 
-ghost use Rattle.std.specs.Prelude.{◌≡◌, ◌≤◌, ◌↔◌, ℕ, List, [], length, map, IfOk, IsOk};
-ghost use Rattle.std.specs.Prelude.{OnOk, IsTrue, true, refl};
+ghost use Rattle.std.specs.Prelude.{◌≡◌, ◌≤◌, ◌↔◌, ℕ, List, [], length, map, IfOk, IsOk, OnOk};
+ghost use Rattle.std.specs.Prelude.{IsTrue, true, refl};
 ghost use Rattle.std.specs.List.{AllByRecursion};
 ghost use Rattle.netlink_core.specs.Attribute.{HasAttributeError};
 ghost use Rattle.netlink_core.specs.Codec.{KeepsCodecLaws};

@@ -1,7 +1,7 @@
 //! Borrowed replies of any family.
 
-ghost use Rattle.std.specs.Prelude.{◌≡◌, ◌≢◌, ◌≤◌, ◌↔◌, ⊤, ℕ, List, Bool, length, drop, map};
-ghost use Rattle.std.specs.Prelude.{Ok, Err, OnOk, IfOk, IfErr, IsTrue, Some, IfSome, SomeIff};
+ghost use Rattle.std.specs.Prelude.{◌≡◌, ◌≢◌, ◌≤◌, ◌↔◌, ⊤, ℕ, List, Bool, length, drop, map, Ok};
+ghost use Rattle.std.specs.Prelude.{Err, OnOk, IfOk, IfErr, IsTrue, Some, IfSome, SomeIff};
 ghost use Rattle.std.specs.Cmp.{partial_equiv_from_equiv};
 ghost use Rattle.std.specs.Iterator.{Drains, UpTo, YieldsFirstBy, YieldsThen, at_most};
 ghost use Rattle.std.specs.Iterator.SizeHint.{IsWithinCount};

@@ -1,7 +1,7 @@
 -- The memory of a socket: an array of seven, eight or nine little-endian `u32`. Newer kernels added
 -- the last two, one by one.
-use Rattle.std.specs.Prelude.{⊤, ℕ, List, [], ◌∷◌, Ok, nat_lt, is_some}
-use Rattle.std.specs.Prelude.{if◌then◌else◌, length, unwrap_or, IfSome, IsSome}
+use Rattle.std.specs.Prelude.{⊤, ℕ, List, [], ◌∷◌, Ok, nat_lt, is_some, if◌then◌else◌, length}
+use Rattle.std.specs.Prelude.{unwrap_or, IfSome, IsSome}
 use Rattle.netlink_core.specs.Layout.{Layout}
 use Rattle.netlink_core.specs.declared.error.RecordName.TheVariants as name
 use Rattle.sock_diag_values.specs.declared.inet.mem_info.MemInfo.{MemInfo}

@@ -1,6 +1,6 @@
 -- One step of the loop over the arguments of a command line.
-use Rattle.std.proofs.Common.{◌≡◌, ◌≢◌, ◌<◌, ◌+◌, ℕ, true, false, List, length, map}
-use Rattle.std.proofs.Common.{drop, get_or, Some, refl, ap, sym, ◌∙◌}
+use Rattle.std.proofs.Common.{◌≡◌, ◌≢◌, ◌<◌, ◌+◌, ℕ, true, false, List, length, map, drop, get_or}
+use Rattle.std.proofs.Common.{Some, refl, ap, sym, ◌∙◌}
 use Rattle.std.proofs.lemmas.List.{drop_more}
 use Rattle.sslist_options.specs.Choice.{argument_at, decides, first_deciding, last_place}
 use Rattle.sslist_options.specs.Choice.{next_place, no_options, options_after, with_argument}

@@ -1,7 +1,7 @@
 -- The captures that were listed so far.
-use Rattle.std.proofs.Common.{◌≡◌, ◌==◌, ◌<◌, ◌+◌, ℕ, Bool, true, false, List, [], ◌∷◌, ◌++◌}
-use Rattle.std.proofs.Common.{None, Option, map, drop, length, get_or, cond, refl, ap, sym, subst}
-use Rattle.std.proofs.Common.{◌∙◌, append-nil, append_assoc, arith}
+use Rattle.std.proofs.Common.{◌≡◌, ◌==◌, ◌<◌, ◌+◌, ℕ, Bool, true, false, List, [], ◌∷◌, ◌++◌, None}
+use Rattle.std.proofs.Common.{Option, map, drop, length, get_or, cond, refl, ap, sym, subst, ◌∙◌}
+use Rattle.std.proofs.Common.{append-nil, append_assoc, arith}
 use Rattle.std.proofs.lemmas.List.{drop_more, map_push}
 use Rattle.std.proofs.lemmas.List.Sums.{fold_push}
 use Rattle.sslist_options.specs.Choice.{argument_at, names_file, next_place}

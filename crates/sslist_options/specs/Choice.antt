@@ -1,7 +1,7 @@
 -- The request of a command line. Arguments are lists of bytes.
-use Rattle.std.specs.Prelude.{◌≡◌, ◌≢◌, ℕ, ◌-◌, ◌||◌, ◌==◌, if◌then◌else◌, not, Bool, true}
-use Rattle.std.specs.Prelude.{false, List, [], ◌∷◌, Option, Some, None, bytes_eq, codes, drop, find}
-use Rattle.std.specs.Prelude.{fold, is_some, length, nat_eq, nat_lt, option_map, slice_index, take}
+use Rattle.std.specs.Prelude.{◌≡◌, ◌≢◌, ℕ, ◌-◌, ◌||◌, ◌==◌, if◌then◌else◌, not, Bool, true, false}
+use Rattle.std.specs.Prelude.{List, [], ◌∷◌, Option, Some, None, bytes_eq, codes, drop, find, fold}
+use Rattle.std.specs.Prelude.{is_some, length, nat_eq, nat_lt, option_map, slice_index, take}
 use Rattle.std.specs.Prelude.{bit_or}
 use Rattle.std.specs.List.{ends_with, list_any, position_from, starts_with}
 use Rattle.std.specs.Option.{option_map_or}
@@ -12,20 +12,10 @@ use Rattle.sslist_options.specs.declared.arguments.Place.TheVariants as place
 use Rattle.sslist_options.specs.declared.choice.Choice.{Choice}
 use Rattle.sslist_options.specs.declared.choice.Choice.TheVariants as choice
 use Rattle.sslist_options.specs.declared.choice.Rejection.{Rejection}
-use Rattle.sslist_options.specs.declared.choice.Rejection.TheVariants.{InvalidPortValue}
-use Rattle.sslist_options.specs.declared.choice.Rejection.TheVariants.{MisplacedLetter}
-use Rattle.sslist_options.specs.declared.choice.Rejection.TheVariants.{MissingValue}
-use Rattle.sslist_options.specs.declared.choice.Rejection.TheVariants.{UnexpectedValue}
-use Rattle.sslist_options.specs.declared.choice.Rejection.TheVariants.{UnknownFamily}
-use Rattle.sslist_options.specs.declared.choice.Rejection.TheVariants.{UnknownFamilyValue}
-use Rattle.sslist_options.specs.declared.choice.Rejection.TheVariants.{UnknownLetter}
-use Rattle.sslist_options.specs.declared.choice.Rejection.TheVariants.{UnknownOption}
-use Rattle.sslist_options.specs.declared.choice.Rejection.TheVariants.{UnknownStateValue}
+use Rattle.sslist_options.specs.declared.choice.Rejection.TheVariants as rejections
 use Rattle.sslist_options.specs.declared.options.AnyFamily.{AnyFamily}
-use Rattle.sslist_options.specs.declared.options.AnyFamily.TheVariants.{Inet, Inet6, Unix}
-use Rattle.sslist_options.specs.declared.options.AnyFamily.TheVariants.{Other}
-use Rattle.sslist_options.specs.declared.options.Family.TheVariants.{Netlink, Packet, Vsock}
-use Rattle.sslist_options.specs.declared.options.Family.TheVariants.{Xdp}
+use Rattle.sslist_options.specs.declared.options.AnyFamily.TheVariants.{Inet, Inet6, Unix, Other}
+use Rattle.sslist_options.specs.declared.options.Family.TheVariants.{Netlink, Packet, Vsock, Xdp}
 use Rattle.sslist_options.specs.declared.options.Options.{Options}
 use Rattle.sslist_options.specs.Filter.{port_condition, states_named}
 
@@ -162,23 +152,26 @@ family_argument rejection name =
 -- what the name of states is parsed as
 abbrev pub state_argument : List ℕ → Argument
 state_argument name =
-    option_map_or argument.States (states_named name) (argument.Rejected UnknownStateValue)
+    option_map_or argument.States (states_named name) (argument.Rejected
+    rejections.UnknownStateValue)
 
 -- what a condition on the local port is parsed as
 abbrev pub source_argument : List ℕ → Argument
 source_argument text =
-    option_map_or argument.SourcePort (port_condition text) (argument.Rejected InvalidPortValue)
+    option_map_or argument.SourcePort (port_condition text) (argument.Rejected
+    rejections.InvalidPortValue)
 
 -- what a condition on the remote port is parsed as
 abbrev pub destination_argument : List ℕ → Argument
 destination_argument text = option_map_or argument.DestinationPort (port_condition text)
-    (argument.Rejected InvalidPortValue)
+    (argument.Rejected rejections.InvalidPortValue)
 
 -- The reason why letters are rejected of which `letter` is the first one that is not an option at
 -- its place: f, h and V are options too, but f only as the last letter, and h and V only alone.
 abbrev pub letter_rejection : ℕ → Rejection
 letter_rejection letter =
-    if contains_letter letter (codes "fhV") then MisplacedLetter letter else UnknownLetter letter
+    if contains_letter letter (codes "fhV") then
+    rejections.MisplacedLetter letter else rejections.UnknownLetter letter
 
 -- the word is an option that needs a value, without one
 abbrev pub misses_value : List ℕ → Bool
@@ -206,8 +199,9 @@ has_unexpected_value word =
 -- the reason why a word is rejected that begins with two hyphens and is not an option
 abbrev pub long_rejection : List ℕ → Rejection
 long_rejection word =
-    if misses_value word then MissingValue else if has_unexpected_value word then UnexpectedValue
-    else UnknownOption
+    if misses_value word then rejections.MissingValue else if has_unexpected_value word then
+    rejections.UnexpectedValue
+    else rejections.UnknownOption
 
 -- what the long name of a letter is parsed as; any other word is rejected
 abbrev pub long_argument : List ℕ → Argument
@@ -235,7 +229,7 @@ port_argument word =
 abbrev pub valued_argument : List ℕ → Argument
 valued_argument word =
     if starts_with nat_eq word (codes "--family=")
-    then family_argument UnknownFamilyValue (drop 9 word)
+    then family_argument rejections.UnknownFamilyValue (drop 9 word)
     else if starts_with nat_eq word (codes "--state=") then state_argument (drop 8 word)
     else port_argument word
 
@@ -256,7 +250,7 @@ option_argument word =
 -- file.
 abbrev pub argument_at : Place → List ℕ → Argument
 argument_at place.Any word = if is_file word then argument.File else option_argument word
-argument_at place.Family word = family_argument UnknownFamily word
+argument_at place.Family word = family_argument rejections.UnknownFamily word
 argument_at place.File word = argument.File
 
 -- The place of the argument after this one: the name of a family after letters that end in f, the

@@ -1,8 +1,8 @@
 -- Conditions on the states and the ports of the sockets that are listed.
 use Rattle.std.specs.Prelude.{ℕ, ◌+◌, ◌-◌, ◌*◌, ◌^◌, ◌==◌, ◌&&◌, ◌||◌, not, nat_le, nat_lt, Bool}
-use Rattle.std.specs.Prelude.{true, if◌then◌else◌, List, [], ◌∷◌, bit_and, bytes_eq, codes}
-use Rattle.std.specs.Prelude.{drop, is_some, length, map, nat_eq, option_and_then}
-use Rattle.std.specs.Prelude.{take, Option, None, Some}
+use Rattle.std.specs.Prelude.{true, if◌then◌else◌, List, [], ◌∷◌, bit_and, bytes_eq, codes, drop}
+use Rattle.std.specs.Prelude.{is_some, length, map, nat_eq, option_and_then, take, Option, None}
+use Rattle.std.specs.Prelude.{Some}
 use Rattle.std.specs.Char.{to_ascii_lowercase}
 use Rattle.std.specs.List.{ends_with, starts_with}
 use Rattle.sslist_options.specs.declared.filter.PortCondition.{PortCondition}

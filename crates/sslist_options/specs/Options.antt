@@ -5,8 +5,7 @@ use Rattle.sslist_options.specs.declared.options.Detail.{Detail}
 use Rattle.sslist_options.specs.declared.options.Detail.TheVariants.{Timer, Extended, Memory}
 use Rattle.sslist_options.specs.declared.options.Detail.TheVariants.{Connection}
 use Rattle.sslist_options.specs.declared.options.Family.{Family}
-use Rattle.sslist_options.specs.declared.options.Family.TheVariants.{Netlink, Packet, Vsock}
-use Rattle.sslist_options.specs.declared.options.Family.TheVariants.{Xdp}
+use Rattle.sslist_options.specs.declared.options.Family.TheVariants.{Netlink, Packet, Vsock, Xdp}
 use Rattle.sslist_options.specs.declared.options.Options.{Options}
 use Rattle.sslist_options.specs.Filter.{has_port_condition, has_state}
 

@@ -1,6 +1,5 @@
 -- Properties of a set of attribute types that follow from the codec laws of its types.
-use Rattle.std.proofs.Common.{Ok, Err, ◌≡◌, ◌↔◌, inl, inr, [], ◌∷◌}
-use Rattle.std.proofs.Common.{refl, arith}
+use Rattle.std.proofs.Common.{Ok, Err, ◌≡◌, ◌↔◌, inl, inr, [], ◌∷◌, refl, arith}
 use Rattle.std.specs.Prelude.{◌≢◌}
 use Rattle.std.proofs.lemmas.Nat.{and_mask}
 use Rattle.std.proofs.lemmas.Bool.Decides.{nat_tests}

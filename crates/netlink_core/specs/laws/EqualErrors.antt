@@ -6,7 +6,9 @@ use Rattle.netlink_core.specs.declared.canonical_form.CanonError.{CanonError}
 use Rattle.netlink_core.specs.declared.canonical_form.CanonError.TheVariants as canon
 use Rattle.netlink_core.specs.declared.error.DecodeError.{DecodeError}
 use Rattle.netlink_core.specs.declared.error.DecodeError.TheVariants as error
-use Rattle.netlink_core.specs.contracts.canonical_form.CanonErrorPartialEq.TheImpl.{ghosts as of_canon}
+use Rattle.netlink_core.specs.contracts.canonical_form.CanonErrorPartialEq.TheImpl.{
+  ghosts as of_canon,
+}
 use Rattle.netlink_core.specs.declared.error.RecordName.{RecordName}
 use Rattle.netlink_core.specs.contracts.error.RecordNamePartialEq.TheImpl.{ghosts as of_name}
 use Rattle.netlink_core.specs.contracts.error.DecodeErrorPartialEq.TheImpl.{ghosts}

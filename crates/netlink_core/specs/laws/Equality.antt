@@ -1,6 +1,6 @@
 -- Tests of equality, composed of tests of the parts.
-use Rattle.std.proofs.Common.{◌≡◌, ◌↔◌, ◌&&◌, ℕ, List, ◌∷◌, Bool, true}
-use Rattle.std.proofs.Common.{false, eqb, IsTrue, map, rules, arith}
+use Rattle.std.proofs.Common.{◌≡◌, ◌↔◌, ◌&&◌, ℕ, List, ◌∷◌, Bool, true, false, eqb, IsTrue, map}
+use Rattle.std.proofs.Common.{rules, arith}
 use Rattle.std.specs.Cmp.{IsEquivalence, both_ways}
 use lib.Pointwise.{pointwise}
 

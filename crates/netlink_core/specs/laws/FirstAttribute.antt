@@ -1,10 +1,7 @@
 -- The codec of the first attribute keeps the codec laws, for every set of attribute types.
-use Rattle.std.proofs.Common.{arith}
-use Rattle.std.proofs.Common.{Ok, ◌≡◌, inl, inr, [], length, replicate}
-use Rattle.std.proofs.Common.{refl, sym, ap}
-use Rattle.netlink_core.specs.Attribute.{Attribute, padding_length}
+use Rattle.std.proofs.Common.{arith, Ok, ◌≡◌, inl, inr, [], length, replicate, refl, sym, ap}
+use Rattle.netlink_core.specs.Attribute.{Attribute, padding_length, attribute_bytes}
 use Rattle.netlink_core.specs.laws.Prefix.{FitsHeaderFields}
-use Rattle.netlink_core.specs.Attribute.{attribute_bytes}
 use Rattle.netlink_core.specs.AttributeSet.{AttributeSet, AttributeValue, decode_attribute}
 use Rattle.netlink_core.specs.AttributeSet.{encode_attribute}
 use Rattle.netlink_core.specs.laws.ReplyObligations.{AttributeSetLaws}

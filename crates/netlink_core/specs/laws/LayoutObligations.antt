@@ -1,7 +1,6 @@
 -- What has to be proved of a layout, so that its laws follow.
 use Rattle.std.specs.Prelude.{◌≡◌, ◌≤◌, ℕ, ◌+◌, Bool, true, ◌&&◌, ◌==◌, nat_lt, List, [], ◌∷◌}
-use Rattle.std.specs.Prelude.{length, Ok}
-use Rattle.std.specs.Prelude.{Err, IsTrue}
+use Rattle.std.specs.Prelude.{length, Ok, Err, IsTrue}
 use Rattle.std.specs.List.{list_all}
 use Rattle.netlink_core.specs.Bytes.{IsBytes}
 use Rattle.netlink_core.specs.Table.{Field, byte, number, network, flags, unread, values_of}

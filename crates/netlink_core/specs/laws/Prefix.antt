@@ -1,13 +1,11 @@
 -- The attribute at the start of bytes, or the error of bytes that do not begin with one.
-use Rattle.std.proofs.Common.{Result, Ok, Err, ◌≡◌, ◌∙◌, ◌⊎◌, inl, inr, ℕ, ◌+◌}
-use Rattle.std.proofs.Common.{◌-◌, ◌*◌, ◌/◌, ◌%◌, ◌^◌, ◌≤◌, List, [], ◌∷◌, ◌++◌}
-use Rattle.std.proofs.Common.{suc, length, take, drop, refl, sym, ap, arith, ◌<◌}
+use Rattle.std.proofs.Common.{Result, Ok, Err, ◌≡◌, ◌∙◌, ◌⊎◌, inl, inr, ℕ, ◌+◌, ◌-◌, ◌*◌, ◌/◌, ◌%◌}
+use Rattle.std.proofs.Common.{◌^◌, ◌≤◌, List, [], ◌∷◌, ◌++◌, suc, length, take, drop, refl, sym, ap}
+use Rattle.std.proofs.Common.{arith, ◌<◌}
 use Rattle.std.proofs.lemmas.List.{take-append-drop, length-take, length-append, take_all}
 use Rattle.byteorder.specs.Endian.{little_number}
 use Rattle.netlink_core.specs.declared.error.DecodeError.{DecodeError}
-use Rattle.netlink_core.specs.declared.error.DecodeError.TheVariants.{AttributeHeaderCut}
-use Rattle.netlink_core.specs.declared.error.DecodeError.TheVariants.{AttributeLengthUnder4}
-use Rattle.netlink_core.specs.declared.error.DecodeError.TheVariants.{AttributeLengthPast}
+use Rattle.netlink_core.specs.declared.error.DecodeError.TheVariants as errors
 use Rattle.netlink_core.specs.Bytes.{IsBytes}
 use Rattle.netlink_core.specs.Attribute.{Attribute, header_and_value, attribute_bytes}
 use Rattle.netlink_core.specs.Attribute.{HasAttributePrefix, IsFramingError, IsFirstAttributeError}
@@ -109,13 +107,13 @@ pub prefix_or_framing_error : (bytes : List ℕ) → IsBytes bytes
     ⊎ ((e : DecodeError) × IsFramingError bytes e)
 prefix_or_framing_error bytes fits =
     elim (length_field_cases 4 (length bytes) (little_number 2 bytes)) [
-      | inl short ↦ inr (AttributeHeaderCut (length bytes), (refl, short))
+      | inl short ↦ inr (errors.AttributeHeaderCut (length bytes), (refl, short))
       | inr (inl under) ↦ inr (
-        AttributeLengthUnder4 (little_number 2 bytes),
+        errors.AttributeLengthUnder4 (little_number 2 bytes),
         (refl, under.0, under.1),
       )
       | inr (inr (inl past)) ↦ inr (
-        AttributeLengthPast (little_number 2 bytes) (length bytes),
+        errors.AttributeLengthPast (little_number 2 bytes) (length bytes),
         (refl, refl, past.0, past.1, past.2),
       )
       | inr (inr (inr there)) ↦ inl (

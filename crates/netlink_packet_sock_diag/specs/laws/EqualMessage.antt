@@ -1,18 +1,31 @@
 -- `==` of messages is true if and only if their models are equal.
-use Rattle.std.proofs.Common.{arith}
-use Rattle.std.proofs.Common.{◌≡◌, ◌↔◌, Bool, IsTrue, ap}
+use Rattle.std.proofs.Common.{arith, ◌≡◌, ◌↔◌, Bool, IsTrue, ap}
 use Rattle.netlink_core.specs.laws.Equality.{false_decides}
-use Rattle.sock_diag_records.specs.contracts.inet.exact.InetRequestExact.TheImpl.Laws.{exact-law as exact_inet_request}
-use Rattle.sock_diag_records.specs.contracts.unix.request.UnixRequestExact.TheImpl.Laws.{exact-law as exact_unix_request}
-use Rattle.sock_diag_attributes.specs.contracts.inet.codec.NlaHasCodec.TheImpl.Laws.{eq_is_model-law as same_inet}
-use Rattle.sock_diag_attributes.specs.contracts.unix.codec.NlaHasCodec.TheImpl.Laws.{eq_is_model-law as same_unix}
+use Rattle.sock_diag_records.specs.contracts.inet.exact.InetRequestExact.TheImpl.Laws.{
+  exact-law as exact_inet_request,
+}
+use Rattle.sock_diag_records.specs.contracts.unix.request.UnixRequestExact.TheImpl.Laws.{
+  exact-law as exact_unix_request,
+}
+use Rattle.sock_diag_attributes.specs.contracts.inet.codec.NlaHasCodec.TheImpl.Laws.{
+  eq_is_model-law as same_inet,
+}
+use Rattle.sock_diag_attributes.specs.contracts.unix.codec.NlaHasCodec.TheImpl.Laws.{
+  eq_is_model-law as same_unix,
+}
 use Rattle.sock_diag_attributes.specs.InetModel as inet
 use Rattle.sock_diag_attributes.specs.UnixModel as unix
-use Rattle.sock_diag_records.specs.contracts.inet.exact.InetResponseHeaderExact.TheImpl.Laws.{exact-law as exact_inet}
-use Rattle.sock_diag_records.specs.contracts.unix.response.UnixResponseHeaderExact.TheImpl.Laws.{exact-law as exact_unix}
+use Rattle.sock_diag_records.specs.contracts.inet.exact.InetResponseHeaderExact.TheImpl.Laws.{
+  exact-law as exact_inet,
+}
+use Rattle.sock_diag_records.specs.contracts.unix.response.UnixResponseHeaderExact.TheImpl.Laws.{
+  exact-law as exact_unix,
+}
 use Rattle.netlink_packet_sock_diag.specs.declared.message.SockDiagMessage.{SockDiagMessage}
 use Rattle.netlink_packet_sock_diag.specs.declared.message.SockDiagMessage.TheVariants as message
-use Rattle.netlink_packet_sock_diag.specs.contracts.message.SockDiagMessagePartialEq.TheImpl.{ghosts}
+use Rattle.netlink_packet_sock_diag.specs.contracts.message.SockDiagMessagePartialEq.TheImpl.{
+  ghosts,
+}
 use Rattle.netlink_packet_sock_diag.specs.Message.{codec_of_message_kind, Message, message_of}
 use Rattle.netlink_packet_sock_diag.specs.Message.{apply_by_kind}
 use Rattle.sock_diag_records.specs.ResponseKind.{MessageKind, inet_request, inet_response}
@@ -20,7 +33,9 @@ use Rattle.sock_diag_records.specs.ResponseKind.{unix_request, unix_response}
 use Rattle.netlink_packet_sock_diag.specs.MessageModel.{message_model}
 use Rattle.netlink_packet_sock_diag.specs.declared.message.SockDiagView.{SockDiagView}
 use Rattle.netlink_packet_sock_diag.specs.declared.message.SockDiagView.TheVariants as view
-use Rattle.netlink_packet_sock_diag.specs.contracts.message.SockDiagViewPartialEq.TheImpl.{ghosts as views}
+use Rattle.netlink_packet_sock_diag.specs.contracts.message.SockDiagViewPartialEq.TheImpl.{
+  ghosts as views,
+}
 use Rattle.sock_diag_replies.specs.laws.EqualResponse.{responses_equal}
 use Rattle.sock_diag_replies.specs.laws.InetResponseSpec.{inet_test_decides}
 use Rattle.sock_diag_replies.specs.laws.UnixResponseSpec.{unix_test_decides}

@@ -1,7 +1,6 @@
 -- The codec laws of messages.
-use Rattle.std.proofs.Common.{◌≡◌, ◌≢◌, ◌↔◌, ◌∙◌, ℕ, ◌≤◌, ◌⊎◌, inl, inr}
-use Rattle.std.proofs.Common.{List, [], ◌∷◌, length, slice_index, Result, Ok, Err}
-use Rattle.std.proofs.Common.{refl, sym, ap, arith, le-ltb}
+use Rattle.std.proofs.Common.{◌≡◌, ◌≢◌, ◌↔◌, ◌∙◌, ℕ, ◌≤◌, ◌⊎◌, inl, inr, List, [], ◌∷◌, length}
+use Rattle.std.proofs.Common.{slice_index, Result, Ok, Err, refl, sym, ap, arith, le-ltb}
 use Rattle.std.specs.Prelude.{MatchResult}
 use Rattle.std.proofs.lemmas.Bool.{eqb-true, ne_eqb}
 use Rattle.std.proofs.lemmas.Bool.Decides.{nat_tests}
@@ -9,8 +8,7 @@ use Rattle.netlink_core.specs.Bytes.{IsBytes}
 use Rattle.netlink_core.specs.Codec.{KeepsCodecLaws}
 use Rattle.netlink_core.specs.Response.{response_bytes}
 use Rattle.netlink_core.specs.declared.error.DecodeError.{DecodeError}
-use Rattle.netlink_core.specs.declared.error.DecodeError.TheVariants.{Memory}
-use Rattle.netlink_core.specs.declared.error.DecodeError.TheVariants.{UnknownMessageType}
+use Rattle.netlink_core.specs.declared.error.DecodeError.TheVariants.{Memory, UnknownMessageType}
 use Rattle.netlink_core.proofs.LayoutLaws.{layout_codec_laws}
 use Rattle.netlink_core.proofs.Responses.{reply_codec_laws}
 use Rattle.sock_diag_records.specs.IpVersions.{IpVersions, versions_of_family}

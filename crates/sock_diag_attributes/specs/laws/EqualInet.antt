@@ -9,12 +9,22 @@ use Rattle.netlink_core.specs.Attribute.{Attribute}
 use Rattle.netlink_core.proofs.AttributeTypeLaws.{◌⊕◌}
 use Rattle.netlink_core.proofs.ValueTests.{Tests, attribute_test, number_test, value_test}
 use Rattle.netlink_core.proofs.ValueTests.{value_test_decides}
-use Rattle.sock_diag_values.specs.contracts.inet.legacy_mem_info.LegacyMemInfoExact.TheImpl.Laws.{exact-law as exact_legacy}
-use Rattle.sock_diag_values.specs.contracts.inet.legacy_mem_info.LegacyMemInfoPartialEq.TheImpl.{ghosts as legacy}
-use Rattle.sock_diag_values.specs.contracts.inet.tcp_info.TcpInfoExact.TheImpl.Laws.{exact-law as exact_tcp}
+use Rattle.sock_diag_values.specs.contracts.inet.legacy_mem_info.LegacyMemInfoExact.TheImpl.Laws.{
+  exact-law as exact_legacy,
+}
+use Rattle.sock_diag_values.specs.contracts.inet.legacy_mem_info.LegacyMemInfoPartialEq.TheImpl.{
+  ghosts as legacy,
+}
+use Rattle.sock_diag_values.specs.contracts.inet.tcp_info.TcpInfoExact.TheImpl.Laws.{
+  exact-law as exact_tcp,
+}
 use Rattle.sock_diag_values.specs.contracts.inet.tcp_info.TcpInfoPartialEq.TheImpl.{ghosts as tcp}
-use Rattle.sock_diag_values.specs.contracts.inet.mem_info.MemInfoExact.TheImpl.Laws.{exact-law as exact_memory}
-use Rattle.sock_diag_values.specs.contracts.inet.mem_info.MemInfoPartialEq.TheImpl.{ghosts as memory}
+use Rattle.sock_diag_values.specs.contracts.inet.mem_info.MemInfoExact.TheImpl.Laws.{
+  exact-law as exact_memory,
+}
+use Rattle.sock_diag_values.specs.contracts.inet.mem_info.MemInfoPartialEq.TheImpl.{
+  ghosts as memory,
+}
 use Rattle.sock_diag_attributes.specs.InetAttributes.{inet_attribute_set}
 use Rattle.sock_diag_attributes.specs.InetModel.{inet_nla_value}
 use Rattle.sock_diag_attributes.specs.declared.inet.nlas.InetNla.{InetNla}

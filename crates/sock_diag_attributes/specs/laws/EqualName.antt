@@ -1,6 +1,5 @@
 -- `==` of names of UNIX sockets is true if and only if their models are equal.
-use Rattle.std.proofs.Common.{arith}
-use Rattle.std.proofs.Common.{◌≡◌, ◌↔◌, ℕ, List, Bool, false, eqb, IsTrue, ap}
+use Rattle.std.proofs.Common.{arith, ◌≡◌, ◌↔◌, ℕ, List, Bool, false, eqb, IsTrue, ap}
 use mir.Syntax.{given}
 use denote.RattleType.{RattleType}
 use lib.Pointwise.{pointwise, bytes_decides}

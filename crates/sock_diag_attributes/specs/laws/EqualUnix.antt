@@ -1,6 +1,5 @@
 -- `==` of attributes is true if and only if their models are equal.
-use Rattle.std.proofs.Common.{arith}
-use Rattle.std.proofs.Common.{◌≡◌, ◌↔◌, ℕ, List, ◌&&◌, Bool, eqb, IsTrue, ap, rules}
+use Rattle.std.proofs.Common.{arith, ◌≡◌, ◌↔◌, ℕ, List, ◌&&◌, Bool, eqb, IsTrue, ap, rules}
 use mir.Syntax.{given}
 use denote.RattleType.{RattleType}
 use lib.Pointwise.{pointwise, bytes_decides}
@@ -12,8 +11,12 @@ use Rattle.netlink_core.proofs.ValueTests.{Tests, attribute_test, number_test, v
 use Rattle.netlink_core.proofs.ValueTests.{value_test_decides}
 use Rattle.sock_diag_values.specs.contracts.unix.vfs.VfsExact.TheImpl.Laws.{exact-law as exact_vfs}
 use Rattle.sock_diag_values.specs.contracts.unix.vfs.VfsPartialEq.TheImpl.{ghosts as vfs}
-use Rattle.sock_diag_values.specs.contracts.unix.mem_info.MemInfoExact.TheImpl.Laws.{exact-law as exact_memory}
-use Rattle.sock_diag_values.specs.contracts.unix.mem_info.MemInfoPartialEq.TheImpl.{ghosts as memory}
+use Rattle.sock_diag_values.specs.contracts.unix.mem_info.MemInfoExact.TheImpl.Laws.{
+  exact-law as exact_memory,
+}
+use Rattle.sock_diag_values.specs.contracts.unix.mem_info.MemInfoPartialEq.TheImpl.{
+  ghosts as memory,
+}
 use Rattle.sock_diag_attributes.specs.laws.EqualName.{name_test, name_test_decides}
 use Rattle.sock_diag_attributes.specs.NumbersModel.{numbers_view_model}
 use Rattle.sock_diag_attributes.specs.laws.Number.{numbers_in_same}
@@ -22,7 +25,9 @@ use Rattle.sock_diag_attributes.specs.UnixAttributes.{unix_attribute_set}
 use Rattle.sock_diag_attributes.specs.UnixModel.{unix_nla_value}
 use Rattle.sock_diag_attributes.specs.declared.unix.name.SocketName.{SocketName}
 use Rattle.sock_diag_attributes.specs.declared.numbers.NumbersView.{NumbersView}
-use Rattle.sock_diag_attributes.specs.contracts.numbers.NumbersViewPartialEq.TheImpl.{ghosts as number_views}
+use Rattle.sock_diag_attributes.specs.contracts.numbers.NumbersViewPartialEq.TheImpl.{
+  ghosts as number_views,
+}
 use Rattle.sock_diag_attributes.specs.declared.unix.nlas.UnixNla.{UnixNla}
 use Rattle.sock_diag_attributes.specs.contracts.unix.nlas.UnixNlaPartialEq.TheImpl.{ghosts}
 

@@ -1,6 +1,5 @@
 -- The codec laws of a boolean in one byte.
-use Rattle.std.proofs.Common.{◌≡◌, ◌↔◌, ℕ, []}
-use Rattle.std.proofs.Common.{slice_index, arith}
+use Rattle.std.proofs.Common.{◌≡◌, ◌↔◌, ℕ, [], slice_index, arith}
 use Rattle.std.specs.Prelude.{not, ◌==◌}
 use Rattle.netlink_core.specs.laws.Byte.{IsBytes-cons, IsBytes-nil}
 use Rattle.netlink_core.specs.Codec.{KeepsCodecLaws, as_codec}

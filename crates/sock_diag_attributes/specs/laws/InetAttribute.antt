@@ -4,9 +4,15 @@ use Rattle.netlink_core.specs.laws.ReplyObligations.{AttributeSetLaws}
 use Rattle.netlink_core.proofs.AttributeTypeLaws.{◌⊕◌, attribute_spec_laws}
 use Rattle.netlink_core.proofs.AttributeTypeLaws.{allocating_attribute_spec_laws}
 use Rattle.netlink_core.proofs.AttributeTypeLaws.{number_attribute_laws}
-use Rattle.sock_diag_values.specs.contracts.inet.legacy_mem_info.LegacyMemInfoRecord.TheImpl.Laws.{laws-law as legacy_laws}
-use Rattle.sock_diag_values.specs.contracts.inet.tcp_info.TcpInfoRecord.TheImpl.Laws.{laws-law as tcp_laws}
-use Rattle.sock_diag_values.specs.contracts.inet.mem_info.MemInfoRecord.TheImpl.Laws.{laws-law as memory_laws}
+use Rattle.sock_diag_values.specs.contracts.inet.legacy_mem_info.LegacyMemInfoRecord.TheImpl.Laws.{
+  laws-law as legacy_laws,
+}
+use Rattle.sock_diag_values.specs.contracts.inet.tcp_info.TcpInfoRecord.TheImpl.Laws.{
+  laws-law as tcp_laws,
+}
+use Rattle.sock_diag_values.specs.contracts.inet.mem_info.MemInfoRecord.TheImpl.Laws.{
+  laws-law as memory_laws,
+}
 use Rattle.sock_diag_attributes.specs.laws.Text.{text_value_laws}
 use Rattle.sock_diag_attributes.specs.laws.Flag.{flag_laws}
 use Rattle.sock_diag_attributes.specs.InetAttributes.{inet_attribute_set}

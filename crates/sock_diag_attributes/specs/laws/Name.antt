@@ -3,8 +3,7 @@ use Rattle.std.proofs.lemmas.Grind.{common_steps}
 use Rattle.netlink_core.specs.Codec.{KeepsCodecLaws, as_codec}
 use Rattle.netlink_core.proofs.AttributeTypeLaws.{whole_value_laws}
 use Rattle.sock_diag_attributes.specs.Name.{name_value}
-use Rattle.std.proofs.Common.{Ok, Err, IsOk, ◌≡◌, ◌≢◌, ◌∙◌, ℕ, suc, ◌+◌, ◌<◌}
-use Rattle.std.proofs.Common.{◌==◌, List, [], ◌∷◌}
+use Rattle.std.proofs.Common.{Ok, Err, IsOk, ◌≡◌, ◌≢◌, ◌∙◌, ℕ, suc, ◌+◌, ◌<◌, ◌==◌, List, [], ◌∷◌}
 use Rattle.std.proofs.Common.{◌++◌, length, take, drop, get_or, append_assoc, refl, ap, sym, subst}
 use Rattle.std.proofs.Common.{arith}
 use Rattle.std.specs.Prelude.{All, if◌then◌else◌, Result}
@@ -20,8 +19,7 @@ use Rattle.std.proofs.Math.Seq.{take-append_seam}
 use Rattle.std.proofs.lemmas.List.Elements.{All-push}
 use Rattle.netlink_core.specs.Bytes.{IsBytes}
 use Rattle.netlink_core.specs.declared.error.DecodeError.{DecodeError}
-use Rattle.netlink_core.specs.declared.error.DecodeError.TheVariants.{Memory, NameInnerZero}
-use Rattle.netlink_core.specs.declared.error.DecodeError.TheVariants.{NameWithoutEnd}
+use Rattle.netlink_core.specs.declared.error.DecodeError.TheVariants as errors
 use Rattle.netlink_core.specs.laws.Byte.{IsBytes-append, IsBytes-cons, IsBytes-nil}
 use Rattle.sock_diag_attributes.specs.declared.unix.name.SocketName.{SocketName}
 use Rattle.sock_diag_attributes.specs.declared.unix.name.SocketName.TheVariants.{Pathname}
@@ -34,7 +32,7 @@ abbrev pub HasNoZero : List ℕ → Type 0
 HasNoZero bytes = All (λ byte. byte ≢ 0) bytes
 
 -- no error of a name is `Memory`
-name_error_is_not_memory : (x : List ℕ) → read_name x ≡ Err Memory → ⊥
+name_error_is_not_memory : (x : List ℕ) → read_name x ≡ Err errors.Memory → ⊥
 name_error_is_not_memory x h =
     grind arith
 
@@ -65,7 +63,7 @@ name_exact x u h = grind arith
 abbrev path_at : List ℕ → ℕ → Result (SocketName (List ℕ)) DecodeError
 path_at bytes i =
     if i + 1 == length bytes then Ok (Pathname (take i bytes))
-    else Err (if i == length bytes then NameWithoutEnd else NameInnerZero i)
+    else Err (if i == length bytes then errors.NameWithoutEnd else errors.NameInnerZero i)
 
 -- a name whose first byte is not zero, by the bytes before its first zero byte; these are all of
 -- the bytes if there is none
@@ -83,7 +81,7 @@ first_zero _ front rest parts first none here = absurd (first refl)
 -- the last byte, a zero byte only at the end, and no zero byte.
 pub reads_inner_zero : (bytes path : List ℕ) (last i : ℕ) → bytes ≡ path ++ last ∷ []
     → get_or bytes 0 0 ≢ 0 → i < length path → get_or path i 0 ≡ 0 → HasNoZero (take i path)
-    → read_name bytes ≡ Err (NameInnerZero i)
+    → read_name bytes ≡ Err (errors.NameInnerZero i)
 reads_inner_zero bytes path last i parts first lt here none =
     first_zero bytes (take i path) (drop i path ++ last ∷ [])
     (rw (← append_assoc, take-append-drop) parts) first none
@@ -96,7 +94,7 @@ reads_path bytes path parts first none =
     grind (arith, first_zero bytes path (0 ∷ []) parts first none, length-append, take-append_seam)
 
 pub reads_no_end : (bytes path : List ℕ) (last : ℕ) → bytes ≡ path ++ last ∷ []
-    → get_or bytes 0 0 ≢ 0 → last ≢ 0 → HasNoZero path → read_name bytes ≡ Err NameWithoutEnd
+    → get_or bytes 0 0 ≢ 0 → last ≢ 0 → HasNoZero path → read_name bytes ≡ Err errors.NameWithoutEnd
 reads_no_end bytes path last parts first some none =
     first_zero bytes bytes [] (sym (append-nil bytes)) first
     (rw parts (All-push (λ b. b ≢ 0) path last none some)) refl ∙ grind arith

@@ -1,19 +1,15 @@
 -- The codec laws of numbers that make up the complete value of an attribute.
-use Rattle.std.proofs.lemmas.Grind.{common_steps}
-use Rattle.std.proofs.Common.{Some, Ok, ◌≡◌, ◌∙◌, ℕ, suc, ◌+◌, ◌*◌, ◌/◌, ◌%◌}
-use Rattle.std.proofs.Common.{◌≤◌, ◌<◌, ◌^◌, List, [], ◌∷◌, ◌++◌, length, take, drop, refl, sym}
-use Rattle.std.proofs.Common.{arith}
-use Rattle.std.specs.List.{AllByRecursion}
-use Rattle.std.specs.List.{slice_get}
-use Rattle.std.proofs.lemmas.Grind.{same_number_lists}
+use Rattle.std.proofs.lemmas.Grind.{common_steps, same_number_lists}
+use Rattle.std.proofs.Common.{Some, Ok, ◌≡◌, ◌∙◌, ℕ, suc, ◌+◌, ◌*◌, ◌/◌, ◌%◌, ◌≤◌, ◌<◌, ◌^◌, List}
+use Rattle.std.proofs.Common.{[], ◌∷◌, ◌++◌, length, take, drop, refl, sym, arith}
+use Rattle.std.specs.List.{AllByRecursion, slice_get}
 use Rattle.std.proofs.lemmas.Option.{get_or_from_slice_get}
 use Rattle.std.proofs.lemmas.List.{append-nil, length-drop, length-take-le}
 use Rattle.byteorder.specs.Endian.{little_number, little_bytes, IsRead}
 use Rattle.byteorder.specs.Numbers.{little_from-lt, little_number-reads_back}
 use Rattle.byteorder.specs.Numbers.{length-bytes_low_first}
 use Rattle.netlink_core.specs.Bytes.{IsBytes}
-use Rattle.netlink_core.specs.laws.Byte.{IsBytes-left, IsBytes-nil, IsBytes-number}
-use Rattle.netlink_core.specs.laws.Byte.{IsBytes-right}
+use Rattle.netlink_core.specs.laws.Byte.{IsBytes-left, IsBytes-nil, IsBytes-number, IsBytes-right}
 use Rattle.netlink_core.proofs.AttributeTypeLaws.{same_bytes, whole_value_laws}
 use Rattle.netlink_core.specs.Codec.{KeepsCodecLaws, as_codec}
 use Rattle.std.specs.Prelude.{⊤, slice_index, flat_map}

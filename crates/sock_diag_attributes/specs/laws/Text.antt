@@ -1,6 +1,6 @@
 -- The codec laws of a text as the value of an attribute.
-use Rattle.std.proofs.Common.{Ok, ◌≡◌, ◌↔◌, inl, inr, ℕ, List, [], ◌∷◌, ◌++◌}
-use Rattle.std.proofs.Common.{length, ap, sym, subst, arith}
+use Rattle.std.proofs.Common.{Ok, ◌≡◌, ◌↔◌, inl, inr, ℕ, List, [], ◌∷◌, ◌++◌, length, ap, sym}
+use Rattle.std.proofs.Common.{subst, arith}
 use Rattle.std.specs.Prelude.{IsUtf8}
 use Rattle.std.proofs.lemmas.List.{length-append}
 use Rattle.std.proofs.lemmas.Str.{IsUtf8-from_is_utf8}

@@ -5,7 +5,9 @@ use Rattle.netlink_core.proofs.AttributeTypeLaws.{◌⊕◌, attribute_spec_laws
 use Rattle.netlink_core.proofs.AttributeTypeLaws.{allocating_attribute_spec_laws}
 use Rattle.netlink_core.proofs.AttributeTypeLaws.{number_attribute_laws}
 use Rattle.sock_diag_values.specs.contracts.unix.vfs.VfsRecord.TheImpl.Laws.{laws-law as vfs_laws}
-use Rattle.sock_diag_values.specs.contracts.unix.mem_info.MemInfoRecord.TheImpl.Laws.{laws-law as memory_laws}
+use Rattle.sock_diag_values.specs.contracts.unix.mem_info.MemInfoRecord.TheImpl.Laws.{
+  laws-law as memory_laws,
+}
 use Rattle.sock_diag_attributes.specs.laws.Name.{name_laws}
 use Rattle.sock_diag_attributes.specs.laws.Number.{number_pair_laws, numbers_laws}
 use Rattle.sock_diag_attributes.specs.UnixAttributes.{unix_attribute_set}

@@ -3,7 +3,9 @@
 ghost use Rattle.std.specs.Prelude.{refl};
 ghost use Rattle.sock_diag_attributes.specs.InetAttributes.{inet_attribute_set};
 ghost use Rattle.sock_diag_attributes.specs.InetModel.{inet_nla_model, inet_nla_view_model};
-ghost use Rattle.sock_diag_attributes.specs.contracts.inet.codec.NlaHasCodec.TheImpl.Laws.{eq_is_model-law as same_nla};
+ghost use Rattle.sock_diag_attributes.specs.contracts.inet.codec.NlaHasCodec.TheImpl.Laws.{
+  eq_is_model-law as same_nla,
+};
 
 use super::nlas::{Nla, NlaView};
 use netlink_core::{DecodeError, FamilyNla, FamilyView, HasCodec, NlaBuffer};

@@ -3,7 +3,9 @@
 ghost use Rattle.std.specs.Prelude.{refl};
 ghost use Rattle.sock_diag_attributes.specs.UnixAttributes.{unix_attribute_set};
 ghost use Rattle.sock_diag_attributes.specs.UnixModel.{unix_nla_model, unix_nla_view_model};
-ghost use Rattle.sock_diag_attributes.specs.contracts.unix.codec.NlaHasCodec.TheImpl.Laws.{eq_is_model-law as same_nla};
+ghost use Rattle.sock_diag_attributes.specs.contracts.unix.codec.NlaHasCodec.TheImpl.Laws.{
+  eq_is_model-law as same_nla,
+};
 
 use super::nlas::{Nla, NlaView};
 use netlink_core::{DecodeError, FamilyNla, FamilyView, HasCodec, NlaBuffer};

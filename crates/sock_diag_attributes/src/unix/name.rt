@@ -1,8 +1,7 @@
 //! The name of a UNIX socket.
 
-ghost use Rattle.std.specs.Prelude.{◌≡◌, ◌<◌, ◌≤◌, length, take, slice_index, IfOk};
-ghost use Rattle.std.specs.Prelude.{IsOk, MatchOption, MatchResult, Ok, Err, true, refl, vec_items};
-ghost use Rattle.std.specs.Prelude.{⊤};
+ghost use Rattle.std.specs.Prelude.{◌≡◌, ◌<◌, ◌≤◌, length, take, slice_index, IfOk, IsOk};
+ghost use Rattle.std.specs.Prelude.{MatchOption, MatchResult, Ok, Err, true, refl, vec_items, ⊤};
 ghost use Rattle.netlink_core.specs.Bytes.{HoldsAtStart, IsBytes};
 ghost use Rattle.sock_diag_attributes.specs.Name.{read_name, name_bytes, name_codec};
 ghost use Rattle.sock_diag_attributes.specs.laws.Name.{HasNoZero, name_codec_laws};

@@ -8,7 +8,9 @@ use Rattle.sock_diag_filters.specs.Prefixes.{bits_of}
 use Rattle.sock_diag_filters.specs.declared.condition.Condition.{Condition}
 use Rattle.sock_diag_filters.specs.declared.condition.Host.{Host}
 use Rattle.sock_diag_filters.specs.declared.condition.Prefix.{Prefix}
-use Rattle.sock_diag_filters.specs.contracts.condition.ConditionPartialEq.TheImpl.{ghosts as conditions}
+use Rattle.sock_diag_filters.specs.contracts.condition.ConditionPartialEq.TheImpl.{
+  ghosts as conditions,
+}
 use Rattle.sock_diag_filters.specs.contracts.condition.HostPartialEq.TheImpl.{ghosts as hosts}
 use Rattle.sock_diag_filters.specs.contracts.condition.PrefixPartialEq.TheImpl.{ghosts as prefixes}
 

@@ -2,10 +2,7 @@
 use Rattle.std.specs.Prelude.{List, ℕ, ◌∷◌, ◌++◌, decimal, option_map}
 use Rattle.netlink_core.specs.AttributeSet.{value_of_kind}
 use Rattle.sock_diag_attributes.specs.UnixAttributes.{unix_attribute_set}
-use Rattle.sock_diag_records.specs.declared.constants.TheConstants.{UNIX_DIAG_ICONS}
-use Rattle.sock_diag_records.specs.declared.constants.TheConstants.{UNIX_DIAG_MEMINFO}
-use Rattle.sock_diag_records.specs.declared.constants.TheConstants.{UNIX_DIAG_NAME, UNIX_DIAG_PEER}
-use Rattle.sock_diag_records.specs.declared.constants.TheConstants.{UNIX_DIAG_SHUTDOWN}
+use Rattle.sock_diag_records.specs.declared.constants.TheConstants as c
 use Rattle.netlink_core.specs.Response.{ReplyValue}
 use Rattle.sock_diag_replies.specs.UnixGetters.{first_content_of, listening_queue_of}
 use Rattle.sock_diag_replies.specs.UnixGetters.{nonlistening_queue_of}
@@ -17,10 +14,10 @@ use Rattle.sock_diag_lines.specs.ViewLine.{comma_list, socket_name_text, or_none
 abbrev pub with_socket_details : List ℕ → ReplyValue unix_response_spec → List ℕ
 with_socket_details text v =
     let found = λ (k : ℕ). first_content_of (value_of_kind unix_attribute_set k) v.nlas in
-    text ++ 32 ∷ or_none decimal (found UNIX_DIAG_PEER)
-    ++ 32 ∷ or_none socket_name_text (found UNIX_DIAG_NAME)
-    ++ 32 ∷ or_none comma_list (found UNIX_DIAG_ICONS)
-    ++ 32 ∷ or_none decimal (found UNIX_DIAG_SHUTDOWN)
+    text ++ 32 ∷ or_none decimal (found c.UNIX_DIAG_PEER)
+    ++ 32 ∷ or_none socket_name_text (found c.UNIX_DIAG_NAME)
+    ++ 32 ∷ or_none comma_list (found c.UNIX_DIAG_ICONS)
+    ++ 32 ∷ or_none decimal (found c.UNIX_DIAG_SHUTDOWN)
 
 -- `with_queues text v`: the text, and then the queue lengths: two values of a socket that listens,
 -- and two values of any other socket; two of the four are always `none`
@@ -35,6 +32,6 @@ with_queues text v =
 -- SK_MEMINFO_WMEM_QUEUED (`alloc`) of UNIX_DIAG_MEMINFO
 abbrev pub with_memory : List ℕ → ReplyValue unix_response_spec → List ℕ
 with_memory text v = let memory =
-    first_content_of (value_of_kind unix_attribute_set UNIX_DIAG_MEMINFO) v.nlas in
+    first_content_of (value_of_kind unix_attribute_set c.UNIX_DIAG_MEMINFO) v.nlas in
     text ++ 32 ∷ or_none decimal (option_map (λ info. info.max_datagram_size) memory)
     ++ 32 ∷ or_none decimal (option_map (λ info. info.alloc) memory)

@@ -1,6 +1,5 @@
 -- The layout `inet_request` is sound (`MeetsLayoutConditions`), and has a fixed length of 56 bytes.
-use Rattle.std.proofs.Common.{◌≡◌, [], ◌∷◌, ◌++◌, length}
-use Rattle.std.proofs.Common.{refl, arith}
+use Rattle.std.proofs.Common.{◌≡◌, [], ◌∷◌, ◌++◌, length, refl, arith}
 use Rattle.netlink_core.specs.laws.LayoutObligations.{MeetsLayoutConditions, HasFixedSize}
 use Rattle.netlink_core.specs.Layout.{record_bytes}
 use Rattle.byteorder.specs.Endian.{little_bytes}

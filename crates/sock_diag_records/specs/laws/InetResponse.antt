@@ -1,16 +1,14 @@
 -- The layout `inet_response_header` is sound (`MeetsLayoutConditions`), and has a fixed length of
 -- 72 bytes.
-use Rattle.std.proofs.Common.{IsTrue, ◌≡◌, ℕ, ◌^◌, ◌<◌}
-use Rattle.std.proofs.Common.{List, ◌++◌, drop, length}
-use Rattle.std.proofs.Common.{slice_index, Option, Some, None, Result, Ok, refl}
-use Rattle.std.proofs.Common.{arith}
-use Rattle.netlink_core.specs.Table.{values_of}
+use Rattle.std.proofs.Common.{IsTrue, ◌≡◌, ℕ, ◌^◌, ◌<◌, List, ◌++◌, drop, length, slice_index}
+use Rattle.std.proofs.Common.{Option, Some, None, Result, Ok, refl, arith}
+use Rattle.netlink_core.specs.Table.{values_of, number, array}
 use Rattle.netlink_core.specs.laws.LayoutObligations.{fields_are_consecutive, MeetsLayoutConditions}
 use Rattle.netlink_core.specs.laws.LayoutObligations.{HasFixedSize}
 use Rattle.netlink_core.specs.Bytes.{IsBytes}
 use Rattle.netlink_core.specs.Errors.{map_ok}
 use Rattle.netlink_core.proofs.Numbers.{number-fits, little_endian}
-use Rattle.netlink_core.specs.Layout.{record_bytes}
+use Rattle.netlink_core.specs.Layout.{record_bytes, tag_fields, field_numbers}
 use Rattle.netlink_core.proofs.TableLaws.{AreBytes-drop}
 use Rattle.sock_diag_records.specs.declared.inet.response.Timer.{Timer}
 use Rattle.sock_diag_records.specs.declared.inet.response.Timer.TheVariants.{Retransmit, KeepAlive}
@@ -21,7 +19,6 @@ use Rattle.sock_diag_records.specs.declared.inet.response.TheConstants.{INET_RES
 use Rattle.sock_diag_records.specs.declared.inet.socket_id.SocketId.{SocketId}
 use Rattle.netlink_core.specs.declared.error.DecodeError.{DecodeError}
 use Rattle.sock_diag_records.specs.laws.SocketId.{socket_id_fields, socket_id_values}
-use Rattle.netlink_core.specs.Layout.{tag_fields, field_numbers}
 use Rattle.sock_diag_records.specs.SocketId.{HasArrayLengths}
 use Rattle.sock_diag_records.specs.inverse.SocketId.{socket_id_of}
 use Rattle.sock_diag_records.specs.IpVersions.{IpVersions, versions_of}
@@ -31,7 +28,6 @@ use Rattle.sock_diag_records.specs.inverse.InetResponse.{inet_response_header_of
 use Rattle.sock_diag_records.specs.Timer.{u32_milliseconds, timer_class}
 use Rattle.sock_diag_records.specs.Timer.{timer_data, IsWholeU32Milliseconds}
 use Rattle.sock_diag_records.specs.laws.SocketId.{for_each_version_pair, socket_id_inverse}
-use Rattle.netlink_core.specs.Table.{number, array}
 
 -- the tag of IP versions and a timer class, or the error of the family
 abbrev pub versions_with_timer_class : ℕ → Result IpVersions DecodeError

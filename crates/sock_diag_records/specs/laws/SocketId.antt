@@ -1,15 +1,12 @@
 -- The layout `socket_id` is sound (`MeetsLayoutConditions`), and has a fixed length of 48 bytes.
-use Rattle.std.proofs.Common.{◌≡◌, ℕ, List, [], ◌∷◌, ◌++◌, drop, length}
-use Rattle.std.proofs.Common.{refl, sym, ap, ◌∙◌}
-use Rattle.std.proofs.Common.{arith}
-use Rattle.std.proofs.lemmas.List.{append_assoc}
-use Rattle.std.specs.List.{flat_map}
+use Rattle.std.proofs.Common.{◌≡◌, ℕ, List, [], ◌∷◌, ◌++◌, drop, length, refl, sym, ap, ◌∙◌, arith}
 use Rattle.std.proofs.Common.{append-nil}
+use Rattle.std.proofs.lemmas.List.{append_assoc, get_or-drop, drop-drop}
+use Rattle.std.specs.List.{flat_map}
 use Rattle.byteorder.specs.Endian.{big_bytes, little_bytes}
 use Rattle.netlink_core.proofs.FieldReads.{first_numbers_are_all}
 use Rattle.std.specs.declared.net.ip_addr.IpAddr.{IpAddr}
-use Rattle.netlink_core.specs.Table.{values_of}
-use Rattle.netlink_core.specs.Table.{first_numbers, FitFields}
+use Rattle.netlink_core.specs.Table.{values_of, first_numbers, FitFields, Field}
 use Rattle.netlink_core.specs.laws.LayoutObligations.{MeetsLayoutConditions, HasFixedSize}
 use Rattle.netlink_core.specs.Layout.{IsInRange, record_bytes}
 use Rattle.sock_diag_records.specs.declared.inet.socket_id.SocketId.{SocketId}
@@ -17,16 +14,11 @@ use Rattle.sock_diag_records.specs.declared.inet.socket_id.TheConstants.{SOCKET_
 use Rattle.sock_diag_records.specs.SocketId.{address_values}
 use Rattle.sock_diag_records.specs.private.SocketId.{address_field_bytes}
 use Rattle.sock_diag_records.specs.SocketId.{socket_id_rows, socket_id}
-use Rattle.netlink_core.specs.Table.{Field}
 use Rattle.netlink_core.specs.Rows.{fields_of}
 use Rattle.sock_diag_records.specs.SocketId.{IsAddress}
 use Rattle.sock_diag_records.specs.SocketId.{HasArrayLengths}
-use Rattle.sock_diag_records.specs.inverse.SocketId.{address_value_count, address_of}
-use Rattle.sock_diag_records.specs.inverse.SocketId.{socket_id_of}
-use Rattle.sock_diag_records.specs.IpVersions.{ipv4, ipv6, IpVersions}
-use Rattle.sock_diag_records.specs.IpVersions.{address_data}
-use Rattle.sock_diag_records.specs.IpVersions.{versions_of}
-use Rattle.std.proofs.lemmas.List.{get_or-drop, drop-drop}
+use Rattle.sock_diag_records.specs.inverse.SocketId.{address_value_count, address_of, socket_id_of}
+use Rattle.sock_diag_records.specs.IpVersions.{ipv4, ipv6, IpVersions, address_data, versions_of}
 use Rattle.std.proofs.Math.Nat.{add_assoc}
 
 -- the fields of a socket id that is stored at an offset, and the values in these fields

@@ -3,8 +3,12 @@
 ghost use Rattle.std.proofs.Common.{rules};
 ghost use Rattle.sock_diag_records.specs.laws.EqualRecord.{inet_request_equal};
 ghost use Rattle.sock_diag_records.specs.laws.EqualRecord.{inet_response_header_equal};
-ghost use Rattle.sock_diag_records.specs.contracts.inet.socket_id.SocketIdExact.TheImpl.Laws.{exact-law as exact_socket};
-ghost use Rattle.sock_diag_records.specs.contracts.inet.response.TimerExact.TheImpl.Laws.{exact-law as exact_timer};
+ghost use Rattle.sock_diag_records.specs.contracts.inet.socket_id.SocketIdExact.TheImpl.Laws.{
+  exact-law as exact_socket,
+};
+ghost use Rattle.sock_diag_records.specs.contracts.inet.response.TimerExact.TheImpl.Laws.{
+  exact-law as exact_timer,
+};
 
 use super::{InetRequest, InetResponseHeader};
 use netlink_core::Exact;

@@ -1,22 +1,20 @@
 //! The id of an IPv4 or IPv6 socket.
 
 ghost use Rattle.std.proofs.Common.{rules};
-ghost use Rattle.std.specs.Prelude.{◌≡◌, ◌≢◌, ◌≤◌, ◌+◌, length, replicate, IfErr};
+ghost use Rattle.std.specs.Prelude.{◌≡◌, ◌≢◌, ◌≤◌, ◌+◌, length, replicate, IfErr, ℕ, slice_index};
+ghost use Rattle.std.specs.Prelude.{◌<◌};
 ghost use Rattle.std.specs.declared.net.ip_addr.IpAddr.TheVariants.{V4, V6};
 ghost use Rattle.std.specs.Net.Addr.{ipv4_octets, ipv6_segments};
-ghost use Rattle.netlink_core.specs.Table.{bytes_at, values_of};
+ghost use Rattle.netlink_core.specs.Table.{bytes_at, values_of, FitFields, network, array};
 ghost use Rattle.netlink_core.specs.declared.error.DecodeError.TheVariants.{Memory};
 ghost use Rattle.netlink_core.specs.Layout.{parse_record};
 ghost use Rattle.netlink_core.proofs.LayoutLaws.{record_laws};
-ghost use Rattle.std.specs.Prelude.{ℕ, slice_index, ◌<◌};
-ghost use Rattle.netlink_core.specs.Table.{FitFields};
 ghost use Rattle.sock_diag_records.specs.SocketId.{IsAddress, address_fields, address_values};
 ghost use Rattle.sock_diag_records.specs.SocketId.{socket_id};
 ghost use Rattle.sock_diag_records.specs.private.SocketId.{address_field_bytes};
 ghost use Rattle.sock_diag_records.specs.IpVersions.{address_data, IpVersions};
 ghost use Rattle.sock_diag_records.specs.laws.SocketId.{socket_id_sound};
 ghost use Rattle.sock_diag_records.specs.laws.SocketId.{socket_id_has_fixed_length};
-ghost use Rattle.netlink_core.specs.Table.{network, array};
 
 use crate::constants::{AF_INET, AF_INET6};
 use byteorder::{BigEndian, ByteOrder, LittleEndian};

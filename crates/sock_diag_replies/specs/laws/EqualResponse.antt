@@ -1,6 +1,5 @@
 -- Tests that decide whether two replies, or their models, are equal.
-use Rattle.std.proofs.Common.{arith}
-use Rattle.std.proofs.Common.{◌≡◌, ◌↔◌, ◌&&◌, Bool, true, IsTrue}
+use Rattle.std.proofs.Common.{arith, ◌≡◌, ◌↔◌, ◌&&◌, Bool, true, IsTrue}
 use Rattle.std.proofs.lemmas.List.{map-id}
 use lib.Pointwise.{pointwise}
 use Rattle.netlink_core.specs.laws.Equality.{and_decides, lists_equal}

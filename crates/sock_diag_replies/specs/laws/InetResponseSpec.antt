@@ -1,12 +1,16 @@
 -- Laws of the replies about IPv4 and IPv6 sockets.
-use Rattle.std.proofs.Common.{◌≡◌, ◌↔◌, ℕ, ◌≤◌, List, Bool, IsTrue, ◌++◌, length, slice_index}
-use Rattle.std.proofs.Common.{Ok, arith}
+use Rattle.std.proofs.Common.{◌≡◌, ◌↔◌, ℕ, ◌≤◌, List, Bool, IsTrue, ◌++◌, length, slice_index, Ok}
+use Rattle.std.proofs.Common.{arith}
 use Rattle.std.proofs.lemmas.List.{get_or_append_left}
 use Rattle.netlink_core.specs.Layout.{parse_record}
 use Rattle.netlink_core.specs.Response.{ReplyValue}
 use Rattle.netlink_core.specs.laws.ReplyObligations.{ResponseLaws}
-use Rattle.sock_diag_records.specs.contracts.inet.exact.InetResponseHeaderExact.TheImpl.Laws.{exact-law as exact_header}
-use Rattle.sock_diag_records.specs.contracts.inet.response.InetResponseHeaderPartialEq.TheImpl.{ghosts as headers}
+use Rattle.sock_diag_records.specs.contracts.inet.exact.InetResponseHeaderExact.TheImpl.Laws.{
+  exact-law as exact_header,
+}
+use Rattle.sock_diag_records.specs.contracts.inet.response.InetResponseHeaderPartialEq.TheImpl.{
+  ghosts as headers,
+}
 use Rattle.sock_diag_records.specs.declared.inet.response.InetResponseHeader.{InetResponseHeader}
 use Rattle.sock_diag_records.specs.declared.inet.response.TheConstants.{INET_RESPONSE_HEADER_LEN}
 use Rattle.sock_diag_records.specs.IpVersions.{IpVersions}

@@ -3,8 +3,12 @@ use Rattle.std.proofs.Common.{◌≡◌, ◌≤◌, ◌↔◌, ℕ, List, Bool, 
 use Rattle.netlink_core.specs.Layout.{parse_record}
 use Rattle.netlink_core.specs.Response.{ReplyValue}
 use Rattle.netlink_core.specs.laws.ReplyObligations.{ResponseLaws}
-use Rattle.sock_diag_records.specs.contracts.unix.response.UnixResponseHeaderExact.TheImpl.Laws.{exact-law as exact_header}
-use Rattle.sock_diag_records.specs.contracts.unix.response.UnixResponseHeaderPartialEq.TheImpl.{ghosts as headers}
+use Rattle.sock_diag_records.specs.contracts.unix.response.UnixResponseHeaderExact.TheImpl.Laws.{
+  exact-law as exact_header,
+}
+use Rattle.sock_diag_records.specs.contracts.unix.response.UnixResponseHeaderPartialEq.TheImpl.{
+  ghosts as headers,
+}
 use Rattle.sock_diag_records.specs.declared.unix.response.TheConstants.{UNIX_RESPONSE_HEADER_LEN}
 use Rattle.sock_diag_records.specs.declared.unix.response.UnixResponseHeader.{UnixResponseHeader}
 use Rattle.sock_diag_records.specs.UnixResponseHeader.{unix_response_header}

@@ -6,7 +6,9 @@ ghost use Rattle.sock_diag_replies.specs.UnixResponseSpec.{unix_response_spec};
 ghost use Rattle.sock_diag_replies.specs.laws.UnixResponseSpec.{unix_header_bytes_suffice};
 ghost use Rattle.sock_diag_replies.specs.laws.UnixResponseSpec.{unix_response_laws};
 ghost use Rattle.sock_diag_replies.specs.laws.UnixResponseSpec.{unix_test, unix_test_decides};
-ghost use Rattle.sock_diag_records.specs.contracts.unix.response.UnixResponseHeaderExact.TheImpl.Laws.{exact-law as exact_header};
+ghost use Rattle.sock_diag_records.specs.contracts.unix.response.UnixResponseHeaderExact.TheImpl.Laws.{
+  exact-law as exact_header,
+};
 
 use crate::reply::{check_reply_len, emit_reply_view, reply_view_len, same_views};
 use crate::response::{Reply, ReplyOwned};

@@ -6,7 +6,9 @@ use lib.Pointwise.{bytes_decides}
 use Rattle.sock_diag_values.specs.declared.inet.mem_info.MemInfo.{MemInfo}
 use Rattle.sock_diag_values.specs.declared.inet.mem_info.MemInfoBytes.{MemInfoBytes}
 use Rattle.sock_diag_values.specs.declared.inet.mem_info.MemInfoBuffer.{MemInfoBuffer}
-use Rattle.sock_diag_values.specs.contracts.inet.mem_info.MemInfoBytesPartialEq.TheImpl.{ghosts as held}
+use Rattle.sock_diag_values.specs.contracts.inet.mem_info.MemInfoBytesPartialEq.TheImpl.{
+  ghosts as held,
+}
 
 pub mem_info_equal : (v w : MemInfo)
     → IsTrue (eqb v.receive_queue w.receive_queue && (eqb v.receive_queue_max w.receive_queue_max

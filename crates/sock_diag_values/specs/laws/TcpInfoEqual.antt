@@ -1,7 +1,6 @@
 -- `==` of `TcpInfo` returns true if and only if all fields are equal.
-use Rattle.std.proofs.Common.{arith}
-use Rattle.std.proofs.Common.{◌≡◌, ◌↔◌, ◌&&◌, ℕ, List, [], ◌∷◌, Bool, false, eqb, IsTrue, drop}
-use Rattle.std.proofs.Common.{rules}
+use Rattle.std.proofs.Common.{arith, ◌≡◌, ◌↔◌, ◌&&◌, ℕ, List, [], ◌∷◌, Bool, false, eqb, IsTrue}
+use Rattle.std.proofs.Common.{drop, rules}
 use Rattle.sock_diag_values.specs.declared.inet.tcp_info.TcpInfo.{TcpInfo}
 use Rattle.sock_diag_values.specs.TcpInfo.{tcp_info_rows}
 use Rattle.netlink_core.specs.Rows.{numbers_of}

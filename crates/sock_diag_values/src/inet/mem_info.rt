@@ -5,14 +5,13 @@ ghost use Rattle.std.specs.Prelude.{SomeIff, IfSome, IsSome};
 ghost use Rattle.std.proofs.Common.{rules};
 ghost use Rattle.netlink_core.specs.Layout.{parse_record, record_bytes, field_numbers};
 ghost use Rattle.netlink_core.proofs.LayoutLaws.{record_laws};
-ghost use Rattle.netlink_core.specs.Table.{FitFields};
+ghost use Rattle.netlink_core.specs.Table.{FitFields, number, array};
 ghost use Rattle.sock_diag_values.specs.MemInfo.{mem_info_u32_count, mem_info};
 ghost use Rattle.sock_diag_values.specs.MemInfo.{mem_info_buffer_bytes};
 ghost use Rattle.sock_diag_values.specs.laws.MemInfo.{mem_info_sound};
 ghost use Rattle.sock_diag_values.specs.laws.MemInfoEqual.{buffer_equal, bytes_equal};
 ghost use Rattle.sock_diag_values.specs.laws.MemInfoEqual.{mem_info_equal};
 ghost use Rattle.byteorder.specs.Endian.{little_number};
-ghost use Rattle.netlink_core.specs.Table.{number, array};
 
 use byteorder::{ByteOrder, LittleEndian};
 use netlink_core::fields::u32s_at;

@@ -2,7 +2,9 @@
 use Rattle.std.proofs.Common.{arith, rules, ◌≡◌, ◌↔◌, IsTrue}
 use Rattle.sslist_options.specs.declared.filter.PortCondition.{PortCondition}
 use Rattle.sslist_options.specs.declared.filter.SocketFilter.{SocketFilter}
-use Rattle.sslist_options.specs.contracts.filter.PortConditionPartialEq.TheImpl.{ghosts as conditions}
+use Rattle.sslist_options.specs.contracts.filter.PortConditionPartialEq.TheImpl.{
+  ghosts as conditions,
+}
 use Rattle.sslist_options.specs.contracts.filter.SocketFilterPartialEq.TheImpl.{ghosts as filters}
 
 pub condition_equal : (v w : PortCondition) → IsTrue (conditions.eq v w) ↔ (v ≡ w)

@@ -1,7 +1,7 @@
-use Rattle.std.proofs.Common.{◌≡◌, false, refl, take, take_all, le_refl, length}
+use Rattle.std.proofs.Common.{◌≡◌, false, refl, take, take_all, le_refl, length, ◌==◌, [], ◌++◌}
+use Rattle.std.proofs.Common.{sym, ap, append-nil}
 use Rattle.std.proofs.KnownBytes.{Appends-nil, Consumes-nil, Consumes-kept}
 use Rattle.std.proofs.lemmas.List.Elements.{All-nil}
-use Rattle.std.proofs.Common.{◌==◌, [], ◌++◌, sym, ap, append-nil}
 use Rattle.std.proofs.lemmas.List.Concat.{flat_map-append}
 use Rattle.std.proofs.lemmas.List.Folds.{list_all-append}
 use Rattle.std.proofs.Math.Seq.{take-append_seam}

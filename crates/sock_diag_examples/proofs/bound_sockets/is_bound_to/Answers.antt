@@ -1,5 +1,5 @@
-use Rattle.std.proofs.Common.{◌≡◌, ◌↔◌, ℕ, Bool, Bor, IsTrue, List, Option, None, Some, ap}
-use Rattle.std.proofs.Common.{refl, sym}
+use Rattle.std.proofs.Common.{◌≡◌, ◌↔◌, ℕ, Bool, Bor, IsTrue, List, Option, None, Some, ap, refl}
+use Rattle.std.proofs.Common.{sym}
 use Rattle.std.specs.Option.{option_eq, option_map}
 use Rattle.sock_diag_attributes.specs.laws.EqualName.{names_equal}
 use Rattle.sock_diag_attributes.specs.laws.AttributeParts.{text_view_row}

@@ -4,11 +4,10 @@ use Rattle.std.specs.Iterator.{Drains}
 use Rattle.std.specs.List.{filter_map}
 use Rattle.netlink_core.specs.Items.{IsItemOf, AreItemsOf}
 use Rattle.netlink_core.specs.declared.error.DecodeError.{DecodeError}
-use Rattle.netlink_packet_sock_diag.specs.PayloadViewModel.{PayloadView}
+use Rattle.netlink_packet_sock_diag.specs.PayloadViewModel.{PayloadView, payload_view_model}
 use Rattle.netlink_packet_sock_diag.specs.DumpWalk.{YieldsPayloadView}
 use Rattle.netlink_packet_sock_diag.specs.Message.{message_codec}
 use Rattle.netlink_core.specs.Errors.{map_ok}
-use Rattle.netlink_packet_sock_diag.specs.PayloadViewModel.{payload_view_model}
 use Rattle.sock_diag_examples.specs.Lister.{AreLinesOf, line_of}
 use Rattle.sock_diag_examples.proofs.lister.list.Goals as goal
 

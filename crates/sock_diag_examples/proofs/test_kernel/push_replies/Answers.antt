@@ -5,9 +5,7 @@ use Rattle.std.proofs.lemmas.Result.{err_from_is_err_and}
 use Rattle.sock_diag_examples.specs.UnixResponseModel.{unix_response_model}
 use Rattle.sock_diag_examples.specs.TestKernel.{IsErrorFor, IsWritableReplyMessage}
 use Rattle.sock_diag_examples.specs.declared.test_kernel.AnswerError.{AnswerError}
-use Rattle.sock_diag_examples.specs.declared.test_kernel.AnswerError.TheVariants.{Request}
-use Rattle.sock_diag_examples.specs.declared.test_kernel.AnswerError.TheVariants.{Unwritable}
-use Rattle.sock_diag_examples.specs.declared.test_kernel.AnswerError.TheVariants.{Memory}
+use Rattle.sock_diag_examples.specs.declared.test_kernel.AnswerError.TheVariants as errors
 use Rattle.sock_diag_examples.proofs.test_kernel.push_replies.Goals as goal
 
 -- a property of all elements holds of one
@@ -20,9 +18,9 @@ holds_at P made (y ∷ xs) (suc i) x e all = holds_at P made xs i x e all.1
 -- if the message of one reply is too long, not all are writable
 of_one : {One All : Type 0} (e : AnswerError) → (All → One) → IsErrorFor (¬ One) e
     → IsErrorFor (¬ All) e
-of_one (Request error) each none = none
-of_one Unwritable each none = λ all. none (each all)
-of_one Memory each none = tt
+of_one (errors.Request error) each none = none
+of_one errors.Unwritable each none = λ all. none (each all)
+of_one errors.Memory each none = tt
 
 pub returns-in_err-push_reply-clause-err : goal.returns-in_err-push_reply-clause-err
 returns-in_err-push_reply-clause-err c =

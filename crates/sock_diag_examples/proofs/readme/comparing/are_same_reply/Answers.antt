@@ -2,8 +2,7 @@ use Rattle.std.proofs.Common.{arith, inr}
 use Rattle.std.proofs.lemmas.Result.{err_from_is_err_and}
 use Rattle.sock_diag_replies.specs.ViewModel.{view_model}
 use Rattle.sock_diag_replies.specs.UnixResponseSpec.{unix_response_spec}
-use Rattle.sock_diag_replies.specs.laws.UnixResponseSpec.{unix_response_laws}
-use Rattle.sock_diag_replies.specs.laws.UnixResponseSpec.{unix_test_decides}
+use Rattle.sock_diag_replies.specs.laws.UnixResponseSpec.{unix_response_laws, unix_test_decides}
 use Rattle.netlink_core.proofs.Responses.{reply_codec_laws}
 use Rattle.sock_diag_examples.proofs.readme.comparing.are_same_reply.Goals as goal
 

@@ -1,8 +1,12 @@
 use Rattle.std.proofs.Common.{refl, arith}
 use Rattle.sock_diag_replies.specs.ViewModel.{view_model}
 use Rattle.sock_diag_examples.proofs.readme.comparing.rewrite.Goals as goal
-use Rattle.sock_diag_examples.proofs.readme.comparing.rewrite.Goals.{then-not-is_writable-via-then-not-is_writable}
-use Rattle.sock_diag_examples.proofs.readme.comparing.rewrite.Goals.{then-not-is_writable-via-else-not-is_writable+then-buffer_len-buffer}
+use Rattle.sock_diag_examples.proofs.readme.comparing.rewrite.Goals.{
+  then-not-is_writable-via-then-not-is_writable,
+}
+use Rattle.sock_diag_examples.proofs.readme.comparing.rewrite.Goals.{
+  then-not-is_writable-via-else-not-is_writable+then-buffer_len-buffer,
+}
 
 pub returns-then-not-is_writable-clause-value : goal.returns-then-not-is_writable-clause-value
 returns-then-not-is_writable-clause-value c = (

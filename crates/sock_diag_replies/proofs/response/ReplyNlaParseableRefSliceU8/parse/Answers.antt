@@ -1,9 +1,10 @@
 use Rattle.std.proofs.Common.{ap, map, arith}
-use Rattle.sock_diag_replies.proofs.Owning.{empty_value, owned_error, owned_value}
-use Rattle.sock_diag_replies.proofs.Owning.{owned_wanted}
+use Rattle.sock_diag_replies.proofs.Owning.{empty_value, owned_error, owned_value, owned_wanted}
 use Rattle.sock_diag_replies.proofs.response.ReplyNlaParseableRefSliceU8.parse.Goals as goal
 use Rattle.sock_diag_replies.proofs.response.ReplyNlaParseableRefSliceU8.parse.Goals.{in-None}
-use Rattle.sock_diag_replies.proofs.response.ReplyNlaParseableRefSliceU8.parse.Goals.{in_default+else-is_err}
+use Rattle.sock_diag_replies.proofs.response.ReplyNlaParseableRefSliceU8.parse.Goals.{
+  in_default+else-is_err,
+}
 
 pub returns-in_err-view-clause-error : goal.returns-in_err-view-clause-error
 returns-in_err-view-clause-error g c =

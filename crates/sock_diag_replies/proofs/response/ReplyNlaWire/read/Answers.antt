@@ -1,7 +1,6 @@
 use Rattle.std.proofs.Common.{ap, map, arith}
 use Rattle.std.proofs.lemmas.Result.{err_from_is_err_and}
-use Rattle.sock_diag_replies.proofs.Owning.{empty_value, owned_error, owned_value}
-use Rattle.sock_diag_replies.proofs.Owning.{owned_wanted}
+use Rattle.sock_diag_replies.proofs.Owning.{empty_value, owned_error, owned_value, owned_wanted}
 use Rattle.sock_diag_replies.proofs.response.ReplyNlaWire.read.Goals as goal
 use Rattle.sock_diag_replies.proofs.response.ReplyNlaWire.read.Goals.{in-None}
 use Rattle.sock_diag_replies.proofs.response.ReplyNlaWire.read.Goals.{in_default+else-is_err}

@@ -1,5 +1,4 @@
-use Rattle.std.proofs.Common.{◌<◌, ◌^◌, ℕ, drop, slice_index, sym, ap, ◌∙◌}
-use Rattle.std.proofs.Common.{arith, Result, Ok}
+use Rattle.std.proofs.Common.{◌<◌, ◌^◌, ℕ, drop, slice_index, sym, ap, ◌∙◌, arith, Result, Ok}
 use Rattle.std.proofs.lemmas.List.{take_rest}
 use Rattle.std.proofs.lemmas.Nat.{and_mask}
 use Rattle.std.proofs.Math.Nat.{mod-eq_of_lt}
