@@ -5,7 +5,7 @@
 mod block_error;
 mod captures;
 mod compression;
-mod exact;
+mod equality;
 pub mod laws;
 mod pcapng;
 mod reader;

@@ -2,8 +2,8 @@
 //! the lines of an input. Lines are not decoded here.
 #![tactic(auto)]
 
+mod equality;
 mod error_text;
-mod exact;
 pub mod laws;
 mod lines;
 mod streams;

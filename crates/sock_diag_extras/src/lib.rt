@@ -8,7 +8,7 @@ mod acknowledgement;
 mod bytes;
 mod congestion;
 pub mod constants;
-mod exact;
+mod equality;
 pub mod laws;
 mod md5_signature;
 mod nested;

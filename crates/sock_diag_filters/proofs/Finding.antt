@@ -17,7 +17,8 @@ use Rattle.sock_diag_filters.specs.declared.filter.Filter.TheVariants as parts
 use Rattle.sock_diag_filters.specs.Conditions.{arguments, code_of}
 use Rattle.sock_diag_filters.specs.Prefixes.{octets_of}
 use Rattle.sock_diag_filters.specs.Filters.{meaning}
-use Rattle.sock_diag_filters.specs.Sockets.{AreInRange, IsConditionInRange, IsPort, Socket}
+use Rattle.sock_diag_filters.specs.Sockets.{AreConditionsInRange, IsConditionInRange, IsPort}
+use Rattle.sock_diag_filters.specs.Sockets.{Socket}
 use Rattle.sock_diag_filters.specs.Sockets.{kernel_matches_address, kernel_matches_host}
 use Rattle.sock_diag_filters.specs.Sockets.{kernel_evaluates, has_port, address_has_optional_prefix}
 use Rattle.sock_diag_filters.specs.Sockets.{is_host, address_has_prefix, meets}
@@ -108,7 +109,7 @@ condition_found s (conditions.Cgroup number) range =
     ap (λ (n : ℕ). s.cgroup == n) (u64_round_trips number range)
 condition_found s conditions.AutoBound range = refl
 
-pub evaluation_is_meaning : (s : Socket) (f : Filter) → AreInRange f
+pub evaluation_is_meaning : (s : Socket) (f : Filter) → AreConditionsInRange f
     → meaning (λ c. kernel_evaluates s (code_of c) (arguments c)) f ≡ meaning (meets s) f
 evaluation_is_meaning s (parts.Condition c) range = condition_found s c range
 evaluation_is_meaning s (parts.And' p a q b) range =

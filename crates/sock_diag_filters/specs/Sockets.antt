@@ -173,8 +173,10 @@ IsConditionInRange (conditions.Cgroup number) = number < 2 ^ 64
 IsConditionInRange conditions.AutoBound = ⊤
 
 -- Each number of each condition of a filter fits its Rust type.
-abbrev pub AreInRange : Filter → Type 0
-AreInRange (parts.Condition c) = IsConditionInRange c
-AreInRange (parts.And' p first q second) = AreInRange first × AreInRange second
-AreInRange (parts.Or' p first q second) = AreInRange first × AreInRange second
-AreInRange (parts.Not' p filter) = AreInRange filter
+abbrev pub AreConditionsInRange : Filter → Type 0
+AreConditionsInRange (parts.Condition c) = IsConditionInRange c
+AreConditionsInRange (parts.And' p first q second) =
+    AreConditionsInRange first × AreConditionsInRange second
+AreConditionsInRange (parts.Or' p first q second) =
+    AreConditionsInRange first × AreConditionsInRange second
+AreConditionsInRange (parts.Not' p filter) = AreConditionsInRange filter

@@ -19,7 +19,7 @@ pub enum Filter<'a> {
 
 impl Filter<'_> {
     ghost use Rattle.sock_diag_filters.specs.Filters.{program_size};
-    ghost use Rattle.sock_diag_filters.specs.Sockets.{AreInRange};
+    ghost use Rattle.sock_diag_filters.specs.Sockets.{AreConditionsInRange};
 
     /// Returns the length of the filter's program in bytes, or `None` if it is more than `most`.
     pub fn len_within(&self, most: usize) -> Option<usize>
@@ -50,8 +50,8 @@ impl Filter<'_> {
 
     /// Proof only: puts the range of each number in scope. No run-time effect.
     pub fn prove_in_range(&self)
-        // `AreInRange filter`: each number of each condition of the filter fits its Rust type.
-        ensures { AreInRange self.now }
+        // `AreConditionsInRange filter`: each number of each condition fits its Rust type.
+        ensures { AreConditionsInRange self.now }
     {
         match self {
             Filter::Condition(condition) => condition.prove_in_range(),

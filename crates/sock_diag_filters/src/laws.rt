@@ -10,7 +10,8 @@ ghost use Rattle.sock_diag_filters.specs.declared.filter.Filter.{Filter};
 ghost use Rattle.sock_diag_filters.specs.Conditions.{arguments, code_of};
 ghost use Rattle.sock_diag_filters.specs.Filters.{meaning};
 ghost use Rattle.sock_diag_filters.specs.Run.{Runs};
-ghost use Rattle.sock_diag_filters.specs.Sockets.{AreInRange, Socket, kernel_evaluates, meets};
+ghost use Rattle.sock_diag_filters.specs.Sockets.{AreConditionsInRange, Socket};
+ghost use Rattle.sock_diag_filters.specs.Sockets.{kernel_evaluates, meets};
 ghost use Rattle.sock_diag_filters.specs.InetRequests.{ParsesAsRequest, IsRequestType};
 ghost use Rattle.sock_diag_filters.specs.InetRequests.{IsRejectedRequest};
 ghost use Rattle.sock_diag_filters.specs.InetRequests.{request_attribute_content};
@@ -107,7 +108,7 @@ pub fn any_request_round_trips()
 pub fn programs_select_by_filter()
     // `meaning met filter`: whether the filter selects a socket, if `met` says which conditions the
     // socket meets. `code_of c` and `arguments c`: the operation of the condition `c`.
-    ensures { (socket : Socket) (filter : Filter) → AreInRange filter
+    ensures { (socket : Socket) (filter : Filter) → AreConditionsInRange filter
         → meaning (λ c. kernel_evaluates socket (code_of c) (arguments c)) filter
         ≡ meaning (meets socket) filter }
 {}

@@ -5,7 +5,7 @@
 mod any;
 mod assembly;
 mod condition;
-mod exact;
+mod equality;
 mod filter;
 pub mod laws;
 mod request;

@@ -3,7 +3,7 @@
 #![tactic(auto)]
 
 pub mod cells;
-mod exact;
+mod equality;
 pub mod json_writing;
 pub mod laws;
 pub mod list_error;

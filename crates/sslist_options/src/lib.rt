@@ -4,7 +4,7 @@
 
 mod arguments;
 mod choice;
-mod exact;
+mod equality;
 mod files;
 mod filter;
 pub mod laws;

@@ -1,7 +1,7 @@
 -- `==` of messages is true if and only if their models are equal.
 use Rattle.std.proofs.Common.{arith, ◌≡◌, ◌↔◌, Bool, IsTrue, ap}
 use Rattle.netlink_core.specs.laws.Equality.{false_decides}
-use Rattle.sock_diag_records.specs.contracts.inet.exact.InetRequestExact.TheImpl.Laws.{
+use Rattle.sock_diag_records.specs.contracts.inet.equality.InetRequestExact.TheImpl.Laws.{
   exact-law as exact_inet_request,
 }
 use Rattle.sock_diag_records.specs.contracts.unix.request.UnixRequestExact.TheImpl.Laws.{
@@ -15,7 +15,7 @@ use Rattle.sock_diag_attributes.specs.contracts.unix.codec.NlaHasCodec.TheImpl.L
 }
 use Rattle.sock_diag_attributes.specs.InetModel as inet
 use Rattle.sock_diag_attributes.specs.UnixModel as unix
-use Rattle.sock_diag_records.specs.contracts.inet.exact.InetResponseHeaderExact.TheImpl.Laws.{
+use Rattle.sock_diag_records.specs.contracts.inet.equality.InetResponseHeaderExact.TheImpl.Laws.{
   exact-law as exact_inet,
 }
 use Rattle.sock_diag_records.specs.contracts.unix.response.UnixResponseHeaderExact.TheImpl.Laws.{

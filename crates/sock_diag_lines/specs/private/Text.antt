@@ -17,8 +17,8 @@ is_space c = c == 32
 pub record IsFirstSpace (line : List ℕ) (i : ℕ) : Type 0 where
   pub within : i < length line
   pub cut : line ≡ take i line ++ 32 ∷ drop (i + 1) line
-  -- no space precedes it
-  pub split : slice_split is_space line ≡ take i line ∷ slice_split is_space (drop (i + 1) line)
+  -- the first field is before it, and the other fields are those of the bytes after it
+  pub fields : slice_split is_space line ≡ take i line ∷ slice_split is_space (drop (i + 1) line)
 
 -- `ok ` and the text of a value
 abbrev pub ok_text : List ℕ → List ℕ

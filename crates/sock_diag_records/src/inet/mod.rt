@@ -1,6 +1,6 @@
 //! Records for IPv4 and IPv6 sockets.
 
-mod exact;
+mod equality;
 mod flags;
 pub mod nlas;
 mod request;

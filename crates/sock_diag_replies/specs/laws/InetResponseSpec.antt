@@ -5,7 +5,7 @@ use Rattle.std.proofs.lemmas.List.{get_or_append_left}
 use Rattle.netlink_core.specs.Layout.{parse_record}
 use Rattle.netlink_core.specs.Response.{ReplyValue}
 use Rattle.netlink_core.specs.laws.ReplyObligations.{ResponseLaws}
-use Rattle.sock_diag_records.specs.contracts.inet.exact.InetResponseHeaderExact.TheImpl.Laws.{
+use Rattle.sock_diag_records.specs.contracts.inet.equality.InetResponseHeaderExact.TheImpl.Laws.{
   exact-law as exact_header,
 }
 use Rattle.sock_diag_records.specs.contracts.inet.response.InetResponseHeaderPartialEq.TheImpl.{

@@ -6,7 +6,7 @@ ghost use Rattle.sock_diag_replies.specs.InetResponseSpec.{inet_response_spec};
 ghost use Rattle.sock_diag_replies.specs.laws.InetResponseSpec.{inet_header_bytes_suffice};
 ghost use Rattle.sock_diag_replies.specs.laws.InetResponseSpec.{inet_response_laws};
 ghost use Rattle.sock_diag_replies.specs.laws.InetResponseSpec.{inet_test, inet_test_decides};
-ghost use Rattle.sock_diag_records.specs.contracts.inet.exact.InetResponseHeaderExact.TheImpl.Laws.{
+ghost use Rattle.sock_diag_records.specs.contracts.inet.equality.InetResponseHeaderExact.TheImpl.Laws.{
   exact-law as exact_header,
 };
 

@@ -1,12 +1,17 @@
 //! Getters for the attributes of an owned reply about a UNIX socket.
 
-ghost use Rattle.std.specs.Prelude.{◌≡◌, if◌then◌else◌, None, IsSome, option_map, option_copied};
-ghost use Rattle.std.specs.Prelude.{vec_items, map};
+ghost use Rattle.std.specs.Prelude.{◌≡◌, if◌then◌else◌, None, IsSome, option_map};
+ghost use Rattle.std.specs.Prelude.{option_copied, vec_items, map};
 ghost use Rattle.netlink_core.specs.AttributeSet.{value_of_kind};
 ghost use Rattle.sock_diag_attributes.specs.UnixAttributes.{unix_attribute_set};
 ghost use Rattle.sock_diag_attributes.specs.NameModel.{socket_name_model};
 ghost use Rattle.sock_diag_attributes.specs.UnixModel.{unix_nla_model};
-ghost use Rattle.sock_diag_records.specs.declared.constants.TheConstants as c;
+ghost use Rattle.sock_diag_records.specs.declared.constants.TheConstants.{UNIX_DIAG_ICONS};
+ghost use Rattle.sock_diag_records.specs.declared.constants.TheConstants.{UNIX_DIAG_MEMINFO};
+ghost use Rattle.sock_diag_records.specs.declared.constants.TheConstants.{UNIX_DIAG_NAME};
+ghost use Rattle.sock_diag_records.specs.declared.constants.TheConstants.{UNIX_DIAG_PEER};
+ghost use Rattle.sock_diag_records.specs.declared.constants.TheConstants.{UNIX_DIAG_RQLEN};
+ghost use Rattle.sock_diag_records.specs.declared.constants.TheConstants.{UNIX_DIAG_SHUTDOWN};
 ghost use Rattle.sock_diag_replies.specs.UnixGetters.{first_content_of};
 
 use crate::unix::UnixResponse;
@@ -23,7 +28,7 @@ impl UnixResponse {
         // attribute types of UNIX sockets, and `vs` are the models of the attributes, in wire
         // order.
         ensures { result
-            ≡ first_content_of (value_of_kind unix_attribute_set c.UNIX_DIAG_PEER)
+            ≡ first_content_of (value_of_kind unix_attribute_set UNIX_DIAG_PEER)
             (map unix_nla_model self.now.nlas.items) }
     {
         self.nlas.as_slice().iter().find_map(|nla| match nla {
@@ -38,7 +43,7 @@ impl UnixResponse {
         // `option_copied result`: the name that the returned reference points to.
         // `socket_name_model vec_items`: a name with its `Vec` of bytes as a list.
         ensures { option_map (socket_name_model vec_items) (option_copied result)
-            ≡ first_content_of (value_of_kind unix_attribute_set c.UNIX_DIAG_NAME)
+            ≡ first_content_of (value_of_kind unix_attribute_set UNIX_DIAG_NAME)
             (map unix_nla_model self.now.nlas.items) }
     {
         self.nlas.as_slice().iter().find_map(|nla| match nla {
@@ -52,7 +57,7 @@ impl UnixResponse {
     pub fn pending_connections(&self) -> Option<&[u32]>
         // `option_copied result`: the numbers that the returned reference points to.
         ensures { option_copied result
-            ≡ first_content_of (value_of_kind unix_attribute_set c.UNIX_DIAG_ICONS)
+            ≡ first_content_of (value_of_kind unix_attribute_set UNIX_DIAG_ICONS)
             (map unix_nla_model self.now.nlas.items) }
     {
         self.nlas.as_slice().iter().find_map(|nla| match nla {
@@ -66,7 +71,7 @@ impl UnixResponse {
     /// no such attribute.
     pub fn shutdown_state(&self) -> Option<u8>
         ensures { result
-            ≡ first_content_of (value_of_kind unix_attribute_set c.UNIX_DIAG_SHUTDOWN)
+            ≡ first_content_of (value_of_kind unix_attribute_set UNIX_DIAG_SHUTDOWN)
             (map unix_nla_model self.now.nlas.items) }
     {
         self.nlas.as_slice().iter().find_map(|nla| match nla {
@@ -116,7 +121,7 @@ impl UnixResponse {
     // Returns the value of the first `ReceiveQueueLength` (`UNIX_DIAG_RQLEN`).
     fn queue(&self) -> Option<(u32, u32)>
         ensures { result
-            ≡ first_content_of (value_of_kind unix_attribute_set c.UNIX_DIAG_RQLEN)
+            ≡ first_content_of (value_of_kind unix_attribute_set UNIX_DIAG_RQLEN)
             (map unix_nla_model self.now.nlas.items) }
     {
         self.nlas.as_slice().iter().find_map(|nla| match nla {
@@ -168,7 +173,7 @@ impl UnixResponse {
     /// Returns `None` if there is no such attribute.
     pub fn max_datagram_size(&self) -> Option<u32>
         ensures { result ≡ option_map (λ info. info.max_datagram_size)
-            (first_content_of (value_of_kind unix_attribute_set c.UNIX_DIAG_MEMINFO)
+            (first_content_of (value_of_kind unix_attribute_set UNIX_DIAG_MEMINFO)
             (map unix_nla_model self.now.nlas.items)) }
     {
         Some(self.memory()?.max_datagram_size)
@@ -179,7 +184,7 @@ impl UnixResponse {
     /// reports 0 here for a UNIX socket. Returns `None` if there is no such attribute.
     pub fn memory_used_for_outgoing_data(&self) -> Option<u32>
         ensures { result ≡ option_map (λ info. info.alloc)
-            (first_content_of (value_of_kind unix_attribute_set c.UNIX_DIAG_MEMINFO)
+            (first_content_of (value_of_kind unix_attribute_set UNIX_DIAG_MEMINFO)
             (map unix_nla_model self.now.nlas.items)) }
     {
         Some(self.memory()?.alloc)
@@ -188,7 +193,7 @@ impl UnixResponse {
     // Returns the value of the first `MemInfo` (`UNIX_DIAG_MEMINFO`).
     fn memory(&self) -> Option<MemInfo>
         ensures { result
-            ≡ first_content_of (value_of_kind unix_attribute_set c.UNIX_DIAG_MEMINFO)
+            ≡ first_content_of (value_of_kind unix_attribute_set UNIX_DIAG_MEMINFO)
             (map unix_nla_model self.now.nlas.items) }
     {
         self.nlas.as_slice().iter().find_map(|nla| match nla {

@@ -3,7 +3,12 @@
 ghost use Rattle.std.specs.Prelude.{◌≡◌, if◌then◌else◌, None, IsSome, option_map};
 ghost use Rattle.sock_diag_attributes.specs.NameModel.{socket_name_model};
 ghost use Rattle.sock_diag_attributes.specs.NumbersModel.{numbers_view_model};
-ghost use Rattle.sock_diag_records.specs.declared.constants.TheConstants as c;
+ghost use Rattle.sock_diag_records.specs.declared.constants.TheConstants.{UNIX_DIAG_ICONS};
+ghost use Rattle.sock_diag_records.specs.declared.constants.TheConstants.{UNIX_DIAG_MEMINFO};
+ghost use Rattle.sock_diag_records.specs.declared.constants.TheConstants.{UNIX_DIAG_NAME};
+ghost use Rattle.sock_diag_records.specs.declared.constants.TheConstants.{UNIX_DIAG_PEER};
+ghost use Rattle.sock_diag_records.specs.declared.constants.TheConstants.{UNIX_DIAG_RQLEN};
+ghost use Rattle.sock_diag_records.specs.declared.constants.TheConstants.{UNIX_DIAG_SHUTDOWN};
 ghost use Rattle.sock_diag_replies.specs.UnixGetters.{first_content_of};
 ghost use Rattle.netlink_core.specs.AttributeSet.{value_of_kind};
 ghost use Rattle.sock_diag_attributes.specs.UnixAttributes.{unix_attribute_set};
@@ -27,7 +32,7 @@ impl<'a> UnixResponseView<'a> {
         // attribute types of UNIX sockets, and `vs` are the decoded attributes of the view, in wire
         // order.
         ensures { result
-            ≡ first_content_of (value_of_kind unix_attribute_set c.UNIX_DIAG_PEER)
+            ≡ first_content_of (value_of_kind unix_attribute_set UNIX_DIAG_PEER)
             (unix_response_view_model self.now).nlas }
     {
         self.attributes().find_map(|nla| match nla {
@@ -41,7 +46,7 @@ impl<'a> UnixResponseView<'a> {
     pub fn name(&self) -> Option<NameView<'a>>
         // `socket_name_model (λ b. b.now)`: a name with its borrowed bytes as a list.
         ensures { option_map (socket_name_model (λ b. b.now)) result
-            ≡ first_content_of (value_of_kind unix_attribute_set c.UNIX_DIAG_NAME)
+            ≡ first_content_of (value_of_kind unix_attribute_set UNIX_DIAG_NAME)
             (unix_response_view_model self.now).nlas }
     {
         self.attributes().find_map(|nla| match nla {
@@ -55,7 +60,7 @@ impl<'a> UnixResponseView<'a> {
     pub fn pending_connections(&self) -> Option<NumbersView<'a>>
         // `numbers_view_model`: the numbers of the borrowed list.
         ensures { option_map numbers_view_model result
-            ≡ first_content_of (value_of_kind unix_attribute_set c.UNIX_DIAG_ICONS)
+            ≡ first_content_of (value_of_kind unix_attribute_set UNIX_DIAG_ICONS)
             (unix_response_view_model self.now).nlas }
     {
         self.attributes().find_map(|nla| match nla {
@@ -69,7 +74,7 @@ impl<'a> UnixResponseView<'a> {
     /// no such attribute.
     pub fn shutdown_state(&self) -> Option<u8>
         ensures { result
-            ≡ first_content_of (value_of_kind unix_attribute_set c.UNIX_DIAG_SHUTDOWN)
+            ≡ first_content_of (value_of_kind unix_attribute_set UNIX_DIAG_SHUTDOWN)
             (unix_response_view_model self.now).nlas }
     {
         self.attributes().find_map(|nla| match nla {
@@ -121,7 +126,7 @@ impl<'a> UnixResponseView<'a> {
     // Returns the value of the first `ReceiveQueueLength` (`UNIX_DIAG_RQLEN`).
     fn queue(&self) -> Option<(u32, u32)>
         ensures { result
-            ≡ first_content_of (value_of_kind unix_attribute_set c.UNIX_DIAG_RQLEN)
+            ≡ first_content_of (value_of_kind unix_attribute_set UNIX_DIAG_RQLEN)
             (unix_response_view_model self.now).nlas }
     {
         self.attributes().find_map(|nla| match nla {
@@ -177,7 +182,7 @@ impl<'a> UnixResponseView<'a> {
     /// Returns `None` if there is no such attribute.
     pub fn max_datagram_size(&self) -> Option<u32>
         ensures { result ≡ option_map (λ info. info.max_datagram_size)
-            (first_content_of (value_of_kind unix_attribute_set c.UNIX_DIAG_MEMINFO)
+            (first_content_of (value_of_kind unix_attribute_set UNIX_DIAG_MEMINFO)
             (unix_response_view_model self.now).nlas) }
     {
         Some(self.memory()?.max_datagram_size)
@@ -188,7 +193,7 @@ impl<'a> UnixResponseView<'a> {
     /// reports 0 here for a UNIX socket. Returns `None` if there is no such attribute.
     pub fn memory_used_for_outgoing_data(&self) -> Option<u32>
         ensures { result ≡ option_map (λ info. info.alloc)
-            (first_content_of (value_of_kind unix_attribute_set c.UNIX_DIAG_MEMINFO)
+            (first_content_of (value_of_kind unix_attribute_set UNIX_DIAG_MEMINFO)
             (unix_response_view_model self.now).nlas) }
     {
         Some(self.memory()?.alloc)
@@ -197,7 +202,7 @@ impl<'a> UnixResponseView<'a> {
     // Returns the value of the first `MemInfo` (`UNIX_DIAG_MEMINFO`).
     fn memory(&self) -> Option<MemInfo>
         ensures { result
-            ≡ first_content_of (value_of_kind unix_attribute_set c.UNIX_DIAG_MEMINFO)
+            ≡ first_content_of (value_of_kind unix_attribute_set UNIX_DIAG_MEMINFO)
             (unix_response_view_model self.now).nlas }
     {
         self.attributes().find_map(|nla| match nla {

@@ -27,11 +27,10 @@ pub struct LegacyMemInfo {
     /// Memory that is reserved for later use, in bytes (`idiag_fmem`), at offset 8. Only TCP has
     /// it.
     pub cache: u32,
-    /// Memory of packets that were committed to the device queue, in bytes (`idiag_tmem`), at
-    /// offset
-    /// 12. Linux sends the number of `SK_MEMINFO_WMEM_ALLOC`, which is `bottom_send_queues` of
-    /// [`MemInfo`](super::MemInfo): the names are exchanged there. sock_diag(7) calls it the data
-    /// in the send queue.
+    /// Memory of packets that were committed to the device queue, in bytes, at offset 12
+    /// (`idiag_tmem`). Linux sends the number of `SK_MEMINFO_WMEM_ALLOC`, which is
+    /// `bottom_send_queues` of [`MemInfo`](super::MemInfo): the names are exchanged there.
+    /// sock_diag(7) calls it the data in the send queue.
     pub send_queue: u32,
 }
 

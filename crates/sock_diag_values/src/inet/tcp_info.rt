@@ -5,9 +5,10 @@ ghost use Rattle.std.proofs.Common.{rules};
 ghost use Rattle.netlink_core.specs.Layout.{parse_record};
 ghost use Rattle.netlink_core.proofs.LayoutLaws.{record_laws};
 ghost use Rattle.sock_diag_values.specs.TcpInfo.{tcp_info};
-ghost use Rattle.sock_diag_values.specs.private.TcpInfo.{states, counts, ages, metrics, receiver};
-ghost use Rattle.sock_diag_values.specs.private.TcpInfo.{rates, segments, limits, deliveries};
-ghost use Rattle.sock_diag_values.specs.private.TcpInfo.{totals, reorderings, bytes_0_to_92};
+ghost use Rattle.sock_diag_values.specs.private.TcpInfo.{u8s_at_0, u32s_at_8, u32s_at_44};
+ghost use Rattle.sock_diag_values.specs.private.TcpInfo.{u32s_at_60, u32s_at_92, u64s_at_104};
+ghost use Rattle.sock_diag_values.specs.private.TcpInfo.{u32s_at_136, u64s_at_160, u32s_at_192};
+ghost use Rattle.sock_diag_values.specs.private.TcpInfo.{u64s_at_200, u32s_at_216, bytes_0_to_92};
 ghost use Rattle.sock_diag_values.specs.private.TcpInfo.{bytes_92_to_192, bytes_192_to_232};
 ghost use Rattle.sock_diag_values.specs.laws.TcpInfoEqual.{tcp_info_equal};
 ghost use Rattle.sock_diag_values.specs.laws.TcpInfo.{tcp_info_sound};
@@ -199,72 +200,72 @@ impl Record for TcpInfo {
     #[tactic(auto, unfolding(crate::specs::TcpInfo::tcp_info))]
     #[inline(always)]
     fn from_fields(payload: &[u8], _param: ()) -> Result<Self, DecodeError> {
-        let states = array_at::<8>(payload, 0);
-        let counts = u32s_at::<9>(payload, 8);
-        let ages = u32s_at::<4>(payload, 44);
-        let metrics = u32s_at::<8>(payload, 60);
-        let receiver = u32s_at::<3>(payload, 92);
-        let rates = u64s_at::<4>(payload, 104);
-        let segments = u32s_at::<6>(payload, 136);
-        let limits = u64s_at::<4>(payload, 160);
-        let deliveries = u32s_at::<2>(payload, 192);
-        let totals = u64s_at::<2>(payload, 200);
-        let reorderings = u32s_at::<4>(payload, 216);
+        let u8s_at_0 = array_at::<8>(payload, 0);
+        let u32s_at_8 = u32s_at::<9>(payload, 8);
+        let u32s_at_44 = u32s_at::<4>(payload, 44);
+        let u32s_at_60 = u32s_at::<8>(payload, 60);
+        let u32s_at_92 = u32s_at::<3>(payload, 92);
+        let u64s_at_104 = u64s_at::<4>(payload, 104);
+        let u32s_at_136 = u32s_at::<6>(payload, 136);
+        let u64s_at_160 = u64s_at::<4>(payload, 160);
+        let u32s_at_192 = u32s_at::<2>(payload, 192);
+        let u64s_at_200 = u64s_at::<2>(payload, 200);
+        let u32s_at_216 = u32s_at::<4>(payload, 216);
         Ok(TcpInfo {
-            state: states[0],
-            ca_state: states[1],
-            retransmits: states[2],
-            probes: states[3],
-            backoff: states[4],
-            options: states[5],
-            wscale: states[6],
-            delivery_rate_app_limited: states[7],
-            rto: counts[0],
-            ato: counts[1],
-            snd_mss: counts[2],
-            rcv_mss: counts[3],
-            unacked: counts[4],
-            sacked: counts[5],
-            lost: counts[6],
-            retrans: counts[7],
-            fackets: counts[8],
-            last_data_sent: ages[0],
-            last_ack_sent: ages[1],
-            last_data_recv: ages[2],
-            last_ack_recv: ages[3],
-            pmtu: metrics[0],
-            rcv_ssthresh: metrics[1],
-            rtt: metrics[2],
-            rttvar: metrics[3],
-            snd_ssthresh: metrics[4],
-            snd_cwnd: metrics[5],
-            advmss: metrics[6],
-            reordering: metrics[7],
-            rcv_rtt: receiver[0],
-            rcv_space: receiver[1],
-            total_retrans: receiver[2],
-            pacing_rate: rates[0],
-            max_pacing_rate: rates[1],
-            bytes_acked: rates[2],
-            bytes_received: rates[3],
-            segs_out: segments[0],
-            segs_in: segments[1],
-            notsent_bytes: segments[2],
-            min_rtt: segments[3],
-            data_segs_in: segments[4],
-            data_segs_out: segments[5],
-            delivery_rate: limits[0],
-            busy_time: limits[1],
-            rwnd_limited: limits[2],
-            sndbuf_limited: limits[3],
-            delivered: deliveries[0],
-            delivered_ce: deliveries[1],
-            bytes_sent: totals[0],
-            bytes_retrans: totals[1],
-            dsack_dups: reorderings[0],
-            reord_seen: reorderings[1],
-            rcv_ooopack: reorderings[2],
-            snd_wnd: reorderings[3],
+            state: u8s_at_0[0],
+            ca_state: u8s_at_0[1],
+            retransmits: u8s_at_0[2],
+            probes: u8s_at_0[3],
+            backoff: u8s_at_0[4],
+            options: u8s_at_0[5],
+            wscale: u8s_at_0[6],
+            delivery_rate_app_limited: u8s_at_0[7],
+            rto: u32s_at_8[0],
+            ato: u32s_at_8[1],
+            snd_mss: u32s_at_8[2],
+            rcv_mss: u32s_at_8[3],
+            unacked: u32s_at_8[4],
+            sacked: u32s_at_8[5],
+            lost: u32s_at_8[6],
+            retrans: u32s_at_8[7],
+            fackets: u32s_at_8[8],
+            last_data_sent: u32s_at_44[0],
+            last_ack_sent: u32s_at_44[1],
+            last_data_recv: u32s_at_44[2],
+            last_ack_recv: u32s_at_44[3],
+            pmtu: u32s_at_60[0],
+            rcv_ssthresh: u32s_at_60[1],
+            rtt: u32s_at_60[2],
+            rttvar: u32s_at_60[3],
+            snd_ssthresh: u32s_at_60[4],
+            snd_cwnd: u32s_at_60[5],
+            advmss: u32s_at_60[6],
+            reordering: u32s_at_60[7],
+            rcv_rtt: u32s_at_92[0],
+            rcv_space: u32s_at_92[1],
+            total_retrans: u32s_at_92[2],
+            pacing_rate: u64s_at_104[0],
+            max_pacing_rate: u64s_at_104[1],
+            bytes_acked: u64s_at_104[2],
+            bytes_received: u64s_at_104[3],
+            segs_out: u32s_at_136[0],
+            segs_in: u32s_at_136[1],
+            notsent_bytes: u32s_at_136[2],
+            min_rtt: u32s_at_136[3],
+            data_segs_in: u32s_at_136[4],
+            data_segs_out: u32s_at_136[5],
+            delivery_rate: u64s_at_160[0],
+            busy_time: u64s_at_160[1],
+            rwnd_limited: u64s_at_160[2],
+            sndbuf_limited: u64s_at_160[3],
+            delivered: u32s_at_192[0],
+            delivered_ce: u32s_at_192[1],
+            bytes_sent: u64s_at_200[0],
+            bytes_retrans: u64s_at_200[1],
+            dsack_dups: u32s_at_216[0],
+            reord_seen: u32s_at_216[1],
+            rcv_ooopack: u32s_at_216[2],
+            snd_wnd: u32s_at_216[3],
         })
     }
 
@@ -278,17 +279,17 @@ impl Record for TcpInfo {
     }
 
     fn prove_fields_in_range(&self) {
-        prove_bytes_in_range(&self.states());
-        prove_u32s_in_range(&self.counts());
-        prove_u32s_in_range(&self.ages());
-        prove_u32s_in_range(&self.metrics());
-        prove_u32s_in_range(&self.receiver());
-        prove_u64s_in_range(&self.rates());
-        prove_u32s_in_range(&self.segments());
-        prove_u64s_in_range(&self.limits());
-        prove_u32s_in_range(&self.deliveries());
-        prove_u64s_in_range(&self.totals());
-        prove_u32s_in_range(&self.reorderings());
+        prove_bytes_in_range(&self.u8s_at_0());
+        prove_u32s_in_range(&self.u32s_at_8());
+        prove_u32s_in_range(&self.u32s_at_44());
+        prove_u32s_in_range(&self.u32s_at_60());
+        prove_u32s_in_range(&self.u32s_at_92());
+        prove_u64s_in_range(&self.u64s_at_104());
+        prove_u32s_in_range(&self.u32s_at_136());
+        prove_u64s_in_range(&self.u64s_at_160());
+        prove_u32s_in_range(&self.u32s_at_192());
+        prove_u64s_in_range(&self.u64s_at_200());
+        prove_u32s_in_range(&self.u32s_at_216());
     }
 
     ghost laws = { record_laws tcp_info tcp_info_sound };
@@ -316,13 +317,13 @@ impl TcpInfo {
         requires { length buffer.old ≡ 92 }
         ensures { buffer.new ≡ bytes_0_to_92 self.now }
     {
-        let (states, rest) = buffer.split_at_mut(8);
-        let (counts, rest) = rest.split_at_mut(36);
-        let (ages, metrics) = rest.split_at_mut(16);
-        states.copy_from_slice(&self.states());
-        LittleEndian::write_u32_into(&self.counts(), counts);
-        LittleEndian::write_u32_into(&self.ages(), ages);
-        LittleEndian::write_u32_into(&self.metrics(), metrics);
+        let (u8s_at_0, rest) = buffer.split_at_mut(8);
+        let (u32s_at_8, rest) = rest.split_at_mut(36);
+        let (u32s_at_44, u32s_at_60) = rest.split_at_mut(16);
+        u8s_at_0.copy_from_slice(&self.u8s_at_0());
+        LittleEndian::write_u32_into(&self.u32s_at_8(), u32s_at_8);
+        LittleEndian::write_u32_into(&self.u32s_at_44(), u32s_at_44);
+        LittleEndian::write_u32_into(&self.u32s_at_60(), u32s_at_60);
     }
 
     // Writes the fields at offsets 92 to 191.
@@ -330,13 +331,13 @@ impl TcpInfo {
         requires { length buffer.old ≡ 100 }
         ensures { buffer.new ≡ bytes_92_to_192 self.now }
     {
-        let (receiver, rest) = buffer.split_at_mut(12);
-        let (rates, rest) = rest.split_at_mut(32);
-        let (segments, limits) = rest.split_at_mut(24);
-        LittleEndian::write_u32_into(&self.receiver(), receiver);
-        LittleEndian::write_u64_into(&self.rates(), rates);
-        LittleEndian::write_u32_into(&self.segments(), segments);
-        LittleEndian::write_u64_into(&self.limits(), limits);
+        let (u32s_at_92, rest) = buffer.split_at_mut(12);
+        let (u64s_at_104, rest) = rest.split_at_mut(32);
+        let (u32s_at_136, u64s_at_160) = rest.split_at_mut(24);
+        LittleEndian::write_u32_into(&self.u32s_at_92(), u32s_at_92);
+        LittleEndian::write_u64_into(&self.u64s_at_104(), u64s_at_104);
+        LittleEndian::write_u32_into(&self.u32s_at_136(), u32s_at_136);
+        LittleEndian::write_u64_into(&self.u64s_at_160(), u64s_at_160);
     }
 
     // Writes the fields at offsets 192 to 231.
@@ -344,16 +345,16 @@ impl TcpInfo {
         requires { length buffer.old ≡ 40 }
         ensures { buffer.new ≡ bytes_192_to_232 self.now }
     {
-        let (deliveries, rest) = buffer.split_at_mut(8);
-        let (totals, reorderings) = rest.split_at_mut(16);
-        LittleEndian::write_u32_into(&self.deliveries(), deliveries);
-        LittleEndian::write_u64_into(&self.totals(), totals);
-        LittleEndian::write_u32_into(&self.reorderings(), reorderings);
+        let (u32s_at_192, rest) = buffer.split_at_mut(8);
+        let (u64s_at_200, u32s_at_216) = rest.split_at_mut(16);
+        LittleEndian::write_u32_into(&self.u32s_at_192(), u32s_at_192);
+        LittleEndian::write_u64_into(&self.u64s_at_200(), u64s_at_200);
+        LittleEndian::write_u32_into(&self.u32s_at_216(), u32s_at_216);
     }
 
     // Returns the eight `u8` at offset 0.
-    fn states(&self) -> [u8; 8]
-        ensures { result ≡ states self.now }
+    fn u8s_at_0(&self) -> [u8; 8]
+        ensures { result ≡ u8s_at_0 self.now }
     {
         [
             self.state,
@@ -368,8 +369,8 @@ impl TcpInfo {
     }
 
     // Returns the nine `u32` at offset 8.
-    fn counts(&self) -> [u32; 9]
-        ensures { result ≡ counts self.now }
+    fn u32s_at_8(&self) -> [u32; 9]
+        ensures { result ≡ u32s_at_8 self.now }
     {
         [
             self.rto,
@@ -385,8 +386,8 @@ impl TcpInfo {
     }
 
     // Returns the four `u32` at offset 44.
-    fn ages(&self) -> [u32; 4]
-        ensures { result ≡ ages self.now }
+    fn u32s_at_44(&self) -> [u32; 4]
+        ensures { result ≡ u32s_at_44 self.now }
     {
         [
             self.last_data_sent,
@@ -397,8 +398,8 @@ impl TcpInfo {
     }
 
     // Returns the eight `u32` at offset 60.
-    fn metrics(&self) -> [u32; 8]
-        ensures { result ≡ metrics self.now }
+    fn u32s_at_60(&self) -> [u32; 8]
+        ensures { result ≡ u32s_at_60 self.now }
     {
         [
             self.pmtu,
@@ -413,15 +414,15 @@ impl TcpInfo {
     }
 
     // Returns the three `u32` at offset 92.
-    fn receiver(&self) -> [u32; 3]
-        ensures { result ≡ receiver self.now }
+    fn u32s_at_92(&self) -> [u32; 3]
+        ensures { result ≡ u32s_at_92 self.now }
     {
         [self.rcv_rtt, self.rcv_space, self.total_retrans]
     }
 
     // Returns the four `u64` at offset 104.
-    fn rates(&self) -> [u64; 4]
-        ensures { result ≡ rates self.now }
+    fn u64s_at_104(&self) -> [u64; 4]
+        ensures { result ≡ u64s_at_104 self.now }
     {
         [
             self.pacing_rate,
@@ -432,8 +433,8 @@ impl TcpInfo {
     }
 
     // Returns the six `u32` at offset 136.
-    fn segments(&self) -> [u32; 6]
-        ensures { result ≡ segments self.now }
+    fn u32s_at_136(&self) -> [u32; 6]
+        ensures { result ≡ u32s_at_136 self.now }
     {
         [
             self.segs_out,
@@ -446,8 +447,8 @@ impl TcpInfo {
     }
 
     // Returns the four `u64` at offset 160.
-    fn limits(&self) -> [u64; 4]
-        ensures { result ≡ limits self.now }
+    fn u64s_at_160(&self) -> [u64; 4]
+        ensures { result ≡ u64s_at_160 self.now }
     {
         [
             self.delivery_rate,
@@ -458,22 +459,22 @@ impl TcpInfo {
     }
 
     // Returns the two `u32` at offset 192.
-    fn deliveries(&self) -> [u32; 2]
-        ensures { result ≡ deliveries self.now }
+    fn u32s_at_192(&self) -> [u32; 2]
+        ensures { result ≡ u32s_at_192 self.now }
     {
         [self.delivered, self.delivered_ce]
     }
 
     // Returns the two `u64` at offset 200.
-    fn totals(&self) -> [u64; 2]
-        ensures { result ≡ totals self.now }
+    fn u64s_at_200(&self) -> [u64; 2]
+        ensures { result ≡ u64s_at_200 self.now }
     {
         [self.bytes_sent, self.bytes_retrans]
     }
 
     // Returns the four `u32` at offset 216.
-    fn reorderings(&self) -> [u32; 4]
-        ensures { result ≡ reorderings self.now }
+    fn u32s_at_216(&self) -> [u32; 4]
+        ensures { result ≡ u32s_at_216 self.now }
     {
         [
             self.dsack_dups,

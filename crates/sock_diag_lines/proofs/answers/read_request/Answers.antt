@@ -8,7 +8,7 @@ returns-else-branch c =
     let line = c.args.line.now in
     let i = c.in-Some.space in
     let none = rw (c.if-branch.false, take_rest line (i + 1)) at c.in_ok-read_field.ensures in
-    no_request line (take i line) (drop (i + 1) line) c.in-Some.ensures.split
+    no_request line (take i line) (drop (i + 1) line) c.in-Some.ensures.fields
     (λ name bytes named. none bytes)
     (λ datagrams named each. not_dump c.in-Some-find_name.name
     (sym c.in-Some-find_name.ensures ∙ named))

@@ -31,7 +31,7 @@ fields-preserved c =
     let inv = c.fields.invariant in
     let rest = c.fields.rest.now in
     let i = c.in-Some.space in
-    let split = c.in-Some.ensures.split in
+    let split = c.in-Some.ensures.fields in
     let left = take_rest rest (i + 1) in
     let taken = rw c.if-not-branch.false at c.in_ok-take_field.ensures in
     record {

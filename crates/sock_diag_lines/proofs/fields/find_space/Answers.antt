@@ -18,7 +18,7 @@ by_place line (Some i) h =
     record {
       within = h.0.high;
       cut = split_before_line_feed 32 [] line none i h;
-      split = split_at_first 32 [] line none i h;
+      fields = split_at_first 32 [] line none i h;
     }
 
 pub returns : goal.returns

@@ -13,13 +13,13 @@ pub returns : goal.returns
 unfolding tcp_info
 returns c =
     ap found (ap with_fields c.array_at-states.ensures
-    ⊛ c.u32s_at-counts.ensures
-    ⊛ c.u32s_at-ages.ensures
-    ⊛ c.u32s_at-metrics.ensures
-    ⊛ c.u32s_at-receiver.ensures
-    ⊛ c.u64s_at-rates.ensures
-    ⊛ c.u32s_at-segments.ensures
-    ⊛ c.u64s_at-limits.ensures
-    ⊛ c.u32s_at-deliveries.ensures
-    ⊛ c.u64s_at-totals.ensures
-    ⊛ c.u32s_at-reorderings.ensures)
+    ⊛ c.u32s_at-u32s_at_8.ensures
+    ⊛ c.u32s_at-u32s_at_44.ensures
+    ⊛ c.u32s_at-u32s_at_60.ensures
+    ⊛ c.u32s_at-u32s_at_92.ensures
+    ⊛ c.u64s_at-u64s_at_104.ensures
+    ⊛ c.u32s_at-u32s_at_136.ensures
+    ⊛ c.u64s_at-u64s_at_160.ensures
+    ⊛ c.u32s_at-u32s_at_192.ensures
+    ⊛ c.u64s_at-u64s_at_200.ensures
+    ⊛ c.u32s_at-u32s_at_216.ensures)
