@@ -1,6 +1,7 @@
 #!/bin/sh
 # Times this port and the Rust crate netlink-packet-sock-diag 0.5.0 on the same replies, and prints
-# the table of docs/SPEED.md: the time of the port divided by the time of the crate.
+# the table of docs/SPEED.md: the time of the port divided by the time of the crate. Stores it in
+# bench/results.
 #
 #     bench/compare.sh
 #     BENCH_ORIGINAL=FOLDER bench/compare.sh     without crates.io: FOLDER/sockdiag is the crate,
@@ -11,6 +12,7 @@
 set -eu
 original=${BENCH_ORIGINAL:+$(cd "$BENCH_ORIGINAL" && pwd)}
 cd "$(dirname "$0")/.."
+top=$PWD
 . bench/library.sh
 
 # Cargo builds a copy, so that its lock file and its target folder are there too.
@@ -25,7 +27,5 @@ if [ -n "$original" ]; then
 fi
 quietly "$made/cargo.log" \
     cargo rustc "$@" -- -Clink-arg="$library" -Clink-arg="$kit_library"
-rt version
-rustc --version
-sed -n 's/^model name[^:]*: //p' /proc/cpuinfo | head -n 1
-target/release/beside
+target/release/beside >table
+python3 "$top/bench/store.py" replies 'rustc --version' <table

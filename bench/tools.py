@@ -4,12 +4,14 @@
     bench/tools.py libmnl      the C library and a program over libmnl parse the same dumps
     bench/tools.py ss          sslist and ss(8) list the sockets of the same dumps
     bench/tools.py original    sockdiag and a program over the Rust crate answer the same lines
+    bench/tools.py growth      the C library parses more and more attributes and messages
 
-Prints a Markdown table. Ratios are of instructions in user mode, which callgrind counts: other
-processes do not change them. A time is the least of many runs. The first run opens some thousand
-sockets and records their dumps by bench/dumps.py, in the folder out/bench/dumps; pcap files of the
-same names there are used instead. What the kit builds is built first if necessary. Needs valgrind
-and cc; libmnl-dev; ss; cargo and crates.io, or the folder BENCH_ORIGINAL (bench/compare.sh).
+Prints a Markdown table, and stores it in bench/results. Ratios are of instructions in user mode,
+which callgrind counts: other processes do not change them. A time is the least of many runs. The
+first run opens some thousand sockets and records their dumps by bench/dumps.py, in the folder
+out/bench/dumps; pcap files of the same names there are used instead. What the kit builds is built
+first if necessary. Needs valgrind and cc; libmnl-dev and pkg-config; ss; cargo and crates.io, or
+the folder BENCH_ORIGINAL (bench/compare.sh).
 """
 import os
 import re
@@ -20,12 +22,20 @@ import sys
 from pathlib import Path
 
 import dumps
+from store import store, table
 
 TOP = Path(__file__).resolve().parent.parent
 BENCH = TOP / "bench"
 MADE = TOP / "out" / "bench"
 LIBRARY = TOP / "crates" / "sockdiag_c" / "out" / "libsockdiag_c.a"
 RUNS = 30
+VALGRIND = "valgrind --version"
+# The names in the table of the subjects of libmnl.c; the family is filled in.
+PARSERS = {
+    "check": "`sockdiag_check_{}_reply`", "strict": "`sockdiag_{}_get_details`",
+    "lenient": "`sockdiag_{}_get_lenient_details`", "libmnl": "libmnl",
+    "macros": "macros of the kernel's headers",
+}
 HEADERS = 16  # Length of the header of a message, and of the cooked header of a packet.
 
 
@@ -104,47 +114,61 @@ def program(name, given=os.devnull):
     return str(TOP / "crates" / name / "out" / name)
 
 
-def print_table(*rows):
-    for row in rows:
-        print("|", " | ".join(str(column) for column in row), "|", flush=True)
+def sockets(capture):
+    """Returns the name of the sockets of a dump in a table."""
+    return capture.stem.upper()
+
+
+def linked(name, *libraries):
+    """Returns the path of a C program of bench/, which is built with the C library."""
+    if not LIBRARY.exists():
+        quietly("rt", "lib", cwd=TOP / "crates" / "sockdiag_c")
+    built = str(MADE / name)
+    quietly("cc", "-O2", f"-I{TOP / 'include'}", "-o", built, str(BENCH / f"{name}.c"),
+            str(LIBRARY), *libraries)
+    return built
 
 
 def compare_libmnl():
-    if not LIBRARY.exists():
-        quietly("rt", "lib", cwd=TOP / "crates" / "sockdiag_c")
-    built = str(MADE / "libmnl")
-    quietly("cc", "-O2", f"-I{TOP / 'include'}", "-o", built, str(BENCH / "libmnl.c"), str(LIBRARY),
-            "-lmnl")
-    print_table(("replies", "parsed by", "of libmnl's", "instructions a reply", "ns a reply"),
-                ("---",) * 5)
+    built = linked("libmnl", "-lmnl")
+    rows = [("dump", "parsed by", "of libmnl's instructions", "instructions per reply",
+             "ns per reply")]
     for capture in recorded():
         times = subprocess.run([built, capture], stdout=subprocess.PIPE, check=True).stdout
-        rows = [line.split() for line in times.decode().splitlines()]
+        measured = [line.split() for line in times.decode().splitlines()]
         counts = {
             name: instructions([built, str(capture), name], function=f"pass_{name}") / int(number)
-            for name, number, _ in rows
+            for name, number, _ in measured
         }
-        for name, number, time in rows:
-            ratio = counts[name] / counts["libmnl"]
-            print_table((f"{number} {capture.stem}", name, f"{ratio:.2f}", f"{counts[name]:.0f}",
-                         f"{float(time):.0f}"))
+        family = "unix" if capture.stem == "unix" else "inet"
+        for name, _, time in measured:
+            ratio = "1" if name == "libmnl" else f"{counts[name] / counts['libmnl']:.2f}"
+            rows.append((sockets(capture), PARSERS[name].format(family), ratio,
+                         f"{counts[name]:,.0f}", f"{float(time):.0f}"))
+    store("libmnl", rows, "cc --version", VALGRIND, "pkg-config --print-provides libmnl")
+
+
+def measure_growth():
+    done = subprocess.run([linked("growth")], stdout=subprocess.PIPE, check=True, text=True)
+    store("growth", table(done.stdout), "cc --version")
 
 
 def compare_ss():
     sslist = program("sslist", recorded()[0])
     replay = str(MADE / "replay.so")
     quietly("cc", "-O2", "-shared", "-fPIC", "-o", replay, str(BENCH / "replay.c"))
-    print_table(("sockets", "sslist of ss", "instructions a socket", "CPU time, µs a socket"),
-                ("---",) * 4)
+    rows = [("sockets", "of the instructions of ss", "instructions per socket, `sslist`",
+             "instructions per socket, ss", "µs per socket, `sslist`", "µs per socket, ss")]
     for capture, arguments in zip(recorded(), ("-xanem", "-tanioem")):
         count = len(replies(capture))
         given = {"LD_PRELOAD": replay, "REPLAY": str(capture)}
         counts = (instructions([sslist], capture) / count,
                   instructions([shutil.which("ss"), arguments], **given) / count)
         times = cpu_time([sslist], capture), cpu_time(["ss", arguments], **given)
-        print_table((f"{count} {capture.stem}, `ss {arguments}`", f"{counts[0] / counts[1]:.2f}",
-                     "{:.0f}, {:.0f}".format(*counts),
-                     ", ".join(f"{time / count / 1000:.2f}" for time in times)))
+        rows.append((f"{sockets(capture)}, `ss {arguments}`", f"{counts[0] / counts[1]:.2f}",
+                     *(f"{it:,.0f}" for it in counts),
+                     *(f"{time / count / 1000:.2f}" for time in times)))
+    store("ss", rows, "cc --version", VALGRIND, "ss -V")
 
 
 def build_original():
@@ -170,25 +194,28 @@ def lines():
         kinds.append(("netlink", [dumps.message(it) for it in replies(capture)]))
         for name, found in kinds:
             text = "".join(f"{name} {it.hex()}\n" for it in found)
-            yield f"`{name}`, {len(found)} lines, {capture.stem}", len(found), text
+            kind = f", {sockets(capture)}" if name == "netlink" else ""
+            yield f"`{name}`{kind}", len(found), text
         whole = " ".join(it.hex() for it in datagrams(capture))
-        yield f"`dump`, one line, {capture.stem}", len(replies(capture)), f"dump {whole}\n"
+        yield f"`dump`, {sockets(capture)}, one line", len(replies(capture)), f"dump {whole}\n"
 
 
 def compare_original():
     own, other = program("sockdiag"), build_original()
     given = MADE / "lines"
-    print_table(("lines", "sockdiag of the other", "instructions a reply", "CPU time, µs a reply"),
-                ("---",) * 4)
+    rows = [("lines", "of the other program's instructions", "instructions per reply, `sockdiag`",
+             "instructions per reply, other", "µs per reply, `sockdiag`", "µs per reply, other")]
     for name, count, text in lines():
         given.write_text(text)
         counts = [instructions([it], given) / count for it in (own, other)]
         times = [cpu_time([it], given) / count / 1000 for it in (own, other)]
-        print_table((name, f"{counts[0] / counts[1]:.2f}", "{:.0f}, {:.0f}".format(*counts),
-                     "{:.2f}, {:.2f}".format(*times)))
+        rows.append((name, f"{counts[0] / counts[1]:.2f}", *(f"{it:,.0f}" for it in counts),
+                     *(f"{time:.2f}" for time in times)))
+    store("original", rows, "rustc --version", VALGRIND)
 
 
-COMPARISONS = {"libmnl": compare_libmnl, "ss": compare_ss, "original": compare_original}
+COMPARISONS = {"libmnl": compare_libmnl, "ss": compare_ss, "original": compare_original,
+               "growth": measure_growth}
 
 if __name__ == "__main__":
     if len(sys.argv) != 2 or sys.argv[1] not in COMPARISONS:
