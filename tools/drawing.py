@@ -100,7 +100,7 @@ class Drawing:
         size = f'width="{WIDTH}" height="{number(height)}" viewBox="0 0 {WIDTH} {number(height)}"'
         dark = f"@media (prefers-color-scheme:dark){{\n{colours(1)}\n}}"
         return "\n".join([
-            f'<svg xmlns="http://www.w3.org/2000/svg" {size} role="img">',
+            f'<svg xmlns="http://www.w3.org/2000/svg" {size} xml:space="preserve" role="img">',
             f"<title>{escape(self.title)}</title>", f"<desc>{escape(self.about)}</desc>",
             f"<style>{STYLE}{colours(0)}\n{dark}</style>", HATCH,
             '<rect width="100%" height="100%" class="page"/>', *self.elements, "</svg>", "",
