@@ -91,7 +91,8 @@ def fields_of(name, offset=0):
     fields = [one for row in rows for one in row_fields(row, offset)]
     for one, following in zip(fields, fields[1:]):
         if one.at + one.width != following.at:
-            sys.exit(f"tools/layouts.py: {name}: a row before offset {following.at} was not found")
+            sys.exit(f"tools/layouts.py: {name}: the row before offset {following.at} does not end "
+                     "there")
     return fields
 
 
