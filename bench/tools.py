@@ -150,7 +150,9 @@ def compare_libmnl():
 
 def measure_growth():
     done = subprocess.run([linked("growth")], stdout=subprocess.PIPE, check=True, text=True)
-    store("growth", table(done.stdout), "cc --version")
+    heading, *rows = table(done.stdout)
+    rows = [(what, *(f"{int(it):,}" for it in numbers)) for what, *numbers in rows]
+    store("growth", [heading, *rows], "cc --version")
 
 
 def compare_ss():
