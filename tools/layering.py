@@ -1,5 +1,7 @@
 """Places of boxes in levels, each above those that it uses, for tools/pictures."""
 
+import sys
+
 # Half of the width that a link needs in a level, and the least distance of boxes and of the edge.
 LINK, APART = 14, 12
 TURNS = 40
@@ -38,6 +40,8 @@ def spread(row, wanted, box, width):
     """Returns places for a level near the wanted ones, in their order and far enough apart."""
     row = sorted(row, key=lambda it: wanted[it])
     half = [(box + APART) / 2 if isinstance(it, str) else LINK for it in row]
+    if 2 * sum(half) + APART > width:
+        sys.exit(f"tools/layering.py: too many boxes in a level: {row}")
     places, least = [], float("-inf")
     for it, room in zip(row, half):
         places.append(max(wanted[it], least + room))
