@@ -1,8 +1,9 @@
 #!/bin/sh
 # Tests tools/install in a copy of a release, with programs and a library that are made here: which
-# files it installs, with which modes, and that it leaves nothing if it fails. Then builds the
-# example with the installed library, as INSTALL.md describes. Takes seconds, and needs no kit.
-# Without a C compiler, make and pkg-config it is skipped.
+# files it installs, with which modes, which paths it refuses, what it replaces and removes, and
+# that it leaves nothing if it fails. Then builds the example with the installed library, as
+# INSTALL.md describes. Takes seconds, and needs no kit. Without a C compiler, make and pkg-config
+# it is skipped.
 set -eu
 cd "$(dirname -- "$0")/.."
 for command in "${CC:=cc}" make pkg-config; do
@@ -55,6 +56,12 @@ fails 2 "an empty prefix" "$install" ''
 fails 2 "an unknown option" "$install" --prefix
 fails 2 "two prefixes" "$install" "$work/none" "$work/none"
 fails 2 "an absolute LIBDIR" env LIBDIR=/lib "$install" "$work/none"
+# Characters that would change the meaning of a line of sockdiag.pc.
+for character in '"' '#' '$' '(' ')' ':' "\\" '`' '
+' "$(printf '\t')" ' /'; do
+    fails 2 "the prefix a${character}b" "$install" "$work/none/a${character}b"
+    fails 2 "the LIBDIR a${character}b" env "LIBDIR=a${character}b" "$install" "$work/none"
+done
 fails 1 "a compiler that fails" env CC=false "$install" "$work/none"
 for signal in INT TERM HUP; do
     # shellcheck disable=SC2016
@@ -77,6 +84,35 @@ PKG_CONFIG_PATH="/none:$prefix/lib/pkgconfig" "$install" "$prefix" >"$work/out"
 if grep -q pkg-config "$work/out"; then fail "the hint for a folder of pkg-config"; fi
 [ "$(tail -n 1 "$work/out")" = "tools/install: installed sockdiag $version in $prefix" ] ||
     fail "the last line"
+
+# All other characters can be in a path: the shell reads it back from what pkg-config prints.
+odd=$work/$(printf '%s\303\251' "a !%&'*+,-.;<=>?@[]^_{|}~")
+SHARED=no LIBDIR='l b|&' "$install" "$odd" >/dev/null
+PKG_CONFIG_PATH="$odd/l b|&/pkgconfig" pkg-config --cflags --libs sockdiag >"$work/out"
+eval "printf '%s\\n' $(cat "$work/out")" >"$work/read"
+printf '%s\n' "-I$odd/include" "-L$odd/l b|&" -lsockdiag | diff - "$work/read" ||
+    fail "pkg-config misreads a path"
+
+# Links to a folder and to a file are replaced, and what they lead to does not change.
+mkdir "$work/folder"
+ln -sfn "$work/folder" "$prefix/lib/libsockdiag.so"
+ln -sf "$work/folder" "$prefix/include/sockdiag.h"
+ln -sf "$work/expected" "$prefix/bin/sslist"
+cp "$work/expected" "$work/before"
+"$install" "$prefix" >/dev/null
+installed "$prefix" | diff "$work/expected" - || fail "a link is not replaced"
+[ -z "$(ls -A "$work/folder")" ] || fail "a file is installed in the folder of a link"
+cmp -s "$work/expected" "$work/before" || fail "the file of a link is changed"
+
+# A folder at the path of a file: nothing is installed. All other files are removed.
+mkdir -p "$work/partial/lib/libsockdiag.so"
+if "$install" "$work/partial" >"$work/out" 2>&1; then fail "it installs beside a folder"; fi
+[ -z "$(find "$work/partial" ! -type d)" ] || fail "files are installed beside a folder"
+SHARED=no "$install" "$work/partial" >/dev/null
+if "$install" --uninstall "$work/partial" >"$work/out" 2>&1; then
+    fail "the status of --uninstall with a folder"
+fi
+[ -z "$(find "$work/partial" ! -type d)" ] || fail "--uninstall leaves files beside a folder"
 
 # The loader's folders are those that ldconfig lists.
 mkdir "$work/commands"

@@ -71,7 +71,8 @@ pack() {
 }
 
 export SOURCE_DATE_EPOCH=86400
-pack one first
+(cd one && tools/pack ../built - netlink_core program_streams >/dev/null)
+mv one/- first
 TZ=Asia/Tokyo pack 'elsewhere/a tree' second
 diff -r first second || fail "two trees are not packed to the same bytes"
 (cd first && cat ./*.sha256 | sha256sum -c --quiet) || fail "a sum is wrong"
