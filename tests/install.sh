@@ -43,7 +43,7 @@ installed() {
 cp VERSION "$tree"
 cp -R examples include man "$tree"
 cp tools/install "$tree/tools"
-for program in sockdiag sslist; do
+for program in sockdiag sslist sockdump; do
     echo '#!/bin/sh' >"$tree/bin/$program"
 done
 tests/stand_in.sh "$tree/lib/libsockdiag.a"
@@ -129,6 +129,17 @@ DESTDIR="$work/staged" LIBDIR=lib64 SHARED=no CC=false "$install" /usr >"$work/o
 [ "$(wc -l <"$work/out")" = 1 ] || fail "a hint for a package"
 DESTDIR="$work/staged" LIBDIR=lib64 "$install" --uninstall /usr >/dev/null
 [ -z "$(find "$work/staged" ! -type d)" ] || fail "--uninstall with DESTDIR"
+
+# In the sources, which have no folder bin, sockdump is compiled. Without a compiler it is left out.
+mv "$tree/bin" "$tree/lib" "$work/commands"
+mkdir -p "$tree/crates/sockdiag_c/out"
+cp "$work/commands/lib/libsockdiag.a" "$tree/crates/sockdiag_c/out/libsockdiag_c.a"
+"$install" "$work/sources" >"$work/out" || fail "the sources"
+"$work/sources/bin/sockdump" --help | grep -q '^usage: sockdump' || fail "sockdump of the sources"
+SHARED=no CC=false "$install" "$work/without" >"$work/out" || fail "the sources without a compiler"
+[ ! -e "$work/without/bin" ] || fail "programs that are not built"
+mv "$work/commands/bin" "$work/commands/lib" "$tree"
+rm -r "$tree/crates"
 
 # The lines of INSTALL.md for one user, but for the one that lists the sockets: a wrong argument
 # shows that the program starts.

@@ -59,11 +59,11 @@ RELEASE = "sockdiag-VERSION-x86_64-linux"
 MANUAL = "man"
 PROMPT = "$ "
 # The commands that are run, and words that begin a command of the shell.
-RUN = set("""./sockdiag ./sslist bin/sockdiag bin/sslist sockdiag sslist sockdump examples/sockdump
-    tests/believed.py tools/install awk cc cd cp done echo export for head jq make mkdir
-    pkg-config printf python3 sed sha256sum sort tar uniq""".split())
+RUN = set("""./sockdiag ./sockdump ./sslist bin/sockdiag bin/sslist sockdiag sslist sockdump
+    examples/sockdump tests/believed.py tools/install awk cc cd cp done echo export for head jq
+    make mkdir pkg-config printf python3 sed sha256sum sort tar uniq""".split())
 # Those of them that need a compiler, and those that are never missing.
-COMPILING = {"cc", "make", "pkg-config", "sockdump", "examples/sockdump"}
+COMPILING = {"cc", "make", "pkg-config", "sockdump", "./sockdump", "examples/sockdump"}
 BUILTIN = {"cd", "done", "echo", "export", "for", "printf", *PROGRAMS}
 # How the other commands begin, and why they are not run.
 NOT_RUN = {
@@ -373,7 +373,7 @@ class Folder:
         shutil.copytree(TOP / "tools", self.tree / "tools")
         shutil.copytree(TOP / "examples", self.tree / "examples",
                         ignore=shutil.ignore_patterns("list_sockets", "sockdump"))
-        for name, path in self.programs.items():
+        for name, path in [*self.programs.items(), ("sockdump", self.work / "commands/sockdump")]:
             (self.tree / name).symlink_to(path)
             (self.tree / "bin" / name).symlink_to(path)
         for name in ("FILE", "one.pcap"):

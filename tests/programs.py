@@ -251,6 +251,11 @@ def test_sockdump(program):
         subprocess.run(["gcc", *words, dump, source], check=True)
         status, usage, errors = run(dump, ["-h"], b"")
         assert (status, errors) == (0, b"") and usage.startswith(b"usage: sockdump"), usage
+        page = (CRATES.parent / "man/sockdump.1").read_text("utf-8")
+        kinds = sorted(set(re.findall(r'(?m)^    \{"(\w+)", ', source.read_text("utf-8"))))
+        for found in (re.findall(r"(?m)^\.It Cm (\w+)$", page),
+                      re.findall(r"[a-z]+", usage.decode().partition("KIND is")[2].split(".")[0])):
+            assert sorted(set(found) - {"or"}) == kinds, found
         check(dump, ["tcp", "nope"], b"", 2, b"", b"sockdump: unknown kind nope; try sockdump -h\n")
         check(dump, [], b"", 1, b"", b"sockdump: .*\n", os.open("/dev/full", os.O_WRONLY))
         status, capture, errors = run(dump, [], b"")

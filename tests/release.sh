@@ -34,7 +34,7 @@ has() {
 
 # The programs, and a library whose functions return 0.
 mkdir built
-printf '#!/bin/sh\n# GLIBC_2.4 GLIBC_2.34\n' | tee built/sockdiag >built/sslist
+printf '#!/bin/sh\n# GLIBC_2.4 GLIBC_2.34\n' | tee built/sockdiag built/sockdump >built/sslist
 has "${CC:-cc}" || exit 0
 "$top/tests/stand_in.sh" built/libsockdiag_c.a
 # The same library with another version.

@@ -3,8 +3,8 @@
 the program at this path. Without it the members of JSON are not compared.
 
 - man/sockdiag.3: the functions of the header, and the decode errors with their codes and texts.
-- man/sslist.1 and man/sockdiag.1: each diagnostic is in the sources. tools/usage writes --help from
-  the options in these pages.
+- man/sslist.1, man/sockdiag.1 and man/sockdump.1: each diagnostic is in the sources. Of the first
+  two, tools/usage writes --help from the options.
 - man/sslist-json.5: the members of each list are those that the program prints for replies with
   each attribute; those of `info` are in the same order.
 - docs/LINES.md: the names and the decode errors.
@@ -182,6 +182,7 @@ def diagnostic_errors(program):
     used = subprocess.run(words, stdout=subprocess.PIPE, text=True, check=True).stdout.split()
     crates = [program, *used]
     files = [path for crate in crates for path in TOP.glob(f"crates/{crate}/src/**/*.rt")]
+    files += TOP.glob(f"examples/{program}.c")
     literals = re.findall(r'"([^"\n]*)"', "\n".join(it.read_text("utf-8") for it in files))
     texts = [it.removeprefix("sslist: ") for it in literals if re.search(r"\w\w .*\{", it)]
     forms = [re.sub(r"\\{\w*\\}", ".+", re.escape(it)) for it in texts]
@@ -246,7 +247,7 @@ def warnings():
 
 def main():
     wrong = [*library_errors(), *diagnostic_errors("sslist"), *diagnostic_errors("sockdiag"),
-             *line_errors(), *file_errors(), *warnings()]
+             *diagnostic_errors("sockdump"), *line_errors(), *file_errors(), *warnings()]
     for sslist in sys.argv[1:]:
         wrong += json_errors(sslist)
     print(*(f"{page}: {text}" for page, text in wrong), sep="\n", end="\n" * bool(wrong))
