@@ -9,6 +9,7 @@
 #   file of them.
 # - The archive for users has no broken link. Its examples in C and Rust can be built, but not with
 #   a library of another version, and its Rust crate can be packaged.
+# - lintian reports no error and no warning for the packages.
 # - The packages can be installed into another root and removed from it (skipped without root).
 # - tools/pack fails if a file or the date of the version is missing.
 # - tools/release packs what an rt built that is made here, and refuses an rt of another logic.
@@ -34,8 +35,17 @@ has() {
 
 # The programs, and a library whose functions return 0.
 mkdir built
-printf '#!/bin/sh\n# GLIBC_2.4 GLIBC_2.34\n' | tee built/sockdiag built/sockdump >built/sslist
 has "${CC:-cc}" || exit 0
+mkdir bin
+# make_program FILE TEXT: makes a program that contains the text.
+cat >bin/make_program <<'END'
+#!/bin/sh
+printf 'const char text[] = "%s";\nint main(void) { return 0; }\n' "$2" | ${CC:-cc} -x c -o "$1" -
+END
+chmod +x bin/make_program
+for program in sockdiag sslist sockdump; do
+    bin/make_program built/$program 'GLIBC_2.4 GLIBC_2.34'
+done
 "$top/tests/stand_in.sh" built/libsockdiag_c.a
 # The same library with another version.
 mkdir other
@@ -47,8 +57,8 @@ objcopy --redefine-sym "$abi=sockdiag_abi_0_0" built/libsockdiag_c.a other/libso
 for copy in one 'elsewhere/a tree'; do
     mkdir -p "$copy"
     (cd "$top" && tar -c --exclude=target --exclude=Cargo.lock --exclude=__pycache__ docs examples \
-        include man rust tools CHANGELOG.md INSTALL.md LICENSE-MIT LICENSE-UNICODE README.md \
-        SECURITY.md VERSION) |
+        include man rust tools CHANGELOG.md INSTALL.md LICENSE-MIT LICENSE-PORTED \
+        LICENSE-UNICODE LICENSES.md README.md SECURITY.md VERSION) |
         tar -x -C "$copy"
     mkdir -p "$copy/rust/sockdiag/target/debug"
     for file in rust/sockdiag/target/debug/it rust/sockdiag/Cargo.lock docs/NOTES.md; do
@@ -64,6 +74,8 @@ for copy in one 'elsewhere/a tree'; do
 done
 find elsewhere -type d -exec chmod 700 {} +
 find elsewhere -type f -exec touch -d @1 {} + ! -path '*/tools/*' -exec chmod 600 {} +
+
+export DEBFULLNAME='A Packager' DEBEMAIL=packager@debian.example
 
 # pack COPY FOLDER: packs by the time 86400, if SOURCE_DATE_EPOCH is not set.
 pack() {
@@ -193,15 +205,18 @@ for case in "dated $day" 'future 2106-02-08'; do
     TZ=UTC tar -tvzf "$folder/$users.tar.gz" --full-time | grep -v " ${case#* } " >wrong || continue
     fail "$folder: $(head -n 1 wrong)"
 done
+if has dpkg-deb && has lintian; then
+    lintian --allow-root --fail-on error,warning dated/*.deb >said || fail "lintian: $(cat said)"
+fi
 
 # Libraries and programs that rt builds, one of which has no proof results after rt lib.
-mkdir -p bin one/tests/api one/crates/sockdiag_c/out
+mkdir -p one/tests/api one/crates/sockdiag_c/out
 cat >bin/rt <<'END'
 #!/bin/sh
 crate=$(basename "$PWD")
 case $1 in
     version) echo "rattle-kit-1 logic $KIT_LOGIC" ;;
-    run) mkdir -p out && echo "$crate $(cat)" >"out/$crate" ;;
+    run) mkdir -p out && make_program "out/$crate" "$crate $(cat)" ;;
     lib) mkdir -p out/rlib && { [ "$crate" = checked ] || mkdir -p out/incremental; } ;;
     check) mkdir -p out/incremental ;;
 esac
@@ -228,7 +243,7 @@ printf '%s\n' crates/low/out/incremental/ crates/checked/out/incremental/ >expec
 tar -tzf "released/$proofs" | sed -n 's,^[^/]*/\(.*/\)$,\1,p' | diff expected - ||
     fail "proof results of a release"
 for file in bin/sockdiag bin/sslist lib/libsockdiag.a; do
-    tar -xzOf "released/$users.tar.gz" "$users/$file"
+    tar -xzOf "released/$users.tar.gz" "$users/$file" | grep -ao '[a-z]* input\|library'
 done >built.txt
 printf 'sockdiag input\nsslist input\nlibrary\n' | diff - built.txt ||
     fail "built files of a release"

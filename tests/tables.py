@@ -9,6 +9,8 @@ the program at this path. Without it the members of JSON are not compared.
   each attribute; those of `info` are in the same order.
 - docs/LINES.md: the names and the decode errors.
 - INSTALL.md: the files of a release, and the installed files.
+- LICENSES.md: the kit's crates that crates.txt allows, and those whose names are in the symbols of
+  a built program; and the copyright notices in the kit's licence files (skipped without a kit).
 - groff prints no warning about a manual page (skipped without groff).
 
 Prints what differs. The exit status is 1 if anything does.
@@ -32,6 +34,9 @@ HEADERS = {1: 16, 2: 72, 10: 72, 16: 28, 17: 16, 40: 32, 44: 16}
 # The lengths of values of attributes: each kind is decoded with one of them.
 LENGTHS = (1, 2, 4, 5, 8, 12, 16, 20, 24, 28, 32, 36, 40, 400)
 KINDS = range(40)
+# The kit's crates that those of the lines `# kit:` in crates.txt need.
+BELOW = """core io libc os std std_alloc std_collections std_heap std_io ucd_derived
+    ucd_table""".split()
 # The headings of the lists of members in man/sslist-json.5 for the other families than UNIX, IPv4
 # and IPv6. They have all members of the objects too.
 OTHERS = {16: "Netlink sockets", 17: "Packet sockets", 40: "Vsock sockets", 44: "XDP sockets"}
@@ -231,6 +236,40 @@ def file_errors():
         yield page, "no table of installed files"
 
 
+def licence_errors():
+    """Compares the kit's crates in LICENSES.md with crates.txt, and with the licence files of the
+    kit: each copyright notice and each licence is in the crate's row."""
+    page, heading = "LICENSES.md", "Crates of the kit"
+    text = (TOP / "crates.txt").read_text(encoding="utf-8")
+    allowed = " ".join(re.findall(r"(?m)^# kit:(.*)$", text)).split()
+    yield from differences(page, first_column(page, heading), [*allowed, *BELOW])
+    mit = (TOP / "LICENSE-MIT").read_text(encoding="utf-8").partition("Permission")[2].split()
+    kit = Path(shutil.which("rt") or "rt").resolve().parents[1] / "rattle"
+    for crates, notice, licence in rows(section(page, heading), "crates ")[2:]:
+        for crate in spans(crates) if kit.is_dir() else []:
+            texts = {it.name: it.read_text(encoding="utf-8") for it in kit.glob(f"{crate}/LICENSE*")
+                     if it.name != "LICENSE-APACHE"}
+            found = {"MIT" if it.partition("Permission")[2].split() == mit else name
+                     for name, it in texts.items()}
+            if found != set(re.findall(r"MIT|LICENSE-\w+", licence)):
+                yield page, f"{crate}: the kit has the licences {sorted(found)}"
+            for line in re.findall(r"(?m)^Copyright [(©].*$", "\n".join(texts.values())):
+                if line not in notice and "LICENSE-UNICODE" not in licence:
+                    yield page, f"{crate}: the kit has {line}"
+
+
+def linked_errors(program):
+    """Looks for the crates that the symbols of a built program name in LICENSES.md."""
+    if not shutil.which("nm"):
+        return
+    words = ["nm", "--format=just-symbols", program]
+    symbols = subprocess.run(words, stdout=subprocess.PIPE, text=True, check=True).stdout
+    own = re.findall(r"(?m)^(\w+)[\w ]*:", (TOP / "crates.txt").read_text(encoding="utf-8"))
+    listed = {*own, *first_column("LICENSES.md", "Crates of the kit")}
+    for crate in sorted(set(re.findall(r"(?m)^([a-z]\w*)::", symbols)) - listed):
+        yield "LICENSES.md", f"{crate}, which is linked into {program}, is missing"
+
+
 def library_errors():
     page = "man/sockdiag.3"
     for found, expected in (functions(), decode_errors()):
@@ -247,9 +286,10 @@ def warnings():
 
 def main():
     wrong = [*library_errors(), *diagnostic_errors("sslist"), *diagnostic_errors("sockdiag"),
-             *diagnostic_errors("sockdump"), *line_errors(), *file_errors(), *warnings()]
+             *diagnostic_errors("sockdump"), *licence_errors(), *line_errors(), *file_errors(),
+             *warnings()]
     for sslist in sys.argv[1:]:
-        wrong += json_errors(sslist)
+        wrong += [*json_errors(sslist), *linked_errors(sslist)]
     print(*(f"{page}: {text}" for page, text in wrong), sep="\n", end="\n" * bool(wrong))
     print(f"tests/tables.py: {len(wrong)} errors")
     return 1 if wrong else 0
