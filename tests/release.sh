@@ -7,8 +7,8 @@
 # - Two copies at different paths, with other times and modes, are packed to the same bytes.
 # - The command of INSTALL.md unpacks the archive of proof results over the sources, and changes no
 #   file of them.
-# - The archive for users has no broken link. Its examples in C and Rust can be built, but not with
-#   a library of another version, and its Rust crate can be packaged.
+# - The archive for users and the packages have no broken link. The archive's examples in C and Rust
+#   can be built, but not with a library of another version, and its Rust crate can be packaged.
 # - lintian reports no error and no warning for the packages.
 # - The packages can be installed into another root and removed from it (skipped without root).
 # - tools/pack fails if a file or the date of the version is missing.
@@ -180,6 +180,7 @@ if has dpkg-deb; then
         (cd tree && md5sum -c --quiet DEBIAN/md5sums) || fail "$package: a sum is wrong"
         [ "$(find tree/usr -type f | wc -l)" -eq "$(wc -l <tree/DEBIAN/md5sums)" ] ||
             fail "$package: a file has no sum"
+        python3 "$top/tests/tidy.py" --links tree || fail "$package has broken links"
         rm -r tree
     done
 fi

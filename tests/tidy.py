@@ -2,7 +2,8 @@
 """Checks the text of the repository. Prints what is wrong; the exit status is 1 if anything is.
 
     tests/tidy.py                  all checks
-    tests/tidy.py --links FOLDER   only the links of the pages in FOLDER, an unpacked release
+    tests/tidy.py --links FOLDER   only the links of the pages in FOLDER, an unpacked release or
+                                   package. Of a package no path in code marks is checked
 """
 
 import re
@@ -99,7 +100,7 @@ def broken_links(top, files):
         for link in LINK.findall(text):
             if is_broken(page, link):
                 yield f"{name}: {link} does not exist"
-        for path in PATH.findall(text):
+        for path in PATH.findall(text) if (top / "INSTALL.md").exists() else []:
             folders = [top, page.parent] + [TOP] * (name in ABOUT_SOURCES)
             exists = any((folder / path).exists() for folder in folders)
             if not exists and not PLACEHOLDER.search(path):
