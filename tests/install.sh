@@ -42,7 +42,7 @@ installed() {
 # A release: its functions return 0.
 cp VERSION "$tree"
 cp -R examples include man "$tree"
-cp tools/install "$tree/tools"
+cp tools/install tools/libsockdiag.map "$tree/tools"
 for program in sockdiag sslist sockdump; do
     echo '#!/bin/sh' >"$tree/bin/$program"
 done
@@ -120,6 +120,46 @@ printf '#!/bin/sh\necho "%s/lib: (from a file)"\n' "$prefix" >"$work/commands/ld
 chmod +x "$work/commands/ldconfig"
 PATH="$work/commands:$PATH" "$install" "$prefix" | grep -q 'run ldconfig as root' ||
     fail "the hint for a folder of the loader"
+
+# exported PREFIX: prints the functions that a shared library exports, with the version that added
+# them.
+exported() {
+    nm -D --defined-only --with-symbol-versions "$1/lib/libsockdiag.so" | sed -n 's/.* T //p' | sort
+}
+
+# The shared library exports the functions that the header declares, each as of one version.
+sed -n 's/^[a-z][a-z0-9_]* \(sockdiag_[a-z0-9_]*\)(.*/\1/p' include/sockdiag.h | sort >"$work/calls"
+exported "$prefix" | sed 's/@@.*//' | diff "$work/calls" - ||
+    fail "tools/libsockdiag.map differs from the header: add new functions in a new entry"
+
+# A program that is linked with this version starts with the next MINOR, whose soname is the same. A
+# program that needs a function of that version does not start with this one.
+next=${version%%.*}.99
+cp -R "$tree" "$work/next"
+echo "$next.0" >"$work/next/VERSION"
+tests/stand_in.sh "$work/next/lib/libsockdiag.a" sockdiag_new
+printf 'SOCKDIAG_%s {\nglobal:\n    sockdiag_new;\n} %s;\n' "$next" \
+    "$(sed -n 's/^\(SOCKDIAG_[0-9.]*\) {$/\1/p' tools/libsockdiag.map | tail -n 1)" \
+    >>"$work/next/tools/libsockdiag.map"
+"$work/next/tools/install" "$work/newer" >/dev/null
+exported "$prefix" >"$work/earlier"
+exported "$work/newer" | grep -v '^sockdiag_new@@' | diff "$work/earlier" - ||
+    fail "a new entry changes the functions of the others"
+echo '#include <sockdiag.h>
+int main(void) { return (int)sockdiag_version(); }' >"$work/old.c"
+echo 'int sockdiag_new(void);
+int main(void) { return sockdiag_new(); }' >"$work/new.c"
+"$CC" -I"$prefix/include" -o "$work/old" "$work/old.c" -L"$prefix/lib" -lsockdiag
+"$CC" -o "$work/new" "$work/new.c" -L"$work/newer/lib" -lsockdiag
+for case in old:prefix old:newer new:newer; do
+    folder=$prefix
+    [ "${case#*:}" = prefix ] || folder=$work/newer
+    LD_LIBRARY_PATH="$folder/lib" "$work/${case%:*}" || fail "programs of versions: $case"
+done
+if LD_LIBRARY_PATH="$prefix/lib" "$work/new" 2>"$work/out"; then
+    fail "a program starts with a library that lacks a function"
+fi
+grep -q "SOCKDIAG_$next' not found" "$work/out" || fail "an older library: $(cat "$work/out")"
 
 "$install" --uninstall "$prefix" >/dev/null
 [ -z "$(find "$prefix" ! -type d)" ] || fail "--uninstall"
