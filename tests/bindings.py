@@ -37,6 +37,8 @@ def compile_c(compiler):
     for language, standard, file in [
         ("c", "c99", "examples/list_sockets.c"),
         ("c++", "c++11", "examples/list_sockets.c"),
+        ("c", "c99", "examples/list_rtt.c"),
+        ("c++", "c++11", "examples/list_rtt.c"),
         ("c", "c99", "examples/sockdump.c"),
         ("c++", "c++11", "examples/sockdump.c"),
     ]:

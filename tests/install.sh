@@ -109,6 +109,10 @@ mkdir -p "$work/partial/lib/libsockdiag.so"
 if "$install" "$work/partial" >"$work/out" 2>&1; then fail "it installs beside a folder"; fi
 [ -z "$(find "$work/partial" ! -type d)" ] || fail "files are installed beside a folder"
 SHARED=no "$install" "$work/partial" >/dev/null
+mkdir "$work/blocked"
+touch "$work/blocked/share"
+if "$install" "$work/blocked" >"$work/out" 2>&1; then fail "it installs below a file"; fi
+[ "$(ls "$work/blocked")" = share ] || fail "files are installed beside a file"
 if "$install" --uninstall "$work/partial" >"$work/out" 2>&1; then
     fail "the status of --uninstall with a folder"
 fi
@@ -182,10 +186,17 @@ mv "$work/commands/bin" "$work/commands/lib" "$tree"
 rm -r "$tree/crates"
 
 # The lines of INSTALL.md for one user, but for the one that lists the sockets: a wrong argument
-# shows that the program starts.
+# shows that the program starts. In an unpacked release it is built with the library there, and in
+# another folder with the installed one.
 grep -E '^    (tools/install "|export |make -C examples$|examples/list_sockets$)' INSTALL.md |
     sed 's,^    ,,; s,^examples/list_sockets$,& wrong 2>usage || :,' >"$tree/lines"
+cat >>"$tree/lines" <<'END'
+make -C examples clean
+cp -R examples "$HOME"
+make -C "$HOME/examples"
+"$HOME/examples/list_sockets" wrong 2>>usage || :
+END
 HOME="$work/a home"
 (cd "$tree" && sh -eu lines >"$work/out") || fail "the lines of INSTALL.md"
-grep -q '^usage: ' "$tree/usage" || fail "the program of INSTALL.md"
+[ "$(grep -c '^usage: ' "$tree/usage")" = 2 ] || fail "the program of INSTALL.md"
 echo "install: all tests pass"

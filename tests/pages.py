@@ -47,7 +47,7 @@ SOURCES = {
     "rust": ["crates/*/src/**/*.rt"],
     "rust,ignore": ["bench/original/examples/*.rs"],
     "antt": ["crates/*/proofs/**/*.antt", "crates/*/specs/**/*.antt"],
-    "c": ["examples/*.c"],
+    "c": ["examples/*.[ch]"],
 }
 EXAMPLES = {"rust": ["rust/sockdiag/examples/*.rs"]}
 FENCE = "```"
@@ -71,7 +71,7 @@ NOT_RUN = {
     r"rt ": "proofs take minutes, and `rt ci` runs all of them",
     r"tar .*-proofs": "it needs results of proofs; tests/release.sh runs it",
     r"tools/vendor ": "it copies results of proofs; tests/vendor.sh runs it",
-    r"examples/list_sockets": "it needs the built library; tests/api/c_api.sh runs it",
+    r"examples/list_(sockets|rtt)": "it needs the built library; tests/api/c_api.sh runs it",
     r"(SOCKDIAG_\w+=\S+ )?cargo ": "it needs the built library; tests/api/rust_api.sh runs cargo",
     r"cc .*tests/api/fuzz_c\.c|out/fuzz_c": "it needs the library; tests/api/c_api.sh runs both",
     r"tests/api/\w+\.sh": "it needs the library; the gate runs it later",
@@ -372,7 +372,7 @@ class Folder:
             (self.tree / name).symlink_to(TOP / name)
         shutil.copytree(TOP / "tools", self.tree / "tools")
         shutil.copytree(TOP / "examples", self.tree / "examples",
-                        ignore=shutil.ignore_patterns("list_sockets", "sockdump"))
+                        ignore=shutil.ignore_patterns("list_sockets", "list_rtt", "sockdump"))
         for name, path in [*self.programs.items(), ("sockdump", self.work / "commands/sockdump")]:
             (self.tree / name).symlink_to(path)
             (self.tree / "bin" / name).symlink_to(path)

@@ -162,8 +162,11 @@ for flags in -O0 -O2 "-O2 $drop"; do
     not_linked "C $flags" ${CC:-cc} $flags -Iinclude -o "$work/other/program" \
         examples/list_sockets.c "$work/other/libsockdiag.a"
 done
-if has make && has pkg-config; then
-    PKG_CONFIG_PATH=$work/prefix/lib/pkgconfig make -s -C examples
+if has make; then
+    make -s -C examples PKG_CONFIG=false
+    make -s -C examples clean
+    cp -R examples "$work"
+    ! has pkg-config || PKG_CONFIG_PATH=$work/prefix/lib/pkgconfig make -s -C "$work/examples"
 fi
 if has cargo; then
     (cd rust/sockdiag && unset SOCKDIAG_LIB_DIR && export CARGO_TARGET_DIR="$work/target" &&

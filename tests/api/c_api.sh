@@ -98,7 +98,6 @@ unix type 1 state 7 inode 2 rejected 5 (buffer of too few bytes)
 5 list_sockets: tcp: No such file or directory
 1 list_sockets: tcp: invalid reply: buffer of too few bytes
 6 list_sockets: udp: No such file or directory
-3 list_sockets: udp: invalid datagram: message length is past the bytes given
 2 list_sockets: unix: invalid reply: buffer of too few bytes
 END
 
@@ -112,6 +111,13 @@ for arguments in 0 65536 443x -x "443 -l" "-l -l" "-l 443 444"; do
         exit 1
     fi
 done
+
+# The other lister: a connection whose tcp_info is too short has no round-trip time.
+build fake_rtt "$top/examples/list_rtt.c" "$top/tests/api/fake_kernel.c"
+FAKE_KERNEL_REPLIES="$top/tests/api/kernels/tcp-info" "$work/fake_rtt" >"$work/found"
+sed -n 's/^= tcp state 1 \(.*\) uid .* inode [0-9]*\( rtt .*us\).*/\1\2/p; t
+    s/^= tcp state 1 \(.*\) uid .*/\1/p' "$top/tests/api/kernels/tcp-info" | diff - "$work/found"
+[ "$(grep -vc rtt "$work/found")" = 1 ]
 
 # sockdump STATUS TEXT ARGUMENT VARIABLE: runs the example of this name with replies of a kernel. It
 # has to end with this status, and to print a line with this text to standard error.
@@ -135,7 +141,7 @@ sockdump 1 'exceeds the buffer$' unix FAKE_KERNEL_EXCESS=1
 # pkg-config finds. Without pkg-config or make, builds with the static library.
 "$top/tools/install" "$work/prefix" >/dev/null
 if command -v pkg-config >/dev/null && command -v make >/dev/null; then
-    cp "$top/examples/Makefile" "$top/examples/list_sockets.c" "$work"
+    cp "$top/examples/Makefile" "$top/examples/dump.h" "$top/examples/list_sockets.c" "$work"
     PKG_CONFIG_PATH="$work/prefix/lib/pkgconfig" make -s -C "$work" list_sockets
 else
     build list_sockets "$top/examples/list_sockets.c"
