@@ -11,7 +11,7 @@ for command in "${CC:=cc}" make pkg-config; do
 done
 work=$(mktemp -d)
 trap '[ $? = 0 ] || echo "$0: failed" >&2; rm -rf "$work"' EXIT
-tree="$work/a tree"
+tree="$work/a tree, and more"
 install=$work/link
 version=$(cat VERSION)
 mkdir -p "$tree/bin" "$tree/lib" "$tree/tools" "$work/home" "$work/temporary"
