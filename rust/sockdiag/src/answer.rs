@@ -1,11 +1,12 @@
 //! The check that messages belong to the answer to one request.
 
-use crate::constants::NLM_F_DUMP_INTR;
 use crate::dump::{NetlinkHeader, NetlinkMessage, RejectedMessage};
+use crate::sys::{self, MessageRange};
 use core::fmt;
 
 /// Checks that messages belong to the answer to one request, and whether one of them reports that
-/// the dump was interrupted, as `mnl_cb_run` of libmnl does.
+/// the dump was interrupted: by `sockdiag_is_answer` and `sockdiag_is_interrupted` of the C
+/// library. Unlike `mnl_cb_run` of libmnl, they compare a number that is 0 too.
 ///
 /// [`Dump`](crate::Dump) checks neither. Messages that answer an earlier request look like any
 /// others. If a kernel finds that a dump is inconsistent, it sets `NLM_F_DUMP_INTR` in the header
@@ -60,8 +61,8 @@ pub enum UnrelatedMessage {
 
 impl AnswerCheck {
     /// Returns a check for the answer to a request with this sequence number, which was sent from a
-    /// socket with this port id, the one that getsockname(2) returns in `nl_pid`. A number that is
-    /// 0, here or in a message, is not compared: 0 if the port id is not known.
+    /// socket with this port id, the one that getsockname(2) returns in `nl_pid`. A message of the
+    /// answer has both numbers, also if one is 0.
     pub const fn new(sequence_number: u32, port_number: u32) -> Self {
         AnswerCheck {
             sequence_number,
@@ -71,16 +72,17 @@ impl AnswerCheck {
     }
 
     /// Checks the header of a message. If it belongs to the answer, records whether it has the flag
-    /// `NLM_F_DUMP_INTR`.
+    /// `NLM_F_DUMP_INTR`. If both numbers are those of others, returns the port id.
     pub fn check(&mut self, header: &NetlinkHeader) -> Result<(), UnrelatedMessage> {
-        if differ(header.port_number, self.port_number) {
-            return Err(UnrelatedMessage::PortNumber(header.port_number));
+        let message = MessageRange::from(header);
+        if sys::is_answer(&message, self.sequence_number, self.port_number) != 0 {
+            self.is_interrupted |= sys::is_interrupted(&message) != 0;
+            Ok(())
+        } else if header.port_number != self.port_number {
+            Err(UnrelatedMessage::PortNumber(header.port_number))
+        } else {
+            Err(UnrelatedMessage::SequenceNumber(header.sequence_number))
         }
-        if differ(header.sequence_number, self.sequence_number) {
-            return Err(UnrelatedMessage::SequenceNumber(header.sequence_number));
-        }
-        self.is_interrupted |= header.flags & NLM_F_DUMP_INTR != 0;
-        Ok(())
     }
 
     /// Checks the header of an item of a [`Dump`](crate::Dump) or [`AnyDump`](crate::AnyDump), also
@@ -101,11 +103,6 @@ impl AnswerCheck {
     pub const fn is_interrupted(&self) -> bool {
         self.is_interrupted
     }
-}
-
-/// Returns whether two numbers are different, and neither is 0.
-fn differ(found: u32, expected: u32) -> bool {
-    found != 0 && expected != 0 && found != expected
 }
 
 impl fmt::Display for UnrelatedMessage {

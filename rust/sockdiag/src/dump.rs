@@ -47,6 +47,19 @@ impl From<MessageRange> for NetlinkHeader {
     }
 }
 
+impl From<&NetlinkHeader> for MessageRange {
+    /// Returns the numbers of the header, with a payload of 0 bytes at offset 0.
+    fn from(header: &NetlinkHeader) -> Self {
+        MessageRange {
+            message_type: header.message_type,
+            flags: header.flags,
+            sequence_number: header.sequence_number,
+            port_number: header.port_number,
+            ..MessageRange::default()
+        }
+    }
+}
+
 /// A netlink message. Its payload is an `I`, unless its type is a control type.
 #[derive(Clone, Copy, Debug)]
 pub struct NetlinkMessage<I> {

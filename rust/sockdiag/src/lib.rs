@@ -93,7 +93,8 @@
 //!
 //! | results of the proved library | code of this crate, which is tested |
 //! |---|---|
-//! | the messages of a datagram and the attributes of a reply, as offsets, lengths and types; framing errors | the slices of these; [`Numbers`]; [`AnswerCheck`] |
+//! | the messages of a datagram and the attributes of a reply, as offsets, lengths and types; framing errors | the slices of these; [`Numbers`] |
+//! | whether a message belongs to the answer, and whether it has `NLM_F_DUMP_INTR` | that [`AnswerCheck`] keeps the second one; which number [`UnrelatedMessage`] has |
 //! | which payload of a family is accepted; [`DecodeError`] with its numbers | the choice of the function by the message type and the family; texts |
 //! | the numbers and the bytes of addresses in each header | [`inet::Timer`], IP addresses |
 //! | the getters of a reply, except those of the next two rows | the values of `nlas`, which are decoded a second time, also names (`UnixDiagName`) and [`nlas::MemInfo`](inet::nlas::MemInfo) |

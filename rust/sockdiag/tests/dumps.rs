@@ -223,9 +223,13 @@ fn checks_sequence_numbers_and_port_ids() {
         (7, 9, 8, 9, Err(sequence(8))),
         (7, 9, 7, 8, Err(port(8))),
         (7, 9, 8, 8, Err(port(8))),
-        (7, 0, 7, 8, Ok(())),
-        (0, 9, 8, 9, Ok(())),
-        (7, 9, 0, 0, Ok(())),
+        (7, 9, 9, 7, Err(port(7))),
+        // 0 is a number like any other.
+        (7, 0, 7, 8, Err(port(8))),
+        (0, 9, 8, 9, Err(sequence(8))),
+        (7, 9, 0, 0, Err(port(0))),
+        (7, 9, 0, 9, Err(sequence(0))),
+        (0, 0, 0, 0, Ok(())),
     ] {
         let mut check = AnswerCheck::new(expected_sequence, expected_port);
         assert_eq!(check.check(&header(found_sequence, found_port)), result);
@@ -255,7 +259,7 @@ fn reports_interrupted_dumps() {
                 message(NLMSG_DONE, &[0; 4]),
             ]
             .concat();
-            let mut check = AnswerCheck::new(sequence_number, 0);
+            let mut check = AnswerCheck::new(sequence_number, 9);
             for message in Dump::new(&datagram) {
                 let is_part = check.check_message(&message).is_ok();
                 assert_eq!(is_part, sequence_number == 7);
@@ -265,5 +269,5 @@ fn reports_interrupted_dumps() {
     }
     // Bytes that are not a message have no header.
     let framing_error = Dump::new(&[1]).next().unwrap();
-    assert_eq!(AnswerCheck::new(7, 0).check_message(&framing_error), Ok(()));
+    assert_eq!(AnswerCheck::new(7, 9).check_message(&framing_error), Ok(()));
 }

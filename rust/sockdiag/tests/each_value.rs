@@ -57,15 +57,66 @@ fn each_bit_of_the_numbers_of_an_answer() {
     }
     // A message of another request does not interrupt the answer.
     assert!(!check.is_interrupted());
-    for (sequence_number, port_number) in [(0, 0), (0, 5), (5, 0)] {
-        let mut check = AnswerCheck::new(sequence_number, port_number);
-        for (found, port) in [(0, 0), (0, 5), (5, 0), (5, 5)] {
-            let header = NetlinkHeader {
-                sequence_number: found,
-                port_number: port,
-                ..HEADER
-            };
-            assert_eq!(check.check(&header), Ok(()));
+}
+
+/// `struct sockdiag_message` of the C library.
+#[repr(C)]
+struct CMessage {
+    offset: usize,
+    length: usize,
+    message_type: u16,
+    flags: u16,
+    sequence_number: u32,
+    port_number: u32,
+}
+
+unsafe extern "C" {
+    fn sockdiag_is_answer(message: &CMessage, sequence_number: u32, port_number: u32) -> u32;
+    fn sockdiag_is_interrupted(message: &CMessage) -> u32;
+}
+
+/// Compares a check with the functions of the C library: of a request with two numbers, and a
+/// message with two numbers. The message has the flag `NLM_F_DUMP_INTR`.
+fn compare_with_c(request: (u32, u32), (sequence_number, port_number): (u32, u32)) {
+    let header = NetlinkHeader {
+        flags: 0x10,
+        sequence_number,
+        port_number,
+        ..HEADER
+    };
+    let message = CMessage {
+        offset: 16,
+        length: 4,
+        message_type: header.message_type,
+        flags: header.flags,
+        sequence_number,
+        port_number,
+    };
+    // SAFETY: the struct has the layout of the one in `sockdiag.h`.
+    let (is_answer, is_interrupted) = unsafe {
+        (
+            sockdiag_is_answer(&message, request.0, request.1) == 1,
+            sockdiag_is_interrupted(&message) == 1,
+        )
+    };
+    let mut check = AnswerCheck::new(request.0, request.1);
+    let expected = match (sequence_number == request.0, port_number == request.1) {
+        (true, true) => Ok(()),
+        (_, false) => Err(UnrelatedMessage::PortNumber(port_number)),
+        (false, true) => Err(UnrelatedMessage::SequenceNumber(sequence_number)),
+    };
+    assert_eq!(check.check(&header), expected);
+    let found = (expected.is_ok(), check.is_interrupted());
+    assert_eq!(found, (is_answer, is_answer && is_interrupted));
+}
+
+#[test]
+fn an_answer_is_one_of_the_c_library() {
+    let edges = [0, 1, 0xffff, 0x10000, 0x7fff_ffff, 0x8000_0000, u32::MAX];
+    let pairs = edges.map(|first| edges.map(|second| (first, second)));
+    for request in pairs.as_flattened() {
+        for message in pairs.as_flattened() {
+            compare_with_c(*request, *message);
         }
     }
 }

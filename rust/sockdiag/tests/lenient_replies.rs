@@ -222,13 +222,38 @@ fn keeps_the_tcp_connection_of_any_length() {
         let rto = (length >= 12).then_some(0x0c0b0a09);
         assert_eq!(info.get(TcpField::Rto), rto);
     }
-    // The getter returns the first value that is accepted.
-    let mut bytes = inet_reply()[..72].to_vec();
-    attribute(&mut bytes, 2, &[1; 104]);
-    attribute(&mut bytes, 2, &[2; 232]);
-    let reply = LenientInetReply::parse(&bytes).unwrap();
-    assert_eq!(reply.tcp_info().map(|info| info.state), Some(2));
-    assert_eq!(reply.tcp_info_bytes().map(|info| info.len()), Some(104));
+}
+
+/// `tcp_info` returns the first value that is accepted, and `tcp_info_bytes` the first value.
+#[test]
+fn finds_the_tcp_connection_after_short_ones() {
+    // The lengths of the values, and the number of the first one that is accepted.
+    for (lengths, first) in [
+        (&[0, 232][..], Some(1)),
+        (&[8, 232], Some(1)),
+        (&[231, 232], Some(1)),
+        (&[0, 104, 231, 280, 232], Some(3)),
+        (&[232, 0, 280], Some(0)),
+        (&[280, 232], Some(0)),
+        (&[0, 231], None),
+        (&[0], None),
+        (&[], None),
+    ] {
+        let mut bytes = inet_reply()[..72].to_vec();
+        for (length, index) in lengths.iter().zip(0..) {
+            attribute(&mut bytes, 2, &vec![index; *length]);
+        }
+        let reply = LenientInetReply::parse(&bytes).unwrap();
+        assert_eq!(
+            reply.tcp_info().map(|info| info.state),
+            first,
+            "{lengths:?}"
+        );
+        let length = reply.tcp_info_bytes().map(|info| info.len());
+        assert_eq!(length.as_ref(), lengths.first());
+        let short = lengths.iter().filter(|length| **length < 232);
+        assert_eq!(reply.rejected().count(), short.count());
+    }
 }
 
 #[test]
