@@ -15,9 +15,8 @@ use sockdiag::inet::{ExtensionFlags, InetReply, InetRequest, SocketId, TcpField}
 use sockdiag::netlink::{NetlinkReply, NetlinkRequest, NDIAG_PROTO_ALL, NDIAG_SHOW_GROUPS};
 use sockdiag::packet::{PacketReply, PacketRequest, PACKET_SHOW_INFO};
 use sockdiag::unix::{ShowFlags, UnixDiagName, UnixReply, UnixRequest};
-use sockdiag::{inet, unix, AnswerCheck, AnyDump, AnySockDiagMessage, LenientMessage};
-use sockdiag::{NetlinkHeader, NetlinkPayload, SockDiagMessage};
-use sockdiag::{RejectedAttributes, RejectedMessage};
+use sockdiag::{inet, unix, AnswerCheck, LenientDump, LenientMessage, NetlinkHeader};
+use sockdiag::{NetlinkPayload, RejectedAttribute, RejectedAttributes};
 use std::fs::File;
 use std::io::{self, Read, Write};
 use std::os::fd::{AsRawFd, FromRawFd};
@@ -163,51 +162,30 @@ fn packet_line(reply: &PacketReply<'_>) -> String {
     line + &format!(" inode {}", header.inode)
 }
 
-/// Returns the line about the socket of a reply. Returns `None` for other messages: the kernel
-/// sends no requests, and answers a request with sockets of its family.
-fn socket_line(protocol: &str, message: &AnySockDiagMessage<'_>) -> Option<String> {
-    match message {
-        AnySockDiagMessage::SockDiag(SockDiagMessage::UnixResponse(reply)) => {
-            Some(unix_line(reply))
-        }
-        AnySockDiagMessage::SockDiag(SockDiagMessage::InetResponse(reply)) => {
-            Some(inet_line(protocol, reply))
-        }
-        AnySockDiagMessage::Netlink(reply) => Some(netlink_line(reply)),
-        AnySockDiagMessage::Packet(reply) => Some(packet_line(reply)),
-        _ => None,
-    }
-}
-
-/// Returns the line about the socket of a reply of which attributes are rejected. Returns `None`
-/// for sockets of other families, which are not requested.
-fn lenient_line(protocol: &str, message: &LenientMessage<'_>) -> Option<String> {
-    match message {
-        LenientMessage::Unix(reply) => {
-            Some(unix_line(reply) + &rejected_text(reply.rejected(), None))
-        }
+/// Returns the line about the socket of a reply. Returns `None` for sockets of other families: the
+/// kernel answers a request with sockets of its family.
+fn socket_line(protocol: &str, message: &LenientMessage<'_>) -> Option<String> {
+    let (line, rejected, read) = match message {
+        LenientMessage::Unix(reply) => (unix_line(reply), reply.rejected(), None),
         LenientMessage::Inet(reply) => {
             let read = round_trip_time(protocol, reply).map(|_| INET_DIAG_INFO);
-            Some(inet_line(protocol, reply) + &rejected_text(reply.rejected(), read))
+            (inet_line(protocol, reply), reply.rejected(), read)
         }
-        LenientMessage::Netlink(reply) => {
-            Some(netlink_line(reply) + &rejected_text(reply.rejected(), None))
-        }
-        LenientMessage::Packet(reply) => {
-            Some(packet_line(reply) + &rejected_text(reply.rejected(), None))
-        }
-        _ => None,
-    }
+        LenientMessage::Netlink(reply) => (netlink_line(reply), reply.rejected(), None),
+        LenientMessage::Packet(reply) => (packet_line(reply), reply.rejected(), None),
+        _ => return None,
+    };
+    Some(line + &rejected_text(rejected, read))
 }
 
 /// Returns the end of a line: the kinds of the attributes that are rejected, with their errors,
 /// except the kind `read`, whose value was read.
 fn rejected_text(rejected: RejectedAttributes<'_>, read: Option<u16>) -> String {
-    let text = |it: sockdiag::RejectedAttribute<'_>| match it.kind {
+    let text = |it: RejectedAttribute<'_>| match it.kind {
         Some(kind) => format!(" rejected {kind} ({it})"),
         None => format!(" rejected ({it})"),
     };
-    let is_unread = |it: &sockdiag::RejectedAttribute<'_>| it.kind.is_none() || it.kind != read;
+    let is_unread = |it: &RejectedAttribute<'_>| it.kind.is_none() || it.kind != read;
     rejected.filter(is_unread).map(text).collect()
 }
 
@@ -219,14 +197,14 @@ struct Answer<'p> {
     lines: String,
     /// Whether data was lost. The end may be lost too, so the rest of the answer is not read.
     has_lost_data: bool,
-    /// Whether a reply was rejected.
+    /// Whether a message was rejected.
     has_rejected: bool,
 }
 
 impl Answer<'_> {
     /// Reads the messages of a datagram. Returns whether the answer has ended, or data was lost.
     fn read(&mut self, datagram: &[u8]) -> io::Result<bool> {
-        for message in AnyDump::new(datagram) {
+        for message in LenientDump::new(datagram) {
             if let Err(reason) = self.check.check_message(&message) {
                 eprintln!("list_sockets: {}: {reason}", self.protocol);
                 continue;
@@ -239,16 +217,13 @@ impl Answer<'_> {
                     eprintln!("list_sockets: {}: {rejected}", self.protocol);
                     return Ok(self.lose_data());
                 }
-                Err(rejected) => self.take_rejected(&rejected),
+                Err(rejected) => {
+                    eprintln!("list_sockets: {}: invalid reply: {rejected}", self.protocol);
+                    self.has_rejected = true;
+                }
             }
         }
         Ok(false)
-    }
-
-    /// Adds the line about a socket.
-    fn add(&mut self, line: &str) {
-        self.lines += line;
-        self.lines.push('\n');
     }
 
     /// Records that data was lost. Returns true: no more of the answer is to be read.
@@ -282,26 +257,14 @@ impl Answer<'_> {
         }
     }
 
-    /// Adds the line about the socket of a rejected reply, whose other attributes are valid.
-    /// Reports a message that has no such socket.
-    fn take_rejected(&mut self, rejected: &RejectedMessage<'_>) {
-        let lenient = rejected.lenient();
-        match lenient.and_then(|message| lenient_line(self.protocol, &message)) {
-            Some(line) => self.add(&line),
-            None => {
-                eprintln!("list_sockets: {}: invalid reply: {rejected}", self.protocol);
-                self.has_rejected = true;
-            }
-        }
-    }
-
     /// Adds the line about a socket. Returns whether the payload ends the answer. A kernel that
     /// lacks the protocol or the family sends `ENOENT` or `EINVAL`.
-    fn take(&mut self, payload: NetlinkPayload<AnySockDiagMessage<'_>>) -> io::Result<bool> {
+    fn take(&mut self, payload: NetlinkPayload<LenientMessage<'_>>) -> io::Result<bool> {
         match payload {
             NetlinkPayload::InnerMessage(message) => {
                 if let Some(line) = socket_line(self.protocol, &message) {
-                    self.add(&line);
+                    self.lines += &line;
+                    self.lines.push('\n');
                 }
                 Ok(false)
             }

@@ -256,7 +256,7 @@ impl<'a> AnySockDiagMessage<'a> {
 
 /// A message that was rejected. It contains everything that is known of the message, so that a
 /// program can report the message. [`lenient`](Self::lenient) returns the part of a reply that is
-/// valid. It displays the text of the error.
+/// valid, and [`LenientDump`] yields this part. It displays the text of the error.
 #[derive(Clone, Copy, Debug, PartialEq, Eq)]
 pub struct RejectedMessage<'a> {
     /// The reason.
@@ -293,102 +293,136 @@ impl From<RejectedMessage<'_>> for DecodeError {
     }
 }
 
-/// An iterator over the messages of a datagram, in order. It checks each reply once.
-///
-/// If a payload is rejected, it yields the error with the header and the payload, and continues. So
-/// do not write `message?` in a loop: one rejected reply would end the list. One rejected attribute
-/// makes a reply invalid; [`RejectedMessage::lenient`] returns its socket. After a framing error
-/// it yields nothing. Kernels put whole messages into a datagram, so a message that is split
-/// between two datagrams is a framing error.
-///
-/// A message of type `NLMSG_DONE` does not end the iteration. Sequence numbers, port ids and
-/// `NLM_F_DUMP_INTR` are not checked: [`AnswerCheck`](crate::AnswerCheck) does that.
-///
-/// ```
-/// use sockdiag::Dump;
-///
-/// // A reply about a UNIX socket that is 4 bytes too short, and a message that ends a dump.
-/// let datagram = [
-///     28, 0, 0, 0, 20, 0, 2, 0, 7, 0, 0, 0, 9, 0, 0, 0, 1, 1, 10, 0, 78, 0, 0, 0, 1, 2, 3, 4,
-///     20, 0, 0, 0, 3, 0, 2, 0, 7, 0, 0, 0, 9, 0, 0, 0, 0, 0, 0, 0,
-/// ];
-/// let mut dump = Dump::new(&datagram);
-/// let rejected = dump.next().unwrap().unwrap_err();
-/// assert_eq!(rejected.error.code(), 2);
-/// assert_eq!(rejected.header.map(|header| header.sequence_number), Some(7));
-/// assert_eq!(rejected.payload, &datagram[16..28]);
-/// assert!(dump.next().is_some_and(|message| message.is_ok()));
-/// ```
-#[derive(Clone, Debug)]
-pub struct Dump<'a> {
-    datagram: &'a [u8],
-    cursor: Cursor,
-}
-
-impl<'a> Dump<'a> {
-    /// Returns an iterator over the messages of a datagram.
-    pub fn new(datagram: &'a [u8]) -> Self {
-        Dump {
-            datagram,
-            cursor: Cursor::default(),
+/// Defines an iterator over the messages of a datagram, with the type of the messages that are not
+/// control messages.
+macro_rules! iterator {
+    ($(#[$doc:meta])* $name:ident: $payload:ident) => {
+        $(#[$doc])*
+        #[derive(Clone, Debug)]
+        pub struct $name<'a> {
+            datagram: &'a [u8],
+            cursor: Cursor,
         }
-    }
-}
 
-impl<'a> Iterator for Dump<'a> {
-    type Item = Result<Message<'a>, RejectedMessage<'a>>;
-
-    fn next(&mut self) -> Option<Self::Item> {
-        next_message(self.datagram, &mut self.cursor, SockDiagMessage::parse)
-    }
-}
-
-impl core::iter::FusedIterator for Dump<'_> {}
-
-/// An iterator over the messages of a datagram, like [`Dump`], with replies of any family.
-///
-/// ```
-/// use sockdiag::{AnyDump, AnySockDiagMessage, NetlinkPayload};
-///
-/// # let datagram: &[u8] = &[
-/// #     48, 0, 0, 0, 20, 0, 2, 0, 7, 0, 0, 0, 9, 0, 0, 0, 40, 1, 10, 0, 2, 0, 0, 0, 22, 0, 0, 0,
-/// #     255, 255, 255, 255, 255, 255, 255, 255, 10, 80, 0, 0, 5, 0, 0, 0, 0, 0, 0, 0,
-/// # ];
-/// for message in AnyDump::new(datagram) {
-///     match message.map(|message| message.payload) {
-///         Ok(NetlinkPayload::InnerMessage(AnySockDiagMessage::Vsock(reply))) => {
-///             assert_eq!((reply.header.source_context, reply.header.source_port), (2, 22));
-///         }
-///         Ok(other) => panic!("{other:?}"),
-///         Err(rejected) => eprintln!("invalid reply: {rejected}"),
-///     }
-/// }
-/// ```
-#[derive(Clone, Debug)]
-pub struct AnyDump<'a> {
-    datagram: &'a [u8],
-    cursor: Cursor,
-}
-
-impl<'a> AnyDump<'a> {
-    /// Returns an iterator over the messages of a datagram.
-    pub fn new(datagram: &'a [u8]) -> Self {
-        AnyDump {
-            datagram,
-            cursor: Cursor::default(),
+        impl<'a> $name<'a> {
+            /// Returns an iterator over the messages of a datagram.
+            pub fn new(datagram: &'a [u8]) -> Self {
+                $name {
+                    datagram,
+                    cursor: Cursor::default(),
+                }
+            }
         }
-    }
+
+        impl<'a> Iterator for $name<'a> {
+            type Item = Result<NetlinkMessage<$payload<'a>>, RejectedMessage<'a>>;
+
+            fn next(&mut self) -> Option<Self::Item> {
+                next_message(self.datagram, &mut self.cursor, $payload::parse)
+            }
+        }
+
+        impl core::iter::FusedIterator for $name<'_> {}
+    };
 }
 
-impl<'a> Iterator for AnyDump<'a> {
-    type Item = Result<NetlinkMessage<AnySockDiagMessage<'a>>, RejectedMessage<'a>>;
-
-    fn next(&mut self) -> Option<Self::Item> {
-        next_message(self.datagram, &mut self.cursor, AnySockDiagMessage::parse)
-    }
+iterator! {
+    /// An iterator over the messages of a datagram, in order, with replies about UNIX, IPv4 and
+    /// IPv6 sockets. It checks each reply once. [`AnyDump`] has replies of any family, and
+    /// [`LenientDump`] also replies of which attributes are rejected.
+    ///
+    /// If a payload is rejected, it yields the error with the header and the payload, and
+    /// continues. So do not write `message?` in a loop: one rejected reply would end the list. One
+    /// rejected attribute makes a reply invalid; [`RejectedMessage::lenient`] returns its socket.
+    /// After a framing error it yields nothing. Kernels put whole messages into a datagram, so a
+    /// message that is split between two datagrams is a framing error.
+    ///
+    /// A message of type `NLMSG_DONE` does not end the iteration. Sequence numbers, port ids and
+    /// `NLM_F_DUMP_INTR` are not checked: [`AnswerCheck`](crate::AnswerCheck) does that.
+    ///
+    /// ```
+    /// use sockdiag::Dump;
+    ///
+    /// // A reply about a UNIX socket that is 4 bytes too short, and a message that ends a dump.
+    /// let datagram = [
+    ///     28, 0, 0, 0, 20, 0, 2, 0, 7, 0, 0, 0, 9, 0, 0, 0, 1, 1, 10, 0, 78, 0, 0, 0, 1, 2, 3, 4,
+    ///     20, 0, 0, 0, 3, 0, 2, 0, 7, 0, 0, 0, 9, 0, 0, 0, 0, 0, 0, 0,
+    /// ];
+    /// let mut dump = Dump::new(&datagram);
+    /// let rejected = dump.next().unwrap().unwrap_err();
+    /// assert_eq!(rejected.error.code(), 2);
+    /// assert_eq!(rejected.header.map(|header| header.sequence_number), Some(7));
+    /// assert_eq!(rejected.payload, &datagram[16..28]);
+    /// assert!(dump.next().is_some_and(|message| message.is_ok()));
+    /// ```
+    Dump: SockDiagMessage
 }
 
-impl core::iter::FusedIterator for AnyDump<'_> {}
+iterator! {
+    /// An iterator over the messages of a datagram, like [`Dump`], with replies of any family.
+    ///
+    /// ```
+    /// use sockdiag::{AnyDump, AnySockDiagMessage, NetlinkPayload};
+    ///
+    /// # let datagram: &[u8] = &[
+    /// #     48, 0, 0, 0, 20, 0, 2, 0, 7, 0, 0, 0, 9, 0, 0, 0,
+    /// #     40, 1, 10, 0, 2, 0, 0, 0, 22, 0, 0, 0, 255, 255, 255, 255, 255, 255, 255, 255,
+    /// #     10, 80, 0, 0, 5, 0, 0, 0, 0, 0, 0, 0,
+    /// # ];
+    /// for message in AnyDump::new(datagram) {
+    ///     match message.map(|message| message.payload) {
+    ///         Ok(NetlinkPayload::InnerMessage(AnySockDiagMessage::Vsock(reply))) => {
+    ///             assert_eq!((reply.header.source_context, reply.header.source_port), (2, 22));
+    ///         }
+    ///         Ok(other) => panic!("{other:?}"),
+    ///         Err(rejected) => eprintln!("invalid reply: {rejected}"),
+    ///     }
+    /// }
+    /// ```
+    AnyDump: AnySockDiagMessage
+}
+
+iterator! {
+    /// An iterator over the messages of a datagram, like [`AnyDump`], which also yields replies of
+    /// which attributes are rejected. So a list of sockets needs only one `match` arm for each
+    /// family. Each reply is a [`LenientMessage`], with the attributes that are valid;
+    /// [`rejected`](crate::LenientReply::rejected) yields the others.
+    ///
+    /// All other items are those of [`AnyDump`]: control messages with their numbers, and with the
+    /// same error a reply whose header is rejected, a message of another type or family, and a
+    /// framing error.
+    ///
+    /// ```
+    /// use sockdiag::{LenientDump, LenientMessage, NetlinkPayload};
+    ///
+    /// # let datagram: &[u8] = &[
+    /// #     40, 0, 0, 0, 20, 0, 2, 0, 7, 0, 0, 0, 9, 0, 0, 0,
+    /// #     1, 1, 10, 0, 78, 0, 0, 0, 1, 2, 3, 4, 5, 6, 7, 8, 8, 0, 2, 0, 77, 0, 0, 0,
+    /// #     48, 0, 0, 0, 20, 0, 2, 0, 7, 0, 0, 0, 9, 0, 0, 0,
+    /// #     1, 1, 10, 0, 79, 0, 0, 0, 1, 2, 3, 4, 5, 6, 7, 8, 8, 0, 5, 0, 0, 0, 0, 0,
+    /// #     8, 0, 2, 0, 78, 0, 0, 0,
+    /// #     20, 0, 0, 0, 3, 0, 2, 0, 7, 0, 0, 0, 9, 0, 0, 0, 0, 0, 0, 0,
+    /// # ];
+    /// // Two replies about UNIX sockets with a peer, the second one with four bytes of memory
+    /// // instead of 36, and the end of the dump.
+    /// let mut sockets = Vec::new();
+    /// for message in LenientDump::new(datagram) {
+    ///     match message.map(|message| message.payload) {
+    ///         Ok(NetlinkPayload::InnerMessage(LenientMessage::Unix(reply))) => {
+    ///             for attribute in reply.rejected() {
+    ///                 eprintln!("inode {}: {attribute}", reply.header.inode);
+    ///             }
+    ///             sockets.push((reply.header.inode, reply.peer(), reply.is_accepted()));
+    ///         }
+    ///         Ok(NetlinkPayload::Done(Some(0))) => break,
+    ///         Ok(other) => panic!("{other:?}"),
+    ///         Err(rejected) => eprintln!("invalid message: {rejected}"),
+    ///     }
+    /// }
+    /// assert_eq!(sockets, [(78, Some(77), true), (79, Some(78), false)]);
+    /// ```
+    LenientDump: LenientMessage
+}
 
 /// Returns the message at the cursor, and advances the cursor. Parses the payload by `parse`,
 /// unless the type is a control type.

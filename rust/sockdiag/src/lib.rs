@@ -10,12 +10,13 @@
 //!
 //! A program connects a netlink socket to port id 0 by connect(2), so that only the kernel can send
 //! to it. It sends a request, and reads datagrams until a message ends the answer. A loop over the
-//! messages continues after a reply that is rejected. One rejected attribute makes a reply invalid:
-//! [`RejectedMessage::lenient`] returns its socket with the other attributes, so that no socket is
-//! lost on old kernels. After the end, repeat the request if the dump was interrupted; the
-//! documentation of [`AnswerCheck`] says what the kernel does not report. A `RejectedMessage`
-//! without a header is a framing error: the rest of the datagram is lost, and possibly the end, so
-//! repeat the request on another socket. `examples/list_sockets.rs` is a complete program.
+//! messages continues after a message that is rejected. [`LenientDump`] yields each socket, so that
+//! none is lost on old kernels: an attribute that is rejected hides only itself. [`Dump`] and
+//! [`AnyDump`] reject a reply with such an attribute. After the end, repeat the request if the dump
+//! was interrupted; the documentation of [`AnswerCheck`] says what the kernel does not report. A
+//! [`RejectedMessage`] without a header is a framing error: the rest of the datagram is lost, and
+//! possibly the end, so repeat the request on another socket. `examples/list_sockets.rs` is a
+//! complete program.
 //!
 //! The datagrams of a dump have at most 32 KiB. recv(2) cuts a longer datagram than the buffer
 //! silently: use 64 KiB, and treat a datagram that fills the buffer as cut.
@@ -23,8 +24,7 @@
 //! ```
 //! use sockdiag::constants::{NLM_F_DUMP, NLM_F_REQUEST, TCP_LISTEN};
 //! use sockdiag::unix::{ShowFlags, StateFlags, UnixRequest};
-//! use sockdiag::{AnswerCheck, Dump, LenientMessage, NetlinkHeader, NetlinkPayload};
-//! use sockdiag::SockDiagMessage;
+//! use sockdiag::{AnswerCheck, LenientDump, LenientMessage, NetlinkHeader, NetlinkPayload};
 //!
 //! let request = UnixRequest {
 //!     state_flags: StateFlags::every_state(),
@@ -53,16 +53,17 @@
 //! // The port id of the socket, which getsockname(2) returns in nl_pid.
 //! let port_number = 9;
 //! let mut answer = AnswerCheck::new(header.sequence_number, port_number);
-//! let mut listening = 0;
-//! for message in Dump::new(datagram) {
+//! let (mut listening, mut rejected_attributes) = (0, 0);
+//! for message in LenientDump::new(datagram) {
 //!     if let Err(reason) = answer.check_message(&message) {
 //!         eprintln!("{reason}");
 //!         continue;
 //!     }
 //!     match message.map(|message| message.payload) {
-//!         Ok(NetlinkPayload::InnerMessage(SockDiagMessage::UnixResponse(reply))) => {
+//!         Ok(NetlinkPayload::InnerMessage(LenientMessage::Unix(reply))) => {
 //!             assert_eq!(reply.header.inode, 78);
 //!             listening += usize::from(reply.header.state == TCP_LISTEN);
+//!             rejected_attributes += reply.rejected().count();
 //!         }
 //!         Ok(NetlinkPayload::InnerMessage(_) | NetlinkPayload::Noop) => {}
 //!         Ok(NetlinkPayload::Done(Some(0))) => break,
@@ -71,17 +72,10 @@
 //!         }
 //!         Ok(NetlinkPayload::Overrun) => panic!("the kernel lost data"),
 //!         Err(rejected) if rejected.header.is_none() => panic!("invalid datagram: {rejected}"),
-//!         Err(rejected) => match rejected.lenient() {
-//!             Some(LenientMessage::Unix(reply)) => {
-//!                 assert_eq!((reply.header.inode, reply.rejected().count()), (78, 1));
-//!                 listening += usize::from(reply.header.state == TCP_LISTEN);
-//!             }
-//!             Some(_) => {}
-//!             None => eprintln!("invalid reply: {rejected}"),
-//!         },
+//!         Err(rejected) => eprintln!("invalid reply: {rejected}"),
 //!     }
 //! }
-//! assert_eq!((listening, answer.is_interrupted()), (2, false));
+//! assert_eq!((listening, rejected_attributes, answer.is_interrupted()), (2, 1, false));
 //! ```
 //!
 //! # What is proved
@@ -121,8 +115,9 @@
 //!
 //! `docs/MIGRATING.md`, which a release and the sources have, lists the differences.
 //!
-//! In addition, [`Dump`] iterates over a whole datagram, [`AnswerCheck`] checks that its messages
-//! belong to the answer, and [`Attributes`] iterates over attributes as kinds and bytes.
+//! In addition, [`Dump`] and [`LenientDump`] iterate over a whole datagram, [`AnswerCheck`] checks
+//! that its messages belong to the answer, and [`Attributes`] iterates over attributes as kinds and
+//! bytes.
 //! `to_message` and `to_destroy` serialize a request in one call. `StateFlags::every_state()`
 //! selects all states, which `StateFlags::all()` does not do in either crate.
 //!
@@ -140,14 +135,15 @@
 //! # Sockets of four more families
 //!
 //! In addition to the items of that crate, [`netlink`], [`packet`], [`vsock`] and [`xdp`] have
-//! requests and replies about these sockets. [`AnyDump`] and [`AnySockDiagMessage`] have replies of
-//! any family: `examples/list_sockets.rs` lists netlink and packet sockets by them. The contents of
-//! a reply are in its fields. If it has several attributes of a kind, the field has the first one;
-//! `attributes` returns all of them. `header.cookie` is a `u64` in these replies, and `[u8; 8]` in
-//! those about UNIX and internet sockets: `u64::from_le_bytes` converts the bytes.
+//! requests and replies about these sockets. [`LenientDump`] and [`AnyDump`] have replies of any
+//! family: `examples/list_sockets.rs` lists netlink and packet sockets by [`LenientDump`]. The
+//! contents of a reply are in its fields. If it has several attributes of a kind, the field has the
+//! first one; `attributes` returns all of them. `header.cookie` is a `u64` in these replies, and
+//! `[u8; 8]` in those about UNIX and internet sockets: `u64::from_le_bytes` converts the bytes.
 //!
-//! One rejected attribute makes a reply invalid. To list every socket, parse it leniently, or call
-//! [`RejectedMessage::lenient`] for an item of a dump:
+//! One rejected attribute makes a reply invalid. To list every socket, iterate over a
+//! [`LenientDump`], call [`RejectedMessage::lenient`] for an item of another dump, or parse the
+//! reply leniently:
 //!
 //! ```
 //! use sockdiag::netlink::{LenientNetlinkReply, NetlinkReply};
@@ -207,8 +203,8 @@ pub use answer::{AnswerCheck, UnrelatedMessage};
 pub use attribute::{Attribute, Attributes, NlaWalk, Nlas, Numbers};
 pub use attribute::{RejectedAttribute, RejectedAttributes};
 pub use constants::*;
-pub use dump::{AnyDump, AnySockDiagMessage, Dump, Message, RejectedMessage, SockDiagMessage};
-pub use dump::{NetlinkHeader, NetlinkMessage, NetlinkPayload};
+pub use dump::{AnyDump, AnySockDiagMessage, Dump, LenientDump, Message, SockDiagMessage};
+pub use dump::{NetlinkHeader, NetlinkMessage, NetlinkPayload, RejectedMessage};
 pub use error::{DecodeError, RecordName};
 pub use lenient::{LenientMessage, LenientReply};
 pub use show::ShowRequest;

@@ -9,7 +9,8 @@ use sockdiag::inet::{InetReply, InetRequest, SocketId};
 use sockdiag::netlink::NetlinkRequest;
 use sockdiag::unix::{UnixReply, UnixRequest};
 use sockdiag::vsock::VsockRequest;
-use sockdiag::{inet, AnswerCheck, AnyDump, Dump, LenientMessage, RejectedAttributes};
+use sockdiag::{inet, AnswerCheck, AnyDump, Dump, LenientDump, LenientMessage};
+use sockdiag::{NetlinkPayload, RejectedAttributes};
 use std::alloc::{GlobalAlloc, Layout, System};
 use std::cell::Cell;
 
@@ -58,6 +59,11 @@ fn parse(datagram: &[u8]) -> (usize, usize) {
         found.0 += usize::from(check.check_message(&message).is_ok());
         if let Err(error) = message {
             found.1 += error.lenient().map_or(0, |it| rejected(&it));
+        }
+    }
+    for message in LenientDump::new(datagram).flatten() {
+        if let NetlinkPayload::InnerMessage(reply) = message.payload {
+            found.1 += rejected(&reply);
         }
     }
     found
@@ -117,5 +123,5 @@ fn no_call_allocates() {
     assert_eq!(ALLOCATIONS.get(), before);
 
     assert!(has_values);
-    assert_eq!((found, length), ((12, 9), 80 + 80 + 40 + 36 + 40));
+    assert_eq!((found, length), ((12, 18), 80 + 80 + 40 + 36 + 40));
 }

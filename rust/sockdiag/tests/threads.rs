@@ -6,9 +6,9 @@ use sockdiag::unix::{self, LenientUnixReply, UnixReply};
 use sockdiag::{netlink, packet, vsock, xdp};
 use sockdiag::{
     AnswerCheck, AnyDump, AnySockDiagMessage, Attribute, Attributes, DecodeError, Dump,
-    LenientMessage, Message, NetlinkHeader, NetlinkMessage, NetlinkPayload, NlaWalk, Nlas, Numbers,
-    RecordName, RejectedAttribute, RejectedAttributes, RejectedMessage, SockDiagMessage,
-    UnrelatedMessage,
+    LenientDump, LenientMessage, Message, NetlinkHeader, NetlinkMessage, NetlinkPayload, NlaWalk,
+    Nlas, Numbers, RecordName, RejectedAttribute, RejectedAttributes, RejectedMessage,
+    SockDiagMessage, UnrelatedMessage,
 };
 
 fn is_shared<T: Send + Sync + Unpin>() {}
@@ -28,16 +28,16 @@ type Addresses<'a> = AttributeRecords<'a, inet::StoredAddress>;
 can_be_shortened! {
     UnixReply, InetReply, netlink::NetlinkReply, packet::PacketReply, vsock::VsockReply,
     xdp::XdpReply, LenientUnixReply, LenientInetReply, LenientMessage, SockDiagMessage,
-    AnySockDiagMessage, RejectedMessage, Dump, AnyDump, Attribute, Attributes, RejectedAttribute,
-    RejectedAttributes, Numbers, Addresses, unix::nlas::Nla, inet::nlas::Nla, unix::UnixDiagName,
-    inet::TcpInfoBytes,
+    AnySockDiagMessage, RejectedMessage, Dump, AnyDump, LenientDump, Attribute, Attributes,
+    RejectedAttribute, RejectedAttributes, Numbers, Addresses, unix::nlas::Nla, inet::nlas::Nla,
+    unix::UnixDiagName, inet::TcpInfoBytes,
 }
 
 #[test]
 fn all_types_are_send_and_sync() {
     are_shared! {
         AnswerCheck, AnyDump, AnySockDiagMessage, Attribute, Attributes, DecodeError, Dump,
-        LenientMessage, Message, NetlinkHeader, NetlinkMessage<AnySockDiagMessage>,
+        LenientDump, LenientMessage, Message, NetlinkHeader, NetlinkMessage<AnySockDiagMessage>,
         NetlinkPayload<SockDiagMessage>, Numbers, RecordName, RejectedAttribute,
         RejectedAttributes, RejectedMessage, SockDiagMessage, UnrelatedMessage,
     }
