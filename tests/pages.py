@@ -532,12 +532,15 @@ class Checker:
                 yield f"no test prints: {line}"
 
     def check_dependency(self, page, number, lines):
-        """Checks the path of the Cargo crate, in a folder with this repository or a release."""
+        """Checks the path of the Cargo crate, in a folder with this repository or a release. It may
+        be a dependency only for the target for which the crate compiles."""
         path = re.fullmatch(r'sockdiag = \{ path = "(?:\.\./sockdiag|sockdiag-VERSION-x86_64-linux)'
                             r'/([\w/]+)" \}', lines[-1])
         manifest = TOP / path[1] / "Cargo.toml" if path else None
-        if lines[:-1] != ["[dependencies]"] or not manifest or not manifest.is_file():
+        if not manifest or not manifest.is_file():
             yield f"no crate at {lines[-1]}"
+        if lines[:-1] not in (["[dependencies]"], [f"[target.'cfg({TARGET})'.dependencies]"]):
+            yield f"not a section of dependencies: {lines[0]}"
 
     def check_names(self, page, number, lines):
         """Checks that public modules and items have the names in a list of imports."""
@@ -578,17 +581,20 @@ class Checker:
                 yield page, number, f"no command prints or writes: {lines[0]}"
 
 
+# The first line of a section of dependencies, and the target of the Cargo crate as a condition.
+DEPENDENCIES = r"\[(target\..*\.)?dependencies\]$"
+TARGET = 'all(target_os = "linux", target_arch = "x86_64")'
 # How the first line of a block of each form begins, and how the block is checked.
 FORMS = {
     INDENTED: {
         rf"({NAMES}) [0-9a-f-]": Checker.check_stored,
         r"(tools/install: |inet  |try_it: |//! )": Checker.check_shown,
         r"\w+: all tests pass$": Checker.check_test_ends,
-        r"\[dependencies\]$": Checker.check_dependency,
+        DEPENDENCIES: Checker.check_dependency,
         r"\w+(::\w+)*::\{": Checker.check_names,
     },
     "json": {r"\{": Checker.check_shown},
-    "toml": {r"\[dependencies\]$": Checker.check_dependency},
+    "toml": {DEPENDENCIES: Checker.check_dependency},
     "text": {r"programs  ": Checker.check_crates, r"offset ": Checker.check_reply},
 }
 
