@@ -14,8 +14,8 @@ use sockdiag::packet::PacketReply;
 use sockdiag::unix::{self, LenientUnixReply, UnixDiagName, UnixReply};
 use sockdiag::vsock::VsockReply;
 use sockdiag::xdp::XdpReply;
-use sockdiag::SockDiagMessage;
-use sockdiag::{AnyDump, Attributes, Dump, LenientMessage, NetlinkMessage, NetlinkPayload};
+use sockdiag::{AnyDump, Attributes, Dump, LenientDump, LenientMessage};
+use sockdiag::{NetlinkMessage, NetlinkPayload, SockDiagMessage};
 
 /// Parses a copy of the bytes as each kind of reply. Texts that are returned lie within the bytes,
 /// and nothing panics.
@@ -58,6 +58,7 @@ fn parse_all(bytes: &[u8]) {
         XdpReply::parse(bytes).is_ok(),
     );
     let _ = AnyDump::new(bytes).count();
+    let _ = LenientDump::new(bytes).count();
     let _ = sockdiag::inet::tcp_info(bytes);
     let _ = Attributes::new(bytes).count();
     let _ = Dump::new(bytes).count();
