@@ -10,13 +10,13 @@
 //!
 //! A program connects a netlink socket to port id 0 by connect(2), so that only the kernel can send
 //! to it. It sends a request, and reads datagrams until a message ends the answer. A loop over the
-//! messages continues after a message that is rejected. [`LenientDump`] yields each socket, so that
-//! none is lost on old kernels: an attribute that is rejected hides only itself. [`Dump`] and
-//! [`AnyDump`] reject a reply with such an attribute. After the end, repeat the request if the dump
-//! was interrupted; the documentation of [`AnswerCheck`] says what the kernel does not report. A
-//! [`RejectedMessage`] without a header is a framing error: the rest of the datagram is lost, and
-//! possibly the end, so repeat the request on another socket. `examples/list_sockets.rs` is a
-//! complete program.
+//! messages continues after a message that is rejected. A [`LenientDump`] rejects no reply for an
+//! attribute, so that no socket is lost on old kernels: an attribute that is rejected hides only
+//! itself. A [`Dump`] and an [`AnyDump`] reject a reply with such an attribute. After the end,
+//! repeat the request if the dump was interrupted; the documentation of [`AnswerCheck`] says what
+//! the kernel does not report. A [`RejectedMessage`] without a header is a framing error: the rest
+//! of the datagram is lost, and possibly the end, so repeat the request on another socket.
+//! `examples/list_sockets.rs` is a complete program.
 //!
 //! The datagrams of a dump have at most 32 KiB. recv(2) cuts a longer datagram than the buffer
 //! silently: use 64 KiB, and treat a datagram that fills the buffer as cut.
@@ -88,7 +88,7 @@
 //! | results of the proved library | code of this crate, which is tested |
 //! |---|---|
 //! | the messages of a datagram and the attributes of a reply, as offsets, lengths and types; framing errors | the slices of these; [`Numbers`] |
-//! | whether a message belongs to the answer, and whether it has `NLM_F_DUMP_INTR` | that [`AnswerCheck`] keeps the second one; which number [`UnrelatedMessage`] has |
+//! | whether a message belongs to the answer, and whether it has `NLM_F_DUMP_INTR` | [`UnrelatedMessage`], the reason why it does not; [`AnswerCheck`], which records whether one of the messages has the flag |
 //! | which payload of a family is accepted; [`DecodeError`] with its numbers | the choice of the function by the message type and the family; texts |
 //! | the numbers and the bytes of addresses in each header | [`inet::Timer`], IP addresses |
 //! | the getters of a reply, except those of the next two rows | the values of `nlas`, which are decoded a second time, also names (`UnixDiagName`) and [`nlas::MemInfo`](inet::nlas::MemInfo) |
