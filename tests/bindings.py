@@ -1,6 +1,7 @@
 #!/usr/bin/env python3
 """Compiles the C header and rust/sockdiag without the C library.
 
+- The header has the doc comments of the source, whole.
 - With a C compiler, `$CC` or `cc`, it compiles the examples, one of which includes the header, as
   C99 and as C++.
 - Without the C library it checks rust/sockdiag with its tests and examples, and writes its
@@ -26,6 +27,23 @@ from pathlib import Path
 
 TOP = Path(__file__).resolve().parent.parent
 RUST = TOP / "rust" / "sockdiag"
+# Do not create tools/__pycache__.
+sys.dont_write_bytecode = True
+sys.path.append(str(TOP / "tools"))
+from declarations import Library, summary
+
+
+def comment_errors():
+    """Returns the doc comments of structs, fields and functions that the header lacks, as lines."""
+    header = (TOP / "include/sockdiag.h").read_text("utf-8")
+    shown = [re.sub(r"(?m)^ *\*", "", it) for it in re.findall(r"(?s)/\*(.*?)\*/", header)]
+    text = " ".join(" ".join(shown).split())
+    library = Library()
+    docs = [it.doc for it in library.functions.values()]
+    for it in library.structs.values():
+        docs += [summary(it.doc), *(field.doc for field in it.fields)]
+    words = [" ".join(" ".join(doc).replace("`", "").split()) for doc in docs]
+    return [f"the header lacks the comment: {it}" for it in words if it not in text]
 
 
 def compile_c(compiler):
@@ -84,7 +102,9 @@ def declaration_errors():
     errors = []
     if written == 0 or {declared.count(it) for it in ("*mut u8", ".as_mut_ptr()")} != {written}:
         errors.append("sys.rs: a buffer that C writes is not mutable")
-    if re.search(r"<'a>\([^)]*: &\[", declared):
+    # A struct that borrows is always `Name<'a>`, and then the bytes are `&'a [u8]`.
+    borrowing = "|".join(re.findall(r"struct (\w+)<'a>", declared))
+    if re.search(rf"<'a>\([^)]*: &\[|mut (?:{borrowing})\b(?!<'a>)", declared):
         errors.append("sys.rs: a reply does not borrow from its bytes")
     return errors
 
@@ -168,6 +188,9 @@ def has_cargo():
 
 
 def main():
+    if errors := comment_errors():
+        print(*errors, "tests/bindings.py: failed", sep="\n")
+        return 1
     compiler = os.environ.get("CC", "cc")
     if not shutil.which(compiler):
         print(f"skipped: the bindings: no C compiler {compiler}")

@@ -39,7 +39,7 @@ installed() {
     (cd "$1" && find . -mindepth 1 -printf '%m %P %l\n' | sed 's/ $//' | sort -k 2)
 }
 
-# A release: its functions return 0.
+# A release: its functions return 0. The header declares all of them but one.
 cp VERSION "$tree"
 cp -R examples include man "$tree"
 cp tools/install tools/libsockdiag.map "$tree/tools"
@@ -47,6 +47,8 @@ for program in sockdiag sslist sockdump; do
     echo '#!/bin/sh' >"$tree/bin/$program"
 done
 tests/stand_in.sh "$tree/lib/libsockdiag.a"
+echo 'int of_no_header(void) { return 0; }' | $CC -x c -c -o "$work/other.o" -
+ar r "$tree/lib/libsockdiag.a" "$work/other.o"
 ln -s "$tree/tools/install" "$install"
 
 # Arguments, a compiler that fails, and signals.
@@ -78,10 +80,15 @@ prefix="$work/a prefix"
 installed "$work/plain" >"$work/expected"
 installed "$prefix" | diff "$work/expected" - || fail "the umask or the link matters"
 [ -z "$(find "$prefix" ! -perm 644 ! -perm 755 ! -type l)" ] || fail "modes"
+if nm -D "$prefix/lib/libsockdiag.so" | grep -q of_no_header; then
+    fail "the shared library exports a function that the header lacks"
+fi
 grep -q "LD_LIBRARY_PATH=$prefix/lib" "$work/out" || fail "the hint for another folder"
 grep -q "PKG_CONFIG_PATH=$prefix/lib/pkgconfig" "$work/out" || fail "the hint for pkg-config"
 PKG_CONFIG_PATH="/none:$prefix/lib/pkgconfig" "$install" "$prefix" >"$work/out"
 if grep -q pkg-config "$work/out"; then fail "the hint for a folder of pkg-config"; fi
+[ "$(PKG_CONFIG_PATH="$prefix/lib/pkgconfig" pkg-config --modversion sockdiag)" = "$version" ] ||
+    fail "the version that pkg-config prints"
 [ "$(tail -n 1 "$work/out")" = "tools/install: installed sockdiag $version in $prefix" ] ||
     fail "the last line"
 

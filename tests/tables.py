@@ -3,6 +3,8 @@
 the program at this path. Without it the members of JSON are not compared.
 
 - man/sockdiag.3: the functions of the header, and the decode errors with their codes and texts.
+- include/sockdiag.h: the calls and structs that its comments name, and the theorem functions that
+  the first one names, exist.
 - man/sslist.1, man/sockdiag.1 and man/sockdump.1: each diagnostic is in the sources. Of the first
   two, tools/usage writes --help from the options.
 - man/sslist-json.5: the members of each list are those that the program prints for replies with
@@ -276,6 +278,18 @@ def library_errors():
         yield from differences(page, found, expected)
 
 
+def comment_errors():
+    """Looks for the names in the comments of the header. A name with four or more underscores in
+    the first comment is that of a theorem function."""
+    comments = re.findall(r"(?s)/\*.*?\*/", HEADER)
+    laws = (TOP / "crates/sockdiag_c/src/laws.rt").read_text(encoding="utf-8")
+    declared = {*re.findall(r"\w+", re.sub(r"(?s)/\*.*?\*/", "", HEADER)), "sockdiag_c",
+                *re.findall(r"(?m)^pub fn (\w+)", laws)}
+    named = re.findall(r"\bsockdiag_\w+", " ".join(comments))
+    named += re.findall(r"\b[a-z]+(?:_[a-z]+){4,}\b", comments[0])
+    yield from (("include/sockdiag.h", f"there is no {it}") for it in named if it not in declared)
+
+
 def warnings():
     """Yields the warnings of groff about the manual pages."""
     for path in sorted((TOP / "man").iterdir()) if shutil.which("groff") else []:
@@ -285,9 +299,9 @@ def warnings():
 
 
 def main():
-    wrong = [*library_errors(), *diagnostic_errors("sslist"), *diagnostic_errors("sockdiag"),
-             *diagnostic_errors("sockdump"), *licence_errors(), *line_errors(), *file_errors(),
-             *warnings()]
+    wrong = [*library_errors(), *comment_errors(), *diagnostic_errors("sslist"),
+             *diagnostic_errors("sockdiag"), *diagnostic_errors("sockdump"), *licence_errors(),
+             *line_errors(), *file_errors(), *warnings()]
     for sslist in sys.argv[1:]:
         wrong += [*json_errors(sslist), *linked_errors(sslist)]
     print(*(f"{page}: {text}" for page, text in wrong), sep="\n", end="\n" * bool(wrong))
