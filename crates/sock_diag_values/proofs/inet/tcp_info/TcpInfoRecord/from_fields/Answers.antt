@@ -12,7 +12,7 @@ found value = Ok value
 pub returns : goal.returns
 unfolding tcp_info
 returns c =
-    ap found (ap with_fields c.array_at-states.ensures
+    ap found (ap with_fields c.array_at-u8s_at_0.ensures
     ⊛ c.u32s_at-u32s_at_8.ensures
     ⊛ c.u32s_at-u32s_at_44.ensures
     ⊛ c.u32s_at-u32s_at_60.ensures
