@@ -11,7 +11,7 @@ cd "$work"
 libraries='netlink_core sock_diag_replies netlink_packet_sock_diag'
 mkdir -p from/tools to/crates/mine/src to/crates/netlink_core/src linked
 cp "$tools/vendor" "$tools/libraries" from/tools
-touch from/LICENSE-MIT from/VERSION
+touch from/LICENSE-MIT from/LICENSE-PORTED from/VERSION
 below=
 for name in $libraries extra; do
     echo "$name:$below" >>from/crates.txt
@@ -45,10 +45,10 @@ for target in from from/tools/.. link from/crates/extra from/new linked; do
 done
 diff -r from from.before || fail "a refused target was changed"
 
-mv from/crates/sock_diag_replies/proofs proofs
-if from/tools/vendor to 2>errors; then fail "it ended with status 0 without the proofs"; fi
+mv from/crates/sock_diag_replies/src src
+if from/tools/vendor to 2>errors; then fail "it ended with status 0 without the code"; fi
 diff -r to to.before || fail "the target was changed though not all was copied"
-mv proofs from/crates/sock_diag_replies/proofs
+mv src from/crates/sock_diag_replies/src
 
 { head -n 3 from/crates.txt; echo 'mine: netlink_core'; } >expected
 # The last target does not exist yet.
@@ -60,7 +60,7 @@ for target in to to new; do
     ls $target/crates >listed
     sed 's/:.*//' expected | sort | diff - listed || fail "wrong crates in $target"
     (cd $target/crates/netlink_core && find . -type f | sort | tr '\n' ' ') >files
-    echo './.gitignore ./LICENSE-MIT ./VERSION ./out/rlib/stamp ./proofs/file ./specs/file' \
-        './src/file ' | tr -d '\n' | diff files - || fail "wrong files in $target"
+    echo './.gitignore ./LICENSE-MIT ./LICENSE-PORTED ./VERSION ./out/rlib/stamp ./proofs/file' \
+        './specs/file ./src/file ' | tr -d '\n' | diff files - || fail "wrong files in $target"
 done
 diff -r to/crates/mine to.before/crates/mine || fail "a crate of the target was changed"
