@@ -1816,32 +1816,31 @@ uint32_t sockdiag_next_address(const uint8_t *value, size_t length, struct sockd
 
 /* Records that can have too few bytes: the numbers of the field record_name. */
 enum sockdiag_record {
-    SOCKDIAG_RECORD_SOCKET_ID = 1,               /* Record inet_diag_sockid, 48 bytes. */
-    SOCKDIAG_RECORD_INET_REQUEST = 2,            /* Record inet_diag_req_v2, 56 bytes. */
-    SOCKDIAG_RECORD_INET_RESPONSE_HEADER = 3,    /* Record inet_diag_msg, 72 bytes: the header of
-                                                    a reply about an IPv4 or IPv6 socket. */
-    SOCKDIAG_RECORD_UNIX_REQUEST = 4,            /* Record unix_diag_req, 24 bytes. */
-    SOCKDIAG_RECORD_UNIX_RESPONSE_HEADER = 5,    /* Record unix_diag_msg, 16 bytes: the header of
-                                                    a reply about a UNIX socket. */
-    SOCKDIAG_RECORD_LEGACY_MEM_INFO = 6,         /* Value of INET_DIAG_MEMINFO, 16 bytes. */
-    SOCKDIAG_RECORD_MEM_INFO = 7,                /* Value of INET_DIAG_SKMEMINFO, or of the
-                                                    memory of a netlink, packet or XDP socket, 28
-                                                    bytes or more. */
-    SOCKDIAG_RECORD_TCP_INFO = 8,                /* Value of INET_DIAG_INFO, 232 bytes. */
-    SOCKDIAG_RECORD_VFS = 9,                     /* Value of UNIX_DIAG_VFS, 8 bytes. */
-    SOCKDIAG_RECORD_UNIX_MEM_INFO = 10,          /* Value of UNIX_DIAG_MEMINFO, 36 bytes. */
-    SOCKDIAG_RECORD_FAMILY_REQUEST = 11,         /* Request for sockets of the family in family. */
-    SOCKDIAG_RECORD_FAMILY_RESPONSE_HEADER = 12, /* Header of a reply about a socket of the
-                                                    family in family. */
-    SOCKDIAG_RECORD_FAMILY_ATTRIBUTE = 13        /* Value of the attribute kind in a reply about
-                                                    a socket of the family in family. */
+    SOCKDIAG_RECORD_SOCKET_ID = 1,               /* inet_diag_sockid, 48 bytes. */
+    SOCKDIAG_RECORD_INET_REQUEST = 2,            /* inet_diag_req_v2, 56 bytes. */
+    SOCKDIAG_RECORD_INET_RESPONSE_HEADER = 3,    /* inet_diag_msg, 72 bytes. */
+    SOCKDIAG_RECORD_UNIX_REQUEST = 4,            /* unix_diag_req, 24 bytes. */
+    SOCKDIAG_RECORD_UNIX_RESPONSE_HEADER = 5,    /* unix_diag_msg, 16 bytes. */
+    SOCKDIAG_RECORD_LEGACY_MEM_INFO = 6,         /* The value of INET_DIAG_MEMINFO, 16 bytes. */
+    SOCKDIAG_RECORD_MEM_INFO = 7,                /* The value of INET_DIAG_SKMEMINFO, 28, 32 or
+                                                    36 bytes. */
+    SOCKDIAG_RECORD_TCP_INFO = 8,                /* The value of INET_DIAG_INFO, 232 bytes. */
+    SOCKDIAG_RECORD_VFS = 9,                     /* The value of UNIX_DIAG_VFS, 8 bytes. */
+    SOCKDIAG_RECORD_UNIX_MEM_INFO = 10,          /* The value of UNIX_DIAG_MEMINFO, 36 bytes. */
+    SOCKDIAG_RECORD_FAMILY_REQUEST = 11,         /* A request for sockets of another family, a
+                                                    number AF_... */
+    SOCKDIAG_RECORD_FAMILY_RESPONSE_HEADER = 12, /* The header of a reply about a socket of
+                                                    another family, a number AF_... */
+    SOCKDIAG_RECORD_FAMILY_ATTRIBUTE = 13        /* The value of an attribute of this kind, in a
+                                                    reply about a socket of another family. */
 };
 
 /* A decode error with its fields. A field that the error does not have is 0. */
 struct sockdiag_error_details {
     uint32_t code;               /* Code of the error, one of enum sockdiag_error. */
     uint32_t record_name;        /* Record that has too few bytes, one of SOCKDIAG_RECORD_..
-                                    (SOCKDIAG_BUFFER_TOO_SMALL). */
+                                    (SOCKDIAG_BUFFER_TOO_SMALL). SOCKDIAG_RECORD_MEM_INFO is also
+                                    the memory of a netlink, packet or XDP socket. */
     uint32_t family;             /* Address family that is not supported or not known, or that a
                                     record of SOCKDIAG_RECORD_FAMILY_REQUEST, .._RESPONSE_HEADER
                                     or .._ATTRIBUTE belongs to. */

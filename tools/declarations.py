@@ -61,6 +61,7 @@ SPAN = re.compile(r"TcpField::(\w+) => \((\d+), (\d+)\),")
 BIT = re.compile(r"SocketOption::(\w+) => (\d+),")
 SIZE = re.compile(r"prove!\(size_of::<(\w+)(?:<'static>)?>\(\) == (\d+)\)")
 CODE = re.compile(r"DecodeError::(\w+)(?: \{ \.\. \})? => (\d+),")
+RECORD = re.compile(r"RecordName::(\w+)(?: \{.*\})? => \((\d+),")
 
 
 class Field(NamedTuple):
@@ -210,11 +211,10 @@ def enum_in(text, name):
 
 def record_names():
     """Yields the records of decode errors, with their numbers in C."""
-    numbers = constants_in(text_of(CRATES / "sockdiag_c/src/error_details.rt"))
+    numbers = dict(RECORD.findall(text_of(CRATES / "sockdiag_c/src/error_details.rt")))
     text = enum_in(text_of(CRATES / "netlink_core/src/error.rt"), "RecordName")
     for comment, name, body in PLAIN_VARIANT.findall(text):
-        number = numbers[f"RECORD_{snake(name).upper()}"].value
-        yield Variant(name, number, variant_fields(body), doc_of(comment))
+        yield Variant(name, numbers[name], variant_fields(body), doc_of(comment))
 
 
 def socket_options():

@@ -1,5 +1,5 @@
 -- Errors with their fields.
-use Rattle.std.proofs.Common.{◌≡◌, ℕ, inl, inr, Result, Ok, Err, arith}
+use Rattle.std.proofs.Common.{◌≡◌, ℕ, inl, inr, Result, Ok, Err}
 use Rattle.std.specs.Prelude.{IfErr, IfOk, MatchResult}
 use Rattle.netlink_core.specs.declared.error.DecodeError.{DecodeError}
 use Rattle.netlink_core.specs.Errors.{error_code}
@@ -17,8 +17,3 @@ explained parses rejects model (Ok a) old new answer how value error =
     inl ((model a, value), how.0, how.1)
 explained parses rejects model (Err e) old new answer how value error =
     inr (e, error, how.0, how.1)
-
--- the struct of an error has its code
-pub code_of_details : (e : DecodeError) → (error_details_of e).code ≡ error_code e
-code_of_details e =
-    grind arith

@@ -1,7 +1,7 @@
 -- The values and the errors of a reply after one more attribute.
 use Rattle.std.proofs.Common.{◌≡◌, ◌≢◌, ◌∙◌, ℕ, List, [], ◌∷◌, ◌++◌, Option, Some, None, refl, sym}
-use Rattle.std.proofs.Common.{Ok, ap, arith, drop, slice_get, subst}
-use Rattle.std.specs.Prelude.{⊤, ◌==◌, Bool, false, if◌then◌else◌, true}
+use Rattle.std.proofs.Common.{Err, Ok, Result, ap, arith, drop, slice_get, subst}
+use Rattle.std.specs.Prelude.{⊤, ◌==◌, Bool, IfOk, MatchResult, false, if◌then◌else◌, true}
 use Rattle.std.proofs.lemmas.List.{append_assoc, append-nil}
 use Rattle.std.specs.List.{filter_map, cons_option}
 use Rattle.netlink_core.specs.Attribute.{Attribute, IsFramingError, StartsWithAttribute}
@@ -112,6 +112,16 @@ module _ {D : Type 0} (family : Family D) where
 pub code_is_not_zero : (e : DecodeError) → error_code e ≢ 0
 code_is_not_zero e =
     grind arith
+
+-- what was parsed holds of what is stored
+pub stored : {D : Type 0} (Holds : D → Type 0) (r : Result D DecodeError) (old new : D)
+    (answer : ℕ)
+    → MatchResult r (λ found. (answer ≡ 0) × (new ≡ found))
+    (λ e. (answer ≡ error_code e) × (new ≡ old))
+    → IfOk r Holds → answer ≡ 0 → Holds new
+stored Holds (Ok found) old new answer how holds zero = subst Holds (sym how.1) holds
+stored Holds (Err e) old new answer how holds zero =
+    absurd (code_is_not_zero e (sym how.0 ∙ zero))
 
 -- ---- the attributes so far
 

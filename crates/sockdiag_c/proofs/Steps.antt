@@ -18,6 +18,7 @@ use Rattle.sockdiag_c.specs.declared.walks.AttributeRange.{AttributeRange}
 use Rattle.sockdiag_c.specs.declared.walks.Cursor.{Cursor}
 use Rattle.sockdiag_c.specs.declared.walks.MessageRange.{MessageRange}
 use Rattle.sockdiag_c.specs.Walks.{IsPayloadCheckResult, NextAttribute, attribute_in, header_in}
+use Rattle.sockdiag_c.specs.Walks.{NextUncheckedMessage, StoresMessage}
 use Rattle.sockdiag_c.specs.Walks.{bytes_after_cursor}
 
 -- the value of the attribute at an offset is four bytes after the offset
@@ -95,6 +96,13 @@ control_payload_is_accepted payload t (inr (inr (inl three))) =
     inl (refl, (Done payload, (three, refl)))
 control_payload_is_accepted payload t (inr (inr (inr four))) =
     inl (refl, (Overrun payload, (four, refl)))
+
+-- a step that returns 1 stores a message
+pub message_stored : (bytes : List ℕ) (old new : Cursor) (was now : MessageRange) (answer : ℕ)
+    → NextUncheckedMessage bytes old new was now answer → answer ≡ 1
+    → StoresMessage bytes old new now
+message_stored bytes old new was now answer step one =
+    grind arith
 
 -- ---- steps over bytes that are split into attributes
 

@@ -1,7 +1,7 @@
 //! Values of single attributes that the structs of a reply lack. `sockdiag_next_attribute` returns
 //! them.
 
-ghost use Rattle.std.specs.Prelude.{◌≡◌, ◌≤◌, length};
+ghost use Rattle.std.specs.Prelude.{◌≡◌, ◌+◌, ◌<◌, ◌≤◌, MatchOption, length};
 ghost use Rattle.byteorder.specs.Endian.{little_number};
 ghost use Rattle.sock_diag_extras.specs.Congestion.{bbr_info, dctcp_info, vegas_info};
 ghost use Rattle.sock_diag_extras.specs.Md5Signature.{md5_signature};
@@ -12,7 +12,7 @@ ghost use Rattle.sockdiag_c.specs.AttributeValues.{IsStoredIf, NextItem};
 ghost use Rattle.sockdiag_c.specs.Walks.{bytes_after_cursor};
 
 use crate::family_values::store;
-use crate::walks::{Cursor, END, ITEM};
+use crate::walks::{Cursor, bytes_from};
 use byteorder::{ByteOrder, LittleEndian};
 use sock_diag_extras::{
     AttributeRecord, BbrInfo, DctcpInfo, Md5Signature, SocketOptions, StoredAddress, VegasInfo,
@@ -118,13 +118,8 @@ pub extern "C" fn sockdiag_next_pending(value: &[u8], cursor: &mut Cursor, inode
     ensures { NextItem 4 (little_number 4) value.now cursor.old cursor.new inode.old inode.new
         result }
 {
-    let left = left_at(value, cursor);
-    if left.len() < 4 {
-        return END;
-    }
-    *inode = LittleEndian::read_u32(left);
-    cursor.offset = cursor.offset + 4;
-    ITEM
+    let left = next_bytes(value, cursor, 4);
+    store(left.map(|bytes| LittleEndian::read_u32(bytes)), inode)
 }
 
 // Stores the record at the cursor, and advances the cursor past it. Returns 1, or 0 if fewer bytes
@@ -133,21 +128,22 @@ fn next_record<T: AttributeRecord + Copy>(value: &[u8], cursor: &mut Cursor, fou
     ensures { NextItem T.layout.size (parse_by_table T.layout) value.now cursor.old cursor.new
         found.old found.new result }
 {
-    let left = left_at(value, cursor);
-    if left.len() < T::size() {
-        return END;
-    }
-    *found = T::from_fields(left);
-    cursor.offset = cursor.offset + T::size();
-    ITEM
+    let left = next_bytes(value, cursor, T::size());
+    store(left.map(|bytes| T::from_fields(bytes)), found)
 }
 
-// Returns the bytes from the cursor on.
-fn left_at<'a>(value: &'a [u8], cursor: &Cursor) -> &'a [u8]
-    ensures { result.now ≡ bytes_after_cursor value.entry.now cursor.now }
+// Returns the bytes from the cursor on, and advances the cursor by `size` bytes. Returns `None` if
+// fewer bytes are left.
+fn next_bytes<'a>(value: &'a [u8], cursor: &mut Cursor, size: usize) -> Option<&'a [u8]>
+    ensures { let left = bytes_after_cursor value.entry.now cursor.old in
+        MatchOption result ((length left < size) × (cursor.new ≡ cursor.old))
+        (λ bytes. (bytes.now ≡ left) × (size ≤ length left)
+        × (cursor.new.offset ≡ cursor.old.offset + size)) }
 {
-    if cursor.offset > value.len() {
-        return &[];
+    let left = bytes_from(value, cursor.offset);
+    if left.len() < size {
+        return None;
     }
-    &value[cursor.offset..]
+    cursor.offset = cursor.offset + size;
+    Some(left)
 }

@@ -1,5 +1,7 @@
 //! Checks of borrowed replies.
 
+ghost use Rattle.std.specs.Prelude.{◌≡◌, MatchResult};
+ghost use Rattle.netlink_core.specs.Errors.{error_code};
 ghost use Rattle.netlink_core.specs.Response.{response_codec};
 ghost use Rattle.sock_diag_replies.specs.InetResponseSpec.{inet_response_spec};
 ghost use Rattle.netlink_packet_sock_diag.specs.Message.{message_codec};
@@ -8,12 +10,28 @@ ghost use Rattle.sockdiag_c.specs.Answers.{IsCheckResult};
 ghost use Rattle.sockdiag_c.specs.Headers.{inet_header_of, reply_of, unix_header_of};
 
 use crate::headers::{INET, InetHeader, Reply, UNIX, UnixHeader};
+use netlink_core::DecodeError;
 use netlink_packet_sock_diag::SockDiagView;
 use netlink_packet_sock_diag::inet::InetResponseView;
 use netlink_packet_sock_diag::unix::UnixResponseView;
 
 /// Return value of a check that accepts the bytes.
 pub(crate) const OK: u32 = 0;
+
+/// Stores what was parsed. Returns 0, or the code of the error; then the target is unchanged.
+#[inline(always)]
+pub(crate) fn store_parsed<T: Copy>(parsed: Result<T, DecodeError>, target: &mut T) -> u32
+    ensures { MatchResult parsed (λ found. (result ≡ 0) × (target.new ≡ found))
+        (λ e. (result ≡ error_code e) × (target.new ≡ target.old)) }
+{
+    match parsed {
+        Ok(found) => {
+            *target = found;
+            OK
+        }
+        Err(error) => u32::from(error.number()),
+    }
+}
 
 /// Checks a whole reply about a UNIX socket, with its attributes, and returns its header. The bytes
 /// are the payload of the netlink message. Returns 0, or the code of the first error; then the

@@ -12,8 +12,8 @@ ghost use Rattle.sockdiag_c.specs.Family.{IsHeaderError, LenientDetailsAre, Part
 ghost use Rattle.sockdiag_c.specs.Family.{first_present, value_error};
 ghost use Rattle.sockdiag_c.specs.private.Rows.{AddsValues};
 
-use crate::check::OK;
-use crate::lenient::{Errors, NO_ERRORS, Rejections};
+use crate::check::store_parsed;
+use crate::lenient::{Errors, Rejections};
 use netlink_core::{DecodeError, NlaBuffer, NlasIterator, parse_u32};
 
 /// A number that a reply may contain.
@@ -50,12 +50,6 @@ pub(crate) const ABSTRACT: u32 = 2;
 
 /// Kind of the groups of a netlink socket, and of memberships and the filter of a packet socket.
 pub(crate) const BYTES: u32 = 3;
-
-/// The number of a reply that contains none.
-pub(crate) const NO_NUMBER: Number = Number {
-    is_set: 0,
-    value: 0,
-};
 
 impl Number {
     /// Sets the number, unless it is set already.
@@ -103,6 +97,16 @@ impl<'a> Text<'a> {
             *self = Text { kind, bytes };
         }
     }
+
+    /// Sets bytes that are not checked, unless they are set already. There is no error.
+    pub(crate) fn set_bytes(&mut self, bytes: &'a [u8]) -> Result<(), DecodeError>
+        ensures text { text_parts self.new
+            ≡ first_present (text_parts self.old) (Some (BYTES, bytes.entry.now)) }
+        ensures error { result ≡ Ok tt }
+    {
+        self.set(BYTES, bytes);
+        Ok(())
+    }
 }
 
 /// The contents of replies about the sockets of one family, as a C struct.
@@ -136,13 +140,7 @@ pub(crate) fn store_details<'a, T: ReplyDetails<'a>>(payload: &'a [u8], details:
     ensures error { result ≢ 0 → IsCodeOf (IsFirstError T.family payload.entry.now) result }
     ensures unchanged { result ≢ 0 → details.new ≡ details.old }
 {
-    match strict_details::<T>(payload) {
-        Ok(found) => {
-            *details = found;
-            OK
-        }
-        Err(error) => u32::from(error.number()),
-    }
+    store_parsed(strict_details::<T>(payload), details)
 }
 
 /// Parses the reply, and returns its contents or the first error.
@@ -151,7 +149,7 @@ pub(crate) fn strict_details<'a, T: ReplyDetails<'a>>(payload: &'a [u8]) -> Resu
     ensures error { IfErr result (IsFirstError T.family payload.entry.now) }
 {
     let (mut found, rest) = T::parse_header(payload)?;
-    let mut errors = NO_ERRORS;
+    let mut errors = Errors::default();
     set_values(rest, &mut found, &mut errors);
     match errors.first {
         Some(error) => Err(error),
@@ -173,13 +171,7 @@ pub(crate) fn store_lenient_details<'a, T: ReplyDetails<'a>>(
     ensures unchanged { result ≢ 0
         → (details.new ≡ details.old) × (rejections.new ≡ rejections.old) }
 {
-    match lenient_details::<T>(payload, rejections) {
-        Ok(found) => {
-            *details = found;
-            OK
-        }
-        Err(error) => u32::from(error.number()),
-    }
+    store_parsed(lenient_details::<T>(payload, rejections), details)
 }
 
 // Parses the reply, and returns its contents and stores the errors, or returns the error of the
@@ -194,7 +186,7 @@ fn lenient_details<'a, T: ReplyDetails<'a>>(
     ensures unchanged { IfErr result (λ _. rejections.new ≡ rejections.old) }
 {
     let (mut found, rest) = T::parse_header(payload)?;
-    let mut errors = NO_ERRORS;
+    let mut errors = Errors::default();
     set_values(rest, &mut found, &mut errors);
     *rejections = errors.rejections;
     Ok(found)
@@ -210,7 +202,7 @@ fn set_values<'a, T: ReplyDetails<'a>>(bytes: &'a [u8], details: &mut T, errors:
         × HasRejections T.family errors.new.rejections parts
         × (errors.new.first ≡ first_error T.family parts) }
 {
-    *errors = NO_ERRORS;
+    *errors = Errors::default();
     for item in NlasIterator::new(bytes) {
         match item {
             Ok(nla) => match details.set_value(&nla) {
@@ -218,7 +210,8 @@ fn set_values<'a, T: ReplyDetails<'a>>(bytes: &'a [u8], details: &mut T, errors:
                 Err(error) => errors.add_value(nla.kind(), error),
             },
             Err(error) => {
-                errors.add_framing(error);
+                errors.rejections.framing = u32::from(error.number());
+                errors.add(error);
                 return;
             }
         }

@@ -20,7 +20,7 @@ ghost use Rattle.sockdiag_c.specs.VsockDetails.{vsock_family};
 ghost use Rattle.sockdiag_c.specs.XdpDetails.{xdp_family};
 
 use crate::check::OK;
-use crate::details::{NO_NUMBER, Number, strict_details};
+use crate::details::{Number, strict_details};
 use crate::netlink_details::NetlinkDetails;
 use crate::packet_details::PacketDetails;
 use crate::xdp_details::XdpDetails;
@@ -35,12 +35,13 @@ use sock_diag_lenient::LenientNlas;
 
 /// A decode error with its fields. A field that the error does not have is 0.
 #[repr(C)]
-#[derive(Clone, Copy)]
+#[derive(Clone, Copy, Default)]
 pub struct ErrorDetails {
     /// Code of the error, one of `enum sockdiag_error`.
     pub code: u32,
     /// Record that has too few bytes, one of `SOCKDIAG_RECORD_..`
-    /// (`SOCKDIAG_BUFFER_TOO_SMALL`).
+    /// (`SOCKDIAG_BUFFER_TOO_SMALL`). `SOCKDIAG_RECORD_MEM_INFO` is also the memory of a netlink,
+    /// packet or XDP socket.
     pub record_name: u32,
     /// Address family that is not supported or not known, or that a record of
     /// `SOCKDIAG_RECORD_FAMILY_REQUEST`, `.._RESPONSE_HEADER` or `.._ATTRIBUTE` belongs to.
@@ -62,148 +63,71 @@ pub struct ErrorDetails {
     pub index: usize,
 }
 
-/// Record `inet_diag_sockid`, 48 bytes.
-pub(crate) const RECORD_SOCKET_ID: u32 = 1;
-
-/// Record `inet_diag_req_v2`, 56 bytes.
-pub(crate) const RECORD_INET_REQUEST: u32 = 2;
-
-/// Record `inet_diag_msg`, 72 bytes: the header of a reply about an IPv4 or IPv6 socket.
-pub(crate) const RECORD_INET_RESPONSE_HEADER: u32 = 3;
-
-/// Record `unix_diag_req`, 24 bytes.
-pub(crate) const RECORD_UNIX_REQUEST: u32 = 4;
-
-/// Record `unix_diag_msg`, 16 bytes: the header of a reply about a UNIX socket.
-pub(crate) const RECORD_UNIX_RESPONSE_HEADER: u32 = 5;
-
-/// Value of `INET_DIAG_MEMINFO`, 16 bytes.
-pub(crate) const RECORD_LEGACY_MEM_INFO: u32 = 6;
-
-/// Value of `INET_DIAG_SKMEMINFO`, or of the memory of a netlink, packet or XDP socket, 28 bytes or
-/// more.
-pub(crate) const RECORD_MEM_INFO: u32 = 7;
-
-/// Value of `INET_DIAG_INFO`, 232 bytes.
-pub(crate) const RECORD_TCP_INFO: u32 = 8;
-
-/// Value of `UNIX_DIAG_VFS`, 8 bytes.
-pub(crate) const RECORD_VFS: u32 = 9;
-
-/// Value of `UNIX_DIAG_MEMINFO`, 36 bytes.
-pub(crate) const RECORD_UNIX_MEM_INFO: u32 = 10;
-
-/// Request for sockets of the family in `family`.
-pub(crate) const RECORD_FAMILY_REQUEST: u32 = 11;
-
-/// Header of a reply about a socket of the family in `family`.
-pub(crate) const RECORD_FAMILY_RESPONSE_HEADER: u32 = 12;
-
-/// Value of the attribute `kind` in a reply about a socket of the family in `family`.
-pub(crate) const RECORD_FAMILY_ATTRIBUTE: u32 = 13;
-
-// Returns the code of the error, and 0 in all other fields.
-fn without_fields(code: u8) -> ErrorDetails
-    ensures { result ≡ no_details code }
-{
-    ErrorDetails {
-        code: u32::from(code),
-        record_name: 0,
-        family: 0,
-        message_type: 0,
-        kind: NO_NUMBER,
-        got: 0,
-        need: 0,
-        length: 0,
-        index: 0,
-    }
-}
-
-// Returns the number of the record, the family that it belongs to, and the kind of the attribute.
+// Returns the number of the record, `SOCKDIAG_RECORD_..`, the family that it belongs to, and the
+// kind of the attribute. `tools/bindings` writes the numbers into the header.
 fn record_fields(which: RecordName) -> (u32, u8, Option<u16>)
     ensures { result ≡ (record_code which, record_family which, record_kind which) }
 {
     match which {
-        RecordName::SocketId => (RECORD_SOCKET_ID, 0, None),
-        RecordName::InetRequest => (RECORD_INET_REQUEST, 0, None),
-        RecordName::InetResponseHeader => (RECORD_INET_RESPONSE_HEADER, 0, None),
-        RecordName::UnixRequest => (RECORD_UNIX_REQUEST, 0, None),
-        RecordName::UnixResponseHeader => (RECORD_UNIX_RESPONSE_HEADER, 0, None),
-        RecordName::LegacyMemInfo => (RECORD_LEGACY_MEM_INFO, 0, None),
-        RecordName::MemInfo => (RECORD_MEM_INFO, 0, None),
-        RecordName::TcpInfo => (RECORD_TCP_INFO, 0, None),
-        RecordName::Vfs => (RECORD_VFS, 0, None),
-        RecordName::UnixMemInfo => (RECORD_UNIX_MEM_INFO, 0, None),
-        RecordName::FamilyRequest { family } => (RECORD_FAMILY_REQUEST, family, None),
-        RecordName::FamilyResponseHeader { family } => {
-            (RECORD_FAMILY_RESPONSE_HEADER, family, None)
-        }
-        RecordName::FamilyAttribute { family, kind } => {
-            (RECORD_FAMILY_ATTRIBUTE, family, Some(kind))
-        }
+        RecordName::SocketId => (1, 0, None),
+        RecordName::InetRequest => (2, 0, None),
+        RecordName::InetResponseHeader => (3, 0, None),
+        RecordName::UnixRequest => (4, 0, None),
+        RecordName::UnixResponseHeader => (5, 0, None),
+        RecordName::LegacyMemInfo => (6, 0, None),
+        RecordName::MemInfo => (7, 0, None),
+        RecordName::TcpInfo => (8, 0, None),
+        RecordName::Vfs => (9, 0, None),
+        RecordName::UnixMemInfo => (10, 0, None),
+        RecordName::FamilyRequest { family } => (11, family, None),
+        RecordName::FamilyResponseHeader { family } => (12, family, None),
+        RecordName::FamilyAttribute { family, kind } => (13, family, Some(kind)),
     }
 }
 
-// Returns the number of an optional kind.
-fn kind_number(kind: Option<u16>) -> Number
-    ensures { result ≡ optional_number kind }
+// Returns the fields of the error.
+fn details_of(error: DecodeError) -> ErrorDetails
+    ensures { result ≡ error_details_of error }
 {
-    match kind {
-        Some(kind) => Number {
-            is_set: 1,
-            value: u32::from(kind),
-        },
-        None => NO_NUMBER,
-    }
-}
-
-impl From<DecodeError> for ErrorDetails {
-    ghost from_gives = { λ e details. details ≡ error_details_of e };
-
-    fn from(error: DecodeError) -> ErrorDetails {
-        let mut details = without_fields(error.number());
-        match error {
-            DecodeError::BufferTooSmall { which, got, need } => {
-                let (record_name, family, kind) = record_fields(which);
-                details.record_name = record_name;
-                details.family = u32::from(family);
-                details.kind = kind_number(kind);
-                details.got = got;
-                details.need = need;
-            }
-            DecodeError::UnsupportedFamily { family } | DecodeError::UnknownFamily { family } => {
-                details.family = u32::from(family);
-            }
-            DecodeError::UnknownMessageType { message_type } => {
-                details.message_type = u32::from(message_type);
-            }
-            DecodeError::MessageTooShort { got }
-            | DecodeError::AttributeHeaderCut { left: got }
-            | DecodeError::NotMultipleOfFour { got }
-            | DecodeError::EnvelopeCut { got } => details.got = got,
-            DecodeError::AttributeLengthUnder4 { length } => details.length = usize::from(length),
-            DecodeError::AttributeLengthPast { length, left } => {
-                details.length = usize::from(length);
-                details.got = left;
-            }
-            DecodeError::WrongLength { kind, got, need } => {
-                details.kind = kind_number(kind);
-                details.got = got;
-                details.need = need;
-            }
-            DecodeError::NameInnerZero { index } => details.index = index,
-            DecodeError::EnvelopeLengthUnder16 { length } => details.length = length as usize,
-            DecodeError::EnvelopeLengthPast { length, got } => {
-                details.length = length as usize;
-                details.got = got;
-            }
-            DecodeError::Memory
-            | DecodeError::NotUtf8
-            | DecodeError::NameEmpty
-            | DecodeError::NameWithoutEnd => {}
+    let mut details = ErrorDetails::default();
+    details.code = u32::from(error.number());
+    match error {
+        DecodeError::BufferTooSmall { which, got, need } => {
+            let (record_name, family, kind) = record_fields(which);
+            details.record_name = record_name;
+            details.family = u32::from(family);
+            details.kind = Number::from(kind.map(u32::from));
+            details.got = got;
+            details.need = need;
         }
-        details
+        DecodeError::UnsupportedFamily { family } => details.family = u32::from(family),
+        DecodeError::UnknownFamily { family } => details.family = u32::from(family),
+        DecodeError::UnknownMessageType { message_type } => {
+            details.message_type = u32::from(message_type);
+        }
+        DecodeError::MessageTooShort { got }
+        | DecodeError::AttributeHeaderCut { left: got }
+        | DecodeError::NotMultipleOfFour { got }
+        | DecodeError::EnvelopeCut { got } => details.got = got,
+        DecodeError::AttributeLengthUnder4 { length } => details.length = usize::from(length),
+        DecodeError::AttributeLengthPast { length, left } => {
+            details.length = usize::from(length);
+            details.got = left;
+        }
+        DecodeError::WrongLength { kind, got, need } => {
+            details.kind = Number::from(kind.map(u32::from));
+            details.got = got;
+            details.need = need;
+        }
+        DecodeError::NameInnerZero { index } => details.index = index,
+        DecodeError::EnvelopeLengthUnder16 { length } => details.length = length as usize,
+        DecodeError::EnvelopeLengthPast { length, got } => {
+            details.length = length as usize;
+            details.got = got;
+        }
+        _ => {}
     }
+    details
 }
 
 // Stores the fields of the error, if there is one. Returns its code, or 0.
@@ -214,7 +138,7 @@ fn explain<T: Drop>(parsed: Result<T, DecodeError>, error: &mut ErrorDetails) ->
     match parsed {
         Ok(_) => OK,
         Err(found) => {
-            *error = ErrorDetails::from(found);
+            *error = details_of(found);
             error.code
         }
     }
@@ -314,26 +238,20 @@ pub extern "C" fn sockdiag_framing_explain(bytes: &[u8], error: &mut ErrorDetail
 /// of a reply, with its fields: its framing error, or the error of its value. Returns its code; or
 /// 0 if the attribute is accepted or there are no bytes, and then the error is unchanged.
 #[unsafe(no_mangle)]
-pub extern "C" fn sockdiag_unix_explain_attribute<'a>(
-    bytes: &'a [u8],
-    error: &mut ErrorDetails,
-) -> u32
-    ensures { IsItemExplained unix_attribute_set bytes.entry.now error.old error.new result }
+pub extern "C" fn sockdiag_unix_explain_attribute(bytes: &[u8], error: &mut ErrorDetails) -> u32
+    ensures { IsItemExplained unix_attribute_set bytes.now error.old error.new result }
 {
-    explain_item::<UnixNlaView<'a>>(bytes, error)
+    explain_item::<UnixNlaView<'_>>(bytes, error)
 }
 
 /// Stores the error of the attribute of an IPv4 or IPv6 socket at the start of the bytes, which are
 /// a part of a reply, with its fields: its framing error, or the error of its value. Returns its
 /// code; or 0 if the attribute is accepted or there are no bytes, and then the error is unchanged.
 #[unsafe(no_mangle)]
-pub extern "C" fn sockdiag_inet_explain_attribute<'a>(
-    bytes: &'a [u8],
-    error: &mut ErrorDetails,
-) -> u32
-    ensures { IsItemExplained inet_attribute_set bytes.entry.now error.old error.new result }
+pub extern "C" fn sockdiag_inet_explain_attribute(bytes: &[u8], error: &mut ErrorDetails) -> u32
+    ensures { IsItemExplained inet_attribute_set bytes.now error.old error.new result }
 {
-    explain_item::<InetNlaView<'a>>(bytes, error)
+    explain_item::<InetNlaView<'_>>(bytes, error)
 }
 
 // Stores the fields of the error of the first attribute. Returns its code, or 0.
@@ -341,10 +259,7 @@ fn explain_item<'a, V: FamilyView<'a> + Drop>(bytes: &'a [u8], error: &mut Error
     ensures { IsItemExplained V.attribute_set bytes.entry.now error.old error.new result }
 {
     match LenientNlas::<V>::new(bytes).next() {
-        Some(Err(rejection)) => {
-            *error = ErrorDetails::from(rejection.error());
-            error.code
-        }
+        Some(Err(rejection)) => explain::<()>(Err(rejection.error()), error),
         Some(Ok(_)) | None => OK,
     }
 }

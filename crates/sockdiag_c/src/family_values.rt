@@ -8,7 +8,7 @@ ghost use Rattle.sockdiag_c.specs.Answers.{IsGetterResult};
 ghost use Rattle.sockdiag_c.specs.Details.{memory_struct, optional_number, optional_record};
 ghost use Rattle.sockdiag_c.specs.Family.{first_present};
 
-use crate::details::{NO_NUMBER, Number};
+use crate::details::Number;
 use crate::walks::{END, ITEM};
 use netlink_core::{DecodeError, Record, read_record};
 use sock_diag_values::inet::MemInfo;
@@ -44,10 +44,7 @@ impl From<Option<u32>> for Number {
     ghost from_gives = { λ value number. number ≡ optional_number value };
 
     fn from(value: Option<u32>) -> Number {
-        match value {
-            Some(value) => Number { is_set: 1, value },
-            None => NO_NUMBER,
-        }
+        value.map_or(Number::default(), |value| Number { is_set: 1, value })
     }
 }
 

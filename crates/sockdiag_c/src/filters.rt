@@ -13,10 +13,12 @@ ghost use Rattle.sockdiag_c.specs.Rewriting.{ParsesAndWrites};
 
 use crate::requests::{InetRequest, write_inet};
 use crate::rewriting::{Outcome, reject, write_value};
+use attribute_lists::check_nlas;
 use byteorder::{ByteOrder, LittleEndian};
-use netlink_core::{DecodeError, Emitable, NETLINK_HEADER_LEN, NlasIterator, padded};
+use netlink_core::{Emitable, NETLINK_HEADER_LEN, padded};
 use netlink_packet_sock_diag::constants::{AF_INET, AF_INET6, SOCK_DIAG_BY_FAMILY};
 use netlink_packet_sock_diag::inet::INET_REQUEST_LEN;
+use sock_diag_families::RawNla;
 
 /// Writes a request for IPv4 or IPv6 sockets at the start of the buffer; bytes after it are
 /// unchanged. It is a netlink message of 72 bytes, or of 80 if the protocol is above 255, followed
@@ -52,29 +54,14 @@ pub extern "C" fn sockdiag_write_inet_request_with_attributes(
         (λ _. request_with_attributes request.now attributes.now)
         buffer.old buffer.new outcome.new result }
 {
-    match check_framing(attributes) {
-        Ok(()) => write_value(
-            &FilteredRequest {
-                request,
-                attributes,
-            },
-            buffer,
-            outcome,
-        ),
+    let filtered = FilteredRequest {
+        request,
+        attributes,
+    };
+    match check_nlas::<RawNla<'_>>(attributes) {
+        Ok(_) => write_value(&filtered, buffer, outcome),
         Err(error) => reject(&error, outcome),
     }
-}
-
-// Checks that the bytes are a sequence of attributes, or returns the first framing error.
-fn check_framing(bytes: &[u8]) -> Result<(), DecodeError>
-    ensures whole { OnOk result ((given : List Attribute)
-        × SplitsIntoAttributes bytes.now given []) }
-    ensures error { IfErr result (HasFramingError bytes.now) }
-{
-    for item in NlasIterator::new(bytes) {
-        let _nla = item?;
-    }
-    Ok(())
 }
 
 // A request, followed by attributes.
@@ -90,12 +77,9 @@ impl Emitable for FilteredRequest<'_> {
     ghost writable = { λ r. IsWritableRequest r.request.now r.attributes.now };
 
     fn is_writable(&self) -> bool {
-        let family = self.request.family;
-        if family != AF_INET && family != AF_INET6 {
-            return false;
-        }
+        let len = self.attributes.len();
         let room = u32::MAX as usize - front_len(self.request.protocol);
-        self.attributes.len() <= room && padded(self.attributes.len()) <= room
+        matches!(self.request.family, AF_INET | AF_INET6) && len <= room && padded(len) <= room
     }
 
     fn buffer_len(&self) -> usize {
@@ -116,11 +100,8 @@ fn front_len(protocol: u32) -> usize
     ensures all { result ≡ 72 + length (protocol_attribute protocol) }
     ensures few { result ≤ 80 }
 {
-    if protocol < 256 {
-        return NETLINK_HEADER_LEN + INET_REQUEST_LEN;
-    }
     // The attribute of the protocol has 8 bytes.
-    NETLINK_HEADER_LEN + INET_REQUEST_LEN + 8
+    NETLINK_HEADER_LEN + INET_REQUEST_LEN + if protocol < 256 { 0 } else { 8 }
 }
 
 // Writes the request as the start of a message of `len` bytes.

@@ -5,7 +5,7 @@ ghost use Rattle.sock_diag_records.specs.Timer.{timer_data, u32_milliseconds};
 ghost use Rattle.sockdiag_c.specs.Headers.{address_octets_of, inet_header_of, unix_header_of};
 
 use byteorder::{BigEndian, ByteOrder};
-use netlink_packet_sock_diag::inet::{InetResponseHeader, SocketId, Timer};
+use netlink_packet_sock_diag::inet::{InetResponseHeader, Timer};
 use netlink_packet_sock_diag::unix::UnixResponseHeader;
 use std::net::IpAddr;
 use std::time::Duration;
@@ -91,16 +91,11 @@ impl From<UnixResponseHeader> for UnixHeader {
     ghost from_gives = { λ header found. found ≡ unix_header_of header };
 
     fn from(header: UnixResponseHeader) -> UnixHeader {
-        let UnixResponseHeader {
-            kind,
-            state,
-            inode,
-            cookie,
-        } = header;
+        let cookie = header.cookie;
         UnixHeader {
-            kind,
-            state,
-            inode,
+            kind: header.kind,
+            state: header.state,
+            inode: header.inode,
             cookie,
         }
     }
@@ -111,27 +106,21 @@ impl From<InetResponseHeader> for InetHeader {
 
     fn from(header: InetResponseHeader) -> InetHeader {
         let (timer, retransmits, expires) = timer_fields(&header.timer);
-        let SocketId {
-            source_port,
-            destination_port,
-            source_address,
-            destination_address,
-            interface_id,
-            cookie,
-        } = header.socket_id;
-        let source_address = address_octets(source_address);
-        let destination_address = address_octets(destination_address);
+        let id = header.socket_id;
+        let source_address = address_octets(id.source_address);
+        let destination_address = address_octets(id.destination_address);
+        let cookie = id.cookie;
         InetHeader {
             family: header.family,
             state: header.state,
             timer,
             retransmits,
             expires,
-            source_port,
-            destination_port,
+            source_port: id.source_port,
+            destination_port: id.destination_port,
             source_address,
             destination_address,
-            interface_id,
+            interface_id: id.interface_id,
             cookie,
             recv_queue: header.recv_queue,
             send_queue: header.send_queue,

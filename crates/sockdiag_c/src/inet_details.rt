@@ -83,9 +83,7 @@ impl<'a> InetDetails<'a> {
             NlaView::SkV6Only(only) => self.v6only.set(u32::from(only)),
             NlaView::Mark(mark) => self.mark.set(mark),
             NlaView::ClassId(class) => self.class_id.set(class),
-            NlaView::LegacyMemInfo(_) => {}
-            NlaView::TcpInfo(_) => {}
-            NlaView::MemInfo(_) => {}
+            NlaView::LegacyMemInfo(_) | NlaView::MemInfo(_) | NlaView::TcpInfo(_) => {}
             NlaView::Other(_) => {}
         }
     }

@@ -46,7 +46,7 @@ pub const REJECTION_KINDS: usize = 32;
 /// - vsock sockets: none;
 /// - XDP sockets: 1 to 9, from `XDP_DIAG_INFO` to `XDP_DIAG_STATS` of `linux/xdp_diag.h`.
 #[repr(C)]
-#[derive(Clone, Copy)]
+#[derive(Clone, Copy, Default)]
 pub struct Rejections {
     /// Code of the first error, in the order of the bytes: the strict call for this reply, a
     /// `sockdiag_.._get_details`, returns the same code. If it is 0, both calls return the same
@@ -62,7 +62,7 @@ pub struct Rejections {
 }
 
 /// The errors of a reply after its header.
-#[derive(Clone, Copy)]
+#[derive(Clone, Copy, Default)]
 pub(crate) struct Errors {
     /// The first error.
     pub(crate) first: Option<DecodeError>,
@@ -70,19 +70,9 @@ pub(crate) struct Errors {
     pub(crate) rejections: Rejections,
 }
 
-/// The errors of a reply that has none.
-pub(crate) const NO_ERRORS: Errors = Errors {
-    first: None,
-    rejections: Rejections {
-        first: 0,
-        framing: 0,
-        errors: [0; REJECTION_KINDS],
-    },
-};
-
 impl Errors {
-    // Adds an error, which has no other code yet.
-    fn add(&mut self, error: DecodeError)
+    /// Adds an error, whose code as a framing error or as that of a kind is stored apart.
+    pub(crate) fn add(&mut self, error: DecodeError)
         ensures first { self.new.first ≡ first_present self.old.first (Some error) }
         ensures code { self.old.rejections.first ≡ optional_code self.old.first
             → self.new.rejections.first ≡ optional_code self.new.first }
@@ -110,18 +100,6 @@ impl Errors {
         if index < REJECTION_KINDS && self.rejections.errors[index] == 0 {
             self.rejections.errors[index] = error.number();
         }
-        self.add(error);
-    }
-
-    /// Adds the framing error, after which no other follows.
-    pub(crate) fn add_framing(&mut self, error: DecodeError)
-        ensures first { self.new.first ≡ first_present self.old.first (Some error) }
-        ensures code { self.old.rejections.first ≡ optional_code self.old.first
-            → self.new.rejections.first ≡ optional_code self.new.first }
-        ensures framing { self.new.rejections.framing ≡ optional_code (Some error) }
-        ensures errors { self.new.rejections.errors ≡ self.old.rejections.errors }
-    {
-        self.rejections.framing = u32::from(error.number());
         self.add(error);
     }
 }

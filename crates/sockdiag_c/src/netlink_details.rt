@@ -4,7 +4,7 @@ ghost use Rattle.std.specs.Prelude.{◌≡◌, ◌≢◌};
 ghost use Rattle.sockdiag_c.specs.Family.{DetailsAre, IsCodeOf, IsFirstError};
 ghost use Rattle.sockdiag_c.specs.NetlinkDetails.{netlink_family};
 
-use crate::details::{BYTES, Number, ReplyDetails, Text, store_details};
+use crate::details::{Number, ReplyDetails, Text, store_details};
 use crate::family_values::{Memory, split_header};
 use netlink_core::{DecodeError, NlaBuffer};
 use sock_diag_families::netlink::{
@@ -55,21 +55,18 @@ impl<'a> ReplyDetails<'a> for NetlinkDetails<'a> {
 
     #[inline(always)]
     fn parse_header(payload: &'a [u8]) -> Result<(Self, &'a [u8]), DecodeError> {
-        let (header, rest) = split_header::<NetlinkResponseHeader>(payload)?;
+        let (header, rest) = split_header(payload)?;
         let mut found = NetlinkDetails::default();
         found.header = header;
         Ok((found, rest))
     }
 
     fn set_value(&mut self, nla: &NlaBuffer<'a>) -> Result<(), DecodeError> {
-        let value = nla.value();
-        match nla.kind() {
+        let (kind, value) = (nla.kind(), nla.value());
+        match kind {
             NETLINK_DIAG_MEMINFO => self.memory.set(MemInfo::parse(value)),
-            NETLINK_DIAG_GROUPS => {
-                self.groups.set(BYTES, value);
-                Ok(())
-            }
-            NETLINK_DIAG_FLAGS => self.flags.set_u32(value, NETLINK_DIAG_FLAGS),
+            NETLINK_DIAG_GROUPS => self.groups.set_bytes(value),
+            NETLINK_DIAG_FLAGS => self.flags.set_u32(value, kind),
             _ => Ok(()),
         }
     }

@@ -4,7 +4,7 @@ ghost use Rattle.std.specs.Prelude.{◌≡◌, ◌≢◌};
 ghost use Rattle.sockdiag_c.specs.Family.{DetailsAre, IsCodeOf, IsFirstError};
 ghost use Rattle.sockdiag_c.specs.PacketDetails.{packet_family};
 
-use crate::details::{BYTES, Number, ReplyDetails, Text, store_details};
+use crate::details::{Number, ReplyDetails, Text, store_details};
 use crate::family_values::{Memory, set_record, split_header};
 use netlink_core::{DecodeError, NlaBuffer};
 use sock_diag_families::packet::{
@@ -75,41 +75,35 @@ impl<'a> ReplyDetails<'a> for PacketDetails<'a> {
 
     #[inline(always)]
     fn parse_header(payload: &'a [u8]) -> Result<(Self, &'a [u8]), DecodeError> {
-        let (header, rest) = split_header::<PacketResponseHeader>(payload)?;
+        let (header, rest) = split_header(payload)?;
         let mut found = PacketDetails::default();
         found.header = header;
         Ok((found, rest))
     }
 
     fn set_value(&mut self, nla: &NlaBuffer<'a>) -> Result<(), DecodeError> {
-        let value = nla.value();
-        match nla.kind() {
+        let (kind, value) = (nla.kind(), nla.value());
+        match kind {
             PACKET_DIAG_INFO => set_record(
                 PacketInfo::parse(value),
                 &mut self.has_info,
                 &mut self.info,
             ),
-            PACKET_DIAG_MCLIST => {
-                self.addresses.set(BYTES, value);
-                Ok(())
-            }
+            PACKET_DIAG_MCLIST => self.addresses.set_bytes(value),
             PACKET_DIAG_RX_RING => set_record(
-                PacketRing::parse(value, PACKET_DIAG_RX_RING),
+                PacketRing::parse(value, kind),
                 &mut self.has_receive_ring,
                 &mut self.receive_ring,
             ),
             PACKET_DIAG_TX_RING => set_record(
-                PacketRing::parse(value, PACKET_DIAG_TX_RING),
+                PacketRing::parse(value, kind),
                 &mut self.has_send_ring,
                 &mut self.send_ring,
             ),
-            PACKET_DIAG_FANOUT => self.fanout.set_u32(value, PACKET_DIAG_FANOUT),
-            PACKET_DIAG_UID => self.owner.set_u32(value, PACKET_DIAG_UID),
+            PACKET_DIAG_FANOUT => self.fanout.set_u32(value, kind),
+            PACKET_DIAG_UID => self.owner.set_u32(value, kind),
             PACKET_DIAG_MEMINFO => self.memory.set(MemInfo::parse(value)),
-            PACKET_DIAG_FILTER => {
-                self.filter.set(BYTES, value);
-                Ok(())
-            }
+            PACKET_DIAG_FILTER => self.filter.set_bytes(value),
             _ => Ok(()),
         }
     }

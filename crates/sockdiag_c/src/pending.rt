@@ -7,7 +7,8 @@ ghost use Rattle.sock_diag_replies.specs.UnixResponseSpec.{unix_response_spec};
 ghost use Rattle.sockdiag_c.specs.Answers.{IsGetterResult};
 ghost use Rattle.sockdiag_c.specs.UnixDetails.{pending_inodes};
 
-use crate::walks::{END, ITEM};
+use crate::family_values::store;
+use crate::walks::END;
 use netlink_packet_sock_diag::unix::UnixResponseView;
 
 /// Stores the inode of a socket that connected to a UNIX socket, and was not yet accepted: the one
@@ -36,11 +37,5 @@ pub extern "C" fn sockdiag_unix_get_pending(payload: &[u8], index: usize, inode:
     let Some(inodes) = view.pending_connections() else {
         return END;
     };
-    match inodes.get(index) {
-        Some(found) => {
-            *inode = found;
-            ITEM
-        }
-        None => END,
-    }
+    store(inodes.get(index), inode)
 }

@@ -160,12 +160,11 @@ fn write_unix(message_type: u16, request: &UnixRequest, buffer: &mut [u8]) -> us
     ensures { WritesMessage 40 (unix_message message_type request.now) buffer.old buffer.new
         result }
 {
-    let cookie = request.cookie;
     let record = unix::UnixRequest {
         state_flags: unix::StateFlags::from_bits_retain(request.states),
         inode: request.inode,
         show_flags: ShowFlags::from_bits_retain(request.show),
-        cookie,
+        cookie: request.cookie,
     };
     write_message(message_type, &request.header, &record, &[], buffer)
 }
@@ -194,21 +193,19 @@ pub(crate) fn write_inet(message_type: u16, request: &InetRequest, buffer: &mut 
 fn inet_record(request: &InetRequest) -> inet::InetRequest
     ensures { result ≡ inet_request_from_c request.now }
 {
-    let cookie = request.cookie;
-    let socket_id = SocketId {
-        source_port: request.source_port,
-        destination_port: request.destination_port,
-        source_address: address_in(request.family, &request.source_address),
-        destination_address: address_in(request.family, &request.destination_address),
-        interface_id: request.interface_id,
-        cookie,
-    };
     inet::InetRequest {
         family: request.family,
         protocol: (request.protocol % 256) as u8,
         extensions: ExtensionFlags::from_bits_retain(request.extensions),
         states: inet::StateFlags::from_bits_retain(request.states),
-        socket_id,
+        socket_id: SocketId {
+            source_port: request.source_port,
+            destination_port: request.destination_port,
+            source_address: address_in(request.family, &request.source_address),
+            destination_address: address_in(request.family, &request.destination_address),
+            interface_id: request.interface_id,
+            cookie: request.cookie,
+        },
     }
 }
 

@@ -16,7 +16,7 @@ use netlink_packet_sock_diag::{ReplyHeader, ReplyView};
 
 /// Outcome of a call that writes bytes derived from the caller's bytes.
 #[repr(C)]
-#[derive(Clone, Copy)]
+#[derive(Clone, Copy, Default)]
 pub struct Outcome {
     /// Code of the first error if the caller's bytes are rejected, else 0.
     pub error: u32,
@@ -111,14 +111,11 @@ pub(crate) fn write_value<V: Emitable>(value: &V, buffer: &mut [u8], outcome: &m
         outcome.new
         result }
 {
+    *outcome = Outcome::default();
     let Some(needed) = value.writable_len() else {
-        *outcome = Outcome {
-            error: 0,
-            needed: 0,
-        };
         return 0;
     };
-    *outcome = Outcome { error: 0, needed };
+    outcome.needed = needed;
     if buffer.len() < needed {
         return 0;
     }
@@ -131,9 +128,7 @@ pub(crate) fn reject(error: &DecodeError, outcome: &mut Outcome) -> usize
     ensures outcome { outcome.new ≡ outcome_struct (error_code error.now) 0 }
     ensures none { result ≡ 0 }
 {
-    *outcome = Outcome {
-        error: u32::from(error.number()),
-        needed: 0,
-    };
+    *outcome = Outcome::default();
+    outcome.error = u32::from(error.number());
     0
 }

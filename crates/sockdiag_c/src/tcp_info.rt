@@ -5,6 +5,7 @@ ghost use Rattle.std.specs.Prelude.{◌≡◌, List, drop, length};
 ghost use Rattle.netlink_core.specs.Attribute.{Attribute};
 ghost use Rattle.sockdiag_c.specs.TcpInfo.{AreAttributesIn, first_of_type, padded_or_truncated};
 
+use crate::walks::bytes_from;
 use netlink_core::NlasIterator;
 use netlink_packet_sock_diag::constants::{INET_DIAG_INFO, INET_DIAG_SKMEMINFO};
 use netlink_packet_sock_diag::inet::INET_RESPONSE_HEADER_LEN;
@@ -92,22 +93,12 @@ fn copy_first_value<const N: usize>(payload: &[u8], kind: u16, found: &mut [u8; 
         → AreAttributesIn (drop 72 payload.now) attributes
         → found.new ≡ padded_or_truncated N (first_of_type kind attributes) }
 {
-    let value = first_value(bytes_after_inet_header(payload), kind);
+    let value = first_value(bytes_from(payload, INET_RESPONSE_HEADER_LEN), kind);
     let len = value.len().min(N);
     let (front, behind) = found.split_at_mut(len);
     front.copy_from_slice(&value[..len]);
     behind.fill(0);
     value.len()
-}
-
-// Returns the bytes after the header of a reply about an IPv4 or IPv6 socket.
-fn bytes_after_inet_header(payload: &[u8]) -> &[u8]
-    ensures { result.now ≡ drop 72 payload.entry.now }
-{
-    if payload.len() < INET_RESPONSE_HEADER_LEN {
-        return &[];
-    }
-    &payload[INET_RESPONSE_HEADER_LEN..]
 }
 
 // Returns the value of the first attribute of the kind, or no bytes if there is none.
@@ -117,11 +108,8 @@ fn first_value(bytes: &[u8], kind: u16) -> &[u8]
 {
     for item in NlasIterator::new(bytes) {
         match item {
-            Ok(nla) => {
-                if nla.kind() == kind {
-                    return nla.value();
-                }
-            }
+            Ok(nla) if nla.kind() == kind => return nla.value(),
+            Ok(_) => {}
             Err(_) => return &[],
         }
     }

@@ -10,10 +10,11 @@ ghost use Rattle.sockdiag_c.specs.UnixDetails.{unix_family, unix_rows};
 ghost use Rattle.sockdiag_c.specs.private.Rows.{AddsValues};
 
 use crate::details::{ABSTRACT, Number, ReplyDetails, TEXT, Text, store_details};
+use crate::family_values::split_header;
 use crate::headers::UnixHeader;
 use netlink_core::{DecodeError, NlaBuffer};
+use netlink_packet_sock_diag::unix::UnixResponseHeader;
 use netlink_packet_sock_diag::unix::nlas::{NameView, NlaView};
-use netlink_packet_sock_diag::unix::{UNIX_RESPONSE_HEADER_LEN, UnixResponseHeader};
 
 /// Everything that a reply contains about a UNIX socket, except the connections that wait to be
 /// accepted.
@@ -101,8 +102,7 @@ impl<'a> UnixDetails<'a> {
                 self.queued.set(memory.alloc);
             }
             NlaView::Shutdown(state) => self.shutdown.set(u32::from(state)),
-            NlaView::PendingConnections(_) => {}
-            NlaView::Other(_) => {}
+            NlaView::PendingConnections(_) | NlaView::Other(_) => {}
         }
     }
 }
@@ -112,10 +112,10 @@ impl<'a> ReplyDetails<'a> for UnixDetails<'a> {
 
     #[inline(always)]
     fn parse_header(payload: &'a [u8]) -> Result<(Self, &'a [u8]), DecodeError> {
-        let header = UnixResponseHeader::from_prefix(payload)?;
+        let (header, rest) = split_header::<UnixResponseHeader>(payload)?;
         let mut found = UnixDetails::default();
         found.header = UnixHeader::from(header);
-        Ok((found, &payload[UNIX_RESPONSE_HEADER_LEN..]))
+        Ok((found, rest))
     }
 
     #[inline(always)]

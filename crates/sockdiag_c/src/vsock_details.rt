@@ -35,7 +35,7 @@ impl<'a> ReplyDetails<'a> for VsockResponseHeader {
 
     #[inline(always)]
     fn parse_header(payload: &'a [u8]) -> Result<(Self, &'a [u8]), DecodeError> {
-        split_header::<VsockResponseHeader>(payload)
+        split_header(payload)
     }
 
     #[inline(always)]

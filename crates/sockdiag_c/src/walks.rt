@@ -1,13 +1,12 @@
 //! Iteration over the attributes of a reply and the messages of a datagram, without copying.
 
-ghost use Rattle.std.specs.Prelude.{◌≡◌, ◌+◌, ◌<◌, ◌^◌, ◌⊎◌, OnOk, IfErr};
+ghost use Rattle.std.specs.Prelude.{◌≡◌, drop};
 ghost use Rattle.netlink_core.specs.NetlinkMessage.{leading_error_number};
 ghost use Rattle.sockdiag_c.specs.Answers.{IsGetterResult};
-ghost use Rattle.netlink_core.specs.Header.{IsMessageError};
-ghost use Rattle.sockdiag_c.specs.Walks.{IsPayloadCheckResult, IterationEnds, IterationFails};
-ghost use Rattle.sockdiag_c.specs.Walks.{StoresMessage, NextAttribute, NextUncheckedMessage};
-ghost use Rattle.sockdiag_c.specs.Walks.{NextMessage};
+ghost use Rattle.sockdiag_c.specs.Walks.{IsPayloadCheckResult, NextAttribute, NextMessage};
+ghost use Rattle.sockdiag_c.specs.Walks.{NextUncheckedMessage};
 
+use crate::family_values::store;
 use netlink_core::{
     NETLINK_HEADER_LEN, NLA_HEADER_SIZE, NLMSG_DONE, NLMSG_ERROR, NLMSG_NOOP, NLMSG_OVERRUN,
     NetlinkHeader, NlasIterator, error_number, padded,
@@ -85,8 +84,7 @@ pub extern "C" fn sockdiag_next_attribute(
     if offset >= bytes.len() {
         return END;
     }
-    let mut walk = NlasIterator::new(&bytes[offset..]);
-    match walk.next() {
+    match NlasIterator::new(&bytes[offset..]).next() {
         None => END,
         Some(Ok(nla)) => {
             attribute.offset = offset + NLA_HEADER_SIZE;
@@ -123,13 +121,12 @@ pub extern "C" fn sockdiag_next_message(
 ) -> u32
     ensures { NextMessage datagram.now cursor.old cursor.new message.old message.new result }
 {
-    match take_message(datagram, cursor, message) {
-        Ok(()) => {
-            let payload = &datagram[message.offset..message.offset + message.length];
-            check_payload(payload, message.message_type)
-        }
-        Err(answer) => answer,
+    let answer = sockdiag_next_any_message(datagram, cursor, message);
+    if answer != ITEM {
+        return answer;
     }
+    let payload = &datagram[message.offset..message.offset + message.length];
+    check_payload(payload, message.message_type)
 }
 
 /// Stores the message at the cursor, and advances the cursor past it and its padding. Returns 1,
@@ -150,25 +147,9 @@ pub extern "C" fn sockdiag_next_any_message(
     ensures { NextUncheckedMessage datagram.now cursor.old cursor.new message.old message.new
         result }
 {
-    match take_message(datagram, cursor, message) {
-        Ok(()) => ITEM,
-        Err(answer) => answer,
-    }
-}
-
-// Stores the message at the cursor, and advances the cursor past it and its padding. Returns as an
-// `Err` 0 at the end of the bytes, or the code of the framing error.
-#[inline(always)]
-fn take_message(datagram: &[u8], cursor: &mut Cursor, message: &mut MessageRange) -> Result<(), u32>
-    ensures found { OnOk result (StoresMessage datagram.now cursor.old cursor.new message.new) }
-    ensures ended { IfErr result (λ answer.
-        IterationEnds datagram.now cursor.old cursor.new message.old message.new answer
-        ⊎ IterationFails IsMessageError datagram.now cursor.old cursor.new message.old message.new
-        answer) }
-{
     let offset = cursor.offset;
     if offset >= datagram.len() {
-        return Err(END);
+        return END;
     }
     match NetlinkHeader::from_prefix(&datagram[offset..]) {
         Ok(header) => {
@@ -182,11 +163,11 @@ fn take_message(datagram: &[u8], cursor: &mut Cursor, message: &mut MessageRange
                 port_number: header.port_number,
             };
             cursor.offset = offset + padded(end);
-            Ok(())
+            ITEM
         }
         Err(error) => {
             cursor.offset = datagram.len();
-            Err(u32::from(error.number()))
+            u32::from(error.number())
         }
     }
 }
@@ -205,13 +186,14 @@ fn take_message(datagram: &[u8], cursor: &mut Cursor, message: &mut MessageRange
 pub extern "C" fn sockdiag_get_error_number(payload: &[u8], number: &mut i32) -> u32
     ensures { IsGetterResult (leading_error_number payload.now) number.old number.new result }
 {
-    match error_number(payload) {
-        Some(found) => {
-            *number = found;
-            ITEM
-        }
-        None => END,
-    }
+    store(error_number(payload), number)
+}
+
+/// Returns the bytes from this offset on.
+pub(crate) fn bytes_from(bytes: &[u8], offset: usize) -> &[u8]
+    ensures { result.now ≡ drop offset bytes.entry.now }
+{
+    bytes.get(offset..).unwrap_or(&[])
 }
 
 // Checks the payload by its message type. Returns 1, or the code of the first error.

@@ -70,25 +70,22 @@ impl<'a> ReplyDetails<'a> for XdpDetails {
 
     #[inline(always)]
     fn parse_header(payload: &'a [u8]) -> Result<(Self, &'a [u8]), DecodeError> {
-        let (header, rest) = split_header::<XdpResponseHeader>(payload)?;
+        let (header, rest) = split_header(payload)?;
         let mut found = XdpDetails::default();
         found.header = header;
         Ok((found, rest))
     }
 
     fn set_value(&mut self, nla: &NlaBuffer<'a>) -> Result<(), DecodeError> {
-        let value = nla.value();
-        match nla.kind() {
+        let (kind, value) = (nla.kind(), nla.value());
+        match kind {
             XDP_DIAG_INFO => set_record(XdpInfo::parse(value), &mut self.has_info, &mut self.info),
-            XDP_DIAG_UID => self.owner.set_u32(value, XDP_DIAG_UID),
-            XDP_DIAG_RX_RING => self.receive_ring.set_u32(value, XDP_DIAG_RX_RING),
-            XDP_DIAG_TX_RING => self.send_ring.set_u32(value, XDP_DIAG_TX_RING),
+            XDP_DIAG_UID => self.owner.set_u32(value, kind),
+            XDP_DIAG_RX_RING => self.receive_ring.set_u32(value, kind),
+            XDP_DIAG_TX_RING => self.send_ring.set_u32(value, kind),
             XDP_DIAG_UMEM => set_record(XdpUmem::parse(value), &mut self.has_umem, &mut self.umem),
-            XDP_DIAG_UMEM_FILL_RING => self.fill_ring.set_u32(value, XDP_DIAG_UMEM_FILL_RING),
-            XDP_DIAG_UMEM_COMPLETION_RING => {
-                self.completion_ring
-                    .set_u32(value, XDP_DIAG_UMEM_COMPLETION_RING)
-            }
+            XDP_DIAG_UMEM_FILL_RING => self.fill_ring.set_u32(value, kind),
+            XDP_DIAG_UMEM_COMPLETION_RING => self.completion_ring.set_u32(value, kind),
             XDP_DIAG_MEMINFO => self.memory.set(MemInfo::parse(value)),
             XDP_DIAG_STATS => set_record(
                 XdpStatistics::parse(value),

@@ -1,5 +1,4 @@
 use Rattle.std.proofs.Common.{◌∙◌, ◌++◌, ◌∷◌, ℕ, List, None, Some, Option, [], ap, refl, sym}
-use Rattle.std.proofs.lemmas.List.{get_or-replicate}
 use Rattle.std.specs.Prelude.{slice_index}
 use Rattle.netlink_core.specs.Walk.{buffered_attribute}
 use Rattle.netlink_core.specs.declared.error.DecodeError.{DecodeError}
@@ -11,16 +10,16 @@ use Rattle.sockdiag_c.proofs.Rows.{until_framing_error, values_after}
 use Rattle.sockdiag_c.proofs.details.set_values.Goals as goal
 
 pub loop-item-init : goal.loop-item-init
-loop-item-init g c = record {
+loop-item-init g c = let none = c.default.ensures in record {
   so_far = [];
   walk = no_attributes_yet _ _
       (rw (c.into_iter-item-iterator.ensures.into_iter_gives, c.new-item-items.ensures) refl);
   header = refl;
   values = λ values. values;
-  first = refl;
-  code = refl;
-  framing = refl;
-  kinds = λ k below. get_or-replicate 32 k 0 0 below;
+  first = none.0;
+  code = none.1.0 ∙ sym (ap optional_code none.0);
+  framing = none.1.1.0;
+  kinds = λ k below. none.1.1.1.at k 0 below;
 }
 
 pub loop-item-preserved-in-Ok-set_value : goal.loop-item-preserved-in-Ok-set_value
@@ -72,7 +71,7 @@ returns-in-Err g c = λ values.
     let inv = c.loop-item.invariant in
     let e = c.in-Err.error in
     let stop = rw c.in-Err.is at c.in-Some.ensures.steps in
-    let first = c.add_framing.ensures.first
+    let first = c.add.ensures.first
     ∙ ap (λ (o : Option DecodeError). first_present o (Some e)) inv.first in (
       record {
         header = family.header c.args.details.now;
@@ -83,9 +82,9 @@ returns-in-Err g c = λ values.
       refl,
       (inv.header, inv.values values),
       (
-        c.add_framing.ensures.code inv.code ∙ ap optional_code first,
-        c.add_framing.ensures.framing,
-        λ k below. ap (λ (errors : List ℕ). slice_index errors k) c.add_framing.ensures.errors
+        c.add.ensures.code inv.code ∙ ap optional_code first,
+        c.add.ensures.others.0 ∙ c.from-errors.ensures ∙ c.number.ensures,
+        λ k below. ap (λ (errors : List ℕ). slice_index errors k) c.add.ensures.others.1
             ∙ inv.kinds k below,
       ),
       first,

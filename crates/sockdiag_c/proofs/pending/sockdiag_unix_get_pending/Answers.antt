@@ -15,24 +15,13 @@ returns-in_default-pending_connections c =
     ∙ ap (option_map numbers_view_model) c.in_default-pending_connections.is in
     inl (view_model c.in-Ok.view, c.in-Ok.ensures.value, rw none (refl, refl))
 
-pub returns-in-Some-get : goal.returns-in-Some-get
-returns-in-Some-get c =
+pub returns : goal.returns
+returns c =
     let some : first_content_of (value_of_kind unix_attribute_set 3) (view_model c.in-Ok.view).nlas
     ≡ Some (numbers_view_model c.in-Some.inodes) =
     sym c.pending_connections.ensures ∙ ap (option_map numbers_view_model) c.in-Some.is in
     inl (
       view_model c.in-Ok.view,
       c.in-Ok.ensures.value,
-      rw (some, ← c.get.ensures, c.in-Some-get.is) (refl, refl),
-    )
-
-pub returns-in-None : goal.returns-in-None
-returns-in-None c =
-    let some : first_content_of (value_of_kind unix_attribute_set 3) (view_model c.in-Ok.view).nlas
-    ≡ Some (numbers_view_model c.in-Some.inodes) =
-    sym c.pending_connections.ensures ∙ ap (option_map numbers_view_model) c.in-Some.is in
-    inl (
-      view_model c.in-Ok.view,
-      c.in-Ok.ensures.value,
-      rw (some, ← c.get.ensures, c.in-None.is) (refl, refl),
+      rw (some, ← c.get.ensures) c.store.ensures,
     )

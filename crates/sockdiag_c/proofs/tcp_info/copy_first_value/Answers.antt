@@ -7,7 +7,7 @@ pub returns-clause-length : goal.returns-clause-length
 returns-clause-length g c attributes cut =
     ap length (c.first_value-value.ensures attributes
     (subst (λ (b : List ℕ). AreAttributesIn b attributes)
-    (sym c.bytes_after_inet_header.ensures) cut))
+    (sym c.bytes_from.ensures) cut))
 
 pub returns-clause-bytes : goal.returns-clause-bytes
 returns-clause-bytes g c attributes cut =
@@ -15,7 +15,7 @@ returns-clause-bytes g c attributes cut =
     let zeros = c.fill.ensures.after (λ y e. e) in
     let value = c.first_value-value.ensures attributes
     (subst (λ (b : List ℕ). AreAttributesIn b attributes)
-    (sym c.bytes_after_inet_header.ensures) cut) in
+    (sym c.bytes_from.ensures) cut) in
     rw (front, zeros) (padded_or_truncated_is g.row.N _ c.min-len.result _
     c.min-len.ensures
     (c.split_at_mut-front.ensures.back_len ∙ omega arith))

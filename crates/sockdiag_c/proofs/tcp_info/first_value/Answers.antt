@@ -3,8 +3,8 @@ use Rattle.sockdiag_c.proofs.Values.{framing_error_is_found, found_after_skipped
 use Rattle.sockdiag_c.proofs.Values.{found_nowhere}
 use Rattle.sockdiag_c.proofs.tcp_info.first_value.Goals as goal
 
-pub returns-then-kind : goal.returns-then-kind
-returns-then-kind c =
+pub returns-in-Ok : goal.returns-in-Ok
+returns-in-Ok c =
     grind (arith, found_here, c.kind.ensures, c.value.ensures)
 
 pub loop-item-preserved : goal.loop-item-preserved

@@ -20,11 +20,11 @@ returns-in-Some-Ok c =
       type_word = sym c.type_word-attribute.ensures i;
       value = sym c.value.ensures i;
     } in
-    let left : unread_bytes c.new-walk.result ≡ drop offset bytes = c.new-walk.ensures
+    let left : unread_bytes c.new.result ≡ drop offset bytes = c.new.ensures
     ∙ take_rest bytes offset in
     let start : StartsWithAttribute (drop offset bytes) a rest =
     subst (λ (b : List ℕ). StartsWithAttribute b a rest) left
-    (subst (λ (x : Attribute). StartsWithAttribute (unread_bytes c.new-walk.result) x rest) same
+    (subst (λ (x : Attribute). StartsWithAttribute (unread_bytes c.new.result) x rest) same
     given) in
     inr (inl (
       refl,
