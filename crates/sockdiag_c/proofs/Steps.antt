@@ -1,5 +1,5 @@
 -- Steps of iterations, by the offset in a cursor.
-use Rattle.std.proofs.Common.{◌≡◌, ℕ, ◌+◌, ◌-◌, ◌⊎◌, inl, inr, List, [], ◌∷◌, ◌++◌}
+use Rattle.std.proofs.Common.{◌≡◌, ◌<◌, ◌≤◌, ℕ, ◌+◌, ◌-◌, ◌⊎◌, inl, inr, List, [], ◌∷◌, ◌++◌}
 use Rattle.std.proofs.Common.{length, take, drop, refl, sym, arith}
 use Rattle.std.proofs.lemmas.List.{drop-drop, take_at}
 use Rattle.netlink_core.specs.Attribute.{Attribute, SplitsIntoAttributes, StartsWithAttribute}
@@ -87,15 +87,16 @@ message_passed bytes offset end h head end-is =
     )
 
 -- the payload of a control message, types 1 to 4, is accepted
-pub control_payload_is_accepted : (payload : List ℕ) (t : ℕ)
-    → (t ≡ 1) ⊎ ((t ≡ 2) ⊎ ((t ≡ 3) ⊎ (t ≡ 4)))
+control_payload : (payload : List ℕ) (t : ℕ) → (t ≡ 1) ⊎ ((t ≡ 2) ⊎ ((t ≡ 3) ⊎ (t ≡ 4)))
     → IsPayloadCheckResult payload t 1
-control_payload_is_accepted payload t (inl one) = inl (refl, (Noop, one))
-control_payload_is_accepted payload t (inr (inl two)) = inl (refl, (Error payload, (two, refl)))
-control_payload_is_accepted payload t (inr (inr (inl three))) =
-    inl (refl, (Done payload, (three, refl)))
-control_payload_is_accepted payload t (inr (inr (inr four))) =
-    inl (refl, (Overrun payload, (four, refl)))
+control_payload payload t (inl one) = inl (refl, (Noop, one))
+control_payload payload t (inr (inl two)) = inl (refl, (Error payload, (two, refl)))
+control_payload payload t (inr (inr (inl three))) = inl (refl, (Done payload, (three, refl)))
+control_payload payload t (inr (inr (inr four))) = inl (refl, (Overrun payload, (four, refl)))
+
+pub control_payload_is_accepted : (payload : List ℕ) (t : ℕ) → 1 ≤ t → t < 5
+    → IsPayloadCheckResult payload t 1
+control_payload_is_accepted payload t low high = control_payload payload t (grind arith)
 
 -- a step that returns 1 stores a message
 pub message_stored : (bytes : List ℕ) (old new : Cursor) (was now : MessageRange) (answer : ℕ)

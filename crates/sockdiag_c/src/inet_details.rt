@@ -103,8 +103,7 @@ impl<'a> ReplyDetails<'a> for InetDetails<'a> {
 
     #[inline(always)]
     fn set_value(&mut self, nla: &NlaBuffer<'a>) -> Result<(), DecodeError> {
-        let view = NlaView::parse(nla)?;
-        self.set(view);
+        self.set(NlaView::parse(nla)?);
         Ok(())
     }
 }

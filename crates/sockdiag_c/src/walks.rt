@@ -201,10 +201,7 @@ fn check_payload(payload: &[u8], message_type: u16) -> u32
     ensures { IsPayloadCheckResult payload.now message_type result }
 {
     match message_type {
-        NLMSG_NOOP => ITEM,
-        NLMSG_ERROR => ITEM,
-        NLMSG_DONE => ITEM,
-        NLMSG_OVERRUN => ITEM,
+        NLMSG_NOOP | NLMSG_ERROR | NLMSG_DONE | NLMSG_OVERRUN => ITEM,
         _ => match SockDiagView::parse(payload, message_type) {
             Ok(_) => ITEM,
             Err(error) => u32::from(error.number()),

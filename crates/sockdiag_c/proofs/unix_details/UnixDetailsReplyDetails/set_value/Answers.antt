@@ -9,19 +9,19 @@ use Rattle.sockdiag_c.proofs.unix_details.UnixDetailsReplyDetails.set_value.Goal
 
 pub returns-clause-values : goal.returns-clause-values
 returns-clause-values c =
-    c.set.ensures.values (buffered_attribute c.args.nla.now) c.in_ok-view.ensures
+    c.set.ensures.values (buffered_attribute c.args.nla.now) c.in_ok-parse.ensures
 
 pub returns-clause-error : goal.returns-clause-error
 returns-clause-error c =
-    sym (unix_error (buffered_attribute c.args.nla.now) ∙ ap result_err c.in_ok-view.ensures)
+    sym (unix_error (buffered_attribute c.args.nla.now) ∙ ap result_err c.in_ok-parse.ensures)
 
-pub returns-in_err-view-clause-values : goal.returns-in_err-view-clause-values
-returns-in_err-view-clause-values c =
+pub returns-in_err-parse-clause-values : goal.returns-in_err-parse-clause-values
+returns-in_err-parse-clause-values c =
     let a = buffered_attribute c.args.nla.now in
-    unchanged unix_rows a c.args.self.now (no_unix_values a _ c.in_err-view.ensures)
+    unchanged unix_rows a c.args.self.now (no_unix_values a _ c.in_err-parse.ensures)
 
-pub returns-in_err-view-clause-error : goal.returns-in_err-view-clause-error
-returns-in_err-view-clause-error c =
+pub returns-in_err-parse-clause-error : goal.returns-in_err-parse-clause-error
+returns-in_err-parse-clause-error c =
     let p = err_from_is_err_and c.from_residual.result c.from_residual.ensures.1 in
     rw (p.1, p.2) (sym (unix_error (buffered_attribute c.args.nla.now)
-    ∙ ap result_err c.in_err-view.ensures))
+    ∙ ap result_err c.in_err-parse.ensures))
