@@ -131,6 +131,7 @@ fn details_of(error: DecodeError) -> ErrorDetails
 }
 
 // Stores the fields of the error, if there is one. Returns its code, or 0.
+#[inline(always)]
 fn explain<T: Drop>(parsed: Result<T, DecodeError>, error: &mut ErrorDetails) -> u32
     ensures { MatchResult parsed (λ _. (result ≡ 0) × (error.new ≡ error.old))
         (λ e. (result ≡ error_code e) × (error.new ≡ error_details_of e)) }

@@ -3,8 +3,7 @@
 ghost use Rattle.std.specs.Prelude.{◌≡◌, drop};
 ghost use Rattle.netlink_core.specs.NetlinkMessage.{leading_error_number};
 ghost use Rattle.sockdiag_c.specs.Answers.{IsGetterResult};
-ghost use Rattle.sockdiag_c.specs.Walks.{IsPayloadCheckResult, NextAttribute, NextMessage};
-ghost use Rattle.sockdiag_c.specs.Walks.{NextUncheckedMessage};
+ghost use Rattle.sockdiag_c.specs.Walks.{NextAttribute, NextMessage, NextUncheckedMessage};
 
 use crate::family_values::store;
 use netlink_core::{
@@ -126,7 +125,13 @@ pub extern "C" fn sockdiag_next_message(
         return answer;
     }
     let payload = &datagram[message.offset..message.offset + message.length];
-    check_payload(payload, message.message_type)
+    match message.message_type {
+        NLMSG_NOOP | NLMSG_ERROR | NLMSG_DONE | NLMSG_OVERRUN => ITEM,
+        message_type => match SockDiagView::parse(payload, message_type) {
+            Ok(_) => ITEM,
+            Err(error) => u32::from(error.number()),
+        },
+    }
 }
 
 /// Stores the message at the cursor, and advances the cursor past it and its padding. Returns 1,
@@ -194,17 +199,4 @@ pub(crate) fn bytes_from(bytes: &[u8], offset: usize) -> &[u8]
     ensures { result.now ≡ drop offset bytes.entry.now }
 {
     bytes.get(offset..).unwrap_or(&[])
-}
-
-// Checks the payload by its message type. Returns 1, or the code of the first error.
-fn check_payload(payload: &[u8], message_type: u16) -> u32
-    ensures { IsPayloadCheckResult payload.now message_type result }
-{
-    match message_type {
-        NLMSG_NOOP | NLMSG_ERROR | NLMSG_DONE | NLMSG_OVERRUN => ITEM,
-        _ => match SockDiagView::parse(payload, message_type) {
-            Ok(_) => ITEM,
-            Err(error) => u32::from(error.number()),
-        },
-    }
 }
