@@ -50,13 +50,8 @@ pub extern "C" fn sockdiag_check_unix_reply(payload: &[u8], header: &mut UnixHea
         ((response_codec unix_response_spec).rejects payload.now tt)
         (λ v. unix_header_of v.header) header.old header.new result }
 {
-    match UnixResponseView::parse(payload) {
-        Ok(view) => {
-            *header = UnixHeader::from(view.header());
-            OK
-        }
-        Err(error) => u32::from(error.number()),
-    }
+    let parsed = UnixResponseView::parse(payload);
+    store_parsed(parsed.map(|view| UnixHeader::from(view.header())), header)
 }
 
 /// Checks a whole reply about an IPv4 or IPv6 socket, with its attributes, and returns its header.
@@ -79,13 +74,8 @@ pub extern "C" fn sockdiag_check_inet_reply(payload: &[u8], header: &mut InetHea
         ((response_codec inet_response_spec).rejects payload.now tt)
         (λ v. inet_header_of v.header) header.old header.new result }
 {
-    match InetResponseView::parse(payload) {
-        Ok(view) => {
-            *header = InetHeader::from(view.header());
-            OK
-        }
-        Err(error) => u32::from(error.number()),
-    }
+    let parsed = InetResponseView::parse(payload);
+    store_parsed(parsed.map(|view| InetHeader::from(view.header())), header)
 }
 
 /// Checks the whole payload of a message of this type, and stores the kind of the reply and its
