@@ -280,14 +280,14 @@ def library_errors():
 
 def comment_errors():
     """Looks for the names in the comments of the header. A name with four or more underscores in
-    the first comment is that of a theorem function."""
+    the first comment is that of a theorem function, and this comment has all of them."""
     comments = re.findall(r"(?s)/\*.*?\*/", HEADER)
     laws = (TOP / "crates/sockdiag_c/src/laws.rt").read_text(encoding="utf-8")
-    declared = {*re.findall(r"\w+", re.sub(r"(?s)/\*.*?\*/", "", HEADER)), "sockdiag_c",
-                *re.findall(r"(?m)^pub fn (\w+)", laws)}
-    named = re.findall(r"\bsockdiag_\w+", " ".join(comments))
-    named += re.findall(r"\b[a-z]+(?:_[a-z]+){4,}\b", comments[0])
-    yield from (("include/sockdiag.h", f"there is no {it}") for it in named if it not in declared)
+    theorems = set(re.findall(r"(?m)^pub fn (\w+)", laws))
+    declared = {*re.findall(r"\w+", re.sub(r"(?s)/\*.*?\*/", "", HEADER)), "sockdiag_c"}
+    named = set(re.findall(r"\bsockdiag_\w+", " ".join(comments))) - declared
+    named |= theorems ^ set(re.findall(r"\b[a-z]+(?:_[a-z]+){4,}\b", comments[0]))
+    yield from (("include/sockdiag.h", f"{it} is not both declared and named") for it in named)
 
 
 def warnings():
