@@ -8,3 +8,4 @@ pub mod Reports
 pub mod JsonData
 pub mod private
 pub mod JsonWriting
+pub mod laws

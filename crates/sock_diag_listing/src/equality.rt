@@ -1,13 +1,14 @@
 //! Proof only: `==` and `clone` of plain types compare and copy the whole value.
 
 ghost use Rattle.std.proofs.Common.{rules};
+ghost use Rattle.sock_diag_listing.specs.laws.EqualListError.{list_error_equal};
 
 use crate::list_error::ListError;
 use crate::parts::TimerFields;
 use exact_values::Exact;
 
 impl Exact for ListError {
-    ghost exact = { Prim.search rules };
+    ghost exact = { (list_error_equal, Prim.search rules, Prim.search rules) };
 }
 
 impl Exact for TimerFields {

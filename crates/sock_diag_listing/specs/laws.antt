@@ -1,0 +1,2 @@
+-- Properties of the definitions.
+pub mod EqualListError
