@@ -19,7 +19,6 @@ use netlink_packet_sock_diag::unix::UnixResponseView;
 pub(crate) const OK: u32 = 0;
 
 /// Stores what was parsed. Returns 0, or the code of the error; then the target is unchanged.
-#[inline(always)]
 pub(crate) fn store_parsed<T: Copy>(parsed: Result<T, DecodeError>, target: &mut T) -> u32
     ensures { MatchResult parsed (λ found. (result ≡ 0) × (target.new ≡ found))
         (λ e. (result ≡ error_code e) × (target.new ≡ target.old)) }
