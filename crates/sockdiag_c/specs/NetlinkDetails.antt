@@ -5,7 +5,9 @@ use Rattle.sock_diag_families.specs.NetlinkResponseHeader.{netlink_header}
 use Rattle.sock_diag_families.specs.declared.netlink.TheConstants.{NETLINK_DIAG_FLAGS}
 use Rattle.sock_diag_families.specs.declared.netlink.TheConstants.{NETLINK_DIAG_GROUPS}
 use Rattle.sock_diag_families.specs.declared.netlink.TheConstants.{NETLINK_DIAG_MEMINFO}
-use Rattle.sock_diag_families.specs.declared.netlink.response.NetlinkResponseHeader.{NetlinkResponseHeader}
+use Rattle.sock_diag_families.specs.declared.netlink.response.NetlinkResponseHeader.{
+  NetlinkResponseHeader,
+}
 use Rattle.sockdiag_c.specs.Details.{raw_bytes, socket_memory, u32}
 use Rattle.sockdiag_c.specs.Family.{Family}
 use Rattle.sockdiag_c.specs.declared.netlink_details.NetlinkDetails.{NetlinkDetails}

@@ -13,7 +13,9 @@ use Rattle.sock_diag_families.specs.declared.packet.TheConstants.{PACKET_DIAG_TX
 use Rattle.sock_diag_families.specs.declared.packet.TheConstants.{PACKET_DIAG_UID}
 use Rattle.sock_diag_families.specs.declared.packet.attributes.PacketInfo.{PacketInfo}
 use Rattle.sock_diag_families.specs.declared.packet.attributes.PacketRing.{PacketRing}
-use Rattle.sock_diag_families.specs.declared.packet.response.PacketResponseHeader.{PacketResponseHeader}
+use Rattle.sock_diag_families.specs.declared.packet.response.PacketResponseHeader.{
+  PacketResponseHeader,
+}
 use Rattle.sockdiag_c.specs.Details.{optional, raw_bytes, socket_memory, u32}
 use Rattle.sockdiag_c.specs.Family.{Family}
 use Rattle.sockdiag_c.specs.declared.packet_details.PacketDetails.{PacketDetails}

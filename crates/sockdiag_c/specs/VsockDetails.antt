@@ -2,7 +2,9 @@
 use Rattle.std.specs.Prelude.{[]}
 use Rattle.netlink_core.specs.Layout.{parse_record}
 use Rattle.sock_diag_families.specs.VsockResponseHeader.{vsock_header}
-use Rattle.sock_diag_families.specs.declared.vsock.response.VsockResponseHeader.{VsockResponseHeader}
+use Rattle.sock_diag_families.specs.declared.vsock.response.VsockResponseHeader.{
+  VsockResponseHeader,
+}
 use Rattle.sockdiag_c.specs.Family.{Family}
 
 -- replies about vsock sockets, to which Linux adds no attributes
