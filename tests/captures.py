@@ -95,8 +95,8 @@ FAMILIES = [
         "0000000000000000000000000000000100000008000500000000000400010028000600000000000040"
         "030000000000004003000000000000000000000000000000000000000000",
         "p_raw UNCONN     0      0      241691     0     3:1                            *\n"
-        "\t sk:3002 ver:0 cpy_thresh:0 running uid:0 unknown:(1,0) skmem:(r0,rb212992,t0,tb"
-        "212992,f0,w0,o0,bl0,d0)\n",
+        "\t sk:3002 ver:0 cpy_thresh:0 running uid:0 skmem:(r0,rb212992,t0,tb212992,f0,w0,o"
+        "0,bl0,d0) unknown:(1,0)\n",
         "{\"netid\":\"p_raw\",\"state_name\":\"UNCONN\",\"family\":17,\"type\":3,\"num\":3,"
         "\"ino\":241691,\"cookie\":\"3002\",\"info\":{\"index\":1,\"version\":0,\"reserve\""
         ":0,\"copy_thresh\":0,\"tstamp\":0,\"flags\":1},\"uid\":0,\"meminfo\":{\"rmem_alloc"
@@ -147,12 +147,29 @@ NEWER = [
 NEWER_LINES = [
     "inet6 TIME-WAIT  0      0      0          1000  [fe80::1]%3:22                 [2001:d"
     "b8::ff]:40000\n"
-    "\t timer:(timewait,0ms,0) sk:0 cgroup:4660 is_icsk mc_loop bind_address_no_port bbr:(b"
-    "w:1000000,mrtt:50,pacing_gain:739,cwnd_gain:512) dctcp:(enabled:1,ce_state:0,alpha:512"
-    ",ab_ecn:100,ab_tot:200) vegas:(enabled:1,rttcnt:5,rtt:100,minrtt:90) unknown:(22,1)\n",
+    "\t timer:(timewait,0ms,0) sk:0 vegas:(enabled:1,rttcnt:5,rtt:100,minrtt:90) dctcp:(ena"
+    "bled:1,ce_state:0,alpha:512,ab_ecn:100,ab_tot:200) bbr:(bw:1000000,mrtt:50,pacing_gain"
+    ":739,cwnd_gain:512) cgroup:4660 is_icsk mc_loop bind_address_no_port unread:(22,1,wron"
+    "g-length)\n",
     "u_str LISTEN     2      128    20238      1000  @a\\x20b\\x5c                    *\n"
     "\t sk:2a0\n",
 ]
+
+# A reply about a UNIX socket with three UNIX_DIAG_RQLEN: a short one, 2 and 128, 3 and 4; an
+# unknown attribute, and a UNIX_DIAG_UID of three bytes.
+REPEATED = (
+    "50000000140002000700000000000000" "01010a000e4f0000a002000000000000" "0800040009000000"
+    "0c0004000200000080000000" "0600630001020000" "0c0004000300000004000000" "07000700e8030000"
+)
+REPEATED_LINES = (
+    "u_str LISTEN     2      128    20238      -     *                              *\n"
+    "\t sk:2a0 unread:(4,4,wrong-length) unknown:(99,2) unread:(7,3,wrong-length)\n"
+)
+REPEATED_OBJECT = (
+    '{"netid":"u_str","state_name":"LISTEN","family":1,"type":1,"state":10,"ino":20238,"cookie":"'
+    '2a0","rqlen":{"rqueue":2,"wqueue":128},"other_attributes":[{"kind":4,"length":4,"error":"wro'
+    'ng-length"},{"kind":99,"length":2},{"kind":7,"length":3,"error":"wrong-length"}]}\n'
+)
 
 # A reply with 104 bytes of struct tcp_info, and its lines up to their details.
 SHORT_INFO = (
@@ -435,6 +452,13 @@ def lists_attributes_of_newer_kernels(sslist):
     a column."""
     packets = [(SOCK_DIAG, reply) for reply in NEWER]
     sslist.run(pcap(HEADERS[0], *packets), lines=NEWER_LINES)
+
+
+def lists_the_first_valid_attribute(sslist):
+    """Of several attributes of a type the first valid one counts. The invalid ones are listed."""
+    capture = pcap(HEADERS[0], (SOCK_DIAG, REPEATED))
+    sslist.run(capture, lines=[REPEATED_LINES])
+    sslist.run(capture, ["--json"], [REPEATED_OBJECT])
 
 
 def lists_short_tcp_info(sslist):

@@ -7,6 +7,7 @@ pub mod Progress
 pub mod Failing
 pub mod DiagnosticEquality
 pub mod Adding
+pub mod Slots
 pub mod FactItems
 pub mod CellWidths
 pub mod Md5Keys

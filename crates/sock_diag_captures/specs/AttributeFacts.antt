@@ -8,7 +8,6 @@ use Rattle.netlink_core.specs.Attribute.{Attribute, attribute_kind}
 use Rattle.netlink_core.specs.AttributeSet.{decode_attribute}
 use Rattle.netlink_core.specs.Errors.{map_ok}
 use Rattle.netlink_core.specs.Layout.{parse_record}
-use Rattle.netlink_core.specs.Parse.{number_of_width}
 use Rattle.sock_diag_values.specs.MemInfo.{mem_info}
 use Rattle.sock_diag_values.specs.declared.inet.legacy_mem_info.LegacyMemInfo.{LegacyMemInfo}
 use Rattle.sock_diag_values.specs.declared.inet.mem_info.MemInfo.{MemInfo}
@@ -49,7 +48,8 @@ use Rattle.sslist_options.specs.declared.options.Family.{Family}
 use Rattle.sslist_options.specs.declared.options.Family.TheVariants.{Netlink, Packet, Vsock, Xdp}
 use Rattle.sock_diag_captures.specs.Facts.{Facts, Outcome, decoded_outcome, flag_facts, flag_number}
 use Rattle.sock_diag_captures.specs.Facts.{group, hidden_number, list_facts, name_facts, numbers}
-use Rattle.sock_diag_captures.specs.Facts.{number_facts, record_outcome, shown_number, text_facts}
+use Rattle.sock_diag_captures.specs.Facts.{length_error, number_facts, number_outcome}
+use Rattle.sock_diag_captures.specs.Facts.{record_outcome, shown_number, text_facts}
 use Rattle.sock_diag_captures.specs.Md5Keys.{md5_outcome}
 use Rattle.sock_diag_captures.specs.Tcp.{tcp_info}
 use Rattle.sock_diag_captures.specs.UlpInfo.{ulp_outcome}
@@ -113,13 +113,11 @@ queue_facts first second =
 abbrev pub shutdown_facts : ℕ → Facts
 shutdown_facts n = number_facts Directions [] (Some (codes "shutdown")) n
 
--- the user id of the owner, for which the table has a column, a little-endian number of four bytes;
--- any other attribute is unknown
+-- the user id of the owner, for which the table has a column; any other attribute is unknown
 abbrev pub newer_unix_outcome : Attribute → Outcome
 newer_unix_outcome a =
-    if (attribute_kind a == UNIX_DIAG_UID) && (length a.value == 4)
-    then Ok (Some (number_facts Never [] (Some (codes "uid")) (little_number 4 a.value)))
-    else Ok None
+    if attribute_kind a == UNIX_DIAG_UID
+    then number_outcome 4 (number_facts Never [] (Some (codes "uid"))) a else Ok None
 
 -- What an attribute `a` of a UNIX socket says (linux/unix_diag.h), by its decoded value. The name,
 -- the peer and the queues have columns. `icons` are the inodes of connections that wait to be
@@ -141,15 +139,6 @@ unix_facts a =
     decoded_outcome (λ v. unix_outcome a (unix_variant v)) (decode_attribute unix_attribute_set a)
 
 -- ---- IPv4 and IPv6 sockets
-
--- the id of the control group, a little-endian number of eight bytes; a value of another length is
--- shown as an unknown attribute
-abbrev pub cgroup_outcome : List ℕ → Outcome
-cgroup_outcome value =
-    if length value == 8
-    then Ok (Some
-    (number_facts Always (codes " cgroup:") (Some (codes "cgroup_id")) (little_number 8 value)))
-    else Ok None
 
 -- the options of a socket, `struct inet_diag_sockopt`: both bytes as a little-endian number, and a
 -- name for each bit that is set
@@ -201,15 +190,15 @@ bbr_facts v =
 -- what an attribute of an IPv4 or IPv6 socket says that the port leaves undecoded
 abbrev pub newer_inet_outcome : Attribute → Outcome
 newer_inet_outcome a =
-    if attribute_kind a == INET_DIAG_CGROUP_ID then cgroup_outcome a.value
+    if attribute_kind a == INET_DIAG_CGROUP_ID
+    then number_outcome 8 (number_facts Always (codes " cgroup:") (Some (codes "cgroup_id"))) a
     else if attribute_kind a == INET_DIAG_SOCKOPT
-    then record_outcome socket_options option_facts a.value
+    then record_outcome socket_options option_facts a
     else if attribute_kind a == INET_DIAG_VEGASINFO
-    then record_outcome vegas_info vegas_facts a.value
-    else if attribute_kind a == INET_DIAG_DCTCPINFO
-    then record_outcome dctcp_info dctcp_facts a.value
-    else if attribute_kind a == INET_DIAG_BBRINFO then record_outcome bbr_info bbr_facts a.value
-    else if attribute_kind a == INET_DIAG_MD5SIG then md5_outcome a.value
+    then record_outcome vegas_info vegas_facts a
+    else if attribute_kind a == INET_DIAG_DCTCPINFO then record_outcome dctcp_info dctcp_facts a
+    else if attribute_kind a == INET_DIAG_BBRINFO then record_outcome bbr_info bbr_facts a
+    else if attribute_kind a == INET_DIAG_MD5SIG then md5_outcome a
     else if attribute_kind a == INET_DIAG_ULP_INFO then ulp_outcome a.value
     else Ok None
 
@@ -281,25 +270,22 @@ xdp_facts x =
     group [] [] (codes "info") (numbers (
     hidden_number (codes "ifindex") x.interface ∷ hidden_number (codes "queue_id") x.queue ∷ []))
 
--- the user id of a socket's owner, a little-endian number of four bytes
+-- the user id of a socket's owner
 abbrev pub uid_outcome : Attribute → Outcome
-uid_outcome a =
-    map_ok (λ n. Some (number_facts Always (codes " uid:") (Some (codes "uid")) n))
-    (number_of_width (Some (attribute_kind a)) 4 a.value)
+uid_outcome a = number_outcome 4 (number_facts Always (codes " uid:") (Some (codes "uid"))) a
 
--- the first 32 groups of a netlink socket, a bit for each, in the first four bytes of a value; a
--- shorter value is shown as an unknown attribute
-abbrev pub groups_outcome : List ℕ → Outcome
-groups_outcome value =
-    if nat_le 4 (length value)
+-- the first 32 groups of a netlink socket, a bit for each, in the first four bytes of a value
+abbrev pub groups_outcome : Attribute → Outcome
+groups_outcome a =
+    if nat_le 4 (length a.value)
     then Ok (Some
-    (number_facts Hex (codes " groups:0x") (Some (codes "groups")) (little_number 4 value)))
-    else Ok None
+    (number_facts Hex (codes " groups:0x") (Some (codes "groups")) (little_number 4 a.value)))
+    else length_error a 4
 
 -- an attribute other than the memory of a netlink, packet, vsock or XDP socket
 abbrev pub family_outcome : Family → Attribute → Outcome
 family_outcome Netlink a =
-    if attribute_kind a == NETLINK_DIAG_GROUPS then groups_outcome a.value else Ok None
+    if attribute_kind a == NETLINK_DIAG_GROUPS then groups_outcome a else Ok None
 family_outcome Packet a =
     if attribute_kind a == PACKET_DIAG_INFO
     then map_ok (λ p. Some (packet_facts p)) (packet_info a.value)

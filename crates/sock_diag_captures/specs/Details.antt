@@ -2,7 +2,7 @@
 -- codes: 44 is a comma and 41 a closing parenthesis.
 use Rattle.std.specs.Prelude.{ℕ, ◌==◌, ◌||◌, if◌then◌else◌, List, [], ◌∷◌, ◌++◌, codes, decimal}
 use Rattle.std.specs.Prelude.{Bool, true, false, length, drop, flat_map, slice_index, Result, Ok}
-use Rattle.std.specs.Prelude.{Err}
+use Rattle.std.specs.Prelude.{Err, None, Option, Some}
 use Rattle.byteorder.specs.Endian.{little_number}
 use Rattle.sock_diag_listing.specs.Parts.{cookie_if_shown, pair_detail, timer_if_shown}
 use Rattle.sslist_options.specs.Options.{shows_detail}
@@ -28,8 +28,8 @@ use Rattle.sock_diag_records.specs.declared.constants.TheConstants.{INET_DIAG_SK
 use Rattle.sock_diag_records.specs.declared.constants.TheConstants.{INET_DIAG_VEGASINFO}
 use Rattle.sock_diag_records.specs.declared.constants.TheConstants.{UNIX_DIAG_MEMINFO}
 use Rattle.sock_diag_captures.specs.AttributeFacts.{attribute_facts, is_memory_kind}
-use Rattle.sock_diag_captures.specs.Facts.{Outcome, facts_in, status_of}
-use Rattle.sock_diag_captures.specs.Pieces.{AttributeOrError}
+use Rattle.sock_diag_captures.specs.Collected.{Summary}
+use Rattle.sock_diag_captures.specs.Facts.{facts_in}
 use Rattle.sock_diag_captures.specs.declared.attributes.Sockets.{Sockets}
 use Rattle.sock_diag_captures.specs.declared.attributes.Sockets.TheVariants.{Unix, Inet, Other}
 
@@ -65,10 +65,6 @@ status_text a (Ok true) = []
 status_text a (Ok false) = unknown_attribute_text a
 status_text a (Err e) = invalid_attribute_text a e
 
--- the text of the facts of an attribute, or of why it has none
-abbrev pub outcome_text : Attribute → Outcome → List ℕ
-outcome_text a outcome = (facts_in outcome).text ++ status_text a (status_of outcome)
-
 -- The group of details of an attribute, by the kind of sockets that the reply is about and the type
 -- of the attribute.
 abbrev pub detail_group : Sockets → ℕ → Detail
@@ -81,13 +77,18 @@ detail_group (Inet is_tcp) kind =
     then Connection else Extended
 detail_group (Other family) kind = if is_memory_kind family kind then Memory else Extended
 
--- The text of a piece (`Pieces.antt`): of an attribute, if the options select its group of details.
--- Bytes that are not an attribute have none.
-abbrev pub attribute_or_error_detail : Options → Sockets → AttributeOrError → List ℕ
-attribute_or_error_detail o sockets (Ok a) =
+-- the facts of a first valid attribute, if there is one and the options select its group of details
+abbrev pub valid_detail : Options → Sockets → Option Attribute → List ℕ
+valid_detail o sockets None = []
+valid_detail o sockets (Some a) =
     if shows_detail o (detail_group sockets (attribute_kind a))
-    then outcome_text a (attribute_facts o.utf8 sockets a) else []
-attribute_or_error_detail o sockets (Err e) = []
+    then (facts_in (attribute_facts o.utf8 sockets a)).text else []
+
+-- the text of an unknown or invalid attribute with its status, if the options select its group
+abbrev pub other_detail : Options → Sockets → Attribute × Result Bool DecodeError → List ℕ
+other_detail o sockets other =
+    if shows_detail o (detail_group sockets (attribute_kind other.0))
+    then status_text other.0 other.1 else []
 
 -- The timer fields of a reply about an IPv4 or IPv6 socket: `idiag_timer` at 2, `idiag_retrans` at
 -- 3 and `idiag_expires` at 52, in milliseconds.
@@ -98,10 +99,10 @@ timer_in b = record {
   expires = little_number 4 (drop 52 b);
 }
 
--- `details o sockets timer cookie given`: the details of a socket. They are the timer, the cookie
--- (eight bytes) and the texts of the attributes `given`, as far as the options select them.
--- `sockets` is the kind of sockets that the reply is about.
-abbrev pub details : Options → Sockets → TimerFields → List ℕ → List AttributeOrError → List ℕ
-details o sockets timer cookie given =
+-- `details o timer cookie s`: the details of a socket, as far as the options select them. They are
+-- the timer, the cookie (eight bytes), the facts of the first valid attribute of each kind in the
+-- order of the kinds, and the unknown and the invalid attributes in the order of the bytes.
+abbrev pub details : Options → TimerFields → List ℕ → Summary → List ℕ
+details o timer cookie s =
     timer_if_shown o timer ++ cookie_if_shown o cookie
-    ++ flat_map (attribute_or_error_detail o sockets) given
+    ++ (flat_map (valid_detail o s.sockets) s.first ++ flat_map (other_detail o s.sockets) s.others)

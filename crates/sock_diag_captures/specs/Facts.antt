@@ -5,8 +5,11 @@ use Rattle.std.specs.Prelude.{◌++◌, IfOk, OnOk, bit_and, codes, decimal, fal
 use Rattle.std.specs.Prelude.{length, nat_le, Option, None, Some, Result, Ok, Err}
 use Rattle.std.specs.Fmt.{digits}
 use Rattle.std.specs.Option.{option_map_or}
+use Rattle.byteorder.specs.Endian.{little_number}
+use Rattle.netlink_core.specs.Attribute.{Attribute, attribute_kind}
 use Rattle.netlink_core.specs.Errors.{map_ok}
 use Rattle.netlink_core.specs.declared.error.DecodeError.{DecodeError}
+use Rattle.netlink_core.specs.declared.error.DecodeError.TheVariants.{WrongLength}
 use Rattle.sock_diag_attributes.specs.declared.unix.name.SocketName.{SocketName}
 use Rattle.sock_diag_extras.specs.RecordTable.{RecordTable, parse_by_table}
 use Rattle.sock_diag_listing.specs.Escapes.{shown_name}
@@ -176,9 +179,18 @@ abbrev pub decoded_outcome : {A : Type 0} → (A → Outcome) → Result A Decod
 decoded_outcome facts (Ok value) = facts value
 decoded_outcome facts (Err e) = Err e
 
--- `record_outcome layout facts value`: the facts of the record at the start of a value; a shorter
--- value is shown as an unknown attribute
-abbrev pub record_outcome : {V : Type 0} → RecordTable V → (V → Facts) → List ℕ → Outcome
-record_outcome layout facts value =
-    if nat_le layout.size (length value) then Ok (Some (facts (parse_by_table layout value)))
-    else Ok None
+-- the error of an attribute whose value does not have `need` bytes
+abbrev pub length_error : Attribute → ℕ → Outcome
+length_error a need = Err (WrongLength (Some (attribute_kind a)) (length a.value) need)
+
+-- `number_outcome width facts a`: the facts of a little-endian number, which is the whole value
+abbrev pub number_outcome : ℕ → (ℕ → Facts) → Attribute → Outcome
+number_outcome width facts a =
+    if length a.value == width then Ok (Some (facts (little_number width a.value)))
+    else length_error a width
+
+-- `record_outcome layout facts a`: the facts of the record at the start of a value
+abbrev pub record_outcome : {V : Type 0} → RecordTable V → (V → Facts) → Attribute → Outcome
+record_outcome layout facts a =
+    if nat_le layout.size (length a.value) then Ok (Some (facts (parse_by_table layout a.value)))
+    else length_error a layout.size

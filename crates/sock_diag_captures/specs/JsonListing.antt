@@ -1,40 +1,35 @@
--- What is written for a socket: the lines of the table, or with `--json` a line of JSON. `given`
--- are the attributes of a reply.
+-- What is written for a socket: the lines of the table, or with `--json` a line of JSON, if the
+-- options select the socket. `s` is what the reply has in its attributes.
 use Rattle.std.specs.Prelude.{ℕ, if◌then◌else◌, List, [], Option}
 use Rattle.sock_diag_records.specs.declared.inet.response.InetResponseHeader.{InetResponseHeader}
 use Rattle.sock_diag_records.specs.declared.unix.response.UnixResponseHeader.{UnixResponseHeader}
 use Rattle.sock_diag_listing.specs.JsonData.{JsonMember}
-use Rattle.sock_diag_captures.specs.JsonOthers.{other_json}
-use Rattle.sock_diag_captures.specs.JsonSockets.{inet_json, unix_json}
-use Rattle.sslist_options.specs.Options.{lists_family, lists_unix}
-use Rattle.sock_diag_captures.specs.Selection.{lists_inet}
-use Rattle.sock_diag_captures.specs.Others.{other_lines}
-use Rattle.sock_diag_captures.specs.Pieces.{AttributeOrError}
-use Rattle.sock_diag_captures.specs.Table.{inet_lines, unix_lines}
-use Rattle.sslist_options.specs.declared.options.Family.{Family}
-use Rattle.sslist_options.specs.declared.options.Options.{Options}
-use Rattle.sock_diag_captures.specs.declared.others.OtherSocket.{OtherSocket}
 use Rattle.sock_diag_listing.specs.declared.parts.TimerFields.{TimerFields}
+use Rattle.sslist_options.specs.Options.{lists_family, lists_unix}
+use Rattle.sslist_options.specs.declared.options.Options.{Options}
+use Rattle.sock_diag_captures.specs.Collected.{Summary}
+use Rattle.sock_diag_captures.specs.JsonAttributes.{socket_json}
+use Rattle.sock_diag_captures.specs.JsonSockets.{inet_header_members, unix_header_members}
+use Rattle.sock_diag_captures.specs.Others.{other_lines}
+use Rattle.sock_diag_captures.specs.Selection.{lists_inet}
+use Rattle.sock_diag_captures.specs.Table.{inet_lines, unix_lines}
+use Rattle.sock_diag_captures.specs.declared.others.OtherSocket.{OtherSocket}
 
--- `unix_output o h given`: what is written for a UNIX socket; nothing if the options do not select
--- it
-abbrev pub unix_output : Options → UnixResponseHeader → List AttributeOrError → List ℕ
-unix_output o h given =
-    if o.json then (if lists_unix o h.state then unix_json h given else [])
-    else unix_lines o h given
+-- what is written for a UNIX socket with the header `h`
+abbrev pub unix_output : Options → UnixResponseHeader → Summary → List ℕ
+unix_output o h s =
+    if lists_unix o h.state
+    then (if o.json then socket_json (unix_header_members h) s else unix_lines o h s) else []
 
--- `inet_output o protocol timer h given`: what is written for an IPv4 or IPv6 socket; nothing if
--- the options do not select it
-abbrev pub inet_output : Options → Option ℕ → TimerFields → InetResponseHeader
-    → List AttributeOrError → List ℕ
-inet_output o protocol timer h given =
-    if o.json then (if lists_inet o protocol h then inet_json protocol timer h given else [])
-    else inet_lines o protocol timer h given
+-- what is written for an IPv4 or IPv6 socket with the header `h`, whose request has this protocol
+abbrev pub inet_output : Options → Option ℕ → TimerFields → InetResponseHeader → Summary → List ℕ
+inet_output o protocol timer h s =
+    if lists_inet o protocol h
+    then (if o.json then socket_json (inet_header_members protocol timer h) s
+    else inet_lines o protocol timer h s) else []
 
--- `other_output o s family header given`: what is written for a netlink, packet, vsock or XDP
--- socket, whose header has the members `header`; nothing if the options do not select it
-abbrev pub other_output : Options → OtherSocket → Family → List JsonMember
-    → List AttributeOrError → List ℕ
-other_output o s family header given =
-    if o.json then (if lists_family o s.family s.state then other_json family header given else [])
-    else other_lines o s given
+-- what is written for a netlink, packet, vsock or XDP socket, whose header has the members `header`
+abbrev pub other_output : Options → OtherSocket → List JsonMember → Summary → List ℕ
+other_output o socket header s =
+    if lists_family o socket.family socket.state
+    then (if o.json then socket_json header s else other_lines o socket s) else []

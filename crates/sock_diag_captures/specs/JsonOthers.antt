@@ -1,4 +1,4 @@
--- Lines of JSON for netlink, packet, vsock and XDP sockets. `given` are the attributes of a reply.
+-- Members of the headers of netlink, packet, vsock and XDP sockets in lines of JSON.
 use Rattle.std.specs.Prelude.{ℕ, List, [], ◌∷◌, ◌++◌, codes}
 use Rattle.sock_diag_families.specs.declared.netlink.response.NetlinkResponseHeader.{NetlinkResponseHeader}
 use Rattle.sock_diag_families.specs.declared.packet.response.PacketResponseHeader.{PacketResponseHeader}
@@ -8,13 +8,9 @@ use Rattle.sock_diag_records.specs.declared.constants.TheConstants.{AF_NETLINK, 
 use Rattle.sock_diag_families.specs.declared.vsock.TheConstants.{AF_VSOCK}
 use Rattle.sock_diag_families.specs.declared.xdp.TheConstants.{AF_XDP}
 use Rattle.sock_diag_listing.specs.Cells.{state_name}
-use Rattle.sock_diag_captures.specs.JsonAttributes.{attributes_members}
-use Rattle.sock_diag_listing.specs.JsonData.{JsonMember, hex_member, json_line, number_members}
+use Rattle.sock_diag_listing.specs.JsonData.{JsonMember, hex_member, number_members}
 use Rattle.sock_diag_listing.specs.JsonData.{text_member}
 use Rattle.sock_diag_captures.specs.Others.{other_kind}
-use Rattle.sock_diag_captures.specs.Pieces.{AttributeOrError}
-use Rattle.sock_diag_captures.specs.declared.attributes.Sockets.TheVariants.{Other}
-use Rattle.sslist_options.specs.declared.options.Family.{Family}
 use Rattle.sslist_options.specs.declared.options.Family.TheVariants.{Netlink, Packet, Vsock}
 use Rattle.sslist_options.specs.declared.options.Family.TheVariants.{Xdp}
 
@@ -59,12 +55,3 @@ abbrev pub xdp_header_members : XdpResponseHeader → List JsonMember
 xdp_header_members h =
     other_header_members (other_kind Xdp h.kind) 7 (
     (codes "family", AF_XDP) ∷ (codes "type", h.kind) ∷ (codes "ino", h.inode) ∷ []) h.cookie
-
--- `other_members family header given`: the members of a socket of this family, whose header has the
--- members `header`
-abbrev pub other_members : Family → List JsonMember → List AttributeOrError → List JsonMember
-other_members family header given = header ++ attributes_members (Other family) given
-
--- the line of a netlink, packet, vsock or XDP socket
-abbrev pub other_json : Family → List JsonMember → List AttributeOrError → List ℕ
-other_json family header given = json_line (other_members family header given)

@@ -1,17 +1,14 @@
--- Lines of JSON for sockets. `given` are the attributes of a reply. Names of members are the
--- kernel's names in lowercase, without the prefix that all names of a struct have. Two members are
--- added: `netid` and `state_name` are the columns Netid and State of the table.
+-- Members of the headers of sockets in lines of JSON. Names of members are the kernel's names in
+-- lowercase, without the prefix that all names of a struct have. Two members are added: `netid` and
+-- `state_name` are the columns Netid and State of the table.
 use Rattle.std.specs.Prelude.{ℕ, List, [], ◌∷◌, ◌++◌, codes, Option}
 use Rattle.sock_diag_records.specs.declared.inet.response.InetResponseHeader.{InetResponseHeader}
 use Rattle.sock_diag_records.specs.declared.unix.response.UnixResponseHeader.{UnixResponseHeader}
 use Rattle.sock_diag_records.specs.declared.constants.TheConstants.{AF_UNIX}
 use Rattle.sock_diag_listing.specs.Cells.{state_name}
-use Rattle.sock_diag_captures.specs.JsonAttributes.{attributes_members}
 use Rattle.sock_diag_listing.specs.JsonData.{JsonMember, address_member, cookie_member}
-use Rattle.sock_diag_listing.specs.JsonData.{json_line, number_members, text_member}
-use Rattle.sock_diag_captures.specs.Pieces.{AttributeOrError}
-use Rattle.sock_diag_captures.specs.Table.{inet_kind, is_tcp, unix_kind}
-use Rattle.sock_diag_captures.specs.declared.attributes.Sockets.TheVariants.{Inet, Unix}
+use Rattle.sock_diag_listing.specs.JsonData.{number_members, text_member}
+use Rattle.sock_diag_captures.specs.Table.{inet_kind, unix_kind}
 use Rattle.sock_diag_listing.specs.declared.parts.TimerFields.{TimerFields}
 
 -- The members of the header of a UNIX socket, `struct unix_diag_msg` of linux/unix_diag.h:
@@ -23,10 +20,6 @@ unix_header_members h =
     ++ (number_members ((codes "family", AF_UNIX) ∷ (codes "type", h.kind) ∷
     (codes "state", h.state) ∷ (codes "ino", h.inode) ∷ [])
     ++ cookie_member h.cookie))
-
--- the members of a UNIX socket
-abbrev pub unix_members : UnixResponseHeader → List AttributeOrError → List JsonMember
-unix_members h given = unix_header_members h ++ attributes_members Unix given
 
 -- the members of the header of an IPv4 or IPv6 socket that precede the addresses: `idiag_family`,
 -- `idiag_state`, `idiag_timer` and `idiag_retrans`, and `idiag_sport` and `idiag_dport` of its `id`
@@ -55,17 +48,3 @@ inet_header_members protocol timer h =
     ++ (address_member (codes "dst") h.socket_id.destination_address
     ++ (number_members ((codes "if", h.socket_id.interface_id) ∷ [])
     ++ (cookie_member h.socket_id.cookie ++ inet_back_members timer h))))))
-
--- the members of an IPv4 or IPv6 socket
-abbrev pub inet_members : Option ℕ → TimerFields → InetResponseHeader → List AttributeOrError
-    → List JsonMember
-inet_members protocol timer h given =
-    inet_header_members protocol timer h ++ attributes_members (Inet (is_tcp protocol)) given
-
--- the line of a UNIX socket
-abbrev pub unix_json : UnixResponseHeader → List AttributeOrError → List ℕ
-unix_json h given = json_line (unix_members h given)
-
--- the line of an IPv4 or IPv6 socket
-abbrev pub inet_json : Option ℕ → TimerFields → InetResponseHeader → List AttributeOrError → List ℕ
-inet_json protocol timer h given = json_line (inet_members protocol timer h given)

@@ -8,6 +8,7 @@ pub mod Facts
 pub mod Tcp
 pub mod AttributeFacts
 pub mod UlpNames
+pub mod Collected
 pub mod Details
 pub mod RequestLine
 pub mod Others

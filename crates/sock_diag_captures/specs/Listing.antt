@@ -1,5 +1,5 @@
--- The lines and diagnostics of messages, datagrams and packets of a capture. `given` are the
--- attributes after the header of a reply, `b` is the payload of a message.
+-- The lines and diagnostics of messages, datagrams and packets of a capture. `b` is the payload of
+-- a message.
 use Rattle.std.specs.Prelude.{◌≡◌, ◌≢◌, ◌↔◌, Bool, true, false, IsTrue, ℕ, ℤ, pos, negsuc, ◌+◌}
 use Rattle.std.specs.Prelude.{◌==◌, ◌&&◌, if◌then◌else◌, nat_le, nat_lt, List, [], ◌++◌, ◌≤◌, ◌⊎◌}
 use Rattle.std.specs.Prelude.{bit_and, drop, length, flat_map, Option, None, Some, option_map}
@@ -29,7 +29,11 @@ use Rattle.sock_diag_families.specs.NetlinkResponseHeader.{netlink_header}
 use Rattle.sock_diag_families.specs.PacketResponseHeader.{packet_header}
 use Rattle.sock_diag_families.specs.VsockResponseHeader.{vsock_header}
 use Rattle.sock_diag_families.specs.XdpResponseHeader.{xdp_header}
+use Rattle.sock_diag_captures.specs.Collected.{Summary, summary_of}
 use Rattle.sock_diag_captures.specs.Pieces.{AttributeOrError, framing_error_of, attributes_or_error}
+use Rattle.sock_diag_captures.specs.Table.{is_tcp}
+use Rattle.sock_diag_captures.specs.declared.attributes.Sockets.{Sockets}
+use Rattle.sock_diag_captures.specs.declared.attributes.Sockets.TheVariants.{Inet, Other, Unix}
 use Rattle.sock_diag_captures.specs.RequestLine.{request_line_if_selected}
 use Rattle.sock_diag_captures.specs.Requests.{with_request_in_datagram, protocol_of}
 use Rattle.sock_diag_captures.specs.declared.others.OtherSocket.{OtherSocket}
@@ -47,13 +51,12 @@ use Rattle.sock_diag_captures.specs.declared.list.Diagnostic.TheVariants.{Invali
 
 -- ---- replies
 
--- `lines_after_header lines result given`: the lines of a reply with these attributes, whose header
--- parses to `result`. There are none if the header is invalid.
-abbrev pub lines_after_header : {H : Type 0} → (H → List AttributeOrError → List ℕ)
-    → Result H DecodeError
-    → List AttributeOrError → List ℕ
-lines_after_header lines (Ok h) given = lines h given
-lines_after_header lines (Err e) given = []
+-- `lines_after_header lines sockets result given`: the lines of a reply about these sockets with
+-- these attributes, whose header parses to `result`. There are none if the header is invalid.
+abbrev pub lines_after_header : {H : Type 0} → (H → Summary → List ℕ) → Sockets
+    → Result H DecodeError → List AttributeOrError → List ℕ
+lines_after_header lines sockets (Ok h) given = lines h (summary_of sockets given)
+lines_after_header lines sockets (Err e) given = []
 
 -- `error_after_reply_header result given`: the decode error of a reply: of its header, or else of
 -- the bytes after its last attribute; None if there is none. `result` and `given` are those of
@@ -65,14 +68,13 @@ error_after_reply_header (Err e) given = Some e
 
 -- `other_reply_lines o header socket family members b`: the lines of a reply about a netlink,
 -- packet, vsock or XDP socket. `header` is the layout of its header, which has `header.least`
--- bytes, `socket h given` are the values that a line of the table shows, and `members h` are the
+-- bytes, `socket h s` are the values that a line of the table shows, and `members h` are the
 -- members of the header in a line of JSON.
 abbrev pub other_reply_lines : {T H : Type 0} → Options → Layout (Unit {0}) T H
-    → (H → List AttributeOrError → OtherSocket) → Family → (H → List JsonMember) → List ℕ → List ℕ
+    → (H → Summary → OtherSocket) → Family → (H → List JsonMember) → List ℕ → List ℕ
 other_reply_lines o header socket family members b =
-    lines_after_header (λ h given. other_output o (socket h given) family (members h) given)
-    (parse_record header tt b)
-    (attributes_or_error 0 (drop header.least b))
+    lines_after_header (λ h s. other_output o (socket h s) (members h) s) (Other family)
+    (parse_record header tt b) (attributes_or_error 0 (drop header.least b))
 
 -- `other_reply_error header b`: the decode error of a reply with this layout of its header, or None
 abbrev pub other_reply_error : {T H : Type 0} → Layout (Unit {0}) T H → List ℕ → Option DecodeError
@@ -108,10 +110,10 @@ family_error None b = None
 -- (`family_lines`).
 abbrev pub payload_lines : Options → Option ℕ → Result MessageKind DecodeError → List ℕ → List ℕ
 payload_lines o protocol (Ok unix_response) b =
-    lines_after_header (unix_output o) (parse_record unix_response_header tt b)
+    lines_after_header (unix_output o) Unix (parse_record unix_response_header tt b)
     (attributes_or_error 0 (drop 16 b))
 payload_lines o protocol (Ok inet_response) b =
-    lines_after_header (inet_output o protocol (timer_in b))
+    lines_after_header (inet_output o protocol (timer_in b)) (Inet (is_tcp protocol))
     (parse_record inet_response_header tt b) (attributes_or_error 0 (drop 72 b))
 payload_lines o protocol (Err (UnknownFamily n)) b = family_lines o (family_numbered n) b
 payload_lines o protocol _ b = []

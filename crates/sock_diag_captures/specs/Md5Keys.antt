@@ -14,7 +14,8 @@ use Rattle.sock_diag_extras.specs.declared.md5_signature.Md5Signature.{Md5Signat
 use Rattle.sock_diag_listing.specs.Escapes.{byte_digits, escaped_byte}
 use Rattle.sock_diag_listing.specs.JsonData.{JsonMember, address_member, array_member}
 use Rattle.sock_diag_listing.specs.JsonData.{number_members, object_of, text_member}
-use Rattle.sock_diag_captures.specs.Facts.{Facts, Outcome}
+use Rattle.netlink_core.specs.Attribute.{Attribute}
+use Rattle.sock_diag_captures.specs.Facts.{Facts, Outcome, length_error}
 
 -- the record in the first 100 bytes
 unfoldable pub key_at : List ℕ → Md5Signature
@@ -79,7 +80,7 @@ md5_facts value = record {
   members = array_member (codes "md5sig") (map md5_key_value (md5_keys value));
 }
 
--- the keys in the value of an attribute; a value that does not consist of keys is shown as an
--- unknown attribute
-abbrev pub md5_outcome : List ℕ → Outcome
-md5_outcome value = if are_md5_keys value then Ok (Some (md5_facts value)) else Ok None
+-- the keys in the value of an attribute
+abbrev pub md5_outcome : Attribute → Outcome
+md5_outcome a =
+    if are_md5_keys a.value then Ok (Some (md5_facts a.value)) else length_error a 100

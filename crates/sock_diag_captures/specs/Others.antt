@@ -1,9 +1,9 @@
--- Lines of netlink, packet, vsock and XDP sockets. `given` are the attributes of a reply.
+-- Lines of netlink, packet, vsock and XDP sockets. `s` is what a
+-- reply has in its attributes.
 use Rattle.std.specs.Prelude.{ℕ, ◌+◌, ◌==◌, nat_lt, if◌then◌else◌, List, [], ◌∷◌, ◌++◌, length}
 use Rattle.std.specs.Prelude.{drop, codes, Option, None, Some, option_and_then}
 use Rattle.byteorder.specs.Endian.{little_bytes, little_number}
 use Rattle.sock_diag_listing.specs.Parts.{no_timer, details_after_separator}
-use Rattle.sslist_options.specs.Options.{lists_family}
 use Rattle.sock_diag_listing.specs.Cells.{FirstColumns, table_line, peer_cell}
 use Rattle.sslist_options.specs.declared.options.Family.{Family}
 use Rattle.sslist_options.specs.declared.options.Family.TheVariants.{Netlink, Packet, Vsock}
@@ -20,8 +20,7 @@ use Rattle.sock_diag_families.specs.declared.vsock.TheConstants.{AF_VSOCK}
 use Rattle.sock_diag_families.specs.declared.xdp.TheConstants.{AF_XDP, XDP_DIAG_INFO, XDP_DIAG_UID}
 use Rattle.sock_diag_captures.specs.Details.{details}
 use Rattle.sock_diag_captures.specs.AttributeFacts.{memory_kind}
-use Rattle.sock_diag_captures.specs.Pieces.{AttributeOrError, first_of_kind}
-use Rattle.sock_diag_captures.specs.declared.attributes.Sockets.TheVariants.{Other}
+use Rattle.sock_diag_captures.specs.Collected.{Summary, first_in}
 use Rattle.sock_diag_captures.specs.declared.others.OtherSocket.{OtherSocket}
 
 -- ---- families
@@ -42,22 +41,20 @@ u32_in_attribute place (Some a) =
     if nat_lt (length a.value) (place + 4) then None
     else Some (little_number 4 (drop place a.value))
 
--- `u32_of_first_attribute kind place given`: the `u32` at the offset `place` of the value of the
--- first attribute of this type. None if there is no such attribute, if its value is too short, or
--- if `kind` is None.
-abbrev pub u32_of_first_attribute : Option ℕ → ℕ → List AttributeOrError → Option ℕ
-u32_of_first_attribute None place given = None
-u32_of_first_attribute (Some kind) place given = u32_in_attribute place (first_of_kind kind given)
-
 -- `none_if_equal none n`: the number `n`, or None if it is `none`
 abbrev pub none_if_equal : ℕ → ℕ → Option ℕ
 none_if_equal none n = if n == none then None else Some n
 
--- `interface_number kind given`: the interface number: the `u32` at 0 of the first attribute of the
--- type `kind`. None if it is 0 or absent.
-abbrev pub interface_number : ℕ → List AttributeOrError → Option ℕ
-interface_number kind given = option_and_then (none_if_equal 0)
-    (u32_of_first_attribute (Some kind) 0 given)
+-- `u32_in_first kind place s`: the `u32` at the offset `place` of the value of the first valid
+-- attribute of this kind; None if there is none, or if `kind` is None
+abbrev pub u32_in_first : Option ℕ → ℕ → Summary → Option ℕ
+u32_in_first None place s = None
+u32_in_first (Some kind) place s = u32_in_attribute place (first_in kind s)
+
+-- the interface number: the `u32` at 0 of the first valid attribute of this kind; None if it is 0
+-- or absent
+abbrev pub interface_number : ℕ → Summary → Option ℕ
+interface_number kind s = option_and_then (none_if_equal 0) (u32_in_first (Some kind) 0 s)
 
 -- `user_kind family`: the type of the attribute with the user id of the owner; None for a family
 -- without one
@@ -70,8 +67,8 @@ user_kind _ = None
 
 -- A netlink socket. Local: protocol and port. Peer: group and port, if the state is 1
 -- (NETLINK_CONNECTED). The column State has UNCONN (7) in any case, as in ss(8).
-abbrev pub netlink_socket : NetlinkResponseHeader → List AttributeOrError → OtherSocket
-netlink_socket h given = record {
+abbrev pub netlink_socket : NetlinkResponseHeader → Summary → OtherSocket
+netlink_socket h s = record {
   family = Netlink;
   kind = h.kind;
   state = 7;
@@ -83,21 +80,21 @@ netlink_socket h given = record {
 
 -- A packet socket. Local: protocol, and interface number at 0 of the attribute PACKET_DIAG_INFO.
 -- The column State has UNCONN (7).
-abbrev pub packet_socket : PacketResponseHeader → List AttributeOrError → OtherSocket
-packet_socket h given = record {
+abbrev pub packet_socket : PacketResponseHeader → Summary → OtherSocket
+packet_socket h s = record {
   family = Packet;
   kind = h.kind;
   state = 7;
   inode = h.inode;
   cookie = h.cookie;
-  local = (Some h.protocol, interface_number PACKET_DIAG_INFO given);
+  local = (Some h.protocol, interface_number PACKET_DIAG_INFO s);
   peer = None;
 }
 
 -- A vsock socket. Local and peer: context and port, None for 2 ^ 32 - 1 (VMADDR_CID_ANY,
 -- VMADDR_PORT_ANY).
-abbrev pub vsock_socket : VsockResponseHeader → List AttributeOrError → OtherSocket
-vsock_socket h given = record {
+abbrev pub vsock_socket : VsockResponseHeader → Summary → OtherSocket
+vsock_socket h s = record {
   family = Vsock;
   kind = h.kind;
   state = h.state;
@@ -112,16 +109,16 @@ vsock_socket h given = record {
 
 -- An XDP socket. Local: interface number at 0 and queue at 4 of the attribute XDP_DIAG_INFO.
 -- The column State has UNCONN (7).
-abbrev pub xdp_socket : XdpResponseHeader → List AttributeOrError → OtherSocket
-xdp_socket h given = record {
+abbrev pub xdp_socket : XdpResponseHeader → Summary → OtherSocket
+xdp_socket h s = record {
   family = Xdp;
   kind = h.kind;
   state = 7;
   inode = h.inode;
   cookie = h.cookie;
   local = (
-    interface_number XDP_DIAG_INFO given,
-    u32_of_first_attribute (Some XDP_DIAG_INFO) 4 given,
+    interface_number XDP_DIAG_INFO s,
+    u32_in_first (Some XDP_DIAG_INFO) 4 s,
   );
   peer = None;
 }
@@ -143,17 +140,16 @@ other_kind Packet kind = if kind == 3 then codes "p_raw" else codes "p_dgr"
 other_kind Vsock kind = vsock_kind kind
 other_kind Xdp kind = codes "xdp"
 
--- `other_columns s given`: the first columns. Recv-Q is the `u32` at 0 (SK_MEMINFO_RMEM_ALLOC) of
--- the attribute with the memory (`memory_kind`), Send-Q the one at 8 (SK_MEMINFO_WMEM_ALLOC); None
--- if there is no such attribute or its value ends before.
-abbrev pub other_columns : OtherSocket → List AttributeOrError → FirstColumns
-other_columns s given = record {
-  kind = other_kind s.family s.kind;
-  state = s.state;
-  receive_queue = u32_of_first_attribute (memory_kind s.family) 0 given;
-  send_queue = u32_of_first_attribute (memory_kind s.family) 8 given;
-  inode = s.inode;
-  uid = u32_of_first_attribute (user_kind s.family) 0 given;
+-- `other_columns socket s`: the first columns. Recv-Q is the `u32` at 0 (SK_MEMINFO_RMEM_ALLOC) of
+-- the attribute with the memory, Send-Q the one at 8 (SK_MEMINFO_WMEM_ALLOC).
+abbrev pub other_columns : OtherSocket → Summary → FirstColumns
+other_columns socket s = record {
+  kind = other_kind socket.family socket.kind;
+  state = socket.state;
+  receive_queue = u32_in_first (memory_kind socket.family) 0 s;
+  send_queue = u32_in_first (memory_kind socket.family) 8 s;
+  inode = socket.inode;
+  uid = u32_in_first (user_kind socket.family) 0 s;
 }
 
 -- `numbers_text end`: both numbers of an address, separated by a colon (58); a number that is None
@@ -167,16 +163,13 @@ optional_numbers_text None = codes "*"
 optional_numbers_text (Some end) = numbers_text end
 
 -- the columns: the first columns, the local address and the peer's
-abbrev pub other_line : OtherSocket → List AttributeOrError → List ℕ
-other_line s given = table_line (other_columns s given) (numbers_text s.local)
-    (optional_numbers_text s.peer)
+abbrev pub other_line : OtherSocket → Summary → List ℕ
+other_line socket s = table_line (other_columns socket s) (numbers_text socket.local)
+    (optional_numbers_text socket.peer)
 
--- `other_lines o s given`: the lines of a socket, if the options select it: the columns, the
--- details and a line feed (10). Else nothing. The cookie is passed as eight bytes, little-endian.
-abbrev pub other_lines : Options → OtherSocket → List AttributeOrError → List ℕ
-other_lines o s given =
-    if lists_family o s.family s.state
-    then other_line s given
-    ++ details_after_separator o (details o (Other s.family) no_timer
-    (little_bytes 8 s.cookie) given) ++ 10 ∷ []
-    else []
+-- `other_lines o socket s`: the lines of a socket: the columns, the details and a line feed (10).
+-- The cookie is passed as eight bytes, little-endian.
+abbrev pub other_lines : Options → OtherSocket → Summary → List ℕ
+other_lines o socket s =
+    other_line socket s
+    ++ details_after_separator o (details o no_timer (little_bytes 8 socket.cookie) s) ++ 10 ∷ []

@@ -3,12 +3,10 @@
 -- attribute. An attribute is a `struct nlattr` (linux/netlink.h): `nla_len` at 0, `nla_type` at 2,
 -- and the value from 4 on. `nla_len` counts these four bytes and the value.
 use Rattle.std.specs.Prelude.{ℕ, zero, suc, ◌+◌, ◌-◌, ◌==◌, nat_lt, if◌then◌else◌, List, [], ◌∷◌}
-use Rattle.std.specs.Prelude.{drop, length, take, Option, None, Some, option_and_then, Result}
+use Rattle.std.specs.Prelude.{drop, length, take, Option, None, Some, Result}
 use Rattle.std.specs.Prelude.{Ok, Err}
 use Rattle.byteorder.specs.Endian.{little_number}
 use Rattle.netlink_core.specs.Attribute.{Attribute, padding_length, attribute_kind}
-use Rattle.netlink_core.specs.AttributeSet.{AttributeSet, AttributeValue, ValueOfKind}
-use Rattle.netlink_core.specs.AttributeSet.{value_of_kind, decode_attribute}
 use Rattle.netlink_core.specs.Errors.{map_ok}
 use Rattle.netlink_core.specs.Walk.{buffered_attribute, unread_bytes}
 use Rattle.netlink_core.specs.declared.attribute.NlaBuffer.{NlaBuffer}
@@ -71,18 +69,3 @@ abbrev pub first_of_kind : ℕ → List AttributeOrError → Option Attribute
 first_of_kind k [] = None
 first_of_kind k (Ok a ∷ later) = if attribute_kind a == k then Some a else first_of_kind k later
 first_of_kind k (Err e ∷ later) = first_of_kind k later
-
--- `content_if_valid F k result`: the value of type `k` in a decoded attribute (`Ok`); None if it
--- has another type, or for a decode error. `F` are the known attribute types.
-abbrev pub content_if_valid : (F : AttributeSet) → (k : ℕ) → Result (AttributeValue F) DecodeError
-    → Option (ValueOfKind F k)
-content_if_valid F k (Ok value) = value_of_kind F k value
-content_if_valid F k (Err e) = None
-
--- `first_content F k given`: the decoded value of the first attribute of type `k` in the pieces
--- `given`, or None if there is no such attribute or its value is invalid. Later attributes of the
--- type are not considered.
-abbrev pub first_content : (F : AttributeSet) → (k : ℕ) → List AttributeOrError
-    → Option (ValueOfKind F k)
-first_content F k given = option_and_then (λ a. content_if_valid F k (decode_attribute F a))
-    (first_of_kind k given)

@@ -1,14 +1,16 @@
--- Lines of the table for UNIX, IPv4 and IPv6 sockets. `given` are the attributes of a reply.
+-- Lines of the table for UNIX, IPv4 and IPv6 sockets. `s` is what a reply has
+-- in its attributes.
 use Rattle.std.specs.Prelude.{ℕ, ◌==◌, nat_lt, if◌then◌else◌, ◌&&◌, Bool, List, [], ◌∷◌, ◌++◌}
 use Rattle.std.specs.Prelude.{length, codes, Option, None, Some, slice_index, option_map, drop}
-use Rattle.std.specs.Prelude.{◌||◌, false, option_and_then}
+use Rattle.std.specs.Prelude.{◌||◌, false, option_and_then, Result, Ok, Err}
 use Rattle.byteorder.specs.Endian.{little_number}
 use Rattle.netlink_core.specs.Attribute.{Attribute}
+use Rattle.netlink_core.specs.AttributeSet.{AttributeValue, ValueOfKind, decode_attribute}
+use Rattle.netlink_core.specs.AttributeSet.{value_of_kind}
+use Rattle.netlink_core.specs.declared.error.DecodeError.{DecodeError}
 use Rattle.sock_diag_listing.specs.Cells.{endpoint, named_line, peer_cell, table_line}
 use Rattle.sock_diag_listing.specs.Parts.{no_timer, details_after_separator}
 use Rattle.sock_diag_listing.specs.Escapes.{byte_digits, unescaped_bytes, shown_name}
-use Rattle.sslist_options.specs.Options.{lists_unix}
-use Rattle.sock_diag_captures.specs.Selection.{lists_inet}
 use Rattle.sock_diag_listing.specs.declared.parts.TimerFields.{TimerFields}
 use Rattle.sslist_options.specs.declared.options.Options.{Options}
 use Rattle.sock_diag_records.specs.declared.inet.response.InetResponseHeader.{InetResponseHeader}
@@ -19,9 +21,8 @@ use Rattle.sock_diag_attributes.specs.declared.unix.name.SocketName.{SocketName}
 use Rattle.sock_diag_attributes.specs.declared.unix.name.SocketName.TheVariants.{Abstract, Pathname}
 use Rattle.sock_diag_attributes.specs.UnixAttributes.{unix_attribute_set}
 use Rattle.sock_diag_captures.specs.Details.{details}
-use Rattle.sock_diag_captures.specs.Pieces.{AttributeOrError, first_content, first_of_kind}
+use Rattle.sock_diag_captures.specs.Collected.{Summary, first_in}
 use Rattle.sock_diag_extras.specs.declared.constants.TheConstants.{UNIX_DIAG_UID}
-use Rattle.sock_diag_captures.specs.declared.attributes.Sockets.TheVariants.{Inet, Unix}
 
 -- ---- UNIX sockets
 
@@ -84,22 +85,32 @@ inet_kind (Some protocol) family =
 abbrev pub user_id : Attribute → Option ℕ
 user_id a = if length a.value == 4 then Some (little_number 4 a.value) else None
 
--- `unix_line o h given`: the columns of a UNIX socket, whose header is `h`. The name is in the
+-- the content of a decoded attribute of the kind `k`; None for a decode error
+abbrev pub unix_content : (k : ℕ) → Result (AttributeValue unix_attribute_set) DecodeError
+    → Option (ValueOfKind unix_attribute_set k)
+unix_content k (Ok value) = value_of_kind unix_attribute_set k value
+unix_content k (Err e) = None
+
+-- the content of the first valid attribute of the kind `k` of a UNIX socket, or None
+abbrev pub unix_value : (k : ℕ) → Summary → Option (ValueOfKind unix_attribute_set k)
+unix_value k s =
+    option_and_then (λ a. unix_content k (decode_attribute unix_attribute_set a)) (first_in k s)
+
+-- `unix_line o h s`: the columns of a UNIX socket, whose header is `h`. The name is in the
 -- attribute UNIX_DIAG_NAME, the inode of the peer in UNIX_DIAG_PEER, and the lengths of the queues
 -- in UNIX_DIAG_RQLEN: first the receive queue, then the send queue. The user id is in
--- UNIX_DIAG_UID. The first attribute of each type counts.
-abbrev pub unix_line : Options → UnixResponseHeader → List AttributeOrError → List ℕ
-unix_line o h given =
-    let queues = first_content unix_attribute_set UNIX_DIAG_RQLEN given in
+-- UNIX_DIAG_UID.
+abbrev pub unix_line : Options → UnixResponseHeader → Summary → List ℕ
+unix_line o h s =
+    let queues = unix_value UNIX_DIAG_RQLEN s in
     named_line o.utf8 (record {
       kind = unix_kind h.kind;
       state = h.state;
       receive_queue = option_map (λ ns. ns.0) queues;
       send_queue = option_map (λ ns. ns.1) queues;
       inode = h.inode;
-      uid = option_and_then user_id (first_of_kind UNIX_DIAG_UID given);
-    }) (name_cell o.utf8 (first_content unix_attribute_set UNIX_DIAG_NAME given))
-    (peer_cell (first_content unix_attribute_set UNIX_DIAG_PEER given))
+      uid = option_and_then user_id (first_in UNIX_DIAG_UID s);
+    }) (name_cell o.utf8 (unix_value UNIX_DIAG_NAME s)) (peer_cell (unix_value UNIX_DIAG_PEER s))
 
 -- `inet_line protocol h`: the columns of an IPv4 or IPv6 socket, whose header is `h`. `protocol` is
 -- the protocol of the request. The interface number is shown after the local address only, so that
@@ -117,29 +128,19 @@ inet_line protocol h =
     }) (endpoint id.source_address id.interface_id id.source_port)
     (endpoint id.destination_address 0 id.destination_port)
 
--- `unix_lines o h given`: the lines of a UNIX socket, if the options select it: the columns, the
--- details and a line feed (10). Else nothing.
-abbrev pub unix_lines : Options → UnixResponseHeader → List AttributeOrError → List ℕ
-unix_lines o h given =
-    if lists_unix o h.state
-    then unix_line o h given ++ details_after_separator o (details o Unix no_timer h.cookie given)
-    ++ 10 ∷ []
-    else []
+-- `unix_lines o h s`: the lines of a UNIX socket: the columns, the details and a line feed (10)
+abbrev pub unix_lines : Options → UnixResponseHeader → Summary → List ℕ
+unix_lines o h s =
+    unix_line o h s ++ details_after_separator o (details o no_timer h.cookie s) ++ 10 ∷ []
 
 -- the protocol of the request is 6 (IPPROTO_TCP)
 abbrev pub is_tcp : Option ℕ → Bool
 is_tcp None = false
 is_tcp (Some protocol) = protocol == 6
 
--- `inet_lines o protocol timer h given`: the lines of an IPv4 or IPv6 socket, if the options select
--- it: the columns, the details and a line feed (10). Else nothing. `timer` are the timer fields of
--- the reply's header (`timer_in`).
-abbrev pub inet_lines : Options → Option ℕ → TimerFields → InetResponseHeader
-    → List AttributeOrError
-    → List ℕ
-inet_lines o protocol timer h given =
-    if lists_inet o protocol h
-    then inet_line protocol h ++ details_after_separator o
-    (details o (Inet (is_tcp protocol)) timer h.socket_id.cookie given)
+-- `inet_lines o protocol timer h s`: the lines of an IPv4 or IPv6 socket: the columns, the details
+-- and a line feed (10). `timer` are the timer fields of the reply's header (`timer_in`).
+abbrev pub inet_lines : Options → Option ℕ → TimerFields → InetResponseHeader → Summary → List ℕ
+inet_lines o protocol timer h s =
+    inet_line protocol h ++ details_after_separator o (details o timer h.socket_id.cookie s)
     ++ 10 ∷ []
-    else []

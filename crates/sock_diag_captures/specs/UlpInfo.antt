@@ -3,11 +3,13 @@
 -- JSON are the kernel's names without the prefixes `INET_ULP_INFO_`, `TLS_INFO_` and
 -- `MPTCP_SUBFLOW_ATTR_`; the texts are those of ss(8).
 use Rattle.std.specs.Prelude.{ℕ, ◌==◌, if◌then◌else◌, List, [], ◌∷◌, codes, is_some, length, Option}
-use Rattle.std.specs.Prelude.{None, Some, Ok, false, option_and_then, option_map}
+use Rattle.std.specs.Prelude.{None, Some, Result, Err, false, option_and_then, option_map}
 use Rattle.std.specs.Option.{option_map_or}
-use Rattle.std.specs.Result.{result_ok}
 use Rattle.byteorder.specs.Endian.{little_number}
+use Rattle.netlink_core.specs.Errors.{map_ok}
 use Rattle.netlink_core.specs.Parse.{parse_text}
+use Rattle.netlink_core.specs.declared.error.DecodeError.{DecodeError}
+use Rattle.netlink_core.specs.declared.error.DecodeError.TheVariants.{NameEmpty}
 use Rattle.sock_diag_extras.specs.UlpInfo.{subflow_row, tls_row}
 use Rattle.sock_diag_extras.specs.declared.constants.TheConstants.{INET_ULP_INFO_MPTCP}
 use Rattle.sock_diag_extras.specs.declared.constants.TheConstants.{INET_ULP_INFO_NAME}
@@ -49,11 +51,10 @@ abbrev pub ulp_number : List ℕ → UlpField → Option ℕ
 ulp_number bytes (Tls field) = nested_number (tls_row field) bytes
 ulp_number bytes (Subflow field) = nested_number (subflow_row field) bytes
 
--- the name of the protocol, without one terminating NUL if it has one; None if there is none, or if
--- it is not valid UTF-8
-abbrev pub ulp_name : List ℕ → Option (List ℕ)
-ulp_name value =
-    option_and_then (λ name. result_ok (parse_text name)) (nested_value INET_ULP_INFO_NAME value)
+-- the name of the protocol, without one terminating NUL if it has one; an error if there is none,
+-- or if it is not valid UTF-8
+abbrev pub ulp_name : List ℕ → Result (List ℕ) DecodeError
+ulp_name value = option_map_or parse_text (nested_value INET_ULP_INFO_NAME value) (Err NameEmpty)
 
 -- ---- rows
 
@@ -139,7 +140,7 @@ ulp_parts name value =
     (both (nested_group (codes "tls") tls_facts (nested_value INET_ULP_INFO_TLS value))
     (nested_group (codes "mptcp") subflow_facts (nested_value INET_ULP_INFO_MPTCP value)))
 
--- the facts of the value of the attribute; a value without a name is shown as an unknown attribute
+-- the facts of the value of the attribute, or the error of its name
 abbrev pub ulp_outcome : List ℕ → Outcome
 ulp_outcome value =
-    Ok (option_map (λ name. group [] [] (codes "ulp_info") (ulp_parts name value)) (ulp_name value))
+    map_ok (λ name. Some (group [] [] (codes "ulp_info") (ulp_parts name value))) (ulp_name value)

@@ -2,7 +2,7 @@
 //! and its upper layer protocol. A function of this module appends to a sink. If it fails, an
 //! allocation failed, and the content of the sink is not specified.
 
-ghost use Rattle.std.specs.Prelude.{◌≡◌, Ok, Some, true};
+ghost use Rattle.std.specs.Prelude.{◌≡◌, ◌≤◌, Ok, Some, true};
 ghost use Rattle.std.specs.Result.{result_map_both};
 ghost use Rattle.netlink_core.specs.Errors.{map_ok};
 ghost use Rattle.netlink_core.specs.Walk.{buffered_attribute};
@@ -15,7 +15,7 @@ ghost use Rattle.sock_diag_extras.specs.SocketOptions.{socket_options};
 ghost use Rattle.sock_diag_families.specs.PacketAttributes.{packet_info};
 ghost use Rattle.sock_diag_families.specs.XdpAttributes.{xdp_info};
 ghost use Rattle.sock_diag_captures.specs.AttributeFacts.{attribute_facts, bbr_facts};
-ghost use Rattle.sock_diag_captures.specs.AttributeFacts.{cgroup_outcome, dctcp_facts};
+ghost use Rattle.sock_diag_captures.specs.AttributeFacts.{dctcp_facts};
 ghost use Rattle.sock_diag_captures.specs.AttributeFacts.{family_facts};
 ghost use Rattle.sock_diag_captures.specs.AttributeFacts.{groups_outcome, inet_facts, inet_outcome};
 ghost use Rattle.sock_diag_captures.specs.AttributeFacts.{legacy_memory_facts, memory_facts};
@@ -26,12 +26,13 @@ ghost use Rattle.sock_diag_captures.specs.AttributeFacts.{option_bits, packet_fa
 ghost use Rattle.sock_diag_captures.specs.AttributeFacts.{port_inet_facts, queue_facts};
 ghost use Rattle.sock_diag_captures.specs.AttributeFacts.{uid_outcome, unix_facts, unix_outcome};
 ghost use Rattle.sock_diag_captures.specs.AttributeFacts.{vegas_facts, vfs_facts, xdp_facts};
-ghost use Rattle.sock_diag_captures.specs.Facts.{Decodes, Shows, number_facts, record_outcome};
+ghost use Rattle.sock_diag_captures.specs.Facts.{Decodes, Shows, length_error, number_facts};
+ghost use Rattle.sock_diag_captures.specs.Facts.{number_outcome, record_outcome, status_of};
 ghost use Rattle.sock_diag_captures.specs.Md5Keys.{md5_outcome};
 ghost use Rattle.sock_diag_captures.specs.declared.facts.Shown.TheVariants.{Hex};
 
 use crate::facts::{FactSink, NumberRow, Shown, Status, show_group, show_numbers};
-use crate::md5_keys::has_md5_keys;
+use crate::md5_keys::{KEY_LENGTH, has_md5_keys};
 use crate::tcp::show_tcp_info;
 use crate::ulp_info::show_ulp;
 use byteorder::{ByteOrder, LittleEndian};
@@ -41,9 +42,7 @@ use sock_diag_attributes::unix::nlas::NlaView as UnixView;
 use sock_diag_extras::constants::{
     INET_DIAG_CGROUP_ID, INET_DIAG_SOCKOPT, INET_DIAG_ULP_INFO, UNIX_DIAG_UID,
 };
-use sock_diag_extras::{
-    BbrInfo, DctcpInfo, SocketOptions, VegasInfo, parse_cgroup_id, parse_uid, read_attribute_record,
-};
+use sock_diag_extras::{BbrInfo, DctcpInfo, SocketOptions, VegasInfo, read_attribute_record};
 use sock_diag_families::netlink::{NETLINK_DIAG_GROUPS, NETLINK_DIAG_MEMINFO};
 use sock_diag_families::packet::{
     PACKET_DIAG_INFO, PACKET_DIAG_MEMINFO, PACKET_DIAG_UID, PacketInfo,
@@ -193,12 +192,42 @@ fn show_newer_unix<S: FactSink>(sink: &mut S, nla: &NlaBuffer<'_>) -> Result<Sta
     ensures { Decodes S.kept S.content S.items result sink.old sink.new
         (newer_unix_outcome (buffered_attribute nla.now)) }
 {
-    match parse_uid(nla.value()) {
-        Some(uid) if nla.kind() == UNIX_DIAG_UID => {
-            known(sink.number(Shown::Never, b"", Some("uid"), uid as u64))
-        }
-        _ => Ok(Ok(false)),
+    if nla.kind() != UNIX_DIAG_UID {
+        return Ok(Ok(false));
     }
+    show_number(sink, Shown::Never, b"", "uid", 4, nla)
+}
+
+/// Shows a little-endian number of `width` bytes, which is the whole value.
+fn show_number<S: FactSink>(
+    sink: &mut S,
+    format: Shown,
+    text: &[u8],
+    member: &str,
+    width: usize,
+    nla: &NlaBuffer<'_>,
+) -> Result<Status, AllocError>
+    requires one { 1 ≤ width }
+    requires eight { width ≤ 8 }
+    ensures { Decodes S.kept S.content S.items result sink.old sink.new (number_outcome width
+        (number_facts format text.now (Some member.now)) (buffered_attribute nla.now)) }
+{
+    if nla.value().len() != width {
+        return Ok(length_error(nla, width));
+    }
+    let number = LittleEndian::read_uint(nla.value(), width);
+    known(sink.number(format, text, Some(member), number))
+}
+
+/// Returns the error of an attribute whose value does not have `need` bytes.
+pub(crate) fn length_error(nla: &NlaBuffer<'_>, need: usize) -> Status
+    ensures { result ≡ status_of (length_error (buffered_attribute nla.now) need) }
+{
+    Err(DecodeError::WrongLength {
+        kind: Some(nla.kind()),
+        got: nla.value().len(),
+        need,
+    })
 }
 
 /// Shows the facts of an attribute of an IPv4 or IPv6 socket, if it has any. `INET_DIAG_INFO` of a
@@ -301,7 +330,7 @@ fn show_legacy_memory<S: FactSink>(sink: &mut S, memory: &LegacyMemInfo) -> Resu
 }
 
 /// Shows the facts of an attribute of an IPv4 or IPv6 socket that the port leaves undecoded, if it
-/// has any. A value that is too short for its attribute is shown as an unknown attribute.
+/// has any.
 fn show_newer_inet<S: FactSink>(
     sink: &mut S,
     alloc: Global,
@@ -311,25 +340,16 @@ fn show_newer_inet<S: FactSink>(
         (newer_inet_outcome (buffered_attribute nla.now)) }
 {
     match nla.kind() {
-        INET_DIAG_CGROUP_ID => show_cgroup(sink, nla.value()),
-        INET_DIAG_SOCKOPT => show_options(sink, nla.value()),
-        INET_DIAG_VEGASINFO => show_vegas(sink, nla.value()),
-        INET_DIAG_DCTCPINFO => show_dctcp(sink, nla.value()),
-        INET_DIAG_BBRINFO => show_bbr(sink, nla.value()),
-        INET_DIAG_MD5SIG => show_md5_keys(sink, alloc, nla.value()),
+        INET_DIAG_CGROUP_ID => {
+            show_number(sink, Shown::Always, b" cgroup:", "cgroup_id", 8, nla)
+        }
+        INET_DIAG_SOCKOPT => show_options(sink, nla),
+        INET_DIAG_VEGASINFO => show_vegas(sink, nla),
+        INET_DIAG_DCTCPINFO => show_dctcp(sink, nla),
+        INET_DIAG_BBRINFO => show_bbr(sink, nla),
+        INET_DIAG_MD5SIG => show_md5_keys(sink, alloc, nla),
         INET_DIAG_ULP_INFO => show_ulp(sink, nla.value()),
         _ => Ok(Ok(false)),
-    }
-}
-
-/// Shows the id of the control group.
-fn show_cgroup<S: FactSink>(sink: &mut S, value: &[u8]) -> Result<Status, AllocError>
-    ensures { Decodes S.kept S.content S.items result sink.old sink.new
-        (cgroup_outcome value.now) }
-{
-    match parse_cgroup_id(value) {
-        Some(id) => known(sink.number(Shown::Always, b" cgroup:", Some("cgroup_id"), id)),
-        None => Ok(Ok(false)),
     }
 }
 
@@ -337,24 +357,25 @@ fn show_cgroup<S: FactSink>(sink: &mut S, value: &[u8]) -> Result<Status, AllocE
 fn show_md5_keys<S: FactSink>(
     sink: &mut S,
     alloc: Global,
-    value: &[u8],
+    nla: &NlaBuffer<'_>,
 ) -> Result<Status, AllocError>
-    ensures { Decodes S.kept S.content S.items result sink.old sink.new (md5_outcome value.now) }
+    ensures { Decodes S.kept S.content S.items result sink.old sink.new
+        (md5_outcome (buffered_attribute nla.now)) }
 {
-    if !has_md5_keys(value) {
-        return Ok(Ok(false));
+    if !has_md5_keys(nla.value()) {
+        return Ok(length_error(nla, KEY_LENGTH));
     }
-    known(sink.md5_keys(alloc, value))
+    known(sink.md5_keys(alloc, nla.value()))
 }
 
 /// Shows the options of a socket.
-fn show_options<S: FactSink>(sink: &mut S, value: &[u8]) -> Result<Status, AllocError>
+fn show_options<S: FactSink>(sink: &mut S, nla: &NlaBuffer<'_>) -> Result<Status, AllocError>
     ensures { Decodes S.kept S.content S.items result sink.old sink.new
-        (record_outcome socket_options option_facts value.now) }
+        (record_outcome socket_options option_facts (buffered_attribute nla.now)) }
 {
-    match read_attribute_record::<SocketOptions>(value) {
+    match read_attribute_record::<SocketOptions>(nla.value()) {
         Some(options) => known(show_option_bits(sink, options.bits)),
-        None => Ok(Ok(false)),
+        None => Ok(length_error(nla, 2)),
     }
 }
 
@@ -382,13 +403,13 @@ fn show_option_bits<S: FactSink>(sink: &mut S, bits: u16) -> Result<(), AllocErr
 }
 
 /// Shows the measurements of TCP Vegas.
-fn show_vegas<S: FactSink>(sink: &mut S, value: &[u8]) -> Result<Status, AllocError>
+fn show_vegas<S: FactSink>(sink: &mut S, nla: &NlaBuffer<'_>) -> Result<Status, AllocError>
     ensures { Decodes S.kept S.content S.items result sink.old sink.new
-        (record_outcome vegas_info vegas_facts value.now) }
+        (record_outcome vegas_info vegas_facts (buffered_attribute nla.now)) }
 {
-    match read_attribute_record::<VegasInfo>(value) {
+    match read_attribute_record::<VegasInfo>(nla.value()) {
         Some(info) => known(show_vegas_info(sink, &info)),
-        None => Ok(Ok(false)),
+        None => Ok(length_error(nla, 16)),
     }
 }
 
@@ -407,13 +428,13 @@ fn show_vegas_info<S: FactSink>(sink: &mut S, info: &VegasInfo) -> Result<(), Al
 }
 
 /// Shows the measurements of DCTCP.
-fn show_dctcp<S: FactSink>(sink: &mut S, value: &[u8]) -> Result<Status, AllocError>
+fn show_dctcp<S: FactSink>(sink: &mut S, nla: &NlaBuffer<'_>) -> Result<Status, AllocError>
     ensures { Decodes S.kept S.content S.items result sink.old sink.new
-        (record_outcome dctcp_info dctcp_facts value.now) }
+        (record_outcome dctcp_info dctcp_facts (buffered_attribute nla.now)) }
 {
-    match read_attribute_record::<DctcpInfo>(value) {
+    match read_attribute_record::<DctcpInfo>(nla.value()) {
         Some(info) => known(show_dctcp_info(sink, &info)),
-        None => Ok(Ok(false)),
+        None => Ok(length_error(nla, 16)),
     }
 }
 
@@ -433,13 +454,13 @@ fn show_dctcp_info<S: FactSink>(sink: &mut S, info: &DctcpInfo) -> Result<(), Al
 }
 
 /// Shows the measurements of BBR.
-fn show_bbr<S: FactSink>(sink: &mut S, value: &[u8]) -> Result<Status, AllocError>
+fn show_bbr<S: FactSink>(sink: &mut S, nla: &NlaBuffer<'_>) -> Result<Status, AllocError>
     ensures { Decodes S.kept S.content S.items result sink.old sink.new
-        (record_outcome bbr_info bbr_facts value.now) }
+        (record_outcome bbr_info bbr_facts (buffered_attribute nla.now)) }
 {
-    match read_attribute_record::<BbrInfo>(value) {
+    match read_attribute_record::<BbrInfo>(nla.value()) {
         Some(info) => known(show_bbr_info(sink, &info)),
-        None => Ok(Ok(false)),
+        None => Ok(length_error(nla, 20)),
     }
 }
 
@@ -484,7 +505,7 @@ fn show_family<S: FactSink>(
         return show_memory_value(sink, "meminfo", nla);
     }
     match family {
-        Family::Netlink if kind == NETLINK_DIAG_GROUPS => show_groups(sink, nla.value()),
+        Family::Netlink if kind == NETLINK_DIAG_GROUPS => show_groups(sink, nla),
         Family::Packet if kind == PACKET_DIAG_INFO => show_packet(sink, nla.value()),
         Family::Packet if kind == PACKET_DIAG_UID => show_uid(sink, nla),
         Family::Xdp if kind == XDP_DIAG_INFO => show_xdp(sink, nla.value()),
@@ -616,23 +637,17 @@ fn show_uid<S: FactSink>(sink: &mut S, nla: &NlaBuffer<'_>) -> Result<Status, Al
     ensures { Decodes S.kept S.content S.items result sink.old sink.new
         (uid_outcome (buffered_attribute nla.now)) }
 {
-    let got = nla.value().len();
-    if got != 4 {
-        let kind = Some(nla.kind());
-        return Ok(Err(DecodeError::WrongLength { kind, got, need: 4 }));
-    }
-    let uid = LittleEndian::read_u32(nla.value());
-    known(sink.number(Shown::Always, b" uid:", Some("uid"), uid as u64))
+    show_number(sink, Shown::Always, b" uid:", "uid", 4, nla)
 }
 
 /// Shows the groups of a netlink socket.
-fn show_groups<S: FactSink>(sink: &mut S, value: &[u8]) -> Result<Status, AllocError>
+fn show_groups<S: FactSink>(sink: &mut S, nla: &NlaBuffer<'_>) -> Result<Status, AllocError>
     ensures { Decodes S.kept S.content S.items result sink.old sink.new
-        (groups_outcome value.now) }
+        (groups_outcome (buffered_attribute nla.now)) }
 {
-    if value.len() < 4 {
-        return Ok(Ok(false));
+    if nla.value().len() < 4 {
+        return Ok(length_error(nla, 4));
     }
-    let groups = LittleEndian::read_u32(value);
+    let groups = LittleEndian::read_u32(nla.value());
     known(show_hex(sink, b" groups:0x", "groups", groups as u64))
 }

@@ -1,21 +1,20 @@
 //! Details of a socket: what a reply contains besides the columns, and the attributes that are
-//! invalid.
+//! unknown or invalid.
 
-ghost use Rattle.std.specs.Prelude.{◌≡◌, ◌≤◌, ◌++◌, Ok, flat_map, length, OnOk};
+ghost use Rattle.std.specs.Prelude.{◌≡◌, ◌≤◌, ◌++◌, Some, flat_map, length, OnOk};
 ghost use Rattle.sock_diag_listing.specs.Parts.{separator, details_after_separator};
 ghost use Rattle.netlink_core.specs.Walk.{buffered_attribute};
-ghost use Rattle.sock_diag_captures.specs.AttributeFacts.{attribute_facts};
-ghost use Rattle.sock_diag_captures.specs.Details.{attribute_or_error_detail, detail_group};
-ghost use Rattle.sock_diag_captures.specs.Details.{details, invalid_attribute_text, outcome_text};
-ghost use Rattle.sock_diag_captures.specs.Details.{status_text, timer_in, unknown_attribute_text};
-ghost use Rattle.sock_diag_captures.specs.Pieces.{attributes_or_error};
+ghost use Rattle.sock_diag_captures.specs.Collected.{collected, other_model, slot_attribute};
+ghost use Rattle.sock_diag_captures.specs.Details.{detail_group, details, invalid_attribute_text};
+ghost use Rattle.sock_diag_captures.specs.Details.{other_detail, status_text, timer_in};
+ghost use Rattle.sock_diag_captures.specs.Details.{unknown_attribute_text, valid_detail};
 
 use crate::attributes::{Sockets, memory_kind, show_attribute};
+use crate::collected::Attributes;
 use crate::facts::Status;
 use crate::kinds::reason_of;
-use crate::pieces::next_piece;
 use byteorder::{ByteOrder, LittleEndian};
-use netlink_core::{DecodeError, NlaBuffer, NlasIterator};
+use netlink_core::{DecodeError, NlaBuffer};
 use sock_diag_extras::constants::INET_DIAG_ULP_INFO;
 use sock_diag_listing::cells::push_number;
 use sock_diag_listing::parts::{
@@ -45,96 +44,95 @@ pub(crate) fn timer_of(payload: &[u8]) -> TimerFields
 pub(crate) fn push_details(
     text: &mut Vec<u8>,
     options: Options,
-    sockets: Sockets,
     timer: &TimerFields,
     cookie: &[u8; 8],
-    bytes: &[u8],
+    found: &Attributes<'_>,
 ) -> Result<(), AllocError>
     ensures { OnOk result (text.new.items ≡ text.old.items
         ++ details_after_separator options
-        (details options sockets timer.now cookie.now (attributes_or_error 0 bytes.now))) }
+        (details options timer.now cookie.now (collected found.now))) }
 {
     let start = text.len();
     text.extend_from_slice(separator(options))?;
     let after_separator = text.len();
-    push_selected(text, options, sockets, timer, cookie, bytes)?;
+    push_selected(text, options, timer, cookie, found)?;
     if text.len() == after_separator {
         text.truncate(start);
     }
     Ok(())
 }
 
-/// Appends the timer of a socket, its cookie, and the details of each attribute, as far as the
+/// Appends the timer of a socket, its cookie, and the details of its attributes, as far as the
 /// options select them.
-#[tactic(auto, using(crate::proofs::Adding::appended_texts_concatenate))]
+#[tactic(auto, using(crate::proofs::Adding::appended_texts_concatenate, crate::proofs::Slots::mapped_texts))]
 fn push_selected(
     text: &mut Vec<u8>,
     options: Options,
-    sockets: Sockets,
     timer: &TimerFields,
     cookie: &[u8; 8],
-    bytes: &[u8],
+    found: &Attributes<'_>,
 ) -> Result<(), AllocError>
     ensures { OnOk result (text.new.items ≡ text.old.items
-        ++ details options sockets timer.now cookie.now (attributes_or_error 0 bytes.now)) }
+        ++ details options timer.now cookie.now (collected found.now)) }
 {
     push_shown_timer(text, options, timer)?;
     push_shown_cookie(text, options, cookie)?;
-    push_attributes(text, options, sockets, bytes)
+    push_valid(text, options, found.sockets, &found.first.slots)?;
+    push_others(text, options, found.sockets, found.others.as_slice())
 }
 
-/// Appends the details of each attribute in the bytes, as far as the options select them. Bytes
-/// that are not an attribute have no details.
-fn push_attributes(
+/// Appends the facts of each valid attribute, as far as the options select them.
+fn push_valid(
     text: &mut Vec<u8>,
     options: Options,
     sockets: Sockets,
-    bytes: &[u8],
+    slots: &[Option<NlaBuffer<'_>>],
 ) -> Result<(), AllocError>
     ensures { OnOk result (text.new.items ≡ text.old.items
-        ++ flat_map (attribute_or_error_detail options sockets) (attributes_or_error 0 bytes.now)) }
+        ++ flat_map (λ slot. valid_detail options sockets (slot_attribute slot)) slots.now) }
 {
-    let mut walk = NlasIterator::new(bytes);
-    while let Some(piece) = next_piece(&mut walk) {
-        if let Ok(nla) = piece {
-            push_attribute(text, options, sockets, &nla)?;
+    for slot in slots {
+        if let Some(nla) = slot {
+            push_facts(text, options, sockets, nla)?;
         }
     }
     Ok(())
 }
 
-/// Appends the details of an attribute, if the options select its group. If its value is invalid,
-/// appends the reason.
-fn push_attribute(
+/// Appends the facts of a valid attribute, if the options select its group.
+fn push_facts(
     text: &mut Vec<u8>,
     options: Options,
     sockets: Sockets,
     nla: &NlaBuffer<'_>,
 ) -> Result<(), AllocError>
     ensures { OnOk result (text.new.items ≡ text.old.items
-        ++ attribute_or_error_detail options sockets (Ok (buffered_attribute nla.now))) }
+        ++ valid_detail options sockets (Some (buffered_attribute nla.now))) }
 {
-    if options.shows(detail_group(sockets, nla.kind())) {
-        push_attribute_text(text, options, sockets, nla)
-    } else {
-        Ok(())
+    if !options.shows(detail_group(sockets, nla.kind())) {
+        return Ok(());
     }
+    let alloc = *text.allocator();
+    let _ = show_attribute(text, alloc, options.utf8, sockets, nla)?;
+    Ok(())
 }
 
-/// Appends the details of an attribute, or why it has none.
-fn push_attribute_text(
+/// Appends each unknown or invalid attribute, as far as the options select them.
+fn push_others(
     text: &mut Vec<u8>,
     options: Options,
     sockets: Sockets,
-    nla: &NlaBuffer<'_>,
+    others: &[(NlaBuffer<'_>, Status)],
 ) -> Result<(), AllocError>
     ensures { OnOk result (text.new.items ≡ text.old.items
-        ++ outcome_text (buffered_attribute nla.now)
-        (attribute_facts options.utf8 sockets (buffered_attribute nla.now))) }
+        ++ flat_map (λ other. other_detail options sockets (other_model other)) others.now) }
 {
-    let alloc = *text.allocator();
-    let status = show_attribute(text, alloc, options.utf8, sockets, nla)?;
-    push_status(text, nla, &status)
+    for (nla, status) in others {
+        if options.shows(detail_group(sockets, nla.kind())) {
+            push_status(text, nla, status)?;
+        }
+    }
+    Ok(())
 }
 
 /// Returns the group of details that an attribute of this kind belongs to.

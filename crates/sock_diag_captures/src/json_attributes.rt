@@ -1,263 +1,181 @@
-//! JSON of the attributes of a reply. A function of this module appends to a writer. If it fails,
-//! an allocation failed, and the content of the writer is not specified.
+//! JSON of a socket: the members of its header, and those of its attributes. If a function of this
+//! module fails, an allocation failed, and the content of the text or the writer is not specified.
 
-ghost use Rattle.std.specs.Prelude.{◌≡◌, ◌++◌, codes, false, flat_map};
+ghost use Rattle.std.specs.Prelude.{◌≡◌, ◌++◌, List, OnOk, codes, flat_map, map};
+ghost use Rattle.json.specs.Lex.{tokens};
 ghost use Rattle.json.specs.Tree.{json_tokens};
 ghost use Rattle.netlink_core.specs.Walk.{buffered_attribute};
-ghost use Rattle.sock_diag_captures.specs.AttributeFacts.{attribute_facts};
-ghost use Rattle.sock_diag_captures.specs.Details.{error_reason};
-ghost use Rattle.sock_diag_captures.specs.Facts.{facts_in};
+ghost use Rattle.sock_diag_captures.specs.Collected.{collected, other_model, slot_attribute};
 ghost use Rattle.sock_diag_captures.specs.JsonAttributes.{attribute_members, attributes_members};
-ghost use Rattle.sock_diag_captures.specs.JsonAttributes.{items_of_piece, member_kinds};
-ghost use Rattle.sock_diag_captures.specs.JsonAttributes.{members_of_kind, other_items};
-ghost use Rattle.sock_diag_captures.specs.Pieces.{attributes_or_error};
-ghost use Rattle.sock_diag_listing.specs.JsonData.{array_member, object_of, text_member};
+ghost use Rattle.sock_diag_captures.specs.JsonAttributes.{item_members, other_item, socket_json};
+ghost use Rattle.sock_diag_captures.specs.JsonAttributes.{valid_members};
+ghost use Rattle.sock_diag_listing.specs.JsonData.{JsonMember, array_member, json_text, object_of};
 ghost use Rattle.sock_diag_listing.specs.JsonWriting.{AddsMembers, AddsTokens, KeepsText};
-ghost use Rattle.sock_diag_listing.specs.JsonWriting.{items_tokens, members_tokens};
+ghost use Rattle.sock_diag_listing.specs.JsonWriting.{members_tokens};
 
 use crate::attributes::{Sockets, show_attribute};
+use crate::collected::Attributes;
 use crate::facts::Status;
 use crate::kinds::reason_of;
-use crate::pieces::{find_kind, next_piece};
 use json::Writer;
-use netlink_core::{DecodeError, NlaBuffer, NlasIterator};
-use sock_diag_extras::constants::{
-    INET_DIAG_CGROUP_ID, INET_DIAG_SOCKOPT, INET_DIAG_ULP_INFO, UNIX_DIAG_UID,
-};
-use sock_diag_families::netlink::{NETLINK_DIAG_GROUPS, NETLINK_DIAG_MEMINFO};
-use sock_diag_families::packet::{PACKET_DIAG_INFO, PACKET_DIAG_MEMINFO, PACKET_DIAG_UID};
-use sock_diag_families::xdp::{XDP_DIAG_INFO, XDP_DIAG_MEMINFO, XDP_DIAG_UID};
+use netlink_core::NlaBuffer;
 use sock_diag_listing::json_writing::{write_numbers, write_text};
-use sock_diag_records::constants::{
-    INET_DIAG_BBRINFO, INET_DIAG_CLASS_ID, INET_DIAG_CONG, INET_DIAG_DCTCPINFO, INET_DIAG_INFO,
-    INET_DIAG_MARK, INET_DIAG_MD5SIG, INET_DIAG_MEMINFO, INET_DIAG_PROTOCOL, INET_DIAG_SHUTDOWN,
-    INET_DIAG_SKMEMINFO, INET_DIAG_SKV6ONLY, INET_DIAG_TCLASS, INET_DIAG_TOS, INET_DIAG_VEGASINFO,
-    UNIX_DIAG_ICONS, UNIX_DIAG_MEMINFO, UNIX_DIAG_NAME, UNIX_DIAG_PEER, UNIX_DIAG_RQLEN,
-    UNIX_DIAG_SHUTDOWN, UNIX_DIAG_VFS,
-};
-use sslist_options::Family;
 use std::alloc::{AllocError, Global};
+use std::mem;
 
-/// Types of the attributes of a UNIX socket that have members.
-const UNIX_KINDS: [u16; 8] = [
-    UNIX_DIAG_NAME,
-    UNIX_DIAG_VFS,
-    UNIX_DIAG_PEER,
-    UNIX_DIAG_ICONS,
-    UNIX_DIAG_RQLEN,
-    UNIX_DIAG_MEMINFO,
-    UNIX_DIAG_SHUTDOWN,
-    UNIX_DIAG_UID,
-];
+/// The header of a reply, which can be written as JSON.
+pub(crate) trait JsonHeader {
+    // The members of the header.
+    ghost json_members: { Self → List JsonMember };
 
-/// Types of the attributes of an IPv4 or IPv6 socket that have members.
-const INET_KINDS: [u16; 18] = [
-    INET_DIAG_MEMINFO,
-    INET_DIAG_INFO,
-    INET_DIAG_VEGASINFO,
-    INET_DIAG_CONG,
-    INET_DIAG_TOS,
-    INET_DIAG_TCLASS,
-    INET_DIAG_SKMEMINFO,
-    INET_DIAG_SHUTDOWN,
-    INET_DIAG_DCTCPINFO,
-    INET_DIAG_PROTOCOL,
-    INET_DIAG_SKV6ONLY,
-    INET_DIAG_MARK,
-    INET_DIAG_BBRINFO,
-    INET_DIAG_CLASS_ID,
-    INET_DIAG_MD5SIG,
-    INET_DIAG_ULP_INFO,
-    INET_DIAG_CGROUP_ID,
-    INET_DIAG_SOCKOPT,
-];
+    /// Writes the members of the header.
+    fn write_json(&self, alloc: Global, writer: &mut Writer) -> Result<(), AllocError>
+        ensures before { KeepsText result writer.old writer.new }
+        ensures members { AddsMembers result writer.old writer.new (json_members self.now) };
+}
 
-/// Types of the attributes of a netlink socket that have members.
-const NETLINK_KINDS: [u16; 2] = [NETLINK_DIAG_MEMINFO, NETLINK_DIAG_GROUPS];
+/// Appends the line of a socket with this header and these attributes: a JSON object without
+/// spaces, and a line feed.
+pub(crate) fn push_json<H: JsonHeader>(
+    text: &mut Vec<u8>,
+    header: &H,
+    found: &Attributes<'_>,
+) -> Result<(), AllocError>
+    ensures line { OnOk result (text.new.items ≡ text.old.items
+        ++ socket_json (H.json_members header.now) (collected found.now)) }
+    // The text can be parsed: its tokens are those of the object.
+    ensures reads_back { OnOk result (tokens (json_text (object_of
+        (H.json_members header.now ++ attributes_members (collected found.now))))
+        ≡ json_tokens (object_of
+        (H.json_members header.now ++ attributes_members (collected found.now)))) }
+{
+    let alloc = *text.allocator();
+    let mut writer = Writer::new(mem::replace(text, Vec::new(alloc)));
+    write_object(alloc, &mut writer, header, found)?;
+    *text = writer.into_inner();
+    Ok(text.push(b'\n')?)
+}
 
-/// Types of the attributes of a packet socket that have members.
-const PACKET_KINDS: [u16; 3] = [PACKET_DIAG_INFO, PACKET_DIAG_UID, PACKET_DIAG_MEMINFO];
-
-/// Types of the attributes of an XDP socket that have members.
-const XDP_KINDS: [u16; 3] = [XDP_DIAG_INFO, XDP_DIAG_UID, XDP_DIAG_MEMINFO];
-
-/// Writes the members of the attributes of a reply, and then the attributes that are unknown or
-/// invalid.
-#[tactic(auto, using(sock_diag_listing::proofs::JsonWriting::json_rules), unfolding(crate::specs::JsonAttributes::attributes_members))]
-pub(crate) fn write_attributes(
+/// Writes the object of a socket with this header and these attributes.
+#[tactic(auto, using(sock_diag_listing::proofs::JsonWriting::json_rules, sock_diag_listing::proofs::JsonWriting::object_tokens))]
+fn write_object<H: JsonHeader>(
     alloc: Global,
     writer: &mut Writer,
-    sockets: Sockets,
-    bytes: &[u8],
+    header: &H,
+    found: &Attributes<'_>,
+) -> Result<(), AllocError>
+    ensures before { KeepsText result writer.old writer.new }
+    ensures tokens { AddsTokens result writer.old writer.new (json_tokens (object_of
+        (H.json_members header.now ++ attributes_members (collected found.now)))) }
+{
+    writer.begin_object()?;
+    header.write_json(alloc, writer)?;
+    write_attributes(alloc, writer, found)?;
+    writer.end_object()
+}
+
+/// Writes the members of the attributes of a reply, and then those that are unknown or invalid.
+#[tactic(auto, using(sock_diag_listing::proofs::JsonWriting::json_rules), unfolding(crate::specs::JsonAttributes::attributes_members))]
+fn write_attributes(
+    alloc: Global,
+    writer: &mut Writer,
+    found: &Attributes<'_>,
 ) -> Result<(), AllocError>
     ensures before { KeepsText result writer.old writer.new }
     ensures members { AddsMembers result writer.old writer.new
-        (attributes_members sockets (attributes_or_error 0 bytes.now)) }
+        (attributes_members (collected found.now)) }
 {
-    write_members(alloc, writer, sockets, bytes)?;
-    write_others(alloc, writer, sockets, bytes)
+    write_members(alloc, writer, found)?;
+    write_others(writer, found)
 }
 
-/// Writes the members of the attributes of a reply: of each type, of the first attribute.
-#[tactic(auto, using(sock_diag_listing::proofs::JsonWriting::tokens_of_each))]
+/// Writes the members of the first valid attribute of each kind.
+#[tactic(auto, using(crate::proofs::Slots::tokens_of_slots))]
 fn write_members(
     alloc: Global,
     writer: &mut Writer,
-    sockets: Sockets,
-    bytes: &[u8],
+    found: &Attributes<'_>,
 ) -> Result<(), AllocError>
     ensures before { KeepsText result writer.old writer.new }
-    ensures members { AddsMembers result writer.old writer.new (flat_map
-        (members_of_kind sockets (attributes_or_error 0 bytes.now)) (member_kinds sockets)) }
+    ensures members { AddsMembers result writer.old writer.new
+        (flat_map (valid_members found.now.sockets) (map slot_attribute found.now.first.slots)) }
 {
-    match sockets {
-        Sockets::Unix => write_each_kind(alloc, writer, sockets, bytes, &UNIX_KINDS),
-        Sockets::Inet { .. } => write_each_kind(alloc, writer, sockets, bytes, &INET_KINDS),
-        Sockets::Other(Family::Netlink) => {
-            write_each_kind(alloc, writer, sockets, bytes, &NETLINK_KINDS)
-        }
-        Sockets::Other(Family::Packet) => {
-            write_each_kind(alloc, writer, sockets, bytes, &PACKET_KINDS)
-        }
-        Sockets::Other(Family::Vsock) => write_each_kind(alloc, writer, sockets, bytes, &[]),
-        Sockets::Other(Family::Xdp) => write_each_kind(alloc, writer, sockets, bytes, &XDP_KINDS),
-    }
+    write_valid(alloc, writer, found.sockets, &found.first.slots)
 }
 
-/// Writes the members of the first attribute of each of these types.
-fn write_each_kind(
-    alloc: Global,
-    writer: &mut Writer,
-    sockets: Sockets,
-    bytes: &[u8],
-    kinds: &[u16],
-) -> Result<(), AllocError>
-    ensures before { KeepsText result writer.old writer.new }
-    ensures tokens { AddsTokens result writer.old writer.new (flat_map (λ kind. members_tokens
-        (members_of_kind sockets (attributes_or_error 0 bytes.now) kind)) kinds.now) }
-{
-    for kind in kinds {
-        write_kind(alloc, writer, sockets, bytes, *kind)?;
-    }
-    Ok(())
-}
-
-/// Writes the members of the first attribute of this type, if there is one.
+/// Writes the members of each valid attribute.
 #[tactic(auto, unfolding(sock_diag_listing::specs::JsonWriting::members_tokens))]
-fn write_kind(
+fn write_valid(
     alloc: Global,
     writer: &mut Writer,
     sockets: Sockets,
-    bytes: &[u8],
-    kind: u16,
+    slots: &[Option<NlaBuffer<'_>>],
 ) -> Result<(), AllocError>
     ensures before { KeepsText result writer.old writer.new }
-    ensures members { AddsMembers result writer.old writer.new
-        (members_of_kind sockets (attributes_or_error 0 bytes.now) kind) }
+    ensures tokens { AddsTokens result writer.old writer.new (flat_map (λ slot.
+        members_tokens (valid_members sockets (slot_attribute slot))) slots.now) }
 {
-    match find_kind(bytes, kind) {
-        Some(nla) => write_attribute(alloc, writer, sockets, &nla),
-        None => Ok(()),
+    for slot in slots {
+        if let Some(nla) = slot {
+            let _ = show_attribute(writer, alloc, false, sockets, nla)?;
+        }
     }
-}
-
-/// Writes the members of an attribute.
-fn write_attribute(
-    alloc: Global,
-    writer: &mut Writer,
-    sockets: Sockets,
-    nla: &NlaBuffer<'_>,
-) -> Result<(), AllocError>
-    ensures before { KeepsText result writer.old writer.new }
-    ensures members { AddsMembers result writer.old writer.new
-        (facts_in (attribute_facts false sockets (buffered_attribute nla.now))).members }
-{
-    let _ = show_attribute(writer, alloc, false, sockets, nla)?;
     Ok(())
 }
 
 /// Writes the member `other_attributes`: the attributes that are unknown or invalid.
-#[tactic(auto, using(sock_diag_listing::proofs::JsonWriting::json_rules, sock_diag_listing::proofs::JsonWriting::items_of_each))]
-fn write_others(
-    alloc: Global,
-    writer: &mut Writer,
-    sockets: Sockets,
-    bytes: &[u8],
-) -> Result<(), AllocError>
+#[tactic(auto, using(sock_diag_listing::proofs::JsonWriting::json_rules, crate::proofs::Slots::tokens_of_others))]
+fn write_others(writer: &mut Writer, found: &Attributes<'_>) -> Result<(), AllocError>
     ensures before { KeepsText result writer.old writer.new }
     ensures members { AddsMembers result writer.old writer.new (array_member
-        (codes "other_attributes")
-        (flat_map (items_of_piece sockets) (attributes_or_error 0 bytes.now))) }
+        (codes "other_attributes") (map other_item (map other_model found.now.others.items))) }
 {
     writer.key("other_attributes")?;
     writer.begin_array()?;
-    write_other_items(alloc, writer, sockets, bytes)?;
+    write_items(writer, found.others.as_slice())?;
     writer.end_array()
 }
 
-/// Writes an item for each attribute that is unknown or invalid.
-#[tactic(auto, unfolding(sock_diag_listing::specs::JsonWriting::items_tokens))]
-fn write_other_items(
-    alloc: Global,
-    writer: &mut Writer,
-    sockets: Sockets,
-    bytes: &[u8],
-) -> Result<(), AllocError>
+/// Writes an item for each of these attributes.
+fn write_items(writer: &mut Writer, others: &[(NlaBuffer<'_>, Status)]) -> Result<(), AllocError>
     ensures before { KeepsText result writer.old writer.new }
-    ensures tokens { AddsTokens result writer.old writer.new (flat_map
-        (λ piece. items_tokens (items_of_piece sockets piece)) (attributes_or_error 0 bytes.now)) }
+    ensures tokens { AddsTokens result writer.old writer.new
+        (flat_map (λ other. json_tokens (other_item (other_model other))) others.now) }
 {
-    let mut walk = NlasIterator::new(bytes);
-    while let Some(piece) = next_piece(&mut walk) {
-        if let Ok(nla) = piece {
-            let status = show_attribute(&mut (), alloc, false, sockets, &nla)?;
-            write_other(writer, &nla, status)?;
-        }
+    for (nla, status) in others {
+        write_item(writer, nla, status)?;
     }
     Ok(())
 }
 
 /// Writes an item for an attribute with this status.
-#[tactic(auto, using(sock_diag_listing::proofs::JsonWriting::json_rules), unfolding(crate::specs::JsonAttributes::other_items, sock_diag_listing::specs::JsonWriting::items_tokens))]
-fn write_other(writer: &mut Writer, nla: &NlaBuffer<'_>, status: Status) -> Result<(), AllocError>
+fn write_item(writer: &mut Writer, nla: &NlaBuffer<'_>, status: &Status) -> Result<(), AllocError>
     ensures before { KeepsText result writer.old writer.new }
     ensures tokens { AddsTokens result writer.old writer.new
-        (items_tokens (other_items (buffered_attribute nla.now) status)) }
-{
-    match status {
-        Ok(true) => Ok(()),
-        Ok(false) => write_unknown(writer, nla),
-        Err(error) => write_invalid(writer, nla, &error),
-    }
-}
-
-/// Writes an object with the type of an attribute and the length of its value.
-fn write_unknown(writer: &mut Writer, nla: &NlaBuffer<'_>) -> Result<(), AllocError>
-    ensures before { KeepsText result writer.old writer.new }
-    ensures tokens { AddsTokens result writer.old writer.new
-        (json_tokens (object_of (attribute_members (buffered_attribute nla.now)))) }
+        (json_tokens (other_item (buffered_attribute nla.now, status.now))) }
 {
     writer.begin_object()?;
-    write_attribute_members(writer, nla)?;
+    write_item_members(writer, nla, status)?;
     writer.end_object()
 }
 
-/// Writes an object with the type of an attribute, the length of its value, and the reason why the
-/// value is invalid.
-fn write_invalid(
+/// Writes the type of an attribute and the length of its value, and the reason why the value is
+/// invalid.
+#[tactic(auto, using(sock_diag_listing::proofs::JsonWriting::json_rules), unfolding(crate::specs::JsonAttributes::item_members))]
+fn write_item_members(
     writer: &mut Writer,
     nla: &NlaBuffer<'_>,
-    error: &DecodeError,
+    status: &Status,
 ) -> Result<(), AllocError>
     ensures before { KeepsText result writer.old writer.new }
-    ensures tokens { AddsTokens result writer.old writer.new
-        (json_tokens (object_of (attribute_members (buffered_attribute nla.now)
-        ++ text_member (codes "error") (error_reason error.now)))) }
+    ensures members { AddsMembers result writer.old writer.new
+        (item_members (buffered_attribute nla.now) status.now) }
 {
-    writer.begin_object()?;
     write_attribute_members(writer, nla)?;
-    write_text(writer, "error", reason_of(error))?;
-    writer.end_object()
+    match status {
+        Ok(_) => Ok(()),
+        Err(error) => write_text(writer, "error", reason_of(error)),
+    }
 }
 
 /// Writes the type of an attribute and the length of its value.

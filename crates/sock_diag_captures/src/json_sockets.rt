@@ -1,20 +1,12 @@
-//! Lines of JSON: an object for each UNIX, IPv4 and IPv6 socket.
+//! Headers of replies about UNIX, IPv4 and IPv6 sockets in lines of JSON.
 
-ghost use Rattle.std.specs.Prelude.{◌≡◌, ◌++◌, OnOk};
-ghost use Rattle.json.specs.Lex.{tokens};
-ghost use Rattle.json.specs.Tree.{json_tokens};
-ghost use Rattle.sock_diag_listing.specs.JsonData.{json_text, object_of};
 ghost use Rattle.sock_diag_captures.specs.JsonSockets.{inet_back_members, inet_front_members};
-ghost use Rattle.sock_diag_captures.specs.JsonSockets.{inet_header_members, inet_json};
-ghost use Rattle.sock_diag_captures.specs.JsonSockets.{inet_members, unix_header_members};
-ghost use Rattle.sock_diag_captures.specs.JsonSockets.{unix_json, unix_members};
-ghost use Rattle.sock_diag_captures.specs.Pieces.{attributes_or_error};
-ghost use Rattle.sock_diag_listing.specs.JsonWriting.{AddsMembers, AddsTokens, KeepsText};
+ghost use Rattle.sock_diag_captures.specs.JsonSockets.{inet_header_members, unix_header_members};
+ghost use Rattle.sock_diag_listing.specs.JsonWriting.{AddsMembers, KeepsText};
 
-use crate::attributes::Sockets;
-use crate::json_attributes::write_attributes;
+use crate::json_attributes::JsonHeader;
 use crate::kinds::{name_of_inet_kind, name_of_unix_kind};
-use crate::line::is_tcp;
+use crate::line::InetSocket;
 use json::Writer;
 use sock_diag_listing::cells::name_of_state;
 use sock_diag_listing::json_writing::{write_address, write_cookie, write_numbers, write_text};
@@ -23,47 +15,21 @@ use sock_diag_records::constants::AF_UNIX;
 use sock_diag_records::inet::InetResponseHeader;
 use sock_diag_records::unix::UnixResponseHeader;
 use std::alloc::{AllocError, Global};
-use std::mem;
 
-/// Appends the line of a UNIX socket with this header and these attributes: a JSON object without
-/// spaces, and a line feed. If it fails, an allocation failed, and the content of the text is not
-/// specified.
-pub(crate) fn push_unix_json(
-    text: &mut Vec<u8>,
-    header: &UnixResponseHeader,
-    attributes: &[u8],
-) -> Result<(), AllocError>
-    ensures line { OnOk result (text.new.items ≡ text.old.items
-        ++ unix_json header.now (attributes_or_error 0 attributes.now)) }
-    // The text can be parsed: its tokens are those of the object.
-    ensures reads_back { OnOk result (tokens (json_text (object_of
-        (unix_members header.now (attributes_or_error 0 attributes.now))))
-        ≡ json_tokens (object_of
-        (unix_members header.now (attributes_or_error 0 attributes.now)))) }
-{
-    let alloc = *text.allocator();
-    let mut writer = Writer::new(mem::replace(text, Vec::new(alloc)));
-    write_unix_object(alloc, &mut writer, header, attributes)?;
-    *text = writer.into_inner();
-    Ok(text.push(b'\n')?)
+impl JsonHeader for UnixResponseHeader {
+    ghost json_members = { unix_header_members };
+
+    fn write_json(&self, alloc: Global, writer: &mut Writer) -> Result<(), AllocError> {
+        write_unix_header(alloc, writer, self)
+    }
 }
 
-/// Writes the object of a UNIX socket.
-#[tactic(auto, using(sock_diag_listing::proofs::JsonWriting::json_rules, sock_diag_listing::proofs::JsonWriting::object_tokens))]
-fn write_unix_object(
-    alloc: Global,
-    writer: &mut Writer,
-    header: &UnixResponseHeader,
-    attributes: &[u8],
-) -> Result<(), AllocError>
-    ensures before { KeepsText result writer.old writer.new }
-    ensures tokens { AddsTokens result writer.old writer.new (json_tokens (object_of
-        (unix_members header.now (attributes_or_error 0 attributes.now)))) }
-{
-    writer.begin_object()?;
-    write_unix_header(alloc, writer, header)?;
-    write_attributes(alloc, writer, Sockets::Unix, attributes)?;
-    writer.end_object()
+impl JsonHeader for InetSocket {
+    ghost json_members = { λ it. inet_header_members it.protocol it.timer it.header };
+
+    fn write_json(&self, alloc: Global, writer: &mut Writer) -> Result<(), AllocError> {
+        write_inet_header(alloc, writer, self.protocol, &self.timer, &self.header)
+    }
 }
 
 /// Writes the members of the header of a UNIX socket.
@@ -85,54 +51,6 @@ fn write_unix_header(
     ];
     write_numbers(writer, &rows)?;
     write_cookie(alloc, writer, &header.cookie)
-}
-
-/// Appends the line of an IPv4 or IPv6 socket with this timer, this header and these attributes: a
-/// JSON object without spaces, and a line feed. `protocol` is the protocol of the request, if it is
-/// known. If it fails, an allocation failed, and the content of the text is not specified.
-pub(crate) fn push_inet_json(
-    text: &mut Vec<u8>,
-    protocol: Option<u32>,
-    timer: &TimerFields,
-    header: &InetResponseHeader,
-    attributes: &[u8],
-) -> Result<(), AllocError>
-    ensures line { OnOk result (text.new.items ≡ text.old.items
-        ++ inet_json protocol timer.now header.now (attributes_or_error 0 attributes.now)) }
-    // The text can be parsed: its tokens are those of the object.
-    ensures reads_back { OnOk result (tokens (json_text (object_of
-        (inet_members protocol timer.now header.now (attributes_or_error 0 attributes.now))))
-        ≡ json_tokens (object_of
-        (inet_members protocol timer.now header.now (attributes_or_error 0 attributes.now)))) }
-{
-    let alloc = *text.allocator();
-    let mut writer = Writer::new(mem::replace(text, Vec::new(alloc)));
-    write_inet_object(alloc, &mut writer, protocol, timer, header, attributes)?;
-    *text = writer.into_inner();
-    Ok(text.push(b'\n')?)
-}
-
-/// Writes the object of an IPv4 or IPv6 socket.
-#[tactic(auto, using(sock_diag_listing::proofs::JsonWriting::json_rules, sock_diag_listing::proofs::JsonWriting::object_tokens))]
-fn write_inet_object(
-    alloc: Global,
-    writer: &mut Writer,
-    protocol: Option<u32>,
-    timer: &TimerFields,
-    header: &InetResponseHeader,
-    attributes: &[u8],
-) -> Result<(), AllocError>
-    ensures before { KeepsText result writer.old writer.new }
-    ensures tokens { AddsTokens result writer.old writer.new (json_tokens (object_of
-        (inet_members protocol timer.now header.now (attributes_or_error 0 attributes.now)))) }
-{
-    writer.begin_object()?;
-    write_inet_header(alloc, writer, protocol, timer, header)?;
-    let sockets = Sockets::Inet {
-        is_tcp: is_tcp(protocol),
-    };
-    write_attributes(alloc, writer, sockets, attributes)?;
-    writer.end_object()
 }
 
 /// Writes the members of the header of an IPv4 or IPv6 socket.

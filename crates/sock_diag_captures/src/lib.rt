@@ -13,6 +13,7 @@ ghost use Rattle.sock_diag_captures.specs.Run.{Fails, Finishes};
 ghost use Rattle.sock_diag_captures.specs.private.Run.{closing_text};
 
 mod attributes;
+mod collected;
 mod details;
 mod error_text;
 mod explanation;

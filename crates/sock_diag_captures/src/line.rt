@@ -1,32 +1,35 @@
 //! Lines of the replies about UNIX, IPv4 and IPv6 sockets.
 
-ghost use Rattle.std.specs.Prelude.{◌≡◌, ◌++◌, Some, drop, IfOk, OnOk, option_map};
+ghost use Rattle.std.specs.Prelude.{◌≡◌, ◌++◌, if◌then◌else◌, Some, drop, IfOk, OnOk, option_map};
 ghost use Rattle.std.specs.Prelude.{option_and_then};
 ghost use Rattle.sock_diag_listing.specs.CellsModel.{cells_model};
 ghost use Rattle.netlink_core.specs.Layout.{parse_record};
 ghost use Rattle.sock_diag_records.specs.InetResponse.{inet_response_header};
 ghost use Rattle.sock_diag_records.specs.UnixResponseHeader.{unix_response_header};
 ghost use Rattle.sock_diag_attributes.specs.NameModel.{socket_name_model};
-ghost use Rattle.sock_diag_attributes.specs.UnixAttributes.{unix_attribute_set};
 ghost use Rattle.sock_diag_records.specs.ResponseKind.{response_kind};
+ghost use Rattle.sock_diag_captures.specs.Collected.{collected, first_in, summary_of};
 ghost use Rattle.sock_diag_captures.specs.Details.{timer_in};
+ghost use Rattle.sock_diag_captures.specs.JsonAttributes.{socket_json};
 ghost use Rattle.sock_diag_captures.specs.JsonListing.{inet_output, unix_output};
+ghost use Rattle.sock_diag_captures.specs.JsonSockets.{inet_header_members, unix_header_members};
 ghost use Rattle.sock_diag_captures.specs.Listing.{error_after_reply_header, payload_error};
 ghost use Rattle.sock_diag_captures.specs.Listing.{payload_lines, lines_after_header};
-ghost use Rattle.sock_diag_captures.specs.Pieces.{attributes_or_error, first_content};
-ghost use Rattle.sock_diag_captures.specs.Pieces.{first_of_kind};
+ghost use Rattle.sock_diag_captures.specs.Pieces.{attributes_or_error, framing_error_of};
 ghost use Rattle.sock_diag_captures.specs.Selection.{lists_inet};
 ghost use Rattle.sock_diag_captures.specs.Table.{inet_kind, inet_line, inet_lines};
-ghost use Rattle.sock_diag_captures.specs.Table.{is_tcp, user_id};
+ghost use Rattle.sock_diag_captures.specs.Table.{is_tcp, unix_value, user_id};
 ghost use Rattle.sock_diag_captures.specs.Table.{unix_kind, unix_line, unix_lines};
+ghost use Rattle.sock_diag_captures.specs.declared.attributes.Sockets.TheVariants.{Inet, Unix};
 
 use crate::attributes::Sockets;
+use crate::collected::{Attributes, collect};
 use crate::details::{push_details, timer_of};
-use crate::json_sockets::{push_inet_json, push_unix_json};
+use crate::json_attributes::push_json;
 use crate::kinds::{name_of_inet_kind, name_of_unix_kind};
 use crate::name_cells::push_name_column;
 use crate::others::push_other;
-use crate::pieces::{find_framing_error, find_kind};
+use crate::pieces::find_framing_error;
 use netlink_core::DecodeError;
 use sock_diag_attributes::unix::nlas::{NameView, NlaView};
 use sock_diag_extras::constants::UNIX_DIAG_UID;
@@ -89,7 +92,7 @@ fn push_unix(
     payload: &[u8],
 ) -> Result<Option<DecodeError>, AllocError>
     ensures lines { OnOk result (text.new.items ≡ text.old.items
-        ++ lines_after_header (unix_output options)
+        ++ lines_after_header (unix_output options) Unix
         (parse_record unix_response_header tt payload.now)
         (attributes_or_error 0 (drop 16 payload.now))) }
     ensures error { IfOk result (λ error. error
@@ -99,50 +102,50 @@ fn push_unix(
     match UnixResponseHeader::from_prefix(payload) {
         Ok(header) => {
             let attributes = &payload[UNIX_RESPONSE_HEADER_LEN..];
-            push_unix_output(text, options, &header, attributes)?;
-            Ok(find_framing_error(attributes))
+            push_unix_socket(text, options, &header, attributes)
         }
         Err(error) => Ok(Some(error)),
     }
 }
 
-/// Appends what is written for a UNIX socket with this header and these attributes: its lines of
-/// the table, or its line of JSON.
-fn push_unix_output(
+/// Appends what is written for a UNIX socket with this header and the attributes in these bytes, if
+/// the options select it. Returns the error of the bytes after the last attribute.
+fn push_unix_socket(
     text: &mut Vec<u8>,
     options: Options,
     header: &UnixResponseHeader,
-    attributes: &[u8],
-) -> Result<(), AllocError>
-    ensures { OnOk result (text.new.items ≡ text.old.items
-        ++ unix_output options header.now (attributes_or_error 0 attributes.now)) }
+    bytes: &[u8],
+) -> Result<Option<DecodeError>, AllocError>
+    ensures lines { OnOk result (text.new.items ≡ text.old.items ++ unix_output options header.now
+        (summary_of Unix (attributes_or_error 0 bytes.now))) }
+    ensures error { IfOk result
+        (λ error. error ≡ framing_error_of (attributes_or_error 0 bytes.now)) }
 {
-    if !options.json {
-        return push_unix_lines(text, options, header, attributes);
-    }
     if !options.lists_unix(header.state) {
-        return Ok(());
+        return Ok(find_framing_error(bytes));
     }
-    push_unix_json(text, header, attributes)
+    let found = collect(*text.allocator(), Sockets::Unix, bytes)?;
+    push_unix_lines(text, options, header, &found)?;
+    Ok(found.end)
 }
 
-/// Appends the lines of a UNIX socket with this header and these attributes, if the options select
-/// it.
+/// Appends the lines of the table for a UNIX socket with this header and these attributes, or its
+/// line of JSON.
 fn push_unix_lines(
     text: &mut Vec<u8>,
     options: Options,
     header: &UnixResponseHeader,
-    attributes: &[u8],
+    found: &Attributes<'_>,
 ) -> Result<(), AllocError>
     ensures { OnOk result (text.new.items ≡ text.old.items
-        ++ unix_lines options header.now (attributes_or_error 0 attributes.now)) }
+        ++ (if options.json then socket_json (unix_header_members header.now) (collected found.now)
+        else unix_lines options header.now (collected found.now))) }
 {
-    if !options.lists_unix(header.state) {
-        return Ok(());
+    if options.json {
+        return push_json(text, header, found);
     }
-    push_unix_line(text, options, header, attributes)?;
-    let cookie = &header.cookie;
-    push_details(text, options, Sockets::Unix, &NO_TIMER, cookie, attributes)?;
+    push_unix_line(text, options, header, found)?;
+    push_details(text, options, &NO_TIMER, &header.cookie, found)?;
     Ok(text.push(b'\n')?)
 }
 
@@ -151,15 +154,15 @@ fn push_unix_line(
     text: &mut Vec<u8>,
     options: Options,
     header: &UnixResponseHeader,
-    attributes: &[u8],
+    found: &Attributes<'_>,
 ) -> Result<(), AllocError>
     ensures { OnOk result (text.new.items ≡ text.old.items
-        ++ unix_line options header.now (attributes_or_error 0 attributes.now)) }
+        ++ unix_line options header.now (collected found.now)) }
 {
-    let cells = unix_cells(header, queues_in(attributes), user_in(attributes));
+    let cells = unix_cells(header, queues_in(found), user_in(found));
     push_first_columns(text, &cells)?;
-    push_name_column(text, LOCAL, options.utf8, name_in(attributes))?;
-    push_peer(text, peer_in(attributes))
+    push_name_column(text, LOCAL, options.utf8, name_in(found))?;
+    push_peer(text, peer_in(found))
 }
 
 /// Returns the first columns of a UNIX socket, whose queues have these lengths. For a listening
@@ -188,58 +191,55 @@ fn unix_cells(header: &UnixResponseHeader, queues: Option<(u32, u32)>, uid: Opti
     }
 }
 
-/// Returns the name of a UNIX socket, if the first `UNIX_DIAG_NAME` attribute is valid.
-fn name_in<'a>(attributes: &'a [u8]) -> Option<NameView<'a>>
+/// Returns the name of a UNIX socket, if there is one.
+fn name_in<'a>(found: &Attributes<'a>) -> Option<NameView<'a>>
     ensures { option_map (socket_name_model (λ b. b.now)) result
-        ≡ first_content unix_attribute_set UNIX_DIAG_NAME
-        (attributes_or_error 0 attributes.entry.now) }
+        ≡ unix_value UNIX_DIAG_NAME (collected found.now) }
 {
-    match find_kind(attributes, UNIX_DIAG_NAME) {
-        Some(nla) => match NlaView::parse(&nla) {
-            Ok(NlaView::Name(name)) => Some(name),
-            _ => None,
-        },
-        None => None,
+    match NlaView::parse(&found.first_of(UNIX_DIAG_NAME)?) {
+        Ok(NlaView::Name(name)) => Some(name),
+        _ => None,
     }
 }
 
-/// Returns the inode of the peer, if the first `UNIX_DIAG_PEER` attribute is valid.
-fn peer_in(attributes: &[u8]) -> Option<u32>
+/// Returns the inode of the peer, if there is one.
+fn peer_in(found: &Attributes<'_>) -> Option<u32>
     ensures { result
-        ≡ first_content unix_attribute_set UNIX_DIAG_PEER (attributes_or_error 0 attributes.now) }
+        ≡ unix_value UNIX_DIAG_PEER (collected found.now) }
 {
-    match find_kind(attributes, UNIX_DIAG_PEER) {
-        Some(nla) => match NlaView::parse(&nla) {
-            Ok(NlaView::Peer(inode)) => Some(inode),
-            _ => None,
-        },
-        None => None,
+    match NlaView::parse(&found.first_of(UNIX_DIAG_PEER)?) {
+        Ok(NlaView::Peer(inode)) => Some(inode),
+        _ => None,
     }
 }
 
-/// Returns the lengths of the two queues, if the first `UNIX_DIAG_RQLEN` attribute is valid.
-fn queues_in(attributes: &[u8]) -> Option<(u32, u32)>
+/// Returns the lengths of the two queues, if the reply has them.
+fn queues_in(found: &Attributes<'_>) -> Option<(u32, u32)>
     ensures { result
-        ≡ first_content unix_attribute_set UNIX_DIAG_RQLEN (attributes_or_error 0 attributes.now) }
+        ≡ unix_value UNIX_DIAG_RQLEN (collected found.now) }
 {
-    match find_kind(attributes, UNIX_DIAG_RQLEN) {
-        Some(nla) => match NlaView::parse(&nla) {
-            Ok(NlaView::ReceiveQueueLength(first, second)) => Some((first, second)),
-            _ => None,
-        },
-        None => None,
+    match NlaView::parse(&found.first_of(UNIX_DIAG_RQLEN)?) {
+        Ok(NlaView::ReceiveQueueLength(first, second)) => Some((first, second)),
+        _ => None,
     }
 }
 
-/// Returns the user id of the owner, if the first `UNIX_DIAG_UID` attribute is valid.
-fn user_in(attributes: &[u8]) -> Option<u32>
-    ensures { result ≡ option_and_then user_id
-        (first_of_kind UNIX_DIAG_UID (attributes_or_error 0 attributes.now)) }
+/// Returns the user id of the owner, if the reply has it.
+fn user_in(found: &Attributes<'_>) -> Option<u32>
+    ensures { result ≡ option_and_then user_id (first_in UNIX_DIAG_UID (collected found.now)) }
 {
-    match find_kind(attributes, UNIX_DIAG_UID) {
-        Some(nla) => parse_uid(nla.value()),
-        None => None,
-    }
+    parse_uid(found.first_of(UNIX_DIAG_UID)?.value())
+}
+
+/// An IPv4 or IPv6 socket.
+#[derive(Drop)]
+pub(crate) struct InetSocket {
+    /// The protocol of the request, if it is known.
+    pub(crate) protocol: Option<u32>,
+    /// The timer fields of the header.
+    pub(crate) timer: TimerFields,
+    /// The header of the reply.
+    pub(crate) header: InetResponseHeader,
 }
 
 /// Appends the lines of an IPv4 or IPv6 socket. Returns the decode error of the reply, if it has
@@ -252,7 +252,7 @@ fn push_inet(
 ) -> Result<Option<DecodeError>, AllocError>
     ensures lines { OnOk result (text.new.items ≡ text.old.items
         ++ lines_after_header (inet_output options protocol (timer_in payload.now))
-        (parse_record inet_response_header tt payload.now)
+        (Inet (is_tcp protocol)) (parse_record inet_response_header tt payload.now)
         (attributes_or_error 0 (drop 72 payload.now))) }
     ensures error { IfOk result (λ error. error
         ≡ error_after_reply_header (parse_record inet_response_header tt payload.now)
@@ -262,59 +262,62 @@ fn push_inet(
         Ok(header) => {
             let attributes = &payload[INET_RESPONSE_HEADER_LEN..];
             let timer = timer_of(payload);
-            push_inet_output(text, options, protocol, &timer, &header, attributes)?;
-            Ok(find_framing_error(attributes))
+            let socket = InetSocket {
+                protocol,
+                timer,
+                header,
+            };
+            push_inet_socket(text, options, &socket, attributes)
         }
         Err(error) => Ok(Some(error)),
     }
 }
 
-/// Appends what is written for an IPv4 or IPv6 socket with this timer, this header and these
-/// attributes: its lines of the table, or its line of JSON.
-fn push_inet_output(
+/// Appends what is written for an IPv4 or IPv6 socket with the attributes in these bytes, if the
+/// options select it. Returns the error of the bytes after the last attribute.
+fn push_inet_socket(
     text: &mut Vec<u8>,
     options: Options,
-    protocol: Option<u32>,
-    timer: &TimerFields,
-    header: &InetResponseHeader,
-    attributes: &[u8],
-) -> Result<(), AllocError>
-    ensures { OnOk result (text.new.items ≡ text.old.items
-        ++ inet_output options protocol timer.now header.now
-        (attributes_or_error 0 attributes.now)) }
+    socket: &InetSocket,
+    bytes: &[u8],
+) -> Result<Option<DecodeError>, AllocError>
+    ensures lines { OnOk result (text.new.items ≡ text.old.items ++ inet_output options
+        socket.now.protocol socket.now.timer socket.now.header
+        (summary_of (Inet (is_tcp socket.now.protocol)) (attributes_or_error 0 bytes.now))) }
+    ensures error { IfOk result
+        (λ error. error ≡ framing_error_of (attributes_or_error 0 bytes.now)) }
 {
-    if !options.json {
-        return push_inet_lines(text, options, protocol, timer, header, attributes);
+    if !lists_inet(options, socket.protocol, &socket.header) {
+        return Ok(find_framing_error(bytes));
     }
-    if !lists_inet(options, protocol, header) {
-        return Ok(());
-    }
-    push_inet_json(text, protocol, timer, header, attributes)
+    let sockets = Sockets::Inet {
+        is_tcp: is_tcp(socket.protocol),
+    };
+    let found = collect(*text.allocator(), sockets, bytes)?;
+    push_inet_lines(text, options, socket, &found)?;
+    Ok(found.end)
 }
 
-/// Appends the lines of an IPv4 or IPv6 socket with this timer, this header and these attributes,
-/// if the options select it.
+/// Appends the lines of the table for an IPv4 or IPv6 socket with these attributes, or its line of
+/// JSON.
 fn push_inet_lines(
     text: &mut Vec<u8>,
     options: Options,
-    protocol: Option<u32>,
-    timer: &TimerFields,
-    header: &InetResponseHeader,
-    attributes: &[u8],
+    socket: &InetSocket,
+    found: &Attributes<'_>,
 ) -> Result<(), AllocError>
-    ensures { OnOk result (text.new.items ≡ text.old.items
-        ++ inet_lines options protocol timer.now header.now
-        (attributes_or_error 0 attributes.now)) }
+    ensures { OnOk result (text.new.items ≡ text.old.items ++ (if options.json
+        then socket_json (inet_header_members socket.now.protocol socket.now.timer
+        socket.now.header) (collected found.now)
+        else inet_lines options socket.now.protocol socket.now.timer socket.now.header
+        (collected found.now))) }
 {
-    if !lists_inet(options, protocol, header) {
-        return Ok(());
+    if options.json {
+        return push_json(text, socket, found);
     }
-    push_inet_line(text, protocol, header)?;
-    let cookie = &header.socket_id.cookie;
-    let sockets = Sockets::Inet {
-        is_tcp: is_tcp(protocol),
-    };
-    push_details(text, options, sockets, timer, cookie, attributes)?;
+    push_inet_line(text, socket.protocol, &socket.header)?;
+    let cookie = &socket.header.socket_id.cookie;
+    push_details(text, options, &socket.timer, cookie, found)?;
     Ok(text.push(b'\n')?)
 }
 
@@ -334,7 +337,7 @@ fn lists_inet(options: Options, protocol: Option<u32>, header: &InetResponseHead
 }
 
 /// Returns whether the protocol of the request is TCP.
-pub(crate) fn is_tcp(protocol: Option<u32>) -> bool
+fn is_tcp(protocol: Option<u32>) -> bool
     ensures { result ≡ is_tcp protocol }
 {
     matches!(protocol, Some(6))

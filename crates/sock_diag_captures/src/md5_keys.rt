@@ -17,7 +17,7 @@ use std::io::Write;
 use std::net::IpAddr;
 
 /// Length of a `struct tcp_diag_md5sig` in bytes.
-const KEY_LENGTH: usize = 100;
+pub(crate) const KEY_LENGTH: usize = 100;
 
 /// Returns whether a value has at least one key, and only whole ones.
 pub(crate) fn has_md5_keys(value: &[u8]) -> bool

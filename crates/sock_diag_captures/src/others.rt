@@ -1,9 +1,10 @@
 //! Lines of the replies about netlink, packet, vsock and XDP sockets.
 
-ghost use Rattle.std.specs.Prelude.{◌≡◌, ◌++◌, ◌≤◌, drop, IfOk, OnOk, List, option_map};
+ghost use Rattle.std.specs.Prelude.{◌≡◌, ◌++◌, ◌≤◌, drop, IfOk, OnOk, option_map};
 ghost use Rattle.sock_diag_listing.specs.CellsModel.{cells_model};
 ghost use Rattle.sock_diag_listing.specs.Cells.{column};
 ghost use Rattle.netlink_core.specs.Walk.{buffered_attribute};
+ghost use Rattle.sock_diag_captures.specs.Collected.{Summary, collected, summary_of};
 ghost use Rattle.sock_diag_captures.specs.JsonListing.{other_output};
 ghost use Rattle.sock_diag_captures.specs.Listing.{family_error, family_lines, other_reply_error};
 ghost use Rattle.sock_diag_captures.specs.Listing.{other_reply_lines};
@@ -12,17 +13,21 @@ ghost use Rattle.sock_diag_captures.specs.Others.{numbers_text, interface_number
 ghost use Rattle.sock_diag_captures.specs.Others.{other_columns, other_line};
 ghost use Rattle.sock_diag_captures.specs.Others.{other_lines, packet_socket, none_if_equal};
 ghost use Rattle.sock_diag_captures.specs.Others.{user_kind, vsock_socket};
-ghost use Rattle.sock_diag_captures.specs.Others.{u32_in_attribute, u32_of_first_attribute};
+ghost use Rattle.sock_diag_captures.specs.Others.{u32_in_attribute, u32_in_first};
 ghost use Rattle.sock_diag_captures.specs.Others.{xdp_socket};
-ghost use Rattle.sock_diag_captures.specs.Pieces.{AttributeOrError, attributes_or_error};
+ghost use Rattle.sock_diag_captures.specs.Pieces.{attributes_or_error, framing_error_of};
+ghost use Rattle.sock_diag_captures.specs.declared.attributes.Sockets.TheVariants.{Other};
 ghost use Rattle.sock_diag_captures.specs.declared.others.OtherSocket.{OtherSocket as SocketShown};
+ghost use Rattle.sslist_options.specs.declared.options.Family.{Family as SocketFamily};
+ghost use Rattle.sslist_options.specs.declared.options.Family.TheVariants.{Netlink, Packet};
+ghost use Rattle.sslist_options.specs.declared.options.Family.TheVariants.{Vsock, Xdp};
 
 use crate::attributes::{Sockets, memory_kind};
+use crate::collected::{Attributes, collect};
 use crate::details::push_details;
-use crate::json_others::{JsonHeader, push_other_json};
+use crate::json_attributes::{JsonHeader, push_json};
 use crate::kinds::name_of_other_kind;
 use crate::line::LOCAL;
-use crate::pieces::{find_framing_error, find_kind};
 use byteorder::{ByteOrder, LittleEndian};
 use netlink_core::{DecodeError, NlaBuffer, Record, read_record};
 use sock_diag_families::netlink::NetlinkResponseHeader;
@@ -60,12 +65,19 @@ pub(crate) struct OtherSocket {
 
 /// A header of a reply about a netlink, packet, vsock or XDP socket.
 pub(crate) trait Listed: Record<Param = ()> + JsonHeader + Drop {
-    // The values that a line shows, by the header and the attributes after it.
-    ghost listed: { Self → List AttributeOrError → SocketShown };
+    // The family of the socket.
+    ghost listed_family: { SocketFamily };
+
+    // The values that a line shows, by the header and what the reply has in its attributes.
+    ghost listed: { Self → Summary → SocketShown };
+
+    /// Returns the family of the socket.
+    fn family() -> Family
+        ensures { result ≡ listed_family };
 
     /// Returns the values of the socket.
-    fn socket(&self, attributes: &[u8]) -> OtherSocket
-        ensures { result ≡ listed self.now (attributes_or_error 0 attributes.now) };
+    fn socket(&self, found: &Attributes<'_>) -> OtherSocket
+        ensures { result ≡ listed self.now (collected found.now) };
 }
 
 /// Returns the family of this number, if it is a netlink, packet, vsock or XDP family.
@@ -110,40 +122,56 @@ fn push_listed<H: Listed>(
     payload: &[u8],
 ) -> Result<Option<DecodeError>, AllocError>
     ensures lines { OnOk result (text.new.items ≡ text.old.items
-        ++ other_reply_lines options H.layout H.listed H.json_family H.json_members
+        ++ other_reply_lines options H.layout H.listed H.listed_family H.json_members
         payload.now) }
     ensures error { IfOk result (λ error. error ≡ other_reply_error H.layout payload.now) }
 {
     match read_record::<H>(payload, ()) {
-        Ok(header) => {
-            let attributes = attributes_of::<H>(payload);
-            push_output(text, options, &header, attributes)?;
-            Ok(find_framing_error(attributes))
-        }
+        Ok(header) => push_socket(text, options, &header, attributes_of::<H>(payload)),
         Err(error) => Ok(Some(error)),
     }
 }
 
-/// Appends what is written for a socket with this header and these attributes: its lines of the
-/// table, or its line of JSON.
+/// Appends what is written for a socket with this header and the attributes in these bytes, if the
+/// options select it. Returns the error of the bytes after the last attribute.
+fn push_socket<H: Listed>(
+    text: &mut Vec<u8>,
+    options: Options,
+    header: &H,
+    bytes: &[u8],
+) -> Result<Option<DecodeError>, AllocError>
+    ensures lines { OnOk result (text.new.items ≡ text.old.items
+        ++ other_output options (H.listed header.now (summary_of (Other H.listed_family)
+        (attributes_or_error 0 bytes.now))) (H.json_members header.now)
+        (summary_of (Other H.listed_family) (attributes_or_error 0 bytes.now))) }
+    ensures error { IfOk result
+        (λ error. error ≡ framing_error_of (attributes_or_error 0 bytes.now)) }
+{
+    let found = collect(*text.allocator(), Sockets::Other(H::family()), bytes)?;
+    let socket = header.socket(&found);
+    push_output(text, options, header, &socket, &found)?;
+    Ok(found.end)
+}
+
+/// Appends what is written for a socket with this header and these attributes, if the options
+/// select it: its lines of the table, or its line of JSON.
 fn push_output<H: Listed>(
     text: &mut Vec<u8>,
     options: Options,
     header: &H,
-    attributes: &[u8],
+    socket: &OtherSocket,
+    found: &Attributes<'_>,
 ) -> Result<(), AllocError>
-    ensures { OnOk result (text.new.items ≡ text.old.items ++ other_output options
-        (H.listed header.now (attributes_or_error 0 attributes.now)) H.json_family
-        (H.json_members header.now) (attributes_or_error 0 attributes.now)) }
+    ensures { OnOk result (text.new.items ≡ text.old.items ++ other_output options socket.now
+        (H.json_members header.now) (collected found.now)) }
 {
-    let socket = header.socket(attributes);
-    if !options.json {
-        return push_socket(text, options, &socket, attributes);
-    }
     if !options.lists_family(socket.family, socket.state) {
         return Ok(());
     }
-    push_other_json(text, header, attributes)
+    if options.json {
+        return push_json(text, header, found);
+    }
+    push_lines(text, options, socket, found)
 }
 
 /// Returns the bytes after the header.
@@ -157,24 +185,20 @@ fn attributes_of<H: Listed>(payload: &[u8]) -> &[u8]
     &payload[least..]
 }
 
-/// Appends the lines of a socket with these attributes, if the options select it.
-fn push_socket(
+/// Appends the lines of the table for a socket with these attributes.
+fn push_lines(
     text: &mut Vec<u8>,
     options: Options,
     socket: &OtherSocket,
-    attributes: &[u8],
+    found: &Attributes<'_>,
 ) -> Result<(), AllocError>
     ensures { OnOk result (text.new.items ≡ text.old.items
-        ++ other_lines options socket.now (attributes_or_error 0 attributes.now)) }
+        ++ other_lines options socket.now (collected found.now)) }
 {
-    if !options.lists_family(socket.family, socket.state) {
-        return Ok(());
-    }
-    push_other_line(text, socket, attributes)?;
-    let sockets = Sockets::Other(socket.family);
+    push_other_line(text, socket, found)?;
     let mut cookie = [0; 8];
     LittleEndian::write_u64(&mut cookie, socket.cookie);
-    push_details(text, options, sockets, &NO_TIMER, &cookie, attributes)?;
+    push_details(text, options, &NO_TIMER, &cookie, found)?;
     Ok(text.push(b'\n')?)
 }
 
@@ -182,29 +206,29 @@ fn push_socket(
 fn push_other_line(
     text: &mut Vec<u8>,
     socket: &OtherSocket,
-    attributes: &[u8],
+    found: &Attributes<'_>,
 ) -> Result<(), AllocError>
     ensures { OnOk result (text.new.items ≡ text.old.items
-        ++ other_line socket.now (attributes_or_error 0 attributes.now)) }
+        ++ other_line socket.now (collected found.now)) }
 {
-    push_first_columns(text, &other_cells(socket, attributes))?;
+    push_first_columns(text, &other_cells(socket, found))?;
     push_local(text, socket.local)?;
     push_end(text, socket.peer)
 }
 
 /// Returns the first columns of a socket. The queues are in the attribute with its memory, and the
 /// user id is in an attribute too.
-fn other_cells(socket: &OtherSocket, attributes: &[u8]) -> Cells
-    ensures { cells_model result ≡ other_columns socket.now (attributes_or_error 0 attributes.now) }
+fn other_cells(socket: &OtherSocket, found: &Attributes<'_>) -> Cells
+    ensures { cells_model result ≡ other_columns socket.now (collected found.now) }
 {
     let memory = memory_kind(socket.family);
     Cells {
         kind: name_of_other_kind(socket.family, socket.kind).as_bytes(),
         state: socket.state,
-        receive_queue: word_at(attributes, memory, 0),
-        send_queue: word_at(attributes, memory, 8),
+        receive_queue: word_in(found, memory, 0),
+        send_queue: word_in(found, memory, 8),
         inode: socket.inode,
-        uid: word_at(attributes, user_kind(socket.family), 0),
+        uid: word_in(found, user_kind(socket.family), 0),
     }
 }
 
@@ -249,14 +273,14 @@ fn push_numbers(text: &mut Vec<u8>, end: Numbers) -> Result<(), AllocError>
     push_peer(text, second)
 }
 
-/// Returns the `u32` at an offset of the value of the first attribute of a kind. Returns `None` if
-/// there is no such attribute, or if its value is too short.
-fn word_at(attributes: &[u8], kind: Option<u16>, place: usize) -> Option<u32>
+/// Returns the `u32` at an offset of the value of the first valid attribute of a kind. Returns
+/// `None` if there is none.
+fn word_in(found: &Attributes<'_>, kind: Option<u16>, place: usize) -> Option<u32>
     requires { place ≤ 8 }
-    ensures { result ≡ u32_of_first_attribute kind place (attributes_or_error 0 attributes.now) }
+    ensures { result ≡ u32_in_first kind place (collected found.now) }
 {
     match kind {
-        Some(kind) => read_word(find_kind(attributes, kind), place),
+        Some(kind) => read_word(found.first_of(kind), place),
         None => None,
     }
 }
@@ -282,21 +306,24 @@ fn unless(none: u32, number: u32) -> Option<u32>
     if number == none { None } else { Some(number) }
 }
 
-/// Returns the interface number: the `u32` at offset 0 of the first attribute of a kind. Returns
-/// `None` if there is none, or if it is 0.
-fn interface_in(attributes: &[u8], kind: u16) -> Option<u32>
-    ensures { result ≡ interface_number kind (attributes_or_error 0 attributes.now) }
+/// Returns the interface number: the `u32` at offset 0 of the first valid attribute of a kind.
+/// Returns `None` if there is none, or if it is 0.
+fn interface_in(found: &Attributes<'_>, kind: u16) -> Option<u32>
+    ensures { result ≡ interface_number kind (collected found.now) }
 {
-    match word_at(attributes, Some(kind), 0) {
-        Some(index) => unless(0, index),
-        None => None,
-    }
+    unless(0, word_in(found, Some(kind), 0)?)
 }
 
 impl Listed for NetlinkResponseHeader {
+    ghost listed_family = { Netlink };
+
     ghost listed = { netlink_socket };
 
-    fn socket(&self, _attributes: &[u8]) -> OtherSocket {
+    fn family() -> Family {
+        Family::Netlink
+    }
+
+    fn socket(&self, _found: &Attributes<'_>) -> OtherSocket {
         let peer = if self.state == NETLINK_CONNECTED {
             Some((Some(self.destination_group), Some(self.destination_port)))
         } else {
@@ -315,10 +342,16 @@ impl Listed for NetlinkResponseHeader {
 }
 
 impl Listed for PacketResponseHeader {
+    ghost listed_family = { Packet };
+
     ghost listed = { packet_socket };
 
-    fn socket(&self, attributes: &[u8]) -> OtherSocket {
-        let interface = interface_in(attributes, PACKET_DIAG_INFO);
+    fn family() -> Family {
+        Family::Packet
+    }
+
+    fn socket(&self, found: &Attributes<'_>) -> OtherSocket {
+        let interface = interface_in(found, PACKET_DIAG_INFO);
         OtherSocket {
             family: Family::Packet,
             kind: self.kind,
@@ -332,9 +365,15 @@ impl Listed for PacketResponseHeader {
 }
 
 impl Listed for VsockResponseHeader {
+    ghost listed_family = { Vsock };
+
     ghost listed = { vsock_socket };
 
-    fn socket(&self, _attributes: &[u8]) -> OtherSocket {
+    fn family() -> Family {
+        Family::Vsock
+    }
+
+    fn socket(&self, _found: &Attributes<'_>) -> OtherSocket {
         let peer = (
             unless(ANY, self.destination_context),
             unless(ANY, self.destination_port),
@@ -355,17 +394,23 @@ impl Listed for VsockResponseHeader {
 }
 
 impl Listed for XdpResponseHeader {
+    ghost listed_family = { Xdp };
+
     ghost listed = { xdp_socket };
 
-    fn socket(&self, attributes: &[u8]) -> OtherSocket {
-        let interface = interface_in(attributes, XDP_DIAG_INFO);
+    fn family() -> Family {
+        Family::Xdp
+    }
+
+    fn socket(&self, found: &Attributes<'_>) -> OtherSocket {
+        let interface = interface_in(found, XDP_DIAG_INFO);
         OtherSocket {
             family: Family::Xdp,
             kind: self.kind,
             state: TCP_CLOSE,
             inode: self.inode,
             cookie: self.cookie,
-            local: (interface, word_at(attributes, Some(XDP_DIAG_INFO), 4)),
+            local: (interface, word_in(found, Some(XDP_DIAG_INFO), 4)),
             peer: None,
         }
     }

@@ -3,6 +3,7 @@
 //! allocation failed, and the content of the sink is not specified.
 
 ghost use Rattle.std.specs.Prelude.{◌≡◌, ◌≤◌, ◌++◌, [], OnOk, codes, flat_map, map, option_map};
+ghost use Rattle.netlink_core.specs.Errors.{map_ok};
 ghost use Rattle.sock_diag_captures.specs.Facts.{Decodes, Shows, facts_of_each, group};
 ghost use Rattle.sock_diag_captures.specs.UlpInfo.{nested_group, nested_number, nested_value};
 ghost use Rattle.sock_diag_captures.specs.UlpInfo.{presence_facts, tokens_in};
@@ -13,7 +14,7 @@ ghost use Rattle.sock_diag_captures.specs.UlpInfo.{ulp_outcome, ulp_parts, ulp_r
 use crate::facts::{FactSink, NumberRow, Shown, Status, show_numbers};
 use crate::pieces::find_kind;
 use byteorder::{ByteOrder, LittleEndian};
-use netlink_core::parse_str;
+use netlink_core::{DecodeError, parse_str};
 use sock_diag_extras::constants::{
     INET_ULP_INFO_MPTCP, INET_ULP_INFO_NAME, INET_ULP_INFO_TLS, TLS_INFO_RX_NO_PAD,
     TLS_INFO_ZC_RO_TX,
@@ -80,16 +81,16 @@ static SUBFLOW_ROWS: [UlpRow; 10] = [
     subflow!(Never, b"", "id_loc", LocalId),
 ];
 
-/// Shows the upper layer protocol in a value. A value without the name of a protocol has no facts.
+/// Shows the upper layer protocol in a value.
 pub(crate) fn show_ulp<S: FactSink>(sink: &mut S, value: &[u8]) -> Result<Status, AllocError>
     ensures { Decodes S.kept S.content S.items result sink.old sink.new (ulp_outcome value.now) }
 {
     match name_of_protocol(value) {
-        Some(name) => {
+        Ok(name) => {
             show_ulp_info(sink, name, value)?;
             Ok(Ok(true))
         }
-        None => Ok(Ok(false)),
+        Err(error) => Ok(Err(error)),
     }
 }
 
@@ -309,14 +310,14 @@ fn number_of(bytes: &[u8], field: UlpField) -> Option<u64>
     }
 }
 
-/// Returns the name of the protocol, without one terminating NUL if it has one. Returns `None` if
-/// there is none, or if it is not valid UTF-8.
-fn name_of_protocol<'a>(value: &'a [u8]) -> Option<&'a str>
-    ensures { option_map (λ name. name.now) result ≡ ulp_name value.entry.now }
+/// Returns the name of the protocol, without one terminating NUL if it has one. Fails if there is
+/// none, or if it is not valid UTF-8.
+fn name_of_protocol<'a>(value: &'a [u8]) -> Result<&'a str, DecodeError>
+    ensures { map_ok (λ name. name.now) result ≡ ulp_name value.entry.now }
 {
-    match parse_str(find_value(value, INET_ULP_INFO_NAME)?) {
-        Ok(name) => Some(name),
-        Err(_) => None,
+    match find_value(value, INET_ULP_INFO_NAME) {
+        Some(name) => parse_str(name),
+        None => Err(DecodeError::NameEmpty),
     }
 }
 

@@ -20,15 +20,13 @@ timer_of-timer-requires c =
     let long = (parsed_by_fields inet_response_header tt _ _ (sym c.in-Ok.ensures.value)).long in
     omega (arith, long, inet_response_header_has_fixed_length.0)
 
-pub returns-in_ok-push_inet_output-in-Ok-clause-lines :
-    goal.returns-in_ok-push_inet_output-in-Ok-clause-lines
-returns-in_ok-push_inet_output-in-Ok-clause-lines c =
+pub returns-in-Ok-clause-lines : goal.returns-in-Ok-clause-lines
+returns-in-Ok-clause-lines c =
     rw (← c.in-Ok.ensures.value)
     (rw (take_rest c.args.payload.now 72, c.timer_of-timer.ensures) at
-    c.in_ok-push_inet_output-in-Ok.ensures)
+    c.push_inet_socket.ensures.lines)
 
-pub returns-in_ok-push_inet_output-in-Ok-clause-error :
-    goal.returns-in_ok-push_inet_output-in-Ok-clause-error
-returns-in_ok-push_inet_output-in-Ok-clause-error c =
+pub returns-in-Ok-clause-error : goal.returns-in-Ok-clause-error
+returns-in-Ok-clause-error c =
     rw (← c.in-Ok.ensures.value)
-    (rw (take_rest c.args.payload.now 72) at c.find_framing_error.ensures)
+    (rw (take_rest c.args.payload.now 72) at c.push_inet_socket.ensures.error)

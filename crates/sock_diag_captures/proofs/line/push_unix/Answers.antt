@@ -14,13 +14,12 @@ slice_bounds-attributes-start c =
     let long = (parsed_by_fields unix_response_header tt _ _ (sym c.in-Ok.ensures)).long in
     omega (arith, long)
 
-pub returns-in_ok-push_unix_output-in-Ok-clause-lines :
-    goal.returns-in_ok-push_unix_output-in-Ok-clause-lines
-returns-in_ok-push_unix_output-in-Ok-clause-lines c =
+pub returns-in-Ok-clause-lines : goal.returns-in-Ok-clause-lines
+returns-in-Ok-clause-lines c =
     rw (← c.in-Ok.ensures)
-    (rw (take_rest c.args.payload.now 16) at c.in_ok-push_unix_output-in-Ok.ensures)
+    (rw (take_rest c.args.payload.now 16) at c.push_unix_socket.ensures.lines)
 
-pub returns-in_ok-push_unix_output-in-Ok-clause-error :
-    goal.returns-in_ok-push_unix_output-in-Ok-clause-error
-returns-in_ok-push_unix_output-in-Ok-clause-error c =
-    rw (← c.in-Ok.ensures) (rw (take_rest c.args.payload.now 16) at c.find_framing_error.ensures)
+pub returns-in-Ok-clause-error : goal.returns-in-Ok-clause-error
+returns-in-Ok-clause-error c =
+    rw (← c.in-Ok.ensures)
+    (rw (take_rest c.args.payload.now 16) at c.push_unix_socket.ensures.error)

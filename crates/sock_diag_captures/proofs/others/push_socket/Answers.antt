@@ -1,10 +1,6 @@
-use Rattle.std.proofs.Common.{[], ◌∷◌, sym, ◌∙◌}
-use Rattle.sock_diag_captures.proofs.Adding.{appended_texts_concatenate}
 use Rattle.sock_diag_captures.proofs.others.push_socket.Goals as goal
 
-pub returns : goal.returns
-returns c =
-    let asked = sym c.lists_family.ensures ∙ c.if-not-lists_family.false in
-    let told = rw c.write_u64.ensures at c.in_ok-push_details.ensures in
-    let upto = appended_texts_concatenate _ _ _ _ _ c.in_ok-push_other_line.ensures told in
-    rw asked (appended_texts_concatenate _ _ _ _ (10 ∷ []) upto c.in_ok-push.ensures.items)
+pub returns-clause-lines : goal.returns-clause-lines
+returns-clause-lines g c =
+    rw (← c.family.ensures, ← c.in_ok-found.ensures.summary, ← c.socket-socket.ensures)
+    c.in_ok-push_output.ensures

@@ -1,10 +1,10 @@
 use Rattle.std.proofs.lemmas.Result.{on_ok_weaker}
 use Rattle.sock_diag_listing.proofs.JsonWriting.{joined_value}
-use Rattle.sock_diag_captures.proofs.json_attributes.write_unknown.Goals as goal
+use Rattle.sock_diag_captures.proofs.json_attributes.write_item.Goals as goal
 
 pub returns-clause-tokens : goal.returns-clause-tokens
 returns-clause-tokens c =
     on_ok_weaker c.end_object.result
     (λ last. joined_value _ _ _ _ _ c.in_ok-begin_object.ensures.ok
-    c.in_ok-write_attribute_members.ensures.members last)
+    c.in_ok-write_item_members.ensures.members last)
     c.end_object.ensures.ok

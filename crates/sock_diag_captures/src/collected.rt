@@ -1,0 +1,143 @@
+//! The attributes of a reply, sorted in one walk: the first valid attribute of a kind counts, and
+//! each one that is invalid or unknown is listed.
+
+ghost use Rattle.std.specs.Prelude.{◌≡◌, ◌<◌, ◌++◌, ◌∷◌, ℕ, List, IfOk, None, OnOk, Ok, length};
+ghost use Rattle.std.specs.Prelude.{map, slice_index_or};
+ghost use Rattle.std.specs.Option.{option_or};
+ghost use Rattle.netlink_core.specs.Walk.{buffered_attribute};
+ghost use Rattle.sock_diag_captures.specs.Collected.{attribute_status, collected, first_in};
+ghost use Rattle.sock_diag_captures.specs.Collected.{first_valid, is_valid, other_in_piece};
+ghost use Rattle.sock_diag_captures.specs.Collected.{other_model, slot_attribute, summary_of};
+ghost use Rattle.sock_diag_captures.specs.Collected.{with_element};
+ghost use Rattle.sock_diag_captures.specs.Pieces.{AttributeOrError, attributes_or_error};
+ghost use Rattle.sock_diag_captures.specs.Pieces.{framing_error_of};
+
+use crate::attributes::{Sockets, show_attribute};
+use crate::facts::Status;
+use crate::pieces::next_piece;
+use netlink_core::{DecodeError, NlaBuffer, NlasIterator};
+use sock_diag_extras::constants::INET_DIAG_SOCKOPT;
+use std::alloc::{AllocError, Global};
+
+/// Number of kinds from 0 to the greatest one with facts.
+const KINDS: usize = INET_DIAG_SOCKOPT as usize + 1;
+
+/// The first valid attribute of each kind.
+#[derive(Drop)]
+pub(crate) struct FirstValid<'a> {
+    /// Its element for each kind, from 0 on.
+    pub(crate) slots: [Option<NlaBuffer<'a>>; KINDS],
+}
+
+/// The attributes of a reply.
+#[derive(Drop)]
+pub(crate) struct Attributes<'a> {
+    /// The kind of sockets that the reply is about.
+    pub(crate) sockets: Sockets,
+    /// The first valid attribute of each kind.
+    pub(crate) first: FirstValid<'a>,
+    /// The unknown and the invalid attributes, each with its status.
+    pub(crate) others: Vec<(NlaBuffer<'a>, Status)>,
+    /// The error of the bytes after the last attribute.
+    pub(crate) end: Option<DecodeError>,
+}
+
+impl<'a> Attributes<'a> {
+    /// Returns the first valid attribute of a kind.
+    pub(crate) fn first_of(&self, kind: u16) -> Option<NlaBuffer<'a>>
+        ensures { slot_attribute result ≡ first_in kind (collected self.now) }
+    {
+        element(&self.first.slots, kind as usize)
+    }
+}
+
+/// Returns the attributes in the bytes after the header of a reply about these sockets.
+pub(crate) fn collect<'a>(
+    alloc: Global,
+    sockets: Sockets,
+    bytes: &'a [u8],
+) -> Result<Attributes<'a>, AllocError>
+    ensures summary { IfOk result (λ found. collected found
+        ≡ summary_of sockets (attributes_or_error 0 bytes.entry.now)) }
+    ensures end { IfOk result (λ found. found.end
+        ≡ framing_error_of (attributes_or_error 0 bytes.entry.now)) }
+{
+    let mut slots = [None; KINDS];
+    let mut others = Vec::new(alloc);
+    let mut end = None;
+    let mut walk = NlasIterator::new(bytes);
+    while let Some(piece) = next_piece(&mut walk) {
+        match piece {
+            Ok(nla) => add(alloc, sockets, &mut slots, &mut others, nla)?,
+            Err(error) => end = end.or(Some(error)),
+        }
+    }
+    let first = FirstValid { slots };
+    Ok(Attributes {
+        sockets,
+        first,
+        others,
+        end,
+    })
+}
+
+/// Adds an attribute to the first valid ones, or to the others.
+fn add<'a>(
+    alloc: Global,
+    sockets: Sockets,
+    slots: &mut [Option<NlaBuffer<'a>>],
+    others: &mut Vec<(NlaBuffer<'a>, Status)>,
+    nla: NlaBuffer<'a>,
+) -> Result<(), AllocError>
+    ensures length { OnOk result (length slots.new ≡ length slots.old) }
+    ensures first { OnOk result ((later : List AttributeOrError) (k : ℕ) → k < length slots.old
+        → option_or (slot_attribute (slice_index_or slots.new k None)) (first_valid sockets later k)
+        ≡ option_or (slot_attribute (slice_index_or slots.old k None))
+        (first_valid sockets (Ok (buffered_attribute nla.entry) ∷ later) k)) }
+    ensures others { OnOk result (map other_model others.new.items ≡ map other_model
+        others.old.items ++ other_in_piece sockets (Ok (buffered_attribute nla.entry))) }
+{
+    let status = status_in(alloc, sockets, &nla)?;
+    if is_valid(&status) {
+        set_if_none(slots, nla.kind() as usize, nla);
+        Ok(())
+    } else {
+        Ok(others.push((nla, status))?)
+    }
+}
+
+/// Returns the status of an attribute.
+#[tactic(auto, unfolding(crate::specs::Collected::attribute_status))]
+fn status_in(alloc: Global, sockets: Sockets, nla: &NlaBuffer<'_>) -> Result<Status, AllocError>
+    ensures { IfOk result (λ status.
+        status ≡ attribute_status sockets (buffered_attribute nla.now)) }
+{
+    show_attribute(&mut (), alloc, false, sockets, nla)
+}
+
+/// Returns whether a status is that of a valid attribute, which has facts.
+fn is_valid(status: &Status) -> bool
+    ensures { result ≡ is_valid status.now }
+{
+    matches!(status, Ok(true))
+}
+
+/// Returns the element at an index. Returns `None` if there is none.
+fn element<T: Copy>(slots: &[Option<T>], index: usize) -> Option<T>
+    ensures { result ≡ slice_index_or slots.now index None }
+{
+    if index < slots.len() {
+        slots[index]
+    } else {
+        None
+    }
+}
+
+/// Sets the element at an index, unless it is set or there is none.
+fn set_if_none<T: Copy>(slots: &mut [Option<T>], index: usize, value: T)
+    ensures { slots.new ≡ with_element slots.old index value }
+{
+    if index < slots.len() && slots[index].is_none() {
+        slots[index] = Some(value);
+    }
+}
