@@ -1,8 +1,8 @@
 //! Requests followed by attributes of the caller, such as the bytecode of a filter.
 
-ghost use Rattle.std.specs.Prelude.{◌≡◌, ◌+◌, ◌≤◌, ◌⊎◌, ◌++◌, List, [], length, OnOk, IfErr};
+ghost use Rattle.std.specs.Prelude.{◌≡◌, ◌+◌, ◌≤◌, ◌⊎◌, ◌++◌, [], length};
 ghost use Rattle.netlink_core.specs.Bytes.{HoldsAtStart};
-ghost use Rattle.netlink_core.specs.Attribute.{Attribute, SplitsIntoAttributes, padding_length};
+ghost use Rattle.netlink_core.specs.Attribute.{SplitsIntoAttributes, padding_length};
 ghost use Rattle.netlink_core.specs.Layout.{record_bytes};
 ghost use Rattle.netlink_core.specs.Header.{header_bytes};
 ghost use Rattle.sock_diag_records.specs.InetRequest.{inet_request};
