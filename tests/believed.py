@@ -400,10 +400,10 @@ class Outline:
         target, name = names.get(head, ("", ""))
         if rest and not target and re.fullmatch("Self|[A-Z]", head):
             self.members.add(f"{head}.{rest[0]}")
+        name = name or "".join(rest[:1])
         crate, _, module = target.removeprefix("Rattle.").partition(".specs.")
         if crate not in CRATES + OTHERS:
-            found = ".".join([module, name or "".join(rest[:1])])
-            self.kit |= {f"{crate}.specs.{found}"} if module else set()
+            self.kit |= {f"{crate}.specs.{module}.{name}"} if module else set()
         elif module.startswith("declared."):
             *parts, last = module.removeprefix("declared.").removesuffix(".TheVariants").split(".")
             name = name if last == "TheConstants" else last

@@ -70,8 +70,7 @@ Usage: sslist [OPTION ..] [FILE ..]
 Lists the sockets in captures of netlink traffic: in each FILE, or in standard
 input if there is none, or if FILE is -. A capture is in pcap or pcapng format,
 as written by tcpdump -i nlmon0 -w -, or by sockdump, which records the sockets
-of this machine: sockdump | sslist. It is not installed: build it from the file
-examples/sockdump.c of the release. Arguments after -- are files.
+of this machine: sockdump | sslist. Arguments after -- are files.
 
 Select sockets (several options add up):
   -t, --tcp              TCP sockets
