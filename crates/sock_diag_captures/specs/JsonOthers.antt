@@ -1,8 +1,14 @@
 -- Members of the headers of netlink, packet, vsock and XDP sockets in lines of JSON.
 use Rattle.std.specs.Prelude.{ℕ, List, [], ◌∷◌, ◌++◌, codes}
-use Rattle.sock_diag_families.specs.declared.netlink.response.NetlinkResponseHeader.{NetlinkResponseHeader}
-use Rattle.sock_diag_families.specs.declared.packet.response.PacketResponseHeader.{PacketResponseHeader}
-use Rattle.sock_diag_families.specs.declared.vsock.response.VsockResponseHeader.{VsockResponseHeader}
+use Rattle.sock_diag_families.specs.declared.netlink.response.NetlinkResponseHeader.{
+  NetlinkResponseHeader,
+}
+use Rattle.sock_diag_families.specs.declared.packet.response.PacketResponseHeader.{
+  PacketResponseHeader,
+}
+use Rattle.sock_diag_families.specs.declared.vsock.response.VsockResponseHeader.{
+  VsockResponseHeader,
+}
 use Rattle.sock_diag_families.specs.declared.xdp.response.XdpResponseHeader.{XdpResponseHeader}
 use Rattle.sock_diag_records.specs.declared.constants.TheConstants.{AF_NETLINK, AF_PACKET}
 use Rattle.sock_diag_families.specs.declared.vsock.TheConstants.{AF_VSOCK}

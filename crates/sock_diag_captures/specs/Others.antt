@@ -10,9 +10,15 @@ use Rattle.sslist_options.specs.declared.options.Family.TheVariants.{Netlink, Pa
 use Rattle.sslist_options.specs.declared.options.Family.TheVariants.{Xdp}
 use Rattle.sslist_options.specs.declared.options.Options.{Options}
 use Rattle.netlink_core.specs.Attribute.{Attribute}
-use Rattle.sock_diag_families.specs.declared.netlink.response.NetlinkResponseHeader.{NetlinkResponseHeader}
-use Rattle.sock_diag_families.specs.declared.packet.response.PacketResponseHeader.{PacketResponseHeader}
-use Rattle.sock_diag_families.specs.declared.vsock.response.VsockResponseHeader.{VsockResponseHeader}
+use Rattle.sock_diag_families.specs.declared.netlink.response.NetlinkResponseHeader.{
+  NetlinkResponseHeader,
+}
+use Rattle.sock_diag_families.specs.declared.packet.response.PacketResponseHeader.{
+  PacketResponseHeader,
+}
+use Rattle.sock_diag_families.specs.declared.vsock.response.VsockResponseHeader.{
+  VsockResponseHeader,
+}
 use Rattle.sock_diag_families.specs.declared.xdp.response.XdpResponseHeader.{XdpResponseHeader}
 use Rattle.sock_diag_records.specs.declared.constants.TheConstants.{AF_NETLINK, AF_PACKET}
 use Rattle.sock_diag_families.specs.declared.packet.TheConstants.{PACKET_DIAG_INFO, PACKET_DIAG_UID}
