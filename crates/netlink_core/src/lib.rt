@@ -35,7 +35,7 @@ pub use crate::nla::{
     DefaultNla, Nla, WireNla, copy_list, emit_nla, emit_nlas, nla_len, nlas_len, nlas_len_within,
     nlas_writable,
 };
-pub use crate::parse::{emit_u32, parse_str, parse_string, parse_u8, parse_u32};
+pub use crate::parse::{emit_u32, parse_str, parse_string, parse_u8, parse_u32, text_bytes};
 pub use crate::record::{Fills, Record, RecordBuffer, read_record};
 pub use crate::wire::{HasCodec, Wire, prove_bytes_in_range, prove_u32_in_range, write_new};
 pub use exact_values::Exact;

@@ -73,8 +73,8 @@ pub fn parse_str(payload: &[u8]) -> Result<&str, DecodeError>
     }
 }
 
-// Returns the bytes without one terminating NUL, if there is one.
-fn text_bytes(payload: &[u8]) -> &[u8]
+/// Returns the bytes without one terminating NUL, if there is one.
+pub fn text_bytes(payload: &[u8]) -> &[u8]
     ensures { result.now ≡ without_terminating_nul payload.entry.now }
 {
     match payload.split_last() {

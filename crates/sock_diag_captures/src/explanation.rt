@@ -3,7 +3,6 @@
 //! text. If it fails, an allocation failed, and the content of the text is not specified.
 
 ghost use Rattle.std.specs.Prelude.{◌≡◌, ◌≤◌, ◌++◌, OnOk, flat_map, length, option_map};
-ghost use Rattle.netlink_core.specs.Parse.{without_terminating_nul};
 ghost use Rattle.sock_diag_captures.specs.Explanation.{answered_request, attributes_by_type};
 ghost use Rattle.sock_diag_captures.specs.Explanation.{done_attributes, error_attributes};
 ghost use Rattle.sock_diag_captures.specs.Explanation.{error_request, explained_byte};
@@ -14,7 +13,7 @@ ghost use Rattle.sock_diag_captures.specs.Explanation.{unknown_request};
 use crate::request_line::push_request_note;
 use crate::ulp_info::{find_number, find_value};
 use byteorder::{ByteOrder, LittleEndian};
-use netlink_core::{NETLINK_HEADER_LEN, NLMSG_DONE, NLMSG_ERROR};
+use netlink_core::{NETLINK_HEADER_LEN, NLMSG_DONE, NLMSG_ERROR, text_bytes};
 use sock_diag_extras::AckView;
 use sock_diag_extras::constants::{NLMSGERR_ATTR_MSG, NLMSGERR_ATTR_OFFS};
 use sock_diag_listing::cells::{push_escaped_byte, push_number};
@@ -117,17 +116,7 @@ fn push_explanation_text(text: &mut Vec<u8>, value: Option<&[u8]>) -> Result<(),
         return Ok(());
     };
     text.extend_from_slice(b": ")?;
-    push_explained(text, without_nul(value))
-}
-
-/// Returns the bytes without one terminating NUL, if there is one.
-fn without_nul(value: &[u8]) -> &[u8]
-    ensures { result.now ≡ without_terminating_nul value.entry.now }
-{
-    match value.split_last() {
-        Some((last, text)) => { if *last == 0 { text } else { value } }
-        None => value,
-    }
+    push_explained(text, text_bytes(value))
 }
 
 /// Appends the bytes of the kernel's text.

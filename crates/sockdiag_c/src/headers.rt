@@ -1,14 +1,13 @@
 //! The headers of replies, as C structs.
 
 ghost use Rattle.std.specs.Prelude.{◌≡◌};
-ghost use Rattle.sock_diag_records.specs.Timer.{timer_data, u32_milliseconds};
 ghost use Rattle.sockdiag_c.specs.Headers.{address_octets_of, inet_header_of, unix_header_of};
 
 use byteorder::{BigEndian, ByteOrder};
-use netlink_packet_sock_diag::inet::{InetResponseHeader, Timer};
+use netlink_packet_sock_diag::inet::InetResponseHeader;
 use netlink_packet_sock_diag::unix::UnixResponseHeader;
+use sock_diag_records::inet::timer_fields;
 use std::net::IpAddr;
-use std::time::Duration;
 
 /// Header of a reply about a UNIX socket: `struct unix_diag_msg` of sock_diag(7).
 #[repr(C)]
@@ -128,28 +127,6 @@ impl From<InetResponseHeader> for InetHeader {
             inode: header.inode,
         }
     }
-}
-
-// Returns `idiag_timer`, `idiag_retrans` and `idiag_expires` of a timer; 0 for each that it lacks.
-fn timer_fields(timer: &Option<Timer>) -> (u8, u8, u32)
-    ensures byte { result.0 ≡ (timer_data timer.now).0 }
-    ensures retransmits { result.1 ≡ (timer_data timer.now).1 }
-    ensures expires { result.2 ≡ u32_milliseconds (timer_data timer.now).2 }
-{
-    match timer {
-        Some(Timer::Retransmit(expires, count)) => (1, *count, whole_milliseconds(*expires)),
-        Some(Timer::KeepAlive(expires)) => (2, 0, whole_milliseconds(*expires)),
-        Some(Timer::TimeWait) => (3, 0, 0),
-        Some(Timer::Probe(expires)) => (4, 0, whole_milliseconds(*expires)),
-        None => (0, 0, 0),
-    }
-}
-
-// Returns the whole milliseconds of a duration, modulo 2^32.
-fn whole_milliseconds(time: Duration) -> u32
-    ensures { result ≡ u32_milliseconds time }
-{
-    (time.as_millis() % 0x1_0000_0000) as u32
 }
 
 // Returns the 16 bytes of an address field, in network byte order. An IPv4 address is followed by

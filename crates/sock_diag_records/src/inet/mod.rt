@@ -15,5 +15,7 @@ pub use request::{
     INET_DIAG_REQ_BYTECODE, INET_DIAG_REQ_NONE, INET_DIAG_REQ_PROTOCOL,
     INET_DIAG_REQ_SK_BPF_STORAGES, INET_REQUEST_LEN, InetRequest, InetRequestBuffer,
 };
-pub use response::{INET_RESPONSE_HEADER_LEN, InetResponseBuffer, InetResponseHeader, Timer};
+pub use response::{
+    INET_RESPONSE_HEADER_LEN, InetResponseBuffer, InetResponseHeader, Timer, timer_fields,
+};
 pub use socket_id::{SOCKET_ID_LEN, SocketId, SocketIdBuffer};

@@ -172,9 +172,10 @@ fn wrapped_milliseconds(time: Duration) -> u32
     (time.as_millis() % 0x1_0000_0000) as u32
 }
 
-// Returns the fields `idiag_timer`, `idiag_retrans` and `idiag_expires`, with 0 for each that the
-// timer does not have.
-fn timer_fields(timer: &Option<Timer>) -> (u8, u8, u32)
+/// Returns the fields `idiag_timer`, `idiag_retrans` and `idiag_expires` of `struct inet_diag_msg`,
+/// the last in whole milliseconds modulo 2^32, with 0 for each that the timer does not have.
+pub fn timer_fields(timer: &Option<Timer>) -> (u8, u8, u32)
+    // timer_data: the number of the timer, the number of retransmits and the time, 0 if absent.
     ensures byte { result.0 ≡ (timer_data timer.now).0 }
     ensures retransmits { result.1 ≡ (timer_data timer.now).1 }
     ensures expires { result.2 ≡ u32_milliseconds (timer_data timer.now).2 }
