@@ -318,8 +318,9 @@ def test_diagnostics(program):
         f"packet 3, message 1: note: the kernel returned ENOENT{earlier}",
         "packet 4, message 1: UnixResponseHeader: buffer of 4 bytes, at least 16 needed",
         "packet 4, message 2: message length 3 is under 16",
+        f"packet 5, message 1: the kernel's answer has no error number{earlier}",
     ]
-    packets += packet([1, 1, 10, 0], 0, 20, b"\3" + bytes(19))
+    packets += packet([1, 1, 10, 0], 0, 20, b"\3" + bytes(19)) + packet([1, 2], 0, 3)
     expected = "".join(f"sslist: {line}\n" for line in lines).encode()
     got = run(program, [], file_header + packets)
     assert got == (1, heading, expected), got
@@ -382,10 +383,13 @@ def check_explanations(program, file_header, heading, errno):
         (errno[22] + raw[:16], 256, 2, answered + other),
         (errno[22] + raw, 0, 3, answered + other),
         (errno[22] + raw + text, 512, 2, answered + raw_shown + shown),
-        (errno[13] + message([1, *bytes(23)]), 0, 2,
+        (errno[13] + message([1, *bytes(23)], 1), 0, 2,
             "the kernel returned error 13 (request: unix states:0x0)"),
-        (errno[2] + message([40, *bytes(23)]), 0, 2,
+        (errno[13] + message([1, *bytes(23)]), 0, 2, "the kernel returned error 13" + other),
+        (errno[2] + message([40, *bytes(23)], 1), 0, 2,
             "note: the kernel returned ENOENT (request: vsock)"),
+        (errno[2] + message([2, 6, *bytes(54)], 5, 21), 0, 2,
+            "note: the kernel returned ENOENT (request: destroy tcp family:inet states:0x0)"),
         (errno[22] + request + padding + text + offset, 512, 2,
             f"{answered}{other}{shown} (offset 36)"),
         (errno[22] + request[:16] + offset, 768, 2, f"{answered}{other} (offset 36)"),

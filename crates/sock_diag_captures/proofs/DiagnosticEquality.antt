@@ -15,4 +15,5 @@ diagnostic_equal diagnostic.NoEntry diagnostic.NoEntry = search rules
 diagnostic_equal diagnostic.Invalid diagnostic.Invalid = search rules
 diagnostic_equal diagnostic.Interrupted diagnostic.Interrupted = search rules
 diagnostic_equal diagnostic.Lost diagnostic.Lost = search rules
+diagnostic_equal diagnostic.NoNumber diagnostic.NoNumber = search rules
 diagnostic_equal v w = false_decides (λ p. cc)

@@ -1,8 +1,8 @@
 pub mod PieceWalk
 pub mod RequestsAfterPacket
 pub mod NameCells
-pub mod Listings
-pub mod Diagnosing
+pub mod MessageWalk
+pub mod Packets
 pub mod Progress
 pub mod Failing
 pub mod DiagnosticEquality

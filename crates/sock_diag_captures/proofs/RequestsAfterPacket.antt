@@ -4,8 +4,7 @@ use Rattle.std.proofs.Common.{drop, refl, sym, ap, ◌∙◌}
 use Rattle.std.proofs.lemmas.Bool.{eq-eqb, eqb-true, le-ltb, lt-ltb}
 use Rattle.byteorder.specs.Endian.{big_number}
 use Rattle.netlink_captures.specs.Cooked.{IsOfSockDiag}
-use Rattle.sock_diag_captures.specs.Listing.{requests_after_packet}
-use Rattle.sock_diag_captures.specs.Requests.{with_request_in_datagram}
+use Rattle.sock_diag_captures.specs.Listing.{requests_after_datagram, requests_after_packet}
 use Rattle.sock_diag_captures.specs.declared.requests.Query.{Query}
 
 -- A condition that does not hold selects the second value.
@@ -18,10 +17,10 @@ second_requests_are_selected false q xs ys wrong = refl
 -- A datagram of sock_diag(7) may add a request.
 pub request_of_datagram : (asked : List Query) (packet datagram : List ℕ) → 16 ≤ length packet
     → IsOfSockDiag packet → datagram ≡ drop 16 packet
-    → with_request_in_datagram asked datagram ≡ requests_after_packet asked packet
+    → requests_after_datagram asked datagram ≡ requests_after_packet asked packet
 unfolding requests_after_packet
 request_of_datagram asked packet datagram long (kind, protocol) same =
-    ap (with_request_in_datagram asked) same
+    ap (requests_after_datagram asked) same
     ∙ sym (rw (
       le-ltb (length packet) 16 long,
       eq-eqb (big_number 2 (drop 2 packet)) 824 kind,

@@ -3,11 +3,11 @@
 use Rattle.std.specs.Prelude.{◌≡◌, ℕ, ◌+◌, ◌==◌, if◌then◌else◌, nat_lt, List, [], ◌∷◌, ◌++◌, ◌⊎◌}
 use Rattle.std.specs.Prelude.{bit_and, codes, decimal, drop, length, Option, None, Some}
 use Rattle.std.specs.Prelude.{◌||◌, Bool, false, nat_le, not, true}
-use Rattle.byteorder.specs.Endian.{little_number}
 use Rattle.netlink_captures.specs.Capture.{CapturedPacket}
 use Rattle.sock_diag_listing.specs.Reports.{truncation_line, short_line}
 use Rattle.netlink_core.specs.Datagram.{SplitsIntoMessages}
 use Rattle.netlink_core.specs.declared.error.DecodeError.{DecodeError}
+use Rattle.netlink_core.specs.declared.message.TheConstants.{NLM_F_DUMP_INTR}
 use Rattle.netlink_core.specs.declared.error.DecodeError.TheVariants.{Memory, BufferTooSmall}
 use Rattle.netlink_core.specs.declared.error.DecodeError.TheVariants.{UnsupportedFamily}
 use Rattle.netlink_core.specs.declared.error.DecodeError.TheVariants.{MessageTooShort}
@@ -33,12 +33,13 @@ use Rattle.netlink_core.specs.declared.error.RecordName.TheVariants.{FamilyReque
 use Rattle.netlink_core.specs.declared.error.RecordName.TheVariants.{FamilyResponseHeader}
 use Rattle.netlink_core.specs.declared.error.RecordName.TheVariants.{FamilyAttribute}
 use Rattle.sock_diag_captures.specs.Explanation.{explanation}
-use Rattle.sock_diag_captures.specs.Listing.{IsRequestDatagram, IsSockDiag, message_diagnostic}
+use Rattle.sock_diag_captures.specs.Listing.{IsSockDiag, message_diagnostic}
+use Rattle.sock_diag_captures.specs.Messages.{MessageParts, message_in, request_in}
 use Rattle.sock_diag_captures.specs.declared.list.Diagnostic.{Diagnostic}
 use Rattle.sock_diag_captures.specs.declared.list.Diagnostic.TheVariants.{Refused, Answered}
 use Rattle.sock_diag_captures.specs.declared.list.Diagnostic.TheVariants.{NoEntry}
 use Rattle.sock_diag_captures.specs.declared.list.Diagnostic.TheVariants.{Invalid, Interrupted}
-use Rattle.sock_diag_captures.specs.declared.list.Diagnostic.TheVariants.{Lost}
+use Rattle.sock_diag_captures.specs.declared.list.Diagnostic.TheVariants.{Lost, NoNumber}
 
 -- ---- texts
 
@@ -107,6 +108,7 @@ diagnostic_text NoEntry = codes "note: the kernel returned ENOENT"
 diagnostic_text Invalid = codes "note: the kernel returned EINVAL"
 diagnostic_text Interrupted = codes "dump interrupted (NLM_F_DUMP_INTR)"
 diagnostic_text Lost = codes "the kernel lost data"
+diagnostic_text NoNumber = codes "the kernel's answer has no error number"
 
 -- ---- lines of messages
 
@@ -124,11 +126,10 @@ diagnostic_line front packet message None = []
 diagnostic_line front packet message
     (Some diagnostic) = message_line front packet message diagnostic
 
--- `interrupted_diagnostic m`: Interrupted if the message `m` has the flag NLM_F_DUMP_INTR (16) in
--- `nlmsg_flags` at 6, else None
-abbrev pub interrupted_diagnostic : List ℕ → Option Diagnostic
-interrupted_diagnostic m =
-    if bit_and (little_number 2 (drop 6 m)) 16 == 0 then None else Some Interrupted
+-- Interrupted if the flags of a message have NLM_F_DUMP_INTR, else None
+abbrev pub interrupted_diagnostic : ℕ → Option Diagnostic
+interrupted_diagnostic flags =
+    if bit_and flags NLM_F_DUMP_INTR == 0 then None else Some Interrupted
 
 -- `explained_line front packet message diagnostic more`: the line of a diagnostic about this
 -- message, with the text `more` at its end, or nothing if there is none (None)
@@ -141,17 +142,19 @@ explained_line front packet message (Some diagnostic) more =
 -- `lines_about_message front packet message m`: the lines about the message `m`, whose number is
 -- `message`. The first is about an interrupted dump, the second about its other diagnostic, with
 -- what the kernel explains about an error. Each is present only if there is such a diagnostic.
-abbrev pub lines_about_message : List ℕ → ℕ → ℕ → List ℕ → List ℕ
+abbrev pub lines_about_message : List ℕ → ℕ → ℕ → MessageParts → List ℕ
 lines_about_message front packet message m =
-    diagnostic_line front packet message (interrupted_diagnostic m)
-    ++ explained_line front packet message (message_diagnostic m) (explanation m)
+    diagnostic_line front packet message (interrupted_diagnostic m.header.flags)
+    ++ explained_line front packet message (message_diagnostic m.header.message_type m.payload)
+    (explanation m)
 
 -- `lines_about front packet message messages`: the lines about consecutive messages, of which the
 -- first has the number `message`
 abbrev pub lines_about : List ℕ → ℕ → ℕ → List (List ℕ) → List ℕ
 lines_about front packet message [] = []
 lines_about front packet message (m ∷ later) =
-    lines_about_message front packet message m ++ lines_about front packet (message + 1) later
+    lines_about_message front packet message (message_in m)
+    ++ lines_about front packet (message + 1) later
 
 -- the decode error of a message whose last bytes are missing
 abbrev pub is_cut : DecodeError → Bool
@@ -183,13 +186,19 @@ pub record DiagnosesMessages (front : List ℕ) (packet : ℕ) (whole : Bool)
   pub lines : after ≡ before ++ (lines_about front packet 1 messages
       ++ end_line front packet (length messages + 1) whole end)
 
--- `DiagnosesDatagram front packet whole datagram before after`: the text `after` is the text
--- `before` and the lines about the datagram. A request has none.
+-- `DiagnosesFirst request front packet whole datagram before after`: the text `after` is the text
+-- `before` and the lines about a datagram that begins with this request, or with none. A request
+-- has no lines.
+abbrev pub DiagnosesFirst : Option MessageParts → List ℕ → ℕ → Bool → List ℕ → List ℕ → List ℕ
+    → Type 0
+DiagnosesFirst None front packet whole datagram before after =
+    DiagnosesMessages front packet whole datagram before after
+DiagnosesFirst (Some request) front packet whole datagram before after = after ≡ before
+
+-- the same for any datagram
 abbrev pub DiagnosesDatagram : List ℕ → ℕ → Bool → List ℕ → List ℕ → List ℕ → Type 0
 DiagnosesDatagram front packet whole datagram before after =
-    ((IsRequestDatagram datagram → ⊥)
-    × DiagnosesMessages front packet whole datagram before after)
-    ⊎ (IsRequestDatagram datagram × (after ≡ before))
+    DiagnosesFirst (request_in datagram) front packet whole datagram before after
 
 -- the line about a packet with fewer than 16 bytes, if it was not truncated
 abbrev pub short_line_if_whole : List ℕ → ℕ → Bool → List ℕ

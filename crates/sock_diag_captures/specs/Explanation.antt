@@ -2,8 +2,7 @@
 -- extended acknowledgement (netlink(7)) that follow an NLMSG_ERROR or NLMSG_DONE. Texts are lists
 -- of ASCII codes: 32 is a space, 41 a closing parenthesis.
 use Rattle.std.specs.Prelude.{ℕ, ◌+◌, ◌==◌, ◌&&◌, ◌||◌, nat_le, if◌then◌else◌, List, [], ◌∷◌, ◌++◌}
-use Rattle.std.specs.Prelude.{Bool, codes, decimal, drop, flat_map, length, Option, None, Some}
-use Rattle.byteorder.specs.Endian.{little_number}
+use Rattle.std.specs.Prelude.{Bool, codes, decimal, flat_map, length, Option, None, Some}
 use Rattle.netlink_core.specs.Parse.{without_terminating_nul}
 use Rattle.netlink_core.specs.declared.message.TheConstants.{NLMSG_DONE, NLMSG_ERROR}
 use Rattle.sock_diag_extras.specs.Acknowledgement.{ack_attribute_bytes_from}
@@ -12,6 +11,7 @@ use Rattle.sock_diag_extras.specs.Acknowledgement.{error_attribute_bytes}
 use Rattle.sock_diag_extras.specs.declared.constants.TheConstants.{NLMSGERR_ATTR_MSG}
 use Rattle.sock_diag_extras.specs.declared.constants.TheConstants.{NLMSGERR_ATTR_OFFS}
 use Rattle.sock_diag_listing.specs.Escapes.{escaped_byte}
+use Rattle.sock_diag_captures.specs.Messages.{MessageParts, request_in}
 use Rattle.sock_diag_captures.specs.RequestLine.{request_note}
 use Rattle.sock_diag_captures.specs.UlpInfo.{nested_number, nested_value}
 
@@ -80,11 +80,10 @@ abbrev pub unknown_request : ℕ → List ℕ
 unknown_request t =
     if (t == NLMSG_ERROR) || (t == NLMSG_DONE) then codes " (request: in an earlier packet)" else []
 
--- `explanation m`: what the message `m` explains, by its type at 4, its flags at 6, and its payload
--- at 16: which request it answers, and what its attributes explain
-abbrev pub explanation : List ℕ → List ℕ
+-- what a message explains: which request it answers, and what its attributes explain
+abbrev pub explanation : MessageParts → List ℕ
 explanation m =
-    request_note (unknown_request (little_number 2 (drop 4 m)))
-    (answered_request (little_number 2 (drop 4 m)) (little_number 2 (drop 6 m)) (drop 16 m))
-    ++ explanation_in (attributes_by_type (little_number 2 (drop 4 m)) (little_number 2 (drop 6 m))
-    (drop 16 m))
+    let h = m.header in
+    request_note (unknown_request h.message_type)
+    (request_in (answered_request h.message_type h.flags m.payload))
+    ++ explanation_in (attributes_by_type h.message_type h.flags m.payload)

@@ -1,4 +1,5 @@
 pub mod Pieces
+pub mod Messages
 pub mod Requests
 pub mod Selection
 pub mod Table

@@ -2,10 +2,10 @@
 -- a message.
 use Rattle.std.specs.Prelude.{◌≡◌, ◌≢◌, ◌↔◌, Bool, true, false, IsTrue, ℕ, ℤ, pos, negsuc, ◌+◌}
 use Rattle.std.specs.Prelude.{◌==◌, ◌&&◌, if◌then◌else◌, nat_le, nat_lt, List, [], ◌++◌, ◌≤◌, ◌⊎◌}
-use Rattle.std.specs.Prelude.{bit_and, drop, length, flat_map, Option, None, Some, option_map}
-use Rattle.std.specs.Prelude.{Result, Ok, Err}
-use Rattle.std.specs.List.{AllByRecursion}
-use Rattle.byteorder.specs.Endian.{big_number, little_number}
+use Rattle.std.specs.Prelude.{bit_and, drop, length, flat_map, is_none, Option, None, Some}
+use Rattle.std.specs.Prelude.{option_map, Result, Ok, Err}
+use Rattle.byteorder.specs.Endian.{big_number}
+use Rattle.std.specs.List.{list_all}
 use Rattle.netlink_captures.specs.Capture.{CapturedPacket}
 use Rattle.netlink_captures.specs.Cooked.{IsOfSockDiag}
 use Rattle.netlink_captures.specs.declared.captures.PacketHeader.{PacketHeader}
@@ -15,12 +15,11 @@ use Rattle.sslist_options.specs.declared.options.Family.TheVariants.{Xdp}
 use Rattle.sslist_options.specs.declared.options.Options.{Options}
 use Rattle.netlink_core.specs.Datagram.{SplitsIntoMessages}
 use Rattle.netlink_core.specs.Layout.{Layout, parse_record}
-use Rattle.netlink_core.specs.Header.{HasHeader}
 use Rattle.netlink_core.specs.declared.error.DecodeError.{DecodeError}
 use Rattle.netlink_core.specs.declared.error.DecodeError.TheVariants.{UnknownFamily}
-use Rattle.netlink_core.specs.declared.header.NetlinkHeader.{NetlinkHeader}
 use Rattle.netlink_core.specs.NetlinkMessage.{leading_error_number}
-use Rattle.netlink_core.specs.declared.message.TheConstants.{NLMSG_NOOP, NLMSG_OVERRUN}
+use Rattle.netlink_core.specs.declared.message.TheConstants.{NLM_F_DUMP_INTR, NLMSG_NOOP}
+use Rattle.netlink_core.specs.declared.message.TheConstants.{NLMSG_OVERRUN}
 use Rattle.sock_diag_records.specs.InetResponse.{inet_response_header}
 use Rattle.sock_diag_records.specs.UnixResponseHeader.{unix_response_header}
 use Rattle.sock_diag_records.specs.ResponseKind.{MessageKind, inet_response, response_kind}
@@ -35,7 +34,8 @@ use Rattle.sock_diag_captures.specs.Table.{is_tcp}
 use Rattle.sock_diag_captures.specs.declared.attributes.Sockets.{Sockets}
 use Rattle.sock_diag_captures.specs.declared.attributes.Sockets.TheVariants.{Inet, Other, Unix}
 use Rattle.sock_diag_captures.specs.RequestLine.{request_line_if_selected}
-use Rattle.sock_diag_captures.specs.Requests.{with_request_in_datagram, protocol_of}
+use Rattle.sock_diag_captures.specs.Messages.{MessageParts, message_in, request_in}
+use Rattle.sock_diag_captures.specs.Requests.{protocol_of, with_optional_request}
 use Rattle.sock_diag_captures.specs.declared.others.OtherSocket.{OtherSocket}
 use Rattle.sock_diag_captures.specs.declared.requests.Query.{Query}
 use Rattle.sock_diag_captures.specs.Details.{timer_in}
@@ -47,7 +47,7 @@ use Rattle.sock_diag_captures.specs.JsonOthers.{netlink_header_members, packet_h
 use Rattle.sock_diag_captures.specs.JsonOthers.{vsock_header_members, xdp_header_members}
 use Rattle.sock_diag_captures.specs.declared.list.Diagnostic.{Diagnostic}
 use Rattle.sock_diag_captures.specs.declared.list.Diagnostic.TheVariants.{Refused, Answered, Lost}
-use Rattle.sock_diag_captures.specs.declared.list.Diagnostic.TheVariants.{Invalid, NoEntry}
+use Rattle.sock_diag_captures.specs.declared.list.Diagnostic.TheVariants.{Invalid, NoEntry, NoNumber}
 
 -- ---- replies
 
@@ -134,10 +134,6 @@ payload_error _ b = None
 
 -- ---- messages
 
--- `type_of message`: the type of a message: `nlmsg_type`, the little-endian u16 at 4
-abbrev pub type_of : List ℕ → ℕ
-type_of message = little_number 2 (drop 4 message)
-
 -- `is_control t`: the type `t` is the one of a control message: NLMSG_NOOP (1), NLMSG_ERROR (2),
 -- NLMSG_DONE (3) or NLMSG_OVERRUN (4), which are consecutive
 abbrev pub is_control : ℕ → Bool
@@ -149,72 +145,54 @@ abbrev pub lines_by_type : Options → Option ℕ → ℕ → List ℕ → List 
 lines_by_type o protocol t payload =
     if is_control t then [] else payload_lines o protocol (response_kind payload t) payload
 
--- `protocol_for asked m`: the protocol of the request that the message `m` answers, by its sequence
--- number (`nlmsg_seq` at 8) and its port number (`nlmsg_pid` at 12); None if it is not known
-abbrev pub protocol_for : List Query → List ℕ → Option ℕ
-protocol_for asked m = protocol_of asked (little_number 4 (drop 8 m)) (little_number 4 (drop 12 m))
+-- `message_lines o asked m`: the lines of the message `m`, which may answer one of the requests
+-- `asked`
+abbrev pub message_lines : Options → List Query → MessageParts → List ℕ
+message_lines o asked m =
+    lines_by_type o (protocol_of asked m.header.sequence_number m.header.port_number)
+    m.header.message_type m.payload
 
--- `message_lines o asked m`: the lines of the message `m`, whose payload is at 16
-abbrev pub message_lines : Options → List Query → List ℕ → List ℕ
-message_lines o asked m = lines_by_type o (protocol_for asked m) (type_of m) (drop 16 m)
+-- the diagnostic of an error number of errno(3): a note for ENOENT (2) and EINVAL (22), or else an
+-- error
+abbrev pub errno_diagnostic : ℕ → Diagnostic
+errno_diagnostic errno =
+    if errno == 2 then NoEntry else if errno == 22 then Invalid else Answered errno
 
--- `negated_if_negative n`: the absolute value of a negative number; 0 for any other number, and for
--- None. `negsuc n` is the number -(n + 1).
-abbrev pub negated_if_negative : Option ℤ → ℕ
-negated_if_negative None = 0
-negated_if_negative (Some (pos n)) = 0
-negated_if_negative (Some (negsuc n)) = n + 1
-
--- `errno_in payload`: the error number of errno(3) in the payload of an NLMSG_ERROR or NLMSG_DONE,
--- whose first four bytes contain it negated; 0 if there are fewer than four bytes, or for success
-abbrev pub errno_in : List ℕ → ℕ
-errno_in payload = negated_if_negative (leading_error_number payload)
-
--- The diagnostic of an error number: none for 0, a note for ENOENT (2) and EINVAL (22), or else an
--- error.
-abbrev pub errno_diagnostic : ℕ → Option Diagnostic
-errno_diagnostic n =
-    if n == 0 then None else if n == 2 then Some NoEntry else if n == 22 then Some Invalid
-    else Some (Answered n)
+-- the diagnostic of an NLMSG_ERROR or NLMSG_DONE with this number: a negated number of errno(3), or
+-- else no error; None is too short for a number. `negsuc n` is the number -(n + 1).
+abbrev pub answer_diagnostic : Option ℤ → Option Diagnostic
+answer_diagnostic None = Some NoNumber
+answer_diagnostic (Some (pos n)) = None
+answer_diagnostic (Some (negsuc n)) = Some (errno_diagnostic (n + 1))
 
 -- `control_diagnostic t payload`: the diagnostic of a control message: none for NLMSG_NOOP, Lost
--- for NLMSG_OVERRUN; for NLMSG_ERROR and NLMSG_DONE that of the error number in the payload
+-- for NLMSG_OVERRUN; for NLMSG_ERROR and NLMSG_DONE that of the number at the start of the payload
 abbrev pub control_diagnostic : ℕ → List ℕ → Option Diagnostic
 control_diagnostic t payload =
     if t == NLMSG_NOOP then None else if t == NLMSG_OVERRUN then Some Lost
-    else errno_diagnostic (errno_in payload)
+    else answer_diagnostic (leading_error_number payload)
 
--- `diagnostic_by_type t payload`: the diagnostic of a message with the type `t` and this payload,
+-- `message_diagnostic t payload`: the diagnostic of a message with the type `t` and this payload,
 -- except for Interrupted: that of a control message, or the decode error of any other message
 -- (Refused)
-abbrev pub diagnostic_by_type : ℕ → List ℕ → Option Diagnostic
-diagnostic_by_type t payload =
+abbrev pub message_diagnostic : ℕ → List ℕ → Option Diagnostic
+message_diagnostic t payload =
     if is_control t then control_diagnostic t payload
     else option_map Refused (payload_error (response_kind payload t) payload)
 
--- the diagnostic of a message, except for Interrupted
-abbrev pub message_diagnostic : List ℕ → Option Diagnostic
-message_diagnostic m = diagnostic_by_type (type_of m) (drop 16 m)
-
--- `is_informational_or_none diagnostic`: there is no diagnostic, or it is one of the two notes
+-- there is no diagnostic, or it is one of the two notes
 abbrev pub is_informational_or_none : Option Diagnostic → Bool
 is_informational_or_none None = true
 is_informational_or_none (Some NoEntry) = true
 is_informational_or_none (Some Invalid) = true
 is_informational_or_none (Some diagnostic) = false
 
--- `IsCleanMessage m`: the message `m` has neither the flag NLM_F_DUMP_INTR (16) in `nlmsg_flags` at
--- 6, nor a diagnostic other than a note
-abbrev pub IsCleanMessage : List ℕ → Type 0
-IsCleanMessage m = (bit_and (little_number 2 (drop 6 m)) 16 ≡ 0)
-    × IsTrue (is_informational_or_none (message_diagnostic m))
+-- the message has neither the flag NLM_F_DUMP_INTR nor a diagnostic other than a note
+abbrev pub is_clean_message : MessageParts → Bool
+is_clean_message m = (bit_and m.header.flags NLM_F_DUMP_INTR == 0)
+    && is_informational_or_none (message_diagnostic m.header.message_type m.payload)
 
 -- ---- datagrams and packets
-
--- `IsRequestDatagram datagram`: the datagram begins with a netlink header (`HasHeader`) whose flags
--- have bit 0 (NLM_F_REQUEST, 1)
-abbrev pub IsRequestDatagram : List ℕ → Type 0
-IsRequestDatagram datagram = (h : NetlinkHeader) × HasHeader datagram h × (bit_and h.flags 1 ≢ 0)
 
 -- `IsSockDiag packet`: the packet has a cooked header, its first 16 bytes, which is one of
 -- sock_diag(7): the hardware type at 2 is 824, and the protocol at 14 is 4 (`IsOfSockDiag`)
@@ -222,9 +200,9 @@ abbrev pub IsSockDiag : List ℕ → Type 0
 IsSockDiag packet = (16 ≤ length packet) × IsOfSockDiag packet
 
 -- `ListsMessages o asked datagram before after is_clean`: the text `after` is the text `before` and
--- the lines of each message of a datagram, in order. `is_clean` is true if and only if each message
--- is clean (`IsCleanMessage`) and there is no error of bytes after the last one (`end`). `asked`
--- are the requests that the messages may answer.
+-- the lines of each message of a datagram, in order. `is_clean` is true if each message is clean
+-- and nothing follows the last one, or else false. `asked` are the requests that the messages may
+-- answer.
 pub record ListsMessages (o : Options) (asked : List Query) (datagram before after : List ℕ)
     (is_clean : Bool) : Type 0 where
   -- the messages of the datagram, without the padding between them
@@ -232,19 +210,30 @@ pub record ListsMessages (o : Options) (asked : List Query) (datagram before aft
   -- the error of the bytes after the last message, if there are any
   pub end : Option DecodeError
   pub cut : SplitsIntoMessages datagram messages end
-  pub lines : after ≡ before ++ flat_map (message_lines o asked) messages
-  pub clean : IsTrue is_clean ↔ (AllByRecursion IsCleanMessage messages × (end ≡ None))
+  pub lines : after ≡ before ++ flat_map (λ m. message_lines o asked (message_in m)) messages
+  pub clean : is_clean
+      ≡ (list_all (λ m. is_clean_message (message_in m)) messages && is_none end)
 
--- `ListsDatagram o asked header datagram before after is_clean`: the text `after` is the text
--- `before` and the lines of the datagram. Either it is not a request: these are the lines of its
--- messages. Or it is a request: it has only its own line, if `--requests` is set, and is always
--- clean. `header` is the packet header, with the time of capture.
+-- `ListsFirst request o asked header datagram before after is_clean`: the text `after` is the text
+-- `before` and the lines of a datagram that begins with this request, or with none. A request has
+-- its own line, if `--requests` is set, and is clean; any other datagram has the lines of its
+-- messages. `header` is the packet header, with the time of capture.
+abbrev pub ListsFirst : Option MessageParts → Options → List Query → PacketHeader → List ℕ → List ℕ
+    → List ℕ → Bool → Type 0
+ListsFirst None o asked header datagram before after is_clean =
+    ListsMessages o asked datagram before after is_clean
+ListsFirst (Some request) o asked header datagram before after is_clean =
+    (after ≡ before ++ request_line_if_selected o header request) × (is_clean ≡ true)
+
+-- the same for any datagram
 abbrev pub ListsDatagram : Options → List Query → PacketHeader → List ℕ → List ℕ → List ℕ → Bool
     → Type 0
 ListsDatagram o asked header datagram before after is_clean =
-    ((IsRequestDatagram datagram → ⊥) × ListsMessages o asked datagram before after is_clean)
-    ⊎ (IsRequestDatagram datagram × (after ≡ before ++ request_line_if_selected o header datagram)
-    × (is_clean ≡ true))
+    ListsFirst (request_in datagram) o asked header datagram before after is_clean
+
+-- the requests after a datagram: if it begins with a request this is added
+abbrev pub requests_after_datagram : List Query → List ℕ → List Query
+requests_after_datagram asked datagram = with_optional_request (request_in datagram) asked
 
 -- `requests_after_packet asked packet`: the requests after a packet. If it has a cooked header of
 -- sock_diag(7) (the hardware type at 2 is 824 and the protocol at 14 is 4, both big-endian), the
@@ -253,7 +242,7 @@ unfoldable pub requests_after_packet : List Query → List ℕ → List Query
 requests_after_packet asked packet =
     if nat_lt (length packet) 16 then asked
     else if (big_number 2 (drop 2 packet) == 824) && (big_number 2 (drop 14 packet) == 4)
-    then with_request_in_datagram asked (drop 16 packet) else asked
+    then requests_after_datagram asked (drop 16 packet) else asked
 
 -- `ListsPacket o asked packet before after is_clean`: the text `after` is the text `before` and the
 -- lines of a packet: those of its datagram if it is one of sock_diag(7), or else none. A packet of

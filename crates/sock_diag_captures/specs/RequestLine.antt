@@ -1,47 +1,26 @@
 -- Lines of requests.
-use Rattle.std.specs.Prelude.{◌&&◌}
-use Rattle.std.specs.Prelude.{ℕ, ◌==◌, ◌||◌, not, nat_lt, if◌then◌else◌, List, [], ◌∷◌, ◌++◌}
-use Rattle.std.specs.Prelude.{length, codes, drop, slice_index, Option, None, Some}
-use Rattle.byteorder.specs.Endian.{little_number}
+use Rattle.std.specs.Prelude.{ℕ, ◌==◌, ◌&&◌, not, if◌then◌else◌, Bool, true, false, List, [], ◌∷◌}
+use Rattle.std.specs.Prelude.{◌++◌, codes, Option, None, Some}
 use Rattle.sock_diag_listing.specs.Times.{time_text}
 use Rattle.sock_diag_listing.specs.Parts.{hex_detail}
 use Rattle.netlink_captures.specs.declared.captures.PacketHeader.{PacketHeader}
 use Rattle.sslist_options.specs.declared.options.Family.{Family}
-use Rattle.sslist_options.specs.declared.options.Family.TheVariants.{Netlink, Packet, Vsock}
-use Rattle.sslist_options.specs.declared.options.Family.TheVariants.{Xdp}
+use Rattle.sslist_options.specs.declared.options.Family.TheVariants as families
 use Rattle.sslist_options.specs.declared.options.Options.{Options}
-use Rattle.sock_diag_records.specs.declared.constants.TheConstants.{AF_UNIX, SOCK_DIAG_BY_FAMILY}
-use Rattle.sock_diag_captures.specs.Requests.{inet_request_in_datagram}
+use Rattle.sock_diag_records.specs.declared.constants.TheConstants.{SOCK_DESTROY}
+use Rattle.sock_diag_captures.specs.Messages.{MessageParts}
+use Rattle.sock_diag_captures.specs.Requests.{requested}
 use Rattle.sock_diag_captures.specs.Table.{family_name, inet_kind}
-use Rattle.sock_diag_captures.specs.Others.{family_numbered}
 use Rattle.sock_diag_captures.specs.declared.requests.Query.{Query}
-
--- `requested_unix_states b`: the requested states of UNIX sockets, a bit for each, if the datagram
--- `b` begins with such a request: it has at least 40 bytes, a netlink header with `nlmsg_type` at
--- 4, and a `struct unix_diag_req` of 24 bytes, with the family at 16 and `udiag_states` at 20. None
--- for any other datagram. The other fields are not considered.
-abbrev pub requested_unix_states : List ℕ → Option ℕ
-requested_unix_states b =
-    if nat_lt (length b) 40 || not (little_number 2 (drop 4 b) == SOCK_DIAG_BY_FAMILY)
-    || not (slice_index b 16 == AF_UNIX)
-    then None else Some (little_number 4 (drop 20 b))
-
--- `requested_family b`: the netlink, packet, vsock or XDP family, if the datagram `b` begins with a
--- request for its sockets: it has at least 17 bytes, `nlmsg_type` at 4 is SOCK_DIAG_BY_FAMILY, and
--- the family (`sdiag_family`) is at 16. None for any other datagram. The other fields are not
--- considered.
-abbrev pub requested_family : List ℕ → Option Family
-requested_family b =
-    if nat_lt (length b) 17 || not (little_number 2 (drop 4 b) == SOCK_DIAG_BY_FAMILY) then None
-    else family_numbered (slice_index b 16)
+use Rattle.sock_diag_captures.specs.declared.requests.Requested.{Requested}
+use Rattle.sock_diag_captures.specs.declared.requests.Requested.TheVariants as requests
 
 -- the name of a requested family
-abbrev pub requested_family_text : Option Family → List ℕ
-requested_family_text (Some Netlink) = codes "netlink"
-requested_family_text (Some Packet) = codes "packet"
-requested_family_text (Some Vsock) = codes "vsock"
-requested_family_text (Some Xdp) = codes "xdp"
-requested_family_text None = codes "other"
+abbrev pub requested_family_text : Family → List ℕ
+requested_family_text families.Netlink = codes "netlink"
+requested_family_text families.Packet = codes "packet"
+requested_family_text families.Vsock = codes "vsock"
+requested_family_text families.Xdp = codes "xdp"
 
 -- the text about requested IPv4 or IPv6 sockets: the protocol, the family and a bit for each
 -- requested state. Example: `tcp family:inet states:0xfff`.
@@ -50,37 +29,45 @@ inet_request_text a =
     inet_kind (Some a.protocol) a.family ++ codes " family:" ++ family_name a.family
     ++ hex_detail (codes "states") a.states
 
--- `request_text asked states family`: the text about the requested sockets: IPv4 or IPv6 sockets
--- (`asked`), or else `unix` and the requested states, or else the name of the family
-abbrev pub request_text : Option Query → Option ℕ → Option Family → List ℕ
-request_text (Some a) states family = inet_request_text a
-request_text None (Some states) family = codes "unix" ++ hex_detail (codes "states") states
-request_text None None family = requested_family_text family
+-- the text about requested sockets: IPv4 or IPv6 sockets, `unix` and the requested states, the name
+-- of the family, or `other`
+abbrev pub requested_text : Requested → List ℕ
+requested_text (requests.Inet query) = inet_request_text query
+requested_text (requests.Unix states) = codes "unix" ++ hex_detail (codes "states") states
+requested_text (requests.Other family) = requested_family_text family
+requested_text requests.Unknown = codes "other"
 
--- ` (request: `, the text about the requested sockets, and `)`; or the text `unknown` if none of
--- the last three arguments, which are those of `request_text`, is known
-abbrev pub known_request_text : List ℕ → Option Query → Option ℕ → Option Family → List ℕ
-known_request_text unknown None None None = unknown
-known_request_text unknown asked states family =
-    codes " (request: " ++ request_text asked states family ++ codes ")"
+-- the text before the sockets of a request of this type: `destroy ` if it closes them
+abbrev pub verb : ℕ → List ℕ
+verb message_type = if message_type == SOCK_DESTROY then codes "destroy " else []
 
--- `request_note unknown datagram`: the same about the request in a datagram; the text `unknown` if
--- there is none for sockets of a known family
-abbrev pub request_note : List ℕ → List ℕ → List ℕ
-request_note unknown datagram =
-    known_request_text unknown (inet_request_in_datagram datagram) (requested_unix_states datagram)
-    (requested_family datagram)
+-- what a request asks for
+unfoldable pub request_text : MessageParts → List ℕ
+request_text request = verb request.header.message_type ++ requested_text (requested request)
 
--- `request_line h datagram`: the line of a request. It has `-- `, the time of its capture, which is
--- in the packet header `h`, a space (32), the text about the requested sockets and a line feed
--- (10).
-abbrev pub request_line : PacketHeader → List ℕ → List ℕ
-request_line h datagram =
-    codes "-- " ++ time_text h
-    ++ 32 ∷ request_text (inet_request_in_datagram datagram) (requested_unix_states datagram)
-    (requested_family datagram) ++ 10 ∷ []
+-- it is known what a request asks for
+abbrev pub is_known : Requested → Bool
+is_known requests.Unknown = false
+is_known what = true
+
+-- ` (request: `, what a request asks for, and `)`
+abbrev pub known_request_note : MessageParts → List ℕ
+known_request_note request = codes " (request: " ++ request_text request ++ codes ")"
+
+-- `request_note unknown request`: the same; the text `unknown` if it is not known what the request
+-- asks for, or if there is none
+abbrev pub request_note : List ℕ → Option MessageParts → List ℕ
+request_note unknown None = unknown
+request_note unknown (Some request) =
+    if is_known (requested request) then known_request_note request else unknown
+
+-- `request_line h request`: the line of a request: `-- `, the time of its capture, which is in the
+-- packet header `h`, a space (32), what it asks for, and a line feed (10)
+abbrev pub request_line : PacketHeader → MessageParts → List ℕ
+request_line h request =
+    codes "-- " ++ time_text h ++ 32 ∷ request_text request ++ 10 ∷ []
 
 -- the line of a request if `--requests` is set and `--json` is not, or else nothing
-abbrev pub request_line_if_selected : Options → PacketHeader → List ℕ → List ℕ
-request_line_if_selected o h datagram =
-    if o.requests && not o.json then request_line h datagram else []
+abbrev pub request_line_if_selected : Options → PacketHeader → MessageParts → List ℕ
+request_line_if_selected o h request =
+    if o.requests && not o.json then request_line h request else []

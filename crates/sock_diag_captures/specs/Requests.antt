@@ -1,14 +1,20 @@
--- Captured requests for IPv4 and IPv6 sockets: a netlink header (16 bytes) and a `struct
--- inet_diag_req_v2` (56 bytes). They contain the protocols of the sockets in the replies.
-use Rattle.std.specs.Prelude.{ℕ, ◌==◌, ◌||◌, not, nat_lt, if◌then◌else◌, List, [], ◌∷◌, take, drop}
-use Rattle.std.specs.Prelude.{length, bit_and, slice_index, ◌&&◌, Option, None, Some}
+-- What captured requests ask for. Those for IPv4 and IPv6 sockets contain the protocols of the
+-- sockets in the replies.
+use Rattle.std.specs.Prelude.{ℕ, ◌==◌, ◌||◌, ◌&&◌, not, nat_le, if◌then◌else◌, Bool, List, []}
+use Rattle.std.specs.Prelude.{◌∷◌, take, drop, length, slice_index, Option, None, Some}
 use Rattle.byteorder.specs.Endian.{little_number}
 use Rattle.netlink_core.specs.Attribute.{Attribute}
-use Rattle.sock_diag_records.specs.declared.constants.TheConstants.{AF_INET, AF_INET6}
-use Rattle.sock_diag_records.specs.declared.constants.TheConstants.{SOCK_DIAG_BY_FAMILY}
+use Rattle.sock_diag_records.specs.declared.constants.TheConstants as c
 use Rattle.sock_diag_records.specs.declared.inet.request.TheConstants.{INET_DIAG_REQ_PROTOCOL}
+use Rattle.sock_diag_records.specs.declared.inet.request.TheConstants.{INET_REQUEST_LEN}
+use Rattle.sock_diag_records.specs.declared.unix.request.TheConstants.{UNIX_REQUEST_LEN}
+use Rattle.sslist_options.specs.declared.options.Family.{Family}
+use Rattle.sock_diag_captures.specs.Messages.{MessageParts}
+use Rattle.sock_diag_captures.specs.Others.{family_numbered}
 use Rattle.sock_diag_captures.specs.Pieces.{first_of_kind, attributes_or_error}
 use Rattle.sock_diag_captures.specs.declared.requests.Query.{Query}
+use Rattle.sock_diag_captures.specs.declared.requests.Requested.{Requested}
+use Rattle.sock_diag_captures.specs.declared.requests.Requested.TheVariants as requests
 
 -- `protocol_by byte attribute`: the protocol of a request. It is the little-endian value of its
 -- attribute INET_DIAG_REQ_PROTOCOL, if there is one and its value has four bytes, or else the byte
@@ -17,50 +23,62 @@ abbrev pub protocol_by : ℕ → Option Attribute → ℕ
 protocol_by byte None = byte
 protocol_by byte (Some a) = if length a.value == 4 then little_number 4 a.value else byte
 
--- `inet_request_fields r`: the fields of a request in the message `r` of at least 72 bytes:
--- `nlmsg_seq` at 8, `nlmsg_pid` at 12, `sdiag_family` at 16, `sdiag_protocol` at 17, `idiag_states`
--- at 20, and attributes from 72 on. Numbers are little-endian.
-abbrev pub inet_request_fields : List ℕ → Query
-inet_request_fields r = record {
-  sequence_number = little_number 4 (drop 8 r);
-  port_number = little_number 4 (drop 12 r);
-  protocol = protocol_by (slice_index r 17)
-      (first_of_kind INET_DIAG_REQ_PROTOCOL (attributes_or_error 0 (drop 72 r)));
-  family = slice_index r 16;
-  states = little_number 4 (drop 20 r);
+-- the query in a request for IPv4 or IPv6 sockets. Its payload has a `struct inet_diag_req_v2`,
+-- with `sdiag_family` at 0, `sdiag_protocol` at 1 and `idiag_states` at 4, little-endian, and then
+-- attributes.
+abbrev pub query_of : MessageParts → Query
+query_of request = record {
+  sequence_number = request.header.sequence_number;
+  port_number = request.header.port_number;
+  protocol = protocol_by (slice_index request.payload 1) (first_of_kind INET_DIAG_REQ_PROTOCOL
+      (attributes_or_error 0 (drop INET_REQUEST_LEN request.payload)));
+  family = slice_index request.payload 0;
+  states = little_number 4 (drop 4 request.payload);
 }
 
--- `inet_request_in_message r`: the request in the message `r` of at least 72 bytes, if it is one
--- for IPv4 or IPv6 sockets: `nlmsg_type` at 4 is SOCK_DIAG_BY_FAMILY, `nlmsg_flags` at 6 have bit 0
--- (NLM_F_REQUEST, 1), and the family at 16 is AF_INET or AF_INET6. None for any other message.
-abbrev pub inet_request_in_message : List ℕ → Option Query
-inet_request_in_message r =
-    if not (little_number 2 (drop 4 r) == SOCK_DIAG_BY_FAMILY)
-    || (bit_and (little_number 2 (drop 6 r)) 1 == 0)
-    then None
-    else if (slice_index r 16 == AF_INET) || (slice_index r 16 == AF_INET6)
-    then Some (inet_request_fields r) else None
+-- a request of this type is about sockets: it lists or closes them
+abbrev pub is_about_sockets : ℕ → Bool
+is_about_sockets message_type =
+    (message_type == c.SOCK_DIAG_BY_FAMILY) || (message_type == c.SOCK_DESTROY)
 
--- `inet_request_in_datagram b`: the request in the first message of the datagram `b`, or None.
--- `nlmsg_len` at 0 must be at least 72, and at most the length of the datagram.
-abbrev pub inet_request_in_datagram : List ℕ → Option Query
-inet_request_in_datagram b =
-    if nat_lt (length b) 72 then None
-    else if nat_lt (little_number 4 b) 72 || nat_lt (length b) (little_number 4 b) then None
-    else inet_request_in_message (take (little_number 4 b) b)
+-- what a request for sockets of a netlink, packet, vsock or XDP family asks for; None is another
+-- family
+abbrev pub requested_other : Option Family → Requested
+requested_other (Some family) = requests.Other family
+requested_other None = requests.Unknown
 
--- `with_newest_request newest asked`: the requests after one more: `newest` first, if there is one,
--- and then at most 15 of the older ones in `asked`. So at most 16 are kept, from the newest to the
--- oldest.
-abbrev pub with_newest_request : Option Query → List Query → List Query
-with_newest_request None asked = asked
-with_newest_request (Some newest) asked = newest ∷ take 15 asked
+-- what a request about sockets of this family asks for. It has to be as long as a `struct
+-- inet_diag_req_v2` or a `struct unix_diag_req`, whose `udiag_states` are at 4, little-endian.
+abbrev pub requested_of_family : ℕ → MessageParts → Requested
+requested_of_family family request =
+    if ((family == c.AF_INET) || (family == c.AF_INET6))
+    && nat_le INET_REQUEST_LEN (length request.payload)
+    then requests.Inet (query_of request)
+    else if (family == c.AF_UNIX) && nat_le UNIX_REQUEST_LEN (length request.payload)
+    then requests.Unix (little_number 4 (drop 4 request.payload))
+    else requested_other (family_numbered family)
 
--- `with_request_in_datagram asked datagram`: the requests after a datagram: those in `asked`, and
--- the one that the datagram begins with, if there is one
-abbrev pub with_request_in_datagram : List Query → List ℕ → List Query
-with_request_in_datagram asked datagram =
-    with_newest_request (inet_request_in_datagram datagram) asked
+-- what a request asks for. The first byte of its payload is the family.
+abbrev pub requested : MessageParts → Requested
+requested request =
+    if not (is_about_sockets request.header.message_type) || (length request.payload == 0)
+    then requests.Unknown else requested_of_family (slice_index request.payload 0) request
+
+-- `with_newest what asked`: the requests after one more, which asks for `what`. If this is IPv4 or
+-- IPv6 sockets it is the first one, and at most 15 of the older ones in `asked` follow. So at most
+-- 16 are kept, from the newest to the oldest.
+abbrev pub with_newest : Requested → List Query → List Query
+with_newest (requests.Inet newest) asked = newest ∷ take 15 asked
+with_newest what asked = asked
+
+-- the requests after one more
+abbrev pub with_request : MessageParts → List Query → List Query
+with_request request asked = with_newest (requested request) asked
+
+-- the requests after a datagram that begins with this request, or with none
+abbrev pub with_optional_request : Option MessageParts → List Query → List Query
+with_optional_request None asked = asked
+with_optional_request (Some request) asked = with_request request asked
 
 -- `protocol_of asked sequence port`: the protocol of the newest request that a reply with this
 -- sequence number (`nlmsg_seq`) and this port number (`nlmsg_pid`) may answer: its sequence number

@@ -2,18 +2,19 @@
 //! acknowledgement (netlink(7)). A function of this module that appends allocates only to grow the
 //! text. If it fails, an allocation failed, and the content of the text is not specified.
 
-ghost use Rattle.std.specs.Prelude.{◌≡◌, ◌≤◌, ◌++◌, OnOk, flat_map, length, option_map};
+ghost use Rattle.std.specs.Prelude.{◌≡◌, ◌++◌, OnOk, flat_map, option_map};
 ghost use Rattle.sock_diag_captures.specs.Explanation.{answered_request, attributes_by_type};
 ghost use Rattle.sock_diag_captures.specs.Explanation.{done_attributes, error_attributes};
 ghost use Rattle.sock_diag_captures.specs.Explanation.{error_request, explained_byte};
 ghost use Rattle.sock_diag_captures.specs.Explanation.{explanation, explanation_in};
 ghost use Rattle.sock_diag_captures.specs.Explanation.{explanation_text, offset_text};
 ghost use Rattle.sock_diag_captures.specs.Explanation.{unknown_request};
+ghost use Rattle.sock_diag_captures.specs.Messages.{message_parts};
 
+use crate::messages::Message;
 use crate::request_line::push_request_note;
 use crate::ulp_info::{find_number, find_value};
-use byteorder::{ByteOrder, LittleEndian};
-use netlink_core::{NETLINK_HEADER_LEN, NLMSG_DONE, NLMSG_ERROR, text_bytes};
+use netlink_core::{NLMSG_DONE, NLMSG_ERROR, text_bytes};
 use sock_diag_extras::AckView;
 use sock_diag_extras::constants::{NLMSGERR_ATTR_MSG, NLMSGERR_ATTR_OFFS};
 use sock_diag_listing::cells::{push_escaped_byte, push_number};
@@ -21,19 +22,17 @@ use std::alloc::AllocError;
 
 /// Appends what a message explains: the request that it answers, the kernel's text, and the offset
 /// of the invalid attribute. Appends nothing if it is not an answer.
-pub(crate) fn push_explanation(text: &mut Vec<u8>, message: &[u8]) -> Result<(), AllocError>
-    requires { 16 ≤ length message.now }
-    ensures { OnOk result (text.new.items ≡ text.old.items ++ explanation message.now) }
+pub(crate) fn push_explanation(text: &mut Vec<u8>, message: &Message<'_>) -> Result<(), AllocError>
+    ensures { OnOk result (text.new.items ≡ text.old.items
+        ++ explanation (message_parts message.now)) }
 {
-    let message_type = LittleEndian::read_u16(&message[4..]);
-    let flags = LittleEndian::read_u16(&message[6..]);
-    let payload = &message[NETLINK_HEADER_LEN..];
+    let (message_type, flags) = (message.header.message_type, message.header.flags);
     push_request_note(
         text,
         unknown_request(message_type),
-        request_of(message_type, flags, payload),
+        request_of(message_type, flags, message.payload),
     )?;
-    push_explanation_in(text, attributes_of(message_type, flags, payload))
+    push_explanation_in(text, attributes_of(message_type, flags, message.payload))
 }
 
 /// Returns the text about the request that a message of this type answers, for messages that do not

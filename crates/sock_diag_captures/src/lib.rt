@@ -29,6 +29,7 @@ pub mod laws;
 mod line;
 mod list;
 mod md5_keys;
+mod messages;
 mod name_cells;
 mod others;
 mod pieces;

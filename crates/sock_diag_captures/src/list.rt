@@ -1,7 +1,6 @@
 //! Lines and diagnostics of the packets of a capture.
 
-ghost use Rattle.std.specs.Prelude.{◌≡◌, ◌↔◌, ◌≤◌, ◌<◌, ◌+◌, ◌++◌, IfOk, OnOk, IsTrue, length};
-ghost use Rattle.std.specs.Prelude.{option_map, Some};
+ghost use Rattle.std.specs.Prelude.{◌≡◌, ◌<◌, ◌+◌, ◌++◌, IfOk, OnOk, option_map, Some};
 ghost use Rattle.netlink_captures.specs.Capture.{captured_packet};
 ghost use Rattle.sock_diag_captures.specs.Diagnostics.{DiagnosesContent, DiagnosesDatagram};
 ghost use Rattle.sock_diag_captures.specs.Diagnostics.{DiagnosesMessages, DiagnosesPacket};
@@ -10,27 +9,25 @@ ghost use Rattle.sock_diag_captures.specs.Diagnostics.{diagnostic_text, explaine
 ghost use Rattle.sock_diag_captures.specs.Diagnostics.{is_cut, lines_about_message};
 ghost use Rattle.sock_diag_captures.specs.Diagnostics.{message_line, short_line_if_whole};
 ghost use Rattle.sock_diag_captures.specs.Explanation.{explanation};
-ghost use Rattle.sock_diag_captures.specs.Listing.{IsCleanMessage, IsRequestDatagram};
 ghost use Rattle.sock_diag_captures.specs.Listing.{ListsMessages, ListsDatagram, ListsPacket};
 ghost use Rattle.sock_diag_captures.specs.Listing.{ListsCapturedPacket, requests_after_packet};
-ghost use Rattle.sock_diag_captures.specs.Listing.{diagnostic_by_type, control_diagnostic};
-ghost use Rattle.sock_diag_captures.specs.Listing.{errno_in, errno_diagnostic};
-ghost use Rattle.sock_diag_captures.specs.Listing.{is_informational_or_none};
-ghost use Rattle.sock_diag_captures.specs.Listing.{lines_by_type, message_diagnostic, protocol_for};
-ghost use Rattle.sock_diag_captures.specs.Listing.{message_lines};
-ghost use Rattle.sock_diag_captures.specs.Requests.{with_request_in_datagram};
+ghost use Rattle.sock_diag_captures.specs.Listing.{answer_diagnostic, control_diagnostic};
+ghost use Rattle.sock_diag_captures.specs.Listing.{errno_diagnostic, is_clean_message};
+ghost use Rattle.sock_diag_captures.specs.Listing.{is_informational_or_none, lines_by_type};
+ghost use Rattle.sock_diag_captures.specs.Listing.{message_diagnostic, message_lines};
+ghost use Rattle.sock_diag_captures.specs.Listing.{requests_after_datagram};
+ghost use Rattle.sock_diag_captures.specs.Messages.{message_parts};
 ghost use Rattle.sock_diag_captures.specs.declared.list.Diagnostic.TheVariants.{Refused};
 
 use crate::error_text::DecodeErrorText;
 use crate::explanation::push_explanation;
 use crate::line::push_reply;
+use crate::messages::Message;
 use crate::request_line::push_shown_request;
 use crate::requests::Requests;
-use byteorder::{ByteOrder, LittleEndian};
 use netlink_captures::{Packet, PacketHeader};
 use netlink_core::{
-    DecodeError, MessageStrings, NETLINK_HEADER_LEN, NLM_F_DUMP_INTR, NLM_F_REQUEST, NLMSG_NOOP,
-    NLMSG_OVERRUN, NetlinkHeader, error_number,
+    DecodeError, FramedMessages, NLM_F_DUMP_INTR, NLMSG_NOOP, NLMSG_OVERRUN, error_number,
 };
 use sock_diag_listing::PacketOutput;
 use sock_diag_listing::output::{push_short, push_truncation};
@@ -64,6 +61,8 @@ pub enum Diagnostic {
     Interrupted,
     /// The kernel lost data (`NLMSG_OVERRUN`).
     Lost,
+    /// An `NLMSG_ERROR` or `NLMSG_DONE` is too short for an error number.
+    NoNumber,
 }
 
 impl fmt::Display for Diagnostic {
@@ -80,6 +79,7 @@ impl fmt::Display for Diagnostic {
             Diagnostic::Invalid => write!(f, "note: the kernel returned EINVAL"),
             Diagnostic::Interrupted => write!(f, "dump interrupted (NLM_F_DUMP_INTR)"),
             Diagnostic::Lost => write!(f, "the kernel lost data"),
+            Diagnostic::NoNumber => write!(f, "the kernel's answer has no error number"),
         }
     }
 }
@@ -197,26 +197,18 @@ fn list_sock_diag(
     ensures lists { IfOk result (ListsDatagram options requests.new.asked.items header.now
         datagram.now written.old.lines.items written.new.lines.items) }
     ensures asked { OnOk result (requests.new.asked.items
-        ≡ with_request_in_datagram requests.old.asked.items datagram.now) }
+        ≡ requests_after_datagram requests.old.asked.items datagram.now) }
     ensures diagnosed { OnOk result (DiagnosesDatagram written.old.front.now number is_whole
         datagram.now written.old.diagnostics.items written.new.diagnostics.items) }
     ensures front { written.new.front ≡ written.old.front }
 {
-    requests.add(datagram)?;
-    if is_request(datagram) {
-        push_shown_request(&mut written.lines, options, header, datagram)?;
-        return Ok(true);
-    }
-    list_datagram(written, requests, options, number, is_whole, datagram)
-}
-
-/// Returns whether a datagram begins with a request, which is sent by a program to the kernel.
-fn is_request(datagram: &[u8]) -> bool
-    ensures { IsTrue result ↔ IsRequestDatagram datagram.now }
-{
-    match NetlinkHeader::from_prefix(datagram) {
-        Ok(header) => header.flags & NLM_F_REQUEST != 0,
-        Err(_) => false,
+    match Message::request_in(datagram) {
+        Some(request) => {
+            requests.add(&request)?;
+            push_shown_request(&mut written.lines, options, header, &request)?;
+            Ok(true)
+        }
+        None => list_datagram(written, requests, options, number, is_whole, datagram),
     }
 }
 
@@ -239,16 +231,16 @@ fn list_datagram(
 {
     let mut is_clean = true;
     let mut count = 0u64;
-    for item in MessageStrings::new(datagram) {
+    for item in FramedMessages::new(datagram) {
         count = next_number(count, datagram.len());
         let position = Position {
             packet: number,
             message: count,
         };
         match item {
-            Ok(message) => {
-                let is_plain = list_message(written, requests, options, position, message)?;
-                is_clean = is_clean && is_plain;
+            Ok((header, bytes)) => {
+                let message = Message::new(header, bytes);
+                is_clean &= list_message(written, requests, options, position, &message)?;
             }
             Err(error) => {
                 push_end(written, position, is_whole, error)?;
@@ -305,29 +297,29 @@ fn list_message(
     requests: &Requests,
     options: Options,
     position: Position,
-    message: &[u8],
+    message: &Message<'_>,
 ) -> Result<bool, AllocError>
-    requires { 16 ≤ length message.now }
     ensures lines { OnOk result (written.new.lines.items ≡ written.old.lines.items
-        ++ message_lines options requests.now.asked.items message.now) }
-    ensures plain { IfOk result (λ is_plain. IsTrue is_plain ↔ IsCleanMessage message.now) }
+        ++ message_lines options requests.now.asked.items (message_parts message.now)) }
+    ensures clean { IfOk result (λ is_clean. is_clean
+        ≡ is_clean_message (message_parts message.now)) }
     ensures diagnosed { OnOk result (written.new.diagnostics.items ≡ written.old.diagnostics.items
-        ++ lines_about_message written.old.front.now position.packet position.message message.now) }
+        ++ lines_about_message written.old.front.now position.packet position.message
+        (message_parts message.now)) }
     ensures front { written.new.front ≡ written.old.front }
 {
-    let interrupted = interruption_diagnostic(message);
+    let interrupted = interruption_diagnostic(message.header.flags);
     push_optional_diagnostic(written, position, &interrupted)?;
     let diagnostic = push_message(&mut written.lines, requests, options, message)?;
     push_explained_diagnostic(written, position, &diagnostic, message)?;
     Ok(interrupted.is_none() && is_informational(&diagnostic))
 }
 
-/// Returns `Interrupted` if a message has the flag `NLM_F_DUMP_INTR`.
-fn interruption_diagnostic(message: &[u8]) -> Option<Diagnostic>
-    requires { 16 ≤ length message.now }
-    ensures { result ≡ interrupted_diagnostic message.now }
+/// Returns `Interrupted` if the flags of a message have `NLM_F_DUMP_INTR`.
+fn interruption_diagnostic(flags: u16) -> Option<Diagnostic>
+    ensures { result ≡ interrupted_diagnostic flags }
 {
-    if LittleEndian::read_u16(&message[6..]) & NLM_F_DUMP_INTR == 0 {
+    if flags & NLM_F_DUMP_INTR == 0 {
         None
     } else {
         Some(Diagnostic::Interrupted)
@@ -350,19 +342,21 @@ fn push_message(
     lines: &mut Vec<u8>,
     requests: &Requests,
     options: Options,
-    message: &[u8],
+    message: &Message<'_>,
 ) -> Result<Option<Diagnostic>, AllocError>
-    requires { 16 ≤ length message.now }
     ensures lines { OnOk result (lines.new.items ≡ lines.old.items
-        ++ message_lines options requests.now.asked.items message.now) }
-    ensures diagnostic { IfOk result (λ diagnostic. diagnostic ≡ message_diagnostic message.now) }
+        ++ message_lines options requests.now.asked.items (message_parts message.now)) }
+    ensures diagnostic { IfOk result (λ diagnostic. diagnostic
+        ≡ message_diagnostic message.now.header.message_type message.now.payload.now) }
 {
+    let header = &message.header;
+    let protocol = requests.find_protocol(header.sequence_number, header.port_number);
     push_payload(
         lines,
         options,
-        protocol_of(requests, message),
-        LittleEndian::read_u16(&message[4..]),
-        &message[NETLINK_HEADER_LEN..],
+        protocol,
+        header.message_type,
+        message.payload,
     )
 }
 
@@ -378,7 +372,7 @@ fn push_payload(
     ensures lines { OnOk result (lines.new.items ≡ lines.old.items
         ++ lines_by_type options protocol message_type payload.now) }
     ensures diagnostic { IfOk result (λ diagnostic. diagnostic
-        ≡ diagnostic_by_type message_type payload.now) }
+        ≡ message_diagnostic message_type payload.now) }
 {
     if (NLMSG_NOOP..=NLMSG_OVERRUN).contains(&message_type) {
         return Ok(diagnostic_of_control(message_type, payload));
@@ -395,20 +389,8 @@ fn diagnostic_of_control(message_type: u16, payload: &[u8]) -> Option<Diagnostic
     match message_type {
         NLMSG_NOOP => None,
         NLMSG_OVERRUN => Some(Diagnostic::Lost),
-        _ => diagnostic_of_errno(error_of(payload)),
+        _ => diagnostic_of_answer(error_number(payload)),
     }
-}
-
-/// Returns the protocol of the request that a message answers. Returns `None` if the request was
-/// not captured.
-fn protocol_of(requests: &Requests, message: &[u8]) -> Option<u32>
-    requires { 16 ≤ length message.now }
-    ensures { result ≡ protocol_for requests.now.asked.items message.now }
-{
-    requests.find_protocol(
-        LittleEndian::read_u32(&message[8..]),
-        LittleEndian::read_u32(&message[12..]),
-    )
 }
 
 /// Returns the diagnostic of a decode error, if there is one.
@@ -421,26 +403,26 @@ fn diagnostic_of_rejection(error: Option<DecodeError>) -> Option<Diagnostic>
     }
 }
 
-/// Returns the diagnostic of an error number of errno(3). 0 is not an error.
-fn diagnostic_of_errno(number: u32) -> Option<Diagnostic>
-    ensures { result ≡ errno_diagnostic number }
+/// Returns the diagnostic of an `NLMSG_ERROR` or `NLMSG_DONE` with this number: a negated number of
+/// errno(3), or else no error. It is `None` if the message is too short for a number.
+fn diagnostic_of_answer(number: Option<i32>) -> Option<Diagnostic>
+    ensures { result ≡ answer_diagnostic number }
 {
     match number {
-        0 => None,
-        ENOENT => Some(Diagnostic::NoEntry),
-        EINVAL => Some(Diagnostic::Invalid),
-        _ => Some(Diagnostic::Answered(number)),
+        None => Some(Diagnostic::NoNumber),
+        Some(number) if number < 0 => Some(diagnostic_of_errno(number.unsigned_abs())),
+        Some(_) => None,
     }
 }
 
-/// Returns the error number of errno(3) in the payload of an `NLMSG_ERROR` or `NLMSG_DONE`, which
-/// contains it negated. Returns 0 if the payload has no negative number.
-fn error_of(payload: &[u8]) -> u32
-    ensures { result ≡ errno_in payload.now }
+/// Returns the diagnostic of an error number of errno(3).
+fn diagnostic_of_errno(errno: u32) -> Diagnostic
+    ensures { result ≡ errno_diagnostic errno }
 {
-    match error_number(payload) {
-        Some(number) if number < 0 => number.unsigned_abs(),
-        _ => 0,
+    match errno {
+        ENOENT => Diagnostic::NoEntry,
+        EINVAL => Diagnostic::Invalid,
+        _ => Diagnostic::Answered(errno),
     }
 }
 
@@ -467,13 +449,12 @@ fn push_explained_diagnostic(
     written: &mut PacketOutput<'_>,
     position: Position,
     diagnostic: &Option<Diagnostic>,
-    message: &[u8],
+    message: &Message<'_>,
 ) -> Result<(), AllocError>
-    requires { 16 ≤ length message.now }
     ensures lines { OnOk result (written.new.lines.items ≡ written.old.lines.items) }
     ensures diagnostics { OnOk result (written.new.diagnostics.items ≡ written.old.diagnostics.items
         ++ explained_line written.old.front.now position.packet position.message diagnostic.now
-        (explanation message.now)) }
+        (explanation (message_parts message.now))) }
     ensures front { written.new.front ≡ written.old.front }
 {
     match diagnostic {
@@ -487,13 +468,12 @@ fn push_explained_line(
     written: &mut PacketOutput<'_>,
     position: Position,
     diagnostic: &Diagnostic,
-    bytes: &[u8],
+    explained: &Message<'_>,
 ) -> Result<(), AllocError>
-    requires { 16 ≤ length bytes.now }
     ensures lines { OnOk result (written.new.lines.items ≡ written.old.lines.items) }
     ensures diagnostics { OnOk result (written.new.diagnostics.items ≡ written.old.diagnostics.items
         ++ explained_line written.old.front.now position.packet position.message
-        (Some diagnostic.now) (explanation bytes.now)) }
+        (Some diagnostic.now) (explanation (message_parts explained.now))) }
     ensures front { written.new.front ≡ written.old.front }
 {
     let front = written.front;
@@ -505,7 +485,7 @@ fn push_explained_line(
         Ok(()) => {}
         Err(_) => return Err(AllocError),
     }
-    push_explanation(&mut written.diagnostics, bytes)?;
+    push_explanation(&mut written.diagnostics, explained)?;
     Ok(written.diagnostics.push(b'\n')?)
 }
 

@@ -1,127 +1,124 @@
 //! Lines of requests. They separate the dumps of a capture.
 
 ghost use Rattle.std.specs.Prelude.{◌≡◌, ◌++◌, OnOk};
-ghost use Rattle.sock_diag_captures.specs.RequestLine.{inet_request_text, requested_family};
-ghost use Rattle.sock_diag_captures.specs.RequestLine.{known_request_text, request_line};
+ghost use Rattle.sock_diag_captures.specs.Messages.{message_parts, request_in};
+ghost use Rattle.sock_diag_captures.specs.RequestLine.{inet_request_text, is_known};
+ghost use Rattle.sock_diag_captures.specs.RequestLine.{known_request_note};
+ghost use Rattle.sock_diag_captures.specs.RequestLine.{request_line, request_line_if_selected};
 ghost use Rattle.sock_diag_captures.specs.RequestLine.{request_note, request_text};
-ghost use Rattle.sock_diag_captures.specs.RequestLine.{request_line_if_selected};
-ghost use Rattle.sock_diag_captures.specs.RequestLine.{requested_family_text};
-ghost use Rattle.sock_diag_captures.specs.RequestLine.{requested_unix_states};
+ghost use Rattle.sock_diag_captures.specs.RequestLine.{requested_family_text, requested_text};
+ghost use Rattle.sock_diag_captures.specs.RequestLine.{verb};
+ghost use Rattle.sock_diag_captures.specs.Requests.{requested};
 
 use crate::kinds::{name_of_inet_family, name_of_inet_kind};
-use crate::others::family_numbered;
-use crate::requests::{Query, find_request};
-use byteorder::{ByteOrder, LittleEndian};
+use crate::messages::Message;
+use crate::requests::{Query, Requested, requested_by};
 use netlink_captures::PacketHeader;
-use netlink_core::NETLINK_HEADER_LEN;
 use sock_diag_listing::parts::push_hex_detail;
 use sock_diag_listing::times::push_time;
-use sock_diag_records::constants::{AF_UNIX, SOCK_DIAG_BY_FAMILY};
-use sock_diag_records::unix::UNIX_REQUEST_LEN;
+use sock_diag_records::constants::SOCK_DESTROY;
 use sslist_options::{Family, Options};
 use std::alloc::AllocError;
-
-/// Length in bytes of a netlink header and a request for UNIX sockets (`unix_diag_req`).
-const UNIX_REQUEST: usize = NETLINK_HEADER_LEN + UNIX_REQUEST_LEN;
-
-/// Length in bytes of a netlink header and the family after it (`sdiag_family`).
-const FAMILY_REQUEST: usize = NETLINK_HEADER_LEN + 1;
 
 /// Appends the line of a request, if `--requests` is set and `--json` is not.
 pub(crate) fn push_shown_request(
     text: &mut Vec<u8>,
     options: Options,
     header: &PacketHeader,
-    datagram: &[u8],
+    request: &Message<'_>,
 ) -> Result<(), AllocError>
     ensures { OnOk result (text.new.items ≡ text.old.items
-        ++ request_line_if_selected options header.now datagram.now) }
+        ++ request_line_if_selected options header.now (message_parts request.now)) }
 {
     if !options.requests || options.json {
         return Ok(());
     }
-    push_request(text, header, datagram)
+    push_request_line(text, header, request)
 }
 
-/// Appends the line of a request: the time of its capture, and the requested sockets.
-fn push_request(
+/// Appends the line of a request: the time of its capture, and what it asks for.
+fn push_request_line(
     text: &mut Vec<u8>,
     header: &PacketHeader,
-    datagram: &[u8],
+    request: &Message<'_>,
 ) -> Result<(), AllocError>
     ensures { OnOk result (text.new.items ≡ text.old.items
-        ++ request_line header.now datagram.now) }
+        ++ request_line header.now (message_parts request.now)) }
 {
     text.extend_from_slice(b"-- ")?;
     push_time(text, header)?;
     text.push(b' ')?;
-    push_asked(
-        text,
-        find_request(datagram),
-        find_unix_states(datagram),
-        find_family(datagram),
-    )?;
+    push_request(text, request)?;
     Ok(text.push(b'\n')?)
 }
 
-/// Appends, in parentheses, the text about the request in a datagram. Appends `unknown` if there is
-/// none for sockets of a known family.
+/// Appends, in parentheses, what the request that the bytes begin with asks for. Appends `unknown`
+/// if they begin with none, or if this is not known.
 pub(crate) fn push_request_note(
     text: &mut Vec<u8>,
     unknown: &[u8],
-    datagram: &[u8],
+    bytes: &[u8],
 ) -> Result<(), AllocError>
-    ensures { OnOk result (text.new.items ≡ text.old.items
-        ++ request_note unknown.now datagram.now) }
+    ensures { OnOk result (text.new.items ≡ text.old.items ++ request_note unknown.now
+        (request_in bytes.now)) }
 {
-    push_known_request(
-        text,
-        unknown,
-        find_request(datagram),
-        find_unix_states(datagram),
-        find_family(datagram),
-    )
+    match Message::request_in(bytes) {
+        Some(request) if is_known(&requested_by(&request)) => push_note(text, &request),
+        _ => text.extend_from_slice(unknown),
+    }
 }
 
-/// Appends, in parentheses, the text about the requested sockets. Appends `unknown` if they are not
-/// known.
-fn push_known_request(
-    text: &mut Vec<u8>,
-    unknown: &[u8],
-    inet: Option<Query>,
-    unix_states: Option<u32>,
-    family: Option<Family>,
-) -> Result<(), AllocError>
+/// Appends, in parentheses, what a request asks for.
+fn push_note(text: &mut Vec<u8>, request: &Message<'_>) -> Result<(), AllocError>
     ensures { OnOk result (text.new.items ≡ text.old.items
-        ++ known_request_text unknown.now inet unix_states family) }
+        ++ known_request_note (message_parts request.now)) }
 {
-    if inet.is_none() && unix_states.is_none() && family.is_none() {
-        return text.extend_from_slice(unknown);
-    }
     text.extend_from_slice(b" (request: ")?;
-    push_asked(text, inet, unix_states, family)?;
+    push_request(text, request)?;
     text.extend_from_slice(b")")
 }
 
-/// Appends the text about the requested sockets: of IPv4 and IPv6 sockets the protocol, the family
-/// and a bit for each requested state, of UNIX sockets the same bits, or else the name of the
-/// family.
-fn push_asked(
-    text: &mut Vec<u8>,
-    inet: Option<Query>,
-    unix_states: Option<u32>,
-    family: Option<Family>,
-) -> Result<(), AllocError>
-    ensures { OnOk result (text.new.items ≡ text.old.items
-        ++ request_text inet unix_states family) }
+/// Returns whether it is known what a request asks for.
+fn is_known(requested: &Requested) -> bool
+    ensures { result ≡ is_known requested.now }
 {
-    match (inet, unix_states) {
-        (Some(asked), _) => push_inet_request(text, asked),
-        (None, Some(states)) => {
+    !matches!(requested, Requested::Unknown)
+}
+
+/// Appends what a request asks for, after `destroy` if it closes these sockets.
+#[tactic(auto, unfolding(crate::specs::RequestLine::request_text))]
+fn push_request(text: &mut Vec<u8>, request: &Message<'_>) -> Result<(), AllocError>
+    ensures { OnOk result (text.new.items ≡ text.old.items
+        ++ request_text (message_parts request.now)) }
+{
+    text.extend_from_slice(verb(request.header.message_type))?;
+    push_requested(text, requested_by(request))
+}
+
+/// Returns the text before the sockets of a request of this type.
+fn verb(message_type: u16) -> &'static [u8]
+    ensures { result.now ≡ verb message_type }
+{
+    if message_type == SOCK_DESTROY {
+        b"destroy "
+    } else {
+        b""
+    }
+}
+
+/// Appends the text about requested sockets: of IPv4 and IPv6 sockets the protocol, the family and
+/// a bit for each state, of UNIX sockets the same bits, or else the name of the family.
+fn push_requested(text: &mut Vec<u8>, requested: Requested) -> Result<(), AllocError>
+    ensures { OnOk result (text.new.items ≡ text.old.items ++ requested_text requested) }
+{
+    match requested {
+        Requested::Inet(query) => push_inet_request(text, query),
+        Requested::Unix(states) => {
             text.extend_from_slice(b"unix")?;
             push_hex_detail(text, b"states", states.into())
         }
-        (None, None) => text.extend_from_slice(name_of_family(family)),
+        Requested::Other(family) => text.extend_from_slice(name_of_family(family)),
+        Requested::Unknown => text.extend_from_slice(b"other"),
     }
 }
 
@@ -137,40 +134,13 @@ fn push_inet_request(text: &mut Vec<u8>, asked: Query) -> Result<(), AllocError>
 }
 
 /// Returns the name of a family of requested sockets.
-fn name_of_family(family: Option<Family>) -> &'static [u8]
+fn name_of_family(family: Family) -> &'static [u8]
     ensures { result.now ≡ requested_family_text family }
 {
     match family {
-        Some(Family::Netlink) => b"netlink",
-        Some(Family::Packet) => b"packet",
-        Some(Family::Vsock) => b"vsock",
-        Some(Family::Xdp) => b"xdp",
-        None => b"other",
+        Family::Netlink => b"netlink",
+        Family::Packet => b"packet",
+        Family::Vsock => b"vsock",
+        Family::Xdp => b"xdp",
     }
-}
-
-/// Returns the requested states if a datagram begins with a request for UNIX sockets.
-fn find_unix_states(datagram: &[u8]) -> Option<u32>
-    ensures { result ≡ requested_unix_states datagram.now }
-{
-    if datagram.len() < UNIX_REQUEST
-        || LittleEndian::read_u16(&datagram[4..]) != SOCK_DIAG_BY_FAMILY
-        || datagram[16] != AF_UNIX
-    {
-        return None;
-    }
-    Some(LittleEndian::read_u32(&datagram[20..]))
-}
-
-/// Returns the family if a datagram begins with a request for netlink, packet, vsock or XDP
-/// sockets.
-fn find_family(datagram: &[u8]) -> Option<Family>
-    ensures { result ≡ requested_family datagram.now }
-{
-    if datagram.len() < FAMILY_REQUEST
-        || LittleEndian::read_u16(&datagram[4..]) != SOCK_DIAG_BY_FAMILY
-    {
-        return None;
-    }
-    family_numbered(datagram[16])
 }

@@ -3,20 +3,21 @@
 ghost use Rattle.std.specs.Prelude.{◌≡◌, ◌≤◌, [], length, OnOk, option_map};
 ghost use Rattle.std.proofs.Common.{rules};
 ghost use Rattle.netlink_core.specs.Walk.{buffered_attribute};
-ghost use Rattle.sock_diag_captures.specs.Requests.{inet_request_in_datagram, inet_request_fields};
-ghost use Rattle.sock_diag_captures.specs.Requests.{with_request_in_datagram, protocol_of};
-ghost use Rattle.sock_diag_captures.specs.Requests.{protocol_by, inet_request_in_message};
+ghost use Rattle.sock_diag_captures.specs.Messages.{message_parts};
+ghost use Rattle.sock_diag_captures.specs.Requests.{is_about_sockets, protocol_by, protocol_of};
+ghost use Rattle.sock_diag_captures.specs.Requests.{query_of, requested, requested_other};
+ghost use Rattle.sock_diag_captures.specs.Requests.{with_request};
 
+use crate::messages::Message;
+use crate::others::family_numbered;
 use crate::pieces::find_kind;
 use byteorder::{ByteOrder, LittleEndian};
-use netlink_core::{Exact, NETLINK_HEADER_LEN, NLM_F_REQUEST, NlaBuffer};
-use sock_diag_records::constants::{AF_INET, AF_INET6, SOCK_DIAG_BY_FAMILY};
+use netlink_core::{Exact, NlaBuffer};
+use sock_diag_records::constants::{AF_INET, AF_INET6, AF_UNIX, SOCK_DESTROY, SOCK_DIAG_BY_FAMILY};
 use sock_diag_records::inet::{INET_DIAG_REQ_PROTOCOL, INET_REQUEST_LEN};
+use sock_diag_records::unix::UNIX_REQUEST_LEN;
+use sslist_options::Family;
 use std::alloc::{AllocError, Global};
-
-/// Length in bytes of a netlink header and a request for IPv4 and IPv6 sockets
-/// (`inet_diag_req_v2`).
-const REQUEST: usize = NETLINK_HEADER_LEN + INET_REQUEST_LEN;
 
 /// Number of requests that are kept when a new one is added.
 const MAX_OLDER_REQUESTS: usize = 15;
@@ -57,14 +58,13 @@ impl Requests {
         }
     }
 
-    /// Adds the request for IPv4 or IPv6 sockets that a datagram begins with, if there is one. Then
-    /// at most 15 older requests are kept. If it fails, an allocation failed, and the requests are
-    /// not specified.
-    pub fn add(&mut self, datagram: &[u8]) -> Result<(), AllocError>
+    /// Adds a request if it is for IPv4 or IPv6 sockets. Then at most 15 older requests are kept.
+    /// If it fails, an allocation failed, and the requests are not specified.
+    pub(crate) fn add(&mut self, request: &Message<'_>) -> Result<(), AllocError>
         ensures { OnOk result (self.new.asked.items
-            ≡ with_request_in_datagram self.old.asked.items datagram.now) }
+            ≡ with_request (message_parts request.now) self.old.asked.items) }
     {
-        let Some(newest) = find_request(datagram) else {
+        let Requested::Inet(newest) = requested_by(request) else {
             return Ok(());
         };
         self.asked.truncate(MAX_OLDER_REQUESTS);
@@ -74,7 +74,7 @@ impl Requests {
     /// Returns the protocol of the newest request that a reply with these numbers may answer: its
     /// sequence number is equal, and its port number is equal or 0. Returns `None` if there is
     /// none.
-    pub fn find_protocol(&self, sequence_number: u32, port_number: u32) -> Option<u32>
+    pub(crate) fn find_protocol(&self, sequence_number: u32, port_number: u32) -> Option<u32>
         ensures { result ≡ protocol_of self.now.asked.items sequence_number port_number }
     {
         find_in(self.asked.as_slice(), sequence_number, port_number)
@@ -95,50 +95,69 @@ fn find_in(asked: &[Query], sequence_number: u32, port_number: u32) -> Option<u3
     None
 }
 
-/// Returns the request for IPv4 or IPv6 sockets that a datagram begins with, if there is one.
-pub(crate) fn find_request(datagram: &[u8]) -> Option<Query>
-    ensures { result ≡ inet_request_in_datagram datagram.now }
-{
-    if datagram.len() < REQUEST {
-        return None;
-    }
-    let length = LittleEndian::read_u32(datagram) as usize;
-    if length < REQUEST || datagram.len() < length {
-        return None;
-    }
-    read_request(&datagram[..length])
+/// What a request asks for.
+#[derive(Clone, Copy)]
+pub(crate) enum Requested {
+    /// IPv4 or IPv6 sockets.
+    Inet(Query),
+    /// UNIX sockets in these states, of which each has a bit.
+    Unix(u32),
+    /// Netlink, packet, vsock or XDP sockets.
+    Other(Family),
+    /// Something else.
+    Unknown,
 }
 
-/// Returns the request in a message, if it is one for IPv4 or IPv6 sockets.
-fn read_request(message: &[u8]) -> Option<Query>
-    requires { 72 ≤ length message.now }
-    ensures { result ≡ inet_request_in_message message.now }
+/// Returns what a request asks for.
+pub(crate) fn requested_by(request: &Message<'_>) -> Requested
+    ensures { result ≡ requested (message_parts request.now) }
 {
-    if LittleEndian::read_u16(&message[4..]) != SOCK_DIAG_BY_FAMILY
-        || LittleEndian::read_u16(&message[6..]) & NLM_F_REQUEST == 0
-    {
-        return None;
+    let payload = request.payload;
+    if !is_about_sockets(request.header.message_type) || payload.is_empty() {
+        return Requested::Unknown;
     }
-    match message[16] {
-        AF_INET | AF_INET6 => Some(parse_request_fields(message)),
-        _ => None,
+    match payload[0] {
+        AF_INET | AF_INET6 if payload.len() >= INET_REQUEST_LEN => {
+            Requested::Inet(query_of(request))
+        }
+        AF_UNIX if payload.len() >= UNIX_REQUEST_LEN => {
+            Requested::Unix(LittleEndian::read_u32(&payload[4..]))
+        }
+        family => requested_other(family_numbered(family)),
     }
 }
 
-/// Returns the fields of a request for IPv4 or IPv6 sockets.
-fn parse_request_fields(request: &[u8]) -> Query
-    requires { 72 ≤ length request.now }
-    ensures { result ≡ inet_request_fields request.now }
+/// Returns whether a request of this type is about sockets.
+fn is_about_sockets(message_type: u16) -> bool
+    ensures { result ≡ is_about_sockets message_type }
 {
+    matches!(message_type, SOCK_DIAG_BY_FAMILY | SOCK_DESTROY)
+}
+
+/// Returns what a request for sockets of this family asks for.
+fn requested_other(family: Option<Family>) -> Requested
+    ensures { result ≡ requested_other family }
+{
+    match family {
+        Some(family) => Requested::Other(family),
+        None => Requested::Unknown,
+    }
+}
+
+/// Returns the query in a request for IPv4 or IPv6 sockets, a `struct inet_diag_req_v2` and
+/// attributes.
+fn query_of(request: &Message<'_>) -> Query
+    requires { INET_REQUEST_LEN ≤ length request.now.payload.now }
+    ensures { result ≡ query_of (message_parts request.now) }
+{
+    let Message { header, payload } = request;
+    let attribute = find_kind(&payload[INET_REQUEST_LEN..], INET_DIAG_REQ_PROTOCOL);
     Query {
-        sequence_number: LittleEndian::read_u32(&request[8..]),
-        port_number: LittleEndian::read_u32(&request[12..]),
-        protocol: choose_protocol(
-            request[17],
-            find_kind(&request[REQUEST..], INET_DIAG_REQ_PROTOCOL),
-        ),
-        family: request[16],
-        states: LittleEndian::read_u32(&request[20..]),
+        sequence_number: header.sequence_number,
+        port_number: header.port_number,
+        protocol: choose_protocol(payload[1], attribute),
+        family: payload[0],
+        states: LittleEndian::read_u32(&payload[4..]),
     }
 }
 

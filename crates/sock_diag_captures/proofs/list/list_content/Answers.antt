@@ -3,7 +3,7 @@ use Rattle.std.proofs.lemmas.Result.{IfOk-weaker, on_ok_weaker}
 use Rattle.sock_diag_captures.specs.Diagnostics.{DiagnosesDatagram}
 use Rattle.sock_diag_captures.specs.Listing.{ListsDatagram}
 use Rattle.sock_diag_captures.proofs.RequestsAfterPacket.{request_of_datagram}
-use Rattle.sock_diag_captures.proofs.Diagnosing.{diagnosed_other, diagnosed_short}
+use Rattle.sock_diag_captures.proofs.Packets.{diagnosed_other, diagnosed_short}
 use Rattle.sock_diag_captures.proofs.list.list_content.Goals as goal
 
 pub returns-in-SockDiag-clause-lists : goal.returns-in-SockDiag-clause-lists

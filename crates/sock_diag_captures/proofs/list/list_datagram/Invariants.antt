@@ -1,18 +1,22 @@
-use Rattle.std.proofs.Common.{◌≡◌}
-use Rattle.netlink_core.specs.DatagramWalk.{unread_datagram}
-use Rattle.sock_diag_captures.specs.Listing.{IsCleanMessage, message_lines}
-use Rattle.sock_diag_captures.proofs.Diagnosing.{Diagnosed}
-use Rattle.sock_diag_captures.proofs.Listings.{ListedSoFar}
+use Rattle.std.proofs.Common.{◌≡◌, ℕ, List, ◌++◌, length}
+use Rattle.std.specs.List.{flat_map, list_all}
+use Rattle.netlink_core.specs.DatagramWalk.{unread_messages}
+use Rattle.sock_diag_captures.specs.Diagnostics.{lines_about}
+use Rattle.sock_diag_captures.specs.Listing.{is_clean_message, message_lines}
+use Rattle.sock_diag_captures.specs.Messages.{message_in}
+use Rattle.sock_diag_captures.proofs.MessageWalk.{ReadSoFar}
 use Rattle.sock_diag_captures.proofs.list.list_datagram.Given as goal
 
 -- the messages so far were listed and diagnosed
 abbrev pub invariant-loop-item : goal.invariant-loop-item
 invariant-loop-item l = record {
-  listing : ListedSoFar (message_lines l.options l.requests.asked.items) IsCleanMessage l.datagram
-      (unread_datagram l.item-iterator)
-      l.fn.written.lines.items l.written.lines.items l.is_clean;
-  diagnosed : Diagnosed l.fn.written.front.now l.number l.datagram
-      (unread_datagram l.item-iterator)
-      l.fn.written.diagnostics.items l.written.diagnostics.items l.count;
+  passed : List (List ℕ);
+  read : ReadSoFar l.datagram (unread_messages l.item-iterator) passed;
+  lines : l.written.lines.items ≡ l.fn.written.lines.items
+      ++ flat_map (λ m. message_lines l.options l.requests.asked.items (message_in m)) passed;
+  clean : l.is_clean ≡ list_all (λ m. is_clean_message (message_in m)) passed;
+  diagnosed : l.written.diagnostics.items ≡ l.fn.written.diagnostics.items
+      ++ lines_about l.fn.written.front.now l.number 1 passed;
+  counted : l.count ≡ length passed;
   front : l.written.front ≡ l.fn.written.front;
 }

@@ -1,6 +1,6 @@
 use Rattle.netlink_captures.specs.Capture.{captured_packet}
-use Rattle.sock_diag_captures.proofs.Diagnosing.{complete_if_not_truncated}
-use Rattle.sock_diag_captures.proofs.Listings.{listed_without_errors}
+use Rattle.sock_diag_captures.proofs.Packets.{complete_if_not_truncated}
+use Rattle.sock_diag_captures.proofs.Packets.{listed_without_errors}
 use Rattle.sock_diag_captures.proofs.list.list_packet.Goals as goal
 
 pub returns-clause-lists : goal.returns-clause-lists

@@ -2,6 +2,7 @@ use Rattle.std.proofs.Common.{◌≡◌, ℕ, List, [], ◌∷◌, ◌++◌, app
 use Rattle.std.specs.Fmt.{decimal}
 use Rattle.sock_diag_captures.specs.Diagnostics.{diagnostic_text}
 use Rattle.sock_diag_captures.specs.Explanation.{explanation}
+use Rattle.sock_diag_captures.specs.Messages.{message_parts}
 use Rattle.sock_diag_captures.proofs.list.push_explained_line.Goals as goal
 
 -- A text that is appended after a line without its end, and then the end of the line.
@@ -19,5 +20,5 @@ returns-clause-diagnostics c =
     let position = c.args.position in
     line_with_more c.args.written.now.diagnostics.items _ _ _ c.args.written.now.front.now
     (decimal position.packet) (decimal position.message) (diagnostic_text c.args.diagnostic.now)
-    (explanation c.args.bytes.now) c.in-Ok.ensures.bytes c.in_ok-push_explanation.ensures
+    (explanation (message_parts c.args.explained.now)) c.in-Ok.ensures.bytes c.in_ok-push_explanation.ensures
     c.in_ok-push.ensures.items
