@@ -1,6 +1,6 @@
 /*
- * sockdump [KIND ..]: requests the sockets of this machine from the kernel, and writes the requests
- * and the answers as a capture to standard output, for sslist:
+ * sockdump [--every=SECONDS] [KIND ..]: requests the sockets of this machine from the kernel, and
+ * writes the requests and the answers as a capture to standard output, for sslist:
  *
  *     sockdump | sslist
  *
@@ -8,11 +8,15 @@
  * requested: unix, tcp, udp, mptcp, raw, netlink, packet, vsock and xdp. A kernel without a kind
  * answers ENOENT or EINVAL. Such an answer is written only if KIND names the kind.
  *
+ * With --every, the sockets are requested every SECONDS seconds, 1 to 86400, in one capture. It is
+ * flushed after each round. The program ends by a signal, at an error, or when the readers of the
+ * pipe at standard output have closed it.
+ *
  * Each kind is requested from NETLINK_SOCK_DIAG by a dump request, as sock_diag(7) shows, in all
  * states and with the attributes that sslist decodes. The capture is in pcap format with link type
  * 253 (LINKTYPE_NETLINK), as tcpdump writes it for an nlmon device. The exit status is 0 if the
- * answers were written to their end, 1 if not, and 2 for wrong arguments. The program is valid C99
- * and C++.
+ * answers were written to their end or, with --every, until the pipe was closed. It is 1 if not,
+ * and 2 for wrong arguments. The program is valid C99 and C++.
  */
 #define _POSIX_C_SOURCE 200809L
 
@@ -26,8 +30,11 @@
 #include <linux/vm_sockets_diag.h>
 #include <linux/xdp_diag.h>
 #include <netinet/in.h>
+#include <poll.h>
+#include <signal.h>
 #include <stdint.h>
 #include <stdio.h>
+#include <stdlib.h>
 #include <string.h>
 #include <sys/socket.h>
 #include <time.h>
@@ -43,6 +50,9 @@
 
 /* Length of the cooked header before each datagram, in bytes. */
 #define COOKED_LENGTH 16
+
+/* Longest time between the starts of two rounds, in seconds. */
+#define MOST_SECONDS 86400
 
 /* A request for the sockets of one kind. */
 struct request {
@@ -159,19 +169,28 @@ static const struct kind kinds[] = {
 
 enum { KINDS = sizeof kinds / sizeof kinds[0] };
 
+/* What the arguments select. */
+struct selection {
+    uint8_t is_named[KINDS];
+    int has_names; /* Whether a kind is named. If not, all are requested. */
+    int seconds;   /* Time between the starts of two rounds, or 0 for one round. */
+};
+
+static int write_bytes(const void *bytes, size_t length) {
+    return fwrite(bytes, 1, length, stdout) == length ? 0 : fail("standard output");
+}
+
 /* Writes the header of the capture, in the byte order of this machine. */
-static void write_file_header(void) {
-    const uint32_t magic = 0xa1b2c3d4;
+static int write_file_header(void) {
     const uint16_t version[2] = {2, 4};
-    const uint32_t others[4] = {0, 0, SNAPSHOT_LENGTH, 253};
-    fwrite(&magic, sizeof magic, 1, stdout);
-    fwrite(version, sizeof version, 1, stdout);
-    fwrite(others, sizeof others, 1, stdout);
+    uint32_t header[6] = {0xa1b2c3d4, 0, 0, 0, SNAPSHOT_LENGTH, 253};
+    memcpy(&header[1], version, sizeof version);
+    return write_bytes(header, sizeof header);
 }
 
 /* Writes a packet: its time and lengths, the cooked header with the hardware type ARPHRD_NETLINK
  * (824) and the protocol NETLINK_SOCK_DIAG (4), and the datagram. */
-static void write_packet(const struct datagram *it) {
+static int write_packet(const struct datagram *it) {
     static const uint8_t cooked[COOKED_LENGTH] = {0, 4, 3, 0x38, 0, 0, 0, 0,
                                                   0, 0, 0, 0, 0, 0, 0, NETLINK_SOCK_DIAG};
     uint32_t header[4];
@@ -179,9 +198,9 @@ static void write_packet(const struct datagram *it) {
     header[1] = (uint32_t)(it->time.tv_nsec / 1000);
     header[2] = (uint32_t)(COOKED_LENGTH + stored_length(it));
     header[3] = (uint32_t)(COOKED_LENGTH + it->length);
-    fwrite(header, sizeof header, 1, stdout);
-    fwrite(cooked, sizeof cooked, 1, stdout);
-    fwrite(it->data.bytes, 1, stored_length(it), stdout);
+    if (write_bytes(header, sizeof header) != 0 || write_bytes(cooked, sizeof cooked) != 0)
+        return -1;
+    return write_bytes(it->data.bytes, stored_length(it));
 }
 
 /* Sends the request for a kind, and stores it in a datagram. */
@@ -253,14 +272,12 @@ static int dump(int kernel, const struct kind *kind, int is_named) {
         return -1;
     if (!is_named && is_unknown_kind(&received))
         return 0;
-    write_packet(&sent);
-    write_packet(&received);
+    if (write_packet(&sent) != 0 || write_packet(&received) != 0)
+        return -1;
     while (received.length <= sizeof received.data && find_end(&received, &is_truncated) == NULL
-           && !is_truncated) {
-        if (receive(kernel, &received) != 0)
+           && !is_truncated)
+        if (receive(kernel, &received) != 0 || write_packet(&received) != 0)
             return -1;
-        write_packet(&received);
-    }
     if (is_truncated)
         return fprintf(stderr, "sockdump: %s: truncated message\n", kind->name), -1;
     if (received.length <= sizeof received.data)
@@ -268,6 +285,53 @@ static int dump(int kernel, const struct kind *kind, int is_named) {
     fprintf(stderr, "sockdump: %s: datagram of %lu bytes exceeds the buffer\n", kind->name,
             (unsigned long)received.length);
     return -1;
+}
+
+/* Requests the selected kinds, and writes what is received of their answers. */
+static int dump_round(int kernel, const struct selection *selection) {
+    int index, failed = 0;
+    for (index = 0; index < KINDS && failed == 0; index++)
+        if (!selection->has_names || selection->is_named[index])
+            failed = dump(kernel, &kinds[index], selection->is_named[index]);
+    /* A write that failed is reported already. */
+    if (!ferror(stdout) && fflush(stdout) != 0)
+        failed = fail("standard output");
+    return failed;
+}
+
+/* Returns the time of a clock that is never set, in milliseconds. */
+static int64_t milliseconds(void) {
+    struct timespec time;
+    clock_gettime(CLOCK_MONOTONIC, &time);
+    return (int64_t)time.tv_sec * 1000 + time.tv_nsec / 1000000;
+}
+
+/* Waits until a time. Returns 1, or 0 as soon as the readers of the pipe at standard output have
+ * closed it, which poll(2) reports although no event is requested. */
+static int wait_until(int64_t time) {
+    struct pollfd output = {STDOUT_FILENO, 0, 0};
+    int64_t left;
+    while ((left = time - milliseconds()) > 0)
+        if (poll(&output, 1, (int)left) > 0)
+            return 0;
+    return 1;
+}
+
+/* Writes a round, and with --every further ones. */
+static int dump_rounds(int kernel, const struct selection *selection) {
+    int64_t start;
+    do {
+        start = milliseconds();
+        if (dump_round(kernel, selection) != 0)
+            return -1;
+    } while (selection->seconds > 0 && wait_until(start + (int64_t)selection->seconds * 1000));
+    return 0;
+}
+
+/* Ends the program when the readers of the pipe have closed it, which is no error with --every. */
+static void end_quietly(int number) {
+    (void)number;
+    _exit(0);
 }
 
 /* Opens a socket to which only the kernel can send. */
@@ -286,24 +350,40 @@ static int open_kernel(void) {
 }
 
 static int print_usage(FILE *stream, int status) {
-    fputs("usage: sockdump [KIND ..]\n\n"
+    fputs("usage: sockdump [--every=SECONDS] [KIND ..]\n\n"
           "Requests the sockets of this machine from the kernel, and writes the answers as\n"
           "a capture to standard output: sockdump | sslist\n\n"
           "KIND is unix, tcp, udp, mptcp, raw, netlink, packet, vsock or xdp. Without KIND\n"
-          "all are requested.\n",
+          "all are requested.\n\n"
+          "With --every they are requested every SECONDS seconds, 1 to 86400, until the\n"
+          "output is closed or a signal ends the program.\n",
           stream);
     return status;
 }
 
-/* Marks the kinds of this name. Returns how many there are. */
-static int mark(const char *name, uint8_t *is_named) {
+/* Selects the kinds of this name. Returns how many there are. */
+static int select_kinds(const char *name, struct selection *selection) {
     int index, count = 0;
     for (index = 0; index < KINDS; index++)
         if (strcmp(name, kinds[index].name) == 0) {
-            is_named[index] = 1;
+            selection->is_named[index] = 1;
             count++;
         }
+    selection->has_names |= count > 0;
     return count;
+}
+
+/* Reads what follows --every, which has to be an equals sign and a number. */
+static int read_seconds(const char *text, int *seconds) {
+    char *end;
+    unsigned long number;
+    if (text[0] == '=' && text[1] >= '0' && text[1] <= '9') {
+        number = strtoul(text + 1, &end, 10);
+        if (*end == '\0' && number > 0 && number <= MOST_SECONDS)
+            return *seconds = (int)number, 0;
+    }
+    fprintf(stderr, "sockdump: --every=SECONDS needs a whole number from 1 to %d\n", MOST_SECONDS);
+    return -1;
 }
 
 /* Reports an argument that is no kind. A byte that could control a terminal is shown as a question
@@ -315,33 +395,39 @@ static int reject(const char *argument) {
     return fputs("; try sockdump -h\n", stderr), -1;
 }
 
-/* Marks the kinds that the arguments name. Returns 0, or -1 if an argument is no kind. */
-static int read_arguments(int count, char **arguments, uint8_t *is_named) {
+static int read_argument(const char *argument, struct selection *selection) {
+    static const char every[] = "--every";
+    const size_t length = sizeof every - 1;
+    if (strncmp(argument, every, length) == 0)
+        return read_seconds(argument + length, &selection->seconds);
+    return select_kinds(argument, selection) > 0 ? 0 : reject(argument);
+}
+
+/* Reads the arguments. Returns 0, or -1 if one is wrong. */
+static int read_arguments(int count, char **arguments, struct selection *selection) {
     int index;
     for (index = 1; index < count; index++)
-        if (mark(arguments[index], is_named) == 0)
-            return reject(arguments[index]);
+        if (read_argument(arguments[index], selection) != 0)
+            return -1;
     return 0;
 }
 
 int main(int argc, char **argv) {
-    uint8_t is_named[KINDS] = {0};
-    int index, kernel, failed = 0;
+    struct selection selection;
+    int kernel, failed;
+    memset(&selection, 0, sizeof selection);
     if (argc > 1 && (strcmp(argv[1], "-h") == 0 || strcmp(argv[1], "--help") == 0))
         return print_usage(stdout, 0);
-    if (read_arguments(argc, argv, is_named) != 0)
+    if (read_arguments(argc, argv, &selection) != 0)
         return 2;
     if (isatty(STDOUT_FILENO))
         return fputs("sockdump: standard output is a terminal; try sockdump | sslist\n", stderr), 1;
     kernel = open_kernel();
     if (kernel < 0)
         return 1;
-    write_file_header();
-    for (index = 0; index < KINDS && failed == 0; index++)
-        if (argc == 1 || is_named[index])
-            failed = dump(kernel, &kinds[index], is_named[index]);
+    if (selection.seconds > 0)
+        signal(SIGPIPE, end_quietly);
+    failed = write_file_header() != 0 || dump_rounds(kernel, &selection) != 0;
     close(kernel);
-    if (fflush(stdout) != 0 || ferror(stdout))
-        failed = fail("standard output");
-    return failed == 0 ? 0 : 1;
+    return failed;
 }
