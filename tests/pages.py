@@ -60,8 +60,8 @@ MANUAL = "man"
 PROMPT = "$ "
 # The commands that are run, and words that begin a command of the shell.
 RUN = set("""./sockdiag ./sockdump ./sslist bin/sockdiag bin/sslist sockdiag sslist sockdump
-    examples/sockdump tests/believed.py tools/install awk cc cd cp done echo export for head jq
-    make mkdir pkg-config printf python3 sed sha256sum sort tar uniq""".split())
+    examples/processes.sh examples/sockdump tests/believed.py tools/install awk cc cd cp done echo
+    export for head jq make mkdir pkg-config printf python3 sed sha256sum sort tar uniq""".split())
 # Those of them that need a compiler, and those that are never missing.
 COMPILING = {"cc", "make", "pkg-config", "sockdump", "./sockdump", "examples/sockdump"}
 BUILTIN = {"cd", "done", "echo", "export", "for", "printf", *PROGRAMS}
