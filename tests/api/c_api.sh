@@ -3,9 +3,10 @@
 # c_values.c and c_messages.c compare what the calls return, also linked as C++, if the compiler
 # supports it, tests/api/cost.c counts their instructions, if valgrind is installed,
 # tests/api/fuzz_c.c calls them with changed replies, and tests/api/compare_replies.sh compares the
-# lenient calls with an independent reader. Then installs the library, and lists the sockets of this
-# machine by examples/list_sockets.c, if the kernel permits it. Needs the kit's rt, a C compiler and
-# Python. The gate and tools/release run this script.
+# lenient calls with an independent reader. Then installs the library, builds the examples, runs
+# them with the replies of other kernels, and lists the sockets of this machine by list_sockets, if
+# the kernel permits it. Needs the kit's rt, a C compiler and Python. The gate and tools/release run
+# this script.
 set -eu
 top=$(CDPATH='' cd -- "$(dirname -- "$0")/../.." && pwd)
 work=$(mktemp -d)
@@ -112,42 +113,18 @@ for arguments in 0 65536 443x -x "443 -l" "-l -l" "-l 443 444"; do
     fi
 done
 
-# The other lister: a connection whose tcp_info is too short has no round-trip time.
-build fake_rtt "$top/examples/list_rtt.c" "$top/tests/api/fake_kernel.c"
-FAKE_KERNEL_REPLIES="$top/tests/api/kernels/tcp-info" "$work/fake_rtt" >"$work/found"
-sed -n 's/^= tcp state 1 \(.*\) uid .* inode [0-9]*\( rtt .*us\).*/\1\2/p; t
-    s/^= tcp state 1 \(.*\) uid .*/\1/p' "$top/tests/api/kernels/tcp-info" | diff - "$work/found"
-[ "$(grep -vc rtt "$work/found")" = 1 ]
-
-# sockdump STATUS TEXT ARGUMENT VARIABLE: runs the example of this name with replies of a kernel. It
-# has to end with this status, and to print a line with this text to standard error.
-sockdump() {
-    status=0
-    env FAKE_KERNEL_REPLIES="$top/tests/api/kernels/linux-6.18" "$4" "$work/fake_dump" "$3" \
-        >"$work/found" 2>"$work/errors" || status=$?
-    if [ "$status" -ne "$1" ] || ! grep -q "$2" "$work/errors"; then
-        echo "c_api: sockdump $3, $4: status $status, expected $1 and a line $2" >&2
-        cat "$work/errors" >&2
-        exit 1
-    fi
-}
-
-build fake_dump "$top/examples/sockdump.c" "$top/tests/api/fake_kernel.c"
-sockdump 2 '^sockdump: unknown kind every' every A=
-sockdump 1 '^sockdump: connect: ' unix FAKE_KERNEL_REFUSES=1
-sockdump 1 'exceeds the buffer$' unix FAKE_KERNEL_EXCESS=1
-
 # As an author of a program does: installs the library, and builds with the shared library that
 # pkg-config finds. Without pkg-config or make, builds with the static library.
 "$top/tools/install" "$work/prefix" >/dev/null
 if command -v pkg-config >/dev/null && command -v make >/dev/null; then
-    cp "$top/examples/Makefile" "$top/examples/dump.h" "$top/examples/list_sockets.c" "$work"
-    PKG_CONFIG_PATH="$work/prefix/lib/pkgconfig" make -s -C "$work" list_sockets
+    cp "$top/examples/Makefile" "$top/examples/"*.[ch] "$work"
+    PKG_CONFIG_PATH="$work/prefix/lib/pkgconfig" make -s -C "$work"
 else
-    build list_sockets "$top/examples/list_sockets.c"
+    for name in list_sockets list_rtt sockdump; do build "$name" "$top/examples/$name.c"; done
 fi
 # With the replies of old and new kernels, made by hand.
-LD_LIBRARY_PATH="$work/prefix/lib" "$top/tests/api/kernels.py" "$work/list_sockets"
+LD_LIBRARY_PATH="$work/prefix/lib" "$top/tests/api/kernels.py" "$work/list_sockets" "$work/list_rtt"
+"$top/tests/api/sockdump.py" "$work/sockdump"
 if LD_LIBRARY_PATH="$work/prefix/lib" "$work/list_sockets" >"$work/sockets" 2>"$work/errors"; then
     echo "c_api: list_sockets: $(wc -l <"$work/sockets") sockets, beginning with:"
     head -n 5 "$work/sockets"

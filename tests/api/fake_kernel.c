@@ -5,13 +5,20 @@
  * If the environment variable FAKE_KERNEL_REPLIES is the name of a file, requests are answered with
  * its replies, by a datagram each. A line is a protocol, which is unix, tcp, udp, mptcp, netlink or
  * packet, a space, and the payload in hexadecimal digits. Other lines are comments. A dump has the
- * replies with the protocol, the family and the states of the request. If no line has the protocol,
- * the answer is EINVAL. If the file has no mptcp, the attribute with the protocol is ignored, as
- * kernels without MPTCP do. A filter by the local port selects replies as the kernel does. Each
- * datagram begins with the end of a dump that another socket requested, which a lister recognizes
- * by its port id. If FAKE_KERNEL_EXCESS is a number, each datagram has so many bytes more than the
- * buffer: it ends with an NLMSG_NOOP, which fills the rest of the buffer if the excess is cut.
- * tests/api/kernels.py runs listers in this way.
+ * replies with the protocol, the family and the states of the request, without the attributes that
+ * the request does not select. Two kinds are always sent, for listers that have to report an
+ * invalid one: those of MPTCP, whose INET_DIAG_INFO is no struct tcp_info, and the memory of
+ * netlink sockets. If no line has the protocol, the answer is ENOENT for IPv4 and IPv6, and EINVAL
+ * for other families. If the file has no mptcp, the attribute with the protocol is ignored, as
+ * kernels without MPTCP do. A filter by the local port selects replies as the kernel does.
+ * tests/api/kernels.py runs listers in this way, and tests/api/sockdump.py sockdump. These
+ * variables change the datagrams:
+ *
+ * - Each datagram begins with the end of a dump that another socket requested, which a lister
+ *   recognizes by its port id. With FAKE_KERNEL_ALONE there is no other socket.
+ * - If FAKE_KERNEL_EXCESS is a number, each datagram has so many bytes more than the buffer. It
+ *   ends with an NLMSG_NOOP, which fills the rest of the buffer if the excess is cut.
+ * - If FAKE_KERNEL_LACK is a number below 20, each datagram lacks so many of its last bytes.
  *
  * Otherwise the first request is answered by a dump that is interrupted. The second one, which has
  * to be the same with another sequence number, is answered by the end of another dump, a reply that
@@ -211,6 +218,60 @@ static int is_requested(const uint8_t *reply) {
     return reply[0] == AF_PACKET || (states >> state & 1) != 0;
 }
 
+/* Returns whether attributes of a type are sent: those that the request selects, and those without
+ * a bit in the request. */
+static int is_selected(unsigned type) {
+    const uint8_t family = request[16];
+    uint32_t show;
+    memcpy(&show, request + (family == AF_UNIX ? 28 : 24), sizeof show);
+    switch (family) {
+    case AF_UNIX:
+        return type == SOCKDIAG_UNIX_DIAG_SHUTDOWN || (show >> (type < 6 ? type : 6) & 1) != 0;
+    case AF_NETLINK:
+        return type != 1 || (show & SOCKDIAG_NDIAG_SHOW_GROUPS) != 0;
+    case AF_PACKET:
+        return type != 0 || (show & SOCKDIAG_PACKET_SHOW_INFO) != 0;
+    default:
+        return type == 0 || type > 7 || request[17] == 0 || (request[18] >> (type - 1) & 1) != 0;
+    }
+}
+
+/* Returns the length of the header of a reply, in bytes. */
+static size_t header_length(uint8_t family) {
+    switch (family) {
+    case AF_UNIX:
+    case AF_PACKET:
+        return 16;
+    case AF_NETLINK:
+        return 28;
+    default:
+        return 72;
+    }
+}
+
+/* Removes the attributes that the request does not select from a reply. Returns its new length.
+ * Bytes that are no attribute stay. */
+static size_t select_attributes(uint8_t *reply, size_t length) {
+    size_t offset = header_length(reply[0]), end = offset;
+    struct nlattr head;
+    if (length < offset)
+        return length;
+    while (offset + sizeof head <= length) {
+        size_t step;
+        memcpy(&head, reply + offset, sizeof head);
+        step = NLA_ALIGN(head.nla_len);
+        if (head.nla_len < sizeof head || step > length - offset)
+            break;
+        if (is_selected(head.nla_type)) {
+            memmove(reply + end, reply + offset, step);
+            end += step;
+        }
+        offset += step;
+    }
+    memmove(reply + end, reply + offset, length - offset);
+    return length - offset + end;
+}
+
 /* Stores the bytes of hexadecimal digits. Returns their number. */
 static size_t put_digits(uint8_t *bytes, const char *digits) {
     size_t length = 0;
@@ -233,24 +294,29 @@ static size_t next_reply(uint8_t *reply) {
         has_protocol = 1;
         got = put_digits(reply, line + length + 1);
         if (got > 2 && is_requested(reply))
-            return got;
+            return select_attributes(reply, got);
     }
     return 0;
 }
 
-/* Writes the end of a dump that another socket requested by the same sequence number. */
+/* Writes the end of a dump that another socket requested by the same sequence number, if there is
+ * another one. */
 static size_t put_other_end(uint8_t *bytes, uint32_t number) {
     static const uint32_t other_port = OWN_PORT + 1;
     static const int32_t success = 0;
-    const size_t length = put(bytes, NLMSG_DONE, NLM_F_MULTI, number, &success, 4);
+    size_t length;
+    if (getenv("FAKE_KERNEL_ALONE") != NULL)
+        return 0;
+    length = put(bytes, NLMSG_DONE, NLM_F_MULTI, number, &success, 4);
     memcpy(bytes + 12, &other_port, sizeof other_port);
     return length;
 }
 
 /* Writes the next datagram of an answer by the replies of the file. Returns its length. */
 static size_t put_from_file(uint8_t *bytes, uint32_t number) {
-    static const int32_t success = 0, failure = -EINVAL;
+    static const int32_t success = 0;
     static uint8_t reply[MOST_REPLY];
+    const int32_t failure = request[16] == AF_INET || request[16] == AF_INET6 ? -ENOENT : -EINVAL;
     const size_t start = put_other_end(bytes, number);
     const size_t length = next_reply(reply);
     bytes += start;
@@ -270,6 +336,12 @@ static ssize_t exceed(uint8_t *bytes, size_t start, size_t capacity, size_t exce
     memset(bytes + start, 0, capacity - start);
     memcpy(bytes + start, &header, sizeof header);
     return (ssize_t)length;
+}
+
+/* Returns the number in an environment variable, or 0. */
+static size_t variable(const char *name) {
+    const char *text = getenv(name);
+    return text == NULL ? 0 : strtoul(text, NULL, 10);
 }
 
 /* Answers a request for UDP sockets. The first answer of each family loses data. A request on the
@@ -304,10 +376,9 @@ ssize_t recv(int fd, void *buffer, size_t capacity, int flags) {
         return -1;
     memcpy(&number, request + 8, 4);
     if (replies != NULL) {
-        const char *excess = getenv("FAKE_KERNEL_EXCESS");
-        end = put_from_file(bytes, number);
-        return excess == NULL ? (ssize_t)end
-                              : exceed(bytes, end, capacity, strtoul(excess, NULL, 10), flags);
+        const size_t excess = variable("FAKE_KERNEL_EXCESS");
+        end = put_from_file(bytes, number) - variable("FAKE_KERNEL_LACK");
+        return excess == 0 ? (ssize_t)end : exceed(bytes, end, capacity, excess, flags);
     }
     datagrams++;
     if (request[16] != AF_UNIX && request[17] == IPPROTO_UDP)

@@ -8,12 +8,13 @@ A file of tests/api/kernels has replies, and the words of the line that a lister
 fake_kernel.c, which is preloaded, answers the requests of the lister with them. A lister has to
 print a line for each reply, in the order of the file, with these words and no others, and end with
 status 0. Words that only one of the listers prints are not compared: the lengths of the queues, and
-the text of an error, which is in parentheses. A lister that takes a port has to print the lines
-with this local port.
+the text of an error, which is in parentheses. A lister that takes arguments has to print the lines
+with a local port, and with -l those of sockets that listen. The lister list_rtt has to print the
+established TCP connections.
 
 A lister has to print no character that could control a terminal. It has to end with another status,
-without a line, if it cannot connect to the kernel, and if each datagram is longer than its buffer.
-The exit status is 1 if a lister fails.
+without a line, if it cannot connect to the kernel, if each datagram is longer than its buffer, and
+if each datagram is truncated. The exit status is 1 if a lister fails.
 """
 
 import os
@@ -26,6 +27,19 @@ from pathlib import Path
 HERE = Path(__file__).resolve().parent
 # The protocols of sockets with a port.
 PROTOCOLS = ("tcp", "udp", "mptcp")
+# Numbers of bytes by which datagrams exceed the buffer, and that they lack.
+EXCESSES = ("1", "4", "60000")
+LACKS = ("1", "4", "19")
+
+
+def replies():
+    """Returns the files with replies."""
+    return sorted((HERE / "kernels").iterdir())
+
+
+def is_list_rtt(lister):
+    """Returns whether the lister lists round-trip times only."""
+    return Path(lister).name == "list_rtt"
 
 
 def build(folder):
@@ -42,10 +56,14 @@ def compared_words(line):
     return re.sub(r" received \d+ sent \d+| \(.*\)$", "", line).split()
 
 
+def environment(library, file, **variables):
+    """Returns an environment with the replies of the file."""
+    return os.environ | {"LD_PRELOAD": library, "FAKE_KERNEL_REPLIES": str(file)} | variables
+
+
 def run(lister, library, file, *arguments, **variables):
     """Runs the lister with the replies of the file."""
-    own = {"LD_PRELOAD": library, "FAKE_KERNEL_REPLIES": str(file)}
-    how = {"env": os.environ | own | variables, "capture_output": True, "timeout": 60}
+    how = {"env": environment(library, file, **variables), "capture_output": True, "timeout": 60}
     done = subprocess.run([lister, *arguments], **how)
     done.stdout, done.stderr = done.stdout.decode("latin-1"), done.stderr.decode("latin-1")
     return done
@@ -59,27 +77,44 @@ def report(lister, done, what, expected):
     return False
 
 
-def compare(lister, library, file, *port):
+def is_listed(line, arguments):
+    """Returns whether list_sockets prints a line with these arguments, -l and ports."""
+    protocol, *words = line.split()
+    state = line.partition(" state ")[2].partition(" ")[0]
+    listens = state == ("7" if protocol == "udp" else "10")
+    return all(listens if it == "-l" else protocol in PROTOCOLS and words[3] == it
+               for it in arguments)
+
+
+def line_of_rtt(line):
+    """Returns the line that list_rtt prints for a line of list_sockets, or None."""
+    found = re.match(r"tcp state 1 (.*?) uid \d+ inode \d+(?:.*( rtt \d+us))?", line)
+    return found and found[1] + (found[2] or "")
+
+
+def compare(lister, library, file, *arguments):
     """Runs the lister with the replies of the file. Returns whether it prints what it has to."""
-    expected = [line[2:] for line in file.read_text().splitlines() if line.startswith("= ")]
-    if port:
-        expected = [line for line in expected if line.split()[4:5] == [*port]
-                    and line.split()[0] in PROTOCOLS]
-    done = run(lister, library, file, *port)
+    lines = [line[2:] for line in file.read_text().splitlines() if line.startswith("= ")]
+    expected = [line for line in lines if is_listed(line, arguments)]
+    if is_list_rtt(lister):
+        expected = list(filter(None, map(line_of_rtt, lines)))
+    done = run(lister, library, file, *arguments)
     found = [compared_words(line) for line in done.stdout.splitlines()]
     if found == [line.split() for line in expected] and done.returncode == 0:
         return True
-    return report(lister, done, f"the replies of {file.name}", expected)
+    return report(lister, done, f"the replies of {file.name} {arguments}", expected)
 
 
-def compare_ports(lister, library, file):
-    """Runs the lister with each local port of the file, and with those next to it. Returns whether
-    it prints what it has to. A lister that takes no port does not reject the port 0."""
+def compare_arguments(lister, library, file):
+    """Runs the lister with -l, with each local port of the file and those next to it, and with
+    both. Returns whether it prints what it has to. A lister that takes no port does not reject the
+    port 0."""
     if run(lister, library, file, "0").returncode != 2:
         return True
     lines = re.findall(rf"(?m)^= ({'|'.join(PROTOCOLS)}) state \d+ \S+ (\d+) ", file.read_text())
     ports = {int(port) + step for _, port in lines for step in (-1, 0, 1)} & {*range(1, 65536)}
-    return all(compare(lister, library, file, str(port)) for port in sorted(ports))
+    with_port = [(*options, str(port)) for port in sorted(ports) for options in ((), ("-l",))]
+    return all(compare(lister, library, file, *it) for it in [("-l",), *with_port])
 
 
 def is_safe(lister, library, folder):
@@ -105,23 +140,31 @@ def fails(lister, library, file, **variables):
     return report(lister, done, variables, ["no line, an error, and status 1"])
 
 
+def is_right(lister, library, files, folder):
+    """Runs the lister in all ways. Returns whether it does what it has to. Every kernel has TCP, so
+    list_rtt reports a file without TCP sockets as an error."""
+    results = [compare(lister, library, file) for file in files
+               if not is_list_rtt(lister) or "\ntcp " in file.read_text()]
+    results.append(fails(lister, library, files[0], FAKE_KERNEL_REFUSES="1"))
+    results += [fails(lister, library, files[0], FAKE_KERNEL_EXCESS=it) for it in EXCESSES]
+    results += [fails(lister, library, files[0], FAKE_KERNEL_LACK=it) for it in LACKS]
+    if not is_list_rtt(lister):
+        results += [compare_arguments(lister, library, file) for file in files]
+        results.append(is_safe(lister, library, folder))
+    return all(results)
+
+
 def main():
-    files = sorted((HERE / "kernels").iterdir())
+    files = replies()
     with tempfile.TemporaryDirectory() as folder:
         library = build(folder)
-        results = [compare(it, library, file) for it in sys.argv[1:] for file in files]
-        for it in sys.argv[1:]:
-            others = [compare_ports(it, library, file) for file in files]
-            others.append(is_safe(it, library, folder))
-            others.append(fails(it, library, files[0], FAKE_KERNEL_REFUSES="1"))
-            others += [fails(it, library, files[0], FAKE_KERNEL_EXCESS=str(excess))
-                       for excess in (1, 4, 60000)]
-            if not all(others):
-                return 1
-    if all(results):
-        names = " ".join(file.name for file in files)
-        print(f"kernels: {len(results)} runs list every socket: {names}")
-    return 0 if all(results) else 1
+        results = [is_right(it, library, files, folder) for it in sys.argv[1:]]
+    if not all(results):
+        return 1
+    listers = " ".join(Path(it).name for it in sys.argv[1:])
+    names = " ".join(file.name for file in files)
+    print(f"kernels: {listers}: every socket is listed: {names}")
+    return 0
 
 
 if __name__ == "__main__":

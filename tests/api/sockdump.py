@@ -1,0 +1,233 @@
+#!/usr/bin/env python3
+"""Runs sockdump with the replies of other kernels, and compares the captures that it writes. Also
+runs examples/processes.sh. c_api.sh runs this script.
+
+    tests/api/sockdump.py SOCKDUMP
+
+fake_kernel.c, which is preloaded, answers the requests with the replies of a file of
+tests/api/kernels. The capture has to have the request for each kind of socket, as REQUESTS has it,
+and each datagram of the answer. With --every it has to have one header and these packets for each
+round. Also compared are the time between rounds, that each round is written as it ends, how the
+program ends, and the texts of errors. The exit status is 1 if something differs.
+"""
+
+import os
+import signal
+import socket
+import struct
+import subprocess
+import sys
+import tempfile
+import time
+from pathlib import Path
+
+sys.dont_write_bytecode = True
+import kernels
+
+# The name and the family of each kind, in the order of the requests, and the request without its
+# header. These were made by hand from the structs of linux/*_diag.h: all states, and all attributes
+# that sslist decodes.
+INET = "ffffffff" + 48 * "00"
+REQUESTS = [(name, family, bytes.fromhex(digits)) for name, family, digits in (
+    ("unix", 1, "01000000 ffffffff 00000000 7f000000 0000000000000000"),
+    ("tcp", 2, "0206ff00" + INET),
+    ("tcp", 10, "0a06ff00" + INET),
+    ("udp", 2, "0211ff00" + INET),
+    ("udp", 10, "0a11ff00" + INET),
+    ("mptcp", 2, "0200ff00" + INET + "0800030006010000"),
+    ("mptcp", 10, "0a00ff00" + INET + "0800030006010000"),
+    ("raw", 2, "02ffff00" + INET),
+    ("raw", 10, "0affff00" + INET),
+    ("netlink", 16, "10ff0000 00000000 03000000 0000000000000000"),
+    ("packet", 17, "11000000 00000000 11000000 0000000000000000"),
+    ("vsock", 40, "28000000 ffffffff 00000000 00000000 0000000000000000"),
+    ("xdp", 44, "2c000000 00000000 09000000 0000000000000000"),
+)]
+# A file with replies of more than 4096 bytes.
+LONG = kernels.HERE / "kernels/linux-6.18"
+FILE_HEADER = bytes.fromhex("d4c3b2a1 02000400 00000000 00000000 00000400 fd000000")
+COOKED_HEADER = bytes.fromhex("00040338 00000000 00000000 00000004")
+OWN_PORT = 77
+DUMP, BY_FAMILY, ERROR, DONE, MULTI, ENOENT, EINVAL = 0x301, 20, 2, 3, 2, 2, 22
+SECONDS = "sockdump: --every=SECONDS needs a whole number from 1 to 86400\n"
+# Arguments, variables of the kernel, the exit status, and standard error.
+FAILURES = [
+    (["every"], {}, 2, "sockdump: unknown kind every; try sockdump -h\n"),
+    (["tcp", "a\033b"], {}, 2, "sockdump: unknown kind a?b; try sockdump -h\n"),
+    *(([*kinds, f"--every{it}"], {}, 2, SECONDS) for kinds in ([], ["unix"]) for it in (
+        "", "=", "=0", "=86401", "=1s", "=-1", "=+1", "= 1", "=1 ", "=18446744073709551617", "s1")),
+    (["--every=1", "nope"], {}, 2, "sockdump: unknown kind nope; try sockdump -h\n"),
+    *((arguments, *how) for arguments in (["unix"], ["--every=1", "unix"]) for how in (
+        ({"FAKE_KERNEL_REFUSES": "1"}, 1, "sockdump: connect: Operation not permitted\n"),
+        ({"FAKE_KERNEL_LACK": "1"}, 1, "sockdump: unix: truncated message\n"),
+        ({"FAKE_KERNEL_EXCESS": "1"}, 1,
+         "sockdump: unix: datagram of 65537 bytes exceeds the buffer\n"))),
+    # Without a file, this kernel loses the first datagram about UDP sockets.
+    (["udp"], {"FAKE_KERNEL_REPLIES": None}, 1, "sockdump: recv: No buffer space available\n"),
+]
+
+
+def message(kind, flags, number, port, payload):
+    return struct.pack("<IHHII", 16 + len(payload), kind, flags, number, port) + payload
+
+
+def answer(file, name, family, number):
+    """Returns the datagrams with which the kernel answers a request."""
+    lines = [line.split() for line in file.read_text().splitlines()]
+    replies = [bytes.fromhex(line[1]) for line in lines if line[:1] == [name]]
+    if not replies:
+        error = -ENOENT if family in (2, 10) else -EINVAL
+        return [message(ERROR, 0, number, OWN_PORT, struct.pack("<i", error))]
+    found = [message(BY_FAMILY, MULTI, number, OWN_PORT, it) for it in replies if it[0] == family]
+    return [*found, message(DONE, MULTI, number, OWN_PORT, bytes(4))]
+
+
+def expected_round(file, kinds=()):
+    """Returns the datagrams of a round. An unknown kind is left out if it is not named."""
+    found = []
+    for number, (name, family, request) in enumerate(REQUESTS, 1):
+        datagrams = answer(file, name, family, number)
+        if name in kinds or not kinds and datagrams[0][4] != ERROR:
+            found += [message(BY_FAMILY, DUMP, number, 0, request), *datagrams]
+    return found
+
+
+def packets(capture):
+    """Returns the time and the datagram of each packet of a capture, after its header."""
+    found, at = [], len(FILE_HEADER)
+    assert capture[:at] == FILE_HEADER, f"header {capture[:at].hex()}"
+    while at < len(capture):
+        seconds, micro, stored, length = struct.unpack_from("<4I", capture, at)
+        cooked = capture[at + 16 : at + 32]
+        assert cooked == COOKED_HEADER, f"cooked header {cooked.hex()}"
+        assert micro < 1000000 and stored == length <= len(capture) - at - 16, "length or time"
+        found.append((seconds + micro / 1e6, capture[at + 32 : at + 16 + stored]))
+        at += 16 + stored
+    return found
+
+
+def compare(what, found, expected):
+    """Fails if two values differ."""
+    assert found == expected, f"{what}: {found}, expected {expected}"
+
+
+def compare_datagrams(what, capture, expected):
+    """Fails if the packets of a capture are not these datagrams."""
+    compare(what, [it.hex() for _, it in packets(capture)], [it.hex() for it in expected])
+
+
+class Runs:
+    """Runs of the program with a kernel."""
+
+    def __init__(self, program, library):
+        self.program, self.library = program, library
+
+    def start(self, arguments, output, file, **variables):
+        """Starts the program with the replies of a file. A variable that is None is not set."""
+        own = kernels.environment(self.library, file, FAKE_KERNEL_ALONE="1")
+        own = {name: it for name, it in (own | variables).items() if it is not None}
+        return subprocess.Popen([self.program, *arguments], env=own, stdout=output,
+                                stderr=subprocess.PIPE)
+
+    def end(self, arguments, output, file, **variables):
+        """Runs the program. Returns its exit status, standard output and standard error."""
+        with self.start(arguments, output, file, **variables) as running:
+            written, errors = running.communicate(timeout=60)
+        return running.returncode, written, errors.decode()
+
+
+def test_kinds(runs, files):
+    """Requests all kinds, and some of them. A kind that the kernel lacks is written if it is
+    named."""
+    for file in files:
+        for kinds in ([], ["tcp"], ["xdp", "vsock", "raw", "unix"], ["mptcp", "netlink"]):
+            status, written, errors = runs.end(kinds, subprocess.PIPE, file)
+            compare(f"{file.name} {kinds}", (status, errors), (0, ""))
+            now = time.time()
+            assert all(now - 60 < it <= now for it, _ in packets(written)), "time of a packet"
+            compare_datagrams(f"{file.name} {kinds}", written, expected_round(file, kinds))
+
+
+def test_failures(runs, files):
+    """Compares the texts of errors. The datagram before an error is written."""
+    for arguments, variables, status, errors in FAILURES:
+        found = runs.end(arguments, subprocess.PIPE, files[0], **variables)
+        compare(f"{arguments} {variables}", (found[0], found[2]), (status, errors))
+        if status == 2 or "FAKE_KERNEL_REFUSES" in variables:
+            compare(f"{arguments}", found[1], b"")
+    # One round is longer than the buffer of standard output, the other one is not.
+    for arguments in ([], ["unix"], ["--every=1"]):
+        with open("/dev/full", "wb") as full:
+            found = runs.end(arguments, full, LONG)
+        compare(f"{arguments} >/dev/full", found,
+                (1, None, "sockdump: standard output: No space left on device\n"))
+    requested = expected_round(files[0])
+    _, written, _ = runs.end(["unix"], subprocess.PIPE, files[0], FAKE_KERNEL_LACK="1")
+    compare_datagrams("truncated", written, [requested[0], requested[1][:-1]])
+    _, written, _ = runs.end(["unix"], subprocess.PIPE, files[0], FAKE_KERNEL_EXCESS="4")
+    lengths = struct.unpack_from("<2I", written, len(written) - 65536 - 24)
+    compare("excess", lengths, (65536 + 16, 65540 + 16))
+
+
+def test_rounds(runs, files, folder):
+    """Writes rounds to a file, until a signal ends the program. They start a second after each
+    other, and are complete."""
+    path, expected = Path(folder, "capture"), expected_round(files[0])
+    with path.open("wb") as output:
+        running = runs.start(["--every=2", "--every=1"], output, files[0])
+    ends = time.time() + 60
+    size = len(FILE_HEADER) + 3 * sum(32 + len(it) for it in expected)
+    while path.stat().st_size < size and time.time() < ends:
+        time.sleep(0.05)
+    running.send_signal(signal.SIGTERM)
+    compare("signal", (running.communicate()[1], running.returncode), (b"", -signal.SIGTERM))
+    written = path.read_bytes()
+    times = [it for it, _ in packets(written)[:: len(expected)]]
+    compare_datagrams("rounds", written, len(times) * expected)
+    between = [later - earlier for earlier, later in zip(times, times[1:])]
+    assert len(times) >= 3 and 0.9 < min(between) < 1.9, f"rounds at {times}"
+
+
+def test_closed_pipe(runs, files):
+    """Closes the pipe while the program waits for the next round, and before the first one."""
+    expected = expected_round(files[0])
+    size = len(FILE_HEADER) + sum(32 + len(it) for it in expected)
+    with runs.start(["--every=86400"], subprocess.PIPE, files[0]) as running:
+        written = running.stdout.read(size)
+        running.stdout.close()
+        compare("closed", (running.wait(timeout=60), running.stderr.read()), (0, b""))
+    compare_datagrams("closed", written, expected)
+    for arguments, status in ((["--every=86400"], 0), ([], -signal.SIGPIPE)):
+        reader, writer = os.pipe()
+        os.close(reader)
+        found = runs.end(arguments, writer, files[0])
+        os.close(writer)
+        compare(f"{arguments}, closed before", found, (status, None, ""))
+
+
+def test_processes():
+    """Lists a socket of this process, and one that no process has."""
+    script = kernels.HERE.parent.parent / "examples/processes.sh"
+    with socket.socket() as opened:
+        line = f"tcp UNCONN 0 0 {os.fstat(opened.fileno()).st_ino} 0 127.0.0.1:1 *"
+        name = Path("/proc/self/comm").read_text().rstrip("\n")
+        users = f' users:(("{name}",pid={os.getpid()},fd={opened.fileno()}))'
+        table = f"{line}\n\tsk:1\ntcp TIME-WAIT 0 0 0 0 127.0.0.1:1 127.0.0.1:2\n"
+        done = subprocess.run([script], input=table, stdout=subprocess.PIPE, text=True, check=True)
+    compare("processes.sh", done.stdout, table.replace(line, line + users))
+
+
+def main():
+    files = kernels.replies()
+    with tempfile.TemporaryDirectory() as folder:
+        runs = Runs(sys.argv[1], kernels.build(folder))
+        test_kinds(runs, files)
+        test_failures(runs, files)
+        test_rounds(runs, files, folder)
+        test_closed_pipe(runs, files)
+    test_processes()
+    print("sockdump: all tests pass")
+
+
+if __name__ == "__main__":
+    main()
