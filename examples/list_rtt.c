@@ -47,5 +47,7 @@ int main(void) {
             failed = 1;
         }
     }
+    if (fflush(stdout) != 0 || ferror(stdout))
+        return perror("list_rtt: standard output"), 1;
     return failed;
 }

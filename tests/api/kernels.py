@@ -12,9 +12,10 @@ the text of an error, which is in parentheses. A lister that takes arguments has
 with a local port, and with -l those of sockets that listen. The lister list_rtt has to print the
 established TCP connections.
 
-A lister has to print no character that could control a terminal. It has to end with another status,
-without a line, if it cannot connect to the kernel, if each datagram is longer than its buffer, and
-if each datagram is truncated. The exit status is 1 if a lister fails.
+A lister has to print no character that could control a terminal. It has to end with status 1,
+without a line, if it cannot connect to the kernel, and if each datagram is longer than its buffer
+or truncated. It also has to end with status 1 if a reply is too short, after the lines about the
+others, and if its output cannot be written. The exit status is 1 if a lister fails.
 """
 
 import os
@@ -92,15 +93,16 @@ def line_of_rtt(line):
     return found and found[1] + (found[2] or "")
 
 
-def compare(lister, library, file, *arguments):
-    """Runs the lister with the replies of the file. Returns whether it prints what it has to."""
+def compare(lister, library, file, *arguments, status=0):
+    """Runs the lister with the replies of the file. Returns whether it prints what it has to, and
+    ends with this status."""
     lines = [line[2:] for line in file.read_text().splitlines() if line.startswith("= ")]
     expected = [line for line in lines if is_listed(line, arguments)]
     if is_list_rtt(lister):
         expected = list(filter(None, map(line_of_rtt, lines)))
     done = run(lister, library, file, *arguments)
     found = [compared_words(line) for line in done.stdout.splitlines()]
-    if found == [line.split() for line in expected] and done.returncode == 0:
+    if found == [line.split() for line in expected] and done.returncode == status:
         return True
     return report(lister, done, f"the replies of {file.name} {arguments}", expected)
 
@@ -140,6 +142,26 @@ def fails(lister, library, file, **variables):
     return report(lister, done, variables, ["no line, an error, and status 1"])
 
 
+def reports_short_reply(lister, library, file, folder):
+    """Runs the lister with the replies of the file and one that is too short, before the last one.
+    Returns whether it prints the others, and ends with status 1."""
+    changed = Path(folder, "short")
+    start, mark, end = file.read_text().rpartition("\ntcp ")
+    changed.write_text(f"{start}{mark}020100{mark}{end}")
+    return compare(lister, library, changed, status=1)
+
+
+def reports_full_disk(lister, library, file):
+    """Returns whether the lister fails if its output cannot be written."""
+    with open("/dev/full", "wb") as full:
+        done = subprocess.run([lister], env=environment(library, file), stdout=full,
+                              stderr=subprocess.PIPE, timeout=60)
+    if done.returncode == 1 and done.stderr:
+        return True
+    print(f"kernels: {lister} >/dev/full: status {done.returncode}, expected 1 and an error")
+    return False
+
+
 def is_right(lister, library, files, folder):
     """Runs the lister in all ways. Returns whether it does what it has to. Every kernel has TCP, so
     list_rtt reports a file without TCP sockets as an error."""
@@ -148,6 +170,8 @@ def is_right(lister, library, files, folder):
     results.append(fails(lister, library, files[0], FAKE_KERNEL_REFUSES="1"))
     results += [fails(lister, library, files[0], FAKE_KERNEL_EXCESS=it) for it in EXCESSES]
     results += [fails(lister, library, files[0], FAKE_KERNEL_LACK=it) for it in LACKS]
+    results.append(reports_short_reply(lister, library, HERE / "kernels/tcp-info", folder))
+    results.append(reports_full_disk(lister, library, files[0]))
     if not is_list_rtt(lister):
         results += [compare_arguments(lister, library, file) for file in files]
         results.append(is_safe(lister, library, folder))
