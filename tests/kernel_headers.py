@@ -3,9 +3,9 @@
 
 For each record of RECORDS the script parses its rows in specs/: an offset, a width and the member
 of the Rust struct. A C program prints the size of the kernel's struct, and the offset and the end
-of each of its members. The fields of `tcp_info`, the bits of `inet_diag_sockopt` and the public
-constants are compared in the same way. The headers of an older kernel may lack some of these: the
-last line but one of the output lists them.
+of each of its members. The fields of `tcp_info` and `mptcp_info`, the bits of `inet_diag_sockopt`
+and the public constants are compared in the same way. The headers of an older kernel may lack some
+of these: the last line but one of the output lists them.
 
 The exit status is 1 if anything differs, if the headers lack a struct or a member that they must
 have, or if RECORDS and the layouts of specs/ do not have the same names and members. Without gcc or
@@ -108,8 +108,8 @@ RECORDS = [
 ]
 # Structs that are longer in newer kernels, or are the start of a longer record.
 OTHER_SIZE = {"tcp_info", "sockaddr_in", "sockaddr_in6"}
-# A question that all headers answer. Only these two structs gain members in newer kernels.
-ANSWERED = re.compile(r"(?:SIZE|START|END|BIT)\((?!tcp_info,|inet_diag_sockopt,)")
+# A question that all headers answer. Only these three structs gain members in newer kernels.
+ANSWERED = re.compile(r"(?:SIZE|START|END|BIT)\((?!(?:mp)?tcp_info,|inet_diag_sockopt,)")
 # Members of `tcp_info` that are bytes of bit fields, and the first C member of each.
 BIT_FIELDS = {"wscale": "tcpi_snd_wscale"}
 BIT_FIELDS["delivery_rate_app_limited"] = "tcpi_delivery_rate_app_limited"
@@ -210,6 +210,15 @@ def about_record(table, struct, names):
     yield from about_members(struct, members, known)
 
 
+def about_fields(module, struct, prefix):
+    """Yields the questions about the spans in a module of specs/, each with its answer there."""
+    text = (CRATES / f"sock_diag_extras/specs/{module}.antt").read_text(encoding="utf-8")
+    for field, at, width in re.findall(r"span_of field\.(\w+) = \((\d+), (\d+)\)", text):
+        member = re.sub(r"(?<=[a-z\d])(?=[A-Z])", "_", field).lower()
+        members = {member: (int(at), int(width))}
+        yield from about_members(struct, members, {member: prefix + member})
+
+
 def c_name(constant):
     """Returns the name of a constant in the headers."""
     if constant == "AF_DECNET":
@@ -224,11 +233,8 @@ def questions():
     """Yields all questions, C expressions, each with the answer of the crates."""
     for record in RECORDS:
         yield from about_record(*record)
-    fields = (CRATES / "sock_diag_extras/specs/TcpFields.antt").read_text(encoding="utf-8")
-    for field, at, width in re.findall(r"^span_of field\.(\w+) = \((\d+), (\d+)\)", fields, re.M):
-        member = re.sub(r"(?<=[a-z\d])(?=[A-Z])", "_", field).lower()
-        members = {member: (int(at), int(width))}
-        yield from about_members("tcp_info", members, {member: f"tcpi_{member}"})
+    yield from about_fields("TcpFields", "tcp_info", "tcpi_")
+    yield from about_fields("MptcpFields", "mptcp_info", "mptcpi_")
     options = (CRATES / "sock_diag_extras/specs/SocketOptions.antt").read_text(encoding="utf-8")
     for option, bit in re.findall(r"^bit_of option\.(\w+) = (\d+)", options, re.M):
         (member,) = (it for it in OPTIONS if it.replace("_", "") == option.lower())

@@ -1,5 +1,7 @@
 pub mod Models
+pub mod Spans
 pub mod TcpFields
+pub mod MptcpFields
 pub mod RecordTable
 pub mod Congestion
 pub mod SocketOptions

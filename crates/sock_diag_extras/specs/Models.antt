@@ -1,6 +1,7 @@
 -- The models of borrowed values and of iterators. Contracts refer to values by their models.
 use Rattle.std.specs.Prelude.{ℕ, ℤ, List}
 use Rattle.sock_diag_extras.specs.declared.acknowledgement.AckView.{AckView}
+use Rattle.sock_diag_extras.specs.declared.mptcp_info.MptcpInfoBytes.{MptcpInfoBytes}
 use Rattle.sock_diag_extras.specs.declared.nested.NestedNlas.{NestedNlas}
 use Rattle.sock_diag_extras.specs.declared.records.AttributeRecords.{AttributeRecords}
 use Rattle.sock_diag_extras.specs.declared.tcp_info.TcpInfoBytes.{TcpInfoBytes}
@@ -9,9 +10,13 @@ use Rattle.sock_diag_extras.specs.declared.tcp_info.TcpInfoBytes.{TcpInfoBytes}
 abbrev pub nested_bytes : NestedNlas → List ℕ
 nested_bytes nested = nested.bytes.now
 
--- The bytes of the value of an INET_DIAG_INFO: a `struct tcp_info`, of any length.
+-- The bytes of the value of an INET_DIAG_INFO of TCP: a `struct tcp_info`, of any length.
 abbrev pub tcp_info_bytes : TcpInfoBytes → List ℕ
 tcp_info_bytes info = info.bytes.now
+
+-- The bytes of the value of an INET_DIAG_INFO of MPTCP: a `struct mptcp_info`, of any length.
+abbrev pub mptcp_info_bytes : MptcpInfoBytes → List ℕ
+mptcp_info_bytes info = info.bytes.now
 
 -- The bytes that an iterator over records has not parsed yet.
 abbrev pub unread_record_bytes : {T : Type 0} → AttributeRecords T → List ℕ

@@ -1,7 +1,6 @@
 -- The fields of `struct tcp_info` of linux/tcp.h, as Linux 6.18 defines them: 280 bytes. The field
 -- `LastDataSent` is the member `tcpi_last_data_sent`, and so on.
-use Rattle.std.specs.Prelude.{ℕ, ◌+◌, ◌==◌, if◌then◌else◌, List, [], ◌∷◌, drop}
-use Rattle.byteorder.specs.Endian.{little_number}
+use Rattle.std.specs.Prelude.{ℕ, ◌==◌, if◌then◌else◌, List, [], ◌∷◌}
 use Rattle.netlink_core.specs.Table.{Field, byte, number}
 use Rattle.sock_diag_extras.specs.declared.tcp_info.TcpField.{TcpField}
 use Rattle.sock_diag_extras.specs.declared.tcp_info.TcpField.TheVariants as field
@@ -80,20 +79,11 @@ span_of field.ReceivedCeBytes = (272, 4)
 span_of field.AccecnFailMode = (276, 2)
 span_of field.AccecnOptSeen = (278, 2)
 
--- `end_offset f`: the offset of the byte after the field `f`, its offset plus its width
-abbrev pub end_offset : TcpField → ℕ
-end_offset f = (span_of f).0 + (span_of f).1
-
 -- `row_of f`: the field `f` as a field of a record's layout (`Field`): `byte` if it is one byte
 -- wide, else `number`, which is little-endian.
 abbrev pub row_of : TcpField → Field
 row_of f =
     if (span_of f).1 == 1 then byte (span_of f).0 else number (span_of f).0 (span_of f).1
-
--- `tcp_field_value f bytes`: the value of the field `f`, a little-endian number, in bytes that
--- contain all of it: at least `end_offset f` bytes.
-abbrev pub tcp_field_value : TcpField → List ℕ → ℕ
-tcp_field_value f bytes = little_number (span_of f).1 (drop (span_of f).0 bytes)
 
 -- The fields of the port's `TcpInfo`, in order: offsets 0 to 231.
 abbrev pub first_fields : List TcpField

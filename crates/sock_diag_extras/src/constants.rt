@@ -118,6 +118,14 @@ pub const MPTCP_SUBFLOW_ATTR_ID_LOC: u16 = 10;
 /// Padding.
 pub const MPTCP_SUBFLOW_ATTR_PAD: u16 = 11;
 
+// ---- bits of `mptcpi_flags` of `struct mptcp_info`
+
+/// The connection fell back to TCP.
+pub const MPTCP_INFO_FLAG_FALLBACK: u32 = 1;
+
+/// The key of the peer was received.
+pub const MPTCP_INFO_FLAG_REMOTE_KEY_RECEIVED: u32 = 2;
+
 // ---- codes of the operations of a filter (`code` of `struct inet_diag_bc_op`)
 
 /// Does not test anything.
@@ -303,6 +311,8 @@ pub fn extra_constants_have_their_values()
         (MPTCP_SUBFLOW_ATTR_MAP_DATALEN, 7) ∷ (MPTCP_SUBFLOW_ATTR_FLAGS, 8) ∷
         (MPTCP_SUBFLOW_ATTR_ID_REM, 9) ∷ (MPTCP_SUBFLOW_ATTR_ID_LOC, 10) ∷
         (MPTCP_SUBFLOW_ATTR_PAD, 11) ∷ []) }
+    ensures flags_of_mptcp { PairsAreEqual ((MPTCP_INFO_FLAG_FALLBACK, 1) ∷
+        (MPTCP_INFO_FLAG_REMOTE_KEY_RECEIVED, 2) ∷ []) }
     ensures request_attributes { PairsAreEqual ((INET_DIAG_REQ_NONE, 0) ∷
         (INET_DIAG_REQ_BYTECODE, 1) ∷ (INET_DIAG_REQ_SK_BPF_STORAGES, 2) ∷
         (INET_DIAG_REQ_PROTOCOL, 3) ∷ []) }

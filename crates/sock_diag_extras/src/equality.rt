@@ -5,6 +5,7 @@ ghost use Rattle.sock_diag_extras.specs.laws.EqualTcpField.{tcp_field_equal};
 
 use crate::congestion::{BbrInfo, DctcpInfo, VegasInfo};
 use crate::md5_signature::Md5Signature;
+use crate::mptcp_info::MptcpField;
 use crate::options::{SocketOption, SocketOptions};
 use crate::stored_address::StoredAddress;
 use crate::tcp_info::TcpField;
@@ -41,6 +42,10 @@ impl Exact for StoredAddress {
 
 impl Exact for TcpField {
     ghost exact = { (tcp_field_equal, Prim.search rules, Prim.search rules) };
+}
+
+impl Exact for MptcpField {
+    ghost exact = { Prim.search rules };
 }
 
 impl Exact for SubflowField {

@@ -1,15 +1,18 @@
-//! Properties of the fields of `struct tcp_info`, and of `==` and `clone`. Proof only: the contract
-//! of each function states the property.
+//! Properties of the fields of `struct tcp_info` and `struct mptcp_info`, and of `==` and `clone`.
+//! Proof only: the contract of each function states the property.
 
 ghost use Rattle.std.specs.Prelude.{◌≡◌, ◌↔◌, [], ◌∷◌, ◌++◌, map, IfOk, IsOk, IsTrue};
 ghost use Rattle.netlink_core.specs.Layout.{tag_fields};
 ghost use Rattle.sock_diag_values.specs.TcpInfo.{tcp_info};
 ghost use Rattle.sock_diag_extras.specs.Models.{ack_attributes, ack_number, ack_request};
-ghost use Rattle.sock_diag_extras.specs.Models.{nested_bytes, tcp_info_bytes};
+ghost use Rattle.sock_diag_extras.specs.Models.{mptcp_info_bytes, nested_bytes, tcp_info_bytes};
+ghost use Rattle.sock_diag_extras.specs.MptcpFields.{aligned_spans, mptcp_fields, mptcp_span_of};
+ghost use Rattle.sock_diag_extras.specs.Spans.{end_of_span};
 ghost use Rattle.sock_diag_extras.specs.TcpFields.{first_fields, later_fields};
-ghost use Rattle.sock_diag_extras.specs.TcpFields.{end_offset, row_of, span_of};
+ghost use Rattle.sock_diag_extras.specs.TcpFields.{row_of, span_of};
 
 use crate::acknowledgement::{AckAttributes, AckView};
+use crate::mptcp_info::MptcpInfoBytes;
 use crate::nested::NestedNlas;
 use crate::storages::BpfStorage;
 use crate::tcp_info::TcpInfoBytes;
@@ -23,7 +26,15 @@ use std::alloc::AllocError;
 pub fn tcp_fields_are_rows()
     ensures first { map row_of first_fields ≡ tag_fields tcp_info tt }
     ensures later { map (λ f. (span_of f).0) later_fields ++ 280 ∷ []
-        ≡ 232 ∷ map end_offset later_fields }
+        ≡ 232 ∷ map (λ f. end_of_span (span_of f)) later_fields }
+{}
+
+/// States that the fields of `struct mptcp_info`, in order, have the offsets at which a C compiler
+/// places numbers of their widths: each starts at the first multiple of its width after the field
+/// before it.
+pub fn mptcp_fields_are_aligned()
+    ensures { map mptcp_span_of mptcp_fields
+        ≡ aligned_spans 0 (map (λ f. (mptcp_span_of f).1) mptcp_fields) }
 {}
 
 /// States that `==` holds if and only if two values have the same bytes, that a copy has the same
@@ -35,6 +46,19 @@ pub fn compared_tcp_info_bytes<'a>(
     ensures equal { IsTrue result.0 ↔ (tcp_info_bytes v.now ≡ tcp_info_bytes w.now) }
     ensures ok { IsOk result.1 }
     ensures same { IfOk result.1 (λ copy. tcp_info_bytes copy ≡ tcp_info_bytes v.now) }
+{
+    (v == w, v.clone())
+}
+
+/// States that `==` holds if and only if two values have the same bytes, that a copy has the same
+/// bytes, and that `clone` never fails. The result is `v == w`, and the clone of `v`.
+pub fn compared_mptcp_info_bytes<'a>(
+    v: &MptcpInfoBytes<'a>,
+    w: &MptcpInfoBytes<'_>,
+) -> (bool, Result<MptcpInfoBytes<'a>, AllocError>)
+    ensures equal { IsTrue result.0 ↔ (mptcp_info_bytes v.now ≡ mptcp_info_bytes w.now) }
+    ensures ok { IsOk result.1 }
+    ensures same { IfOk result.1 (λ copy. mptcp_info_bytes copy ≡ mptcp_info_bytes v.now) }
 {
     (v == w, v.clone())
 }

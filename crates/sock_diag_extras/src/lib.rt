@@ -1,5 +1,6 @@
 //! The parts of sock_diag(7) that the port of the Rust crate leaves out: all of `struct tcp_info`,
-//! attributes that the port has no kind for, extended acknowledgements, and constants.
+//! `struct mptcp_info`, attributes that the port has no kind for, extended acknowledgements, and
+//! constants.
 //!
 //! This is an extension crate. It changes nothing of the port.
 #![tactic(auto)]
@@ -11,6 +12,7 @@ pub mod constants;
 mod equality;
 pub mod laws;
 mod md5_signature;
+mod mptcp_info;
 mod nested;
 mod numbers;
 mod options;
@@ -24,6 +26,7 @@ mod ulp_info;
 pub use acknowledgement::{AckAttributes, AckView};
 pub use congestion::{BbrInfo, DctcpInfo, VegasInfo};
 pub use md5_signature::Md5Signature;
+pub use mptcp_info::{MptcpField, MptcpInfoBytes};
 pub use nested::NestedNlas;
 pub use numbers::{parse_cgroup_id, parse_uid};
 pub use options::{SocketOption, SocketOptions};

@@ -1,14 +1,12 @@
 //! The value of INET_DIAG_INFO with any number of bytes: fewer than the port parses, or more.
 
-ghost use Rattle.std.specs.Prelude.{◌≡◌, ◌≤◌, ◌+◌, drop, length, SomeIff};
+ghost use Rattle.std.specs.Prelude.{◌≡◌, ◌≤◌, drop, length, SomeIff};
 ghost use Rattle.std.specs.Result.{result_ok};
-ghost use Rattle.byteorder.specs.Endian.{little_number};
 ghost use Rattle.netlink_core.specs.Layout.{parse_record};
 ghost use Rattle.sock_diag_values.specs.TcpInfo.{tcp_info};
 ghost use Rattle.sock_diag_extras.specs.Models.{tcp_info_bytes};
 
-use crate::bytes::suffix_from;
-use byteorder::{ByteOrder, LittleEndian};
+use crate::bytes::{number_at, suffix_from};
 use sock_diag_values::inet::TcpInfo;
 
 /// The size of `struct tcp_info` in Linux 6.18, in bytes.
@@ -255,7 +253,8 @@ pub struct TcpInfoBytes<'a> {
 }
 
 impl<'a> TcpInfoBytes<'a> {
-    ghost use Rattle.sock_diag_extras.specs.TcpFields.{tcp_field_value, end_offset};
+    ghost use Rattle.sock_diag_extras.specs.Spans.{end_of_span, number_in_span};
+    ghost use Rattle.sock_diag_extras.specs.TcpFields.{span_of};
 
     /// Borrows the bytes of the value. Any number of bytes is accepted.
     pub fn new(value: &'a [u8]) -> TcpInfoBytes<'a>
@@ -274,11 +273,11 @@ impl<'a> TcpInfoBytes<'a> {
     /// Returns the value of the field, a little-endian number. Returns `None` if the bytes end
     /// before the end of the field.
     pub fn get(&self, field: TcpField) -> Option<u64>
-        ensures { SomeIff result (end_offset field ≤ length (tcp_info_bytes self.now))
-            (tcp_field_value field (tcp_info_bytes self.now)) }
+        ensures { SomeIff result (end_of_span (span_of field) ≤ length (tcp_info_bytes self.now))
+            (number_in_span (span_of field) (tcp_info_bytes self.now)) }
     {
-        let (place, width) = field.span();
-        number_at(self.bytes, place, width)
+        let (offset, width) = field.span();
+        number_at(self.bytes, offset, width)
     }
 
     /// Returns the record that the port parses from the first 232 bytes. Returns `None` if there
@@ -296,19 +295,4 @@ impl<'a> TcpInfoBytes<'a> {
     {
         suffix_from(self.bytes, WHOLE)
     }
-}
-
-// Returns the little-endian number of `width` bytes at the offset. Returns `None` if the bytes end
-// before the end of the number.
-fn number_at(bytes: &[u8], offset: usize, width: usize) -> Option<u64>
-    requires one { 1 ≤ width }
-    requires eight { width ≤ 8 }
-    ensures { SomeIff result (offset + width ≤ length bytes.now)
-        (little_number width (drop offset bytes.now)) }
-{
-    let number = bytes.get(offset..)?;
-    if number.len() < width {
-        return None;
-    }
-    Some(LittleEndian::read_uint(number, width))
 }

@@ -6,9 +6,9 @@ use super::shows;
 use netlink_core::{DecodeError, FamilyView, NlaBuffer, NlasIterator};
 use sock_diag_extras::{
     AckAttributes, AckView, AttributeRecord, AttributeRecords, BbrInfo, BpfStorage, DctcpInfo,
-    Md5Signature, NestedNlas, SocketOption, SocketOptions, StoredAddress, SubflowField,
-    SubflowInfo, TcpField, TcpInfoBytes, TlsField, TlsInfo, UlpInfo, VegasInfo,
-    read_attribute_record, write_attribute_record,
+    Md5Signature, MptcpField, MptcpInfoBytes, NestedNlas, SocketOption, SocketOptions,
+    StoredAddress, SubflowField, SubflowInfo, TcpField, TcpInfoBytes, TlsField, TlsInfo, UlpInfo,
+    VegasInfo, read_attribute_record, write_attribute_record,
 };
 use sock_diag_lenient::{LenientInetReply, LenientNlas, LenientUnixReply};
 use std::alloc::Global;
@@ -147,6 +147,57 @@ fn subflow_numbers(subflow: &SubflowInfo) -> Result<(Option<u64>, Option<u64>), 
     Ok((sequence, id))
 }
 
+/// The fields of `struct mptcp_info`, in order.
+const MPTCP_FIELDS: [MptcpField; 24] = [
+    MptcpField::Subflows,
+    MptcpField::AddAddrSignal,
+    MptcpField::AddAddrAccepted,
+    MptcpField::SubflowsMax,
+    MptcpField::AddAddrSignalMax,
+    MptcpField::AddAddrAcceptedMax,
+    MptcpField::Flags,
+    MptcpField::Token,
+    MptcpField::WriteSeq,
+    MptcpField::SndUna,
+    MptcpField::RcvNxt,
+    MptcpField::LocalAddrUsed,
+    MptcpField::LocalAddrMax,
+    MptcpField::CsumEnabled,
+    MptcpField::Retransmits,
+    MptcpField::BytesRetrans,
+    MptcpField::BytesSent,
+    MptcpField::BytesReceived,
+    MptcpField::BytesAcked,
+    MptcpField::SubflowsTotal,
+    MptcpField::EndpLaminarMax,
+    MptcpField::LastDataSent,
+    MptcpField::LastDataRecv,
+    MptcpField::LastAckRecv,
+];
+
+/// Returns the fields of `struct mptcp_info` that the bytes contain in hexadecimal, and the number
+/// of bytes after them.
+fn connection(rt: &impl Abort, alloc: Global, bytes: &[u8]) -> String {
+    let info = MptcpInfoBytes::new(bytes);
+    let mut text = String::new(alloc);
+    for field in &MPTCP_FIELDS {
+        let shown = number_text(rt, alloc, info.get(*field));
+        text.push_str(shown.as_str()).expect(rt, "memory");
+    }
+    let rest = format!(in alloc; "{}", info.rest().len()).expect(rt, "memory");
+    text.push_str(rest.as_str()).expect(rt, "memory");
+    text
+}
+
+/// Returns a number in hexadecimal and a space, or `- ` if there is none.
+fn number_text(rt: &impl Abort, alloc: Global, number: Option<u64>) -> String {
+    let text = match number {
+        Some(number) => format!(in alloc; "{number:x} "),
+        None => String::from_str(alloc, "- "),
+    };
+    text.expect(rt, "memory")
+}
+
 /// Returns the map id and the value of each storage of BPF programs as text.
 fn storages(rt: &impl Abort, alloc: Global, value: &[u8]) -> String {
     let mut text = String::new(alloc);
@@ -182,6 +233,7 @@ fn content_text(rt: &impl Abort, alloc: Global, word: &str, bytes: &[u8]) -> Str
         "address" => address(rt, alloc, bytes),
         "storages" => storages(rt, alloc, bytes),
         "ulp" => upper_protocol_or_error(rt, alloc, bytes),
+        "mptcp" => connection(rt, alloc, bytes),
         "done" => acknowledgement(rt, alloc, AckView::of_done(514, bytes)),
         flags => error_message(rt, alloc, flags, bytes),
     }
@@ -217,8 +269,8 @@ fn error_message(rt: &impl Abort, alloc: Global, flags: &str, bytes: &[u8]) -> S
 }
 
 // A row has a word, bytes in hexadecimal, and after `|` the expected text. Linux 6.18 sent the
-// bytes of the rows 512, 256 and `done`, of the first rows 768 and 0, and of the `ulp` row about
-// MPTCP.
+// bytes of the rows 512, 256 and `done`, of the first rows 768 and 0, of the `ulp` row about MPTCP,
+// and of the first two rows `mptcp`.
 const ROWS: &str = "\
 reply |
 reply 08000200010203040500080001000000|\
@@ -276,6 +328,38 @@ ulp \
 ulp |None
 ulp 0c0002800800010003030000|value of 4 bytes, 2 needed
 ulp 0800028008000100|attribute length 8 is past the 4 bytes left
+mptcp \
+030303070305000002000000d403802806746f1e94a6f07306746f1e94a6f073bf8368338c619d0603030100000000008\
+87f0100000000008de201000000000000000000000000008de201000000000004010000cc0000003c1d000000000000|\
+3 3 3 7 3 5 2 288003d4 73f0a6941e6f7406 73f0a6941e6f7406 69d618c336883bf 3 3 1 0 17f88 1e28d 0 \
+1e28d 4 1 cc 1d3c 0 0
+mptcp \
+03030307030500000200000051dfa4cb825e146f58d34e5b815e146f58d34e5b7dbdc407df050be503030100050000000\
+00000000000000000000000000000000000000000000000000000000000000004010000741000007410000074100000|\
+3 3 3 7 3 5 2 cba4df51 5b4ed3586f145e82 5b4ed3586f145e81 e50b05df07c4bd7d 3 3 1 5 0 0 0 0 4 1 \
+1074 1074 1074 0
+mptcp \
+000102030405060708090a0b0c0d0e0f101112131415161718191a1b1c1d1e1f202122232425262728292a2b2c2d2e2f3\
+03132333435363738393a3b3c3d3e3f404142434445464748494a4b4c4d4e4f505152535455565758595a5b5c5d5e5f60\
+616263|\
+0 1 2 3 4 5 b0a0908 f0e0d0c 1716151413121110 1f1e1d1c1b1a1918 2726252423222120 28 29 2a \
+2f2e2d2c 3736353433323130 3f3e3d3c3b3a3938 4746454443424140 4f4e4d4c4b4a4948 50 51 57565554 \
+5b5a5958 5f5e5d5c 4
+mptcp \
+03030307030500000200000051dfa4cb825e146f58d34e5b815e146f58d34e5b7dbdc407df050be5|\
+3 3 3 7 3 5 2 cba4df51 5b4ed3586f145e82 5b4ed3586f145e81 e50b05df07c4bd7d - - - - - - - - - - - \
+- - 0
+mptcp \
+03030307030500000200000051dfa4cb825e146f58d34e5b815e146f58d34e5b7dbdc407df050be50303010005000000|\
+3 3 3 7 3 5 2 cba4df51 5b4ed3586f145e82 5b4ed3586f145e81 e50b05df07c4bd7d 3 3 1 5 - - - - - - - \
+- - 0
+mptcp \
+000102030405060708090a0b0c0d0e0f101112131415161718191a1b1c1d1e1f202122232425262728292a2b2c2d2e2f3\
+03132333435363738393a3b3c3d3e3f404142434445464748494a4b4c4d4e4f505152535455565758595a5b5c5d5e|\
+0 1 2 3 4 5 b0a0908 f0e0d0c 1716151413121110 1f1e1d1c1b1a1918 2726252423222120 28 29 2a \
+2f2e2d2c 3736353433323130 3f3e3d3c3b3a3938 4746454443424140 4f4e4d4c4b4a4948 50 51 57565554 \
+5b5a5958 - 0
+mptcp |- - - - - - - - - - - - - - - - - - - - - - - - 0
 address 020000507f000001|80 Some(127.0.0.1) 0
 address 0a00005000000001fe80000000000000000000000000000102000000|80 Some(fe80::1) 2
 address 0100|0 None 0
@@ -389,6 +473,8 @@ fn values_have_texts_of(rt: &impl Abort, alloc: Global, value: &[u8]) {
     );
     let text = fields_text(rt, alloc, "TcpInfoBytes", value);
     shows(rt, alloc, &TcpInfoBytes::new(value), text.as_str());
+    let text = fields_text(rt, alloc, "MptcpInfoBytes", value);
+    shows(rt, alloc, &MptcpInfoBytes::new(value), text.as_str());
 }
 
 /// Returns the text of a struct of this name with one field, `bytes`.
@@ -525,6 +611,11 @@ const OPTIONS: [SocketOption; 11] = [
 fn fields_have_texts(rt: HostRuntime) {
     let alloc = rt.alloc();
     shows(&rt, alloc, &TCP_FIELDS, TCP_TEXT);
+    let text = "[Subflows, AddAddrSignal, AddAddrAccepted, SubflowsMax, AddAddrSignalMax, \
+        AddAddrAcceptedMax, Flags, Token, WriteSeq, SndUna, RcvNxt, LocalAddrUsed, LocalAddrMax, \
+        CsumEnabled, Retransmits, BytesRetrans, BytesSent, BytesReceived, BytesAcked, \
+        SubflowsTotal, EndpLaminarMax, LastDataSent, LastDataRecv, LastAckRecv]";
+    shows(&rt, alloc, &MPTCP_FIELDS, text);
     let text = "[RecvErr, IsIcsk, FreeBind, HdrIncl, McLoop, Transparent, McAll, NoDefrag, \
         BindAddressNoPort, RecvErrRfc4884, DeferConnect]";
     shows(&rt, alloc, &OPTIONS, text);

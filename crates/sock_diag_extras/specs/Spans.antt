@@ -1,0 +1,13 @@
+-- The fields of a C struct of which a value contains as many bytes as the kernel has. The span of a
+-- field is its offset (`.0`) and its width (`.1`), both in bytes.
+use Rattle.std.specs.Prelude.{ℕ, ◌+◌, List, drop}
+use Rattle.byteorder.specs.Endian.{little_number}
+
+-- `end_of_span span`: the offset of the byte after the field, its offset plus its width
+abbrev pub end_of_span : ℕ × ℕ → ℕ
+end_of_span span = span.0 + span.1
+
+-- `number_in_span span bytes`: the value of the field, a little-endian number, in bytes that
+-- contain all of it: at least `end_of_span span` bytes.
+abbrev pub number_in_span : ℕ × ℕ → List ℕ → ℕ
+number_in_span span bytes = little_number span.1 (drop span.0 bytes)
